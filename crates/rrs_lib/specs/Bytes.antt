@@ -1,0 +1,46 @@
+-- Memory as a map of bytes (RISC-V unprivileged specification, RV32I, "Load and Store Instructions": a byte-addressed space of 2 ^ 32 bytes,
+-- little-endian).
+use Rattle.std.specs.Prelude.{◌≡◌, ℕ, zero, suc, ◌+◌, ◌-◌, ◌*◌, ◌/◌, ◌%◌, ◌^◌, ◌<◌, Bool, true, ◌&&◌, nat_le, nat_lt, if◌then◌else◌, Option, Some, None, IsTrue, IsSome}
+use Rattle.rrs_lib.specs.declared.MemAccessSize.{MemAccessSize}
+use Rattle.rrs_lib.specs.declared.MemAccessSize.TheVariants.{Byte, HalfWord, Word}
+
+-- what each address has: a byte, or nothing where it is not mapped
+abbrev pub ByteMap : Type 0
+ByteMap = ℕ → Option ℕ
+
+-- the size of an access in bytes
+abbrev pub width : MemAccessSize → ℕ
+width Byte = 1
+width HalfWord = 2
+width Word = 4
+
+-- the sum of two values, where there are both
+abbrev pub sum_if_both : Option ℕ → Option ℕ → Option ℕ
+sum_if_both None o = None
+sum_if_both (Some x) None = None
+sum_if_both (Some x) (Some y) = Some (x + y)
+
+-- a byte that stands at place i of a little-endian number, where there is one
+abbrev pub at_place : ℕ → Option ℕ → Option ℕ
+at_place i None = None
+at_place i (Some byte) = Some (byte * 256 ^ i)
+
+-- the little-endian value of the n bytes from a on, if all of them are mapped: the sum of byte i times 256 ^ i
+abbrev pub little_endian : ByteMap → ℕ → ℕ → Option ℕ
+little_endian bytes a zero = Some 0
+little_endian bytes a (suc n) = sum_if_both (little_endian bytes a n) (at_place n (bytes (a + n)))
+
+-- whether the n addresses from a on are writable
+abbrev pub all_writable : (ℕ → Bool) → ℕ → ℕ → Bool
+all_writable writable a zero = true
+all_writable writable a (suc n) = all_writable writable a n && writable (a + n)
+
+-- the map after the low n bytes of a value were stored at a, lowest first
+abbrev pub store : ByteMap → ℕ → ℕ → ℕ → ByteMap
+store bytes a n value b =
+    if nat_le a b && nat_lt b (a + n) then Some (value / 256 ^ (b - a) % 256) else bytes b
+
+-- What every memory keeps, at the n addresses from a on: bytes are below 256, and what is writable is mapped.
+pub record IsLawful (bytes : ByteMap) (writable : ℕ → Bool) (a n : ℕ) : Type 0 where
+  pub values : (i byte : ℕ) → i < n → bytes (a + i) ≡ Some byte → byte < 256
+  pub mapped : (i : ℕ) → i < n → IsTrue (writable (a + i)) → IsSome (bytes (a + i))

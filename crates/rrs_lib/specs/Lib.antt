@@ -1,0 +1,9 @@
+pub mod Words
+pub mod Encodings
+pub mod Table
+pub mod Bytes
+pub mod Results
+pub mod Machine
+pub mod Steps
+pub mod Executor
+pub mod VecBytes

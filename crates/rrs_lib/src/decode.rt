@@ -1,0 +1,195 @@
+//! Decoding a word and calling a processor's function for it.
+
+ghost use Rattle.std.specs.Prelude.{◌≡◌, ◌%◌, IfSome, IfNone};
+ghost use Rattle.rrs_lib.specs.Table.{IsOutside, IsRowAnd, IsOneRowAtMost};
+
+use crate::InstructionProcessor;
+use crate::instruction_formats::{
+    BType, IType, ITypeShamt, JType, OPCODE_AUIPC, OPCODE_BRANCH, OPCODE_JAL, OPCODE_JALR,
+    OPCODE_LOAD, OPCODE_LUI, OPCODE_MISC_MEM, OPCODE_OP, OPCODE_OP_IMM, OPCODE_STORE, RType, SType,
+    UType,
+};
+
+/// Calls the function of a register-register operation, or answers `None` where there is none.
+fn process_opcode_op<T: InstructionProcessor>(
+    processor: &mut T,
+    insn_bits: u32,
+) -> Option<T::InstructionResult>
+    requires { insn_bits % 128 ≡ 0x33 }
+    ensures decoded { IfSome result (λ answer. IsRowAnd insn_bits
+        (λ row f. T.did row f processor.old processor.new answer)) }
+    ensures outside { IfNone result (IsOutside insn_bits) }
+    ensures unchanged { IfNone result (processor.new ≡ processor.old) }
+{
+    let dec_insn = RType::new(insn_bits);
+    match (dec_insn.funct7, dec_insn.funct3) {
+        (0, 0) => Some(processor.process_add(dec_insn)),
+        (0, 1) => Some(processor.process_sll(dec_insn)),
+        (0, 2) => Some(processor.process_slt(dec_insn)),
+        (0, 3) => Some(processor.process_sltu(dec_insn)),
+        (0, 4) => Some(processor.process_xor(dec_insn)),
+        (0, 5) => Some(processor.process_srl(dec_insn)),
+        (0, 6) => Some(processor.process_or(dec_insn)),
+        (0, 7) => Some(processor.process_and(dec_insn)),
+        (0x20, 0) => Some(processor.process_sub(dec_insn)),
+        (0x20, 5) => Some(processor.process_sra(dec_insn)),
+        (1, 0) => Some(processor.process_mul(dec_insn)),
+        (1, 1) => Some(processor.process_mulh(dec_insn)),
+        (1, 2) => Some(processor.process_mulhsu(dec_insn)),
+        (1, 3) => Some(processor.process_mulhu(dec_insn)),
+        (1, 4) => Some(processor.process_div(dec_insn)),
+        (1, 5) => Some(processor.process_divu(dec_insn)),
+        (1, 6) => Some(processor.process_rem(dec_insn)),
+        (1, 7) => Some(processor.process_remu(dec_insn)),
+        _ => None,
+    }
+}
+
+/// Calls the function of a register-immediate operation, or answers `None` where there is none.
+fn process_opcode_op_imm<T: InstructionProcessor>(
+    processor: &mut T,
+    insn_bits: u32,
+) -> Option<T::InstructionResult>
+    requires { insn_bits % 128 ≡ 0x13 }
+    ensures decoded { IfSome result (λ answer. IsRowAnd insn_bits
+        (λ row f. T.did row f processor.old processor.new answer)) }
+    ensures outside { IfNone result (IsOutside insn_bits) }
+    ensures unchanged { IfNone result (processor.new ≡ processor.old) }
+{
+    let dec_insn = IType::new(insn_bits);
+    match dec_insn.funct3 {
+        0 => Some(processor.process_addi(dec_insn)),
+        1 => Some(processor.process_slli(ITypeShamt::new(insn_bits))),
+        2 => Some(processor.process_slti(dec_insn)),
+        3 => Some(processor.process_sltui(dec_insn)),
+        4 => Some(processor.process_xori(dec_insn)),
+        5 => {
+            let dec_insn = ITypeShamt::new(insn_bits);
+            match dec_insn.funct7 {
+                0 => Some(processor.process_srli(dec_insn)),
+                0x20 => Some(processor.process_srai(dec_insn)),
+                _ => None,
+            }
+        }
+        6 => Some(processor.process_ori(dec_insn)),
+        7 => Some(processor.process_andi(dec_insn)),
+        _ => None,
+    }
+}
+
+/// Calls the function of a branch, or answers `None` where there is none.
+fn process_opcode_branch<T: InstructionProcessor>(
+    processor: &mut T,
+    insn_bits: u32,
+) -> Option<T::InstructionResult>
+    requires { insn_bits % 128 ≡ 0x63 }
+    ensures decoded { IfSome result (λ answer. IsRowAnd insn_bits
+        (λ row f. T.did row f processor.old processor.new answer)) }
+    ensures outside { IfNone result (IsOutside insn_bits) }
+    ensures unchanged { IfNone result (processor.new ≡ processor.old) }
+{
+    let dec_insn = BType::new(insn_bits);
+    match dec_insn.funct3 {
+        0 => Some(processor.process_beq(dec_insn)),
+        1 => Some(processor.process_bne(dec_insn)),
+        4 => Some(processor.process_blt(dec_insn)),
+        5 => Some(processor.process_bge(dec_insn)),
+        6 => Some(processor.process_bltu(dec_insn)),
+        7 => Some(processor.process_bgeu(dec_insn)),
+        _ => None,
+    }
+}
+
+/// Calls the function of a load, or answers `None` where there is none.
+fn process_opcode_load<T: InstructionProcessor>(
+    processor: &mut T,
+    insn_bits: u32,
+) -> Option<T::InstructionResult>
+    requires { insn_bits % 128 ≡ 0x03 }
+    ensures decoded { IfSome result (λ answer. IsRowAnd insn_bits
+        (λ row f. T.did row f processor.old processor.new answer)) }
+    ensures outside { IfNone result (IsOutside insn_bits) }
+    ensures unchanged { IfNone result (processor.new ≡ processor.old) }
+{
+    let dec_insn = IType::new(insn_bits);
+    match dec_insn.funct3 {
+        0 => Some(processor.process_lb(dec_insn)),
+        1 => Some(processor.process_lh(dec_insn)),
+        2 => Some(processor.process_lw(dec_insn)),
+        4 => Some(processor.process_lbu(dec_insn)),
+        5 => Some(processor.process_lhu(dec_insn)),
+        _ => None,
+    }
+}
+
+/// Calls the function of a store, or answers `None` where there is none.
+fn process_opcode_store<T: InstructionProcessor>(
+    processor: &mut T,
+    insn_bits: u32,
+) -> Option<T::InstructionResult>
+    requires { insn_bits % 128 ≡ 0x23 }
+    ensures decoded { IfSome result (λ answer. IsRowAnd insn_bits
+        (λ row f. T.did row f processor.old processor.new answer)) }
+    ensures outside { IfNone result (IsOutside insn_bits) }
+    ensures unchanged { IfNone result (processor.new ≡ processor.old) }
+{
+    let dec_insn = SType::new(insn_bits);
+    match dec_insn.funct3 {
+        0 => Some(processor.process_sb(dec_insn)),
+        1 => Some(processor.process_sh(dec_insn)),
+        2 => Some(processor.process_sw(dec_insn)),
+        _ => None,
+    }
+}
+
+/// Calls the function of `fence`, or answers `None` for another funct3.
+fn process_opcode_misc_mem<T: InstructionProcessor>(
+    processor: &mut T,
+    insn_bits: u32,
+) -> Option<T::InstructionResult>
+    requires { insn_bits % 128 ≡ 0x0f }
+    ensures decoded { IfSome result (λ answer. IsRowAnd insn_bits
+        (λ row f. T.did row f processor.old processor.new answer)) }
+    ensures outside { IfNone result (IsOutside insn_bits) }
+    ensures unchanged { IfNone result (processor.new ≡ processor.old) }
+{
+    let dec_insn = IType::new(insn_bits);
+    match dec_insn.funct3 {
+        0 => Some(processor.process_fence(dec_insn)),
+        _ => None,
+    }
+}
+
+/// Decodes the word `insn_bits`, and calls the processor's function for it.
+///
+/// The rows of the table are RV32I and the M extension, without `ecall`, `ebreak` and the other
+/// SYSTEM instructions. A word that is a row's is passed, as the decoded fields, to that row's
+/// function, which is called once, and the answer is `Some` of what it answers. A word is one row's
+/// at most. The answer is `None` exactly for the words outside the table, and the processor is then
+/// unchanged.
+///
+/// Two rows are laxer than the specification: `slli` with any funct7, and `jalr` with any funct3.
+pub fn process_instruction<T: InstructionProcessor>(
+    processor: &mut T,
+    insn_bits: u32,
+) -> Option<T::InstructionResult>
+    ensures decoded { IfSome result (λ answer. IsRowAnd insn_bits
+        (λ row f. T.did row f processor.old processor.new answer)) }
+    ensures outside { IfNone result (IsOutside insn_bits) }
+    ensures unchanged { IfNone result (processor.new ≡ processor.old) }
+    ensures unique { IsOneRowAtMost insn_bits }
+{
+    match insn_bits & 0x7f {
+        OPCODE_OP => process_opcode_op(processor, insn_bits),
+        OPCODE_OP_IMM => process_opcode_op_imm(processor, insn_bits),
+        OPCODE_LUI => Some(processor.process_lui(UType::new(insn_bits))),
+        OPCODE_AUIPC => Some(processor.process_auipc(UType::new(insn_bits))),
+        OPCODE_BRANCH => process_opcode_branch(processor, insn_bits),
+        OPCODE_LOAD => process_opcode_load(processor, insn_bits),
+        OPCODE_STORE => process_opcode_store(processor, insn_bits),
+        OPCODE_JAL => Some(processor.process_jal(JType::new(insn_bits))),
+        OPCODE_JALR => Some(processor.process_jalr(IType::new(insn_bits))),
+        OPCODE_MISC_MEM => process_opcode_misc_mem(processor, insn_bits),
+        _ => None,
+    }
+}

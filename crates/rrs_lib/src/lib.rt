@@ -1,0 +1,346 @@
+//! Building blocks for a RISC-V instruction set simulator: RV32I with the M extension.
+//!
+//! `process_instruction` decodes a word and calls a function of an [InstructionProcessor]. The
+//! processor of `instruction_executor` executes the instruction, over any [Memory]; `memories` has
+//! memories. What the rows of the table are, and what they do, is written in `specs/`.
+
+#![tactic(auto)]
+
+mod arithmetic;
+mod decode;
+pub mod instruction_executor;
+pub mod instruction_formats;
+pub mod memories;
+
+ghost use Rattle.std.specs.Prelude.{◌≡◌, ℕ, ◌+◌, ◌%◌, ◌^◌, ◌<◌, List, slice_index, drop, length, Bool, Option, Some, None, IsTrue, ◌↔◌, pos, replicate};
+ghost use Rattle.std.specs.Bool.{OnTrue, OnFalse};
+ghost use Rattle.rrs_lib.specs.Encodings.{Fields, R, I, IShamt, S, B, U, J, HasRegisters};
+ghost use Rattle.rrs_lib.specs.Table.{Row, Add, Sub, Sll, Slt, Sltu, Xor, Srl, Sra, Or, And, Addi, Slli, Slti, Sltiu, Xori, Srli, Srai, Ori, Andi, Lui, Auipc, Beq, Bne, Blt, Bltu, Bge, Bgeu, Lb, Lbu, Lh, Lhu, Lw, Sb, Sh, Sw, Jal, Jalr, Mul, Mulh, Mulhu, Mulhsu, Div, Divu, Rem, Remu, Fence};
+ghost use Rattle.rrs_lib.specs.Bytes.{width, little_endian, all_writable, store, IsLawful};
+
+use crate::instruction_formats::{BType, IType, ITypeShamt, JType, RType, SType, UType};
+pub use decode::process_instruction;
+
+/// Something that is done with instructions: executing them, printing them, counting them.
+///
+/// There is one function for each row of the table, in its order. Each takes the row's decoded
+/// fields, whose register numbers are below 32; immediates, shift amounts, funct3 and funct7 may be
+/// anything. An implementation says what it does by its relation `did`, and each function meets it.
+pub trait InstructionProcessor {
+    /// What each function answers.
+    type InstructionResult;
+
+    /// The processor before, the row and its fields, the processor after, and the answer.
+    ghost did: { Row → Fields → Self → Self → Self.InstructionResult → Type 0 };
+
+    fn process_add(&mut self, dec_insn: RType) -> Self::InstructionResult
+        requires { HasRegisters (R dec_insn) }
+        ensures { did Add (R dec_insn) self.old self.new result };
+
+    fn process_sub(&mut self, dec_insn: RType) -> Self::InstructionResult
+        requires { HasRegisters (R dec_insn) }
+        ensures { did Sub (R dec_insn) self.old self.new result };
+
+    fn process_sll(&mut self, dec_insn: RType) -> Self::InstructionResult
+        requires { HasRegisters (R dec_insn) }
+        ensures { did Sll (R dec_insn) self.old self.new result };
+
+    fn process_slt(&mut self, dec_insn: RType) -> Self::InstructionResult
+        requires { HasRegisters (R dec_insn) }
+        ensures { did Slt (R dec_insn) self.old self.new result };
+
+    fn process_sltu(&mut self, dec_insn: RType) -> Self::InstructionResult
+        requires { HasRegisters (R dec_insn) }
+        ensures { did Sltu (R dec_insn) self.old self.new result };
+
+    fn process_xor(&mut self, dec_insn: RType) -> Self::InstructionResult
+        requires { HasRegisters (R dec_insn) }
+        ensures { did Xor (R dec_insn) self.old self.new result };
+
+    fn process_srl(&mut self, dec_insn: RType) -> Self::InstructionResult
+        requires { HasRegisters (R dec_insn) }
+        ensures { did Srl (R dec_insn) self.old self.new result };
+
+    fn process_sra(&mut self, dec_insn: RType) -> Self::InstructionResult
+        requires { HasRegisters (R dec_insn) }
+        ensures { did Sra (R dec_insn) self.old self.new result };
+
+    fn process_or(&mut self, dec_insn: RType) -> Self::InstructionResult
+        requires { HasRegisters (R dec_insn) }
+        ensures { did Or (R dec_insn) self.old self.new result };
+
+    fn process_and(&mut self, dec_insn: RType) -> Self::InstructionResult
+        requires { HasRegisters (R dec_insn) }
+        ensures { did And (R dec_insn) self.old self.new result };
+
+    fn process_addi(&mut self, dec_insn: IType) -> Self::InstructionResult
+        requires { HasRegisters (I dec_insn) }
+        ensures { did Addi (I dec_insn) self.old self.new result };
+
+    fn process_slli(&mut self, dec_insn: ITypeShamt) -> Self::InstructionResult
+        requires { HasRegisters (IShamt dec_insn) }
+        ensures { did Slli (IShamt dec_insn) self.old self.new result };
+
+    fn process_slti(&mut self, dec_insn: IType) -> Self::InstructionResult
+        requires { HasRegisters (I dec_insn) }
+        ensures { did Slti (I dec_insn) self.old self.new result };
+
+    fn process_sltui(&mut self, dec_insn: IType) -> Self::InstructionResult
+        requires { HasRegisters (I dec_insn) }
+        ensures { did Sltiu (I dec_insn) self.old self.new result };
+
+    fn process_xori(&mut self, dec_insn: IType) -> Self::InstructionResult
+        requires { HasRegisters (I dec_insn) }
+        ensures { did Xori (I dec_insn) self.old self.new result };
+
+    fn process_srli(&mut self, dec_insn: ITypeShamt) -> Self::InstructionResult
+        requires { HasRegisters (IShamt dec_insn) }
+        ensures { did Srli (IShamt dec_insn) self.old self.new result };
+
+    fn process_srai(&mut self, dec_insn: ITypeShamt) -> Self::InstructionResult
+        requires { HasRegisters (IShamt dec_insn) }
+        ensures { did Srai (IShamt dec_insn) self.old self.new result };
+
+    fn process_ori(&mut self, dec_insn: IType) -> Self::InstructionResult
+        requires { HasRegisters (I dec_insn) }
+        ensures { did Ori (I dec_insn) self.old self.new result };
+
+    fn process_andi(&mut self, dec_insn: IType) -> Self::InstructionResult
+        requires { HasRegisters (I dec_insn) }
+        ensures { did Andi (I dec_insn) self.old self.new result };
+
+    fn process_lui(&mut self, dec_insn: UType) -> Self::InstructionResult
+        requires { HasRegisters (U dec_insn) }
+        ensures { did Lui (U dec_insn) self.old self.new result };
+
+    fn process_auipc(&mut self, dec_insn: UType) -> Self::InstructionResult
+        requires { HasRegisters (U dec_insn) }
+        ensures { did Auipc (U dec_insn) self.old self.new result };
+
+    fn process_beq(&mut self, dec_insn: BType) -> Self::InstructionResult
+        requires { HasRegisters (B dec_insn) }
+        ensures { did Beq (B dec_insn) self.old self.new result };
+
+    fn process_bne(&mut self, dec_insn: BType) -> Self::InstructionResult
+        requires { HasRegisters (B dec_insn) }
+        ensures { did Bne (B dec_insn) self.old self.new result };
+
+    fn process_blt(&mut self, dec_insn: BType) -> Self::InstructionResult
+        requires { HasRegisters (B dec_insn) }
+        ensures { did Blt (B dec_insn) self.old self.new result };
+
+    fn process_bltu(&mut self, dec_insn: BType) -> Self::InstructionResult
+        requires { HasRegisters (B dec_insn) }
+        ensures { did Bltu (B dec_insn) self.old self.new result };
+
+    fn process_bge(&mut self, dec_insn: BType) -> Self::InstructionResult
+        requires { HasRegisters (B dec_insn) }
+        ensures { did Bge (B dec_insn) self.old self.new result };
+
+    fn process_bgeu(&mut self, dec_insn: BType) -> Self::InstructionResult
+        requires { HasRegisters (B dec_insn) }
+        ensures { did Bgeu (B dec_insn) self.old self.new result };
+
+    fn process_lb(&mut self, dec_insn: IType) -> Self::InstructionResult
+        requires { HasRegisters (I dec_insn) }
+        ensures { did Lb (I dec_insn) self.old self.new result };
+
+    fn process_lbu(&mut self, dec_insn: IType) -> Self::InstructionResult
+        requires { HasRegisters (I dec_insn) }
+        ensures { did Lbu (I dec_insn) self.old self.new result };
+
+    fn process_lh(&mut self, dec_insn: IType) -> Self::InstructionResult
+        requires { HasRegisters (I dec_insn) }
+        ensures { did Lh (I dec_insn) self.old self.new result };
+
+    fn process_lhu(&mut self, dec_insn: IType) -> Self::InstructionResult
+        requires { HasRegisters (I dec_insn) }
+        ensures { did Lhu (I dec_insn) self.old self.new result };
+
+    fn process_lw(&mut self, dec_insn: IType) -> Self::InstructionResult
+        requires { HasRegisters (I dec_insn) }
+        ensures { did Lw (I dec_insn) self.old self.new result };
+
+    fn process_sb(&mut self, dec_insn: SType) -> Self::InstructionResult
+        requires { HasRegisters (S dec_insn) }
+        ensures { did Sb (S dec_insn) self.old self.new result };
+
+    fn process_sh(&mut self, dec_insn: SType) -> Self::InstructionResult
+        requires { HasRegisters (S dec_insn) }
+        ensures { did Sh (S dec_insn) self.old self.new result };
+
+    fn process_sw(&mut self, dec_insn: SType) -> Self::InstructionResult
+        requires { HasRegisters (S dec_insn) }
+        ensures { did Sw (S dec_insn) self.old self.new result };
+
+    fn process_jal(&mut self, dec_insn: JType) -> Self::InstructionResult
+        requires { HasRegisters (J dec_insn) }
+        ensures { did Jal (J dec_insn) self.old self.new result };
+
+    fn process_jalr(&mut self, dec_insn: IType) -> Self::InstructionResult
+        requires { HasRegisters (I dec_insn) }
+        ensures { did Jalr (I dec_insn) self.old self.new result };
+
+    fn process_mul(&mut self, dec_insn: RType) -> Self::InstructionResult
+        requires { HasRegisters (R dec_insn) }
+        ensures { did Mul (R dec_insn) self.old self.new result };
+
+    fn process_mulh(&mut self, dec_insn: RType) -> Self::InstructionResult
+        requires { HasRegisters (R dec_insn) }
+        ensures { did Mulh (R dec_insn) self.old self.new result };
+
+    fn process_mulhu(&mut self, dec_insn: RType) -> Self::InstructionResult
+        requires { HasRegisters (R dec_insn) }
+        ensures { did Mulhu (R dec_insn) self.old self.new result };
+
+    fn process_mulhsu(&mut self, dec_insn: RType) -> Self::InstructionResult
+        requires { HasRegisters (R dec_insn) }
+        ensures { did Mulhsu (R dec_insn) self.old self.new result };
+
+    fn process_div(&mut self, dec_insn: RType) -> Self::InstructionResult
+        requires { HasRegisters (R dec_insn) }
+        ensures { did Div (R dec_insn) self.old self.new result };
+
+    fn process_divu(&mut self, dec_insn: RType) -> Self::InstructionResult
+        requires { HasRegisters (R dec_insn) }
+        ensures { did Divu (R dec_insn) self.old self.new result };
+
+    fn process_rem(&mut self, dec_insn: RType) -> Self::InstructionResult
+        requires { HasRegisters (R dec_insn) }
+        ensures { did Rem (R dec_insn) self.old self.new result };
+
+    fn process_remu(&mut self, dec_insn: RType) -> Self::InstructionResult
+        requires { HasRegisters (R dec_insn) }
+        ensures { did Remu (R dec_insn) self.old self.new result };
+
+    fn process_fence(&mut self, dec_insn: IType) -> Self::InstructionResult
+        requires { HasRegisters (I dec_insn) }
+        ensures { did Fence (I dec_insn) self.old self.new result };
+}
+
+/// The state of a single RISC-V hart (hardware thread).
+pub struct HartState {
+    /// The registers x1 to x31. What entry 0 holds is never read or changed: x0 is 0.
+    pub registers: [u32; 32],
+    /// The program counter: the address, in bytes, of the next instruction.
+    pub pc: u32,
+    /// The register that the latest instruction wrote, or `None` if it wrote none.
+    pub last_register_write: Option<usize>,
+}
+
+impl HartState {
+    ghost use Rattle.rrs_lib.specs.Machine.{state_of, reg, put};
+
+    /// A hart with all registers 0, at address 0, that has written no register.
+    pub fn new() -> Self
+        ensures registers { result.registers ≡ replicate 32 0 }
+        ensures pc { result.pc ≡ 0 }
+        ensures last { result.last_register_write ≡ None }
+    {
+        HartState {
+            registers: [0; 32],
+            pc: 0,
+            last_register_write: None,
+        }
+    }
+
+    /// Writes a register; a write to x0 changes nothing.
+    #[inline]
+    pub(crate) fn write_register(&mut self, reg_index: usize, value: u32)
+        requires { reg_index < 32 }
+        ensures written { (bytes : ℕ → Option ℕ) (writable : ℕ → Bool)
+            → state_of self.new bytes writable ≡ put (state_of self.old bytes writable) reg_index (pos value) }
+        ensures zero_kept { slice_index self.new.registers 0 ≡ slice_index self.old.registers 0 }
+    {
+        if reg_index == 0 {
+            return;
+        }
+        self.registers[reg_index] = value;
+        self.last_register_write = Some(reg_index);
+    }
+
+    /// Reads a register; x0 is 0.
+    #[inline]
+    pub(crate) fn read_register(&self, reg_index: usize) -> u32
+        requires { reg_index < 32 }
+        ensures { (bytes : ℕ → Option ℕ) (writable : ℕ → Bool)
+            → result ≡ reg (state_of self.now bytes writable) reg_index }
+    {
+        if reg_index == 0 {
+            0
+        } else {
+            self.registers[reg_index]
+        }
+    }
+}
+
+impl Default for HartState {
+    fn default() -> Self
+        ensures registers { result.registers ≡ replicate 32 0 }
+        ensures pc { result.pc ≡ 0 }
+        ensures last { result.last_register_write ≡ None }
+    {
+        Self::new()
+    }
+}
+
+impl Drop for HartState {
+    fn drop(self) {
+        let HartState {
+            registers: _,
+            pc: _,
+            last_register_write: _,
+        } = self;
+    }
+}
+
+/// The sizes of memory accesses.
+#[derive(Clone, Copy)]
+pub enum MemAccessSize {
+    /// 1 byte.
+    Byte,
+    /// 2 bytes.
+    HalfWord,
+    /// 4 bytes.
+    Word,
+}
+
+/// A memory of bytes, little-endian.
+///
+/// An implementation says which addresses are mapped, with which byte, which of them are writable,
+/// and its layout, a list of numbers of its own choice; its calls are proved to keep the laws below. A
+/// device may keep other state beside these bytes. For a space of regions the layout lists the regions, so that a caller
+/// knows after any number of accesses which they are.
+pub trait Memory {
+    /// The byte at each address, or `None` where none is mapped.
+    ghost bytes: { Self → ℕ → Option ℕ };
+
+    /// Whether an address is writable.
+    ghost writable: { Self → ℕ → Bool };
+
+    /// What never changes by an access.
+    ghost layout: { Self → List ℕ };
+
+    /// Reads `size` bytes from `addr`, which is a multiple of the size.
+    ///
+    /// The answer is `None` exactly where one of them is not mapped, and else their little-endian value.
+    fn read_mem(&mut self, addr: u32, size: MemAccessSize) -> Option<u32>
+        requires { addr % width size ≡ 0 }
+        ensures value { result ≡ little_endian (bytes self.old) addr (width size) }
+        ensures bytes_kept { bytes self.new ≡ bytes self.old }
+        ensures writable_kept { writable self.new ≡ writable self.old }
+        ensures layout_kept { layout self.new ≡ layout self.old }
+        ensures lawful { IsLawful (bytes self.old) (writable self.old) addr (width size) };
+
+    /// Writes the low `size` bytes of `store_data` to `addr`, which is a multiple of the size.
+    ///
+    /// The answer is `true` exactly where all of them are writable; nothing changes where it is `false`.
+    fn write_mem(&mut self, addr: u32, size: MemAccessSize, store_data: u32) -> bool
+        requires { addr % width size ≡ 0 }
+        ensures answer { result ≡ all_writable (writable self.old) addr (width size) }
+        ensures written { OnTrue result (bytes self.new ≡ store (bytes self.old) addr (width size) store_data) }
+        ensures refused { OnFalse result (bytes self.new ≡ bytes self.old) }
+        ensures writable_kept { writable self.new ≡ writable self.old }
+        ensures layout_kept { layout self.new ≡ layout self.old }
+        ensures lawful { IsLawful (bytes self.old) (writable self.old) addr (width size) };
+}
