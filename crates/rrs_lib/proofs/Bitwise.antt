@@ -1,5 +1,5 @@
 -- The bits of two numbers combined one by one are what the operators `&`, `|` and `^` give.
-use Rattle.std.proofs.Common.{◌≡◌, ℕ, zero, suc, ◌+◌, ◌*◌, ◌/◌, ◌%◌, ◌^◌, ◌<◌, ◌≤◌, ◌⊎◌, max, bit_and, bit_or, sym, refl, ap, ◌∙◌, inl, inr, arith}
+use Rattle.std.proofs.Common.{◌≡◌, ℕ, zero, suc, ◌+◌, ◌*◌, ◌/◌, ◌%◌, ◌^◌, ◌<◌, ◌⊎◌, max, bit_and, bit_or, sym, refl, inl, inr, arith}
 use Rattle.std.specs.Int.Bits.{bit_xor}
 use Rattle.std.proofs.lemmas.Nat.{mod-pow-add, mod_below, pow_pos, and_block, or_block, xor_block, and_le_l, or_lt, xor_lt}
 use Rattle.std.proofs.Math.Nat.{mod-eq_of_lt, mul_comm}

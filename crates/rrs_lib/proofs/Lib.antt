@@ -6,3 +6,4 @@ pub mod Rows
 pub mod SignExtension
 pub mod Signed
 pub mod Stepping
+pub mod VecWords

@@ -1,0 +1,149 @@
+//! Memories for a simulator.
+
+ghost use Rattle.std.specs.Prelude.{◌≡◌, ◌≢◌, ℕ, ◌+◌, ◌*◌, ◌/◌, ◌%◌, ◌^◌, ◌≤◌, [], ◌∷◌, length};
+ghost use Rattle.std.specs.Prelude.{slice_index, vec_len};
+ghost use Rattle.std.specs.Bool.{OnTrue, OnFalse};
+ghost use Rattle.rrs_lib.specs.Bytes.{width, little_endian, all_writable, store, IsLawful};
+ghost use Rattle.rrs_lib.specs.VecBytes.{bytes_of_words, lies_in_words};
+
+use crate::{MemAccessSize, Memory};
+
+/// A memory of words, all of them writable.
+///
+/// The words lie one after another from address 0 on, each as four bytes, lowest first. The words
+/// past index 2^30 - 1 have no address.
+pub struct VecMemory {
+    /// The words.
+    pub mem: Vec<u32>,
+}
+
+impl VecMemory {
+    /// A memory with these words.
+    pub fn new(init_mem: Vec<u32>) -> VecMemory
+        ensures { result.mem ≡ init_mem }
+    {
+        VecMemory { mem: init_mem }
+    }
+}
+
+impl Drop for VecMemory {
+    fn drop(self) {
+        let VecMemory { mem: _ } = self;
+    }
+}
+
+/// The word whose lowest `size` bytes are ones.
+#[inline]
+fn mask_of(size: MemAccessSize) -> u32
+    ensures { result + 1 ≡ 256 ^ width size }
+{
+    match size {
+        MemAccessSize::Byte => 0xff,
+        MemAccessSize::HalfWord => 0xffff,
+        MemAccessSize::Word => 0xffff_ffff,
+    }
+}
+
+/// The `size` bytes of a word from byte `place` on.
+#[inline]
+fn part_of(word: u32, place: u32, size: MemAccessSize) -> u32
+    requires { place + width size ≤ 4 }
+    ensures { result ≡ word / 256 ^ place % 256 ^ width size }
+{
+    (word >> (8 * place)) & mask_of(size)
+}
+
+/// A word whose `size` bytes from byte `place` on are replaced by the lowest bytes of `value`.
+#[inline]
+fn with_part(word: u32, place: u32, size: MemAccessSize, value: u32) -> u32
+    requires { place + width size ≤ 4 }
+    ensures { let n = width size in
+        result ≡ (word / 256 ^ (n + place) * 256 ^ n + value % 256 ^ n) * 256 ^ place
+        + word % 256 ^ place }
+{
+    let mask = mask_of(size);
+    let shift = 8 * place;
+    (word & !(mask << shift)) | ((value & mask) << shift)
+}
+
+/// The `size` bytes at `addr`, a multiple of the size, or `None` past the words.
+#[inline]
+fn read_words(words: &[u32], addr: u32, size: MemAccessSize) -> Option<u32>
+    requires { addr % width size ≡ 0 }
+    ensures { result ≡ little_endian (bytes_of_words words.now) addr (width size) }
+{
+    let index = (addr >> 2) as usize;
+    if index >= words.len() {
+        return None;
+    }
+    Some(part_of(words[index], addr & 3, size))
+}
+
+/// Writes the lowest `size` bytes of `value` to `addr`, a multiple of the size, and answers whether
+/// it lies in the words.
+#[inline]
+fn write_words(words: &mut [u32], addr: u32, size: MemAccessSize, value: u32) -> bool
+    requires { addr % width size ≡ 0 }
+    ensures answer { result ≡ all_writable (lies_in_words words.old) addr (width size) }
+    ensures written { OnTrue result (bytes_of_words words.new
+        ≡ store (bytes_of_words words.old) addr (width size) value) }
+    ensures refused { OnFalse result (words.new ≡ words.old) }
+    ensures length_kept { length words.new ≡ length words.old }
+    ensures others_kept { (i : ℕ) → i ≢ addr / 4
+        → slice_index words.new i ≡ slice_index words.old i }
+{
+    let word_index = (addr >> 2) as usize;
+    if word_index >= words.len() {
+        return false;
+    }
+    words[word_index] = with_part(words[word_index], addr & 3, size, value);
+    true
+}
+
+impl Memory for VecMemory {
+    ghost bytes = { λ m. bytes_of_words m.mem.items };
+
+    ghost writable = { λ m. lies_in_words m.mem.items };
+
+    ghost layout = { λ m. vec_len m.mem ∷ [] };
+
+    #[inline]
+    fn read_mem(&mut self, addr: u32, size: MemAccessSize) -> Option<u32>
+        requires { addr % width size ≡ 0 }
+        ensures value { result
+            ≡ little_endian (bytes_of_words self.old.mem.items) addr (width size) }
+        ensures words_kept { self.new.mem.items ≡ self.old.mem.items }
+        ensures bytes_kept { bytes_of_words self.new.mem.items ≡ bytes_of_words self.old.mem.items }
+        ensures writable_kept { lies_in_words self.new.mem.items
+            ≡ lies_in_words self.old.mem.items }
+        ensures layout_kept { vec_len self.new.mem ∷ [] ≡ vec_len self.old.mem ∷ [] }
+        ensures lawful { IsLawful (bytes_of_words self.old.mem.items)
+            (lies_in_words self.old.mem.items) addr (width size) }
+    {
+        read_words(&self.mem, addr, size)
+    }
+
+    #[inline]
+    fn write_mem(&mut self, addr: u32, size: MemAccessSize, store_data: u32) -> bool
+        requires { addr % width size ≡ 0 }
+        ensures answer { result
+            ≡ all_writable (lies_in_words self.old.mem.items) addr (width size) }
+        ensures written { OnTrue result (bytes_of_words self.new.mem.items
+            ≡ store (bytes_of_words self.old.mem.items) addr (width size) store_data) }
+        ensures refused { OnFalse result (bytes_of_words self.new.mem.items
+            ≡ bytes_of_words self.old.mem.items) }
+        ensures length_kept { vec_len self.new.mem ≡ vec_len self.old.mem }
+        ensures others_kept { (i : ℕ) → i ≢ addr / 4
+            → slice_index self.new.mem.items i ≡ slice_index self.old.mem.items i }
+        ensures writable_kept { lies_in_words self.new.mem.items
+            ≡ lies_in_words self.old.mem.items }
+        ensures layout_kept { vec_len self.new.mem ∷ [] ≡ vec_len self.old.mem ∷ [] }
+        ensures lawful { IsLawful (bytes_of_words self.old.mem.items)
+            (lies_in_words self.old.mem.items) addr (width size) }
+    {
+        write_words(&mut self.mem, addr, size, store_data)
+    }
+}
+
+#[cfg(test)]
+mod tests;

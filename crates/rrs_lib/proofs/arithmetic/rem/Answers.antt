@@ -1,5 +1,5 @@
 -- What the code computes is the remainder as it is stated, by the lemma on words.
-use Rattle.std.proofs.Common.{rules, refl}
+use Rattle.std.proofs.Common.{rules}
 use Rattle.rrs_lib.proofs.Signed.{remainder-is_word}
 use Rattle.rrs_lib.proofs.arithmetic.rem.Goals as goal
 

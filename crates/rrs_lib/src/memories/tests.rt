@@ -1,0 +1,62 @@
+use super::*;
+use std::test::Fail;
+
+#[test]
+fn reads(rt: HostRuntime) -> Result<(), Fail> {
+    let mut memory = VecMemory::new(vec![in rt.alloc(); 0x4433_2211]?);
+    assert_eq!(rt; memory.read_mem(0, MemAccessSize::Word), Some(0x4433_2211));
+    assert_eq!(rt; memory.read_mem(0, MemAccessSize::HalfWord), Some(0x2211));
+    assert_eq!(rt; memory.read_mem(2, MemAccessSize::HalfWord), Some(0x4433));
+    assert_eq!(rt; memory.read_mem(0, MemAccessSize::Byte), Some(0x11));
+    assert_eq!(rt; memory.read_mem(3, MemAccessSize::Byte), Some(0x44));
+    assert_eq!(rt; memory.read_mem(4, MemAccessSize::Byte), None);
+    assert_eq!(rt; memory.read_mem(4, MemAccessSize::Word), None);
+    assert_eq!(rt; memory.mem.as_slice(), [0x4433_2211].as_slice());
+    Ok(())
+}
+
+#[test]
+fn writes(rt: HostRuntime) -> Result<(), Fail> {
+    let mut memory = VecMemory::new(vec![in rt.alloc(); 0x4433_2211, 0x8877_6655]?);
+    assert!(rt; memory.write_mem(2, MemAccessSize::HalfWord, 0xaaaa_bbcc));
+    assert_eq!(rt;
+        memory.mem.as_slice(),
+        [0xbbcc_2211, 0x8877_6655].as_slice()
+    );
+    assert!(rt; memory.write_mem(1, MemAccessSize::Byte, 0x1ff));
+    assert_eq!(rt;
+        memory.mem.as_slice(),
+        [0xbbcc_ff11, 0x8877_6655].as_slice()
+    );
+    assert!(rt; memory.write_mem(4, MemAccessSize::Word, 0x0102_0304));
+    assert_eq!(rt;
+        memory.mem.as_slice(),
+        [0xbbcc_ff11, 0x0102_0304].as_slice()
+    );
+    assert!(rt; !memory.write_mem(8, MemAccessSize::Word, 5));
+    assert_eq!(rt;
+        memory.mem.as_slice(),
+        [0xbbcc_ff11, 0x0102_0304].as_slice()
+    );
+    Ok(())
+}
+
+#[test]
+fn empty_has_no_byte(rt: HostRuntime) -> Result<(), Fail> {
+    let mut memory = VecMemory::new(Vec::new(rt.alloc()));
+    assert_eq!(rt; memory.read_mem(0, MemAccessSize::Byte), None);
+    assert_eq!(rt; memory.read_mem(0xffff_fffc, MemAccessSize::Word), None);
+    assert!(rt; !memory.write_mem(0, MemAccessSize::Byte, 1));
+    Ok(())
+}
+
+fn read_through<M: Memory>(memory: &mut M) -> Option<u32> {
+    memory.read_mem(0, MemAccessSize::Byte)
+}
+
+#[test]
+fn reads_through_the_bound(rt: HostRuntime) -> Result<(), Fail> {
+    let mut memory = VecMemory::new(vec![in rt.alloc(); 0x4433_2211]?);
+    assert_eq!(rt; read_through(&mut memory), Some(0x11));
+    Ok(())
+}
