@@ -1,9 +1,16 @@
 pub mod Bitwise
+pub mod ExampleResults
+pub mod ExampleRows
+pub mod ExampleSteps
+pub mod ExampleTexts
+pub mod Examples
 pub mod Fields
 pub mod Keeping
+pub mod LoadLemmas
 pub mod Masks
 pub mod Rows
 pub mod SignExtension
 pub mod Signed
 pub mod Stepping
+pub mod TextLemmas
 pub mod VecWords

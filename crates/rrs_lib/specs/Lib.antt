@@ -6,4 +6,9 @@ pub mod Results
 pub mod Machine
 pub mod Steps
 pub mod Executor
+pub mod Texts
+pub mod Outputter
 pub mod VecBytes
+pub mod Spaces
+pub mod Loading
+pub mod LoadTexts

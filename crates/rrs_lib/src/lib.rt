@@ -10,6 +10,7 @@ mod arithmetic;
 mod decode;
 pub mod instruction_executor;
 pub mod instruction_formats;
+pub mod instruction_string_outputter;
 pub mod memories;
 
 ghost use Rattle.std.specs.Prelude.{◌≡◌, ℕ, ◌+◌, ◌%◌, ◌^◌, ◌<◌, List, slice_index, drop, length, Bool, Option, Some, None, IsTrue, ◌↔◌, pos, replicate};

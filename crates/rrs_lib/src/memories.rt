@@ -6,7 +6,10 @@ ghost use Rattle.std.specs.Bool.{OnTrue, OnFalse};
 ghost use Rattle.rrs_lib.specs.Bytes.{width, little_endian, all_writable, store, IsLawful};
 ghost use Rattle.rrs_lib.specs.VecBytes.{bytes_of_words, lies_in_words};
 
+mod load;
+
 use crate::{MemAccessSize, Memory};
+pub use load::{LoadFault, read_to_memory};
 
 /// A memory of words, all of them writable.
 ///

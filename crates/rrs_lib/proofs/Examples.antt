@@ -1,0 +1,102 @@
+-- One test word of each row, with its fields and its text at address 0x100. The modules whose names begin with Example prove that the definitions
+-- of specs/ compute to these and other known answers. No contract cites them: they are for whoever compares the definitions with the RISC-V
+-- specification.
+use Rattle.std.specs.Prelude.{ℕ, List, ◌∷◌, replicate, ℤ, pos, neg_ℤ, Option, codes}
+use Rattle.rrs_lib.specs.Encodings.{Fields, R, I, IShamt, S, B, U, J}
+use Rattle.rrs_lib.specs.Table.{Row, Add, Sub, Sll, Slt, Sltu, Xor, Srl, Sra, Or, And, Addi, Slli, Slti, Sltiu, Xori, Srli, Srai, Ori, Andi, Lui, Auipc, Beq, Bne, Blt, Bltu, Bge, Bgeu, Lb, Lbu, Lh, Lhu, Lw, Sb, Sh, Sw, Jal, Jalr, Mul, Mulh, Mulhu, Mulhsu, Div, Divu, Rem, Remu, Fence}
+use Rattle.rrs_lib.specs.Machine.{State}
+use Rattle.rrs_lib.specs.VecBytes.{bytes_of_words, lies_in_words}
+
+-- fields by their values, in the order of the structs
+abbrev pub of_R : (funct7 rs2 rs1 funct3 rd : ℕ) → Fields
+of_R funct7 rs2 rs1 funct3 rd = R (record { funct7 = funct7; rs2 = rs2; rs1 = rs1; funct3 = funct3; rd = rd })
+
+abbrev pub of_I : (imm : ℤ) (rs1 funct3 rd : ℕ) → Fields
+of_I imm rs1 funct3 rd = I (record { imm = imm; rs1 = rs1; funct3 = funct3; rd = rd })
+
+abbrev pub of_IShamt : (funct7 shamt rs1 funct3 rd : ℕ) → Fields
+of_IShamt funct7 shamt rs1 funct3 rd = IShamt (record { funct7 = funct7; shamt = shamt; rs1 = rs1; funct3 = funct3; rd = rd })
+
+abbrev pub of_S : (imm : ℤ) (rs2 rs1 funct3 : ℕ) → Fields
+of_S imm rs2 rs1 funct3 = S (record { imm = imm; rs2 = rs2; rs1 = rs1; funct3 = funct3 })
+
+abbrev pub of_B : (imm : ℤ) (rs2 rs1 funct3 : ℕ) → Fields
+of_B imm rs2 rs1 funct3 = B (record { imm = imm; rs2 = rs2; rs1 = rs1; funct3 = funct3 })
+
+abbrev pub of_U : (imm : ℤ) (rd : ℕ) → Fields
+of_U imm rd = U (record { imm = imm; rd = rd })
+
+abbrev pub of_J : (imm : ℤ) (rd : ℕ) → Fields
+of_J imm rd = J (record { imm = imm; rd = rd })
+
+-- registers 1 to 31: three values, and 0 in the others
+abbrev pub registers : (x1 x2 x3 : ℕ) → List ℕ
+registers x1 x2 x3 = x1 ∷ x2 ∷ x3 ∷ replicate 28 0
+
+-- a machine over the words of a memory
+abbrev pub machine : List ℕ → (pc : ℕ) → (last : Option ℕ) → (words : List ℕ) → State
+machine registers pc last words = record {
+  registers = registers;
+  pc = pc;
+  last = last;
+  bytes = bytes_of_words words;
+  writable = lies_in_words words;
+}
+
+-- a word, its fields, and its text at address 0x100
+pub record Example : Type 0 where
+  pub word : ℕ
+  pub fields : Fields
+  pub text : List ℕ
+
+abbrev pub of_word : ℕ → Fields → List ℕ → Example
+of_word word fields text = record { word = word; fields = fields; text = text }
+
+-- the example of each row
+abbrev pub example : Row → Example
+example Add = of_word 0x002081b3 (of_R 0 2 1 0 3) (codes "add x3, x1, x2")
+example Sub = of_word 0x402081b3 (of_R 0x20 2 1 0 3) (codes "sub x3, x1, x2")
+example Sll = of_word 0x002091b3 (of_R 0 2 1 1 3) (codes "sll x3, x1, x2")
+example Slt = of_word 0x0020a1b3 (of_R 0 2 1 2 3) (codes "slt x3, x1, x2")
+example Sltu = of_word 0x0020b1b3 (of_R 0 2 1 3 3) (codes "sltu x3, x1, x2")
+example Xor = of_word 0x0020c1b3 (of_R 0 2 1 4 3) (codes "xor x3, x1, x2")
+example Srl = of_word 0x0020d1b3 (of_R 0 2 1 5 3) (codes "srl x3, x1, x2")
+example Sra = of_word 0x4020d1b3 (of_R 0x20 2 1 5 3) (codes "sra x3, x1, x2")
+example Or = of_word 0x0020e1b3 (of_R 0 2 1 6 3) (codes "or x3, x1, x2")
+example And = of_word 0x0020f1b3 (of_R 0 2 1 7 3) (codes "and x3, x1, x2")
+example Addi = of_word 0xffb08193 (of_I (neg_ℤ (pos 5)) 1 0 3) (codes "addi x3, x1, -5")
+example Slli = of_word 0x00709193 (of_IShamt 0 7 1 1 3) (codes "slli x3, x1, 7")
+example Slti = of_word 0xffb0a193 (of_I (neg_ℤ (pos 5)) 1 2 3) (codes "slti x3, x1, -5")
+example Sltiu = of_word 0xffb0b193 (of_I (neg_ℤ (pos 5)) 1 3 3) (codes "sltiu x3, x1, -5")
+example Xori = of_word 0xffb0c193 (of_I (neg_ℤ (pos 5)) 1 4 3) (codes "xori x3, x1, -5")
+example Srli = of_word 0x0070d193 (of_IShamt 0 7 1 5 3) (codes "srli x3, x1, 7")
+example Srai = of_word 0x4070d193 (of_IShamt 0x20 7 1 5 3) (codes "srai x3, x1, 7")
+example Ori = of_word 0xffb0e193 (of_I (neg_ℤ (pos 5)) 1 6 3) (codes "ori x3, x1, -5")
+example Andi = of_word 0xffb0f193 (of_I (neg_ℤ (pos 5)) 1 7 3) (codes "andi x3, x1, -5")
+example Lui = of_word 0x123451b7 (of_U (pos 0x12345000) 3) (codes "lui x3, 0x12345000")
+example Auipc = of_word 0x12345197 (of_U (pos 0x12345000) 3) (codes "auipc x3, 0x12345100")
+example Beq = of_word 0x00208463 (of_B (pos 8) 2 1 0) (codes "beq x1, x2, 0x00000108")
+example Bne = of_word 0x00209463 (of_B (pos 8) 2 1 1) (codes "bne x1, x2, 0x00000108")
+example Blt = of_word 0x0020c463 (of_B (pos 8) 2 1 4) (codes "blt x1, x2, 0x00000108")
+example Bltu = of_word 0x0020e463 (of_B (pos 8) 2 1 6) (codes "bltu x1, x2, 0x00000108")
+example Bge = of_word 0x0020d463 (of_B (pos 8) 2 1 5) (codes "bge x1, x2, 0x00000108")
+example Bgeu = of_word 0x0020f463 (of_B (pos 8) 2 1 7) (codes "bgeu x1, x2, 0x00000108")
+example Lb = of_word 0xffc08183 (of_I (neg_ℤ (pos 4)) 1 0 3) (codes "lb x3, -4(x1)")
+example Lbu = of_word 0xffc0c183 (of_I (neg_ℤ (pos 4)) 1 4 3) (codes "lbu x3, -4(x1)")
+example Lh = of_word 0xffc09183 (of_I (neg_ℤ (pos 4)) 1 1 3) (codes "lh x3, -4(x1)")
+example Lhu = of_word 0xffc0d183 (of_I (neg_ℤ (pos 4)) 1 5 3) (codes "lhu x3, -4(x1)")
+example Lw = of_word 0xffc0a183 (of_I (neg_ℤ (pos 4)) 1 2 3) (codes "lw x3, -4(x1)")
+example Sb = of_word 0x00208423 (of_S (pos 8) 2 1 0) (codes "sb x2, 8(x1)")
+example Sh = of_word 0x00209423 (of_S (pos 8) 2 1 1) (codes "sh x2, 8(x1)")
+example Sw = of_word 0x0020a423 (of_S (pos 8) 2 1 2) (codes "sw x2, 8(x1)")
+example Jal = of_word 0x010001ef (of_J (pos 16) 3) (codes "jal x3, 0x00000110")
+example Jalr = of_word 0x014081e7 (of_I (pos 20) 1 0 3) (codes "jalr x3, 0x014(x1)")
+example Mul = of_word 0x022081b3 (of_R 1 2 1 0 3) (codes "mul x3, x1, x2")
+example Mulh = of_word 0x022091b3 (of_R 1 2 1 1 3) (codes "mulh x3, x1, x2")
+example Mulhu = of_word 0x0220b1b3 (of_R 1 2 1 3 3) (codes "mulhu x3, x1, x2")
+example Mulhsu = of_word 0x0220a1b3 (of_R 1 2 1 2 3) (codes "mulhsu x3, x1, x2")
+example Div = of_word 0x0220c1b3 (of_R 1 2 1 4 3) (codes "div x3, x1, x2")
+example Divu = of_word 0x0220d1b3 (of_R 1 2 1 5 3) (codes "divu x3, x1, x2")
+example Rem = of_word 0x0220e1b3 (of_R 1 2 1 6 3) (codes "rem x3, x1, x2")
+example Remu = of_word 0x0220f1b3 (of_R 1 2 1 7 3) (codes "remu x3, x1, x2")
+example Fence = of_word 0x0ff0000f (of_I (pos 255) 0 0 0) (codes "fence")

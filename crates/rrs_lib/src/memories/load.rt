@@ -1,0 +1,91 @@
+//! Loading a reader's bytes into a memory.
+
+ghost use Rattle.std.specs.Prelude.{◌≡◌, ℕ, ◌<◌, ◌^◌, [], ◌∷◌, Some, codes, ◌++◌, MatchResult, MatchOption};
+ghost use Rattle.std.specs.Io.KnownBytes.{Consumes, IsAtEnd};
+ghost use Rattle.rrs_lib.specs.Loading.{Loads};
+
+use crate::{MemAccessSize, Memory};
+use std::fmt;
+use std::io::{self, Read};
+
+/// Why a load ended before its reader did. What was written before stays written.
+pub enum LoadFault {
+    /// A read failed, or was interrupted.
+    Reader(io::Error),
+    /// The memory refused the byte at this address. The byte is read already.
+    Refused(u32),
+    /// The reader has a byte more than there are addresses. That byte is read already.
+    EndOfAddresses,
+}
+
+impl Drop for LoadFault {
+    fn drop(self) {
+        match self {
+            LoadFault::Reader(_error) => {}
+            LoadFault::Refused(_address) => {}
+            LoadFault::EndOfAddresses => {}
+        }
+    }
+}
+
+impl fmt::Display for LoadFault {
+    ghost use Rattle.rrs_lib.specs.LoadTexts.{load_text};
+
+    ghost output = { λ fault. Some (load_text fault) };
+
+    fn fmt<W: fmt::Write>(&self, f: &mut fmt::Formatter<W>) -> fmt::Result {
+        match self {
+            LoadFault::Reader(_) => write!(f, "Could not read byte"),
+            LoadFault::Refused(address) => {
+                write!(f, "Could not write byte at address 0x{address:08x}")
+            }
+            LoadFault::EndOfAddresses => write!(f, "Could not write byte past address 0xffffffff"),
+        }
+    }
+}
+
+/// The next byte of a reader, or `None` at its end.
+fn next_byte<R: Read>(reader: &mut R) -> io::Result<Option<u8>>
+    ensures { MatchResult result
+        (λ next. MatchOption next
+        (Consumes (R.remaining reader.old) (R.remaining reader.new) [] × IsAtEnd (R.remaining reader.new))
+        (λ byte. (byte < 2 ^ 8) × Consumes (R.remaining reader.old) (R.remaining reader.new) (byte ∷ [])))
+        (λ _. Consumes (R.remaining reader.old) (R.remaining reader.new) []) }
+{
+    let mut buffer = [0];
+    let count = reader.read(&mut buffer)?;
+    Ok((count != 0).then_some(buffer[0]))
+}
+
+/// Reads a reader to its end, byte by byte, and writes each byte into a memory, from `start_addr` on.
+pub fn read_to_memory<R: Read, M: Memory>(
+    reader: &mut R,
+    memory: &mut M,
+    start_addr: u32,
+) -> Result<(), LoadFault>
+    ensures loads { Loads (R.remaining reader.old) (R.remaining reader.new)
+        (M.bytes memory.old) (M.bytes memory.new) (M.writable memory.old) start_addr result }
+    ensures writable_kept { M.writable memory.new ≡ M.writable memory.old }
+    ensures layout_kept { M.layout memory.new ≡ M.layout memory.old }
+{
+    for addr in u64::from(start_addr)..1 << 32 {
+        let addr = addr as u32;
+        match next_byte(reader) {
+            Ok(Some(byte)) => {
+                if !memory.write_mem(addr, MemAccessSize::Byte, u32::from(byte)) {
+                    return Err(LoadFault::Refused(addr));
+                }
+            }
+            Ok(None) => return Ok(()),
+            Err(error) => return Err(LoadFault::Reader(error)),
+        }
+    }
+    match next_byte(reader) {
+        Ok(None) => Ok(()),
+        Ok(Some(_)) => Err(LoadFault::EndOfAddresses),
+        Err(error) => Err(LoadFault::Reader(error)),
+    }
+}
+
+#[cfg(test)]
+mod tests;
