@@ -4,7 +4,7 @@ use Rattle.std.specs.Prelude.{◌≡◌, ℕ, zero, suc, ◌+◌, ◌-◌, ◌*�
 use Rattle.rrs_lib.specs.declared.MemAccessSize.{MemAccessSize}
 use Rattle.rrs_lib.specs.declared.MemAccessSize.TheVariants.{Byte, HalfWord, Word}
 
--- what each address has: a byte, or nothing where it is not mapped
+-- What each address has: a byte, or nothing where it is not mapped. No access reaches 2 ^ 32.
 abbrev pub ByteMap : Type 0
 ByteMap = ℕ → Option ℕ
 
@@ -40,7 +40,7 @@ abbrev pub store : ByteMap → ℕ → ℕ → ℕ → ByteMap
 store bytes a n value b =
     if nat_le a b && nat_lt b (a + n) then Some (value / 256 ^ (b - a) % 256) else bytes b
 
--- What every memory keeps, at the n addresses from a on: bytes are below 256, and what is writable is mapped.
+-- What every memory keeps at the n addresses of an access, from a on: bytes are below 256, and what is writable is mapped.
 pub record IsLawful (bytes : ByteMap) (writable : ℕ → Bool) (a n : ℕ) : Type 0 where
   pub values : (i byte : ℕ) → i < n → bytes (a + i) ≡ Some byte → byte < 256
   pub mapped : (i : ℕ) → i < n → IsTrue (writable (a + i)) → IsSome (bytes (a + i))

@@ -1,5 +1,6 @@
--- The texts of instructions: the assembly syntax of the RISC-V unprivileged specification, with x and a number for a register. Addresses are
--- shown in full, as 8 hexadecimal digits: the sum with the address of the instruction where the instruction makes one.
+-- The texts of instructions, close to the assembly syntax of the RISC-V unprivileged specification, with x and a number for a register. `lui` shows
+-- its whole value, and `auipc`, the branches and `jal` the sum with the address of the instruction, as 8 hexadecimal digits; `jalr` shows its
+-- immediate modulo 2 ^ 32 in at least 3; `fence` shows no operands.
 use Rattle.std.specs.Prelude.{ℕ, ◌-◌, false, List, [], ◌∷◌, ◌++◌, length, replicate, ℤ, pos, Option, Some, None, codes}
 use Rattle.std.specs.Fmt.{decimal, signed_decimal, digits}
 use Rattle.rrs_lib.specs.declared.instruction_formats.RType.{RType}
@@ -10,7 +11,7 @@ use Rattle.rrs_lib.specs.declared.instruction_formats.BType.{BType}
 use Rattle.rrs_lib.specs.Words.{word}
 use Rattle.rrs_lib.specs.Encodings.{Fields, R, I, IShamt, S, B, U, J}
 use Rattle.rrs_lib.specs.Table.{Row, Add, Sub, Sll, Slt, Sltu, Xor, Srl, Sra, Or, And, Addi, Slli, Slti, Sltiu, Xori, Srli, Srai, Ori, Andi, Lui, Auipc, Beq, Bne, Blt, Bltu, Bge, Bgeu, Lb, Lbu, Lh, Lhu, Lw, Sb, Sh, Sw, Jal, Jalr, Mul, Mulh, Mulhu, Mulhsu, Div, Divu, Rem, Remu, Fence, table}
-use Rattle.rrs_lib.specs.Machine.{offset}
+use Rattle.rrs_lib.specs.Machine.{plus_immediate}
 
 -- the mnemonic of a row
 abbrev pub name_of : Row → List ℕ
@@ -38,21 +39,21 @@ abbrev pub shifted_register : Row → ITypeShamt → List ℕ
 shifted_register row f =
     name_of row ++ codes " " ++ register f.rd ++ codes ", " ++ register f.rs1 ++ codes ", " ++ decimal f.shamt
 
--- name xD, 0x address
+-- name xD, and the word in hexadecimal
 abbrev pub register_and_word : Row → ℕ → ℕ → List ℕ
 register_and_word row rd x = name_of row ++ codes " " ++ register rd ++ codes ", 0x" ++ hexadecimal 8 x
 
--- name xA, xB, 0x target
+-- name xA, xB, and the target in hexadecimal
 abbrev pub branch_to : Row → BType → ℕ → List ℕ
 branch_to row f pc =
-    name_of row ++ codes " " ++ register f.rs1 ++ codes ", " ++ register f.rs2 ++ codes ", 0x" ++ hexadecimal 8 (word (offset pc f.imm))
+    name_of row ++ codes " " ++ register f.rs1 ++ codes ", " ++ register f.rs2 ++ codes ", 0x" ++ hexadecimal 8 (word (plus_immediate pc f.imm))
 
 -- name xR, immediate(xA)
 abbrev pub register_and_place : Row → ℕ → ℤ → ℕ → List ℕ
 register_and_place row r imm base =
     name_of row ++ codes " " ++ register r ++ codes ", " ++ signed_decimal imm ++ codes "(" ++ register base ++ codes ")"
 
--- jalr xD, 0x immediate(xA): the immediate modulo 2 ^ 32, in at least 3 digits
+-- jalr xD, and immediate(xA) in hexadecimal: the immediate modulo 2 ^ 32, in at least 3 digits
 abbrev pub jump_to_place : IType → List ℕ
 jump_to_place f =
     name_of Jalr ++ codes " " ++ register f.rd ++ codes ", 0x" ++ hexadecimal 3 (word f.imm) ++ codes "(" ++ register f.rs1 ++ codes ")"
@@ -79,7 +80,7 @@ text_of Srai (IShamt f) pc = Some (shifted_register Srai f)
 text_of Ori (I f) pc = Some (two_registers Ori f)
 text_of Andi (I f) pc = Some (two_registers Andi f)
 text_of Lui (U f) pc = Some (register_and_word Lui f.rd (word f.imm))
-text_of Auipc (U f) pc = Some (register_and_word Auipc f.rd (word (offset pc f.imm)))
+text_of Auipc (U f) pc = Some (register_and_word Auipc f.rd (word (plus_immediate pc f.imm)))
 text_of Beq (B f) pc = Some (branch_to Beq f pc)
 text_of Bne (B f) pc = Some (branch_to Bne f pc)
 text_of Blt (B f) pc = Some (branch_to Blt f pc)
@@ -94,7 +95,7 @@ text_of Lw (I f) pc = Some (register_and_place Lw f.rd f.imm f.rs1)
 text_of Sb (S f) pc = Some (register_and_place Sb f.rs2 f.imm f.rs1)
 text_of Sh (S f) pc = Some (register_and_place Sh f.rs2 f.imm f.rs1)
 text_of Sw (S f) pc = Some (register_and_place Sw f.rs2 f.imm f.rs1)
-text_of Jal (J f) pc = Some (register_and_word Jal f.rd (word (offset pc f.imm)))
+text_of Jal (J f) pc = Some (register_and_word Jal f.rd (word (plus_immediate pc f.imm)))
 text_of Jalr (I f) pc = Some (jump_to_place f)
 text_of Mul (R f) pc = Some (three_registers Mul f)
 text_of Mulh (R f) pc = Some (three_registers Mulh f)

@@ -4,7 +4,7 @@
 
 ghost use Rattle.std.specs.Prelude.{◌≡◌, ◌<◌, ◌^◌, int_lt};
 ghost use Rattle.rrs_lib.specs.Words.{word, signed, floor_div};
-ghost use Rattle.rrs_lib.specs.Machine.{sign_extended, offset as offset_of, made_even as even_part};
+ghost use Rattle.rrs_lib.specs.Machine.{sign_extended, plus_immediate as sum_with_immediate, made_even as even_part};
 ghost use Rattle.rrs_lib.specs.Results as results;
 
 /// `a + b` modulo 2^32.
@@ -188,8 +188,8 @@ pub(crate) fn immediate(imm: i32) -> u32
 
 /// A word plus a signed immediate, modulo 2^32.
 #[inline]
-pub(crate) fn offset(a: u32, imm: i32) -> u32
-    ensures { result ≡ word (offset_of a imm) }
+pub(crate) fn plus_immediate(a: u32, imm: i32) -> u32
+    ensures { result ≡ word (sum_with_immediate a imm) }
 {
     a.wrapping_add(immediate(imm))
 }

@@ -22,7 +22,7 @@
 ghost use Rattle.std.specs.Prelude.{◌≡◌, ◌++◌, codes, IfOk, string_bytes};
 ghost use Rattle.std.specs.Fmt.{decimal, signed_decimal};
 ghost use Rattle.rrs_lib.specs.Words.{word};
-ghost use Rattle.rrs_lib.specs.Machine.{offset};
+ghost use Rattle.rrs_lib.specs.Machine.{plus_immediate};
 ghost use Rattle.rrs_lib.specs.Texts.{hexadecimal, register};
 
 use crate::instruction_formats::{BType, IType, ITypeShamt, JType, RType, SType, UType};
@@ -106,10 +106,10 @@ impl InstructionStringOutputter {
     fn branch_to(&self, name: &'static str, dec_insn: BType) -> Result<String, AllocError>
         ensures { IfOk result (λ text. string_bytes text ≡ name.now ++ codes " "
             ++ register dec_insn.rs1 ++ codes ", " ++ register dec_insn.rs2
-            ++ codes ", 0x" ++ hexadecimal 8 (word (offset self.now.insn_pc dec_insn.imm))) }
+            ++ codes ", 0x" ++ hexadecimal 8 (word (plus_immediate self.now.insn_pc dec_insn.imm))) }
     {
         let BType { rs1, rs2, imm, .. } = dec_insn;
-        let target = arithmetic::offset(self.insn_pc, imm);
+        let target = arithmetic::plus_immediate(self.insn_pc, imm);
         format!(in self.alloc; "{name} x{rs1}, x{rs2}, 0x{target:08x}")
     }
 
@@ -229,7 +229,7 @@ impl InstructionProcessor for InstructionStringOutputter {
     }
 
     fn process_auipc(&mut self, dec_insn: UType) -> Self::InstructionResult {
-        let sum = arithmetic::offset(self.insn_pc, dec_insn.imm);
+        let sum = arithmetic::plus_immediate(self.insn_pc, dec_insn.imm);
         self.register_and_word("auipc", dec_insn.rd, sum)
     }
 
@@ -290,7 +290,7 @@ impl InstructionProcessor for InstructionStringOutputter {
     }
 
     fn process_jal(&mut self, dec_insn: JType) -> Self::InstructionResult {
-        let target = arithmetic::offset(self.insn_pc, dec_insn.imm);
+        let target = arithmetic::plus_immediate(self.insn_pc, dec_insn.imm);
         self.register_and_word("jal", dec_insn.rd, target)
     }
 

@@ -1,8 +1,11 @@
 //! Building blocks for a RISC-V instruction set simulator: RV32I with the M extension.
 //!
 //! `process_instruction` decodes a word and calls a function of an [InstructionProcessor]. The
-//! processor of `instruction_executor` executes the instruction, over any [Memory]; `memories` has
-//! memories. What the rows of the table are, and what they do, is written in `specs/`.
+//! processor of `instruction_executor` executes the instruction, over any [Memory]; that of
+//! `instruction_string_outputter` gives its text; `memories` has memories and a loader.
+//!
+//! What the rows of the table are, and what they do, is written in `specs/`, in the terms of the
+//! RISC-V unprivileged specification. The contracts of the calls here cite these definitions.
 
 #![tactic(auto)]
 

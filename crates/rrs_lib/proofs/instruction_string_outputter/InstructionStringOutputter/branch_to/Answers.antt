@@ -7,5 +7,5 @@ use Rattle.rrs_lib.proofs.instruction_string_outputter.InstructionStringOutputte
 pub returns : goal.returns
 returns c =
     let same = to_z-of_z w32 c.args.dec_insn.imm (search rules) in
-    let h = rw (c.laid_out.ensures, c.in_radix.ensures, padded_hexadecimal, c.offset-target.ensures) at c.format.ensures.ok in
+    let h = rw (c.laid_out.ensures, c.in_radix.ensures, padded_hexadecimal, c.plus_immediate-target.ensures) at c.format.ensures.ok in
     same_text _ _ _ (simp (append_assoc, same)) h
