@@ -8,6 +8,8 @@ pub mod Fields
 pub mod Keeping
 pub mod LoadLemmas
 pub mod Masks
+pub mod RegionFields
+pub mod Regions
 pub mod Rows
 pub mod SignExtension
 pub mod Signed

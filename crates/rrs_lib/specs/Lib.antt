@@ -10,5 +10,7 @@ pub mod Texts
 pub mod Outputter
 pub mod VecBytes
 pub mod Spaces
+pub mod SpaceFields
+pub mod SpaceLends
 pub mod Loading
 pub mod LoadTexts

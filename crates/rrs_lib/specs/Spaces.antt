@@ -1,5 +1,6 @@
 -- What an address space of regions means. A region has a base, a size, and an inner memory, whose address 0 lies at the base.
-use Rattle.std.specs.Prelude.{◌≡◌, ℕ, ◌+◌, ◌-◌, ◌%◌, ◌^◌, ◌<◌, ◌≤◌, Bool, false, ◌&&◌, nat_le, nat_lt, if◌then◌else◌, List, [], ◌∷◌, ◌++◌, length, Option, Some, None, AllPairs}
+use Rattle.std.specs.Prelude.{◌≡◌, ℕ, zero, suc, ◌+◌, ◌-◌, ◌%◌, ◌^◌, ◌<◌, Bool, true, false, ◌&&◌, nat_le, nat_lt, if◌then◌else◌, List, [], ◌∷◌, ◌++◌, length, Option, Some, None, All, AllPairs, slice_get, option_map, refl}
+use Rattle.std.specs.Coded.{Coded, code_by, coded×, coded_ℕ}
 use Rattle.rrs_lib.specs.Bytes.{ByteMap}
 
 -- a region as a contract sees it
@@ -7,6 +8,20 @@ pub record Region (M : Type 0) : Type 0 where
   pub base : ℕ
   pub size : ℕ
   pub memory : M
+
+-- a region is stored as the tuple of its fields
+abbrev pub region_code : {M : Type 0} → Coded M → Coded (Region M)
+region_code {M} code =
+    code_by
+    (ℕ × (ℕ × M))
+    (coded× coded_ℕ (coded× coded_ℕ code))
+    (λ r. (r.base, (r.size, r.memory)))
+    (λ p. record { base = p.0; size = p.1.0; memory = p.1.1 })
+    (λ _. refl)
+
+-- base and size are multiples of 4
+abbrev pub AreAligned : ℕ → ℕ → Type 0
+AreAligned base size = (base % 4 ≡ 0) × (size % 4 ≡ 0)
 
 module _ {M : Type 0} where
   -- Whether a region serves an address: it lies in the region, and addresses end at 2 ^ 32.
@@ -35,3 +50,42 @@ module _ {M : Type 0} where
   -- a region of this base and size would overlap r: the sums are exact
   abbrev pub Overlaps : ℕ → ℕ → Region M → Type 0
   Overlaps base size r = (r.base < base + size) × (base < r.base + r.size)
+
+  -- what no access changes of a region beside its inner layout
+  abbrev pub bounds : Region M → ℕ × ℕ
+  bounds r = (r.base, r.size)
+
+  -- base and size are words, and multiples of 4
+  pub record IsWordRegion (r : Region M) : Type 0 where
+    pub aligned : AreAligned r.base r.size
+    pub base_fits : r.base < 2 ^ 32
+    pub size_fits : r.size < 2 ^ 32
+
+  -- what every address space keeps: its regions are whole words, and no two of them overlap
+  pub record IsSpace (regions : List (Region M)) : Type 0 where
+    pub words : All IsWordRegion regions
+    pub apart : AllPairs (λ r s. Overlaps s.base s.size r → ⊥) regions
+
+  -- the memory of a region, if there is one of this index
+  abbrev pub memory_at : List (Region M) → ℕ → Option M
+  memory_at regions i = option_map (λ r. r.memory) (slice_get regions i)
+
+  -- the regions after the memory of one was replaced
+  abbrev pub with_memory : List (Region M) → ℕ → M → List (Region M)
+  with_memory [] i m = []
+  with_memory (r ∷ regions) zero m = record r { memory = m } ∷ regions
+  with_memory (r ∷ regions) (suc i) m = r ∷ with_memory regions i m
+
+  -- each region that does not serve the address is as it was, memory and all
+  abbrev pub OthersKept : ℕ → List (Region M) → List (Region M) → Type 0
+  OthersKept a old new = (i : ℕ) (r : Region M) → slice_get old i ≡ Some r → serves r a ≡ false → slice_get new i ≡ Some r
+
+  -- region i serves the address
+  pub record IsServedAt (regions : List (Region M)) (a i : ℕ) : Type 0 where
+    pub region : Region M
+    pub stands : slice_get regions i ≡ Some region
+    pub serves_it : serves region a ≡ true
+
+  -- P holds of the memory that serves the address as it was, of the address in it, and of that memory as it is
+  abbrev pub ServedBecomes : ℕ → List (Region M) → List (Region M) → (M → ℕ → M → Type 0) → Type 0
+  ServedBecomes a old new P = (i : ℕ) (r s : Region M) → slice_get old i ≡ Some r → serves r a ≡ true → slice_get new i ≡ Some s → P r.memory (a - r.base) s.memory

@@ -37,21 +37,13 @@ use std::alloc::{AllocError, Global};
 /// again; it is for the caller to set it to the address of each instruction.
 ///
 /// `process_instruction` answers `None` for a word that is no row of the table, which has no text.
+#[derive(Drop)]
 pub struct InstructionStringOutputter {
     /// The address of the instruction. The targets of branches and of `jal`, and the result of
     /// `auipc`, are printed as sums with it; no other text depends on it.
     pub insn_pc: u32,
     /// Where the texts get their memory.
     pub alloc: Global,
-}
-
-impl Drop for InstructionStringOutputter {
-    fn drop(self) {
-        let InstructionStringOutputter {
-            insn_pc: _,
-            alloc: _,
-        } = self;
-    }
 }
 
 impl InstructionStringOutputter {

@@ -223,6 +223,7 @@ pub trait InstructionProcessor {
 }
 
 /// The state of a single RISC-V hart (hardware thread).
+#[derive(Drop)]
 pub struct HartState {
     /// The registers x1 to x31. What entry 0 holds is never read or changed: x0 is 0.
     pub registers: [u32; 32],
@@ -285,16 +286,6 @@ impl Default for HartState {
         ensures last { result.last_register_write ≡ None }
     {
         Self::new()
-    }
-}
-
-impl Drop for HartState {
-    fn drop(self) {
-        let HartState {
-            registers: _,
-            pc: _,
-            last_register_write: _,
-        } = self;
     }
 }
 

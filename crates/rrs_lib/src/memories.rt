@@ -6,15 +6,20 @@ ghost use Rattle.std.specs.Bool.{OnTrue, OnFalse};
 ghost use Rattle.rrs_lib.specs.Bytes.{width, little_endian, all_writable, store, IsLawful};
 ghost use Rattle.rrs_lib.specs.VecBytes.{bytes_of_words, lies_in_words};
 
+mod boxed;
 mod load;
+mod space;
 
 use crate::{MemAccessSize, Memory};
+pub use boxed::BoxedMemory;
 pub use load::{LoadFault, read_to_memory};
+pub use space::{MemorySpace, MemorySpaceError};
 
 /// A memory of words, all of them writable.
 ///
 /// The words lie one after another from address 0 on, each as four bytes, lowest first. The words
 /// past index 2^30 - 1 have no address.
+#[derive(Drop)]
 pub struct VecMemory {
     /// The words.
     pub mem: Vec<u32>,
@@ -26,12 +31,6 @@ impl VecMemory {
         ensures { result.mem ≡ init_mem }
     {
         VecMemory { mem: init_mem }
-    }
-}
-
-impl Drop for VecMemory {
-    fn drop(self) {
-        let VecMemory { mem: _ } = self;
     }
 }
 

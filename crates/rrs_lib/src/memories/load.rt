@@ -9,6 +9,7 @@ use std::fmt;
 use std::io::{self, Read};
 
 /// Why a load ended before its reader did. What was written before stays written.
+#[derive(Drop)]
 pub enum LoadFault {
     /// A read failed, or was interrupted.
     Reader(io::Error),
@@ -16,16 +17,6 @@ pub enum LoadFault {
     Refused(u32),
     /// The reader has a byte more than there are addresses. That byte is read already.
     EndOfAddresses,
-}
-
-impl Drop for LoadFault {
-    fn drop(self) {
-        match self {
-            LoadFault::Reader(_error) => {}
-            LoadFault::Refused(_address) => {}
-            LoadFault::EndOfAddresses => {}
-        }
-    }
 }
 
 impl fmt::Display for LoadFault {

@@ -1,0 +1,173 @@
+//! What spaces of regions answer at chosen addresses.
+
+ghost use Rattle.std.specs.Prelude.{◌≡◌, ◌%◌};
+
+use super::*;
+use crate::HartState;
+use crate::instruction_executor::InstructionExecutor;
+use crate::memories::{BoxedMemory, VecMemory};
+use std::test::Fail;
+
+fn words(alloc: Global, words: &[u32]) -> Result<VecMemory, Fail> {
+    Ok(VecMemory::new(Vec::from_slice(alloc, words)?))
+}
+
+fn word_at<M: Memory>(memory: &mut M, addr: u32) -> Option<u32>
+    requires { addr % 4 ≡ 0 }
+{
+    memory.read_mem(addr, MemAccessSize::Word)
+}
+
+#[test]
+fn regions_are_accepted_in_turn(rt: HostRuntime) -> Result<(), Fail> {
+    let mut space = MemorySpace::new(rt.alloc());
+    let cases = [
+        (0x100, 0x10, Ok(0)),
+        (0x10c, 8, Err(MemorySpaceError::RegionOverlap)),
+        (0x112, 4, Err(MemorySpaceError::Unaligned)),
+        (0x10c, 6, Err(MemorySpaceError::Unaligned)),
+        (0x104, 0, Err(MemorySpaceError::RegionOverlap)),
+        (0x110, 4, Ok(1)),
+        (0x100, 0, Ok(2)),
+    ];
+    for (base, size, expected) in cases {
+        let memory = words(rt.alloc(), &[])?;
+        assert_eq!(rt;
+            space.add_memory(base, size, memory),
+            expected,
+            "{base:#x}, {size}"
+        );
+    }
+    Ok(())
+}
+
+#[test]
+fn a_region_over_an_empty_one_is_refused(rt: HostRuntime) -> Result<(), Fail> {
+    let mut space = MemorySpace::new(rt.alloc());
+    assert_eq!(rt; space.add_memory(0x104, 0, words(rt.alloc(), &[])?), Ok(0));
+    assert_eq!(rt;
+        space.add_memory(0x100, 0x10, words(rt.alloc(), &[])?),
+        Err(MemorySpaceError::RegionOverlap)
+    );
+    Ok(())
+}
+
+#[test]
+fn each_region_has_its_memory(rt: HostRuntime) -> Result<(), Fail> {
+    let mut space = MemorySpace::new(rt.alloc());
+    assert_eq!(rt;
+        space.add_memory(0x100, 8, words(rt.alloc(), &[0x1122_3344])?),
+        Ok(0)
+    );
+    assert_eq!(rt;
+        space.add_memory(0x200, 4, words(rt.alloc(), &[1, 2])?),
+        Ok(1)
+    );
+    assert_eq!(rt; word_at(&mut space, 0x100), Some(0x1122_3344));
+    assert_eq!(rt; word_at(&mut space, 0x104), None);
+    assert_eq!(rt; word_at(&mut space, 0x200), Some(1));
+    assert_eq!(rt; word_at(&mut space, 0x204), None);
+    if let Some(memory) = space.get_memory_mut(1) {
+        if let Some(word) = memory.mem.get_mut(0) {
+            *word = 9;
+        }
+    }
+    assert_eq!(rt; word_at(&mut space, 0x200), Some(9));
+    assert_eq!(rt; word_at(&mut space, 0x100), Some(0x1122_3344));
+    assert!(rt; space.get_memory_ref(2).is_none());
+    assert!(rt; space.get_memory_mut(2).is_none());
+    Ok(())
+}
+
+#[test]
+fn writes_go_to_one_region(rt: HostRuntime) -> Result<(), Fail> {
+    let mut space = MemorySpace::new(rt.alloc());
+    assert_eq!(rt; space.add_memory(0x100, 8, words(rt.alloc(), &[1])?), Ok(0));
+    assert_eq!(rt;
+        space.add_memory(0x108, 4, words(rt.alloc(), &[2, 3])?),
+        Ok(1)
+    );
+    assert!(rt; space.write_mem(0x109, MemAccessSize::Byte, 0x1ff));
+    assert!(rt; !space.write_mem(0x104, MemAccessSize::Word, 7));
+    assert!(rt; !space.write_mem(0x10c, MemAccessSize::Word, 7));
+    assert_eq!(rt; word_at(&mut space, 0x100), Some(1));
+    if let Some(memory) = space.get_memory_ref(1) {
+        assert_eq!(rt; memory.mem.as_slice(), [0xff02, 3].as_slice());
+    }
+    Ok(())
+}
+
+#[test]
+fn a_region_past_the_last_address(rt: HostRuntime) -> Result<(), Fail> {
+    let mut space = MemorySpace::new(rt.alloc());
+    assert_eq!(rt;
+        space.add_memory(0xffff_fffc, 8, words(rt.alloc(), &[7, 8])?),
+        Ok(0)
+    );
+    assert_eq!(rt; word_at(&mut space, 0xffff_fffc), Some(7));
+    assert_eq!(rt; word_at(&mut space, 0), None);
+    Ok(())
+}
+
+#[test]
+fn a_space_in_a_space(rt: HostRuntime) -> Result<(), Fail> {
+    let mut inner = MemorySpace::new(rt.alloc());
+    assert_eq!(rt;
+        inner.add_memory(0x10, 8, words(rt.alloc(), &[7, 8])?),
+        Ok(0)
+    );
+    let mut outer = MemorySpace::new(rt.alloc());
+    assert_eq!(rt; outer.add_memory(0x1000, 0x14, inner), Ok(0));
+    assert_eq!(rt; word_at(&mut outer, 0x1010), Some(7));
+    assert_eq!(rt; word_at(&mut outer, 0x1000), None);
+    assert_eq!(rt; word_at(&mut outer, 0x1014), None);
+    Ok(())
+}
+
+#[test]
+fn memories_of_two_types(rt: HostRuntime) -> Result<(), Fail> {
+    let mut inner = MemorySpace::new(rt.alloc());
+    assert_eq!(rt; inner.add_memory(4, 4, words(rt.alloc(), &[9])?), Ok(0));
+    let program = BoxedMemory {
+        memory: Box::new(rt.alloc(), words(rt.alloc(), &[0x0050_0093])?)?,
+    };
+    let device = BoxedMemory {
+        memory: Box::new(rt.alloc(), inner)?,
+    };
+    let mut space = MemorySpace::new(rt.alloc());
+    assert_eq!(rt; space.add_memory(0, 4, program), Ok(0));
+    assert_eq!(rt; space.add_memory(0x1000, 8, device), Ok(1));
+    assert_eq!(rt; word_at(&mut space, 0x1004), Some(9));
+    assert_eq!(rt; word_at(&mut space, 0x1000), None);
+    let mut hart = HartState::new();
+    let mut executor = InstructionExecutor {
+        mem: &mut space,
+        hart_state: &mut hart,
+    };
+    assert_eq!(rt; executor.step(), Ok(()));
+    assert_eq!(rt; hart.registers[1], 5);
+    assert_eq!(rt; hart.pc, 4);
+    Ok(())
+}
+
+#[test]
+fn steps_at_the_last_address(rt: HostRuntime) -> Result<(), Fail> {
+    for (word, pc, last) in [(0x0000_0013, 0, None), (0x0080_00ef, 4, Some(1))] {
+        let mut space = MemorySpace::new(rt.alloc());
+        assert_eq!(rt;
+            space.add_memory(0xffff_fffc, 4, words(rt.alloc(), &[word])?),
+            Ok(0)
+        );
+        let mut hart = HartState::new();
+        hart.pc = 0xffff_fffc;
+        let mut executor = InstructionExecutor {
+            mem: &mut space,
+            hart_state: &mut hart,
+        };
+        assert_eq!(rt; executor.step(), Ok(()));
+        assert_eq!(rt; hart.pc, pc);
+        assert_eq!(rt; hart.registers[1], 0);
+        assert_eq!(rt; hart.last_register_write, last);
+    }
+    Ok(())
+}
