@@ -1,0 +1,4 @@
+pub mod Numbering
+pub mod Counting
+pub use Rattle.rrs_lib.specs.Encodings
+pub use Rattle.rrs_lib.specs.Table

@@ -1,0 +1,4 @@
+pub mod Digits
+pub mod Loading
+pub mod OneStep
+pub mod Printing

@@ -1,0 +1,14 @@
+-- Runs of one step.
+use Rattle.std.proofs.Common.{◌≡◌, List, [], ◌∷◌, length, slice_index_or, sym, subst, arith}
+use Rattle.rrs_lib.specs.Machine.{State}
+use Rattle.rrs_lib.specs.Steps.{Step, StepAnswer, Run}
+
+-- a run with one answer is a step
+pub one_step : (s t : State) (answers : List StepAnswer) (d : StepAnswer) → length answers ≡ 1 → Run s answers t → Step s t (slice_index_or answers 0 d)
+one_step s t [] d e run = absurd (omega (arith, e))
+one_step s t (a ∷ []) d e run = let P : State → Type 0 = λ x. Step s x a in subst P (sym run.2) run.1
+one_step s t (a ∷ (b ∷ more)) d e run = absurd (omega (arith, e))
+
+-- a step from an equal state
+pub Step-from_same : (s s' t : State) (a : StepAnswer) → s' ≡ s → Step s' t a → Step s t a
+Step-from_same s s' t a e step = let P : State → Type 0 = λ x. Step x t a in subst P e step

@@ -1,0 +1,10 @@
+use Rattle.std.proofs.Common.{◌≡◌, length, arith}
+use Rattle.rrs_run.proofs.Loading.{refused_at_end}
+use Rattle.rrs_run.proofs.simulation.load.Goals as goal
+
+pub returns-in-Err-Refused : goal.returns-in-Err-Refused
+returns-in-Err-Refused g c =
+    let words = c.args.memory.now.mem in
+    let long : length words.items ≡ 16384 = omega (arith, words.ok.0, c.requires) in
+    let ensures = rw c.in-Err-Refused.field-0-is at c.in-Err-Refused.ensures in
+    record { fault = refused_at_end _ _ _ _ words.items _ long ensures.loads }

@@ -1,0 +1,38 @@
+//! What can go wrong in a run, beside the program that is run.
+
+ghost use Rattle.std.specs.Prelude.{Some};
+ghost use Rattle.rrs_run.specs.Faults.{fault_text};
+
+use std::error::Error;
+use std::fmt;
+
+/// Why a run can't be made, or its account not be written.
+#[derive(Debug, PartialEq, Drop)]
+pub enum RunFault {
+    /// The words of the memory, or a buffer, were refused.
+    OutOfMemory,
+    /// A read of the program's bytes failed.
+    Reader,
+    /// The program has a byte for this address, which is not writable.
+    Refused(u32),
+    /// A write or a flush of the account failed.
+    Output,
+}
+
+impl fmt::Display for RunFault {
+    ghost output = { λ fault. Some (fault_text fault) };
+
+    #[tactic(auto, using(crate::proofs::Digits::padded_eight))]
+    fn fmt<W: fmt::Write>(&self, f: &mut fmt::Formatter<W>) -> fmt::Result {
+        match self {
+            RunFault::OutOfMemory => write!(f, "out of memory"),
+            RunFault::Reader => write!(f, "Could not read byte"),
+            RunFault::Refused(address) => {
+                write!(f, "Could not write byte at address 0x{address:08x}")
+            }
+            RunFault::Output => write!(f, "cannot write output"),
+        }
+    }
+}
+
+impl Error for RunFault {}

@@ -1,0 +1,152 @@
+//! Runs the bytes of a reader as a program.
+
+ghost use Rattle.std.specs.Prelude.{◌≡◌, ◌%◌, IfOk, IfErr, vec_len, replicate, if◌then◌else◌, ◌==◌};
+ghost use Rattle.rrs_lib.specs.Bytes.{little_endian};
+ghost use Rattle.rrs_lib.specs.Executor.{state_in};
+ghost use Rattle.rrs_lib.specs.Steps.{Step, RunUntil};
+ghost use Rattle.rrs_run.specs.Faults.{RefusesOnly, IsLoadFault, IsOutputOrMemory};
+
+use crate::fault::RunFault;
+use crate::report;
+use rrs_lib::instruction_executor::{InstructionException, InstructionExecutor, RunEnd};
+use rrs_lib::instruction_string_outputter::InstructionStringOutputter;
+use rrs_lib::memories::{LoadFault, VecMemory, read_to_memory};
+use rrs_lib::{HartState, MemAccessSize, Memory, process_instruction};
+use std::alloc::Global;
+use std::io::{Read, Write};
+
+/// The number of words of the memory.
+const WORDS: usize = 16384;
+
+/// Runs the reader's bytes as a program, for `limit` steps or up to the first fault, and prints
+/// the text of each instruction, how the run ended, and the registers.
+pub fn simulate<R: Read, W: Write>(
+    alloc: Global,
+    reader: &mut R,
+    limit: u64,
+    out: &mut W,
+) -> Result<(), RunFault>
+    ensures refused { IfErr result (RefusesOnly 65536) }
+{
+    let mut memory = empty_memory(alloc)?;
+    load(reader, &mut memory)?;
+    let mut hart = HartState::new();
+    let mut executor = InstructionExecutor {
+        mem: &mut memory,
+        hart_state: &mut hart,
+    };
+    let end = trace(&mut executor, alloc, limit, out)?;
+    report::print_end(out, &end)?;
+    report::print_hart(out, executor.hart_state)?;
+    report::written(out.flush())
+}
+
+/// A memory of zero words.
+fn empty_memory(alloc: Global) -> Result<VecMemory, RunFault>
+    ensures words { IfOk result (λ m. m.mem.items ≡ replicate 16384 0) }
+    ensures fault { IfErr result (λ e. e ≡ RunFault.OutOfMemory) }
+{
+    match vec![in alloc; 0; WORDS] {
+        Ok(words) => Ok(VecMemory::new(words)),
+        Err(_) => Err(RunFault::OutOfMemory),
+    }
+}
+
+/// Loads the reader's bytes at the addresses 0, 1, 2, .. until it ends.
+fn load<R: Read>(reader: &mut R, memory: &mut VecMemory) -> Result<(), RunFault>
+    requires { vec_len memory.old.mem ≡ 16384 }
+    ensures fault { IfErr result (IsLoadFault 65536) }
+{
+    match read_to_memory(reader, memory, 0) {
+        Ok(()) => Ok(()),
+        Err(LoadFault::Reader(_)) => Err(RunFault::Reader),
+        Err(LoadFault::Refused(address)) => Err(RunFault::Refused(address)),
+        Err(LoadFault::EndOfAddresses) => unreachable!(),
+    }
+}
+
+/// Makes steps as `InstructionExecutor::run` does, and prints each instruction before its step.
+fn trace<M: Memory, W: Write>(
+    executor: &mut InstructionExecutor<M>,
+    alloc: Global,
+    limit: u64,
+    out: &mut W,
+) -> Result<RunEnd, RunFault>
+    ensures run { IfOk result (λ end. RunUntil limit (state_in M.bytes M.writable executor.old)
+        end.steps end.exception (state_in M.bytes M.writable executor.new)) }
+    ensures fault { IfErr result IsOutputOrMemory }
+{
+    for steps in 0..limit {
+        print_next(executor, alloc, out)?;
+        if let Err(exception) = step(executor) {
+            let exception = Some(exception);
+            return Ok(RunEnd { steps, exception });
+        }
+    }
+    Ok(RunEnd {
+        steps: limit,
+        exception: None,
+    })
+}
+
+/// Prints the text of the word at the program counter, if it is one of the table.
+fn print_next<M: Memory, W: Write>(
+    executor: &mut InstructionExecutor<M>,
+    alloc: Global,
+    out: &mut W,
+) -> Result<(), RunFault>
+    ensures kept { state_in M.bytes M.writable executor.new
+        ≡ state_in M.bytes M.writable executor.old }
+    ensures fault { IfErr result IsOutputOrMemory }
+{
+    match word_at_pc(executor) {
+        Some(word) => print_instruction(executor.hart_state.pc, word, alloc, out),
+        None => Ok(()),
+    }
+}
+
+/// Prints the text of a word at a pc, if it is one of the table.
+fn print_instruction<W: Write>(
+    pc: u32,
+    word: u32,
+    alloc: Global,
+    out: &mut W,
+) -> Result<(), RunFault>
+    ensures fault { IfErr result IsOutputOrMemory }
+{
+    let mut outputter = InstructionStringOutputter { insn_pc: pc, alloc };
+    match process_instruction(&mut outputter, word) {
+        None => Ok(()),
+        Some(Ok(text)) => report::print_instruction(out, pc, text.as_str()),
+        Some(Err(_)) => Err(RunFault::OutOfMemory),
+    }
+}
+
+/// The word at the program counter, or `None` where that is not a multiple of 4 or not mapped.
+fn word_at_pc<M: Memory>(executor: &mut InstructionExecutor<M>) -> Option<u32>
+    ensures word { let s = state_in M.bytes M.writable executor.old in
+        result ≡ (if s.pc % 4 == 0 then little_endian s.bytes s.pc 4 else None) }
+    ensures kept { state_in M.bytes M.writable executor.new
+        ≡ state_in M.bytes M.writable executor.old }
+{
+    let pc = executor.hart_state.pc;
+    if pc % 4 == 0 {
+        executor.mem.read_mem(pc, MemAccessSize::Word)
+    } else {
+        None
+    }
+}
+
+/// Makes one step.
+fn step<M: Memory>(executor: &mut InstructionExecutor<M>) -> Result<(), InstructionException>
+    ensures { Step (state_in M.bytes M.writable executor.old)
+        (state_in M.bytes M.writable executor.new) result }
+{
+    let mut answers = [Ok(())];
+    executor.step_each(&mut answers);
+    let [answer] = answers;
+    answer
+}
+
+#[cfg(test)]
+mod tests;
