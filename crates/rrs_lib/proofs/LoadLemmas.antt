@@ -1,9 +1,9 @@
 -- How a load goes on by one byte.
-use Rattle.std.proofs.Common.{◌≡◌, ◌≢◌, ◌⊎◌, ℕ, ◌+◌, ◌-◌, ◌/◌, ◌%◌, ◌^◌, ◌<◌, ◌≤◌, Bool, true, false, ◌&&◌, nat_le, nat_lt, List, [], ◌∷◌, ◌++◌, length, slice_index, Option, Some, None, is_some, IsTrue, if◌then◌else◌, refl, sym, ap, subst, ◌∙◌, arith, inl, inr, below_more}
-use Rattle.std.specs.Io.KnownBytes.{Consumes, IsAtEnd}
+use Rattle.std.proofs.Common.{◌≡◌, ◌≢◌, ◌⊎◌, ℕ, ◌+◌, ◌^◌, ◌<◌, ◌≤◌, Bool, true, List, [], ◌∷◌, ◌++◌, length, slice_index, Option, Some, None, is_some, refl, sym, ap, ◌∙◌, arith, inl, inr, below_more}
+use Rattle.std.specs.Io.KnownBytes.{Consumes}
 use Rattle.std.proofs.lemmas.List.{append_assoc, get_or_append_left}
 use Rattle.std.proofs.lemmas.Bool.Decides.{nat_tests}
-use Rattle.std.proofs.lemmas.Grind.{common_steps, elements}
+use Rattle.std.proofs.lemmas.Grind.{common_steps}
 use Rattle.rrs_lib.specs.Bytes.{ByteMap, store, IsLawful}
 use Rattle.rrs_lib.specs.Loading.{Loaded}
 

@@ -1,12 +1,11 @@
 -- The texts of instructions, close to the assembly syntax of the RISC-V unprivileged specification, with x and a number for a register. `lui` shows
 -- its whole value, and `auipc`, the branches and `jal` the sum with the address of the instruction, as 8 hexadecimal digits; `jalr` shows its
 -- immediate modulo 2 ^ 32 in at least 3; `fence` shows no operands.
-use Rattle.std.specs.Prelude.{ℕ, ◌-◌, false, List, [], ◌∷◌, ◌++◌, length, replicate, ℤ, pos, Option, Some, None, codes}
+use Rattle.std.specs.Prelude.{ℕ, ◌-◌, false, List, ◌++◌, length, replicate, ℤ, Option, Some, None, codes}
 use Rattle.std.specs.Fmt.{decimal, signed_decimal, digits}
 use Rattle.rrs_lib.specs.declared.instruction_formats.RType.{RType}
 use Rattle.rrs_lib.specs.declared.instruction_formats.IType.{IType}
 use Rattle.rrs_lib.specs.declared.instruction_formats.ITypeShamt.{ITypeShamt}
-use Rattle.rrs_lib.specs.declared.instruction_formats.SType.{SType}
 use Rattle.rrs_lib.specs.declared.instruction_formats.BType.{BType}
 use Rattle.rrs_lib.specs.Words.{word}
 use Rattle.rrs_lib.specs.Encodings.{Fields, R, I, IShamt, S, B, U, J}

@@ -1,5 +1,5 @@
 -- What a VecMemory means: its words one after another from address 0 on, each as four bytes, lowest first.
-use Rattle.std.specs.Prelude.{ℕ, ◌*◌, ◌/◌, ◌%◌, ◌^◌, Bool, ◌&&◌, nat_lt, if◌then◌else◌, List, [], ◌∷◌, length, slice_index, Option, Some, None}
+use Rattle.std.specs.Prelude.{ℕ, ◌*◌, ◌/◌, ◌%◌, ◌^◌, Bool, ◌&&◌, nat_lt, if◌then◌else◌, List, length, slice_index, Some, None}
 use Rattle.rrs_lib.specs.Bytes.{ByteMap}
 
 -- an address below 2 ^ 32 that lies in the words

@@ -1,4 +1,4 @@
-use Rattle.std.proofs.Common.{List, length, take, subst, sym, arith, ◌≤◌}
+use Rattle.std.proofs.Common.{List, length, subst, sym, arith, ◌≤◌}
 use Rattle.std.proofs.lemmas.List.{take_more_set, take_all}
 use Rattle.rrs_lib.specs.Executor.{state_in}
 use Rattle.rrs_lib.specs.Steps.{StepAnswer, Run}

@@ -1,4 +1,4 @@
-use Rattle.std.proofs.Common.{◌+◌, ◌++◌, [], ◌∷◌, length, ◌∙◌, arith}
+use Rattle.std.proofs.Common.{◌++◌, [], ◌∷◌, ◌∙◌, arith}
 use Rattle.rrs_lib.proofs.LoadLemmas.{Loaded-next, Consumes-trans, length-more}
 use Rattle.rrs_lib.proofs.memories.load.read_to_memory.Goals as goal
 
