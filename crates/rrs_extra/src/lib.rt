@@ -215,4 +215,6 @@ impl InstructionProcessor for RowNumberer {
 #[cfg(test)]
 mod call_counter;
 #[cfg(test)]
+mod output_port;
+#[cfg(test)]
 mod tests;

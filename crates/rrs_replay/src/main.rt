@@ -1,0 +1,84 @@
+//! Answers questions about RISC-V instructions, one a line, from standard input, so that answers
+//! obtained elsewhere can be replayed as data.
+//!
+//! | Question | Answer |
+//! |---|---|
+//! | `decode WORD` | the number and the name of the word's row, as `11 addi`, or `none` |
+//! | `text PC WORD` | the text of the word at this address, or `none` |
+//! | `steps N pc=PC last=LAST regs=REGS mem=MEM` | `ANSWERS pc=PC last=LAST regs=REGS mem=MEM`: what N steps answer, and the state that they leave |
+//!
+//! A word, an address or a register's value is `0x` and 8 lower-case hexadecimal digits, and N a
+//! decimal number up to 1000000 with no leading 0. LAST is the register that the latest
+//! instruction wrote, as `x5`, or `-`. REGS lists the registers that are not 0, in order, as
+//! `x1=0x00000005,x2=0xffffffff`, or is `-`; x0 stands for the entry that no instruction reads.
+//! MEM lists the words of the memory, from address 0 on, separated by commas, or is `-`. ANSWERS
+//! has an answer a step, separated by `;`, or is `-`.
+//!
+//! A line of another form is answered by `error: ` and what is wrong with it.
+
+#![tactic(auto)]
+
+mod answers;
+mod numerals;
+mod questions;
+
+use crate::answers::write_answer;
+use crate::questions::{Mistake, ParseError, question_of};
+use std::alloc::Global;
+use std::io;
+use std::io::{BufRead, BufReader, BufWriter, ErrorKind, Write};
+use std::process::ExitCode;
+
+fn main(rt: HostRuntime) -> ExitCode {
+    match replay(&rt) {
+        Ok(()) => ExitCode::SUCCESS,
+        Err(error) => {
+            let _ = eprintln!(rt; "rrs_replay: {error}");
+            ExitCode::from(1)
+        }
+    }
+}
+
+/// Answers the lines of standard input on standard output.
+fn replay<R: Input + Print + AllocGlobal>(rt: &R) -> io::Result<()> {
+    let mut input = BufReader::new(rt.alloc(), rt.reader())?;
+    let mut output = BufWriter::new(rt.alloc(), io::writer(rt))?;
+    let answered = answer_lines(rt.alloc(), &mut input, &mut output);
+    let flushed = output.flush();
+    answered.and(flushed)
+}
+
+/// Answers each line of the input, keeping one line at a time.
+fn answer_lines<R: BufRead, W: Write>(
+    alloc: Global,
+    input: &mut R,
+    output: &mut W,
+) -> io::Result<()> {
+    let mut line = Vec::new(alloc);
+    for _ in 0..u64::MAX {
+        line.clear();
+        if input.read_until(b'\n', &mut line)? == 0 {
+            break;
+        }
+        let text = line.strip_suffix(b"\n").unwrap_or(&line);
+        answer_line(alloc, text, output)?;
+        writeln!(output)?;
+    }
+    Ok(())
+}
+
+/// Writes the answer to a line's question, or what is wrong with the line.
+fn answer_line<W: Write>(alloc: Global, line: &[u8], output: &mut W) -> io::Result<()> {
+    let Ok(text) = str::from_utf8(line) else {
+        let mistake = Mistake::NotText;
+        return write!(output, "error: {mistake}");
+    };
+    match question_of(alloc, text) {
+        Ok(question) => write_answer(alloc, question, output),
+        Err(ParseError::Malformed(mistake)) => write!(output, "error: {mistake}"),
+        Err(ParseError::OutOfMemory) => Err(io::Error::from(ErrorKind::OutOfMemory)),
+    }
+}
+
+#[cfg(test)]
+mod tests;
