@@ -1,5 +1,5 @@
 use super::*;
-use crate::memories::VecMemory;
+use crate::memories::{MemorySpace, VecMemory};
 use std::alloc::{AllocError, Global};
 use std::test::Fail;
 
@@ -107,6 +107,39 @@ fn takes_a_reader_in_any_pieces(rt: HostRuntime) -> Result<(), Fail> {
         let answer = read_to_memory(&mut reader, &mut memory, 0);
         assert!(rt; answer.is_ok());
         assert_eq!(rt; memory.mem.as_slice(), [0x04030201, 0x08070605].as_slice());
+    }
+    Ok(())
+}
+
+#[test]
+fn stops_between_regions(rt: HostRuntime) -> Result<(), Fail> {
+    let mut space = MemorySpace::new(rt.alloc());
+    assert_eq!(rt; space.add_memory(0, 4, zeros(rt.alloc(), 1)?), Ok(0));
+    assert_eq!(rt; space.add_memory(8, 4, zeros(rt.alloc(), 1)?), Ok(1));
+    let mut reader: &[u8] = &[1, 2, 3, 4, 5, 6];
+    let answer = read_to_memory(&mut reader, &mut space, 0);
+    assert!(rt; matches!(&answer, Err(LoadFault::Refused(4))));
+    assert_eq!(rt; space.read_mem(0, MemAccessSize::Word), Some(0x04030201));
+    assert_eq!(rt; space.read_mem(8, MemAccessSize::Word), Some(0));
+    assert_eq!(rt; reader, [6].as_slice());
+    Ok(())
+}
+
+#[test]
+fn ends_where_the_addresses_end(rt: HostRuntime) -> Result<(), Fail> {
+    let alone: &[u8] = &[0xab];
+    let two: &[u8] = &[0xab, 0xcd];
+    for (bytes, fits) in [(alone, true), (two, false)] {
+        let mut space = MemorySpace::new(rt.alloc());
+        let word = zeros(rt.alloc(), 1)?;
+        assert_eq!(rt; space.add_memory(0xfffffffc, 4, word), Ok(0));
+        let mut reader = bytes;
+        let answer = read_to_memory(&mut reader, &mut space, 0xffffffff);
+        assert_eq!(rt; answer.is_ok(), fits);
+        let ended = matches!(&answer, Err(LoadFault::EndOfAddresses));
+        assert_eq!(rt; ended, !fits);
+        let stands = space.read_mem(0xfffffffc, MemAccessSize::Word);
+        assert_eq!(rt; stands, Some(0xab000000));
     }
     Ok(())
 }
