@@ -4,7 +4,7 @@ ghost use Rattle.std.specs.Prelude.{◌≡◌, ◌%◌};
 
 use super::*;
 use crate::HartState;
-use crate::instruction_executor::InstructionExecutor;
+use crate::instruction_executor::{InstructionException, InstructionExecutor};
 use crate::memories::{BoxedMemory, VecMemory};
 use std::test::Fail;
 
@@ -121,6 +121,14 @@ fn a_space_in_a_space(rt: HostRuntime) -> Result<(), Fail> {
     assert_eq!(rt; word_at(&mut outer, 0x1010), Some(7));
     assert_eq!(rt; word_at(&mut outer, 0x1000), None);
     assert_eq!(rt; word_at(&mut outer, 0x1014), None);
+    let mut hart = HartState::new();
+    hart.pc = 0x1010;
+    let mut executor = InstructionExecutor {
+        mem: &mut outer,
+        hart_state: &mut hart,
+    };
+    let outside = InstructionException::IllegalInstruction(0x1010, 7);
+    assert_eq!(rt; executor.step(), Err(outside));
     Ok(())
 }
 
