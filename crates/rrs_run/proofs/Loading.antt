@@ -1,5 +1,5 @@
 -- Where a load into 16,384 words at address 0 can end.
-use Rattle.std.proofs.Common.{◌≡◌, ℕ, ◌+◌, ◌*◌, ◌<◌, ◌≤◌, ◌^◌, true, false, List, length, Option, Err, sym, ap, ◌∙◌, arith}
+use Rattle.std.proofs.Common.{◌≡◌, ℕ, ◌+◌, ◌<◌, ◌≤◌, true, false, List, length, Option, Err, sym, ◌∙◌, arith}
 use Rattle.std.proofs.lemmas.Bool.Decides.{nat_tests}
 use Rattle.rrs_lib.specs.declared.memories.load.LoadFault.TheVariants.{Refused, EndOfAddresses}
 use Rattle.rrs_lib.specs.Bytes.{ByteMap}

@@ -2,8 +2,7 @@
 //!
 //! `rrs-run FILE LIMIT` puts the bytes of FILE at address 0 on, starts a hart there, and makes at
 //! most LIMIT steps. It prints the text of each instruction before it is executed, then how the run
-//! ended, and
-//! then the registers.
+//! ended, and then the registers.
 
 #![tactic(auto)]
 

@@ -1,8 +1,10 @@
 //! Runs the bytes of a reader as a program.
 
-ghost use Rattle.std.specs.Prelude.{◌≡◌, ◌%◌, IfOk, IfErr, vec_len, replicate, if◌then◌else◌, ◌==◌};
+ghost use Rattle.std.specs.Prelude.{◌≡◌, ◌%◌, Ok, IfOk, OnOk, IfErr, vec_len, replicate, if◌then◌else◌, ◌==◌};
 ghost use Rattle.rrs_lib.specs.Bytes.{little_endian};
 ghost use Rattle.rrs_lib.specs.Executor.{state_in};
+ghost use Rattle.rrs_lib.specs.Loading.{Loads};
+ghost use Rattle.rrs_lib.specs.VecBytes.{bytes_of_words, lies_in_words};
 ghost use Rattle.rrs_lib.specs.Steps.{Step, RunUntil};
 ghost use Rattle.rrs_run.specs.Faults.{RefusesOnly, IsLoadFault, IsOutputOrMemory};
 
@@ -55,6 +57,9 @@ fn empty_memory(alloc: Global) -> Result<VecMemory, RunFault>
 /// Loads the reader's bytes at the addresses 0, 1, 2, .. until it ends.
 fn load<R: Read>(reader: &mut R, memory: &mut VecMemory) -> Result<(), RunFault>
     requires { vec_len memory.old.mem ≡ 16384 }
+    ensures loaded { OnOk result (Loads (R.remaining reader.old) (R.remaining reader.new)
+        (bytes_of_words memory.old.mem.items) (bytes_of_words memory.new.mem.items)
+        (lies_in_words memory.old.mem.items) 0 (Ok tt)) }
     ensures fault { IfErr result (IsLoadFault 65536) }
 {
     match read_to_memory(reader, memory, 0) {

@@ -7,4 +7,4 @@ returns-in-Err-Refused g c =
     let words = c.args.memory.now.mem in
     let long : length words.items ≡ 16384 = omega (arith, words.ok.0, c.requires) in
     let ensures = rw c.in-Err-Refused.field-0-is at c.in-Err-Refused.ensures in
-    record { fault = refused_at_end _ _ _ _ words.items _ long ensures.loads }
+    record { loaded = tt; fault = refused_at_end _ _ _ _ words.items _ long ensures.loads }
