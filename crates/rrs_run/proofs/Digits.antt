@@ -1,15 +1,16 @@
 -- Numbers of a few decimal digits, and hexadecimal ones that are filled up with zeros.
-use Rattle.std.proofs.Common.{◌≡◌, ℕ, zero, ◌+◌, ◌-◌, ◌*◌, ◌^◌, ◌<◌, ◌≤◌, List, [], ◌∷◌, ◌++◌, length, take, get_or, replicate, None, true, false, ap, ◌∙◌, arith, add-one}
+use Rattle.std.proofs.Common.{◌≡◌, ℕ, zero, ◌+◌, ◌-◌, ◌*◌, ◌^◌, ◌<◌, ◌≤◌, List, [], ◌∷◌, length, take, get_or, None, true, false, ap, ◌∙◌, arith, add-one}
 use Rattle.std.specs.List.{list_all}
 use Rattle.std.specs.Char.{is_ascii_digit}
-use Rattle.std.specs.Fmt.{digits, padded_integral, format_spec, char_count}
-use Rattle.std.proofs.lemmas.List.{take_more, append-nil}
+use Rattle.std.specs.Fmt.{digits, padded_integral, format_spec}
+use Rattle.std.proofs.lemmas.List.{take_more}
 use Rattle.std.proofs.lemmas.List.Folds.{list_all_at, list_all_more}
 use Rattle.std.proofs.lemmas.Bool.Decides.{nat_tests}
 use Rattle.std.proofs.lemmas.List.Sums.{fold-append}
 use Rattle.std.proofs.Math.Nat.{pow-le-pow_right, pow-suc}
 use Rattle.rrs_run.specs.Limits.{number_of_digits, limit_in}
-use Rattle.rrs_run.specs.Texts.{eight_hex_digits}
+use Rattle.rrs_lib.specs.Texts.{hexadecimal}
+use Rattle.rrs_lib.proofs.TextLemmas.{padded_hexadecimal}
 
 -- one more digit: ten times the number so far plus the digit
 pub number_of_digits-more : (xs : List ℕ) (i : ℕ) → i < length xs → number_of_digits (take (i + 1) xs) ≡ 10 * number_of_digits (take i xs) + (get_or xs i 0 - 48)
@@ -42,9 +43,5 @@ limit_in-not_digit xs i h bad =
     grind (arith, e)
 
 -- a number that is printed with the options `08x`
-pub padded_eight : (n : ℕ) → padded_integral (format_spec 32 0 4 8 (2 ^ 64 - 1)) false [] (digits 16 false n) ≡ eight_hex_digits n
-unfolding padded_integral char_count
-padded_eight n =
-    let len = length (digits 16 false n) in
-    let same : 8 - len - 0 - 0 ≡ 8 - len = omega arith in
-    ap (λ k. replicate k 48 ++ (digits 16 false n ++ [])) same ∙ ap (λ ds. replicate (8 - len) 48 ++ ds) (append-nil (digits 16 false n))
+pub padded_eight : (n : ℕ) → padded_integral (format_spec 32 0 4 8 (2 ^ 64 - 1)) false [] (digits 16 false n) ≡ hexadecimal 8 n
+padded_eight n = padded_hexadecimal 8 n

@@ -1,3 +1,4 @@
+pub mod Accounts
 pub mod Digits
 pub mod Loading
 pub mod OneStep

@@ -1,29 +1,32 @@
--- What is printed of a fault of a run, and which address is refused.
-use Rattle.std.specs.Prelude.{◌≡◌, ℕ, List, ◌++◌, codes}
+-- What is printed of a fault of a run, and what a fault says of the reader and of the output.
+use Rattle.std.specs.Prelude.{◌≡◌, ℕ, ◌≤◌, List, ◌++◌, length, codes, Option}
+use Rattle.std.specs.Io.KnownBytes.{Consumes, Keeps}
 use Rattle.rrs_run.specs.declared.fault.RunFault.{RunFault}
 use Rattle.rrs_run.specs.declared.fault.RunFault.TheVariants.{OutOfMemory, Reader, Refused, Output}
-use Rattle.rrs_run.specs.Texts.{eight_hex_digits}
+use Rattle.rrs_lib.specs.Texts.{hexadecimal}
 
 -- the text of a fault
 abbrev pub fault_text : RunFault → List ℕ
 fault_text OutOfMemory = codes "out of memory"
 fault_text Reader = codes "Could not read byte"
-fault_text (Refused address) = codes "Could not write byte at address 0x" ++ eight_hex_digits address
+fault_text (Refused address) = codes "Could not write byte at address 0x" ++ hexadecimal 8 address
 fault_text Output = codes "cannot write output"
 
--- a fault refuses no other address than this one
-abbrev pub RefusesOnly : ℕ → RunFault → Type 0
-RefusesOnly address OutOfMemory = Unit {0}
-RefusesOnly address Reader = Unit {0}
-RefusesOnly address (Refused a) = a ≡ address
-RefusesOnly address Output = Unit {0}
+-- What stops a load, by the reader's bytes before and after it, where these are known: a read failed, at the end of the memory at the latest; or
+-- one byte more was read than there are addresses, and the byte for address 65536 was refused.
+abbrev pub StopsLoad : Option (List ℕ) → Option (List ℕ) → RunFault → Type 0
+StopsLoad input rest OutOfMemory = ⊥
+StopsLoad input rest Reader = (read : List ℕ) × Consumes input rest read × (length read ≤ 65536)
+StopsLoad input rest (Refused a) = (a ≡ 65536) × ((read : List ℕ) × Consumes input rest read × (length read ≡ 65537))
+StopsLoad input rest Output = ⊥
 
--- what loading can answer: the reader failed, or the byte for this address was refused
-abbrev pub IsLoadFault : ℕ → RunFault → Type 0
-IsLoadFault address OutOfMemory = ⊥
-IsLoadFault address Reader = Unit {0}
-IsLoadFault address (Refused a) = a ≡ address
-IsLoadFault address Output = ⊥
+-- What stops a run, by the bytes of the reader and of the output before and after it: where the load was stopped nothing is printed. Want of
+-- memory and a write that failed can come at any time.
+abbrev pub StopsRun : Option (List ℕ) → Option (List ℕ) → Option (List ℕ) → Option (List ℕ) → RunFault → Type 0
+StopsRun input rest before after OutOfMemory = Unit {0}
+StopsRun input rest before after Reader = StopsLoad input rest Reader × Keeps before after
+StopsRun input rest before after (Refused a) = StopsLoad input rest (Refused a) × Keeps before after
+StopsRun input rest before after Output = Unit {0}
 
 -- a fault is that of the output, or want of memory
 abbrev pub IsOutputOrMemory : RunFault → Type 0

@@ -1,25 +1,22 @@
 -- How numbers and the lines of a run are printed. Each line ends with a line feed, which is 10.
-use Rattle.std.specs.Prelude.{ℕ, zero, suc, ◌-◌, List, [], ◌∷◌, ◌++◌, length, replicate, codes, false, Option, Some, None}
-use Rattle.std.specs.Fmt.{digits, decimal}
+use Rattle.std.specs.Prelude.{ℕ, zero, suc, List, [], ◌∷◌, ◌++◌, codes, Option, Some, None}
+use Rattle.std.specs.Fmt.{decimal}
 use Rattle.rrs_lib.specs.declared.instruction_executor.InstructionException.{InstructionException}
 use Rattle.rrs_lib.specs.declared.instruction_executor.InstructionException.TheVariants.{IllegalInstruction, FetchError, LoadAccessFault, StoreAccessFault, AlignmentFault}
 use Rattle.rrs_lib.specs.Machine.{State, reg}
-
--- a number in hexadecimal, lower case, filled up with zeros to eight digits
-abbrev pub eight_hex_digits : ℕ → List ℕ
-eight_hex_digits n = replicate (8 - length (digits 16 false n)) 48 ++ digits 16 false n
+use Rattle.rrs_lib.specs.Texts.{hexadecimal}
 
 -- the line of an instruction, with its address
 abbrev pub instruction_line : ℕ → List ℕ → List ℕ
-instruction_line pc text = codes "0x" ++ (eight_hex_digits pc ++ (codes ": " ++ (text ++ 10 ∷ [])))
+instruction_line pc text = codes "0x" ++ (hexadecimal 8 pc ++ (codes ": " ++ (text ++ 10 ∷ [])))
 
 -- the fault that ended a run
 abbrev pub exception_text : InstructionException → List ℕ
-exception_text (IllegalInstruction pc word) = (codes "end: IllegalInstruction pc=0x" ++ eight_hex_digits pc) ++ (codes " word=0x" ++ eight_hex_digits word)
-exception_text (FetchError pc) = codes "end: FetchError pc=0x" ++ eight_hex_digits pc
-exception_text (LoadAccessFault addr) = codes "end: LoadAccessFault addr=0x" ++ eight_hex_digits addr
-exception_text (StoreAccessFault addr) = codes "end: StoreAccessFault addr=0x" ++ eight_hex_digits addr
-exception_text (AlignmentFault addr) = codes "end: AlignmentFault addr=0x" ++ eight_hex_digits addr
+exception_text (IllegalInstruction pc word) = (codes "end: IllegalInstruction pc=0x" ++ hexadecimal 8 pc) ++ (codes " word=0x" ++ hexadecimal 8 word)
+exception_text (FetchError pc) = codes "end: FetchError pc=0x" ++ hexadecimal 8 pc
+exception_text (LoadAccessFault addr) = codes "end: LoadAccessFault addr=0x" ++ hexadecimal 8 addr
+exception_text (StoreAccessFault addr) = codes "end: StoreAccessFault addr=0x" ++ hexadecimal 8 addr
+exception_text (AlignmentFault addr) = codes "end: AlignmentFault addr=0x" ++ hexadecimal 8 addr
 
 -- why a run ended: its limit, or a fault
 abbrev pub reason_text : Option InstructionException → List ℕ
@@ -36,7 +33,7 @@ end_line steps exception = reason_text exception ++ steps_text steps
 
 -- the line of register r
 abbrev pub register_line : State → ℕ → List ℕ
-register_line s r = codes "x" ++ (decimal r ++ (codes " 0x" ++ (eight_hex_digits (reg s r) ++ 10 ∷ [])))
+register_line s r = codes "x" ++ (decimal r ++ (codes " 0x" ++ (hexadecimal 8 (reg s r) ++ 10 ∷ [])))
 
 -- the lines of the first n registers
 abbrev pub register_lines : State → ℕ → List ℕ
@@ -45,7 +42,7 @@ register_lines s (suc n) = register_lines s n ++ register_line s n
 
 -- the line of the program counter
 abbrev pub pc_line : ℕ → List ℕ
-pc_line pc = codes "pc 0x" ++ (eight_hex_digits pc ++ 10 ∷ [])
+pc_line pc = codes "pc 0x" ++ (hexadecimal 8 pc ++ 10 ∷ [])
 
 -- the lines of all registers and of the program counter
 abbrev pub hart_lines : State → List ℕ

@@ -3,7 +3,8 @@
 ghost use Rattle.std.specs.Prelude.{◌≡◌, ◌<◌, ◌↔◌, ◌++◌, ℕ, Bool, Option, IsOk, OnOk, IsOkUnless};
 ghost use Rattle.std.specs.Io.KnownBytes.{Appends};
 ghost use Rattle.rrs_lib.specs.Machine.{state_of, reg};
-ghost use Rattle.rrs_run.specs.Texts.{eight_hex_digits, instruction_line, exception_text, reason_text, steps_text, end_line, register_line, pc_line, hart_lines};
+ghost use Rattle.rrs_lib.specs.Texts.{hexadecimal};
+ghost use Rattle.rrs_run.specs.Texts.{instruction_line, exception_text, reason_text, steps_text, end_line, register_line, pc_line, hart_lines};
 
 use crate::fault::RunFault;
 use rrs_lib::HartState;
@@ -89,7 +90,7 @@ fn print_illegal<W: Write>(out: &mut W, pc: u32, word: u32) -> io::Result<()>
 #[tactic(auto, using(crate::proofs::Digits::padded_eight))]
 fn print_word<W: Write>(out: &mut W, text: &str, word: u32) -> io::Result<()>
     ensures { OnOk result (Appends (W.contents out.old) (W.contents out.new)
-        (text.now ++ eight_hex_digits word)) }
+        (text.now ++ hexadecimal 8 word)) }
 {
     write!(out, "{text}{word:08x}")
 }

@@ -1,12 +1,12 @@
 //! Runs the bytes of a reader as a program.
 
-ghost use Rattle.std.specs.Prelude.{◌≡◌, ◌%◌, Ok, IfOk, OnOk, IfErr, vec_len, replicate, if◌then◌else◌, ◌==◌};
-ghost use Rattle.rrs_lib.specs.Bytes.{little_endian};
+ghost use Rattle.std.specs.Prelude.{◌≡◌, Ok, IfOk, OnOk, IfErr, vec_len};
 ghost use Rattle.rrs_lib.specs.Executor.{state_in};
 ghost use Rattle.rrs_lib.specs.Loading.{Loads};
 ghost use Rattle.rrs_lib.specs.VecBytes.{bytes_of_words, lies_in_words};
-ghost use Rattle.rrs_lib.specs.Steps.{Step, RunUntil};
-ghost use Rattle.rrs_run.specs.Faults.{RefusesOnly, IsLoadFault, IsOutputOrMemory};
+ghost use Rattle.rrs_lib.specs.Steps.{Step};
+ghost use Rattle.rrs_run.specs.Account.{Account, AppendsLines, LinesBefore, LinesOfWord, PrintsUntil, next_word, zero_words};
+ghost use Rattle.rrs_run.specs.Faults.{StopsLoad, StopsRun, IsOutputOrMemory};
 
 use crate::fault::RunFault;
 use crate::report;
@@ -28,7 +28,10 @@ pub fn simulate<R: Read, W: Write>(
     limit: u64,
     out: &mut W,
 ) -> Result<(), RunFault>
-    ensures refused { IfErr result (RefusesOnly 65536) }
+    ensures account { OnOk result (Account (R.remaining reader.old) (R.remaining reader.new) limit
+        (W.contents out.old) (W.contents out.new)) }
+    ensures fault { IfErr result (StopsRun (R.remaining reader.old) (R.remaining reader.new)
+        (W.contents out.old) (W.contents out.new)) }
 {
     let mut memory = empty_memory(alloc)?;
     load(reader, &mut memory)?;
@@ -45,7 +48,7 @@ pub fn simulate<R: Read, W: Write>(
 
 /// A memory of zero words.
 fn empty_memory(alloc: Global) -> Result<VecMemory, RunFault>
-    ensures words { IfOk result (λ m. m.mem.items ≡ replicate 16384 0) }
+    ensures words { IfOk result (λ m. m.mem.items ≡ zero_words) }
     ensures fault { IfErr result (λ e. e ≡ RunFault.OutOfMemory) }
 {
     match vec![in alloc; 0; WORDS] {
@@ -60,7 +63,9 @@ fn load<R: Read>(reader: &mut R, memory: &mut VecMemory) -> Result<(), RunFault>
     ensures loaded { OnOk result (Loads (R.remaining reader.old) (R.remaining reader.new)
         (bytes_of_words memory.old.mem.items) (bytes_of_words memory.new.mem.items)
         (lies_in_words memory.old.mem.items) 0 (Ok tt)) }
-    ensures fault { IfErr result (IsLoadFault 65536) }
+    ensures writable_kept { lies_in_words memory.new.mem.items
+        ≡ lies_in_words memory.old.mem.items }
+    ensures fault { IfErr result (StopsLoad (R.remaining reader.old) (R.remaining reader.new)) }
 {
     match read_to_memory(reader, memory, 0) {
         Ok(()) => Ok(()),
@@ -77,8 +82,10 @@ fn trace<M: Memory, W: Write>(
     limit: u64,
     out: &mut W,
 ) -> Result<RunEnd, RunFault>
-    ensures run { IfOk result (λ end. RunUntil limit (state_in M.bytes M.writable executor.old)
-        end.steps end.exception (state_in M.bytes M.writable executor.new)) }
+    ensures printed { IfOk result (λ end. AppendsLines
+        (PrintsUntil limit (state_in M.bytes M.writable executor.old)
+        end.steps end.exception (state_in M.bytes M.writable executor.new))
+        (W.contents out.old) (W.contents out.new)) }
     ensures fault { IfErr result IsOutputOrMemory }
 {
     for steps in 0..limit {
@@ -100,6 +107,9 @@ fn print_next<M: Memory, W: Write>(
     alloc: Global,
     out: &mut W,
 ) -> Result<(), RunFault>
+    ensures printed { OnOk result (AppendsLines
+        (LinesBefore (state_in M.bytes M.writable executor.old))
+        (W.contents out.old) (W.contents out.new)) }
     ensures kept { state_in M.bytes M.writable executor.new
         ≡ state_in M.bytes M.writable executor.old }
     ensures fault { IfErr result IsOutputOrMemory }
@@ -117,6 +127,8 @@ fn print_instruction<W: Write>(
     alloc: Global,
     out: &mut W,
 ) -> Result<(), RunFault>
+    ensures printed { OnOk result (AppendsLines (LinesOfWord pc word)
+        (W.contents out.old) (W.contents out.new)) }
     ensures fault { IfErr result IsOutputOrMemory }
 {
     let mut outputter = InstructionStringOutputter { insn_pc: pc, alloc };
@@ -129,8 +141,7 @@ fn print_instruction<W: Write>(
 
 /// The word at the program counter, or `None` where that is not a multiple of 4 or not mapped.
 fn word_at_pc<M: Memory>(executor: &mut InstructionExecutor<M>) -> Option<u32>
-    ensures word { let s = state_in M.bytes M.writable executor.old in
-        result ≡ (if s.pc % 4 == 0 then little_endian s.bytes s.pc 4 else None) }
+    ensures word { result ≡ next_word (state_in M.bytes M.writable executor.old) }
     ensures kept { state_in M.bytes M.writable executor.new
         ≡ state_in M.bytes M.writable executor.old }
 {

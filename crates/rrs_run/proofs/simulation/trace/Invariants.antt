@@ -1,9 +1,10 @@
 use Rattle.rrs_lib.specs.Executor.{state_in}
-use Rattle.rrs_lib.specs.Steps.{RunsOk}
+use Rattle.rrs_run.specs.Account.{AppendsLines, PrintsOk}
 use Rattle.rrs_run.proofs.simulation.trace.Given as goal
 
--- the steps so far were Ok
+-- the steps so far were Ok, and what stood before each is printed
 abbrev pub invariant-loop-steps : goal.invariant-loop-steps
 invariant-loop-steps g l =
     let state = state_in g.M.Memory.bytes g.M.Memory.writable in
-    RunsOk l.steps (state l.fn.executor) (state l.executor)
+    let contents = g.W.Write.contents in
+    AppendsLines (PrintsOk l.steps (state l.fn.executor) (state l.executor)) (contents l.fn.out) (contents l.out)
