@@ -20,10 +20,12 @@
 
 mod answers;
 mod numerals;
+mod parsing;
 mod questions;
 
 use crate::answers::write_answer;
-use crate::questions::{Mistake, ParseError, question_of};
+use crate::parsing::question_of;
+use crate::questions::{Mistake, ParseError};
 use std::alloc::Global;
 use std::io;
 use std::io::{BufRead, BufReader, BufWriter, ErrorKind, Write};

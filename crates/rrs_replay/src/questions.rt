@@ -1,10 +1,8 @@
-//! Questions, and reading them from lines of text.
+//! Questions, and what is wrong with lines that are none.
 
-ghost use Rattle.std.specs.Prelude.{◌≡◌, ◌≤◌, ◌<◌, Some, None, IfOk, OnErr};
-ghost use Rattle.rrs_replay.specs.Numerals.{below, decimal_of, register_of};
+ghost use Rattle.std.specs.Prelude.{◌≡◌, ◌≤◌, ◌<◌};
 
-use crate::numerals::{decimal, hex_word, register_index};
-use std::alloc::{AllocFailed, Global};
+use std::alloc::{AllocError, AllocFailed};
 use std::error::Error;
 use std::fmt;
 
@@ -121,158 +119,22 @@ impl From<Mistake> for ParseError {
     }
 }
 
-impl<T: Drop> From<AllocFailed<T>> for ParseError {
-    fn from(_failure: AllocFailed<T>) -> ParseError {
+impl From<AllocError> for ParseError {
+    ghost use Rattle.rrs_replay.specs.declared.questions.ParseError.TheVariants.{OutOfMemory};
+
+    ghost from_gives = { λ _ e. e ≡ OutOfMemory };
+
+    fn from(_failure: AllocError) -> ParseError {
         ParseError::OutOfMemory
     }
 }
 
-/// What is left of a line, in words that single spaces separate.
-#[derive(Drop)]
-struct Words<'a> {
-    /// The text from the next word on, or `None` after the last word.
-    rest: Option<&'a str>,
-}
+impl<T: Drop> From<AllocFailed<T>> for ParseError {
+    ghost use Rattle.rrs_replay.specs.declared.questions.ParseError.TheVariants.{OutOfMemory};
 
-impl<'a> Words<'a> {
-    /// Takes the next word off.
-    fn next_word(&mut self) -> Option<&'a str> {
-        let text = self.rest?;
-        match text.split_once(' ') {
-            Some((word, rest)) => {
-                self.rest = Some(rest);
-                Some(word)
-            }
-            None => {
-                self.rest = None;
-                Some(text)
-            }
-        }
-    }
+    ghost from_gives = { λ _ e. e ≡ OutOfMemory };
 
-    /// Takes the next word off, which is a word of the machine.
-    fn next_hex(&mut self, part: &'static str) -> Result<u32, Mistake> {
-        let text = self.next_word().ok_or(Mistake::Missing(part))?;
-        hex_word(text).ok_or(Mistake::NotWord(part))
-    }
-
-    /// Takes the next word off, and gives what follows `name=` in it.
-    fn next_value(&mut self, name: &'static str) -> Result<&'a str, Mistake> {
-        let word = self.next_word().ok_or(Mistake::Missing(name))?;
-        match word.split_once('=') {
-            Some((before, value)) if before == name => Ok(value),
-            _ => Err(Mistake::Missing(name)),
-        }
+    fn from(_failure: AllocFailed<T>) -> ParseError {
+        ParseError::OutOfMemory
     }
 }
-
-/// The question that a line asks.
-pub fn question_of(alloc: Global, line: &str) -> Result<Question, ParseError> {
-    if line.is_empty() {
-        return Err(ParseError::Malformed(Mistake::EmptyLine));
-    }
-    let mut words = Words { rest: Some(line) };
-    let question = match words.next_word() {
-        Some("decode") => Question::Decode(words.next_hex("WORD")?),
-        Some("text") => Question::Text {
-            pc: words.next_hex("PC")?,
-            word: words.next_hex("WORD")?,
-        },
-        Some("steps") => Question::Steps(steps_of(alloc, &mut words)?),
-        _ => return Err(ParseError::Malformed(Mistake::NoQuestion)),
-    };
-    if words.rest.is_some() {
-        return Err(ParseError::Malformed(Mistake::TextAtEnd));
-    }
-    Ok(question)
-}
-
-/// The steps that the rest of a line asks for, and the state that they begin in.
-fn steps_of(alloc: Global, words: &mut Words<'_>) -> Result<Steps, ParseError> {
-    let count = count_of(words.next_word().ok_or(Mistake::Missing("N"))?)?;
-    let pc = hex_word(words.next_value("pc")?).ok_or(Mistake::NotWord("pc"))?;
-    let last = last_of(words.next_value("last")?)?;
-    let registers = registers_of(words.next_value("regs")?)?;
-    let memory = memory_of(alloc, words.next_value("mem")?)?;
-    Ok(Steps {
-        count,
-        pc,
-        last,
-        registers,
-        memory,
-    })
-}
-
-/// A number of steps.
-fn count_of(text: &str) -> Result<u32, Mistake>
-    ensures value { IfOk result (λ count. below 1000001 (decimal_of text.now) ≡ Some count) }
-    ensures none { OnErr result (below 1000001 (decimal_of text.now) ≡ None) }
-    ensures few { IfOk result (λ count. count ≤ 1000000) }
-{
-    let count = decimal(text.as_bytes()).ok_or(Mistake::NotCount)?;
-    if count > MOST_STEPS {
-        return Err(Mistake::TooManySteps);
-    }
-    Ok(count)
-}
-
-/// The register that a name is: `x` and its number, 0 to 31.
-fn register_of(name: &str) -> Result<Register, Mistake>
-    ensures value { IfOk result (λ register. register_of name.now ≡ Some register.index) }
-    ensures none { OnErr result (register_of name.now ≡ None) }
-{
-    let index = register_index(name).ok_or(Mistake::NotRegister)?;
-    Ok(Register { index })
-}
-
-/// The register that was written last, or `None` at `-`.
-fn last_of(text: &str) -> Result<Option<Register>, Mistake> {
-    if text == "-" {
-        return Ok(None);
-    }
-    Ok(Some(register_of(text)?))
-}
-
-/// A register and its value, which is not 0.
-fn entry_of(text: &str) -> Result<(Register, u32), Mistake> {
-    let (name, value) = text.split_once('=').ok_or(Mistake::NoValue)?;
-    let register = register_of(name)?;
-    let value = hex_word(value).ok_or(Mistake::NotWord("a register's value"))?;
-    if value == 0 {
-        return Err(Mistake::ZeroListed);
-    }
-    Ok((register, value))
-}
-
-/// All registers, of which a list gives those that are not 0, in order, or `-` none.
-fn registers_of(text: &str) -> Result<[u32; 32], Mistake> {
-    let mut registers = [0; 32];
-    if text == "-" {
-        return Ok(registers);
-    }
-    let mut least = 0;
-    for entry in text.split(',') {
-        let (register, value) = entry_of(entry)?;
-        if register.index < least {
-            return Err(Mistake::OutOfOrder);
-        }
-        registers[register.index] = value;
-        least = register.index + 1;
-    }
-    Ok(registers)
-}
-
-/// The words of the memory that a list gives, or none at `-`.
-fn memory_of(alloc: Global, text: &str) -> Result<Vec<u32>, ParseError> {
-    let mut memory = Vec::new(alloc);
-    if text == "-" {
-        return Ok(memory);
-    }
-    for word in text.split(',') {
-        memory.push(hex_word(word).ok_or(Mistake::NotWord("a word of mem"))?)?;
-    }
-    Ok(memory)
-}
-
-#[cfg(test)]
-mod tests;

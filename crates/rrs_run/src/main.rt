@@ -6,6 +6,9 @@
 
 #![tactic(auto)]
 
+ghost use Rattle.std.specs.Prelude.{◌≡◌, Some};
+ghost use Rattle.rrs_run.specs.Failures.{failure_text, status_of};
+
 mod fault;
 mod limits;
 mod report;
@@ -32,7 +35,9 @@ enum Failure {
 
 impl Failure {
     /// The program's status.
-    fn status(&self) -> u8 {
+    fn status(&self) -> u8
+        ensures { result ≡ status_of self.now }
+    {
         match self {
             Failure::Usage => 2,
             Failure::CannotOpen | Failure::Run(_) => 1,
@@ -41,6 +46,8 @@ impl Failure {
 }
 
 impl fmt::Display for Failure {
+    ghost output = { λ failure. Some (failure_text failure) };
+
     fn fmt<W: fmt::Write>(&self, f: &mut fmt::Formatter<W>) -> fmt::Result {
         match self {
             Failure::Usage => write!(f, "usage: rrs-run FILE LIMIT"),
