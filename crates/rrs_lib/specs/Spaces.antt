@@ -28,7 +28,7 @@ module _ {M : Type 0} where
   abbrev pub serves : Region M → ℕ → Bool
   serves r a = (nat_le r.base a && nat_lt a (r.base + r.size)) && nat_lt a (2 ^ 32)
 
-  -- what a region that serves the address says of it, or a default where none does
+  -- what the first region that serves the address says of it, or a default where none does: in a space no two regions serve one address
   abbrev pub served_by : {T : Type 0} → (M → ℕ → T) → T → List (Region M) → ℕ → T
   served_by says default [] a = default
   served_by says default (r ∷ regions) a = if serves r a then says r.memory (a - r.base) else served_by says default regions a

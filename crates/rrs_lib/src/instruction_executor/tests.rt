@@ -202,6 +202,20 @@ fn jumps_to_where_no_instruction_can_be(rt: HostRuntime) -> Result<(), Fail> {
     Ok(())
 }
 
+// beq x0, x0, 0
+#[test]
+fn branches_to_itself(rt: HostRuntime) -> Result<(), Fail> {
+    let mut memory = memory_of(rt.alloc(), &[0x00000063])?;
+    let mut hart = HartState::new();
+    hart.last_register_write = Some(9);
+    for _ in 0..2 {
+        assert_eq!(rt; step_once(&mut memory, &mut hart), Ok(()));
+        assert_eq!(rt; hart.pc, 0);
+        assert_eq!(rt; hart.last_register_write, None);
+    }
+    Ok(())
+}
+
 #[test]
 fn loads_with_the_sign(rt: HostRuntime) -> Result<(), Fail> {
     let mut memory = memory_of(rt.alloc(), &[0x00601183, 0x80017fff])?;
