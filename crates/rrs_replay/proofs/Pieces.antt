@@ -4,7 +4,8 @@ use Rattle.std.specs.List.{All, position_or_len, before_first, after_first}
 use Rattle.std.proofs.lemmas.List.Splits.{slice_split_first, slice_split_none, length-slice_split}
 use Rattle.std.proofs.lemmas.List.Sums.{fails_before_first}
 use Rattle.std.proofs.lemmas.Grind.{common_steps}
-use Rattle.rrs_replay.specs.Questions.{Asked, AsksRow, AsksText, words, words_left, reads, ends, reads_steps, reads_question, TakesAs, TakesNone, WhereMalformed}
+use Rattle.rrs_replay.specs.Questions.{Asked, AsksRow, AsksText, words, reads, ends, reads_steps, reads_question, WhereMalformed}
+use Rattle.rrs_replay.specs.Taking.{words_left, TakesAs, TakesNone}
 use Rattle.rrs_replay.specs.Numerals.{word_of}
 use Rattle.rrs_replay.specs.declared.questions.ParseError.{ParseError}
 use Rattle.rrs_replay.specs.declared.questions.ParseError.TheVariants.{Malformed, OutOfMemory}

@@ -1,2 +1,3 @@
 pub mod Numerals
 pub mod Questions
+pub mod Taking

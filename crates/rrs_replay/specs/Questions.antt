@@ -1,6 +1,5 @@
 -- What a line asks. Its words are separated by single spaces, and the entries of a list by commas.
-use Rattle.std.specs.Prelude.{◌≡◌, ℕ, ◌+◌, List, [], ◌∷◌, length, replicate, slice_set, codes, Option, Some, None, option_and_then, option_map, nat_lt, nat_eq, if◌then◌else◌, ◌==◌}
-use Rattle.std.specs.Borrow.{Bor}
+use Rattle.std.specs.Prelude.{ℕ, ◌+◌, List, [], ◌∷◌, length, replicate, slice_set, codes, Option, Some, None, option_and_then, option_map, nat_lt, nat_eq, if◌then◌else◌, ◌==◌}
 use Rattle.std.specs.List.{slice_split, position_or_len, before_first, after_first}
 use Rattle.std.specs.Str.{bytes_eq}
 use Rattle.rrs_replay.specs.declared.questions.Question.{Question}
@@ -26,11 +25,6 @@ asked (Steps steps) = AsksSteps steps.count steps.pc (option_map (λ register. r
 -- the words of a text
 abbrev pub words : List ℕ → List (List ℕ)
 words text = slice_split (λ b. b == 32) text
-
--- the words of what is left of a line: none, once the last one is taken off
-abbrev pub words_left : Option (Bor (List ℕ)) → List (List ℕ)
-words_left None = []
-words_left (Some text) = words text.now
 
 -- the first word is read, and then what follows it
 abbrev pub reads : {A B : Type 0} → (List ℕ → Option A) → (A → List (List ℕ) → Option B) → List (List ℕ) → Option B
@@ -115,16 +109,6 @@ reads_question follows (w ∷ ws) =
 -- what a line asks, if it is a question and nothing else
 abbrev pub asks : List ℕ → Option Asked
 asks line = reads_question ends (words line)
-
--- ---- what taking a word off says
-
--- the first word was read as x, and the rest is left
-abbrev pub TakesAs : {A : Type 0} → (List ℕ → Option A) → List (List ℕ) → A → List (List ℕ) → Type 0
-TakesAs read ws x rest = (w : List ℕ) × (ws ≡ w ∷ rest) × (read w ≡ Some x)
-
--- no first word can be read
-abbrev pub TakesNone : {A : Type 0} → (List ℕ → Option A) → List (List ℕ) → Type 0
-TakesNone read ws = (w : List ℕ) (rest : List (List ℕ)) → ws ≡ w ∷ rest → read w ≡ None
 
 -- a fact that holds where a line is malformed
 abbrev pub WhereMalformed : Type 0 → ParseError → Type 0

@@ -2,7 +2,8 @@
 
 ghost use Rattle.std.specs.Prelude.{◌≡◌, ◌≤◌, ℕ, List, [], ◌∷◌, Some, None, Option, IfOk, IfErr, OnErr, MatchOption, MatchResult, codes, option_map};
 ghost use Rattle.rrs_replay.specs.Numerals.{word_of, register_of};
-ghost use Rattle.rrs_replay.specs.Questions.{Asked, TakesAs, TakesNone, WhereMalformed, asked, asks, count_of, entry_of, last_of, memory_of, reads_question, reads_steps, registers_of, value_as, value_of, words, words_left};
+ghost use Rattle.rrs_replay.specs.Questions.{Asked, WhereMalformed, asked, asks, count_of, entry_of, last_of, memory_of, reads_question, reads_steps, registers_of, value_as, value_of};
+ghost use Rattle.rrs_replay.specs.Taking.{TakesAs, TakesNone, words_left};
 
 use crate::numerals::{decimal, hex_word, register_index};
 use crate::questions::{MOST_STEPS, Mistake, ParseError, Question, Register, Steps};

@@ -1,6 +1,5 @@
 -- Accounts of runs, put together from what is printed before each step.
-use Rattle.std.proofs.Common.{◌≡◌, ℕ, ◌+◌, ◌<◌, List, [], ◌++◌, drop, replicate, Bool, Option, Some, None, Ok, Err, refl, sym, ap, ◌∙◌, subst, add-one}
-use Rattle.std.proofs.lemmas.List.{append-nil}
+use Rattle.std.proofs.Common.{◌≡◌, ℕ, ◌+◌, ◌<◌, List, ◌++◌, drop, replicate, Bool, Option, Some, None, Ok, Err, refl, sym, ap, ◌∙◌, subst, add-one}
 use Rattle.std.specs.Io.KnownBytes.{Appends, Keeps}
 use Rattle.rrs_lib.specs.declared.HartState.{HartState}
 use Rattle.rrs_lib.specs.declared.instruction_executor.InstructionException.{InstructionException}
@@ -16,11 +15,6 @@ use Rattle.rrs_run.specs.Texts.{instruction_line, end_line, hart_lines}
 use Rattle.rrs_run.specs.Account.{AppendsLines, LinesOfWord, Inside, LinesOfAny, LinesBefore, next_word, PrintsOk, PrintsUntil, zero_words, start_of, Account}
 use Rattle.rrs_run.proofs.Printing.{appends_both}
 
--- nothing was appended
-appends_nothing : (a : Option (List ℕ)) → Appends a a []
-appends_nothing None = tt
-appends_nothing (Some xs) = sym (append-nil xs)
-
 -- the line of a row's text
 pub row_printed : (w pc : ℕ) (row : Row) (f : Fields) (text printed : List ℕ) (a b : Option (List ℕ)) → Is w row f → text_of row f pc ≡ Some text → printed ≡ text → Appends a b (instruction_line pc printed) → AppendsLines (LinesOfWord pc w) a b
 row_printed w pc row f text printed a b is e same appended = record {
@@ -35,10 +29,6 @@ next_printed s pc w a b at_pc at_word p =
     let P : ℕ → Type 0 = λ n. LinesOfWord n w p.lines in
     let Q : Option ℕ → Type 0 = λ o. LinesOfAny s.pc o p.lines in
     record { lines = p.lines; are_lines = subst Q at_word (subst P at_pc p.are_lines); appended = p.appended }
-
--- before the first step
-pub none_printed : (s : State) (a : Option (List ℕ)) → AppendsLines (PrintsOk 0 s s) a a
-none_printed s a = record { lines = []; are_lines = (refl, refl); appended = appends_nothing a }
 
 -- one more step that is Ok
 pub one_more_printed : (n : ℕ) (s m t : State) (a b c : Option (List ℕ)) → AppendsLines (PrintsOk n s m) a b → AppendsLines (LinesBefore m) b c → Step m t (Ok tt) → AppendsLines (PrintsOk (n + 1) s t) a c
@@ -57,12 +47,6 @@ fault_printed limit n s m t e a b c below first last step = record {
   are_lines = (below, (m, first.lines, last.lines, first.are_lines, last.are_lines, step, refl));
   appended = appends_both a b c first.lines last.lines first.appended last.appended;
 }
-
--- the limit
-pub limit_printed : (limit n : ℕ) (s t : State) (a b : Option (List ℕ)) → n ≡ limit → AppendsLines (PrintsOk n s t) a b → AppendsLines (PrintsUntil limit s limit None t) a b
-limit_printed limit n s t a b e p =
-    let P : ℕ → Type 0 = λ k. PrintsOk k s t p.lines in
-    record { lines = p.lines; are_lines = (refl, subst P e p.are_lines); appended = p.appended }
 
 -- the same, where flushing keeps what was written
 appends_and_keeps : (a b c : Option (List ℕ)) (xs : List ℕ) → Appends a b xs → Keeps b c → Appends a c xs

@@ -1,5 +1,5 @@
 use Rattle.std.proofs.Common.{ap, ◌∙◌, lit<}
-use Rattle.rrs_replay.specs.Questions.{words_left}
+use Rattle.rrs_replay.specs.Taking.{words_left}
 use Rattle.rrs_replay.proofs.Pieces.{words_cut, words_whole}
 use Rattle.rrs_replay.proofs.parsing.Words.next_word.Goals as goal
 
