@@ -2,7 +2,7 @@
 
 ghost use Rattle.std.specs.Prelude.{◌≡◌, ℕ, ◌+◌, ◌-◌, ◌^◌, ◌≤◌, min, slice_index, replicate};
 ghost use Rattle.std.specs.Bool.{OnTrue, OnFalse};
-ghost use Rattle.rrs_lib.specs.Table.{IsRowAnd, IsOutside, IsOneRowAtMost};
+ghost use Rattle.rrs_lib.specs.Table.{IsRowAnd, IsIllegal, IsOneRowAtMost};
 ghost use Rattle.rrs_extra.specs.Counting.{CountsOnce};
 
 use rrs_lib::instruction_formats::{BType, IType, ITypeShamt, JType, RType, SType, UType};
@@ -235,7 +235,7 @@ impl InstructionProcessor for CallCounter {
 pub(crate) fn count_word(counter: &mut CallCounter, word: u32) -> bool
     ensures counted { OnTrue result (IsRowAnd word
         (λ row f. CountsOnce row counter.old.counts counter.new.counts)) }
-    ensures outside { OnFalse result (IsOutside word) }
+    ensures outside { OnFalse result (IsIllegal word) }
     ensures unchanged { OnFalse result (counter.new ≡ counter.old) }
     ensures unique { IsOneRowAtMost word }
 {

@@ -1,5 +1,5 @@
 ghost use Rattle.std.specs.Prelude.{◌≡◌, IfSome, IfNone};
-ghost use Rattle.rrs_lib.specs.Table.{IsRowAnd, IsOutside, table};
+ghost use Rattle.rrs_lib.specs.Table.{IsRowAnd, IsIllegal, table};
 
 use crate::RowNumberer;
 use crate::call_counter::{CallCounter, count_word};
@@ -22,7 +22,7 @@ const WORDS_OUTSIDE: [u32; 4] = [0x00000073, 0x0000100f, 0xffffffff, 0x00000000]
 fn number_of(word: u32) -> Option<u32>
     ensures number { IfSome result (λ number. IsRowAnd word
         (λ row f. number ≡ (table row).number)) }
-    ensures outside { IfNone result (IsOutside word) }
+    ensures outside { IfNone result (IsIllegal word) }
 {
     process_instruction(&mut RowNumberer, word)
 }

@@ -2,7 +2,7 @@
 use Rattle.std.specs.Prelude.{◌≡◌, ℕ, ◌*◌, ◌^◌, List, [], ◌∷◌, pos, neg_ℤ, Bool, true, false, ◌&&◌, nat_lt, Option, Some, None, Ok, Err, length}
 use Rattle.std.proofs.Common.{refl, arith}
 use Rattle.rrs_lib.specs.declared.instruction_executor.InstructionException.TheVariants.{IllegalInstruction, FetchError, LoadAccessFault, AlignmentFault}
-use Rattle.rrs_lib.specs.Table.{Addi, Add, Lui, Beq, Lw, Sw, Jal, Jalr, Is}
+use Rattle.rrs_lib.specs.Table.{Row, Decodes}
 use Rattle.rrs_lib.specs.Bytes.{little_endian, all_writable, store}
 use Rattle.rrs_lib.specs.Machine.{State}
 use Rattle.rrs_lib.specs.Steps.{Step, Misaligned, Unmapped, Illegal, Legal, Run, RunsOk, RunUntil}
@@ -120,40 +120,40 @@ no_wrapping_overlap o = omega (arith, o.0, o.1)
 
 -- ---- the rows of the words below
 
-lui_x3 : Is 0xf387e1b7 Lui (of_U (neg_ℤ (pos 0xc782000)) 3)
+lui_x3 : Decodes 0xf387e1b7 Row.Lui (of_U (neg_ℤ (pos 0xc782000)) 3)
 lui_x3 = record { format = refl; in_range = (omega arith, omega arith, omega arith, refl); functs = tt; encoded = refl }
 
-add_x1 : Is 0x003100b3 Add (of_R 0 3 2 0 1)
+add_x1 : Decodes 0x003100b3 Row.Add (of_R 0 3 2 0 1)
 add_x1 = record { format = refl; in_range = (omega arith, omega arith, omega arith, omega arith, omega arith); functs = (refl, refl); encoded = refl }
 
-beq_to_itself : Is 0x00000063 Beq (of_B (pos 0) 0 0 0)
+beq_to_itself : Decodes 0x00000063 Row.Beq (of_B (pos 0) 0 0 0)
 beq_to_itself = record { format = refl; in_range = (omega arith, omega arith, omega arith, omega arith, omega arith, refl); functs = refl; encoded = refl }
 
-jal_by_two : Is 0x002000ef Jal (of_J (pos 2) 1)
+jal_by_two : Decodes 0x002000ef Row.Jal (of_J (pos 2) 1)
 jal_by_two = record { format = refl; in_range = (omega arith, omega arith, omega arith, refl); functs = tt; encoded = refl }
 
-sw_ahead : Is 0x00102223 Sw (of_S (pos 4) 1 0 2)
+sw_ahead : Decodes 0x00102223 Row.Sw (of_S (pos 4) 1 0 2)
 sw_ahead = record { format = refl; in_range = (omega arith, omega arith, omega arith, omega arith, omega arith); functs = refl; encoded = refl }
 
-addi_x2 : Is 0x00100113 Addi (of_I (pos 1) 0 0 2)
+addi_x2 : Decodes 0x00100113 Row.Addi (of_I (pos 1) 0 0 2)
 addi_x2 = record { format = refl; in_range = (omega arith, omega arith, omega arith, omega arith, omega arith); functs = refl; encoded = refl }
 
-sw_itself : Is 0x00102023 Sw (of_S (pos 0) 1 0 2)
+sw_itself : Decodes 0x00102023 Row.Sw (of_S (pos 0) 1 0 2)
 sw_itself = record { format = refl; in_range = (omega arith, omega arith, omega arith, omega arith, omega arith); functs = refl; encoded = refl }
 
-jal_back : Is 0xffdff06f Jal (of_J (neg_ℤ (pos 4)) 0)
+jal_back : Decodes 0xffdff06f Row.Jal (of_J (neg_ℤ (pos 4)) 0)
 jal_back = record { format = refl; in_range = (omega arith, omega arith, omega arith, refl); functs = tt; encoded = refl }
 
-lw_to_zero : Is 0x00402003 Lw (of_I (pos 4) 0 2 0)
+lw_to_zero : Decodes 0x00402003 Row.Lw (of_I (pos 4) 0 2 0)
 lw_to_zero = record { format = refl; in_range = (omega arith, omega arith, omega arith, omega arith, omega arith); functs = refl; encoded = refl }
 
-addi_nothing : Is 0x00000013 Addi (of_I (pos 0) 0 0 0)
+addi_nothing : Decodes 0x00000013 Row.Addi (of_I (pos 0) 0 0 0)
 addi_nothing = record { format = refl; in_range = (omega arith, omega arith, omega arith, omega arith, omega arith); functs = refl; encoded = refl }
 
-jal_ahead : Is 0x008000ef Jal (of_J (pos 8) 1)
+jal_ahead : Decodes 0x008000ef Row.Jal (of_J (pos 8) 1)
 jal_ahead = record { format = refl; in_range = (omega arith, omega arith, omega arith, refl); functs = tt; encoded = refl }
 
-jalr_to_end : Is 0xfff00067 Jalr (of_I (neg_ℤ (pos 1)) 0 0 0)
+jalr_to_end : Decodes 0xfff00067 Row.Jalr (of_I (neg_ℤ (pos 1)) 0 0 0)
 jalr_to_end = record { format = refl; in_range = (omega arith, omega arith, omega arith, omega arith, omega arith); functs = tt; encoded = refl }
 
 -- ---- steps and runs
@@ -169,13 +169,13 @@ abbrev sum_end : State
 sum_end = machine (registers 0x05bc9000 0x1234b000 0xf387e000) 12 (Some 1) sum
 
 first_lui : Step sum_start (machine (registers 0 0x1234b000 0) 4 (Some 2) sum) (Ok tt)
-first_lui = Legal 0x1234b137 Lui (of_U (pos 0x1234b000) 2) (machine (registers 0 0x1234b000 0) 0 (Some 2) sum) (Ok false) refl refl middle_U refl refl refl
+first_lui = Legal 0x1234b137 Row.Lui (of_U (pos 0x1234b000) 2) (machine (registers 0 0x1234b000 0) 0 (Some 2) sum) (Ok false) refl refl middle_U refl refl refl
 
 second_lui : Step (machine (registers 0 0x1234b000 0) 4 (Some 2) sum) (machine (registers 0 0x1234b000 0xf387e000) 8 (Some 3) sum) (Ok tt)
-second_lui = Legal 0xf387e1b7 Lui (of_U (neg_ℤ (pos 0xc782000)) 3) (machine (registers 0 0x1234b000 0xf387e000) 4 (Some 3) sum) (Ok false) refl refl lui_x3 refl refl refl
+second_lui = Legal 0xf387e1b7 Row.Lui (of_U (neg_ℤ (pos 0xc782000)) 3) (machine (registers 0 0x1234b000 0xf387e000) 4 (Some 3) sum) (Ok false) refl refl lui_x3 refl refl refl
 
 then_add : Step (machine (registers 0 0x1234b000 0xf387e000) 8 (Some 3) sum) sum_end (Ok tt)
-then_add = Legal 0x003100b3 Add (of_R 0 3 2 0 1) (machine (registers 0x05bc9000 0x1234b000 0xf387e000) 8 (Some 1) sum) (Ok false) refl refl add_x1 refl refl refl
+then_add = Legal 0x003100b3 Row.Add (of_R 0 3 2 0 1) (machine (registers 0x05bc9000 0x1234b000 0xf387e000) 8 (Some 1) sum) (Ok false) refl refl add_x1 refl refl refl
 
 then_nothing : Step sum_end (machine (registers 0x05bc9000 0x1234b000 0xf387e000) 12 None sum) (Err (FetchError 12))
 then_nothing = Unmapped refl refl refl refl
@@ -198,14 +198,14 @@ run_of_none = (refl, refl)
 
 -- a branch to itself, twice
 branch : Step (machine (registers 0 0 0) 0 None (0x00000063 ∷ [])) (machine (registers 0 0 0) 0 None (0x00000063 ∷ [])) (Ok tt)
-branch = Legal 0x00000063 Beq (of_B (pos 0) 0 0 0) (machine (registers 0 0 0) 0 None (0x00000063 ∷ [])) (Ok true) refl refl beq_to_itself refl refl refl
+branch = Legal 0x00000063 Row.Beq (of_B (pos 0) 0 0 0) (machine (registers 0 0 0) 0 None (0x00000063 ∷ [])) (Ok true) refl refl beq_to_itself refl refl refl
 
 pub branches_to_itself : Run (machine (registers 0 0 0) 0 None (0x00000063 ∷ [])) (Ok tt ∷ Ok tt ∷ []) (machine (registers 0 0 0) 0 None (0x00000063 ∷ []))
 branches_to_itself = (_, branch, (_, branch, refl))
 
 -- a jump by 2 is Ok; the next step faults, and a further one alike
 jump : Step (machine (registers 0 0 0) 0 None (0x002000ef ∷ [])) (machine (registers 4 0 0) 2 (Some 1) (0x002000ef ∷ [])) (Ok tt)
-jump = Legal 0x002000ef Jal (of_J (pos 2) 1) (machine (registers 4 0 0) 2 (Some 1) (0x002000ef ∷ [])) (Ok true) refl refl jal_by_two refl refl refl
+jump = Legal 0x002000ef Row.Jal (of_J (pos 2) 1) (machine (registers 4 0 0) 2 (Some 1) (0x002000ef ∷ [])) (Ok true) refl refl jal_by_two refl refl refl
 
 misaligned : (last : Option ℕ) → Step (machine (registers 4 0 0) 2 last (0x002000ef ∷ [])) (machine (registers 4 0 0) 2 None (0x002000ef ∷ [])) (Err (AlignmentFault 2))
 misaligned last = Misaligned (λ e. omega (arith, e)) refl refl
@@ -218,15 +218,15 @@ pub zeros_fault : Step (machine (registers 1 2 3) 4 (Some 9) (0x00000013 ∷ 0 �
 zeros_fault = Illegal 0 refl refl zeros_are_outside refl refl
 
 pub load_faults : Step (machine (registers 1 2 3) 0 (Some 9) (0x00402003 ∷ [])) (machine (registers 1 2 3) 0 None (0x00402003 ∷ [])) (Err (LoadAccessFault 4))
-load_faults = Legal 0x00402003 Lw (of_I (pos 4) 0 2 0) (machine (registers 1 2 3) 0 None (0x00402003 ∷ [])) (Err (LoadAccessFault 4)) refl refl lw_to_zero refl refl refl
+load_faults = Legal 0x00402003 Row.Lw (of_I (pos 4) 0 2 0) (machine (registers 1 2 3) 0 None (0x00402003 ∷ [])) (Err (LoadAccessFault 4)) refl refl lw_to_zero refl refl refl
 
 -- jalr with another funct3 is executed
 pub lax_step : Step (machine (registers 8 0 0) 0 None (0x00009067 ∷ [])) (machine (registers 8 0 0) 8 None (0x00009067 ∷ [])) (Ok tt)
-lax_step = Legal 0x00009067 Jalr (of_I (pos 0) 1 1 0) (machine (registers 8 0 0) 8 None (0x00009067 ∷ [])) (Ok true) refl refl lax_jalr refl refl refl
+lax_step = Legal 0x00009067 Row.Jalr (of_I (pos 0) 1 1 0) (machine (registers 8 0 0) 8 None (0x00009067 ∷ [])) (Ok true) refl refl lax_jalr refl refl refl
 
 -- a jump to the last addresses, where the next step faults
 to_end : Step (machine (registers 0 0 0) 0 None (0xfff00067 ∷ [])) (machine (registers 0 0 0) 0xfffffffe None (0xfff00067 ∷ [])) (Ok tt)
-to_end = Legal 0xfff00067 Jalr (of_I (neg_ℤ (pos 1)) 0 0 0) (machine (registers 0 0 0) 0xfffffffe None (0xfff00067 ∷ [])) (Ok true) refl refl jalr_to_end refl refl refl
+to_end = Legal 0xfff00067 Row.Jalr (of_I (neg_ℤ (pos 1)) 0 0 0) (machine (registers 0 0 0) 0xfffffffe None (0xfff00067 ∷ [])) (Ok true) refl refl jalr_to_end refl refl refl
 
 at_odd_end : Step (machine (registers 0 0 0) 0xfffffffe None (0xfff00067 ∷ [])) (machine (registers 0 0 0) 0xfffffffe None (0xfff00067 ∷ [])) (Err (AlignmentFault 0xfffffffe))
 at_odd_end = Misaligned (λ e. omega (arith, e)) refl refl
@@ -239,10 +239,10 @@ abbrev ahead : (pc : ℕ) → (last : Option ℕ) → (x2 : ℕ) → State
 ahead pc last x2 = record (machine (registers 0x00100113 x2 0) pc last (0x00102223 ∷ 0 ∷ [])) { bytes = store (bytes_of_words (0x00102223 ∷ 0 ∷ [])) 4 4 0x00100113 }
 
 store_ahead : Step (machine (registers 0x00100113 0 0) 0 None (0x00102223 ∷ 0 ∷ [])) (ahead 4 None 0) (Ok tt)
-store_ahead = Legal 0x00102223 Sw (of_S (pos 4) 1 0 2) (ahead 0 None 0) (Ok false) refl refl sw_ahead refl refl refl
+store_ahead = Legal 0x00102223 Row.Sw (of_S (pos 4) 1 0 2) (ahead 0 None 0) (Ok false) refl refl sw_ahead refl refl refl
 
 stored_addi : Step (ahead 4 None 0) (ahead 8 (Some 2) 1) (Ok tt)
-stored_addi = Legal 0x00100113 Addi (of_I (pos 1) 0 0 2) (ahead 4 (Some 2) 1) (Ok false) refl refl addi_x2 refl refl refl
+stored_addi = Legal 0x00100113 Row.Addi (of_I (pos 1) 0 0 2) (ahead 4 (Some 2) 1) (Ok false) refl refl addi_x2 refl refl refl
 
 pub stores_ahead : Run (machine (registers 0x00100113 0 0) 0 None (0x00102223 ∷ 0 ∷ [])) (Ok tt ∷ Ok tt ∷ []) (ahead 8 (Some 2) 1)
 stores_ahead = (_, store_ahead, (_, stored_addi, refl))
@@ -252,13 +252,13 @@ abbrev itself : (pc : ℕ) → (last : Option ℕ) → (x2 : ℕ) → State
 itself pc last x2 = record (machine (registers 0x00100113 x2 0) pc last (0x00102023 ∷ 0xffdff06f ∷ [])) { bytes = store (bytes_of_words (0x00102023 ∷ 0xffdff06f ∷ [])) 0 4 0x00100113 }
 
 store_itself : Step (machine (registers 0x00100113 0 0) 0 None (0x00102023 ∷ 0xffdff06f ∷ [])) (itself 4 None 0) (Ok tt)
-store_itself = Legal 0x00102023 Sw (of_S (pos 0) 1 0 2) (itself 0 None 0) (Ok false) refl refl sw_itself refl refl refl
+store_itself = Legal 0x00102023 Row.Sw (of_S (pos 0) 1 0 2) (itself 0 None 0) (Ok false) refl refl sw_itself refl refl refl
 
 jump_back : Step (itself 4 None 0) (itself 0 None 0) (Ok tt)
-jump_back = Legal 0xffdff06f Jal (of_J (neg_ℤ (pos 4)) 0) (itself 0 None 0) (Ok true) refl refl jal_back refl refl refl
+jump_back = Legal 0xffdff06f Row.Jal (of_J (neg_ℤ (pos 4)) 0) (itself 0 None 0) (Ok true) refl refl jal_back refl refl refl
 
 replaced_addi : Step (itself 0 None 0) (itself 4 (Some 2) 1) (Ok tt)
-replaced_addi = Legal 0x00100113 Addi (of_I (pos 1) 0 0 2) (itself 0 (Some 2) 1) (Ok false) refl refl addi_x2 refl refl refl
+replaced_addi = Legal 0x00100113 Row.Addi (of_I (pos 1) 0 0 2) (itself 0 (Some 2) 1) (Ok false) refl refl addi_x2 refl refl refl
 
 pub stores_itself : Run (machine (registers 0x00100113 0 0) 0 None (0x00102023 ∷ 0xffdff06f ∷ [])) (Ok tt ∷ Ok tt ∷ Ok tt ∷ []) (itself 4 (Some 2) 1)
 stores_itself = (_, store_itself, (_, jump_back, (_, replaced_addi, refl)))
@@ -274,7 +274,7 @@ at_end word pc last x1 = record {
 }
 
 pub goes_on_to_zero : Step (at_end 0x00000013 0xfffffffc None 0) (at_end 0x00000013 0 None 0) (Ok tt)
-goes_on_to_zero = Legal 0x00000013 Addi (of_I (pos 0) 0 0 0) (at_end 0x00000013 0xfffffffc None 0) (Ok false) refl refl addi_nothing refl refl refl
+goes_on_to_zero = Legal 0x00000013 Row.Addi (of_I (pos 0) 0 0 0) (at_end 0x00000013 0xfffffffc None 0) (Ok false) refl refl addi_nothing refl refl refl
 
 pub jumps_over_end : Step (at_end 0x008000ef 0xfffffffc None 7) (at_end 0x008000ef 4 (Some 1) 0) (Ok tt)
-jumps_over_end = Legal 0x008000ef Jal (of_J (pos 8) 1) (at_end 0x008000ef 4 (Some 1) 0) (Ok true) refl refl jal_ahead refl refl refl
+jumps_over_end = Legal 0x008000ef Row.Jal (of_J (pos 8) 1) (at_end 0x008000ef 4 (Some 1) 0) (Ok true) refl refl jal_ahead refl refl refl

@@ -1,7 +1,7 @@
 //! Decoding a word and calling a processor's function for it.
 
 ghost use Rattle.std.specs.Prelude.{◌≡◌, ◌%◌, IfSome, IfNone};
-ghost use Rattle.rrs_lib.specs.Table.{IsOutside, IsRowAnd, IsOneRowAtMost};
+ghost use Rattle.rrs_lib.specs.Table.{IsIllegal, IsRowAnd, IsOneRowAtMost};
 
 use crate::InstructionProcessor;
 use crate::instruction_formats::{
@@ -18,7 +18,7 @@ fn process_opcode_op<T: InstructionProcessor>(
     requires { insn_bits % 128 ≡ 0x33 }
     ensures decoded { IfSome result (λ answer. IsRowAnd insn_bits
         (λ row f. T.did row f processor.old processor.new answer)) }
-    ensures outside { IfNone result (IsOutside insn_bits) }
+    ensures outside { IfNone result (IsIllegal insn_bits) }
     ensures unchanged { IfNone result (processor.new ≡ processor.old) }
 {
     let dec_insn = RType::new(insn_bits);
@@ -53,7 +53,7 @@ fn process_opcode_op_imm<T: InstructionProcessor>(
     requires { insn_bits % 128 ≡ 0x13 }
     ensures decoded { IfSome result (λ answer. IsRowAnd insn_bits
         (λ row f. T.did row f processor.old processor.new answer)) }
-    ensures outside { IfNone result (IsOutside insn_bits) }
+    ensures outside { IfNone result (IsIllegal insn_bits) }
     ensures unchanged { IfNone result (processor.new ≡ processor.old) }
 {
     let dec_insn = IType::new(insn_bits);
@@ -85,7 +85,7 @@ fn process_opcode_branch<T: InstructionProcessor>(
     requires { insn_bits % 128 ≡ 0x63 }
     ensures decoded { IfSome result (λ answer. IsRowAnd insn_bits
         (λ row f. T.did row f processor.old processor.new answer)) }
-    ensures outside { IfNone result (IsOutside insn_bits) }
+    ensures outside { IfNone result (IsIllegal insn_bits) }
     ensures unchanged { IfNone result (processor.new ≡ processor.old) }
 {
     let dec_insn = BType::new(insn_bits);
@@ -108,7 +108,7 @@ fn process_opcode_load<T: InstructionProcessor>(
     requires { insn_bits % 128 ≡ 0x03 }
     ensures decoded { IfSome result (λ answer. IsRowAnd insn_bits
         (λ row f. T.did row f processor.old processor.new answer)) }
-    ensures outside { IfNone result (IsOutside insn_bits) }
+    ensures outside { IfNone result (IsIllegal insn_bits) }
     ensures unchanged { IfNone result (processor.new ≡ processor.old) }
 {
     let dec_insn = IType::new(insn_bits);
@@ -130,7 +130,7 @@ fn process_opcode_store<T: InstructionProcessor>(
     requires { insn_bits % 128 ≡ 0x23 }
     ensures decoded { IfSome result (λ answer. IsRowAnd insn_bits
         (λ row f. T.did row f processor.old processor.new answer)) }
-    ensures outside { IfNone result (IsOutside insn_bits) }
+    ensures outside { IfNone result (IsIllegal insn_bits) }
     ensures unchanged { IfNone result (processor.new ≡ processor.old) }
 {
     let dec_insn = SType::new(insn_bits);
@@ -150,7 +150,7 @@ fn process_opcode_misc_mem<T: InstructionProcessor>(
     requires { insn_bits % 128 ≡ 0x0f }
     ensures decoded { IfSome result (λ answer. IsRowAnd insn_bits
         (λ row f. T.did row f processor.old processor.new answer)) }
-    ensures outside { IfNone result (IsOutside insn_bits) }
+    ensures outside { IfNone result (IsIllegal insn_bits) }
     ensures unchanged { IfNone result (processor.new ≡ processor.old) }
 {
     let dec_insn = IType::new(insn_bits);
@@ -175,7 +175,7 @@ pub fn process_instruction<T: InstructionProcessor>(
 ) -> Option<T::InstructionResult>
     ensures decoded { IfSome result (λ answer. IsRowAnd insn_bits
         (λ row f. T.did row f processor.old processor.new answer)) }
-    ensures outside { IfNone result (IsOutside insn_bits) }
+    ensures outside { IfNone result (IsIllegal insn_bits) }
     ensures unchanged { IfNone result (processor.new ≡ processor.old) }
     ensures unique { IsOneRowAtMost insn_bits }
 {

@@ -19,7 +19,7 @@ pub mod memories;
 ghost use Rattle.std.specs.Prelude.{◌≡◌, ℕ, ◌+◌, ◌%◌, ◌^◌, ◌<◌, List, slice_index, drop, length, Bool, Option, Some, None, IsTrue, ◌↔◌, pos, replicate};
 ghost use Rattle.std.specs.Bool.{OnTrue, OnFalse};
 ghost use Rattle.rrs_lib.specs.Encodings.{Fields, R, I, IShamt, S, B, U, J, HasRegisters};
-ghost use Rattle.rrs_lib.specs.Table.{Row, Add, Sub, Sll, Slt, Sltu, Xor, Srl, Sra, Or, And, Addi, Slli, Slti, Sltiu, Xori, Srli, Srai, Ori, Andi, Lui, Auipc, Beq, Bne, Blt, Bltu, Bge, Bgeu, Lb, Lbu, Lh, Lhu, Lw, Sb, Sh, Sw, Jal, Jalr, Mul, Mulh, Mulhu, Mulhsu, Div, Divu, Rem, Remu, Fence};
+ghost use Rattle.rrs_lib.specs.Table.{Row};
 ghost use Rattle.rrs_lib.specs.Bytes.{width, little_endian, all_writable, store, IsLawful};
 
 use crate::instruction_formats::{BType, IType, ITypeShamt, JType, RType, SType, UType};
@@ -39,187 +39,187 @@ pub trait InstructionProcessor {
 
     fn process_add(&mut self, dec_insn: RType) -> Self::InstructionResult
         requires { HasRegisters (R dec_insn) }
-        ensures { did Add (R dec_insn) self.old self.new result };
+        ensures { did Row.Add (R dec_insn) self.old self.new result };
 
     fn process_sub(&mut self, dec_insn: RType) -> Self::InstructionResult
         requires { HasRegisters (R dec_insn) }
-        ensures { did Sub (R dec_insn) self.old self.new result };
+        ensures { did Row.Sub (R dec_insn) self.old self.new result };
 
     fn process_sll(&mut self, dec_insn: RType) -> Self::InstructionResult
         requires { HasRegisters (R dec_insn) }
-        ensures { did Sll (R dec_insn) self.old self.new result };
+        ensures { did Row.Sll (R dec_insn) self.old self.new result };
 
     fn process_slt(&mut self, dec_insn: RType) -> Self::InstructionResult
         requires { HasRegisters (R dec_insn) }
-        ensures { did Slt (R dec_insn) self.old self.new result };
+        ensures { did Row.Slt (R dec_insn) self.old self.new result };
 
     fn process_sltu(&mut self, dec_insn: RType) -> Self::InstructionResult
         requires { HasRegisters (R dec_insn) }
-        ensures { did Sltu (R dec_insn) self.old self.new result };
+        ensures { did Row.Sltu (R dec_insn) self.old self.new result };
 
     fn process_xor(&mut self, dec_insn: RType) -> Self::InstructionResult
         requires { HasRegisters (R dec_insn) }
-        ensures { did Xor (R dec_insn) self.old self.new result };
+        ensures { did Row.Xor (R dec_insn) self.old self.new result };
 
     fn process_srl(&mut self, dec_insn: RType) -> Self::InstructionResult
         requires { HasRegisters (R dec_insn) }
-        ensures { did Srl (R dec_insn) self.old self.new result };
+        ensures { did Row.Srl (R dec_insn) self.old self.new result };
 
     fn process_sra(&mut self, dec_insn: RType) -> Self::InstructionResult
         requires { HasRegisters (R dec_insn) }
-        ensures { did Sra (R dec_insn) self.old self.new result };
+        ensures { did Row.Sra (R dec_insn) self.old self.new result };
 
     fn process_or(&mut self, dec_insn: RType) -> Self::InstructionResult
         requires { HasRegisters (R dec_insn) }
-        ensures { did Or (R dec_insn) self.old self.new result };
+        ensures { did Row.Or (R dec_insn) self.old self.new result };
 
     fn process_and(&mut self, dec_insn: RType) -> Self::InstructionResult
         requires { HasRegisters (R dec_insn) }
-        ensures { did And (R dec_insn) self.old self.new result };
+        ensures { did Row.And (R dec_insn) self.old self.new result };
 
     fn process_addi(&mut self, dec_insn: IType) -> Self::InstructionResult
         requires { HasRegisters (I dec_insn) }
-        ensures { did Addi (I dec_insn) self.old self.new result };
+        ensures { did Row.Addi (I dec_insn) self.old self.new result };
 
     fn process_slli(&mut self, dec_insn: ITypeShamt) -> Self::InstructionResult
         requires { HasRegisters (IShamt dec_insn) }
-        ensures { did Slli (IShamt dec_insn) self.old self.new result };
+        ensures { did Row.Slli (IShamt dec_insn) self.old self.new result };
 
     fn process_slti(&mut self, dec_insn: IType) -> Self::InstructionResult
         requires { HasRegisters (I dec_insn) }
-        ensures { did Slti (I dec_insn) self.old self.new result };
+        ensures { did Row.Slti (I dec_insn) self.old self.new result };
 
     fn process_sltui(&mut self, dec_insn: IType) -> Self::InstructionResult
         requires { HasRegisters (I dec_insn) }
-        ensures { did Sltiu (I dec_insn) self.old self.new result };
+        ensures { did Row.Sltiu (I dec_insn) self.old self.new result };
 
     fn process_xori(&mut self, dec_insn: IType) -> Self::InstructionResult
         requires { HasRegisters (I dec_insn) }
-        ensures { did Xori (I dec_insn) self.old self.new result };
+        ensures { did Row.Xori (I dec_insn) self.old self.new result };
 
     fn process_srli(&mut self, dec_insn: ITypeShamt) -> Self::InstructionResult
         requires { HasRegisters (IShamt dec_insn) }
-        ensures { did Srli (IShamt dec_insn) self.old self.new result };
+        ensures { did Row.Srli (IShamt dec_insn) self.old self.new result };
 
     fn process_srai(&mut self, dec_insn: ITypeShamt) -> Self::InstructionResult
         requires { HasRegisters (IShamt dec_insn) }
-        ensures { did Srai (IShamt dec_insn) self.old self.new result };
+        ensures { did Row.Srai (IShamt dec_insn) self.old self.new result };
 
     fn process_ori(&mut self, dec_insn: IType) -> Self::InstructionResult
         requires { HasRegisters (I dec_insn) }
-        ensures { did Ori (I dec_insn) self.old self.new result };
+        ensures { did Row.Ori (I dec_insn) self.old self.new result };
 
     fn process_andi(&mut self, dec_insn: IType) -> Self::InstructionResult
         requires { HasRegisters (I dec_insn) }
-        ensures { did Andi (I dec_insn) self.old self.new result };
+        ensures { did Row.Andi (I dec_insn) self.old self.new result };
 
     fn process_lui(&mut self, dec_insn: UType) -> Self::InstructionResult
         requires { HasRegisters (U dec_insn) }
-        ensures { did Lui (U dec_insn) self.old self.new result };
+        ensures { did Row.Lui (U dec_insn) self.old self.new result };
 
     fn process_auipc(&mut self, dec_insn: UType) -> Self::InstructionResult
         requires { HasRegisters (U dec_insn) }
-        ensures { did Auipc (U dec_insn) self.old self.new result };
+        ensures { did Row.Auipc (U dec_insn) self.old self.new result };
 
     fn process_beq(&mut self, dec_insn: BType) -> Self::InstructionResult
         requires { HasRegisters (B dec_insn) }
-        ensures { did Beq (B dec_insn) self.old self.new result };
+        ensures { did Row.Beq (B dec_insn) self.old self.new result };
 
     fn process_bne(&mut self, dec_insn: BType) -> Self::InstructionResult
         requires { HasRegisters (B dec_insn) }
-        ensures { did Bne (B dec_insn) self.old self.new result };
+        ensures { did Row.Bne (B dec_insn) self.old self.new result };
 
     fn process_blt(&mut self, dec_insn: BType) -> Self::InstructionResult
         requires { HasRegisters (B dec_insn) }
-        ensures { did Blt (B dec_insn) self.old self.new result };
+        ensures { did Row.Blt (B dec_insn) self.old self.new result };
 
     fn process_bltu(&mut self, dec_insn: BType) -> Self::InstructionResult
         requires { HasRegisters (B dec_insn) }
-        ensures { did Bltu (B dec_insn) self.old self.new result };
+        ensures { did Row.Bltu (B dec_insn) self.old self.new result };
 
     fn process_bge(&mut self, dec_insn: BType) -> Self::InstructionResult
         requires { HasRegisters (B dec_insn) }
-        ensures { did Bge (B dec_insn) self.old self.new result };
+        ensures { did Row.Bge (B dec_insn) self.old self.new result };
 
     fn process_bgeu(&mut self, dec_insn: BType) -> Self::InstructionResult
         requires { HasRegisters (B dec_insn) }
-        ensures { did Bgeu (B dec_insn) self.old self.new result };
+        ensures { did Row.Bgeu (B dec_insn) self.old self.new result };
 
     fn process_lb(&mut self, dec_insn: IType) -> Self::InstructionResult
         requires { HasRegisters (I dec_insn) }
-        ensures { did Lb (I dec_insn) self.old self.new result };
+        ensures { did Row.Lb (I dec_insn) self.old self.new result };
 
     fn process_lbu(&mut self, dec_insn: IType) -> Self::InstructionResult
         requires { HasRegisters (I dec_insn) }
-        ensures { did Lbu (I dec_insn) self.old self.new result };
+        ensures { did Row.Lbu (I dec_insn) self.old self.new result };
 
     fn process_lh(&mut self, dec_insn: IType) -> Self::InstructionResult
         requires { HasRegisters (I dec_insn) }
-        ensures { did Lh (I dec_insn) self.old self.new result };
+        ensures { did Row.Lh (I dec_insn) self.old self.new result };
 
     fn process_lhu(&mut self, dec_insn: IType) -> Self::InstructionResult
         requires { HasRegisters (I dec_insn) }
-        ensures { did Lhu (I dec_insn) self.old self.new result };
+        ensures { did Row.Lhu (I dec_insn) self.old self.new result };
 
     fn process_lw(&mut self, dec_insn: IType) -> Self::InstructionResult
         requires { HasRegisters (I dec_insn) }
-        ensures { did Lw (I dec_insn) self.old self.new result };
+        ensures { did Row.Lw (I dec_insn) self.old self.new result };
 
     fn process_sb(&mut self, dec_insn: SType) -> Self::InstructionResult
         requires { HasRegisters (S dec_insn) }
-        ensures { did Sb (S dec_insn) self.old self.new result };
+        ensures { did Row.Sb (S dec_insn) self.old self.new result };
 
     fn process_sh(&mut self, dec_insn: SType) -> Self::InstructionResult
         requires { HasRegisters (S dec_insn) }
-        ensures { did Sh (S dec_insn) self.old self.new result };
+        ensures { did Row.Sh (S dec_insn) self.old self.new result };
 
     fn process_sw(&mut self, dec_insn: SType) -> Self::InstructionResult
         requires { HasRegisters (S dec_insn) }
-        ensures { did Sw (S dec_insn) self.old self.new result };
+        ensures { did Row.Sw (S dec_insn) self.old self.new result };
 
     fn process_jal(&mut self, dec_insn: JType) -> Self::InstructionResult
         requires { HasRegisters (J dec_insn) }
-        ensures { did Jal (J dec_insn) self.old self.new result };
+        ensures { did Row.Jal (J dec_insn) self.old self.new result };
 
     fn process_jalr(&mut self, dec_insn: IType) -> Self::InstructionResult
         requires { HasRegisters (I dec_insn) }
-        ensures { did Jalr (I dec_insn) self.old self.new result };
+        ensures { did Row.Jalr (I dec_insn) self.old self.new result };
 
     fn process_mul(&mut self, dec_insn: RType) -> Self::InstructionResult
         requires { HasRegisters (R dec_insn) }
-        ensures { did Mul (R dec_insn) self.old self.new result };
+        ensures { did Row.Mul (R dec_insn) self.old self.new result };
 
     fn process_mulh(&mut self, dec_insn: RType) -> Self::InstructionResult
         requires { HasRegisters (R dec_insn) }
-        ensures { did Mulh (R dec_insn) self.old self.new result };
+        ensures { did Row.Mulh (R dec_insn) self.old self.new result };
 
     fn process_mulhu(&mut self, dec_insn: RType) -> Self::InstructionResult
         requires { HasRegisters (R dec_insn) }
-        ensures { did Mulhu (R dec_insn) self.old self.new result };
+        ensures { did Row.Mulhu (R dec_insn) self.old self.new result };
 
     fn process_mulhsu(&mut self, dec_insn: RType) -> Self::InstructionResult
         requires { HasRegisters (R dec_insn) }
-        ensures { did Mulhsu (R dec_insn) self.old self.new result };
+        ensures { did Row.Mulhsu (R dec_insn) self.old self.new result };
 
     fn process_div(&mut self, dec_insn: RType) -> Self::InstructionResult
         requires { HasRegisters (R dec_insn) }
-        ensures { did Div (R dec_insn) self.old self.new result };
+        ensures { did Row.Div (R dec_insn) self.old self.new result };
 
     fn process_divu(&mut self, dec_insn: RType) -> Self::InstructionResult
         requires { HasRegisters (R dec_insn) }
-        ensures { did Divu (R dec_insn) self.old self.new result };
+        ensures { did Row.Divu (R dec_insn) self.old self.new result };
 
     fn process_rem(&mut self, dec_insn: RType) -> Self::InstructionResult
         requires { HasRegisters (R dec_insn) }
-        ensures { did Rem (R dec_insn) self.old self.new result };
+        ensures { did Row.Rem (R dec_insn) self.old self.new result };
 
     fn process_remu(&mut self, dec_insn: RType) -> Self::InstructionResult
         requires { HasRegisters (R dec_insn) }
-        ensures { did Remu (R dec_insn) self.old self.new result };
+        ensures { did Row.Remu (R dec_insn) self.old self.new result };
 
     fn process_fence(&mut self, dec_insn: IType) -> Self::InstructionResult
         requires { HasRegisters (I dec_insn) }
-        ensures { did Fence (I dec_insn) self.old self.new result };
+        ensures { did Row.Fence (I dec_insn) self.old self.new result };
 }
 
 /// The state of a single RISC-V hart (hardware thread).

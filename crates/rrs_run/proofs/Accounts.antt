@@ -4,7 +4,7 @@ use Rattle.std.specs.Io.KnownBytes.{Appends, Keeps}
 use Rattle.rrs_lib.specs.declared.HartState.{HartState}
 use Rattle.rrs_lib.specs.declared.instruction_executor.InstructionException.{InstructionException}
 use Rattle.rrs_lib.specs.Encodings.{Fields}
-use Rattle.rrs_lib.specs.Table.{Row, Is}
+use Rattle.rrs_lib.specs.Table.{Row, Decodes}
 use Rattle.rrs_lib.specs.Bytes.{ByteMap}
 use Rattle.rrs_lib.specs.Machine.{State, state_of}
 use Rattle.rrs_lib.specs.VecBytes.{bytes_of_words, lies_in_words}
@@ -16,7 +16,7 @@ use Rattle.rrs_run.specs.Account.{AppendsLines, LinesOfWord, Inside, LinesOfAny,
 use Rattle.rrs_run.proofs.Printing.{appends_both}
 
 -- the line of a row's text
-pub row_printed : (w pc : ℕ) (row : Row) (f : Fields) (text printed : List ℕ) (a b : Option (List ℕ)) → Is w row f → text_of row f pc ≡ Some text → printed ≡ text → Appends a b (instruction_line pc printed) → AppendsLines (LinesOfWord pc w) a b
+pub row_printed : (w pc : ℕ) (row : Row) (f : Fields) (text printed : List ℕ) (a b : Option (List ℕ)) → Decodes w row f → text_of row f pc ≡ Some text → printed ≡ text → Appends a b (instruction_line pc printed) → AppendsLines (LinesOfWord pc w) a b
 row_printed w pc row f text printed a b is e same appended = record {
   lines = instruction_line pc printed;
   are_lines = Inside row f text is e (ap (instruction_line pc) same);

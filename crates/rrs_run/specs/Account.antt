@@ -3,7 +3,7 @@ use Rattle.std.specs.Prelude.{◌≡◌, ℕ, zero, suc, ◌%◌, ◌<◌, List,
 use Rattle.std.specs.Io.KnownBytes.{Appends}
 use Rattle.rrs_lib.specs.declared.instruction_executor.InstructionException.{InstructionException}
 use Rattle.rrs_lib.specs.Encodings.{Fields}
-use Rattle.rrs_lib.specs.Table.{Row, Is, IsOutside}
+use Rattle.rrs_lib.specs.Table.{Row, Decodes, IsIllegal}
 use Rattle.rrs_lib.specs.Bytes.{ByteMap, little_endian}
 use Rattle.rrs_lib.specs.Machine.{State}
 use Rattle.rrs_lib.specs.Texts.{text_of}
@@ -24,8 +24,8 @@ next_word s = if s.pc % 4 == 0 then little_endian s.bytes s.pc 4 else None
 
 -- What is printed of a word at an address: the line of its text where it is a row, and nothing where it is outside the table.
 pub data LinesOfWord (pc w : ℕ) (lines : List ℕ) : Type 0 where
-  Inside : (row : Row) (f : Fields) (text : List ℕ) → Is w row f → text_of row f pc ≡ Some text → lines ≡ instruction_line pc text → LinesOfWord pc w lines
-  Outside : IsOutside w → lines ≡ [] → LinesOfWord pc w lines
+  Inside : (row : Row) (f : Fields) (text : List ℕ) → Decodes w row f → text_of row f pc ≡ Some text → lines ≡ instruction_line pc text → LinesOfWord pc w lines
+  Outside : IsIllegal w → lines ≡ [] → LinesOfWord pc w lines
 
 -- what is printed where there may be a word at the address
 abbrev pub LinesOfAny : ℕ → Option ℕ → List ℕ → Type 0
