@@ -10,7 +10,7 @@ use Rattle.std.proofs.lemmas.List.Elements.{All-push}
 use Rattle.std.proofs.lemmas.List.{get_or_default}
 use Rattle.rrs_lib.specs.declared.MemAccessSize.{MemAccessSize}
 use Rattle.rrs_lib.specs.declared.MemAccessSize.TheVariants.{Byte, HalfWord, Word}
-use Rattle.rrs_lib.specs.Bytes.{ByteMap, width, little_endian, all_writable, store, IsLawful}
+use Rattle.rrs_lib.specs.Bytes.{ByteMap, width, little_endian, all_writable, store, IsLawful, EndsAtLastAddress}
 use Rattle.rrs_lib.specs.Spaces.{Region, serves, served_by, space_bytes, space_writable, space_layout, Overlaps, bounds, IsWordRegion, IsSpace, with_memory, OthersKept, ServedBecomes}
 
 -- ---- numbers
@@ -87,6 +87,18 @@ module _ {M : Type 0} where
       (omega (arith, t.0, u.1), omega (arith, t.1, u.0))
 
   -- ---- what the list says of an address
+
+  -- no region serves an address from 2 ^ 32 on
+  unserved_from_end : {T : Type 0} (says : M → ℕ → T) (default : T) (regions : List (Region M)) (a : ℕ) → 2 ^ 32 ≤ a → served_by says default regions a ≡ default
+  unserved_from_end says default [] a past = refl
+  unserved_from_end says default (r ∷ regions) a past =
+      let miss : serves r a ≡ false = grind (arith, nat_tests) in
+      rw miss (unserved_from_end says default regions a past)
+
+  -- a space ends at 2 ^ 32
+  pub space_ends : (bytes : M → ByteMap) (writable : M → ℕ → Bool) (regions : List (Region M)) → EndsAtLastAddress (space_bytes bytes regions) (space_writable writable regions)
+  space_ends bytes writable regions a past =
+      (unserved_from_end bytes None regions a past, unserved_from_end writable false regions a past)
 
   -- where no region serves an address, the list says the default
   pub served_nowhere : {T : Type 0} (says : M → ℕ → T) (default : T) (regions : List (Region M)) (a : ℕ) → All (λ r. serves r a ≡ false) regions → served_by says default regions a ≡ default

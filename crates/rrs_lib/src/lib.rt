@@ -20,7 +20,7 @@ ghost use Rattle.std.specs.Prelude.{◌≡◌, ℕ, ◌+◌, ◌%◌, ◌^◌, �
 ghost use Rattle.std.specs.Bool.{OnTrue, OnFalse};
 ghost use Rattle.rrs_lib.specs.Encodings.{Fields, R, I, IShamt, S, B, U, J, HasRegisters};
 ghost use Rattle.rrs_lib.specs.Table.{Row};
-ghost use Rattle.rrs_lib.specs.Bytes.{width, little_endian, all_writable, store, IsLawful};
+ghost use Rattle.rrs_lib.specs.Bytes.{width, Reads, Writes};
 
 use crate::instruction_formats::{BType, IType, ITypeShamt, JType, RType, SType, UType};
 pub use decode::process_instruction;
@@ -318,24 +318,18 @@ pub trait Memory {
 
     /// Reads `size` bytes from `addr`, which is a multiple of the size.
     ///
-    /// The answer is `None` exactly where one of them is not mapped, and else their little-endian value.
+    /// Returns their little-endian value, or `None` exactly where one of them is not mapped. No
+    /// byte changes.
     fn read_mem(&mut self, addr: u32, size: MemAccessSize) -> Option<u32>
         requires { addr % width size ≡ 0 }
-        ensures value { result ≡ little_endian (bytes self.old) addr (width size) }
-        ensures bytes_kept { bytes self.new ≡ bytes self.old }
-        ensures writable_kept { writable self.new ≡ writable self.old }
-        ensures layout_kept { layout self.new ≡ layout self.old }
-        ensures lawful { IsLawful (bytes self.old) (writable self.old) addr (width size) };
+        ensures laws { Reads bytes writable layout self.old self.new addr (width size) result };
 
     /// Writes the low `size` bytes of `store_data` to `addr`, which is a multiple of the size.
     ///
-    /// The answer is `true` exactly where all of them are writable; nothing changes where it is `false`.
+    /// Returns `true` exactly where all of them are writable. Where it returns `false` no byte
+    /// changes.
     fn write_mem(&mut self, addr: u32, size: MemAccessSize, store_data: u32) -> bool
         requires { addr % width size ≡ 0 }
-        ensures answer { result ≡ all_writable (writable self.old) addr (width size) }
-        ensures written { OnTrue result (bytes self.new ≡ store (bytes self.old) addr (width size) store_data) }
-        ensures refused { OnFalse result (bytes self.new ≡ bytes self.old) }
-        ensures writable_kept { writable self.new ≡ writable self.old }
-        ensures layout_kept { layout self.new ≡ layout self.old }
-        ensures lawful { IsLawful (bytes self.old) (writable self.old) addr (width size) };
+        ensures laws { Writes bytes writable layout
+            self.old self.new addr (width size) store_data result };
 }

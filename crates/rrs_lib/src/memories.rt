@@ -3,7 +3,7 @@
 ghost use Rattle.std.specs.Prelude.{◌≡◌, ◌≢◌, ℕ, ◌+◌, ◌*◌, ◌/◌, ◌%◌, ◌^◌, ◌≤◌, [], ◌∷◌, length};
 ghost use Rattle.std.specs.Prelude.{slice_index, vec_len};
 ghost use Rattle.std.specs.Bool.{OnTrue, OnFalse};
-ghost use Rattle.rrs_lib.specs.Bytes.{width, little_endian, all_writable, store, IsLawful};
+ghost use Rattle.rrs_lib.specs.Bytes.{width, little_endian, all_writable, store, Reads, Writes};
 ghost use Rattle.rrs_lib.specs.VecBytes.{bytes_of_words, lies_in_words};
 
 mod boxed;
@@ -103,24 +103,20 @@ fn write_words(words: &mut [u32], addr: u32, size: MemAccessSize, value: u32) ->
 }
 
 impl Memory for VecMemory {
-    ghost bytes = { λ m. bytes_of_words m.mem.items };
+    ghost use Rattle.rrs_lib.specs.VecBytes.{vec_bytes, vec_writable, vec_layout};
 
-    ghost writable = { λ m. lies_in_words m.mem.items };
+    ghost bytes = { vec_bytes };
 
-    ghost layout = { λ m. vec_len m.mem ∷ [] };
+    ghost writable = { vec_writable };
+
+    ghost layout = { vec_layout };
 
     #[inline]
     fn read_mem(&mut self, addr: u32, size: MemAccessSize) -> Option<u32>
         requires { addr % width size ≡ 0 }
-        ensures value { result
-            ≡ little_endian (bytes_of_words self.old.mem.items) addr (width size) }
+        ensures laws { Reads vec_bytes vec_writable vec_layout
+            self.old self.new addr (width size) result }
         ensures words_kept { self.new.mem.items ≡ self.old.mem.items }
-        ensures bytes_kept { bytes_of_words self.new.mem.items ≡ bytes_of_words self.old.mem.items }
-        ensures writable_kept { lies_in_words self.new.mem.items
-            ≡ lies_in_words self.old.mem.items }
-        ensures layout_kept { vec_len self.new.mem ∷ [] ≡ vec_len self.old.mem ∷ [] }
-        ensures lawful { IsLawful (bytes_of_words self.old.mem.items)
-            (lies_in_words self.old.mem.items) addr (width size) }
     {
         read_words(&self.mem, addr, size)
     }
@@ -128,20 +124,11 @@ impl Memory for VecMemory {
     #[inline]
     fn write_mem(&mut self, addr: u32, size: MemAccessSize, store_data: u32) -> bool
         requires { addr % width size ≡ 0 }
-        ensures answer { result
-            ≡ all_writable (lies_in_words self.old.mem.items) addr (width size) }
-        ensures written { OnTrue result (bytes_of_words self.new.mem.items
-            ≡ store (bytes_of_words self.old.mem.items) addr (width size) store_data) }
-        ensures refused { OnFalse result (bytes_of_words self.new.mem.items
-            ≡ bytes_of_words self.old.mem.items) }
+        ensures laws { Writes vec_bytes vec_writable vec_layout
+            self.old self.new addr (width size) store_data result }
         ensures length_kept { vec_len self.new.mem ≡ vec_len self.old.mem }
         ensures others_kept { (i : ℕ) → i ≢ addr / 4
             → slice_index self.new.mem.items i ≡ slice_index self.old.mem.items i }
-        ensures writable_kept { lies_in_words self.new.mem.items
-            ≡ lies_in_words self.old.mem.items }
-        ensures layout_kept { vec_len self.new.mem ∷ [] ≡ vec_len self.old.mem ∷ [] }
-        ensures lawful { IsLawful (bytes_of_words self.old.mem.items)
-            (lies_in_words self.old.mem.items) addr (width size) }
     {
         write_words(&mut self.mem, addr, size, store_data)
     }

@@ -4,9 +4,8 @@ ghost use Rattle.std.specs.Prelude.{◌≡◌, ◌↔◌, ◌+◌, ◌-◌, ◌%
 ghost use Rattle.std.specs.Prelude.{length, map, All, Any, IsTrue, Err, IfOk, OnOk, OnErr};
 ghost use Rattle.std.specs.Prelude.{MatchOption, option_copied};
 ghost use Rattle.std.specs.Option.{option_copied_mut};
-ghost use Rattle.std.specs.Bool.{OnTrue, OnFalse};
 ghost use Rattle.std.specs.Borrow.{sem};
-ghost use Rattle.rrs_lib.specs.Bytes.{width, little_endian, all_writable, store, IsLawful};
+ghost use Rattle.rrs_lib.specs.Bytes.{width, Reads, Writes};
 ghost use Rattle.rrs_lib.specs.Spaces.{space_bytes, space_writable, space_layout, bounds, serves};
 ghost use Rattle.rrs_lib.specs.Spaces.{Overlaps, AreAligned, IsSpace, IsServedAt, memory_at};
 ghost use Rattle.rrs_lib.specs.Spaces.{OthersKept, ServedBecomes};
@@ -94,13 +93,8 @@ impl<M: Memory> MemoryRegion<M> {
     fn read(&mut self, addr: u32, size: MemAccessSize) -> Option<u32>
         requires from { self.old.base ≤ addr }
         requires aligned { (addr - self.old.base) % width size ≡ 0 }
-        ensures value { result
-            ≡ little_endian (M.bytes self.old.memory) (addr - self.old.base) (width size) }
-        ensures bytes_kept { M.bytes self.new.memory ≡ M.bytes self.old.memory }
-        ensures writable_kept { M.writable self.new.memory ≡ M.writable self.old.memory }
-        ensures layout_kept { M.layout self.new.memory ≡ M.layout self.old.memory }
-        ensures lawful { IsLawful (M.bytes self.old.memory) (M.writable self.old.memory)
-            (addr - self.old.base) (width size) }
+        ensures laws { Reads M.bytes M.writable M.layout
+            self.old.memory self.new.memory (addr - self.old.base) (width size) result }
         ensures rest_kept { self.new ≡ record self.old { memory = self.new.memory } }
     {
         self.memory.read_mem(addr - self.base, size)
@@ -111,15 +105,8 @@ impl<M: Memory> MemoryRegion<M> {
     fn write(&mut self, addr: u32, size: MemAccessSize, store_data: u32) -> bool
         requires from { self.old.base ≤ addr }
         requires aligned { (addr - self.old.base) % width size ≡ 0 }
-        ensures answer { result
-            ≡ all_writable (M.writable self.old.memory) (addr - self.old.base) (width size) }
-        ensures written { OnTrue result (M.bytes self.new.memory
-            ≡ store (M.bytes self.old.memory) (addr - self.old.base) (width size) store_data) }
-        ensures refused { OnFalse result (M.bytes self.new.memory ≡ M.bytes self.old.memory) }
-        ensures writable_kept { M.writable self.new.memory ≡ M.writable self.old.memory }
-        ensures layout_kept { M.layout self.new.memory ≡ M.layout self.old.memory }
-        ensures lawful { IsLawful (M.bytes self.old.memory) (M.writable self.old.memory)
-            (addr - self.old.base) (width size) }
+        ensures laws { Writes M.bytes M.writable M.layout
+            self.old.memory self.new.memory (addr - self.old.base) (width size) store_data result }
         ensures rest_kept { self.new ≡ record self.old { memory = self.new.memory } }
     {
         self.memory.write_mem(addr - self.base, size, store_data)
@@ -233,19 +220,13 @@ impl<M: Memory> Memory for MemorySpace<M> {
 
     fn read_mem(&mut self, addr: u32, size: MemAccessSize) -> Option<u32>
         requires { addr % width size ≡ 0 }
-        ensures value { result
-            ≡ little_endian (space_bytes M.bytes self.old) addr (width size) }
-        ensures bytes_kept { space_bytes M.bytes self.new ≡ space_bytes M.bytes self.old }
-        ensures writable_kept { space_writable M.writable self.new
-            ≡ space_writable M.writable self.old }
-        ensures layout_kept { space_layout M.layout self.new ≡ space_layout M.layout self.old }
-        ensures lawful { IsLawful (space_bytes M.bytes self.old)
-            (space_writable M.writable self.old) addr (width size) }
+        ensures laws { Reads
+            (space_bytes M.bytes) (space_writable M.writable) (space_layout M.layout)
+            self.old self.new addr (width size) result }
         ensures regions_kept { map bounds self.new ≡ map bounds self.old }
         ensures others_kept { OthersKept addr self.old self.new }
         ensures served { ServedBecomes addr self.old self.new (λ before offset after.
-            (M.bytes after ≡ M.bytes before) × (M.writable after ≡ M.writable before)
-            × (M.layout after ≡ M.layout before)) }
+            Reads M.bytes M.writable M.layout before after offset (width size) result) }
     {
         match self.region_at(addr) {
             Some(index) => self.regions[index].read(addr, size),
@@ -255,23 +236,14 @@ impl<M: Memory> Memory for MemorySpace<M> {
 
     fn write_mem(&mut self, addr: u32, size: MemAccessSize, store_data: u32) -> bool
         requires { addr % width size ≡ 0 }
-        ensures answer { result
-            ≡ all_writable (space_writable M.writable self.old) addr (width size) }
-        ensures written { OnTrue result (space_bytes M.bytes self.new
-            ≡ store (space_bytes M.bytes self.old) addr (width size) store_data) }
-        ensures refused { OnFalse result (space_bytes M.bytes self.new
-            ≡ space_bytes M.bytes self.old) }
-        ensures writable_kept { space_writable M.writable self.new
-            ≡ space_writable M.writable self.old }
-        ensures layout_kept { space_layout M.layout self.new ≡ space_layout M.layout self.old }
-        ensures lawful { IsLawful (space_bytes M.bytes self.old)
-            (space_writable M.writable self.old) addr (width size) }
+        ensures laws { Writes
+            (space_bytes M.bytes) (space_writable M.writable) (space_layout M.layout)
+            self.old self.new addr (width size) store_data result }
         ensures regions_kept { map bounds self.new ≡ map bounds self.old }
         ensures others_kept { OthersKept addr self.old self.new }
         ensures served { ServedBecomes addr self.old self.new (λ before offset after.
-            (OnTrue result (M.bytes after ≡ store (M.bytes before) offset (width size) store_data))
-            × (OnFalse result (M.bytes after ≡ M.bytes before))
-            × (M.writable after ≡ M.writable before) × (M.layout after ≡ M.layout before)) }
+            Writes M.bytes M.writable M.layout
+            before after offset (width size) store_data result) }
     {
         match self.region_at(addr) {
             Some(index) => self.regions[index].write(addr, size, store_data),

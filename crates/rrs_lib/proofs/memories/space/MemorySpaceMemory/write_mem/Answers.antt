@@ -1,8 +1,7 @@
-use Rattle.std.proofs.Common.{◌≡◌, ℕ, sym, ◌∙◌, None, false}
-use Rattle.std.specs.Bool.{OnTrue, OnFalse}
-use Rattle.rrs_lib.specs.Bytes.{width, store}
+use Rattle.std.proofs.Common.{ℕ, refl, sym, ◌∙◌, None, false}
+use Rattle.rrs_lib.specs.Bytes.{width, Writes}
 use Rattle.rrs_lib.specs.SpaceFields.{region_of}
-use Rattle.rrs_lib.proofs.Regions.{IsSpace-with_memory, bounds-with_memory, OthersKept-with_memory, served_same, layout-with_memory, served_writable, served_written, served_lawful, served_becomes, unserved_writable, unserved_lawful}
+use Rattle.rrs_lib.proofs.Regions.{IsSpace-with_memory, bounds-with_memory, OthersKept-with_memory, served_same, layout-with_memory, served_writable, served_written, served_lawful, served_becomes, unserved_writable, unserved_lawful, space_ends}
 use Rattle.rrs_lib.proofs.RegionFields.{OnTrue_then, OnFalse_then, served_field, with_memory_of}
 use Rattle.rrs_lib.proofs.memories.space.MemorySpaceMemory.write_mem.Goals as goal
 
@@ -30,25 +29,31 @@ returns-in-Some g c =
     let layout = g.M.Memory.layout in
     let served = served_field c.self.inside.regions.items old i x a c.self.view_is c.in-Some.ensures.region c.index_mut.ensures.value in
     let e = with_memory_of c.self.inside.regions.items old i x c.write.new.self c.self.view_is served.0 c.write.ensures.rest_kept in
-    let Kept : g.row.M.Denot → ℕ → g.row.M.Denot → Type 0 =
-    λ before offset after.
-    (OnTrue c.write.result (bytes after ≡ store (bytes before) offset (width n) v))
-    × (OnFalse c.write.result (bytes after ≡ bytes before))
-    × (writable after ≡ writable before) × (layout after ≡ layout before) in
+    let laws = c.write.ensures.laws in
+    let Access : g.row.M.Denot → ℕ → g.row.M.Denot → Type 0 =
+    λ before offset after. Writes bytes writable layout before after offset (width n) v c.write.result in
     record {
-      answer = c.write.ensures.answer ∙ sym (served_writable writable old a i (region_of x) n space c.requires served.1 served.2);
-      written = rw e (OnTrue_then c.write.result c.write.ensures.written (served_written bytes old a i v (region_of x) m n space c.requires served.1 served.2));
-      refused = rw e (OnFalse_then c.write.result c.write.ensures.refused (served_same bytes None old i (region_of x) m served.1));
-      writable_kept = rw e (served_same writable false old i (region_of x) m served.1 c.write.ensures.writable_kept);
-      layout_kept = rw e (layout-with_memory layout old i (region_of x) m served.1 c.write.ensures.layout_kept);
-      lawful = served_lawful bytes writable old a i (region_of x) n space c.requires served.1 served.2 c.write.ensures.lawful;
+      laws = record {
+        granted = laws.granted ∙ sym (served_writable writable old a i (region_of x) n space c.requires served.1 served.2);
+        written = rw e (OnTrue_then c.write.result laws.written (served_written bytes old a i v (region_of x) m n space c.requires served.1 served.2));
+        refused = rw e (OnFalse_then c.write.result laws.refused (served_same bytes None old i (region_of x) m served.1));
+        writable_kept = rw e (served_same writable false old i (region_of x) m served.1 laws.writable_kept);
+        layout_kept = rw e (layout-with_memory layout old i (region_of x) m served.1 laws.layout_kept);
+        lawful = served_lawful bytes writable old a i (region_of x) n space c.requires served.1 served.2 laws.lawful;
+        ends = space_ends bytes writable old;
+      };
       regions_kept = rw e (bounds-with_memory old i m);
       others_kept = rw e (OthersKept-with_memory old i (region_of x) m a served.1 served.2);
-      served = rw e (served_becomes Kept old a i (region_of x) m space served.1 served.2 (c.write.ensures.written, c.write.ensures.refused, c.write.ensures.writable_kept, c.write.ensures.layout_kept));
+      served = rw e (served_becomes Access old a i (region_of x) m space served.1 served.2 laws);
     }
 
-pub returns-in-None-clause-answer : goal.returns-in-None-clause-answer
-returns-in-None-clause-answer g c = sym (unserved_writable g.M.Memory.writable c.args.self.now c.args.addr c.args.size c.in-None.ensures.space c.requires c.ranges.addr.fits c.in-None.ensures.region)
-
-pub returns-in-None-clause-lawful : goal.returns-in-None-clause-lawful
-returns-in-None-clause-lawful g c = unserved_lawful g.M.Memory.bytes g.M.Memory.writable c.args.self.now c.args.addr c.args.size c.in-None.ensures.space c.requires c.ranges.addr.fits c.in-None.ensures.region
+pub returns-in-None-clause-laws : goal.returns-in-None-clause-laws
+returns-in-None-clause-laws g c = record {
+  granted = sym (unserved_writable g.M.Memory.writable c.args.self.now c.args.addr c.args.size c.in-None.ensures.space c.requires c.ranges.addr.fits c.in-None.ensures.region);
+  written = tt;
+  refused = refl;
+  writable_kept = refl;
+  layout_kept = refl;
+  lawful = unserved_lawful g.M.Memory.bytes g.M.Memory.writable c.args.self.now c.args.addr c.args.size c.in-None.ensures.space c.requires c.ranges.addr.fits c.in-None.ensures.region;
+  ends = space_ends g.M.Memory.bytes g.M.Memory.writable c.args.self.now;
+}
