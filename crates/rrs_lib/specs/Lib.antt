@@ -1,6 +1,7 @@
 pub mod Words
 pub mod Encodings
 pub mod Table
+pub mod Dispatching
 pub mod Bytes
 pub mod Results
 pub mod Machine

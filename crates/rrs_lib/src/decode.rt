@@ -1,7 +1,9 @@
 //! Decoding a word and calling a processor's function for it.
 
 ghost use Rattle.std.specs.Prelude.{◌≡◌, ◌%◌, IfSome, IfNone};
-ghost use Rattle.rrs_lib.specs.Table.{IsIllegal, IsRowAnd, IsOneRowAtMost};
+ghost use Rattle.rrs_lib.specs.Encodings.{Fields};
+ghost use Rattle.rrs_lib.specs.Table.{Row, Decodes, IsIllegal, IsRowAnd, IsOneRowAtMost};
+ghost use Rattle.rrs_lib.specs.Dispatching.{Dispatches};
 
 use crate::InstructionProcessor;
 use crate::instruction_formats::{
@@ -10,16 +12,13 @@ use crate::instruction_formats::{
     UType,
 };
 
-/// Calls the function of a register-register operation, or answers `None` where there is none.
+/// Calls the function of a register-register operation, or returns `None` where there is none.
 fn process_opcode_op<T: InstructionProcessor>(
     processor: &mut T,
     insn_bits: u32,
 ) -> Option<T::InstructionResult>
     requires { insn_bits % 128 ≡ 0x33 }
-    ensures decoded { IfSome result (λ answer. IsRowAnd insn_bits
-        (λ row f. T.did row f processor.old processor.new answer)) }
-    ensures outside { IfNone result (IsIllegal insn_bits) }
-    ensures unchanged { IfNone result (processor.new ≡ processor.old) }
+    ensures { Dispatches T.did insn_bits processor.old processor.new result }
 {
     let dec_insn = RType::new(insn_bits);
     match (dec_insn.funct7, dec_insn.funct3) {
@@ -45,16 +44,13 @@ fn process_opcode_op<T: InstructionProcessor>(
     }
 }
 
-/// Calls the function of a register-immediate operation, or answers `None` where there is none.
+/// Calls the function of a register-immediate operation, or returns `None` where there is none.
 fn process_opcode_op_imm<T: InstructionProcessor>(
     processor: &mut T,
     insn_bits: u32,
 ) -> Option<T::InstructionResult>
     requires { insn_bits % 128 ≡ 0x13 }
-    ensures decoded { IfSome result (λ answer. IsRowAnd insn_bits
-        (λ row f. T.did row f processor.old processor.new answer)) }
-    ensures outside { IfNone result (IsIllegal insn_bits) }
-    ensures unchanged { IfNone result (processor.new ≡ processor.old) }
+    ensures { Dispatches T.did insn_bits processor.old processor.new result }
 {
     let dec_insn = IType::new(insn_bits);
     match dec_insn.funct3 {
@@ -77,16 +73,13 @@ fn process_opcode_op_imm<T: InstructionProcessor>(
     }
 }
 
-/// Calls the function of a branch, or answers `None` where there is none.
+/// Calls the function of a branch, or returns `None` where there is none.
 fn process_opcode_branch<T: InstructionProcessor>(
     processor: &mut T,
     insn_bits: u32,
 ) -> Option<T::InstructionResult>
     requires { insn_bits % 128 ≡ 0x63 }
-    ensures decoded { IfSome result (λ answer. IsRowAnd insn_bits
-        (λ row f. T.did row f processor.old processor.new answer)) }
-    ensures outside { IfNone result (IsIllegal insn_bits) }
-    ensures unchanged { IfNone result (processor.new ≡ processor.old) }
+    ensures { Dispatches T.did insn_bits processor.old processor.new result }
 {
     let dec_insn = BType::new(insn_bits);
     match dec_insn.funct3 {
@@ -100,16 +93,13 @@ fn process_opcode_branch<T: InstructionProcessor>(
     }
 }
 
-/// Calls the function of a load, or answers `None` where there is none.
+/// Calls the function of a load, or returns `None` where there is none.
 fn process_opcode_load<T: InstructionProcessor>(
     processor: &mut T,
     insn_bits: u32,
 ) -> Option<T::InstructionResult>
     requires { insn_bits % 128 ≡ 0x03 }
-    ensures decoded { IfSome result (λ answer. IsRowAnd insn_bits
-        (λ row f. T.did row f processor.old processor.new answer)) }
-    ensures outside { IfNone result (IsIllegal insn_bits) }
-    ensures unchanged { IfNone result (processor.new ≡ processor.old) }
+    ensures { Dispatches T.did insn_bits processor.old processor.new result }
 {
     let dec_insn = IType::new(insn_bits);
     match dec_insn.funct3 {
@@ -122,16 +112,13 @@ fn process_opcode_load<T: InstructionProcessor>(
     }
 }
 
-/// Calls the function of a store, or answers `None` where there is none.
+/// Calls the function of a store, or returns `None` where there is none.
 fn process_opcode_store<T: InstructionProcessor>(
     processor: &mut T,
     insn_bits: u32,
 ) -> Option<T::InstructionResult>
     requires { insn_bits % 128 ≡ 0x23 }
-    ensures decoded { IfSome result (λ answer. IsRowAnd insn_bits
-        (λ row f. T.did row f processor.old processor.new answer)) }
-    ensures outside { IfNone result (IsIllegal insn_bits) }
-    ensures unchanged { IfNone result (processor.new ≡ processor.old) }
+    ensures { Dispatches T.did insn_bits processor.old processor.new result }
 {
     let dec_insn = SType::new(insn_bits);
     match dec_insn.funct3 {
@@ -142,16 +129,13 @@ fn process_opcode_store<T: InstructionProcessor>(
     }
 }
 
-/// Calls the function of `fence`, or answers `None` for another funct3.
+/// Calls the function of `fence`, or returns `None` for another funct3.
 fn process_opcode_misc_mem<T: InstructionProcessor>(
     processor: &mut T,
     insn_bits: u32,
 ) -> Option<T::InstructionResult>
     requires { insn_bits % 128 ≡ 0x0f }
-    ensures decoded { IfSome result (λ answer. IsRowAnd insn_bits
-        (λ row f. T.did row f processor.old processor.new answer)) }
-    ensures outside { IfNone result (IsIllegal insn_bits) }
-    ensures unchanged { IfNone result (processor.new ≡ processor.old) }
+    ensures { Dispatches T.did insn_bits processor.old processor.new result }
 {
     let dec_insn = IType::new(insn_bits);
     match dec_insn.funct3 {
@@ -164,9 +148,14 @@ fn process_opcode_misc_mem<T: InstructionProcessor>(
 ///
 /// The rows of the table are RV32I and the M extension, without `ecall`, `ebreak` and the other
 /// SYSTEM instructions. A word that is a row's is passed, as the decoded fields, to that row's
-/// function, which is called once, and the answer is `Some` of what it answers. A word is one row's
-/// at most. The answer is `None` exactly for the words outside the table, and the processor is then
+/// function, which is called once, and the result is `Some` of what it returns. A word is one row's
+/// at most. The result is `None` exactly for the words outside the table, and the processor is then
 /// unchanged.
+///
+/// The clauses: at `Some` the word is some row with some fields, and the processor did that
+/// (`decoded`); whichever row and fields the word is known to be, it did these (`these`); at `None`
+/// the word is no row (`outside`) and the processor is what it was (`unchanged`); no word is two rows
+/// or has two tuples of fields (`unique`).
 ///
 /// Two rows are laxer than the specification: `slli` with any funct7, and `jalr` with any funct3.
 pub fn process_instruction<T: InstructionProcessor>(
@@ -176,8 +165,21 @@ pub fn process_instruction<T: InstructionProcessor>(
     ensures decoded { IfSome result (λ answer. IsRowAnd insn_bits
         (λ row f. T.did row f processor.old processor.new answer)) }
     ensures outside { IfNone result (IsIllegal insn_bits) }
+    ensures these { IfSome result (λ answer. (row : Row) (f : Fields) → Decodes insn_bits row f
+        → T.did row f processor.old processor.new answer) }
     ensures unchanged { IfNone result (processor.new ≡ processor.old) }
     ensures unique { IsOneRowAtMost insn_bits }
+{
+    dispatch(processor, insn_bits)
+}
+
+/// Calls the function of a word's row, by the word's opcode.
+#[inline]
+fn dispatch<T: InstructionProcessor>(
+    processor: &mut T,
+    insn_bits: u32,
+) -> Option<T::InstructionResult>
+    ensures { Dispatches T.did insn_bits processor.old processor.new result }
 {
     match insn_bits & 0x7f {
         OPCODE_OP => process_opcode_op(processor, insn_bits),

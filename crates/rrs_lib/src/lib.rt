@@ -249,9 +249,10 @@ impl HartState {
         }
     }
 
-    /// Writes a register; a write to x0 changes nothing.
+    /// Writes a register, 0 to 31; a write to x0 changes nothing. Any other register becomes the one
+    /// written last, also where its value stays equal.
     #[inline]
-    pub(crate) fn write_register(&mut self, reg_index: usize, value: u32)
+    pub fn write_register(&mut self, reg_index: usize, value: u32)
         requires { reg_index < 32 }
         ensures written { (bytes : ℕ → Option ℕ) (writable : ℕ → Bool)
             → state_of self.new bytes writable ≡ put (state_of self.old bytes writable) reg_index (pos value) }
@@ -264,9 +265,9 @@ impl HartState {
         self.last_register_write = Some(reg_index);
     }
 
-    /// Reads a register; x0 is 0.
+    /// The value of a register, 0 to 31; x0 is 0 whatever its entry holds.
     #[inline]
-    pub(crate) fn read_register(&self, reg_index: usize) -> u32
+    pub fn read_register(&self, reg_index: usize) -> u32
         requires { reg_index < 32 }
         ensures { (bytes : ℕ → Option ℕ) (writable : ℕ → Bool)
             → result ≡ reg (state_of self.now bytes writable) reg_index }
