@@ -186,10 +186,10 @@ pub slli_by_33 : execute Row.Slli (of_IShamt 0 33 1 1 3) (machine (registers 1 0
 slli_by_33 = refl
 
 -- x0 reads as 0, whatever the hart's entry 0 is; a write to it changes nothing; a write to x1 is told, also where its value stays
-pub zero_reads : reg (state_of (record { registers = 77 ∷ registers 5 6 7; pc = 0; last_register_write = None }) (λ a. None) (λ a. false)) 0 ≡ 0
+pub zero_reads : reg (state_of (record { registers = 77 ∷ registers 5 6 7; pc = 0; last_register_write = None; whole = refl }) (λ a. None) (λ a. false)) 0 ≡ 0
 zero_reads = refl
 
-pub one_reads : reg (state_of (record { registers = 77 ∷ registers 5 6 7; pc = 0; last_register_write = None }) (λ a. None) (λ a. false)) 1 ≡ 5
+pub one_reads : reg (state_of (record { registers = 77 ∷ registers 5 6 7; pc = 0; last_register_write = None; whole = refl }) (λ a. None) (λ a. false)) 1 ≡ 5
 one_reads = refl
 
 pub addi_to_zero : execute Row.Addi (of_I (pos 5) 0 0 0) (machine (registers 1 2 3) 0 (Some 9) []) ≡ Some (outcome (machine (registers 1 2 3) 0 (Some 9) []) (Ok false))

@@ -37,10 +37,14 @@ abbrev pub all_writable : (ℕ → Bool) → ℕ → ℕ → Bool
 all_writable writable a zero = true
 all_writable writable a (suc n) = all_writable writable a n && writable (a + n)
 
+-- whether b is one of the n addresses from a on
+abbrev pub is_among : ℕ → ℕ → ℕ → Bool
+is_among a n b = nat_le a b && nat_lt b (a + n)
+
 -- the map after the low n bytes of a value were stored at a, lowest first
 abbrev pub store : ByteMap → ℕ → ℕ → ℕ → ByteMap
 store bytes a n value b =
-    if nat_le a b && nat_lt b (a + n) then Some (value / 256 ^ (b - a) % 256) else bytes b
+    if is_among a n b then Some (value / 256 ^ (b - a) % 256) else bytes b
 
 -- ---- the laws
 

@@ -231,6 +231,8 @@ pub struct HartState {
     pub pc: u32,
     /// The register that the latest instruction wrote, or `None` if it wrote none.
     pub last_register_write: Option<usize>,
+    /// There are 32 entries, as the type says: so a proof about any hart knows it.
+    pub ghost whole: { length registers ≡ 32 },
 }
 
 impl HartState {
