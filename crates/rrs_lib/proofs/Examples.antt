@@ -1,11 +1,12 @@
--- One test word of each row, with its fields and its text at address 0x100. The modules whose names begin with Example prove that the definitions
--- of specs/ compute to these and other known answers. No contract cites them: they are for whoever compares the definitions with the RISC-V
--- specification.
-use Rattle.std.specs.Prelude.{ℕ, List, ◌∷◌, replicate, ℤ, pos, neg_ℤ, Option, codes}
+-- One test word of each row, with its fields and its text at address 0x100, so that the definitions
+-- of specs/ can be compared with the listings of the RISC-V specification without any code. The
+-- modules below compute the definitions on them. No contract cites these.
+pub mod Ranges
+pub mod Rows
+
+use Rattle.std.specs.Prelude.{ℕ, List, ℤ, pos, neg_ℤ, codes}
 use Rattle.rrs_lib.specs.Encodings.{Fields, R, I, IShamt, S, B, U, J}
 use Rattle.rrs_lib.specs.Table.{Row}
-use Rattle.rrs_lib.specs.Machine.{State}
-use Rattle.rrs_lib.specs.VecBytes.{bytes_of_words, lies_in_words}
 
 -- fields by their values, in the order of the structs
 abbrev pub of_R : (funct7 rs2 rs1 funct3 rd : ℕ) → Fields
@@ -28,20 +29,6 @@ of_U imm rd = U (record { imm = imm; rd = rd })
 
 abbrev pub of_J : (imm : ℤ) (rd : ℕ) → Fields
 of_J imm rd = J (record { imm = imm; rd = rd })
-
--- registers 1 to 31: three values, and 0 in the others
-abbrev pub registers : (x1 x2 x3 : ℕ) → List ℕ
-registers x1 x2 x3 = x1 ∷ x2 ∷ x3 ∷ replicate 28 0
-
--- a machine over the words of a memory
-abbrev pub machine : List ℕ → (pc : ℕ) → (last : Option ℕ) → (words : List ℕ) → State
-machine registers pc last words = record {
-  registers = registers;
-  pc = pc;
-  last = last;
-  bytes = bytes_of_words words;
-  writable = lies_in_words words;
-}
 
 -- a word, its fields, and its text at address 0x100
 pub record Example : Type 0 where

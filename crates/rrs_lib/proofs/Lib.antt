@@ -1,8 +1,4 @@
 pub mod Bitwise
-pub mod ExampleResults
-pub mod ExampleRows
-pub mod ExampleSteps
-pub mod ExampleTexts
 pub mod Examples
 pub mod Fields
 pub mod Keeping

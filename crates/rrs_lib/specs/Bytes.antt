@@ -1,5 +1,6 @@
--- Memory as a map of bytes (RISC-V unprivileged specification, RV32I, "Load and Store Instructions":
--- a byte-addressed space of 2 ^ 32 bytes, little-endian), and the laws of its reads and writes.
+-- Memory as a map of bytes (RISC-V unprivileged specification, RV32I, "Load and Store
+-- Instructions": a byte-addressed space of 2 ^ 32 bytes, little-endian), and the laws of its reads
+-- and writes.
 use Rattle.std.specs.Prelude.{◌≡◌, ℕ, zero, suc, ◌+◌, ◌-◌, ◌*◌, ◌/◌, ◌%◌, ◌^◌, ◌<◌, ◌≤◌, Bool, true, false, ◌&&◌, nat_le, nat_lt, if◌then◌else◌, List, Option, Some, None, IsTrue, IsSome}
 use Rattle.std.specs.Bool.{OnTrue, OnFalse}
 use Rattle.rrs_lib.specs.declared.MemAccessSize.{MemAccessSize}

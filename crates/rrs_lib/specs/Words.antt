@@ -1,5 +1,6 @@
--- Words and the numbers that they stand for (RISC-V unprivileged specification, "RV32I Base Integer Instruction Set": XLEN is 32, signed values
--- are in two's complement). A word is a number below 2 ^ 32. Formulas are over whole numbers; what they give is taken modulo 2 ^ 32 by `word`.
+-- Words and the numbers that they stand for (RISC-V unprivileged specification, "RV32I Base Integer
+-- Instruction Set": XLEN is 32, signed values are in two's complement). A word is a number below 2
+-- ^ 32. Formulas are over whole numbers; what they give is taken modulo 2 ^ 32 by `word`.
 use Rattle.std.specs.Prelude.{ℕ, zero, suc, ◌+◌, ◌*◌, ◌/◌, ◌%◌, ◌^◌, ℤ, pos, ◌-ℤ◌, max, nat_lt, unsigned_abs, int_div, if◌then◌else◌}
 use Rattle.std.specs.Int.{int_div_euclid, int_rem_euclid}
 
@@ -27,7 +28,8 @@ truncated_quotient x y = int_div x y
 abbrev pub bit : ℕ → ℕ → ℕ
 bit x i = x / 2 ^ i % 2
 
--- the sum, over the places i below a count, of 2 ^ i times what the bits i of x and y are combined to
+-- the sum, over the places i below a count, of 2 ^ i times what the bits i of x and y are combined
+-- to
 unfoldable pub bit_by_bit : (ℕ → ℕ → ℕ) → ℕ → ℕ → ℕ → ℕ
 bit_by_bit combined zero x y = 0
 bit_by_bit combined (suc i) x y = bit_by_bit combined i x y + 2 ^ i * combined (bit x i) (bit y i)
