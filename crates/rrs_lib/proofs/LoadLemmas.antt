@@ -1,35 +1,10 @@
 -- How a load goes on by one byte.
 use Rattle.std.proofs.Common.{◌≡◌, ◌≢◌, ◌⊎◌, ℕ, ◌+◌, ◌^◌, ◌<◌, ◌≤◌, Bool, true, List, [], ◌∷◌, ◌++◌, length, slice_index, Option, Some, None, is_some, refl, sym, ap, ◌∙◌, arith, inl, inr, below_more}
-use Rattle.std.specs.Io.KnownBytes.{Consumes}
 use Rattle.std.proofs.lemmas.List.{append_assoc, get_or_append_left}
 use Rattle.std.proofs.lemmas.Bool.Decides.{nat_tests}
 use Rattle.std.proofs.lemmas.Grind.{common_steps}
 use Rattle.rrs_lib.specs.Bytes.{ByteMap, store, IsLawful}
 use Rattle.rrs_lib.specs.Loading.{Loaded}
-
--- bytes that were read one after another
-pub Consumes-trans : (a b c : Option (List ℕ)) (xs ys : List ℕ) → Consumes a b xs → Consumes b c ys → Consumes a c (xs ++ ys)
-Consumes-trans None b c xs ys p q = tt
-Consumes-trans (Some x) None c xs ys p q = absurd p
-Consumes-trans (Some x) (Some y) None xs ys p q = absurd q
-Consumes-trans (Some x) (Some y) (Some z) xs ys p q = p ∙ ap (λ t. xs ++ t) q ∙ sym (append_assoc xs ys z)
-
--- no byte was read
-pub Consumes-none : (a b c : Option (List ℕ)) (xs : List ℕ) → Consumes a b xs → Consumes b c [] → Consumes a c xs
-Consumes-none None b c xs p q = tt
-Consumes-none (Some x) None c xs p q = absurd p
-Consumes-none (Some x) (Some y) None xs p q = absurd q
-Consumes-none (Some x) (Some y) (Some z) xs p q = p ∙ ap (λ t. xs ++ t) q
-
--- nothing is loaded yet
-pub Loaded-none : (bytes : ByteMap) (writable : ℕ → Bool) (start : ℕ) → start ≤ 2 ^ 32 → Loaded bytes bytes writable start []
-Loaded-none bytes writable start within = record {
-  writable_there = λ i h. absurd (omega (arith, h));
-  loaded = λ i h. absurd (omega (arith, h));
-  others = λ a h. refl;
-  mapped = λ a. refl;
-  in_range = omega arith;
-}
 
 -- a byte store, at its place and elsewhere
 store-here : (bytes : ByteMap) (a v : ℕ) → v < 256 → store bytes a 1 v a ≡ Some v

@@ -159,10 +159,6 @@ lies_not words a past = and_left _ _ (le-ltb a (4 * length words) (omega arith))
 pub byte_at : (words : List ℕ) (a : ℕ) → a < 2 ^ 32 → a / 4 < length words → bytes_of_words words a ≡ Some (slice_index words (a / 4) / 256 ^ (a % 4) % 256)
 byte_at words a low there = cond-true (lies_in_words words a) (Some (slice_index words (a / 4) / 256 ^ (a % 4) % 256)) None (lies words a low there)
 
--- there is none past them
-pub byte_past : (words : List ℕ) (a : ℕ) → length words ≤ a / 4 → bytes_of_words words a ≡ None
-byte_past words a past = cond-false (lies_in_words words a) (Some (slice_index words (a / 4) / 256 ^ (a % 4) % 256)) None (lies_not words a past)
-
 -- the byte j further in the same word
 pub byte_on : (words : List ℕ) (a j : ℕ) → a < 2 ^ 32 → a / 4 < length words → a % 4 + j < 4 → bytes_of_words words (a + j) ≡ Some (slice_index words (a / 4) / 256 ^ (a % 4 + j) % 256)
 byte_on words a j low there within =
@@ -271,20 +267,6 @@ byte_after words a n v b low there within =
 pub write_stores : (words : List ℕ) (a n v : ℕ) → a < 2 ^ 32 → a / 4 < length words → a % 4 + n ≤ 4
     → bytes_of_words (slice_set words (a / 4) (with_bytes (slice_index words (a / 4)) v n (a % 4))) ≡ store (bytes_of_words words) a n v
 write_stores words a n v low there within = fun_ext (λ b. byte_after words a n v b low there within)
-
--- what an address has is a byte
-pub byte_fits : (words : List ℕ) (a byte : ℕ) → bytes_of_words words a ≡ Some byte → byte < 256
-byte_fits words a byte is =
-    let P : Option ℕ → Type 0 = λ o. o ≡ Some byte → byte < 256 in
-    cond_both (lies_in_words words a) (Some (slice_index words (a / 4) / 256 ^ (a % 4) % 256)) None P
-    (λ yes some. let e : slice_index words (a / 4) / 256 ^ (a % 4) % 256 ≡ byte = cc in omega arith) (λ past some. cc) is
-
--- words are a lawful memory, at any addresses
-pub lawful_words : (words : List ℕ) (a n : ℕ) → IsLawful (bytes_of_words words) (lies_in_words words) a n
-lawful_words words a n = record {
-  values = λ i byte within is. byte_fits words (a + i) byte is;
-  mapped = λ i within yes. ap is_some (cond-true (lies_in_words words (a + i)) (Some (slice_index words ((a + i) / 4) / 256 ^ ((a + i) % 4) % 256)) None yes);
-}
 
 -- an access at a multiple of its size stays in one word
 pub aligned_in_word : (a : ℕ) (size : MemAccessSize) → a % width size ≡ 0 → a % 4 + width size ≤ 4

@@ -1,5 +1,6 @@
 use Rattle.std.proofs.Common.{◌++◌, [], ◌∷◌, ◌∙◌, arith}
-use Rattle.rrs_lib.proofs.LoadLemmas.{Loaded-next, Consumes-trans, length-more}
+use Rattle.std.proofs.KnownBytes.{Consumes-trans}
+use Rattle.rrs_lib.proofs.LoadLemmas.{Loaded-next, length-more}
 use Rattle.rrs_lib.proofs.memories.load.read_to_memory.Goals as goal
 
 pub loop-addr-preserved : goal.loop-addr-preserved
