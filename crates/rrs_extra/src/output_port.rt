@@ -60,14 +60,85 @@ impl Memory for OutputPort {
     }
 }
 
-// The program writes 65 to the port at 0x1000, reads it back, and tries to write a whole word.
+/// A part of the address space: words, or the port.
+#[derive(Drop)]
+pub enum Part {
+    /// Words, all of them writable.
+    Words(VecMemory),
+    /// The port.
+    Port(OutputPort),
+}
+
+impl Memory for Part {
+    ghost use Rattle.std.specs.Prelude.{vec_len, ◌∷◌};
+    ghost use Rattle.rrs_lib.specs.VecBytes.{vec_bytes, vec_writable, vec_layout};
+    ghost use Rattle.rrs_extra.specs.declared.output_port.Part.TheVariants.{Words, Port};
+
+    ghost bytes = { elim [
+      | Words words ↦ vec_bytes words
+      | Port port ↦ (λ a. if a == 0 then Some port.last else None)
+    ] };
+
+    ghost writable = { elim [ Words words ↦ vec_writable words | Port port ↦ (λ a. a == 0) ] };
+
+    ghost layout = { elim [ Words words ↦ vec_layout words | Port port ↦ [] ] };
+
+    fn read_mem(&mut self, addr: u32, size: MemAccessSize) -> Option<u32> {
+        match self {
+            Part::Words(words) => words.read_mem(addr, size),
+            Part::Port(port) => port.read_mem(addr, size),
+        }
+    }
+
+    fn write_mem(&mut self, addr: u32, size: MemAccessSize, store_data: u32) -> bool {
+        match self {
+            Part::Words(words) => words.write_mem(addr, size, store_data),
+            Part::Port(port) => port.write_mem(addr, size, store_data),
+        }
+    }
+}
+
+/// Writes 65 to the port at 0x1000, reads it back, writes 66, and tries to write a whole word.
+const PROGRAM: [u32; 8] = [
+    0x04100093, 0x00001137, 0x00110023, 0x00014183, 0x00108093, 0x00110023, 0x00112023, 0,
+];
+
+/// How the program ends: after six steps, at the store of a word.
+fn end_of_program() -> RunEnd {
+    RunEnd {
+        steps: 6,
+        exception: Some(InstructionException::StoreAccessFault(0x1000)),
+    }
+}
+
+// Over an enum of memories the device is reached by the space's own call.
 #[test]
 fn a_program_writes_to_the_port(rt: HostRuntime) -> Result<(), Fail> {
     let alloc = rt.alloc();
-    let program = [
-        0x04100093, 0x00001137, 0x00110023, 0x00014183, 0x00112023, 0, 0, 0,
-    ];
-    let words = VecMemory::new(program.to_vec(alloc)?);
+    let words = VecMemory::new(PROGRAM.to_vec(alloc)?);
+    let mut space = MemorySpace::new(alloc);
+    assert_eq!(rt; space.add_memory(0, 0x20, Part::Words(words)), Ok(0));
+    let port = OutputPort { last: 0, writes: 0 };
+    assert_eq!(rt; space.add_memory(0x1000, 4, Part::Port(port)), Ok(1));
+    let mut hart = HartState::new();
+    let mut executor = InstructionExecutor {
+        mem: &mut space,
+        hart_state: &mut hart,
+    };
+    assert_eq!(rt; executor.run(10), end_of_program());
+    assert_eq!(rt; hart.registers[3], 65);
+    let Some(Part::Port(port)) = space.get_memory_ref(1) else {
+        return Err(Fail::from("region 1 is not the port"));
+    };
+    assert_eq!(rt; (port.last, port.writes), (66, 2));
+    Ok(())
+}
+
+// Behind boxes it runs alike, but the device can't be reached any more.
+#[test]
+fn a_program_writes_to_a_boxed_port(rt: HostRuntime) -> Result<(), Fail> {
+    let alloc = rt.alloc();
+    let words = VecMemory::new(PROGRAM.to_vec(alloc)?);
     let port = OutputPort { last: 0, writes: 0 };
     let mut space = MemorySpace::new(alloc);
     let program_box = BoxedMemory {
@@ -83,12 +154,7 @@ fn a_program_writes_to_the_port(rt: HostRuntime) -> Result<(), Fail> {
         mem: &mut space,
         hart_state: &mut hart,
     };
-    let end = RunEnd {
-        steps: 4,
-        exception: Some(InstructionException::StoreAccessFault(0x1000)),
-    };
-    assert_eq!(rt; executor.run(10), end);
-    assert_eq!(rt; hart.registers[3], 65);
-    assert_eq!(rt; space.read_mem(0x1000, MemAccessSize::Byte), Some(65));
+    assert_eq!(rt; executor.run(10), end_of_program());
+    assert_eq!(rt; space.read_mem(0x1000, MemAccessSize::Byte), Some(66));
     Ok(())
 }

@@ -3,7 +3,6 @@
 -- modules below compute the definitions on them. No contract cites these.
 pub mod Ranges
 pub mod Rows
-
 use Rattle.std.specs.Prelude.{ℕ, List, ℤ, pos, neg_ℤ, codes}
 use Rattle.rrs_lib.specs.Encodings.{Fields, R, I, IShamt, S, B, U, J}
 use Rattle.rrs_lib.specs.Table.{Row}

@@ -1,5 +1,5 @@
 -- A memory of words as a map of bytes: what a read of one word gives, and what a write of one word leaves.
-use Rattle.std.proofs.Common.{◌≡◌, ◌≢◌, ℕ, zero, suc, ◌+◌, ◌-◌, ◌*◌, ◌/◌, ◌%◌, ◌^◌, ◌<◌, ◌≤◌, List, length, slice_index, slice_set, Option, Some, None, is_some, Bool, true, false, ◌&&◌, nat_lt, nat_le, if◌then◌else◌, inl, inr, refl, sym, ap, ◌∙◌, arith}
+use Rattle.std.proofs.Common.{◌≡◌, ◌≢◌, ℕ, zero, suc, ◌+◌, ◌-◌, ◌*◌, ◌/◌, ◌%◌, ◌^◌, ◌<◌, ◌≤◌, List, length, slice_index, slice_set, Some, None, Bool, true, false, ◌&&◌, nat_lt, nat_le, if◌then◌else◌, inl, inr, refl, sym, ap, ◌∙◌, arith}
 use Rattle.std.specs.Int.Bits.{bit_and, bit_or, or_zero_r}
 use Rattle.std.proofs.Math.Nat.{pow-suc, pow-succ', div-div-eq-div-mul, add-mul, mul_assoc, add-mul-div_right, add-mul-mod_self_right, mod-one, add-zero}
 use Rattle.std.proofs.Math.Arith.{mod-mul}
@@ -7,11 +7,11 @@ use Rattle.std.proofs.lemmas.Nat.{pow-add, and_mask, and-not, or_shifted, or_blo
 use Rattle.std.proofs.lemmas.Nat.Bits.{and_high}
 use Rattle.std.proofs.Math.Pow.{pow_mono}
 use Rattle.std.proofs.Math.Path.{fun_ext}
-use Rattle.std.proofs.lemmas.Bool.{lt-ltb, le-ltb, le-leb, lt-leb, and_from, and_left, and_right, cond-true, cond-false, cond_both, cases_lt, cases_eq}
+use Rattle.std.proofs.lemmas.Bool.{lt-ltb, le-ltb, le-leb, lt-leb, and_from, and_left, and_right, cond-true, cond-false, cases_lt, cases_eq}
 use Rattle.std.proofs.lemmas.List.{length-set, get_or-set_same, get_or-set_other}
 use Rattle.rrs_lib.specs.declared.MemAccessSize.{MemAccessSize}
 use Rattle.rrs_lib.specs.declared.MemAccessSize.TheVariants.{Byte, HalfWord, Word}
-use Rattle.rrs_lib.specs.Bytes.{ByteMap, width, little_endian, all_writable, store, sum_if_both, at_place, IsLawful}
+use Rattle.rrs_lib.specs.Bytes.{ByteMap, width, little_endian, all_writable, store, sum_if_both, at_place}
 use Rattle.rrs_lib.specs.VecBytes.{bytes_of_words, lies_in_words}
 
 -- a power of 256 as a power of 2

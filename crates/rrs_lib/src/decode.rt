@@ -158,6 +158,15 @@ fn process_opcode_misc_mem<T: InstructionProcessor>(
 /// or has two tuples of fields (`unique`).
 ///
 /// Two rows are laxer than the specification: `slli` with any funct7, and `jalr` with any funct3.
+///
+/// # Examples
+///
+/// ```
+/// let mut outputter = InstructionStringOutputter { insn_pc: 0x100, alloc };
+/// let text = process_instruction(&mut outputter, 0x0020_8463).ok_or("no row")??;
+/// assert_eq!(rt; text.as_str(), "beq x1, x2, 0x00000108");
+/// assert!(rt; process_instruction(&mut outputter, 0xffff_ffff).is_none());
+/// ```
 pub fn process_instruction<T: InstructionProcessor>(
     processor: &mut T,
     insn_bits: u32,

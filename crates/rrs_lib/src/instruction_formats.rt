@@ -49,6 +49,15 @@ pub const OPCODE_JAL: u32 = 0x6f;
 /// table has it: the crate decodes none of them.
 pub const OPCODE_SYSTEM: u32 = 0x73;
 
+// The opcodes of the listings.
+const _: () = prove!(OPCODE_LOAD == 0x03 && OPCODE_MISC_MEM == 0x0f && OPCODE_OP_IMM == 0x13);
+
+const _: () = prove!(OPCODE_AUIPC == 0x17 && OPCODE_STORE == 0x23 && OPCODE_OP == 0x33);
+
+const _: () = prove!(OPCODE_LUI == 0x37 && OPCODE_BRANCH == 0x63 && OPCODE_JALR == 0x67);
+
+const _: () = prove!(OPCODE_JAL == 0x6f && OPCODE_SYSTEM == 0x73);
+
 /// `count` bits of a word, from bit `low` on.
 #[inline]
 #[tactic(auto, using(crate::proofs::Masks::and_low_ones))]

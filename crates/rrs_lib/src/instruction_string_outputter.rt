@@ -29,14 +29,14 @@ use crate::instruction_formats::{BType, IType, ITypeShamt, JType, RType, SType, 
 use crate::{InstructionProcessor, arithmetic};
 use std::alloc::{AllocError, Global};
 
-/// A processor that answers each instruction with its text.
+/// A processor whose functions return the text of each instruction.
 ///
-/// Each answer that is `Ok` has the whole text, whatever the fields: an immediate or a shift
-/// amount that no word encodes is printed as it stands. Want of memory is the only error. No
-/// function changes `insn_pc`, whatever it answers, so that the same instruction may be asked for
+/// Each `Ok` has the whole text, whatever the fields: an immediate or a shift amount that no word
+/// encodes is printed as it stands. Out of memory (`AllocError`) is the only error. No function
+/// changes `insn_pc`, whatever it returns, so that the same instruction may be asked for
 /// again; it is for the caller to set it to the address of each instruction.
 ///
-/// `process_instruction` answers `None` for a word that is no row of the table, which has no text.
+/// `process_instruction` returns `None` for a word that is no row of the table, which has no text.
 #[derive(Drop)]
 pub struct InstructionStringOutputter {
     /// The address of the instruction. The targets of branches and of `jal`, and the result of

@@ -31,10 +31,11 @@ pub use decode::process_instruction;
 /// fields, whose register numbers are below 32; immediates, shift amounts, funct3 and funct7 may be
 /// anything. An implementation says what it does by its relation `did`, and each function meets it.
 pub trait InstructionProcessor {
-    /// What each function answers.
+    /// What each function returns.
     type InstructionResult;
 
-    /// The processor before, the row and its fields, the processor after, and the answer.
+    /// What a call of a row's function does: the row, its fields, the processor before, the
+    /// processor after, and what the call returned.
     ghost did: { Row → Fields → Self → Self → Self.InstructionResult → Type 0 };
 
     fn process_add(&mut self, dec_insn: RType) -> Self::InstructionResult
@@ -231,8 +232,6 @@ pub struct HartState {
     pub pc: u32,
     /// The register that the latest instruction wrote, or `None` if it wrote none.
     pub last_register_write: Option<usize>,
-    /// There are 32 entries, as the type says: so a proof about any hart knows it.
-    pub ghost whole: { length registers ≡ 32 },
 }
 
 impl HartState {
@@ -280,6 +279,16 @@ impl HartState {
             self.registers[reg_index]
         }
     }
+
+    /// The number of registers, 32. A proof that must know the length of the array calls this.
+    #[inline]
+    pub fn register_count(&self) -> usize
+        ensures count { result ≡ 32 }
+        ensures whole { length self.now.registers ≡ 32 }
+    {
+        let registers = self.registers;
+        registers.len()
+    }
 }
 
 impl Default for HartState {
@@ -306,9 +315,10 @@ pub enum MemAccessSize {
 /// A memory of bytes, little-endian.
 ///
 /// An implementation says which addresses are mapped, with which byte, which of them are writable,
-/// and its layout, a list of numbers of its own choice; its calls are proved to keep the laws below. A
-/// device may keep other state beside these bytes. For a space of regions the layout lists the regions, so that a caller
-/// knows after any number of accesses which they are.
+/// and its layout, a list of numbers of its own choice that no access changes: for a space of
+/// regions it lists these, so that a caller knows after any number of accesses which they are. Both
+/// calls are proved to keep the laws that their clauses state. A device may keep other state beside
+/// these bytes.
 pub trait Memory {
     /// The byte at each address, or `None` where none is mapped.
     ghost bytes: { Self → ℕ → Option ℕ };

@@ -81,7 +81,7 @@ fn read_words(words: &[u32], addr: u32, size: MemAccessSize) -> Option<u32>
     Some(part_of(words[index], addr & 3, size))
 }
 
-/// Writes the lowest `size` bytes of `value` to `addr`, a multiple of the size, and answers whether
+/// Writes the lowest `size` bytes of `value` to `addr`, a multiple of the size, and returns whether
 /// it lies in the words.
 #[inline]
 fn write_words(words: &mut [u32], addr: u32, size: MemAccessSize, value: u32) -> bool

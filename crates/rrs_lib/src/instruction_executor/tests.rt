@@ -44,6 +44,45 @@ fn runs_the_documented_program(rt: HostRuntime) -> Result<(), Fail> {
     Ok(())
 }
 
+// The example of `step`.
+#[test]
+fn steps_as_in_the_example(rt: HostRuntime) -> Result<(), Fail> {
+    let alloc = rt.alloc();
+    let mut memory = VecMemory::new(vec![in alloc; 0x1234_b137]?);
+    let mut hart = HartState::new();
+    let mut executor = InstructionExecutor {
+        mem: &mut memory,
+        hart_state: &mut hart,
+    };
+    assert_eq!(rt; executor.step(), Ok(()));
+    assert_eq!(rt; executor.hart_state.read_register(2), 0x1234_b000);
+    assert_eq!(rt; executor.step(), Err(InstructionException::FetchError(4)));
+    Ok(())
+}
+
+// The word at the pc is told before it is executed, and x0 is written and read as 0.
+#[test]
+fn looks_at_the_next_word(rt: HostRuntime) -> Result<(), Fail> {
+    let mut memory = memory_of(rt.alloc(), &[0x00500093])?;
+    let mut hart = HartState::new();
+    hart.write_register(0, 7);
+    hart.write_register(31, 8);
+    assert_eq!(rt; hart.read_register(0), 0);
+    assert_eq!(rt; hart.read_register(31), 8);
+    assert_eq!(rt; hart.last_register_write, Some(31));
+    for (pc, word) in [(0, Some(0x00500093)), (2, None), (4, None)] {
+        hart.pc = pc;
+        let mut executor = InstructionExecutor {
+            mem: &mut memory,
+            hart_state: &mut hart,
+        };
+        assert_eq!(rt; executor.word_at_pc(), word, "at {pc}");
+        assert_eq!(rt; hart.pc, pc);
+        assert_eq!(rt; hart.last_register_write, Some(31));
+    }
+    Ok(())
+}
+
 // Each word with x1 and x2 before it, and x3 after it.
 #[test]
 fn computes(rt: HostRuntime) -> Result<(), Fail> {

@@ -67,6 +67,20 @@ fn each_row_has_its_text(rt: HostRuntime) -> Result<(), Fail> {
     Ok(())
 }
 
+/// The example of `process_instruction`.
+#[test]
+fn decodes_as_in_the_example(rt: HostRuntime) -> Result<(), Fail> {
+    let alloc = rt.alloc();
+    let mut outputter = InstructionStringOutputter {
+        insn_pc: 0x100,
+        alloc,
+    };
+    let text = process_instruction(&mut outputter, 0x0020_8463).ok_or("no row")??;
+    assert_eq!(rt; text.as_str(), "beq x1, x2, 0x00000108");
+    assert!(rt; process_instruction(&mut outputter, 0xffff_ffff).is_none());
+    Ok(())
+}
+
 /// Addresses below 0, negative immediates, and a funct7 and a funct3 that the row leaves open.
 #[test]
 fn texts_at_address_zero(rt: HostRuntime) -> Result<(), Fail> {

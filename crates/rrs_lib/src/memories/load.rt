@@ -49,6 +49,26 @@ fn next_byte<R: Read>(reader: &mut R) -> io::Result<Option<u8>>
 }
 
 /// Reads a reader to its end, byte by byte, and writes each byte into a memory, from `start_addr` on.
+///
+/// Over a reader that tells its bytes the clause `loads` says which bytes stand in the memory after
+/// each result, how many were read, and for `Ok`, `Refused` and `EndOfAddresses` exactly why it
+/// ended. That `Reader` comes only where a read failed is shown by tests: any read may fail.
+///
+/// # Errors
+///
+/// `Reader(error)` where a read failed or was interrupted: no further byte is read, and the bytes
+/// before it are written. `Refused(address)` where the memory refused the byte for this address:
+/// that byte is read, and the bytes before it are written. `EndOfAddresses` where the reader has a
+/// byte more after address 0xffffffff was written: that byte is read.
+///
+/// # Examples
+///
+/// ```
+/// let mut memory = VecMemory::new(vec![in alloc; 0; 2]?);
+/// let mut reader: &[u8] = &[0xaa, 0xbb];
+/// assert!(rt; read_to_memory(&mut reader, &mut memory, 3).is_ok());
+/// assert_eq!(rt; memory.mem.as_slice(), [0xaa00_0000, 0x0000_00bb].as_slice());
+/// ```
 pub fn read_to_memory<R: Read, M: Memory>(
     reader: &mut R,
     memory: &mut M,

@@ -60,3 +60,17 @@ fn reads_through_the_bound(rt: HostRuntime) -> Result<(), Fail> {
     assert_eq!(rt; read_through(&mut memory), Some(0x11));
     Ok(())
 }
+
+// The example of `read_to_memory`.
+#[test]
+fn loads_as_in_the_example(rt: HostRuntime) -> Result<(), Fail> {
+    let alloc = rt.alloc();
+    let mut memory = VecMemory::new(vec![in alloc; 0; 2]?);
+    let mut reader: &[u8] = &[0xaa, 0xbb];
+    assert!(rt; read_to_memory(&mut reader, &mut memory, 3).is_ok());
+    assert_eq!(rt;
+        memory.mem.as_slice(),
+        [0xaa00_0000, 0x0000_00bb].as_slice()
+    );
+    Ok(())
+}
