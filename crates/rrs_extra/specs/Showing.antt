@@ -1,0 +1,28 @@
+-- What the text of an instruction shows of it, beside its row's name: register numbers and the immediate or the shift amount, as the fields have
+-- them, also where the text has the sum of the immediate with the address. funct3 and funct7 are not shown, and `fence` shows none of its fields.
+use Rattle.std.specs.Prelude.{◌≡◌, ℕ, List, [], ◌∷◌, ℤ, pos}
+use Rattle.rrs_lib.specs.Encodings.{Fields, R, I, IShamt, S, B, U, J}
+use Rattle.rrs_lib.specs.Table.{Row, Decodes}
+
+-- the fields that a format's texts show, in the order of the text where it has them all
+abbrev pub shown : Fields → List ℤ
+shown (R f) = pos f.rd ∷ pos f.rs1 ∷ pos f.rs2 ∷ []
+shown (I f) = pos f.rd ∷ pos f.rs1 ∷ f.imm ∷ []
+shown (IShamt f) = pos f.rd ∷ pos f.rs1 ∷ pos f.shamt ∷ []
+shown (S f) = pos f.rs2 ∷ pos f.rs1 ∷ f.imm ∷ []
+shown (B f) = pos f.rs1 ∷ pos f.rs2 ∷ f.imm ∷ []
+shown (U f) = pos f.rd ∷ f.imm ∷ []
+shown (J f) = pos f.rd ∷ f.imm ∷ []
+
+abbrev pub shown_by : Row → Fields → List ℤ
+shown_by Row.Fence f = []
+shown_by _ f = shown f
+
+-- two words are the same row, and what it shows of their fields is equal
+pub record ShowAlike (first second : ℕ) : Type 0 where
+  pub row : Row
+  pub first_fields : Fields
+  pub second_fields : Fields
+  pub is_first : Decodes first row first_fields
+  pub is_second : Decodes second row second_fields
+  pub same : shown_by row first_fields ≡ shown_by row second_fields
