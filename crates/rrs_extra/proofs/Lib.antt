@@ -1,2 +1,3 @@
 pub mod PortLemmas
 pub mod Reading
+pub mod Operands
