@@ -1,3 +1,5 @@
 pub mod PortLemmas
 pub mod Reading
 pub mod Operands
+pub mod Names
+pub mod Faithful
