@@ -1,6 +1,8 @@
 -- Texts at one address are equal exactly when their rows and what they show are.
-use Rattle.std.proofs.Common.{◌≡◌, ℕ, List, Some, refl, sym, subst, ap, ◌∙◌}
-use Rattle.std.specs.Prelude.{◌↔◌}
+use Rattle.std.proofs.Common.{◌≡◌, ℕ, List, Option, Some, None, Result, Ok, Err, refl, sym, subst, ap, ◌∙◌}
+use Rattle.std.specs.Prelude.{◌↔◌, IfSome, IfOk, String, string_bytes}
+use Rattle.std.specs.declared.alloc.AllocError.{AllocError}
+use Rattle.std.specs.declared.alloc.Global.{Global}
 use Rattle.std.specs.Option.{option_map}
 use Rattle.std.proofs.lemmas.Option.{same_Some}
 use Rattle.rrs_lib.specs.declared.instruction_formats.RType.{RType}
@@ -173,3 +175,18 @@ faithful pc first second a b x y = (
       let text_a : text_of alike.row alike.first_fields pc ≡ Some a = text_of-word pc first a alike.row alike.first_fields x alike.is_first in
       let text_b : text_of alike.row alike.second_fields pc ≡ Some b = text_of-word pc second b alike.row alike.second_fields y alike.is_second in
       same_Some a b (sym text_a ∙ texts ∙ text_b))
+
+-- what is asked for a word at an address, and may be out of memory
+abbrev Asked : Type 0
+Asked = Option (Result (String Global) AllocError)
+
+-- Of two answers, where both are texts, they are equal exactly when their words show alike.
+pub both_faithful : (pc first second : ℕ) (a b : Asked)
+    → IfSome a (λ answer. IsRowAnd first (λ row f. IfOk answer (λ text. text_of row f pc ≡ Some (string_bytes text))))
+    → IfSome b (λ answer. IsRowAnd second (λ row f. IfOk answer (λ text. text_of row f pc ≡ Some (string_bytes text))))
+    → IfSome a (λ a. IfSome b (λ b. IfOk a (λ text. IfOk b (λ other. (string_bytes text ≡ string_bytes other) ↔ ShowAlike first second))))
+both_faithful pc first second None b x y = tt
+both_faithful pc first second (Some a) None x y = tt
+both_faithful pc first second (Some (Err e)) (Some b) x y = tt
+both_faithful pc first second (Some (Ok s)) (Some (Err e)) x y = tt
+both_faithful pc first second (Some (Ok s)) (Some (Ok t)) x y = faithful pc first second (string_bytes s) (string_bytes t) x y
