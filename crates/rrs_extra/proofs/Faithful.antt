@@ -168,13 +168,14 @@ text_of-word pc w text row f x is =
 pub faithful : (pc first second : ℕ) (a b : List ℕ) → IsRowAnd first (λ row f. text_of row f pc ≡ Some a) → IsRowAnd second (λ row f. text_of row f pc ≡ Some b)
     → (a ≡ b) ↔ ShowAlike first second
 faithful pc first second a b x y = (
-    λ same. from_text pc first second b x.row y.row x.fields y.fields x.is y.is (x.holds ∙ ap Some same) y.holds,
-    λ alike.
+  λ same. from_text pc first second b x.row y.row x.fields y.fields x.is y.is (x.holds ∙ ap Some same) y.holds,
+  λ alike.
       let texts : text_of alike.row alike.first_fields pc ≡ text_of alike.row alike.second_fields pc =
       (texts_of_row first second alike.row alike.first_fields alike.second_fields pc alike.is_first alike.is_second).1 alike.same in
       let text_a : text_of alike.row alike.first_fields pc ≡ Some a = text_of-word pc first a alike.row alike.first_fields x alike.is_first in
       let text_b : text_of alike.row alike.second_fields pc ≡ Some b = text_of-word pc second b alike.row alike.second_fields y alike.is_second in
-      same_Some a b (sym text_a ∙ texts ∙ text_b))
+      same_Some a b (sym text_a ∙ texts ∙ text_b),
+)
 
 -- what is asked for a word at an address, and may be out of memory
 abbrev Asked : Type 0

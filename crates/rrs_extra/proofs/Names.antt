@@ -31,4 +31,3 @@ row_named-name _ = refl
 -- two rows with one name are one
 pub same_row : (row row' : Row) → name_of row ≡ name_of row' → row ≡ row'
 same_row row row' e = cc (row_named-name row, row_named-name row', ap row_named e)
-

@@ -82,29 +82,41 @@ mag-imm (negsuc n) low high = omega (arith, ints)
 
 pub three-alike : (row : Row) (f g : RType) → IsInRange (R f) → IsInRange (R g)
     → (Some (three_registers row f) ≡ Some (three_registers row g)) ↔ (shown (R f) ≡ shown (R g))
-three-alike row f g p q = (λ e.
-    let same = three_operands (table row).name (register f.rd) (register f.rs1) (register f.rs2) (register g.rd) (register g.rs1) (register g.rs2)
+three-alike row f g p q = (
+  λ e.
+      let same = three_operands (table row).name (register f.rd) (register f.rs1) (register f.rs2) (register g.rd) (register g.rs1) (register g.rs2)
       (register_piece f.rd p.0) (register_piece g.rd q.0) (register_piece f.rs1 p.2) (register_piece g.rs1 q.2) (simp append_assoc at (same_Some _ _ e)) in
-    cc (same_register f.rd g.rd p.0 q.0 same.0, same_register f.rs1 g.rs1 p.2 q.2 same.1, same_register f.rs2 g.rs2 p.3 q.3 same.2),
-    λ s. (cc))
+      cc (same_register f.rd g.rd p.0 q.0 same.0, same_register f.rs1 g.rs1 p.2 q.2 same.1, same_register f.rs2 g.rs2 p.3 q.3 same.2),
+  λ s. (cc),
+)
 
 pub two-alike : (row : Row) (f g : IType) → IsInRange (I f) → IsInRange (I g)
     → (Some (two_registers row f) ≡ Some (two_registers row g)) ↔ (shown (I f) ≡ shown (I g))
-two-alike row f g p q = (λ e.
-    let same = three_operands (table row).name (register f.rd) (register f.rs1) (signed_decimal f.imm) (register g.rd) (register g.rs1) (signed_decimal g.imm)
+two-alike row f g p q = (
+  λ e.
+      let same = three_operands (table row).name (register f.rd) (register f.rs1) (signed_decimal f.imm) (register g.rd) (register g.rs1) (signed_decimal g.imm)
       (register_piece f.rd p.0) (register_piece g.rd q.0) (register_piece f.rs1 p.2) (register_piece g.rs1 q.2) (simp append_assoc at (same_Some _ _ e)) in
-    cc (same_register f.rd g.rd p.0 q.0 same.0, same_register f.rs1 g.rs1 p.2 q.2 same.1,
-      signed_decimal_injective f.imm g.imm (mag-imm f.imm p.3 p.4) (mag-imm g.imm q.3 q.4) same.2),
-    λ s. (cc))
+      cc (
+        same_register f.rd g.rd p.0 q.0 same.0,
+        same_register f.rs1 g.rs1 p.2 q.2 same.1,
+        signed_decimal_injective f.imm g.imm (mag-imm f.imm p.3 p.4) (mag-imm g.imm q.3 q.4) same.2,
+      ),
+  λ s. (cc),
+)
 
 pub shift-alike : (row : Row) (f g : ITypeShamt) → IsInRange (IShamt f) → IsInRange (IShamt g)
     → (Some (shifted_register row f) ≡ Some (shifted_register row g)) ↔ (shown (IShamt f) ≡ shown (IShamt g))
-shift-alike row f g p q = (λ e.
-    let same = three_operands (table row).name (register f.rd) (register f.rs1) (decimal f.shamt) (register g.rd) (register g.rs1) (decimal g.shamt)
+shift-alike row f g p q = (
+  λ e.
+      let same = three_operands (table row).name (register f.rd) (register f.rs1) (decimal f.shamt) (register g.rd) (register g.rs1) (decimal g.shamt)
       (register_piece f.rd p.0) (register_piece g.rd q.0) (register_piece f.rs1 p.2) (register_piece g.rs1 q.2) (simp append_assoc at (same_Some _ _ e)) in
-    cc (same_register f.rd g.rd p.0 q.0 same.0, same_register f.rs1 g.rs1 p.2 q.2 same.1,
-      decimal_injective f.shamt g.shamt (omega (arith, p.3)) (omega (arith, q.3)) same.2),
-    λ s. (cc))
+      cc (
+        same_register f.rd g.rd p.0 q.0 same.0,
+        same_register f.rs1 g.rs1 p.2 q.2 same.1,
+        decimal_injective f.shamt g.shamt (omega (arith, p.3)) (omega (arith, q.3)) same.2,
+      ),
+  λ s. (cc),
+)
 
 -- a word is read back from its hexadecimal digits behind 0x
 same_prefixed : (n : ℕ) (y z : ℤ) → codes "0x" ++ hexadecimal n (word y) ≡ codes "0x" ++ hexadecimal n (word z) → word y ≡ word z
@@ -118,62 +130,77 @@ register_and_word-read : (row : Row) (q r : ℕ) (y z : ℤ) → q < 2 ^ 5 → r
     → register_and_word row q (word y) ≡ register_and_word row r (word z) → (q ≡ r) × (word y ≡ word z)
 register_and_word-read row q r y z p p' e =
     let same = two_operands (table row).name (register q) (codes "0x" ++ hexadecimal 8 (word y)) (register r) (codes "0x" ++ hexadecimal 8 (word z))
-      (register_piece q p) (register_piece r p') (simp append_assoc at e) in
+    (register_piece q p) (register_piece r p') (simp append_assoc at e) in
     (same_register q r p p' same.0, same_prefixed 8 y z same.1)
 
 pub lui-alike : (row : Row) (f g : UType) → IsInRange (U f) → IsInRange (U g)
     → (Some (register_and_word row f.rd (word f.imm)) ≡ Some (register_and_word row g.rd (word g.imm))) ↔ (shown (U f) ≡ shown (U g))
-lui-alike row f g p q = (λ e.
-    let same = register_and_word-read row f.rd g.rd f.imm g.imm p.0 q.0 (same_Some _ _ e) in
-    cc (same.0, same_immediate f.imm g.imm p.1 (omega (arith, ints)) q.1 (omega (arith, ints)) same.1),
-    λ s. (cc))
+lui-alike row f g p q = (
+  λ e.
+      let same = register_and_word-read row f.rd g.rd f.imm g.imm p.0 q.0 (same_Some _ _ e) in
+      cc (same.0, same_immediate f.imm g.imm p.1 (omega (arith, ints)) q.1 (omega (arith, ints)) same.1),
+  λ s. (cc),
+)
 
 pub auipc-alike : (row : Row) (pc : ℕ) (f g : UType) → IsInRange (U f) → IsInRange (U g)
     → (Some (register_and_word row f.rd (word (plus_immediate pc f.imm))) ≡ Some (register_and_word row g.rd (word (plus_immediate pc g.imm)))) ↔ (shown (U f) ≡ shown (U g))
-auipc-alike row pc f g p q = (λ e.
-    let same = register_and_word-read row f.rd g.rd (plus_immediate pc f.imm) (plus_immediate pc g.imm) p.0 q.0 (same_Some _ _ e) in
-    cc (same.0, same_immediate f.imm g.imm p.1 (omega (arith, ints)) q.1 (omega (arith, ints)) (same_offset pc f.imm g.imm same.1)),
-    λ s. (cc))
+auipc-alike row pc f g p q = (
+  λ e.
+      let same = register_and_word-read row f.rd g.rd (plus_immediate pc f.imm) (plus_immediate pc g.imm) p.0 q.0 (same_Some _ _ e) in
+      cc (same.0, same_immediate f.imm g.imm p.1 (omega (arith, ints)) q.1 (omega (arith, ints)) (same_offset pc f.imm g.imm same.1)),
+  λ s. (cc),
+)
 
 pub jal-alike : (row : Row) (pc : ℕ) (f g : JType) → IsInRange (J f) → IsInRange (J g)
     → (Some (register_and_word row f.rd (word (plus_immediate pc f.imm))) ≡ Some (register_and_word row g.rd (word (plus_immediate pc g.imm)))) ↔ (shown (J f) ≡ shown (J g))
-jal-alike row pc f g p q = (λ e.
-    let same = register_and_word-read row f.rd g.rd (plus_immediate pc f.imm) (plus_immediate pc g.imm) p.0 q.0 (same_Some _ _ e) in
-    cc (same.0, same_immediate f.imm g.imm (omega (arith, ints)) (omega (arith, ints)) (omega (arith, ints)) (omega (arith, ints)) (same_offset pc f.imm g.imm same.1)),
-    λ s. (cc))
+jal-alike row pc f g p q = (
+  λ e.
+      let same = register_and_word-read row f.rd g.rd (plus_immediate pc f.imm) (plus_immediate pc g.imm) p.0 q.0 (same_Some _ _ e) in
+      cc (same.0, same_immediate f.imm g.imm (omega (arith, ints)) (omega (arith, ints)) (omega (arith, ints)) (omega (arith, ints)) (same_offset pc f.imm g.imm same.1)),
+  λ s. (cc),
+)
 
 pub branch-alike : (row : Row) (pc : ℕ) (f g : BType) → IsInRange (B f) → IsInRange (B g)
     → (Some (branch_to row f pc) ≡ Some (branch_to row g pc)) ↔ (shown (B f) ≡ shown (B g))
-branch-alike row pc f g p q = (λ e.
-    let y : ℤ = plus_immediate pc f.imm in
-    let z : ℤ = plus_immediate pc g.imm in
-    let same = three_operands (table row).name (register f.rs1) (register f.rs2) (codes "0x" ++ hexadecimal 8 (word y)) (register g.rs1) (register g.rs2) (codes "0x" ++ hexadecimal 8 (word z))
+branch-alike row pc f g p q = (
+  λ e.
+      let y : ℤ = plus_immediate pc f.imm in
+      let z : ℤ = plus_immediate pc g.imm in
+      let same = three_operands (table row).name (register f.rs1) (register f.rs2) (codes "0x" ++ hexadecimal 8 (word y)) (register g.rs1) (register g.rs2) (codes "0x" ++ hexadecimal 8 (word z))
       (register_piece f.rs1 p.1) (register_piece g.rs1 q.1) (register_piece f.rs2 p.2) (register_piece g.rs2 q.2) (simp append_assoc at (same_Some _ _ e)) in
-    let offset = same_offset pc f.imm g.imm (same_prefixed 8 y z same.2) in
-    cc (same_register f.rs1 g.rs1 p.1 q.1 same.0, same_register f.rs2 g.rs2 p.2 q.2 same.1,
-      same_immediate f.imm g.imm (omega (arith, ints)) (omega (arith, ints)) (omega (arith, ints)) (omega (arith, ints)) offset),
-    λ s. (cc))
+      let offset = same_offset pc f.imm g.imm (same_prefixed 8 y z same.2) in
+      cc (
+        same_register f.rs1 g.rs1 p.1 q.1 same.0,
+        same_register f.rs2 g.rs2 p.2 q.2 same.1,
+        same_immediate f.imm g.imm (omega (arith, ints)) (omega (arith, ints)) (omega (arith, ints)) (omega (arith, ints)) offset,
+      ),
+  λ s. (cc),
+)
 
 register_and_place-read : (row : Row) (q q' : ℕ) (y z : ℤ) (r r' : ℕ) → q < 2 ^ 5 → q' < 2 ^ 5 → mag y < 2 ^ 63 → mag z < 2 ^ 63 → r < 2 ^ 5 → r' < 2 ^ 5
     → register_and_place row q y r ≡ register_and_place row q' z r' → (q ≡ q') × (y ≡ z) × (r ≡ r')
 register_and_place-read row q q' y z r r' a a' b b' c c' e =
     let same = place_operands (table row).name (register q) (signed_decimal y) (register r) (register q') (signed_decimal z) (register r')
-      (register_piece q a) (register_piece q' a') (signed_piece y b) (signed_piece z b') (simp append_assoc at e) in
+    (register_piece q a) (register_piece q' a') (signed_piece y b) (signed_piece z b') (simp append_assoc at e) in
     (same_register q q' a a' same.0, signed_decimal_injective y z b b' same.1, same_register r r' c c' same.2)
 
 pub load-alike : (row : Row) (f g : IType) → IsInRange (I f) → IsInRange (I g)
     → (Some (register_and_place row f.rd f.imm f.rs1) ≡ Some (register_and_place row g.rd g.imm g.rs1)) ↔ (shown (I f) ≡ shown (I g))
-load-alike row f g p q = (λ e.
-    let same = register_and_place-read row f.rd g.rd f.imm g.imm f.rs1 g.rs1 p.0 q.0 (mag-imm f.imm p.3 p.4) (mag-imm g.imm q.3 q.4) p.2 q.2 (same_Some _ _ e) in
-    (cc),
-    λ s. (cc))
+load-alike row f g p q = (
+  λ e.
+      let same = register_and_place-read row f.rd g.rd f.imm g.imm f.rs1 g.rs1 p.0 q.0 (mag-imm f.imm p.3 p.4) (mag-imm g.imm q.3 q.4) p.2 q.2 (same_Some _ _ e) in
+      (cc),
+  λ s. (cc),
+)
 
 pub store-alike : (row : Row) (f g : SType) → IsInRange (S f) → IsInRange (S g)
     → (Some (register_and_place row f.rs2 f.imm f.rs1) ≡ Some (register_and_place row g.rs2 g.imm g.rs1)) ↔ (shown (S f) ≡ shown (S g))
-store-alike row f g p q = (λ e.
-    let same = register_and_place-read row f.rs2 g.rs2 f.imm g.imm f.rs1 g.rs1 p.2 q.2 (mag-imm f.imm p.3 p.4) (mag-imm g.imm q.3 q.4) p.1 q.1 (same_Some _ _ e) in
-    (cc),
-    λ s. (cc))
+store-alike row f g p q = (
+  λ e.
+      let same = register_and_place-read row f.rs2 g.rs2 f.imm g.imm f.rs1 g.rs1 p.2 q.2 (mag-imm f.imm p.3 p.4) (mag-imm g.imm q.3 q.4) p.1 q.1 (same_Some _ _ e) in
+      (cc),
+  λ s. (cc),
+)
 
 -- the operands of a jump, the second behind 0x
 jump_operands : (name a b c a' b' c' : List ℕ) → IsPiece a → IsPiece a' → IsPiece (codes "0x" ++ b) → IsPiece (codes "0x" ++ b')
@@ -188,12 +215,14 @@ jump-read : (name : List ℕ) (q q' : ℕ) (y z : ℤ) (r r' : ℕ) → q < 2 ^ 
     → (q ≡ q') × (word y ≡ word z) × (r ≡ r')
 jump-read name q q' y z r r' a a' c c' e =
     let same = jump_operands name (register q) (hexadecimal 3 (word y)) (register r) (register q') (hexadecimal 3 (word z)) (register r')
-      (register_piece q a) (register_piece q' a') (prefixed_piece 3 y) (prefixed_piece 3 z) e in
+    (register_piece q a) (register_piece q' a') (prefixed_piece 3 y) (prefixed_piece 3 z) e in
     (same_register q q' a a' same.0, same_prefixed 3 y z same.1, same_register r r' c c' same.2)
 
 pub jalr-alike : (f g : IType) → IsInRange (I f) → IsInRange (I g)
     → (Some (jump_to_place f) ≡ Some (jump_to_place g)) ↔ (shown (I f) ≡ shown (I g))
-jalr-alike f g p q = (λ e.
-    let same = jump-read (table Row.Jalr).name f.rd g.rd f.imm g.imm f.rs1 g.rs1 p.0 q.0 p.2 q.2 (same_Some _ _ e) in
-    cc (same.0, same.2, same_immediate f.imm g.imm (omega (arith, ints)) (omega (arith, ints)) (omega (arith, ints)) (omega (arith, ints)) same.1),
-    λ s. (cc))
+jalr-alike f g p q = (
+  λ e.
+      let same = jump-read (table Row.Jalr).name f.rd g.rd f.imm g.imm f.rs1 g.rs1 p.0 q.0 p.2 q.2 (same_Some _ _ e) in
+      cc (same.0, same.2, same_immediate f.imm g.imm (omega (arith, ints)) (omega (arith, ints)) (omega (arith, ints)) (omega (arith, ints)) same.1),
+  λ s. (cc),
+)
