@@ -45,7 +45,7 @@ at_format : (P : Fields → Type 0) (k : Format) (f : Fields) → format_of f �
 at_format P k f e all p = at_own P f (subst (ForEach P) (sym e) all) p
 
 -- P holds of each two fields in range of a format
-abbrev ForBoth : (Fields → Fields → Type 0) → Format → Type 0
+abbrev pub ForBoth : (Fields → Fields → Type 0) → Format → Type 0
 ForBoth P InR = (f g : RType) → IsInRange (R f) → IsInRange (R g) → P (R f) (R g)
 ForBoth P InI = (f g : IType) → IsInRange (I f) → IsInRange (I g) → P (I f) (I g)
 ForBoth P InIShamt = (f g : ITypeShamt) → IsInRange (IShamt f) → IsInRange (IShamt g) → P (IShamt f) (IShamt g)
@@ -63,7 +63,7 @@ at_both_own P (B f) g e all p q = at_format (P (B f)) InB g e (λ g q. all f g p
 at_both_own P (U f) g e all p q = at_format (P (U f)) InU g e (λ g q. all f g p q) q
 at_both_own P (J f) g e all p q = at_format (P (J f)) InJ g e (λ g q. all f g p q) q
 
-at_both : (P : Fields → Fields → Type 0) (k : Format) (f g : Fields) → format_of f ≡ k → format_of g ≡ k → ForBoth P k → IsInRange f → IsInRange g → P f g
+pub at_both : (P : Fields → Fields → Type 0) (k : Format) (f g : Fields) → format_of f ≡ k → format_of g ≡ k → ForBoth P k → IsInRange f → IsInRange g → P f g
 at_both P k f g e e' all p q = at_both_own P f g (e' ∙ sym e) (subst (ForBoth P) (sym e) all) p q
 
 -- ---- one row

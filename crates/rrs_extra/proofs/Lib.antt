@@ -3,3 +3,4 @@ pub mod Reading
 pub mod Operands
 pub mod Names
 pub mod Faithful
+pub mod SameWords

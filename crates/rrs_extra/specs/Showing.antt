@@ -1,5 +1,6 @@
--- What the text of an instruction shows of it, beside its row's name: register numbers and the immediate or the shift amount, as the fields have
--- them, also where the text has the sum of the immediate with the address. funct3 and funct7 are not shown, and `fence` shows none of its fields.
+-- What the text of an instruction shows of its fields: register numbers, and the immediate or the
+-- shift amount as the field has it, also where the text has its sum with the address. funct3 and
+-- funct7 are not shown, and `fence` shows none of its fields.
 use Rattle.std.specs.Prelude.{◌≡◌, ℕ, List, [], ◌∷◌, ℤ, pos}
 use Rattle.rrs_lib.specs.Encodings.{Fields, R, I, IShamt, S, B, U, J}
 use Rattle.rrs_lib.specs.Table.{Row, Decodes}
