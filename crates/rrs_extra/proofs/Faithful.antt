@@ -1,8 +1,6 @@
 -- Texts at one address are equal exactly when their rows and what they show are.
-use Rattle.std.proofs.Common.{◌≡◌, ℕ, List, Option, Some, None, Result, Ok, Err, refl, sym, subst, ap, ◌∙◌}
-use Rattle.std.specs.Prelude.{◌↔◌, IfSome, IfOk, String, string_bytes}
-use Rattle.std.specs.declared.alloc.AllocError.{AllocError}
-use Rattle.std.specs.declared.alloc.Global.{Global}
+use Rattle.std.proofs.Common.{◌≡◌, ℕ, List, Some, None, Ok, Err, refl, sym, subst, ap, ◌∙◌}
+use Rattle.std.specs.Prelude.{◌↔◌, IfSome, IfOk, string_bytes}
 use Rattle.std.specs.Option.{option_map}
 use Rattle.std.proofs.lemmas.Option.{same_Some}
 use Rattle.rrs_lib.specs.declared.instruction_formats.RType.{RType}
@@ -16,7 +14,7 @@ use Rattle.rrs_lib.specs.Encodings.{Fields, R, I, IShamt, S, B, U, J, IsInRange}
 use Rattle.rrs_lib.specs.Table.{Row, Format, InR, InI, InIShamt, InS, InB, InU, InJ, table, format_of, Decodes, IsRowAnd}
 use Rattle.rrs_lib.specs.Texts.{name_of, text_of}
 use Rattle.rrs_lib.proofs.Rows.{one_row_at_most}
-use Rattle.rrs_extra.specs.Showing.{shown_by, ShowAlike}
+use Rattle.rrs_extra.specs.Showing.{shown_by, ShowAlike, Asked, IfBothTexts}
 use Rattle.rrs_extra.proofs.Names.{first_word, same_row}
 use Rattle.rrs_extra.proofs.Operands.{three-alike, two-alike, shift-alike, lui-alike, auipc-alike, branch-alike, load-alike, store-alike, jal-alike, jalr-alike}
 
@@ -177,17 +175,13 @@ faithful pc first second a b x y = (
       same_Some a b (sym text_a ∙ texts ∙ text_b),
 )
 
--- what is asked for a word at an address, and may be out of memory
-abbrev Asked : Type 0
-Asked = Option (Result (String Global) AllocError)
-
 -- Of two answers, where both are texts, they are equal exactly when their words show alike.
 pub both_faithful : (pc first second : ℕ) (a b : Asked)
     → IfSome a (λ answer. IsRowAnd first (λ row f. IfOk answer (λ text. text_of row f pc ≡ Some (string_bytes text))))
     → IfSome b (λ answer. IsRowAnd second (λ row f. IfOk answer (λ text. text_of row f pc ≡ Some (string_bytes text))))
-    → IfSome a (λ a. IfSome b (λ b. IfOk a (λ text. IfOk b (λ other. (string_bytes text ≡ string_bytes other) ↔ ShowAlike first second))))
+    → IfBothTexts a b (λ text other. (text ≡ other) ↔ ShowAlike first second)
 both_faithful pc first second None b x y = tt
-both_faithful pc first second (Some a) None x y = tt
-both_faithful pc first second (Some (Err e)) (Some b) x y = tt
+both_faithful pc first second (Some (Err e)) b x y = tt
+both_faithful pc first second (Some (Ok s)) None x y = tt
 both_faithful pc first second (Some (Ok s)) (Some (Err e)) x y = tt
 both_faithful pc first second (Some (Ok s)) (Some (Ok t)) x y = faithful pc first second (string_bytes s) (string_bytes t) x y

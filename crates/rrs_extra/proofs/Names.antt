@@ -1,8 +1,7 @@
 -- The row of a text is read from its name, which is what stands before the first blank.
-use Rattle.std.proofs.Common.{◌≡◌, ℕ, List, [], ◌∷◌, ◌++◌, Option, Some, None, ◌==◌, if◌then◌else◌, refl, ap}
+use Rattle.std.proofs.Common.{◌≡◌, ℕ, List, [], ◌∷◌, Option, Some, ◌==◌, if◌then◌else◌, refl, ap}
 use Rattle.std.specs.List.{find}
 use Rattle.std.specs.Str.{bytes_eq}
-use Rattle.std.proofs.lemmas.Option.{same_Some}
 use Rattle.rrs_lib.specs.Table.{Row}
 use Rattle.rrs_lib.specs.Texts.{name_of}
 

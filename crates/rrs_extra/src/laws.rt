@@ -1,25 +1,28 @@
-//! Laws of several calls of the kit: each function here makes the calls, and its contract relates what they return.
+//! Laws over several calls of the kit: each function makes the calls, and its contract says how
+//! what they return is related.
 
 ghost use Rattle.std.specs.Prelude.{◌≡◌, ◌↔◌, Some, IfSome, IfNone, IfOk, string_bytes};
 ghost use Rattle.rrs_lib.specs.Table.{IsRowAnd, IsIllegal};
 ghost use Rattle.rrs_lib.specs.Texts.{text_of};
-ghost use Rattle.rrs_extra.specs.Showing.{ShowAlike};
+ghost use Rattle.rrs_extra.specs.Showing.{ShowAlike, IfBothTexts};
 
 use rrs_lib::instruction_string_outputter::InstructionStringOutputter;
 use rrs_lib::process_instruction;
 use std::alloc::{AllocError, Global};
 
-/// The texts of two words at one address, which are equal exactly when the words show alike.
+/// The texts of two words at one address.
 ///
-/// Each of the two answers is `None` exactly where that word is outside the table, and otherwise
-/// `Some`: `Ok` of the text of the word's row with its fields at `insn_pc`, or the error when out
-/// of memory. Where both are texts, they are equal exactly when the two words are one row, and
-/// agree in the register numbers and the immediate or shift amount that its text shows. So the
-/// text of a word loses no operand, and nothing else of the word changes it: `slli` with any
-/// funct7, `jalr` with any funct3, and `fence` with any fields have one text.
+/// Each of the two answers is `None` exactly where that word is outside the table. Otherwise it is
+/// `Some` of the text of the word's row with its fields at `insn_pc`, or of the error when out of
+/// memory.
 ///
-/// The address has to be one, since a branch shows its target: from 0x100 and from 0x104 two
-/// branches with different immediates reach 0x108 by the same text.
+/// Where both are texts, they are equal exactly when the words are of one row and agree in the
+/// register numbers and the immediate or shift amount that a text of that row shows. So a text
+/// leaves out no operand. What it does leave out is funct7 of `slli`, funct3 of `jalr`, and all
+/// fields of `fence`, which the table takes as they are.
+///
+/// This needs one address for both words, since a branch is printed with its target: `beq` by 8
+/// bytes at 0x100 and by 4 bytes at 0x104 have the same text.
 pub fn both_texts(
     alloc: Global,
     insn_pc: u32,
@@ -35,8 +38,8 @@ pub fn both_texts(
         (λ row f. IfOk answer (λ text. text_of row f insn_pc ≡ Some (string_bytes text)))) }
     ensures first_outside { IfNone result.0 (IsIllegal first) }
     ensures second_outside { IfNone result.1 (IsIllegal second) }
-    ensures faithful { IfSome result.0 (λ a. IfSome result.1 (λ b. IfOk a (λ text. IfOk b
-        (λ other. (string_bytes text ≡ string_bytes other) ↔ ShowAlike first second)))) }
+    ensures faithful { IfBothTexts result.0 result.1
+        (λ text other. (text ≡ other) ↔ ShowAlike first second) }
 {
     (
         text_at(alloc, insn_pc, first),
