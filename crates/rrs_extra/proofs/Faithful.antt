@@ -30,6 +30,7 @@ ForEach P InB = (f : BType) → IsInRange (B f) → P (B f)
 ForEach P InU = (f : UType) → IsInRange (U f) → P (U f)
 ForEach P InJ = (f : JType) → IsInRange (J f) → P (J f)
 
+-- what holds of each of a format holds of fields that have the format
 at_own : (P : Fields → Type 0) (f : Fields) → ForEach P (format_of f) → IsInRange f → P f
 at_own P (R f) all p = all f p
 at_own P (I f) all p = all f p
@@ -61,6 +62,7 @@ at_both_own P (B f) g e all p q = at_format (P (B f)) InB g e (λ g q. all f g p
 at_both_own P (U f) g e all p q = at_format (P (U f)) InU g e (λ g q. all f g p q) q
 at_both_own P (J f) g e all p q = at_format (P (J f)) InJ g e (λ g q. all f g p q) q
 
+-- what holds of both of a format holds of two fields that have the format
 pub at_both : (P : Fields → Fields → Type 0) (k : Format) (f g : Fields) → format_of f ≡ k → format_of g ≡ k → ForBoth P k → IsInRange f → IsInRange g → P f g
 at_both P k f g e e' all p q = at_both_own P f g (e' ∙ sym e) (subst (ForBoth P) (sym e) all) p q
 

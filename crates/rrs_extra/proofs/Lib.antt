@@ -4,3 +4,4 @@ pub mod Operands
 pub mod Names
 pub mod Faithful
 pub mod SameWords
+pub mod ExampleShowing

@@ -10,6 +10,7 @@ abbrev pub first_word : List ℕ → List ℕ
 first_word [] = []
 first_word (byte ∷ rest) = if byte == 32 then [] else (byte ∷ first_word rest)
 
+-- the rows, in their order
 abbrev all_rows : List Row
 all_rows =
     Row.Add ∷ Row.Sub ∷ Row.Sll ∷ Row.Slt ∷ Row.Sltu ∷ Row.Xor ∷ Row.Srl ∷ Row.Sra ∷ Row.Or ∷ Row.And ∷ Row.Addi ∷ Row.Slli ∷ Row.Slti ∷ Row.Sltiu

@@ -36,6 +36,7 @@ first_operand a b x y p q e =
     let tails : 32 ∷ x ≡ 32 ∷ y = read.1 in
     (read.0, (cc))
 
+-- two operands, and three, behind one name
 two_operands : (name a b a' b' : List ℕ) → IsPiece a → IsPiece a'
     → name ++ (32 ∷ a ++ (44 ∷ 32 ∷ b)) ≡ name ++ (32 ∷ a' ++ (44 ∷ 32 ∷ b')) → (a ≡ a') × (b ≡ b')
 two_operands name a b a' b' p p' e = first_operand a a' b b' p p' (after_name name _ _ e)
@@ -59,6 +60,7 @@ place_operands name a b c a' b' c' p p' q q' e =
 
 -- ---- immediates
 
+-- the word of a number is below 2 ^ 32
 word-lt : (z : ℤ) → word z < 2 ^ 32
 word-lt z = floor_mod-lt z 4294967296 (omega arith)
 
@@ -70,6 +72,7 @@ same_immediate y z a b c d e = same_from_remainder 2147483648 y z a b c d e
 same_summand : (a x y : ℕ) → x < 2 ^ 32 → y < 2 ^ 32 → (a + x) % 2 ^ 32 ≡ (a + y) % 2 ^ 32 → x ≡ y
 same_summand a x y small small' e = omega arith
 
+-- of sums with one address that are one word, the immediates have one word
 same_offset : (pc : ℕ) (y z : ℤ) → word (plus_immediate pc y) ≡ word (plus_immediate pc z) → word y ≡ word z
 same_offset pc y z e = same_summand pc (word y) (word z) (word-lt y) (word-lt z) e
 
@@ -80,6 +83,7 @@ mag-imm (negsuc n) low high = omega (arith, ints)
 
 -- ---- texts with one name: they are equal exactly if what they show is
 
+-- three registers
 pub three-alike : (row : Row) (f g : RType) → IsInRange (R f) → IsInRange (R g)
     → (Some (three_registers row f) ≡ Some (three_registers row g)) ↔ (shown (R f) ≡ shown (R g))
 three-alike row f g p q = (
@@ -90,6 +94,7 @@ three-alike row f g p q = (
   λ s. (cc),
 )
 
+-- two registers and an immediate
 pub two-alike : (row : Row) (f g : IType) → IsInRange (I f) → IsInRange (I g)
     → (Some (two_registers row f) ≡ Some (two_registers row g)) ↔ (shown (I f) ≡ shown (I g))
 two-alike row f g p q = (
@@ -104,6 +109,7 @@ two-alike row f g p q = (
   λ s. (cc),
 )
 
+-- two registers and a shift amount
 pub shift-alike : (row : Row) (f g : ITypeShamt) → IsInRange (IShamt f) → IsInRange (IShamt g)
     → (Some (shifted_register row f) ≡ Some (shifted_register row g)) ↔ (shown (IShamt f) ≡ shown (IShamt g))
 shift-alike row f g p q = (
@@ -126,6 +132,7 @@ same_prefixed n y z e =
 prefixed_piece : (n : ℕ) (z : ℤ) → IsPiece (codes "0x" ++ hexadecimal n (word z))
 prefixed_piece n z = (omega arith, (omega arith, hexadecimal_piece n (word z) (word-lt z)))
 
+-- a register and a word
 register_and_word-read : (row : Row) (q r : ℕ) (y z : ℤ) → q < 2 ^ 5 → r < 2 ^ 5
     → register_and_word row q (word y) ≡ register_and_word row r (word z) → (q ≡ r) × (word y ≡ word z)
 register_and_word-read row q r y z p p' e =
@@ -133,6 +140,7 @@ register_and_word-read row q r y z p p' e =
     (register_piece q p) (register_piece r p') (simp append_assoc at e) in
     (same_register q r p p' same.0, same_prefixed 8 y z same.1)
 
+-- the word is of the immediate (lui), or of its sum with the address (auipc, jal)
 pub lui-alike : (row : Row) (f g : UType) → IsInRange (U f) → IsInRange (U g)
     → (Some (register_and_word row f.rd (word f.imm)) ≡ Some (register_and_word row g.rd (word g.imm))) ↔ (shown (U f) ≡ shown (U g))
 lui-alike row f g p q = (
@@ -160,6 +168,7 @@ jal-alike row pc f g p q = (
   λ s. (cc),
 )
 
+-- two registers and a target
 pub branch-alike : (row : Row) (pc : ℕ) (f g : BType) → IsInRange (B f) → IsInRange (B g)
     → (Some (branch_to row f pc) ≡ Some (branch_to row g pc)) ↔ (shown (B f) ≡ shown (B g))
 branch-alike row pc f g p q = (
@@ -177,6 +186,7 @@ branch-alike row pc f g p q = (
   λ s. (cc),
 )
 
+-- a register and a place: loads and stores
 register_and_place-read : (row : Row) (q q' : ℕ) (y z : ℤ) (r r' : ℕ) → q < 2 ^ 5 → q' < 2 ^ 5 → mag y < 2 ^ 63 → mag z < 2 ^ 63 → r < 2 ^ 5 → r' < 2 ^ 5
     → register_and_place row q y r ≡ register_and_place row q' z r' → (q ≡ q') × (y ≡ z) × (r ≡ r')
 register_and_place-read row q q' y z r r' a a' b b' c c' e =
@@ -209,6 +219,7 @@ jump_operands : (name a b c a' b' c' : List ℕ) → IsPiece a → IsPiece a' �
 jump_operands name a b c a' b' c' p p' q q' e =
     place_operands name a (codes "0x" ++ b) c a' (codes "0x" ++ b') c' p p' q q' (simp append_assoc at e)
 
+-- a register and a place in hexadecimal: jalr
 jump-read : (name : List ℕ) (q q' : ℕ) (y z : ℤ) (r r' : ℕ) → q < 2 ^ 5 → q' < 2 ^ 5 → r < 2 ^ 5 → r' < 2 ^ 5
     → name ++ codes " " ++ register q ++ codes ", 0x" ++ hexadecimal 3 (word y) ++ codes "(" ++ register r ++ codes ")"
     ≡ name ++ codes " " ++ register q' ++ codes ", 0x" ++ hexadecimal 3 (word z) ++ codes "(" ++ register r' ++ codes ")"

@@ -30,6 +30,7 @@ same_pieces s (a ∷ l) (b ∷ m) x y low p q e =
 digit_high : (base c : ℕ) → base ≤ 16 → digit_value c < base → 45 ≤ c
 digit_high base c low h = grind (arith, nat_tests)
 
+-- digits, in a base up to 16, have no separator
 digits_are_piece : (base : ℕ) (ds : List ℕ) → base ≤ 16 → AllDigits base ds → IsPiece ds
 digits_are_piece base [] low h = tt
 digits_are_piece base (d ∷ ds) low h = (digit_high base d low h.0, digits_are_piece base ds low h.1)
@@ -64,6 +65,7 @@ value-zeros : (k : ℕ) (ds : List ℕ) → digits_value 16 (replicate k 48 ++ d
 value-zeros zero ds = refl
 value-zeros (suc k) ds = value-zeros k ds
 
+-- hexadecimal digits write their word
 value-hexadecimal : (n x : ℕ) → x < 2 ^ 32 → digits_value 16 (hexadecimal n x) ≡ x
 value-hexadecimal n x small =
     value-zeros (n - length (digits 16 false x)) (digits 16 false x) ∙ (digits_is_IsNumeral 16 false (omega arith) (omega arith) x (omega arith)).1

@@ -66,6 +66,7 @@ IsLax Row.Jalr = Unit {0}
 IsLax Row.Fence = Unit {0}
 IsLax _ = ⊥
 
+-- of one row, fields that meet its functs are equal if what it shows of them is
 abbrev Determined : Row → Fields → Fields → Type 0
 Determined row f g =
     MeetsFuncts (table row).funct3 (table row).funct7 f → MeetsFuncts (table row).funct3 (table row).funct7 g → shown_by row f ≡ shown_by row g → f ≡ g
