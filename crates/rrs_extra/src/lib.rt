@@ -1,9 +1,12 @@
 //! Processors over `rrs_lib`, written by its contracts alone.
 //!
-//! [RowNumberer] names the row of the table that a word is: its number, 1 to 46. The tests have a
-//! processor that counts the calls of each row, and `docs/PROCESSORS.md` says how to write one.
+//! [RowNumberer] names the row of the table that a word is: its number, 1 to 46. [laws] has calls
+//! whose contracts relate what several calls of the kit return. The tests have a processor that
+//! counts the calls of each row, and `docs/PROCESSORS.md` says how to write one.
 
 #![tactic(auto)]
+
+pub mod laws;
 
 ghost use Rattle.rrs_extra.specs.Numbering.{Numbers};
 

@@ -1,0 +1,189 @@
+-- Texts at one address are equal exactly when their rows and what they show are.
+use Rattle.std.proofs.Common.{◌≡◌, ℕ, List, Some, None, Ok, Err, refl, sym, subst, ap, ◌∙◌}
+use Rattle.std.specs.Prelude.{◌↔◌, IfSome, IfOk, string_bytes}
+use Rattle.std.specs.Option.{option_map}
+use Rattle.std.proofs.lemmas.Option.{same_Some}
+use Rattle.rrs_lib.specs.declared.instruction_formats.RType.{RType}
+use Rattle.rrs_lib.specs.declared.instruction_formats.IType.{IType}
+use Rattle.rrs_lib.specs.declared.instruction_formats.ITypeShamt.{ITypeShamt}
+use Rattle.rrs_lib.specs.declared.instruction_formats.SType.{SType}
+use Rattle.rrs_lib.specs.declared.instruction_formats.BType.{BType}
+use Rattle.rrs_lib.specs.declared.instruction_formats.UType.{UType}
+use Rattle.rrs_lib.specs.declared.instruction_formats.JType.{JType}
+use Rattle.rrs_lib.specs.Encodings.{Fields, R, I, IShamt, S, B, U, J, IsInRange}
+use Rattle.rrs_lib.specs.Table.{Row, Format, InR, InI, InIShamt, InS, InB, InU, InJ, table, format_of, Decodes, IsRowAnd}
+use Rattle.rrs_lib.specs.Texts.{name_of, text_of}
+use Rattle.rrs_lib.proofs.Rows.{one_row_at_most}
+use Rattle.rrs_extra.specs.Showing.{shown_by, ShowAlike, Asked, IfBothTexts}
+use Rattle.rrs_extra.proofs.Names.{first_word, same_row}
+use Rattle.rrs_extra.proofs.Operands.{three-alike, two-alike, shift-alike, lui-alike, auipc-alike, branch-alike, load-alike, store-alike, jal-alike, jalr-alike}
+
+-- ---- fields of one format
+
+-- P holds of all fields in range of a format
+abbrev ForEach : (Fields → Type 0) → Format → Type 0
+ForEach P InR = (f : RType) → IsInRange (R f) → P (R f)
+ForEach P InI = (f : IType) → IsInRange (I f) → P (I f)
+ForEach P InIShamt = (f : ITypeShamt) → IsInRange (IShamt f) → P (IShamt f)
+ForEach P InS = (f : SType) → IsInRange (S f) → P (S f)
+ForEach P InB = (f : BType) → IsInRange (B f) → P (B f)
+ForEach P InU = (f : UType) → IsInRange (U f) → P (U f)
+ForEach P InJ = (f : JType) → IsInRange (J f) → P (J f)
+
+-- what holds of each of a format holds of fields that have the format
+at_own : (P : Fields → Type 0) (f : Fields) → ForEach P (format_of f) → IsInRange f → P f
+at_own P (R f) all p = all f p
+at_own P (I f) all p = all f p
+at_own P (IShamt f) all p = all f p
+at_own P (S f) all p = all f p
+at_own P (B f) all p = all f p
+at_own P (U f) all p = all f p
+at_own P (J f) all p = all f p
+
+at_format : (P : Fields → Type 0) (k : Format) (f : Fields) → format_of f ≡ k → ForEach P k → IsInRange f → P f
+at_format P k f e all p = at_own P f (subst (ForEach P) (sym e) all) p
+
+-- P holds of each two fields in range of a format
+abbrev pub ForBoth : (Fields → Fields → Type 0) → Format → Type 0
+ForBoth P InR = (f g : RType) → IsInRange (R f) → IsInRange (R g) → P (R f) (R g)
+ForBoth P InI = (f g : IType) → IsInRange (I f) → IsInRange (I g) → P (I f) (I g)
+ForBoth P InIShamt = (f g : ITypeShamt) → IsInRange (IShamt f) → IsInRange (IShamt g) → P (IShamt f) (IShamt g)
+ForBoth P InS = (f g : SType) → IsInRange (S f) → IsInRange (S g) → P (S f) (S g)
+ForBoth P InB = (f g : BType) → IsInRange (B f) → IsInRange (B g) → P (B f) (B g)
+ForBoth P InU = (f g : UType) → IsInRange (U f) → IsInRange (U g) → P (U f) (U g)
+ForBoth P InJ = (f g : JType) → IsInRange (J f) → IsInRange (J g) → P (J f) (J g)
+
+at_both_own : (P : Fields → Fields → Type 0) (f g : Fields) → format_of g ≡ format_of f → ForBoth P (format_of f) → IsInRange f → IsInRange g → P f g
+at_both_own P (R f) g e all p q = at_format (P (R f)) InR g e (λ g q. all f g p q) q
+at_both_own P (I f) g e all p q = at_format (P (I f)) InI g e (λ g q. all f g p q) q
+at_both_own P (IShamt f) g e all p q = at_format (P (IShamt f)) InIShamt g e (λ g q. all f g p q) q
+at_both_own P (S f) g e all p q = at_format (P (S f)) InS g e (λ g q. all f g p q) q
+at_both_own P (B f) g e all p q = at_format (P (B f)) InB g e (λ g q. all f g p q) q
+at_both_own P (U f) g e all p q = at_format (P (U f)) InU g e (λ g q. all f g p q) q
+at_both_own P (J f) g e all p q = at_format (P (J f)) InJ g e (λ g q. all f g p q) q
+
+-- what holds of both of a format holds of two fields that have the format
+pub at_both : (P : Fields → Fields → Type 0) (k : Format) (f g : Fields) → format_of f ≡ k → format_of g ≡ k → ForBoth P k → IsInRange f → IsInRange g → P f g
+at_both P k f g e e' all p q = at_both_own P f g (e' ∙ sym e) (subst (ForBoth P) (sym e) all) p q
+
+-- ---- one row
+
+-- a text begins with the row's name
+abbrev BeginsWithName : Row → Fields → Type 0
+BeginsWithName row f = (pc : ℕ) → option_map first_word (text_of row f pc) ≡ Some (name_of row)
+
+begins_with_name : (row : Row) → ForEach (BeginsWithName row) (table row).format
+begins_with_name Row.Add = λ f p pc. refl
+begins_with_name _ = λ f p pc. refl
+
+-- the texts are equal exactly when what they show is
+abbrev ShownAlike : Row → Fields → Fields → Type 0
+ShownAlike row f g = (pc : ℕ) → (text_of row f pc ≡ text_of row g pc) ↔ (shown_by row f ≡ shown_by row g)
+
+shown_alike : (row : Row) → ForBoth (ShownAlike row) (table row).format
+shown_alike Row.Add = λ f g p q pc. three-alike Row.Add f g p q
+shown_alike Row.Sub = λ f g p q pc. three-alike Row.Sub f g p q
+shown_alike Row.Sll = λ f g p q pc. three-alike Row.Sll f g p q
+shown_alike Row.Slt = λ f g p q pc. three-alike Row.Slt f g p q
+shown_alike Row.Sltu = λ f g p q pc. three-alike Row.Sltu f g p q
+shown_alike Row.Xor = λ f g p q pc. three-alike Row.Xor f g p q
+shown_alike Row.Srl = λ f g p q pc. three-alike Row.Srl f g p q
+shown_alike Row.Sra = λ f g p q pc. three-alike Row.Sra f g p q
+shown_alike Row.Or = λ f g p q pc. three-alike Row.Or f g p q
+shown_alike Row.And = λ f g p q pc. three-alike Row.And f g p q
+shown_alike Row.Addi = λ f g p q pc. two-alike Row.Addi f g p q
+shown_alike Row.Slli = λ f g p q pc. shift-alike Row.Slli f g p q
+shown_alike Row.Slti = λ f g p q pc. two-alike Row.Slti f g p q
+shown_alike Row.Sltiu = λ f g p q pc. two-alike Row.Sltiu f g p q
+shown_alike Row.Xori = λ f g p q pc. two-alike Row.Xori f g p q
+shown_alike Row.Srli = λ f g p q pc. shift-alike Row.Srli f g p q
+shown_alike Row.Srai = λ f g p q pc. shift-alike Row.Srai f g p q
+shown_alike Row.Ori = λ f g p q pc. two-alike Row.Ori f g p q
+shown_alike Row.Andi = λ f g p q pc. two-alike Row.Andi f g p q
+shown_alike Row.Lui = λ f g p q pc. lui-alike Row.Lui f g p q
+shown_alike Row.Auipc = λ f g p q pc. auipc-alike Row.Auipc pc f g p q
+shown_alike Row.Beq = λ f g p q pc. branch-alike Row.Beq pc f g p q
+shown_alike Row.Bne = λ f g p q pc. branch-alike Row.Bne pc f g p q
+shown_alike Row.Blt = λ f g p q pc. branch-alike Row.Blt pc f g p q
+shown_alike Row.Bltu = λ f g p q pc. branch-alike Row.Bltu pc f g p q
+shown_alike Row.Bge = λ f g p q pc. branch-alike Row.Bge pc f g p q
+shown_alike Row.Bgeu = λ f g p q pc. branch-alike Row.Bgeu pc f g p q
+shown_alike Row.Lb = λ f g p q pc. load-alike Row.Lb f g p q
+shown_alike Row.Lbu = λ f g p q pc. load-alike Row.Lbu f g p q
+shown_alike Row.Lh = λ f g p q pc. load-alike Row.Lh f g p q
+shown_alike Row.Lhu = λ f g p q pc. load-alike Row.Lhu f g p q
+shown_alike Row.Lw = λ f g p q pc. load-alike Row.Lw f g p q
+shown_alike Row.Sb = λ f g p q pc. store-alike Row.Sb f g p q
+shown_alike Row.Sh = λ f g p q pc. store-alike Row.Sh f g p q
+shown_alike Row.Sw = λ f g p q pc. store-alike Row.Sw f g p q
+shown_alike Row.Jal = λ f g p q pc. jal-alike Row.Jal pc f g p q
+shown_alike Row.Jalr = λ f g p q pc. jalr-alike f g p q
+shown_alike Row.Mul = λ f g p q pc. three-alike Row.Mul f g p q
+shown_alike Row.Mulh = λ f g p q pc. three-alike Row.Mulh f g p q
+shown_alike Row.Mulhu = λ f g p q pc. three-alike Row.Mulhu f g p q
+shown_alike Row.Mulhsu = λ f g p q pc. three-alike Row.Mulhsu f g p q
+shown_alike Row.Div = λ f g p q pc. three-alike Row.Div f g p q
+shown_alike Row.Divu = λ f g p q pc. three-alike Row.Divu f g p q
+shown_alike Row.Rem = λ f g p q pc. three-alike Row.Rem f g p q
+shown_alike Row.Remu = λ f g p q pc. three-alike Row.Remu f g p q
+shown_alike Row.Fence = λ f g p q pc. (λ _. refl, λ _. refl)
+
+-- ---- two words
+
+-- a row's text begins with its name
+text-name : (w : ℕ) (row : Row) (f : Fields) (pc : ℕ) (text : List ℕ) → Decodes w row f → text_of row f pc ≡ Some text → first_word text ≡ name_of row
+text-name w row f pc text is e =
+    let named : option_map first_word (text_of row f pc) ≡ Some (name_of row) = at_format (BeginsWithName row) (table row).format f is.format (begins_with_name row) is.in_range pc in
+    let read : option_map first_word (text_of row f pc) ≡ Some (first_word text) = ap (option_map first_word) e in
+    cc
+
+-- the texts of one row, by the words
+texts_of_row : (v w : ℕ) (row : Row) (f g : Fields) (pc : ℕ) → Decodes v row f → Decodes w row g → (text_of row f pc ≡ text_of row g pc) ↔ (shown_by row f ≡ shown_by row g)
+texts_of_row v w row f g pc is is' = at_both (ShownAlike row) (table row).format f g is.format is'.format (shown_alike row) is.in_range is'.in_range pc
+
+-- equal texts have one row, and it shows the same of both
+from_text : (pc first second : ℕ) (text : List ℕ) (row row' : Row) (f f' : Fields) → Decodes first row f → Decodes second row' f'
+    → text_of row f pc ≡ Some text → text_of row' f' pc ≡ Some text → ShowAlike first second
+from_text pc first second text row row' f f' is is' e e' =
+    let same : row ≡ row' = same_row row row' (sym (text-name first row f pc text is e) ∙ text-name second row' f' pc text is' e') in
+    let again : Decodes second row f' = subst (λ r. Decodes second r f') (sym same) is' in
+    let text_again : text_of row f' pc ≡ Some text = subst (λ r. text_of r f' pc ≡ Some text) (sym same) e' in
+    record {
+      row = row;
+      first_fields = f;
+      second_fields = f';
+      is_first = is;
+      is_second = again;
+      same = (texts_of_row first second row f f' pc is again).0 (e ∙ sym text_again);
+    }
+
+-- a word's text is the text of any row and fields that it is
+text_of-word : (pc w : ℕ) (text : List ℕ) (row : Row) (f : Fields) → IsRowAnd w (λ row f. text_of row f pc ≡ Some text) → Decodes w row f → text_of row f pc ≡ Some text
+text_of-word pc w text row f x is =
+    let one = one_row_at_most w x.row row x.fields f x.is is in
+    let at_row : text_of row x.fields pc ≡ Some text = subst (λ r. text_of r x.fields pc ≡ Some text) one.0 x.holds in
+    subst (λ fields. text_of row fields pc ≡ Some text) one.1 at_row
+
+-- Two texts at one address are equal exactly when their words show alike.
+pub faithful : (pc first second : ℕ) (a b : List ℕ) → IsRowAnd first (λ row f. text_of row f pc ≡ Some a) → IsRowAnd second (λ row f. text_of row f pc ≡ Some b)
+    → (a ≡ b) ↔ ShowAlike first second
+faithful pc first second a b x y = (
+  λ same. from_text pc first second b x.row y.row x.fields y.fields x.is y.is (x.holds ∙ ap Some same) y.holds,
+  λ alike.
+      let texts : text_of alike.row alike.first_fields pc ≡ text_of alike.row alike.second_fields pc =
+      (texts_of_row first second alike.row alike.first_fields alike.second_fields pc alike.is_first alike.is_second).1 alike.same in
+      let text_a : text_of alike.row alike.first_fields pc ≡ Some a = text_of-word pc first a alike.row alike.first_fields x alike.is_first in
+      let text_b : text_of alike.row alike.second_fields pc ≡ Some b = text_of-word pc second b alike.row alike.second_fields y alike.is_second in
+      same_Some a b (sym text_a ∙ texts ∙ text_b),
+)
+
+-- Of two answers, where both are texts, they are equal exactly when their words show alike.
+pub both_faithful : (pc first second : ℕ) (a b : Asked)
+    → IfSome a (λ answer. IsRowAnd first (λ row f. IfOk answer (λ text. text_of row f pc ≡ Some (string_bytes text))))
+    → IfSome b (λ answer. IsRowAnd second (λ row f. IfOk answer (λ text. text_of row f pc ≡ Some (string_bytes text))))
+    → IfBothTexts a b (λ text other. (text ≡ other) ↔ ShowAlike first second)
+both_faithful pc first second None b x y = tt
+both_faithful pc first second (Some (Err e)) b x y = tt
+both_faithful pc first second (Some (Ok s)) None x y = tt
+both_faithful pc first second (Some (Ok s)) (Some (Err e)) x y = tt
+both_faithful pc first second (Some (Ok s)) (Some (Ok t)) x y = faithful pc first second (string_bytes s) (string_bytes t) x y

@@ -1,0 +1,33 @@
+-- The row of a text is read from its name, which is what stands before the first blank.
+use Rattle.std.proofs.Common.{◌≡◌, ℕ, List, [], ◌∷◌, Option, Some, ◌==◌, if◌then◌else◌, refl, ap}
+use Rattle.std.specs.List.{find}
+use Rattle.std.specs.Str.{bytes_eq}
+use Rattle.rrs_lib.specs.Table.{Row}
+use Rattle.rrs_lib.specs.Texts.{name_of}
+
+-- what stands before the first blank, or the whole text where there is none
+abbrev pub first_word : List ℕ → List ℕ
+first_word [] = []
+first_word (byte ∷ rest) = if byte == 32 then [] else (byte ∷ first_word rest)
+
+-- the rows, in their order
+abbrev all_rows : List Row
+all_rows =
+    Row.Add ∷ Row.Sub ∷ Row.Sll ∷ Row.Slt ∷ Row.Sltu ∷ Row.Xor ∷ Row.Srl ∷ Row.Sra ∷ Row.Or ∷ Row.And ∷ Row.Addi ∷ Row.Slli ∷ Row.Slti ∷ Row.Sltiu
+    ∷ Row.Xori ∷ Row.Srli ∷ Row.Srai ∷ Row.Ori ∷ Row.Andi ∷ Row.Lui ∷ Row.Auipc ∷ Row.Beq ∷ Row.Bne ∷ Row.Blt ∷ Row.Bltu ∷ Row.Bge ∷ Row.Bgeu
+    ∷ Row.Lb ∷ Row.Lbu ∷ Row.Lh ∷ Row.Lhu ∷ Row.Lw ∷ Row.Sb ∷ Row.Sh ∷ Row.Sw ∷ Row.Jal ∷ Row.Jalr ∷ Row.Mul ∷ Row.Mulh ∷ Row.Mulhu ∷ Row.Mulhsu
+    ∷ Row.Div ∷ Row.Divu ∷ Row.Rem ∷ Row.Remu ∷ Row.Fence ∷ []
+
+-- the row that a name is of
+row_named : List ℕ → Option Row
+row_named name = find (λ row. bytes_eq (name_of row) name) all_rows
+
+-- each row is the one with its name
+row_named-name : (row : Row) → row_named (name_of row) ≡ Some row
+unfolding row_named
+row_named-name Row.Add = refl
+row_named-name _ = refl
+
+-- two rows with one name are one
+pub same_row : (row row' : Row) → name_of row ≡ name_of row' → row ≡ row'
+same_row row row' e = cc (row_named-name row, row_named-name row', ap row_named e)
