@@ -4,28 +4,32 @@ ghost use Rattle.std.specs.Prelude.{◌≡◌, ℕ, ◌+◌, ◌-◌, ◌^◌, �
 ghost use Rattle.std.specs.Bool.{OnTrue, OnFalse};
 ghost use Rattle.rrs_lib.specs.Table.{IsRowAnd, IsIllegal, IsOneRowAtMost};
 ghost use Rattle.rrs_extra.specs.Counting.{CountsOnce};
+ghost use Rattle.rrs_extra.specs.declared.TheConstants.{ROW_COUNT};
 
+use crate::ROW_COUNT;
 use rrs_lib::instruction_formats::{BType, IType, ITypeShamt, JType, RType, SType, UType};
 use rrs_lib::{InstructionProcessor, process_instruction};
 
 /// How often each row was called. A count that is `u64::MAX` stays there.
 pub(crate) struct CallCounter {
-    /// The counts of the rows 1 to 46, in their order.
-    pub(crate) counts: [u64; 46],
+    /// The counts of the rows 1 to `ROW_COUNT`, in their order.
+    pub(crate) counts: [u64; ROW_COUNT],
 }
 
 impl CallCounter {
     /// A counter that has counted nothing.
     pub(crate) fn new() -> Self
-        ensures { result.counts ≡ replicate 46 0 }
+        ensures { result.counts ≡ replicate ROW_COUNT 0 }
     {
-        CallCounter { counts: [0; 46] }
+        CallCounter {
+            counts: [0; ROW_COUNT],
+        }
     }
 
     /// Counts one call of the row with this number.
     fn count(&mut self, number: usize)
         requires first { 1 ≤ number }
-        requires last { number ≤ 46 }
+        requires last { number ≤ ROW_COUNT }
         ensures counted { slice_index self.new.counts (number - 1)
             ≡ min (slice_index self.old.counts (number - 1) + 1) (2 ^ 64 - 1) }
         ensures others { (other : ℕ) → 1 ≤ other → ¬ (other ≡ number)

@@ -1,8 +1,8 @@
 //! Processors over `rrs_lib`, written by its contracts alone.
 //!
-//! [RowNumberer] names the row of the table that a word is: its number, 1 to 46. [laws] has calls
-//! whose contracts relate what several calls of the kit return. The tests have a processor that
-//! counts the calls of each row, and `docs/PROCESSORS.md` says how to write one.
+//! [RowNumberer] names the row of the table that a word is: its number, 1 to [ROW_COUNT]. [laws] has
+//! calls whose contracts relate what several calls of the kit return. The tests have a processor
+//! that counts the calls of each row, and `docs/PROCESSORS.md` says how to write one.
 
 #![tactic(auto)]
 
@@ -13,10 +13,13 @@ ghost use Rattle.rrs_extra.specs.Numbering.{Numbers};
 use rrs_lib::InstructionProcessor;
 use rrs_lib::instruction_formats::{BType, IType, ITypeShamt, JType, RType, SType, UType};
 
-/// Answers the number of the row of an instruction, 1 to 46, in the order of the table.
+/// The number of rows of the table.
+pub const ROW_COUNT: usize = 46;
+
+/// Returns the number of the row of an instruction, 1 to [ROW_COUNT], in the order of the table.
 ///
-/// The fields are not looked at, and there is no state. Through `process_instruction` the answer
-/// is `Some` of the one row's number for a word of the table, and `None` for each other word.
+/// The fields are not looked at, and there is no state. `process_instruction` over it returns
+/// `Some` of the one row's number for a word of the table, and `None` for each other word.
 pub struct RowNumberer;
 
 impl Drop for RowNumberer {

@@ -1,12 +1,12 @@
 ghost use Rattle.std.specs.Prelude.{◌≡◌, IfSome, IfNone};
 ghost use Rattle.rrs_lib.specs.Table.{IsRowAnd, IsIllegal, table};
 
-use crate::RowNumberer;
 use crate::call_counter::{CallCounter, count_word};
+use crate::{ROW_COUNT, RowNumberer};
 use rrs_lib::process_instruction;
 
 /// One word of each row, in the order of the table.
-const ROW_WORDS: [u32; 46] = [
+const ROW_WORDS: [u32; ROW_COUNT] = [
     0x002081b3, 0x402081b3, 0x002091b3, 0x0020a1b3, 0x0020b1b3, 0x0020c1b3, 0x0020d1b3, 0x4020d1b3,
     0x0020e1b3, 0x0020f1b3, 0xffb08193, 0x00709193, 0xffb0a193, 0xffb0b193, 0xffb0c193, 0x0070d193,
     0x4070d193, 0xffb0e193, 0xffb0f193, 0x123451b7, 0x12345197, 0x00208463, 0x00209463, 0x0020c463,
@@ -58,10 +58,10 @@ fn counts_each_row(rt: HostRuntime) {
     for word in ROW_WORDS {
         assert!(rt; count_word(&mut counter, word), "at {word:#x}");
     }
-    assert_eq!(rt; counter.counts.as_slice(), [1; 46].as_slice());
+    assert_eq!(rt; counter.counts.as_slice(), [1; ROW_COUNT].as_slice());
 
     assert!(rt; count_word(&mut counter, 0x4020d1b3));
-    let mut wanted = [1; 46];
+    let mut wanted = [1; ROW_COUNT];
     wanted[7] = 2;
     assert_eq!(rt; counter.counts.as_slice(), wanted.as_slice());
 
@@ -74,10 +74,10 @@ fn counts_each_row(rt: HostRuntime) {
 #[test]
 fn counts_no_further_than_the_maximum(rt: HostRuntime) {
     let mut counter = CallCounter {
-        counts: [u64::MAX - 1; 46],
+        counts: [u64::MAX - 1; ROW_COUNT],
     };
-    let mut wanted = [u64::MAX - 1; 46];
-    wanted[45] = u64::MAX;
+    let mut wanted = [u64::MAX - 1; ROW_COUNT];
+    wanted[ROW_COUNT - 1] = u64::MAX;
     for _ in 0..2 {
         assert!(rt; count_word(&mut counter, 0x0ff0000f));
         assert_eq!(rt; counter.counts.as_slice(), wanted.as_slice());

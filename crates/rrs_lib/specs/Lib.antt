@@ -1,17 +1,24 @@
+-- The definitions, from the instruction set up to the code. docs/READING.md leads through them.
+
+-- The instruction set: words, encodings, the table of rows, results, the machine, and texts.
 pub mod Words
 pub mod Encodings
 pub mod Table
-pub mod Dispatching
-pub mod Bytes
 pub mod Results
 pub mod Machine
 pub mod Steps
-pub mod Executor
 pub mod Texts
-pub mod Outputter
+
+-- Memory: bytes at addresses, what each memory keeps, and the memories of the kit.
+pub mod Bytes
 pub mod VecBytes
 pub mod Spaces
-pub mod SpaceFields
-pub mod SpaceLends
 pub mod Loading
 pub mod LoadTexts
+
+-- The code as seen by these: what a processor, the executor and the outputter say of themselves.
+pub mod Dispatching
+pub mod Executor
+pub mod Outputter
+pub mod SpaceFields
+pub mod SpaceLends
