@@ -8,14 +8,12 @@ pub mod Results
 pub mod Machine
 pub mod Steps
 pub mod Texts
-
 -- Memory: bytes at addresses, what each memory keeps, and the memories of the kit.
 pub mod Bytes
 pub mod VecBytes
 pub mod Spaces
 pub mod Loading
 pub mod LoadTexts
-
 -- The code as seen by these: what a processor, the executor and the outputter say of themselves.
 pub mod Dispatching
 pub mod Executor

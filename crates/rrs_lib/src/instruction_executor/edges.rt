@@ -1,0 +1,146 @@
+//! What steps return at the edges of words and addresses.
+
+ghost use Rattle.std.specs.Prelude.{◌≡◌, ◌%◌};
+ghost use Rattle.rrs_lib.specs.VecBytes.{vec_bytes, vec_writable, vec_layout};
+
+use super::*;
+use crate::memories::VecMemory;
+use crate::{MemAccessSize, Memory};
+use std::test::Fail;
+
+/// Words, with a count of the reads and writes so far, modulo 2^64.
+#[derive(Drop)]
+struct CountedWords {
+    words: VecMemory,
+    calls: u64,
+}
+
+impl Memory for CountedWords {
+    ghost bytes = { λ counted. vec_bytes counted.words };
+
+    ghost writable = { λ counted. vec_writable counted.words };
+
+    ghost layout = { λ counted. vec_layout counted.words };
+
+    fn read_mem(&mut self, addr: u32, size: MemAccessSize) -> Option<u32> {
+        self.calls = self.calls.wrapping_add(1);
+        self.words.read_mem(addr, size)
+    }
+
+    fn write_mem(&mut self, addr: u32, size: MemAccessSize, store_data: u32) -> bool {
+        self.calls = self.calls.wrapping_add(1);
+        self.words.write_mem(addr, size, store_data)
+    }
+}
+
+#[test]
+fn no_read_where_the_pc_is_not_aligned(rt: HostRuntime) -> Result<(), Fail> {
+    for pc in [1, 2, 3, 0xffff_fffd] {
+        let mut memory = CountedWords {
+            words: VecMemory::new(vec![in rt.alloc(); 0x0000_0013, 0x0000_0013]?),
+            calls: 0,
+        };
+        let mut hart = HartState::new();
+        hart.registers[0] = 77;
+        hart.pc = pc;
+        hart.last_register_write = Some(9);
+        let mut executor = InstructionExecutor {
+            mem: &mut memory,
+            hart_state: &mut hart,
+        };
+        assert_eq!(rt;
+            executor.step(),
+            Err(InstructionException::AlignmentFault(pc))
+        );
+        assert_eq!(rt; memory.calls, 0, "at pc {pc}");
+        assert_eq!(rt;
+            (hart.registers[0], hart.pc, hart.last_register_write),
+            (77, pc, None)
+        );
+    }
+    Ok(())
+}
+
+/// A load and a store whose address is not aligned: the fetch is the only read.
+#[test]
+fn no_access_where_the_address_is_not_aligned(rt: HostRuntime) -> Result<(), Fail> {
+    for (word, calls) in [
+        (0x0020_2083, 1), // lw x1, 2(x0)
+        (0x0010_1083, 1), // lh x1, 1(x0)
+        (0x0010_2123, 1), // sw x1, 2(x0)
+        (0x0010_10a3, 1), // sh x1, 1(x0)
+        (0x0000_2083, 2), // lw x1, 0(x0)
+        (0x0010_2023, 2), // sw x1, 0(x0)
+        (0x0000_0013, 1), // addi x0, x0, 0
+        (0x0000_0073, 1), // no row
+    ] {
+        let mut memory = CountedWords {
+            words: VecMemory::new(vec![in rt.alloc(); word, 0]?),
+            calls: 0,
+        };
+        let mut hart = HartState::new();
+        let mut executor = InstructionExecutor {
+            mem: &mut memory,
+            hart_state: &mut hart,
+        };
+        let _answer = executor.step();
+        assert_eq!(rt; memory.calls, calls, "of {word:08x}");
+    }
+    Ok(())
+}
+
+/// A word alone at address 0, and two steps: the first is `Ok` and jumps to a pc, where the second
+/// has a fault.
+#[test]
+fn jumps_to_the_last_addresses(rt: HostRuntime) -> Result<(), Fail> {
+    for (word, pc, fault) in [
+        (
+            0xfff0_0067,
+            0xffff_fffe,
+            InstructionException::AlignmentFault(0xffff_fffe),
+        ),
+        (
+            0xfe00_0ee3,
+            0xffff_fffc,
+            InstructionException::FetchError(0xffff_fffc),
+        ),
+    ] {
+        let mut memory = VecMemory::new(vec![in rt.alloc(); word]?);
+        let mut hart = HartState::new();
+        let mut executor = InstructionExecutor {
+            mem: &mut memory,
+            hart_state: &mut hart,
+        };
+        assert_eq!(rt; executor.step(), Ok(()));
+        assert_eq!(rt; executor.hart_state.pc, pc, "after {word:08x}");
+        assert_eq!(rt; executor.step(), Err(fault));
+        assert_eq!(rt; hart.pc, pc);
+    }
+    Ok(())
+}
+
+#[test]
+fn an_empty_memory_has_no_instruction(rt: HostRuntime) {
+    let mut memory = VecMemory::new(Vec::new(rt.alloc()));
+    let mut hart = HartState::new();
+    let mut executor = InstructionExecutor {
+        mem: &mut memory,
+        hart_state: &mut hart,
+    };
+    assert_eq!(rt; executor.step(), Err(InstructionException::FetchError(0)));
+}
+
+/// lw x3, 4(x1) with x1 0xfffffffc reads address 0, its own word.
+#[test]
+fn an_address_wraps(rt: HostRuntime) -> Result<(), Fail> {
+    let mut memory = VecMemory::new(vec![in rt.alloc(); 0x0040_a183]?);
+    let mut hart = HartState::new();
+    hart.registers[1] = 0xffff_fffc;
+    let mut executor = InstructionExecutor {
+        mem: &mut memory,
+        hart_state: &mut hart,
+    };
+    assert_eq!(rt; executor.step(), Ok(()));
+    assert_eq!(rt; hart.registers[3], 0x0040_a183);
+    Ok(())
+}
