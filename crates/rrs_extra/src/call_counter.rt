@@ -235,7 +235,7 @@ impl InstructionProcessor for CallCounter {
     }
 }
 
-/// Counts the row of a word, and answers whether the word is one.
+/// Counts the row of a word, and returns whether the word is one.
 pub(crate) fn count_word(counter: &mut CallCounter, word: u32) -> bool
     ensures counted { OnTrue result (IsRowAnd word
         (λ row f. CountsOnce row counter.old.counts counter.new.counts)) }

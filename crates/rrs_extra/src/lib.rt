@@ -20,13 +20,8 @@ pub const ROW_COUNT: usize = 46;
 ///
 /// The fields are not looked at, and there is no state. `process_instruction` over it returns
 /// `Some` of the one row's number for a word of the table, and `None` for each other word.
+#[derive(Drop)]
 pub struct RowNumberer;
-
-impl Drop for RowNumberer {
-    fn drop(self) {
-        let RowNumberer = self;
-    }
-}
 
 impl InstructionProcessor for RowNumberer {
     type InstructionResult = u32;
@@ -220,6 +215,8 @@ impl InstructionProcessor for RowNumberer {
 
 #[cfg(test)]
 mod call_counter;
+#[cfg(test)]
+mod coverage;
 #[cfg(test)]
 mod output_port;
 #[cfg(test)]
