@@ -8,6 +8,7 @@ pub mod Fields
 pub mod Keeping
 pub mod LoadLemmas
 pub mod Masks
+pub mod Programs
 pub mod RegionFields
 pub mod Regions
 pub mod Rows
