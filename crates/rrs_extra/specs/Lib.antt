@@ -1,4 +1,5 @@
 pub mod Numbering
 pub mod Counting
+pub mod Programs
 pub use Rattle.rrs_lib.specs.Encodings
 pub use Rattle.rrs_lib.specs.Table

@@ -5,6 +5,8 @@
 
 #![tactic(auto)]
 
+pub mod laws;
+
 ghost use Rattle.rrs_extra.specs.Numbering.{Numbers};
 
 use rrs_lib::InstructionProcessor;

@@ -1,3 +1,4 @@
+pub mod Accesses
 pub mod Bitwise
 pub mod ExampleResults
 pub mod ExampleRows

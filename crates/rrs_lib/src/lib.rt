@@ -266,7 +266,7 @@ impl HartState {
 
     /// Reads a register; x0 is 0.
     #[inline]
-    pub(crate) fn read_register(&self, reg_index: usize) -> u32
+    pub fn read_register(&self, reg_index: usize) -> u32
         requires { reg_index < 32 }
         ensures { (bytes : ℕ → Option ℕ) (writable : ℕ → Bool)
             → result ≡ reg (state_of self.now bytes writable) reg_index }
