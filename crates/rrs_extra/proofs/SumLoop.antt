@@ -43,12 +43,12 @@ round : (o : Others) (x1 a n sum x x13 x14 x15 : ℕ) (last : Option ℕ) (bytes
     → HoldsWords bytes 0 sum_loop_program → a % 4 ≡ 0 → a < 2 ^ 32 → suc n < 2 ^ 32 → little_endian bytes a 4 ≡ Some x
     → RunsOk 6 (at (registers_by o x1 a (suc n) sum x13 x14 x15) 4 last bytes writable) (at (registers_by o x1 (word (pos (a + 4))) n (word (pos (sum + word (pos x)))) (word (pos x)) x14 x15) 4 None bytes writable)
 round o x1 a n sum x x13 x14 x15 last bytes writable holds aligned small few read =
-    (_, Programs.step-stays (suc n == 0) (pos 24) (fetches refl (holds 1 (omega arith)) beq_x11) refl (grind arith) refl,
-    (_, Programs.step-loads 4 pos (fetches refl (holds 2 (omega arith)) lw_x13) refl (omega arith) aligned read refl refl,
-    (_, Programs.step-writes 11 (pos (sum + word (pos x))) (fetches refl (holds 3 (omega arith)) add_x12) refl refl refl,
-    (_, Programs.step-writes 9 (pos (a + 4)) (fetches refl (holds 4 (omega arith)) addi_x10) refl refl refl,
-    (_, Programs.step-writes 10 (pos (suc n + 4294967295)) (fetches refl (holds 5 (omega arith)) addi_x11) refl (omega arith) refl,
-    (_, Programs.step-jumps 0 4 (fetches refl (holds 6 (omega arith)) jal_back) refl refl,
+    (_, Programs.step-stays 8 (suc n == 0) (pos 24) (fetches refl (holds.each 1 (omega arith)) beq_x11) refl (grind arith) refl,
+    (_, Programs.step-loads 12 4 pos a x (word (pos x)) (fetches refl (holds.each 2 (omega arith)) lw_x13) refl (omega arith) aligned read refl refl,
+    (_, Programs.step-writes 16 11 _ (pos (sum + word (pos x))) (fetches refl (holds.each 3 (omega arith)) add_x12) refl refl refl,
+    (_, Programs.step-writes 20 9 _ (pos (a + 4)) (fetches refl (holds.each 4 (omega arith)) addi_x10) refl refl refl,
+    (_, Programs.step-writes 24 10 n (pos (suc n + 4294967295)) (fetches refl (holds.each 5 (omega arith)) addi_x11) refl (omega arith) refl,
+    (_, Programs.step-jumps 4 0 4 (fetches refl (holds.each 6 (omega arith)) jal_back) refl refl,
     refl))))))
 
 -- ---- all rounds
@@ -79,7 +79,7 @@ rounds : (n : ℕ) (o : Others) (x1 a sum total x13 x14 x15 : ℕ) (last : Optio
 rounds zero o x1 a sum total x13 x14 x15 last bytes writable holds aligned fits mapped small is =
     let P : ℕ → Type 0 = λ y. RunsOk 1 (at (registers_by o x1 a 0 sum x13 x14 x15) 4 last bytes writable) (at (registers_by o x1 a 0 y x13 x14 x15) 0x1c None bytes writable) in
     let same : sum ≡ total = omega (arith, is) in
-    let out : RunsOk 1 (at (registers_by o x1 a 0 sum x13 x14 x15) 4 last bytes writable) (at (registers_by o x1 a 0 sum x13 x14 x15) 0x1c None bytes writable) = (_, Programs.step-branches true (pos 24) {registers = registers_by o x1 a 0 sum x13 x14 x15} (fetches refl (holds 1 (omega arith)) beq_x11) refl refl refl, refl) in
+    let out : RunsOk 1 (at (registers_by o x1 a 0 sum x13 x14 x15) 4 last bytes writable) (at (registers_by o x1 a 0 sum x13 x14 x15) 0x1c None bytes writable) = (_, Programs.step-branches 0x1c true (pos 24) {registers = registers_by o x1 a 0 sum x13 x14 x15} (fetches refl (holds.each 1 (omega arith)) beq_x11) refl refl refl, refl) in
     record { end = a; value = x13; runs = subst P same out }
 rounds (suc n) o x1 a sum total x13 x14 x15 last bytes writable holds aligned fits mapped small is =
     let x = word_at bytes a in
@@ -102,7 +102,7 @@ pub record Sums (s : State) : Type 0 where
 sums_from : (o : Others) (x1 a n x12 x13 x14 x15 : ℕ) (last : Option ℕ) (bytes : ByteMap) (writable : ℕ → Bool) → SumLoopStarts (at (registers_by o x1 a n x12 x13 x14 x15) 0 last bytes writable) → Sums (at (registers_by o x1 a n x12 x13 x14 x15) 0 last bytes writable)
 sums_from o x1 a n x12 x13 x14 x15 last bytes writable starts =
     let all = rounds n o x1 a 0 (sum_of_words bytes a n % 2 ^ 32) x13 x14 x15 (Some 12) bytes writable starts.program starts.aligned starts.in_range starts.mapped (omega arith) (ap (λ y. y % 2 ^ 32) (omega arith)) in
-    let first = Programs.step-writes 11 (pos 0) {registers = registers_by o x1 a n x12 x13 x14 x15} {pc = 0} {last = last} {bytes = bytes} {writable = writable} (fetches refl (starts.program 0 (omega arith)) li_x12) refl refl refl in
+    let first = Programs.step-writes 4 11 0 (pos 0) {registers = registers_by o x1 a n x12 x13 x14 x15} {pc = 0} {last = last} {bytes = bytes} {writable = writable} (fetches refl (starts.program.each 0 (omega arith)) li_x12) refl refl refl in
     let chain = Programs.RunsOk-as (suc (6 * n + 1)) (6 * n + 2) _ _ (omega arith) (Programs.RunsOk-then (6 * n + 1) _ _ _ first all.runs) in
     let fault = Programs.step-illegal {registers = registers_by o x1 all.end 0 (sum_of_words bytes a n % 2 ^ 32) all.value x14 x15} {pc = 0x1c} {last = None} {bytes = bytes} {writable = writable} refl (word_read bytes 0x1c starts.behind.mapped) starts.behind.outside in
     record { after = _; runs = Programs.RunUntil-fault (6 * n + 3) (6 * n + 2) _ _ _ _ (omega arith) chain fault; sum = refl; bytes_kept = refl }

@@ -19,9 +19,8 @@ abbrev pub word_at : ByteMap → ℕ → ℕ
 word_at bytes a = or_zero (little_endian bytes a 4)
 
 -- the words stand one after another from a on
-abbrev pub HoldsWords : ByteMap → ℕ → List ℕ → Type 0
-HoldsWords bytes a words =
-    (i : ℕ) → i < length words → little_endian bytes (a + 4 * i) 4 ≡ Some (slice_index words i)
+pub record HoldsWords (bytes : ByteMap) (a : ℕ) (words : List ℕ) : Type 0 where
+  pub each : (i : ℕ) → i < length words → little_endian bytes (a + 4 * i) 4 ≡ Some (slice_index words i)
 
 -- a word outside the table stands at a
 pub record HoldsIllegal (bytes : ByteMap) (a : ℕ) : Type 0 where
@@ -33,6 +32,14 @@ pub record HoldsIllegal (bytes : ByteMap) (a : ℕ) : Type 0 where
 -- registers 1, 10 and 11, which have the address to return to and the first arguments, hold words
 abbrev pub HasWords : State → Type 0
 HasWords s = (reg s 1 < 2 ^ 32) × (reg s 10 < 2 ^ 32) × (reg s 11 < 2 ^ 32)
+
+-- The program stands from the program counter on, and register 1 has the address to return to, where a word outside the table stands.
+pub record IsCalled (program : List ℕ) (s : State) : Type 0 where
+  pub program_there : HoldsWords s.bytes s.pc program
+  pub aligned : s.pc % 4 ≡ 0
+  pub in_range : s.pc + 4 * length program ≤ 2 ^ 32
+  pub return_aligned : reg s 1 % 4 ≡ 0
+  pub stops : HoldsIllegal s.bytes (reg s 1)
 
 -- ---- the sum of words, by a program at address 0
 
@@ -61,3 +68,15 @@ pub record SumLoopStarts (s : State) : Type 0 where
   pub past_program : 0x20 ≤ reg s 10
   pub mapped : IsMapped s.bytes (reg s 10) (4 * reg s 11)
   pub in_range : reg s 10 + 4 * reg s 11 ≤ 2 ^ 32
+
+-- ---- the greatest common divisor, as C calls it
+
+abbrev pub gcd_program : List ℕ
+gcd_program =
+    0x00059463 -- bne x11, x0, 8 bytes on
+    ∷ 0x00008067 -- jalr x0, 0(x1)
+    ∷ 0x02b577b3 -- remu x15, x10, x11
+    ∷ 0x00058513 -- addi x10, x11, 0
+    ∷ 0x00078593 -- addi x11, x15, 0
+    ∷ 0xfedff06f -- jal x0, 20 bytes back
+    ∷ []

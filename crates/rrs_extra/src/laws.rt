@@ -3,4 +3,4 @@
 
 mod programs;
 
-pub use programs::sum_loop;
+pub use programs::{gcd, sum_loop};
