@@ -1,3 +1,4 @@
+pub mod CopyWords
 pub mod Gcd
 pub mod PortLemmas
 pub mod SumLoop

@@ -3,4 +3,4 @@
 
 mod programs;
 
-pub use programs::{gcd, sum_loop};
+pub use programs::{copy_words, gcd, sum_loop};

@@ -1,7 +1,7 @@
 -- For proofs of programs: what reads give, also after writes.
-use Rattle.std.proofs.Common.{◌≡◌, ◌⊎◌, ℕ, zero, suc, ◌+◌, ◌-◌, ◌*◌, ◌/◌, ◌%◌, ◌^◌, ◌<◌, ◌≤◌, Bool, true, false, ◌&&◌, Option, Some, None, IsSome, IsTrue, inl, inr, refl, sym, ap, subst, ◌∙◌, arith}
+use Rattle.std.proofs.Common.{◌≡◌, ◌≢◌, ◌⊎◌, ℕ, zero, suc, ◌+◌, ◌-◌, ◌*◌, ◌/◌, ◌%◌, ◌^◌, ◌<◌, ◌≤◌, Bool, true, false, ◌&&◌, Option, Some, None, IsSome, IsTrue, inl, inr, refl, sym, ap, subst, ◌∙◌, arith}
 use Rattle.std.proofs.Math.Nat.{mod-one, add-zero}
-use Rattle.std.proofs.lemmas.Bool.{and_from}
+use Rattle.std.proofs.lemmas.Bool.{and_from, cases_lt}
 use Rattle.rrs_lib.specs.Bytes.{ByteMap, little_endian, all_writable, store, sum_if_both, at_place}
 use Rattle.rrs_lib.proofs.VecWords.{one_more_byte, store_inside, store_below, store_above}
 
@@ -36,10 +36,22 @@ pub store-outside : (bytes : ByteMap) (a n v b : ℕ) → Outside a n b → stor
 store-outside bytes a n v b (inl below) = store_below bytes a n v b below
 store-outside bytes a n v b (inr above) = store_above bytes a n v b above
 
+-- what is read outside a range is as before where all bytes outside it are
+pub read-kept : (old new : ByteMap) (a n b m : ℕ) → ((c : ℕ) → Outside a n c → new c ≡ old c) → ((i : ℕ) → i < m → Outside a n (b + i)) → little_endian new b m ≡ little_endian old b m
+read-kept old new a n b m others outside = same_bytes old new b m (λ i h. others (b + i) (outside i h))
+
 -- what is read apart from a store is as before
 pub read-apart : (bytes : ByteMap) (a n v b m : ℕ) → (b + m ≤ a) ⊎ (a + n ≤ b) → little_endian (store bytes a n v) b m ≡ little_endian bytes b m
-read-apart bytes a n v b m (inl below) = same_bytes bytes (store bytes a n v) b m (λ i h. store_below bytes a n v (b + i) (omega arith))
-read-apart bytes a n v b m (inr above) = same_bytes bytes (store bytes a n v) b m (λ i h. store_above bytes a n v (b + i) (omega arith))
+read-apart bytes a n v b m (inl below) = read-kept bytes (store bytes a n v) a n b m (λ c h. store-outside bytes a n v c h) (λ i h. inl (omega arith))
+read-apart bytes a n v b m (inr above) = read-kept bytes (store bytes a n v) a n b m (λ c h. store-outside bytes a n v c h) (λ i h. inr (omega arith))
+
+-- an address lies outside a range that has no address equal to it
+pub outside_from_none : (a n b : ℕ) → ((i : ℕ) → i < n → a + i ≢ b) → Outside a n b
+outside_from_none a n b none =
+    elim (cases_lt b a) [
+        inl below ↦ inl below
+        | inr from ↦ elim (cases_lt b (a + n)) [ inl to ↦ absurd (none (b - a) (omega arith) (omega arith)) | inr above ↦ inr above ]
+    ]
 
 -- what is read of a store, from its lowest byte on
 read-low : (bytes : ByteMap) (a n v m : ℕ) → m ≤ n → little_endian (store bytes a n v) a m ≡ Some (v % 256 ^ m)

@@ -6,7 +6,7 @@ ghost use Rattle.rrs_lib.specs.declared.instruction_executor.InstructionExceptio
 ghost use Rattle.rrs_lib.specs.Executor.{state_in, KeepsTheRest};
 ghost use Rattle.rrs_lib.specs.Machine.{state_of, reg};
 ghost use Rattle.rrs_lib.specs.Steps.{RunUntil};
-ghost use Rattle.rrs_extra.specs.Programs.{word_at, sum_of_words, SumLoopStarts, IsCalled, HasWords, gcd_program};
+ghost use Rattle.rrs_extra.specs.Programs.{word_at, sum_of_words, SumLoopStarts, IsCalled, HasWords, gcd_program, CopyWordsStarts, CopiesWords, copy_steps};
 
 use rrs_lib::{HartState, Memory};
 use rrs_lib::instruction_executor::{InstructionExecutor, RunEnd};
@@ -46,6 +46,24 @@ pub fn gcd<M: Memory>(executor: &mut InstructionExecutor<M>) -> RunEnd
     registers_of_call(executor.hart_state);
     let divisor = executor.hart_state.read_register(11);
     executor.run(5 * u64::from(divisor) + 3)
+}
+
+/// Calls a program of nine words that copies words in memory.
+pub fn copy_words<M: Memory>(executor: &mut InstructionExecutor<M>) -> RunEnd
+    requires { CopyWordsStarts (state_in M.bytes M.writable executor.old) }
+    ensures run { RunUntil (5 * reg (state_in M.bytes M.writable executor.old) 12 + 5)
+        (state_in M.bytes M.writable executor.old) result.steps result.exception (state_in M.bytes M.writable executor.new) }
+    ensures steps { result.steps ≡ copy_steps (reg (state_in M.bytes M.writable executor.old) 12) }
+    ensures fault { result.exception ≡ Some (IllegalInstruction (reg (state_in M.bytes M.writable executor.old) 1)
+        (word_at (M.bytes executor.old.mem.now) (reg (state_in M.bytes M.writable executor.old) 1))) }
+    ensures copied { CopiesWords (M.bytes executor.old.mem.now) (M.bytes executor.new.mem.now)
+        (reg (state_in M.bytes M.writable executor.old) 10) (reg (state_in M.bytes M.writable executor.old) 11)
+        (reg (state_in M.bytes M.writable executor.old) 12) }
+    ensures rest { KeepsTheRest M.layout executor.old executor.new }
+{
+    registers_of_call(executor.hart_state);
+    let count = executor.hart_state.read_register(12);
+    executor.run(5 * u64::from(count) + 5)
 }
 
 /// What the type of the registers says: there are 32, and those that a call is handed are words.
