@@ -1,5 +1,6 @@
 -- Words in a memory.
-use Rattle.std.proofs.Common.{◌≡◌, ℕ, ◌+◌, ◌-◌, ◌*◌, ◌%◌, ◌<◌, ◌≤◌, List, length, slice_index, Option, Some, None, IsSome, refl, ap, subst, ◌∙◌, arith}
+use Rattle.std.proofs.Common.{◌≡◌, ℕ, zero, suc, ◌+◌, ◌-◌, ◌*◌, ◌%◌, ◌<◌, ◌≤◌, ◌==◌, ◌&&◌, Bool, true, false, List, [], ◌∷◌, length, slice_index, Option, Some, None, IsSome, is_some, refl, ap, subst, ◌∙◌, arith, below_more}
+use Rattle.std.proofs.lemmas.Bool.{eqb-true, and_parts}
 use Rattle.rrs_lib.specs.Encodings.{Fields}
 use Rattle.rrs_lib.specs.Table.{Row, Decodes}
 use Rattle.rrs_lib.specs.Bytes.{ByteMap, little_endian}
@@ -30,3 +31,42 @@ read_after old new a n b m from count others apart low high =
 -- so a program stands as before
 pub holds_after : (old new : ByteMap) (a n p m : ℕ) (words : List ℕ) → ((c : ℕ) → Outside a n c → new c ≡ old c) → AreApart a n p m → 4 * length words ≤ m → HoldsWords old p words → HoldsWords new p words
 holds_after old new a n p m words others apart fits holds = record { each = λ i h. read_after old new a n p m (p + 4 * i) 4 others apart (omega arith) (omega arith) ∙ holds.each i h }
+
+-- ---- premises over memories that are known, by computation
+
+abbrev pub is_value : Option ℕ → ℕ → Bool
+is_value None w = false
+is_value (Some x) w = x == w
+
+value_is : (o : Option ℕ) (w : ℕ) → is_value o w ≡ true → o ≡ Some w
+value_is None w test = cc
+value_is (Some x) w test = ap Some (eqb-true x w test)
+
+-- whether the words stand from a on
+abbrev pub holds_test : ByteMap → ℕ → List ℕ → Bool
+holds_test bytes a [] = true
+holds_test bytes a (w ∷ words) = is_value (little_endian bytes a 4) w && holds_test bytes (a + 4) words
+
+each_holds : (bytes : ByteMap) (a : ℕ) (words : List ℕ) → holds_test bytes a words ≡ true → (i : ℕ) → i < length words → little_endian bytes (a + 4 * i) 4 ≡ Some (slice_index words i)
+each_holds bytes a [] test i less = absurd (omega (arith, less))
+each_holds bytes a (w ∷ words) test zero less =
+    let P : ℕ → Type 0 = λ b. little_endian bytes b 4 ≡ Some w in
+    let there : a ≡ a + 4 * 0 = omega arith in
+    subst P there (value_is (little_endian bytes a 4) w ((and_parts _ _ test).0))
+each_holds bytes a (w ∷ words) test (suc i) less =
+    let P : ℕ → Type 0 = λ b. little_endian bytes b 4 ≡ Some (slice_index words i) in
+    let there : a + 4 + 4 * i ≡ a + 4 * suc i = omega arith in
+    subst P there (each_holds bytes (a + 4) words ((and_parts _ _ test).1) i (omega (arith, less)))
+
+pub holds_by_test : (bytes : ByteMap) (a : ℕ) (words : List ℕ) → holds_test bytes a words ≡ true → HoldsWords bytes a words
+holds_by_test bytes a words test = record { each = each_holds bytes a words test }
+
+-- whether the n bytes from a on are mapped
+abbrev pub mapped_test : ByteMap → ℕ → ℕ → Bool
+mapped_test bytes a zero = true
+mapped_test bytes a (suc n) = mapped_test bytes a n && is_some (bytes (a + n))
+
+pub mapped_by_test : (bytes : ByteMap) (a n : ℕ) → mapped_test bytes a n ≡ true → IsMapped bytes a n
+mapped_by_test bytes a zero test i less = absurd (omega (arith, less))
+mapped_by_test bytes a (suc n) test i less =
+    below_more (λ k. IsSome (bytes (a + k))) n (mapped_by_test bytes a n ((and_parts _ _ test).0)) ((and_parts _ _ test).1) i (omega (arith, less))

@@ -76,3 +76,6 @@ fn registers_of_call(hart: &HartState)
     let _ = registers.len();
     let _ = (hart.read_register(1), hart.read_register(10), hart.read_register(11));
 }
+
+#[cfg(test)]
+mod tests;
