@@ -1,5 +1,6 @@
 pub mod Numbering
 pub mod Counting
 pub mod Programs
+pub mod ProgramExamples
 pub use Rattle.rrs_lib.specs.Encodings
 pub use Rattle.rrs_lib.specs.Table

@@ -1,6 +1,7 @@
 //! The three programs on chosen words: run, and called with their premises proved.
 
-ghost use Rattle.std.specs.Prelude.{◌≡◌, ◌+◌, ◌*◌, ◌≤◌, ◌∷◌, ◌++◌, [], IfOk};
+ghost use Rattle.std.specs.Prelude.{◌≡◌, ◌+◌, ◌*◌, ◌≤◌, IfOk, IfSome};
+ghost use Rattle.rrs_extra.specs.ProgramExamples.{words_to_add, words_of_program, three_words, two_regions};
 ghost use Rattle.rrs_extra.specs.Programs.{HoldsWords, HoldsIllegal, IsMapped, sum_loop_program};
 
 use super::*;
@@ -11,14 +12,44 @@ use std::test::Fail;
 
 /// The program that adds up words, a word outside the table, and three words.
 fn words_to_add(alloc: Global) -> Result<VecMemory, AllocError>
-    ensures { IfOk result (λ memory. memory.mem.items
-        ≡ sum_loop_program ++ 0 ∷ 5 ∷ 7 ∷ 0xffffffff ∷ []) }
+    ensures { IfOk result (λ memory. memory.mem.items ≡ words_to_add) }
 {
     let words = [
         0x00000613, 0x00058c63, 0x00052683, 0x00d60633, 0x00450513, 0xfff58593, 0xfedff06f, 0, 5,
         7, 0xffffffff,
     ];
     Ok(VecMemory::new(words.to_vec(alloc)?))
+}
+
+/// The program and the word behind it, without the words to add up.
+fn words_of_program(alloc: Global) -> Result<VecMemory, AllocError>
+    ensures { IfOk result (λ memory. memory.mem.items ≡ words_of_program) }
+{
+    let words = [
+        0x00000613, 0x00058c63, 0x00052683, 0x00d60633, 0x00450513, 0xfff58593, 0xfedff06f, 0,
+    ];
+    Ok(VecMemory::new(words.to_vec(alloc)?))
+}
+
+/// Three words to add up.
+fn three_words(alloc: Global) -> Result<VecMemory, AllocError>
+    ensures { IfOk result (λ memory. memory.mem.items ≡ three_words) }
+{
+    Ok(VecMemory::new([5, 7, 0xffffffff].to_vec(alloc)?))
+}
+
+/// A space of two regions, at 0 and at 0x20. There is none where memory runs out.
+fn space_of_two(alloc: Global, low: VecMemory, high: VecMemory) -> Option<MemorySpace<VecMemory>>
+    ensures { IfSome result (λ space. space ≡ two_regions low high) }
+{
+    let mut space = MemorySpace::new(alloc);
+    if space.add_memory(0, 0x20, low).is_err() {
+        return None;
+    }
+    if space.add_memory(0x20, 12, high).is_err() {
+        return None;
+    }
+    Some(space)
 }
 
 /// A hart that is called at an address, with the address to return to and three arguments.
@@ -62,6 +93,22 @@ fn adds_up_words(rt: HostRuntime) -> Result<(), Fail> {
     assert_eq!(rt; end.exception, Some(InstructionException::IllegalInstruction(0x1c, 0)));
     assert_eq!(rt; hart.registers[12], 11);
     assert_eq!(rt; hart.pc, 0x1c);
+    Ok(())
+}
+
+#[test]
+fn adds_up_words_of_a_space(rt: HostRuntime) -> Result<(), Fail> {
+    let low = words_of_program(rt.alloc())?;
+    let high = three_words(rt.alloc())?;
+    if let Some(mut space) = space_of_two(rt.alloc(), low, high) {
+        let mut hart = HartState::new();
+        let end = add_up(&mut space, &mut hart, 3);
+        assert_eq!(rt; end.steps, 20);
+        assert_eq!(rt; end.exception, Some(InstructionException::IllegalInstruction(0x1c, 0)));
+        assert_eq!(rt; hart.registers[12], 11);
+    } else {
+        assert!(rt; false, "no memory for the space");
+    }
     Ok(())
 }
 
