@@ -1,6 +1,6 @@
 pub mod CopyWords
 pub mod Gcd
 pub mod PortLemmas
-pub mod SumExample
+pub mod ProgramExamples
 pub mod SumLoop
 pub mod Words
