@@ -1,5 +1,6 @@
 pub mod Accesses
 pub mod Bitwise
+pub mod Decoder
 pub mod ExampleResults
 pub mod ExampleRows
 pub mod ExampleSteps
