@@ -4,3 +4,8 @@ pub mod Names
 pub mod Faithful
 pub mod SameWords
 pub mod ExampleShowing
+pub mod CopyWords
+pub mod Gcd
+pub mod ProgramExamples
+pub mod SumLoop
+pub mod Words

@@ -1,9 +1,12 @@
+pub mod Accesses
 pub mod Bitwise
+pub mod Decoder
 pub mod Examples
 pub mod Fields
 pub mod Keeping
 pub mod LoadLemmas
 pub mod Masks
+pub mod Programs
 pub mod RegionFields
 pub mod Regions
 pub mod Rows

@@ -1,0 +1,72 @@
+-- Words in a memory.
+use Rattle.std.proofs.Common.{◌≡◌, ℕ, zero, suc, ◌+◌, ◌-◌, ◌*◌, ◌%◌, ◌<◌, ◌≤◌, ◌==◌, ◌&&◌, Bool, true, false, List, [], ◌∷◌, length, slice_index, Option, Some, None, IsSome, is_some, refl, ap, subst, ◌∙◌, arith, below_more}
+use Rattle.std.proofs.lemmas.Bool.{eqb-true, and_parts}
+use Rattle.rrs_lib.specs.Encodings.{Fields}
+use Rattle.rrs_lib.specs.Table.{Row, Decodes}
+use Rattle.rrs_lib.specs.Bytes.{ByteMap, little_endian}
+use Rattle.rrs_lib.proofs.Accesses.{Outside, read-mapped, read-kept, outside_from_none}
+use Rattle.rrs_lib.proofs.Programs.{Fetches, fetches}
+use Rattle.rrs_extra.specs.Programs.{HoldsWords, IsMapped, AreApart, or_zero, word_at}
+
+is_its_value : (o : Option ℕ) → IsSome o → o ≡ Some (or_zero o)
+is_its_value None some = cc
+is_its_value (Some x) some = refl
+
+-- the word at an address is read where its bytes are mapped
+pub word_read : (bytes : ByteMap) (a : ℕ) → IsMapped bytes a 4 → little_endian bytes a 4 ≡ Some (word_at bytes a)
+word_read bytes a mapped = is_its_value (little_endian bytes a 4) (read-mapped bytes a 4 mapped)
+
+-- word i of a program is fetched at its address
+pub instruction : {bytes : ByteMap} {a pc : ℕ} {words : List ℕ} {row : Row} {f : Fields}
+    → HoldsWords bytes a words → a % 4 ≡ 0 → (i : ℕ) → i < length words → a + 4 * i ≡ pc → Decodes (slice_index words i) row f → Fetches bytes pc row f
+instruction {bytes = bytes} {a = a} {pc = pc} {words = words} holds aligned i within there decodes =
+    let P : ℕ → Type 0 = λ b. little_endian bytes b 4 ≡ Some (slice_index words i) in
+    fetches {w = slice_index words i} (omega arith) (subst P there (holds.each i within)) decodes
+
+-- what is read apart from a range is as before where all bytes outside it are
+pub read_after : (old new : ByteMap) (a n b m from count : ℕ) → ((c : ℕ) → Outside a n c → new c ≡ old c) → AreApart a n b m → b ≤ from → from + count ≤ b + m → little_endian new from count ≡ little_endian old from count
+read_after old new a n b m from count others apart low high =
+    read-kept old new a n from count others (λ j h. outside_from_none a n (from + j) (λ i less same. apart i (from + j - b) less (omega arith) (omega (arith, same))))
+
+-- so a program stands as before
+pub holds_after : (old new : ByteMap) (a n p m : ℕ) (words : List ℕ) → ((c : ℕ) → Outside a n c → new c ≡ old c) → AreApart a n p m → 4 * length words ≤ m → HoldsWords old p words → HoldsWords new p words
+holds_after old new a n p m words others apart fits holds = record { each = λ i h. read_after old new a n p m (p + 4 * i) 4 others apart (omega arith) (omega arith) ∙ holds.each i h }
+
+-- ---- premises over memories that are known, by computation
+
+abbrev pub is_value : Option ℕ → ℕ → Bool
+is_value None w = false
+is_value (Some x) w = x == w
+
+value_is : (o : Option ℕ) (w : ℕ) → is_value o w ≡ true → o ≡ Some w
+value_is None w test = cc
+value_is (Some x) w test = ap Some (eqb-true x w test)
+
+-- whether the words stand from a on
+abbrev pub holds_test : ByteMap → ℕ → List ℕ → Bool
+holds_test bytes a [] = true
+holds_test bytes a (w ∷ words) = is_value (little_endian bytes a 4) w && holds_test bytes (a + 4) words
+
+each_holds : (bytes : ByteMap) (a : ℕ) (words : List ℕ) → holds_test bytes a words ≡ true → (i : ℕ) → i < length words → little_endian bytes (a + 4 * i) 4 ≡ Some (slice_index words i)
+each_holds bytes a [] test i less = absurd (omega (arith, less))
+each_holds bytes a (w ∷ words) test zero less =
+    let P : ℕ → Type 0 = λ b. little_endian bytes b 4 ≡ Some w in
+    let there : a ≡ a + 4 * 0 = omega arith in
+    subst P there (value_is (little_endian bytes a 4) w ((and_parts _ _ test).0))
+each_holds bytes a (w ∷ words) test (suc i) less =
+    let P : ℕ → Type 0 = λ b. little_endian bytes b 4 ≡ Some (slice_index words i) in
+    let there : a + 4 + 4 * i ≡ a + 4 * suc i = omega arith in
+    subst P there (each_holds bytes (a + 4) words ((and_parts _ _ test).1) i (omega (arith, less)))
+
+pub holds_by_test : (bytes : ByteMap) (a : ℕ) (words : List ℕ) → holds_test bytes a words ≡ true → HoldsWords bytes a words
+holds_by_test bytes a words test = record { each = each_holds bytes a words test }
+
+-- whether the n bytes from a on are mapped
+abbrev pub mapped_test : ByteMap → ℕ → ℕ → Bool
+mapped_test bytes a zero = true
+mapped_test bytes a (suc n) = mapped_test bytes a n && is_some (bytes (a + n))
+
+pub mapped_by_test : (bytes : ByteMap) (a n : ℕ) → mapped_test bytes a n ≡ true → IsMapped bytes a n
+mapped_by_test bytes a zero test i less = absurd (omega (arith, less))
+mapped_by_test bytes a (suc n) test i less =
+    below_more (λ k. IsSome (bytes (a + k))) n (mapped_by_test bytes a n ((and_parts _ _ test).0)) ((and_parts _ _ test).1) i (omega (arith, less))
