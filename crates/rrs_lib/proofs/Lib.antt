@@ -11,6 +11,7 @@ pub mod Masks
 pub mod RegionFields
 pub mod Regions
 pub mod Rows
+pub mod SearchOrder
 pub mod SignExtension
 pub mod Signed
 pub mod Stepping
