@@ -1,5 +1,5 @@
 -- How the regions of a space are found in the order of their bases, and what one more region leaves of that order.
-use Rattle.std.proofs.Common.{◌≡◌, ◌⊎◌, ℕ, zero, suc, ◌+◌, ◌-◌, ◌/◌, ◌^◌, ◌<◌, ◌≤◌, List, [], ◌∷◌, ◌++◌, length, map, get_or, set, Some, false, All, Any, inl, inr, refl, sym, ap, ◌∙◌, arith}
+use Rattle.std.proofs.Common.{◌≡◌, ◌⊎◌, ℕ, zero, suc, ◌+◌, ◌-◌, ◌/◌, ◌^◌, ◌<◌, ◌≤◌, min, List, [], ◌∷◌, ◌++◌, length, map, get_or, set, Some, false, All, Any, inl, inr, refl, sym, ap, ◌∙◌, arith}
 use Rattle.std.specs.List.{slice_get, insert}
 use Rattle.std.proofs.Math.Nat.{pow-succ'}
 use Rattle.std.proofs.lemmas.Nat.{pow_pos}
@@ -9,7 +9,7 @@ use Rattle.std.proofs.lemmas.List.{get_or-map, length-map, get_or_default, get_o
 use Rattle.std.proofs.lemmas.List.Edits.{length-insert, get_or-insert_at, get_or-insert_below, get_or-insert_above}
 use Rattle.rrs_lib.specs.declared.memories.space.MemoryRegion.{MemoryRegion}
 use Rattle.rrs_lib.specs.SpaceFields.{region_of, with_inner, base_at, size_at, IsSearchOrder}
-use Rattle.rrs_lib.specs.Spaces.{Region, serves, bounds, Overlaps, HasAddresses, IsServedAt, digits_after, binary_digits}
+use Rattle.rrs_lib.specs.Spaces.{Region, Space, serves, bounds, Overlaps, HasAddresses, IsServedAt, CountsCompared, digits_after, binary_digits}
 use Rattle.rrs_lib.proofs.Regions.{true_serves, false_serves, bounds-with_memory}
 use Rattle.rrs_lib.proofs.RegionFields.{set_is_with_memory, stands_of, shown_length}
 
@@ -362,3 +362,33 @@ module _ {M : Type 0} where
   pub order_pushed_empty : (fields new : List (MemoryRegion M)) (order : List ℕ) (y : MemoryRegion M) → IsSearchOrder (map bounds (map region_of fields)) order → new ≡ fields ++ y ∷ [] → y.size ≡ 0 → IsSearchOrder (map bounds (map region_of new)) order
   order_pushed_empty fields new order y sorted e empty =
       rw (spans_push fields new y e) (IsSearchOrder-push_empty (map bounds (map region_of fields)) order (y.base, y.size) sorted empty)
+
+  -- ---- what was counted
+
+  -- where nothing has an address, nothing was compared
+  pub counts_none : (old : Space M) → (Any HasAddresses old.regions → ⊥) → old.looked_at < 2 ^ 64 → CountsCompared old old
+  counts_none old none fits = record {
+    compared = 0;
+    counted = omega arith;
+    few = omega arith;
+    some = λ any. absurd (none any);
+  }
+
+  -- a search, and one more comparison
+  pub counts_search : (old new : Space M) (fields : List (MemoryRegion M)) (counted probes : ℕ) → map region_of fields ≡ old.regions → counted ≡ old.looked_at → new.looked_at ≡ min (counted + (probes + 1)) (2 ^ 64 - 1) → probes ≤ binary_digits (length fields) → CountsCompared old new
+  counts_search old new fields counted probes view before after few =
+      let long : length old.regions ≡ length fields = shown_length fields fields old.regions view refl in record {
+        compared = probes + 1;
+        counted = rw before at after;
+        few = rw long (omega (arith, few));
+        some = λ any. omega arith;
+      }
+
+  -- the count alone matters
+  pub counts_along : (old between new : Space M) → new.looked_at ≡ between.looked_at → CountsCompared old between → CountsCompared old new
+  counts_along old between new same counts = record {
+    compared = counts.compared;
+    counted = same ∙ counts.counted;
+    few = counts.few;
+    some = counts.some;
+  }

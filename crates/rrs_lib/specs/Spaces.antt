@@ -1,5 +1,5 @@
 -- What an address space of regions means. A region has a base, a size, and an inner memory, whose address 0 lies at the base.
-use Rattle.std.specs.Prelude.{◌≡◌, ℕ, zero, suc, ◌+◌, ◌-◌, ◌%◌, ◌^◌, ◌<◌, Bool, true, false, ◌&&◌, ◌==◌, nat_le, nat_lt, if◌then◌else◌, List, [], ◌∷◌, ◌++◌, length, Option, Some, None, All, AllPairs, slice_get, option_map, refl}
+use Rattle.std.specs.Prelude.{◌≡◌, ℕ, zero, suc, ◌+◌, ◌-◌, ◌%◌, ◌^◌, ◌<◌, ◌≤◌, min, Bool, true, false, ◌&&◌, ◌==◌, nat_le, nat_lt, if◌then◌else◌, List, [], ◌∷◌, ◌++◌, length, Option, Some, None, All, Any, AllPairs, slice_get, option_map, refl}
 use Rattle.std.specs.Coded.{Coded, code_by, coded×, coded_ℕ, coded_list}
 use Rattle.rrs_lib.specs.Bytes.{ByteMap}
 
@@ -108,6 +108,15 @@ module _ {M : Type 0} where
   -- the space after the memory of one region was replaced
   abbrev pub with_region_memory : Space M → ℕ → M → Space M
   with_region_memory s i m = record s { regions = with_memory s.regions i m }
+
+  -- The count after an access, which compared some of the regions. It stays at 2 ^ 64 - 1 once it is
+  -- there. At most as many are compared as the number of all regions has binary digits, plus one, and at
+  -- least one where some region has addresses.
+  pub record CountsCompared (old new : Space M) : Type 0 where
+    pub compared : ℕ
+    pub counted : new.looked_at ≡ min (old.looked_at + compared) (2 ^ 64 - 1)
+    pub few : compared ≤ binary_digits (length old.regions) + 1
+    pub some : Any HasAddresses old.regions → 0 < compared
 
   -- each region that does not serve the address is as it was, memory and all
   abbrev pub OthersKept : ℕ → List (Region M) → List (Region M) → Type 0

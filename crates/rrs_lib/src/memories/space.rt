@@ -1,6 +1,6 @@
 //! An address space of memory regions.
 
-ghost use Rattle.std.specs.Prelude.{◌≡◌, ◌↔◌, ℕ, ◌+◌, ◌-◌, ◌%◌, ◌^◌, ◌<◌, ◌≤◌, min, false};
+ghost use Rattle.std.specs.Prelude.{◌≡◌, ◌↔◌, ℕ, ◌+◌, ◌-◌, ◌%◌, ◌^◌, ◌<◌, ◌≤◌, false};
 ghost use Rattle.std.specs.Prelude.{[], ◌∷◌, ◌++◌, length, slice_index, map, All, Any, IsTrue, Err, IfOk, OnOk, OnErr};
 ghost use Rattle.std.specs.Prelude.{MatchOption, option_copied};
 ghost use Rattle.std.specs.Option.{option_copied_mut};
@@ -8,7 +8,7 @@ ghost use Rattle.std.specs.Borrow.{sem};
 ghost use Rattle.rrs_lib.specs.Bytes.{width, Reads, Writes};
 ghost use Rattle.rrs_lib.specs.Spaces.{space_bytes, space_writable, space_layout, bounds, serves};
 ghost use Rattle.rrs_lib.specs.Spaces.{Overlaps, AreAligned, IsWordRegion, IsSpace, IsServedAt};
-ghost use Rattle.rrs_lib.specs.Spaces.{memory_at, OthersKept, ServedBecomes, HasAddresses};
+ghost use Rattle.rrs_lib.specs.Spaces.{memory_at, OthersKept, ServedBecomes, CountsCompared};
 ghost use Rattle.rrs_lib.specs.Spaces.{binary_digits};
 ghost use Rattle.rrs_lib.specs.SpaceFields.{region_of, base_at, IsSearchOrder};
 
@@ -262,11 +262,7 @@ impl<M: Memory> MemorySpace<M> {
             (IsServedAt self.old.regions addr) }
         ensures space { IsSpace self.old.regions }
         ensures regions_kept { self.new.regions ≡ self.old.regions }
-        ensures count_grows { self.old.looked_at ≤ self.new.looked_at }
-        ensures compares_few { self.new.looked_at
-            ≤ self.old.looked_at + binary_digits (length self.old.regions) + 1 }
-        ensures counts { Any HasAddresses self.old.regions →
-            min (self.old.looked_at + 1) (2 ^ 64 - 1) ≤ self.new.looked_at }
+        ensures counts { CountsCompared self.old self.new }
     {
         if self.by_base.is_empty() {
             return None;
@@ -330,11 +326,9 @@ impl<M: Memory> Memory for MemorySpace<M> {
         ensures others_kept { OthersKept addr self.old.regions self.new.regions }
         ensures served { ServedBecomes addr self.old.regions self.new.regions (λ before offset after.
             Reads M.bytes M.writable M.layout before after offset (width size) result) }
-        ensures count_grows { self.old.looked_at ≤ self.new.looked_at }
         ensures compares_few { self.new.looked_at
             ≤ self.old.looked_at + binary_digits (length self.old.regions) + 1 }
-        ensures counts { Any HasAddresses self.old.regions →
-            min (self.old.looked_at + 1) (2 ^ 64 - 1) ≤ self.new.looked_at }
+        ensures counts { CountsCompared self.old self.new }
     {
         match self.region_at(addr) {
             Some(index) => self.regions[index].read(addr, size),
@@ -354,11 +348,9 @@ impl<M: Memory> Memory for MemorySpace<M> {
         ensures served { ServedBecomes addr self.old.regions self.new.regions (λ before offset after.
             Writes M.bytes M.writable M.layout
             before after offset (width size) store_data result) }
-        ensures count_grows { self.old.looked_at ≤ self.new.looked_at }
         ensures compares_few { self.new.looked_at
             ≤ self.old.looked_at + binary_digits (length self.old.regions) + 1 }
-        ensures counts { Any HasAddresses self.old.regions →
-            min (self.old.looked_at + 1) (2 ^ 64 - 1) ≤ self.new.looked_at }
+        ensures counts { CountsCompared self.old self.new }
     {
         match self.region_at(addr) {
             Some(index) => self.regions[index].write(addr, size, store_data),

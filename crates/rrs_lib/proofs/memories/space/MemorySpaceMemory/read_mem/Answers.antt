@@ -5,7 +5,7 @@ use Rattle.rrs_lib.specs.Spaces.{space_bytes, space_writable, space_layout, boun
 use Rattle.rrs_lib.specs.SpaceFields.{region_of}
 use Rattle.rrs_lib.proofs.Regions.{IsSpace-with_memory, bounds-with_memory, OthersKept-with_memory, served_same, layout-with_memory, served_value, served_lawful, served_becomes, unserved_becomes, unserved_value, unserved_lawful, space_ends}
 use Rattle.rrs_lib.proofs.RegionFields.{served_field, with_memory_of}
-use Rattle.rrs_lib.proofs.SearchOrder.{order_kept}
+use Rattle.rrs_lib.proofs.SearchOrder.{order_kept, counts_along}
 use Rattle.rrs_lib.proofs.memories.space.MemorySpaceMemory.read_mem.Goals as goal
 
 pub invariant_of-self : goal.invariant_of-self
@@ -53,9 +53,8 @@ returns-in-Some g c =
       regions_kept = rw e (bounds-with_memory old i m);
       others_kept = rw e (OthersKept-with_memory old i (region_of x) m a served.1 served.2);
       served = rw e (served_becomes Access old a i (region_of x) m space served.1 served.2 laws);
-      count_grows = omega (arith, count, c.in-Some.ensures.count_grows);
-      compares_few = omega (arith, count, c.in-Some.ensures.compares_few);
-      counts = λ some. omega (arith, count, c.in-Some.ensures.counts some);
+      compares_few = omega (arith, count, c.in-Some.ensures.counts.counted, c.in-Some.ensures.counts.few);
+      counts = counts_along c.args.self.now c.region_at.new.self _ count c.in-Some.ensures.counts;
     }
 
 pub returns-in-None : goal.returns-in-None
@@ -83,7 +82,6 @@ returns-in-None g c =
       regions_kept = ap (λ rs. map bounds rs) same;
       others_kept = λ i r stands miss. ap (λ rs. slice_get rs i) same ∙ stands;
       served = unserved_becomes Access old c.region_at.new.self.regions a unserved;
-      count_grows = c.in-None.ensures.count_grows;
-      compares_few = c.in-None.ensures.compares_few;
+      compares_few = omega (arith, c.in-None.ensures.counts.counted, c.in-None.ensures.counts.few);
       counts = c.in-None.ensures.counts;
     }
