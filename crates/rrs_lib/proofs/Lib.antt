@@ -10,6 +10,7 @@ pub mod Programs
 pub mod RegionFields
 pub mod Regions
 pub mod Rows
+pub mod SearchOrder
 pub mod SignExtension
 pub mod Signed
 pub mod Stepping

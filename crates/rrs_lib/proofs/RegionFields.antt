@@ -1,5 +1,5 @@
 -- The regions of the code, and the list that contracts see of them.
-use Rattle.std.proofs.Common.{◌≡◌, ◌↔◌, ℕ, zero, suc, ◌+◌, ◌<◌, ◌≤◌, List, [], ◌∷◌, ◌++◌, length, map, get_or, set, Some, Result, Ok, Err, OnOk, Bool, true, false, IsTrue, Any, MatchBool, cond, inl, inr, refl, sym, subst, ap, ◌∙◌, arith}
+use Rattle.std.proofs.Common.{◌≡◌, ◌↔◌, ℕ, zero, suc, ◌+◌, ◌<◌, ◌≤◌, List, [], ◌∷◌, ◌++◌, length, map, get_or, set, Some, Result, Ok, Err, OnOk, Bool, true, false, IsTrue, Any, MatchBool, inl, inr, refl, sym, subst, ap, ◌∙◌, arith}
 use Rattle.std.specs.List.{slice_get, HoldsAt, AllWithin}
 use Rattle.std.specs.Bool.{OnTrue, OnFalse}
 use Rattle.std.proofs.lemmas.Bool.{false≢true, cases_lt}
@@ -7,7 +7,7 @@ use Rattle.std.proofs.lemmas.List.{map_push, length-map}
 use Rattle.std.proofs.lemmas.Option.{none-some, same_Some, slice_get-map, slice_get_read, slice_get_within, slice_get_cases, get_or_from_slice_get}
 use Rattle.rrs_lib.specs.declared.memories.space.MemoryRegion.{MemoryRegion}
 use Rattle.rrs_lib.specs.SpaceFields.{region_of, with_inner}
-use Rattle.rrs_lib.specs.Spaces.{Region, serves, Overlaps, IsWordRegion, IsSpace, with_memory, IsServedAt}
+use Rattle.rrs_lib.specs.Spaces.{Region, Space, with_region_memory, serves, Overlaps, IsWordRegion, IsSpace, with_memory, IsServedAt}
 use Rattle.rrs_lib.proofs.Regions.{IsSpace-push, false_serves}
 
 -- a fact that a test says does not hold
@@ -60,11 +60,16 @@ module _ {M : Type 0} where
   with_memory_of fields old i x y view stands e =
       set_is_with_memory fields i x y stands e ∙ ap (λ xs. with_memory xs i y.memory) view
 
-  -- what a push leaves, whether or not there was memory for it
-  pub IsSpace-after_push : (fields new : List (MemoryRegion M)) (old : List (Region M)) (pushed : Bool) (y : MemoryRegion M) → map region_of fields ≡ old → IsSpace (map region_of fields) → IsWordRegion (region_of y) → (Any (Overlaps y.base y.size) old → ⊥) → new ≡ cond pushed (fields ++ y ∷ []) fields → IsSpace (map region_of new)
-  IsSpace-after_push fields new old true y view space word apart e =
+  -- the same of the whole space
+  pub with_region_memory_of : (fields : List (MemoryRegion M)) (looked_at : ℕ) (old : Space M) (i : ℕ) (x y : MemoryRegion M) → record { regions = map region_of fields; looked_at = looked_at } ≡ old → slice_get fields i ≡ Some x → y ≡ with_inner x y.memory → record { regions = map region_of (set fields i y); looked_at = looked_at } ≡ with_region_memory old i y.memory
+  with_region_memory_of fields looked_at old i x y view stands e =
+      let seen : List (Region M) → Space M = λ regions. record { regions = regions; looked_at = looked_at } in
+      ap seen (set_is_with_memory fields i x y stands e) ∙ ap (λ s. with_region_memory s i y.memory) view
+
+  -- what a push of a region that overlaps no other leaves
+  pub IsSpace-after_push : (fields new : List (MemoryRegion M)) (old : List (Region M)) (y : MemoryRegion M) → map region_of fields ≡ old → IsSpace (map region_of fields) → IsWordRegion (region_of y) → (Any (Overlaps y.base y.size) old → ⊥) → new ≡ fields ++ y ∷ [] → IsSpace (map region_of new)
+  IsSpace-after_push fields new old y view space word apart e =
       rw (e, map_push) (IsSpace-push (map region_of fields) (region_of y) space word (rw (← view) at apart))
-  IsSpace-after_push fields new old false y view space word apart e = rw e space
 
   -- the region that a loop over the code's list has come to, as the contract sees it
   pub shown_at : (fields shown : List (MemoryRegion M)) (old : List (Region M)) (i : ℕ) (x : MemoryRegion M) → map region_of fields ≡ old → shown ≡ fields → i < length shown → x ≡ get_or shown i x → slice_get old i ≡ Some (region_of x)

@@ -446,3 +446,10 @@ module _ {M : Type 0} where
       let Q : Region M → Type 0 = λ y. P y.memory (a - y.base) s.memory in
       let R : Region M → Type 0 = λ y. P r.memory (a - r.base) y.memory in
       subst Q same (subst R new holds)
+
+  -- where no region serves the address, nothing is said of its memory
+  pub unserved_becomes : (P : M → ℕ → M → Type 0) (regions new : List (Region M)) (a : ℕ) → All (λ r. serves r a ≡ false) regions → ServedBecomes a regions new P
+  unserved_becomes P regions new a none j r s stands hit after =
+      let within : j < length regions = slice_get_within regions j r stands in
+      let here : get_or regions j r ≡ r = get_or_from_slice_get regions j r r stands in
+      absurd (false≢true (sym (rw here at (none j r within)) ∙ hit))

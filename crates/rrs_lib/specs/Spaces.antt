@@ -1,6 +1,6 @@
 -- What an address space of regions means. A region has a base, a size, and an inner memory, whose address 0 lies at the base.
-use Rattle.std.specs.Prelude.{◌≡◌, ℕ, zero, suc, ◌+◌, ◌-◌, ◌%◌, ◌^◌, ◌<◌, Bool, true, false, ◌&&◌, nat_le, nat_lt, if◌then◌else◌, List, [], ◌∷◌, ◌++◌, length, Option, Some, None, All, AllPairs, slice_get, option_map, refl}
-use Rattle.std.specs.Coded.{Coded, code_by, coded×, coded_ℕ}
+use Rattle.std.specs.Prelude.{◌≡◌, ℕ, zero, suc, ◌+◌, ◌-◌, ◌%◌, ◌^◌, ◌<◌, ◌≤◌, min, Bool, true, false, ◌&&◌, ◌==◌, nat_le, nat_lt, if◌then◌else◌, List, [], ◌∷◌, ◌++◌, length, Option, Some, None, All, Any, AllPairs, slice_get, option_map, refl}
+use Rattle.std.specs.Coded.{Coded, code_by, coded×, coded_ℕ, coded_list}
 use Rattle.rrs_lib.specs.Bytes.{ByteMap}
 
 -- a region as a contract sees it
@@ -18,6 +18,31 @@ region_code {M} code =
     (λ r. (r.base, (r.size, r.memory)))
     (λ p. record { base = p.0; size = p.1.0; memory = p.1.1 })
     (λ _. refl)
+
+-- an address space as a contract sees it: its regions in the order in which they were added, and how
+-- many of them its reads and writes have compared so far
+pub record Space (M : Type 0) : Type 0 where
+  pub regions : List (Region M)
+  pub looked_at : ℕ
+
+-- a space is stored as the pair of its fields
+abbrev pub space_code : {M : Type 0} → Coded M → Coded (Space M)
+space_code {M} code =
+    code_by
+    (List (Region M) × ℕ)
+    (coded× (coded_list (region_code code)) coded_ℕ)
+    (λ s. (s.regions, s.looked_at))
+    (λ p. record { regions = p.0; looked_at = p.1 })
+    (λ _. refl)
+
+-- how many binary digits n has, where the number before it has this many: a power of 2 has one more
+abbrev pub digits_after : ℕ → ℕ → ℕ
+digits_after n digits = if n == 2 ^ digits then digits + 1 else digits
+
+-- how many binary digits n has, and 0 has none: n is below 2 to that power
+abbrev pub binary_digits : ℕ → ℕ
+binary_digits zero = 0
+binary_digits (suc n) = digits_after (suc n) (binary_digits n)
 
 -- base and size are multiples of 4
 abbrev pub AreAligned : ℕ → ℕ → Type 0
@@ -51,6 +76,10 @@ module _ {M : Type 0} where
   abbrev pub Overlaps : ℕ → ℕ → Region M → Type 0
   Overlaps base size r = (r.base < base + size) × (base < r.base + r.size)
 
+  -- a region that has addresses, so that an access may have to compare it
+  abbrev pub HasAddresses : Region M → Type 0
+  HasAddresses r = 0 < r.size
+
   -- what no access changes of a region beside its inner layout
   abbrev pub bounds : Region M → ℕ × ℕ
   bounds r = (r.base, r.size)
@@ -75,6 +104,19 @@ module _ {M : Type 0} where
   with_memory [] i m = []
   with_memory (r ∷ regions) zero m = record r { memory = m } ∷ regions
   with_memory (r ∷ regions) (suc i) m = r ∷ with_memory regions i m
+
+  -- the space after the memory of one region was replaced
+  abbrev pub with_region_memory : Space M → ℕ → M → Space M
+  with_region_memory s i m = record s { regions = with_memory s.regions i m }
+
+  -- The count after an access, which compared some of the regions. It stays at 2 ^ 64 - 1 once it is
+  -- there. At most as many are compared as the number of all regions has binary digits, plus one, and at
+  -- least one where some region has addresses.
+  pub record CountsCompared (old new : Space M) : Type 0 where
+    pub compared : ℕ
+    pub counted : new.looked_at ≡ min (old.looked_at + compared) (2 ^ 64 - 1)
+    pub few : compared ≤ binary_digits (length old.regions) + 1
+    pub some : Any HasAddresses old.regions → 0 < compared
 
   -- each region that does not serve the address is as it was, memory and all
   abbrev pub OthersKept : ℕ → List (Region M) → List (Region M) → Type 0

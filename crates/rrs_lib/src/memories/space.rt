@@ -1,17 +1,19 @@
 //! An address space of memory regions.
 
-ghost use Rattle.std.specs.Prelude.{◌≡◌, ◌↔◌, ◌+◌, ◌-◌, ◌%◌, ◌<◌, ◌≤◌, false, [], ◌∷◌, ◌++◌};
-ghost use Rattle.std.specs.Prelude.{length, map, All, Any, IsTrue, Err, IfOk, OnOk, OnErr};
+ghost use Rattle.std.specs.Prelude.{◌≡◌, ◌↔◌, ℕ, ◌+◌, ◌-◌, ◌%◌, ◌^◌, ◌<◌, ◌≤◌, false};
+ghost use Rattle.std.specs.Prelude.{[], ◌∷◌, ◌++◌, length, slice_index, map, All, Any, IsTrue, Err, IfOk, OnOk, OnErr};
 ghost use Rattle.std.specs.Prelude.{MatchOption, option_copied};
 ghost use Rattle.std.specs.Option.{option_copied_mut};
 ghost use Rattle.std.specs.Borrow.{sem};
 ghost use Rattle.rrs_lib.specs.Bytes.{width, Reads, Writes};
 ghost use Rattle.rrs_lib.specs.Spaces.{space_bytes, space_writable, space_layout, bounds, serves};
-ghost use Rattle.rrs_lib.specs.Spaces.{Overlaps, AreAligned, IsSpace, IsServedAt, memory_at};
-ghost use Rattle.rrs_lib.specs.Spaces.{OthersKept, ServedBecomes};
+ghost use Rattle.rrs_lib.specs.Spaces.{Overlaps, AreAligned, IsWordRegion, IsSpace, IsServedAt};
+ghost use Rattle.rrs_lib.specs.Spaces.{memory_at, OthersKept, ServedBecomes, CountsCompared};
+ghost use Rattle.rrs_lib.specs.Spaces.{binary_digits};
+ghost use Rattle.rrs_lib.specs.SpaceFields.{region_of, base_at, IsSearchOrder};
 
 use crate::{MemAccessSize, Memory};
-use std::alloc::Global;
+use std::alloc::{AllocError, Global};
 use std::marker::Model;
 
 /// Why a region was not added to a [MemorySpace].
@@ -31,7 +33,12 @@ pub enum MemorySpaceError {
 /// Where no region serves the address, a read answers `None` and a write `false`.
 #[derive(Drop)]
 pub struct MemorySpace<M> {
+    // In the order in which they were added.
     regions: Vec<MemoryRegion<M>>,
+    // The indexes of the regions of size above 0, by their bases.
+    by_base: Vec<usize>,
+    // How many regions reads and writes have compared so far.
+    looked_at: u64,
 }
 
 #[derive(Drop)]
@@ -42,19 +49,20 @@ struct MemoryRegion<M> {
 }
 
 impl<M> Model for MemorySpace<M> {
-    ghost use Rattle.std.specs.Prelude.{List, map};
-    ghost use Rattle.std.specs.Coded.{coded_list};
-    ghost use Rattle.rrs_lib.specs.Spaces.{Region, region_code, IsSpace};
+    ghost use Rattle.std.specs.Prelude.{map};
+    ghost use Rattle.rrs_lib.specs.Spaces.{Space, space_code, bounds, IsSpace};
 
-    ghost Value = { List (Region M) };
+    ghost Value = { Space M };
 
-    ghost coded = { coded_list (region_code M.code) };
+    ghost coded = { space_code M.code };
 
-    ghost use Rattle.rrs_lib.specs.SpaceFields.{region_of};
+    ghost use Rattle.rrs_lib.specs.SpaceFields.{region_of, IsSearchOrder};
 
-    ghost view = { λ s. map region_of s.regions.items };
+    ghost view = { λ s.
+        record { regions = map region_of s.regions.items; looked_at = s.looked_at } };
 
-    ghost invariant = { λ s. IsSpace (map region_of s.regions.items) };
+    ghost invariant = { λ s. IsSpace (map region_of s.regions.items)
+        × IsSearchOrder (map bounds (map region_of s.regions.items)) s.by_base.items };
 }
 
 impl<M: Memory> MemoryRegion<M> {
@@ -113,16 +121,75 @@ impl<M: Memory> MemoryRegion<M> {
     }
 }
 
+/// Where in the order the last region stands whose base is at most `addr`, or 0 where there is none,
+/// and how many regions were compared to find it.
+#[inline]
+fn last_from<M>(regions: &[MemoryRegion<M>], by_base: &[usize], addr: u32) -> (usize, u64)
+    requires some { 0 < length by_base.now }
+    requires order { IsSearchOrder (map bounds (map region_of regions.now)) by_base.now }
+    ensures within { result.0 < length by_base.now }
+    ensures before { 0 < result.0 → base_at (map bounds (map region_of regions.now))
+        (slice_index by_base.now result.0) ≤ addr }
+    ensures after { (j : ℕ) → result.0 < j → j < length by_base.now →
+        addr < base_at (map bounds (map region_of regions.now)) (slice_index by_base.now j) }
+    ensures compared { result.1 ≤ binary_digits (length regions.now) }
+    ensures fewer { result.1 < length by_base.now }
+{
+    let mut first = 0;
+    let mut len = by_base.len();
+    let mut compared = 0;
+    while len > 1 {
+        let half = len / 2;
+        if regions[by_base[first + half]].base <= addr {
+            first += half;
+        }
+        len -= half;
+        compared += 1;
+    }
+    (first, compared)
+}
+
+/// Where in the order a region of this base goes.
+fn place_of<M>(regions: &[MemoryRegion<M>], by_base: &[usize], base: u32) -> usize
+    requires { IsSearchOrder (map bounds (map region_of regions.now)) by_base.now }
+    ensures within { result ≤ length by_base.now }
+    ensures before { (j : ℕ) → j < result →
+        base_at (map bounds (map region_of regions.now)) (slice_index by_base.now j) ≤ base }
+    ensures after { (j : ℕ) → result ≤ j → j < length by_base.now →
+        base < base_at (map bounds (map region_of regions.now)) (slice_index by_base.now j) }
+{
+    if by_base.is_empty() {
+        return 0;
+    }
+    let (last, _) = last_from(regions, by_base, base);
+    if regions[by_base[last]].base <= base {
+        last + 1
+    } else {
+        last
+    }
+}
+
 impl<M: Memory> MemorySpace<M> {
     ghost use Rattle.rrs_lib.specs.SpaceLends.{lends_memory, lends_memory_if};
 
     /// A space with no regions.
     pub fn new(alloc: Global) -> Self
-        ensures { result ≡ [] }
+        ensures { result ≡ record { regions = []; looked_at = 0 } }
     {
         MemorySpace {
             regions: Vec::new(alloc),
+            by_base: Vec::new(alloc),
+            looked_at: 0,
         }
+    }
+
+    /// How many regions its reads and writes have compared so far.
+    ///
+    /// It stays at 2^64 - 1 once it is there. No other call adds to it.
+    pub fn regions_looked_at(&self) -> u64
+        ensures { result ≡ self.now.looked_at }
+    {
+        self.looked_at
     }
 
     /// Adds a region, and answers its index.
@@ -136,13 +203,15 @@ impl<M: Memory> MemorySpace<M> {
         ensures unaligned { (result ≡ Err MemorySpaceError.Unaligned)
             ↔ (AreAligned base size → ⊥) }
         ensures overlap { (result ≡ Err MemorySpaceError.RegionOverlap)
-            ↔ (AreAligned base size × Any (Overlaps base size) self.old) }
-        ensures ok { IfOk result (λ i. (i ≡ length self.old)
-            × (self.new ≡ self.old ++ record { base = base; size = size; memory = memory } ∷ [])) }
+            ↔ (AreAligned base size × Any (Overlaps base size) self.old.regions) }
+        ensures ok { IfOk result (λ i. (i ≡ length self.old.regions)
+            × (self.new.regions
+            ≡ self.old.regions ++ record { base = base; size = size; memory = memory } ∷ [])) }
         ensures accepted { OnOk result (AreAligned base size
-            × All (λ r. Overlaps base size r → ⊥) self.old) }
+            × All (λ r. Overlaps base size r → ⊥) self.old.regions) }
         ensures err { OnErr result (self.new ≡ self.old) }
-        ensures space { IsSpace self.new }
+        ensures space { IsSpace self.new.regions }
+        ensures count_kept { self.new.looked_at ≡ self.old.looked_at }
     {
         let index = self.regions.len();
         if base % 4 != 0 || size % 4 != 0 {
@@ -151,7 +220,7 @@ impl<M: Memory> MemorySpace<M> {
         if self.overlaps(base, size) {
             return Err(MemorySpaceError::RegionOverlap);
         }
-        match self.regions.push(MemoryRegion { base, size, memory }) {
+        match self.append(MemoryRegion { base, size, memory }) {
             Ok(()) => Ok(index),
             Err(_) => Err(MemorySpaceError::OutOfMemory),
         }
@@ -159,31 +228,59 @@ impl<M: Memory> MemorySpace<M> {
 
     /// Whether a region of this base and size would overlap one of the space.
     fn overlaps(&self, base: u32, size: u32) -> bool
-        ensures { IsTrue result ↔ Any (Overlaps base size) self.now }
+        ensures { IsTrue result ↔ Any (Overlaps base size) self.now.regions }
     {
         self.regions
             .iter()
             .any(|region| region.overlaps(base, size))
     }
 
-    /// The index of the region that serves an address.
-    fn region_at(&self, addr: u32) -> Option<usize>
-        ensures region { MatchOption result (All (λ r. serves r addr ≡ false) self.now)
-            (IsServedAt self.now addr) }
-        ensures space { IsSpace self.now }
+    /// Appends a region that overlaps no other. Nothing changes where there is no memory for it.
+    fn append(&mut self, region: MemoryRegion<M>) -> Result<(), AllocError>
+    where
+        M: Drop,
+        requires word { IsWordRegion (region_of region) }
+        requires apart { Any (Overlaps region.base region.size) self.old.regions → ⊥ }
+        ensures ok { OnOk result (self.new.regions ≡ self.old.regions ++ region_of region ∷ []) }
+        ensures err { OnErr result (self.new ≡ self.old) }
+        ensures space { IsSpace self.new.regions }
+        ensures count_kept { self.new.looked_at ≡ self.old.looked_at }
     {
-        for (index, region) in self.regions.iter().enumerate() {
-            if region.contains(addr) {
-                return Some(index);
-            }
+        self.regions.reserve(1)?;
+        if region.size > 0 {
+            let place = place_of(&self.regions, &self.by_base, region.base);
+            self.by_base.insert(place, self.regions.len())?;
         }
-        None
+        self.regions.push(region).unwrap();
+        Ok(())
+    }
+
+    /// The index of the region that serves an address. It counts the regions that it compares.
+    #[inline]
+    fn region_at(&mut self, addr: u32) -> Option<usize>
+        ensures region { MatchOption result (All (λ r. serves r addr ≡ false) self.old.regions)
+            (IsServedAt self.old.regions addr) }
+        ensures space { IsSpace self.old.regions }
+        ensures regions_kept { self.new.regions ≡ self.old.regions }
+        ensures counts { CountsCompared self.old self.new }
+    {
+        if self.by_base.is_empty() {
+            return None;
+        }
+        let (last, compared) = last_from(&self.regions, &self.by_base, addr);
+        self.looked_at = self.looked_at.saturating_add(compared + 1);
+        let index = self.by_base[last];
+        if self.regions[index].contains(addr) {
+            Some(index)
+        } else {
+            None
+        }
     }
 
     /// The memory of the region of this index, in the order in which they were added.
     pub fn get_memory_ref(&self, index: usize) -> Option<&M>
-        ensures value { option_copied result ≡ memory_at self.now index }
-        ensures space { IsSpace self.now }
+        ensures value { option_copied result ≡ memory_at self.now.regions index }
+        ensures space { IsSpace self.now.regions }
     {
         self.regions.get(index).map(|region| &region.memory)
     }
@@ -193,7 +290,7 @@ impl<M: Memory> MemorySpace<M> {
     /// What is written through the reference is the memory of that region from then on.
     pub fn get_memory_mut(&mut self, index: usize) -> Option<&mut M>
         ensures* writes_back { sem 𝓛 (lends_memory_if M.row self.entry index result) }
-        ensures value { option_copied_mut result ≡ memory_at self.old index }
+        ensures value { option_copied_mut result ≡ memory_at self.old.regions index }
     {
         if index < self.regions.len() {
             Some(self.memory_mut(index))
@@ -203,30 +300,35 @@ impl<M: Memory> MemorySpace<M> {
     }
 
     fn memory_mut(&mut self, index: usize) -> &mut M
-        requires { index < length self.old }
+        requires { index < length self.old.regions }
         ensures* writes_back { sem 𝓛 (lends_memory M.row self.entry index result) }
-        ensures value { memory_at self.old index ≡ Some result.now }
+        ensures value { memory_at self.old.regions index ≡ Some result.now }
     {
         self.regions[index].memory_mut()
     }
 }
 
 impl<M: Memory> Memory for MemorySpace<M> {
-    ghost bytes = { space_bytes M.bytes };
+    ghost bytes = { λ s. space_bytes M.bytes s.regions };
 
-    ghost writable = { space_writable M.writable };
+    ghost writable = { λ s. space_writable M.writable s.regions };
 
-    ghost layout = { space_layout M.layout };
+    ghost layout = { λ s. space_layout M.layout s.regions };
 
     fn read_mem(&mut self, addr: u32, size: MemAccessSize) -> Option<u32>
         requires { addr % width size ≡ 0 }
         ensures laws { Reads
-            (space_bytes M.bytes) (space_writable M.writable) (space_layout M.layout)
+            (λ s. space_bytes M.bytes s.regions)
+            (λ s. space_writable M.writable s.regions)
+            (λ s. space_layout M.layout s.regions)
             self.old self.new addr (width size) result }
-        ensures regions_kept { map bounds self.new ≡ map bounds self.old }
-        ensures others_kept { OthersKept addr self.old self.new }
-        ensures served { ServedBecomes addr self.old self.new (λ before offset after.
+        ensures regions_kept { map bounds self.new.regions ≡ map bounds self.old.regions }
+        ensures others_kept { OthersKept addr self.old.regions self.new.regions }
+        ensures served { ServedBecomes addr self.old.regions self.new.regions (λ before offset after.
             Reads M.bytes M.writable M.layout before after offset (width size) result) }
+        ensures compares_few { self.new.looked_at
+            ≤ self.old.looked_at + binary_digits (length self.old.regions) + 1 }
+        ensures counts { CountsCompared self.old self.new }
     {
         match self.region_at(addr) {
             Some(index) => self.regions[index].read(addr, size),
@@ -237,13 +339,18 @@ impl<M: Memory> Memory for MemorySpace<M> {
     fn write_mem(&mut self, addr: u32, size: MemAccessSize, store_data: u32) -> bool
         requires { addr % width size ≡ 0 }
         ensures laws { Writes
-            (space_bytes M.bytes) (space_writable M.writable) (space_layout M.layout)
+            (λ s. space_bytes M.bytes s.regions)
+            (λ s. space_writable M.writable s.regions)
+            (λ s. space_layout M.layout s.regions)
             self.old self.new addr (width size) store_data result }
-        ensures regions_kept { map bounds self.new ≡ map bounds self.old }
-        ensures others_kept { OthersKept addr self.old self.new }
-        ensures served { ServedBecomes addr self.old self.new (λ before offset after.
+        ensures regions_kept { map bounds self.new.regions ≡ map bounds self.old.regions }
+        ensures others_kept { OthersKept addr self.old.regions self.new.regions }
+        ensures served { ServedBecomes addr self.old.regions self.new.regions (λ before offset after.
             Writes M.bytes M.writable M.layout
             before after offset (width size) store_data result) }
+        ensures compares_few { self.new.looked_at
+            ≤ self.old.looked_at + binary_digits (length self.old.regions) + 1 }
+        ensures counts { CountsCompared self.old self.new }
     {
         match self.region_at(addr) {
             Some(index) => self.regions[index].write(addr, size, store_data),

@@ -179,3 +179,99 @@ fn steps_at_the_last_address(rt: HostRuntime) -> Result<(), Fail> {
     }
     Ok(())
 }
+
+#[test]
+fn an_empty_region_serves_nothing(rt: HostRuntime) -> Result<(), Fail> {
+    for (first, second, served) in [(0, 0x10, 2), (0x10, 0, 1)] {
+        let mut space = MemorySpace::new(rt.alloc());
+        assert_eq!(rt;
+            space.add_memory(0x100, first, words(rt.alloc(), &[1])?),
+            Ok(0)
+        );
+        assert_eq!(rt;
+            space.add_memory(0x100, second, words(rt.alloc(), &[2])?),
+            Ok(1)
+        );
+        assert_eq!(rt; space.add_memory(0x200, 0, words(rt.alloc(), &[3])?), Ok(2));
+        assert_eq!(rt; word_at(&mut space, 0x100), Some(served), "{first:#x}");
+        assert_eq!(rt; word_at(&mut space, 0x200), None);
+    }
+    Ok(())
+}
+
+#[test]
+fn accesses_alone_count(rt: HostRuntime) -> Result<(), Fail> {
+    let mut space = MemorySpace::new(rt.alloc());
+    assert_eq!(rt; space.regions_looked_at(), 0);
+    assert_eq!(rt; space.add_memory(0x100, 0, words(rt.alloc(), &[1])?), Ok(0));
+    assert_eq!(rt; word_at(&mut space, 0x100), None);
+    assert_eq!(rt; space.regions_looked_at(), 0);
+    assert_eq!(rt; space.add_memory(0x100, 8, words(rt.alloc(), &[1])?), Ok(1));
+    assert_eq!(rt; word_at(&mut space, 0x100), Some(1));
+    assert!(rt; !space.write_mem(0x200, MemAccessSize::Byte, 7));
+    let count = space.regions_looked_at();
+    assert!(rt; 2 <= count && count <= 6, "{count}");
+    for (base, size, refusal) in [
+        (0x104, 8, MemorySpaceError::RegionOverlap),
+        (0x102, 8, MemorySpaceError::Unaligned),
+    ] {
+        let memory = words(rt.alloc(), &[])?;
+        assert_eq!(rt; space.add_memory(base, size, memory), Err(refusal));
+    }
+    assert!(rt; space.get_memory_ref(1).is_some());
+    assert!(rt; space.get_memory_mut(1).is_some());
+    assert!(rt; space.get_memory_ref(2).is_none());
+    assert_eq!(rt; space.regions_looked_at(), count);
+    Ok(())
+}
+
+/// What a list of bases, each of a region of 16 bytes, says of an address: the index of the region
+/// that serves it, and the offset in it.
+fn served_by(bases: &[u32], addr: u32) -> Option<(usize, u32)> {
+    for (index, base) in bases.iter().enumerate() {
+        if *base <= addr && addr - *base < 16 {
+            return Some((index, addr - *base));
+        }
+    }
+    None
+}
+
+/// The number after this one in a sequence that looks random.
+fn scrambled(number: u32) -> u32 {
+    number.wrapping_mul(1_664_525).wrapping_add(1_013_904_223)
+}
+
+#[test]
+fn a_thousand_regions_are_searched(rt: HostRuntime) -> Result<(), Fail> {
+    let mut space = MemorySpace::new(rt.alloc());
+    let mut bases = Vec::new(rt.alloc());
+    for index in 0..1000 {
+        let base = (index * 367 + 101) % 1000 * 32;
+        let memory = words(
+            rt.alloc(),
+            &[index, index + 1000, index + 2000, index + 3000],
+        )?;
+        assert_eq!(rt; space.add_memory(base, 16, memory), Ok(bases.len()));
+        bases.push(base)?;
+    }
+    assert_eq!(rt; space.regions_looked_at(), 0);
+    let mut state = 1;
+    for _ in 0..10_000 {
+        state = scrambled(state);
+        let addr = (state >> 8) % 8100 * 4;
+        let before = space.regions_looked_at();
+        let answer = word_at(&mut space, addr);
+        let looked_at = space.regions_looked_at().wrapping_sub(before);
+        assert!(rt; 1 <= looked_at && looked_at <= 11, "{addr:#x}: {looked_at}");
+        match (served_by(&bases, addr), answer) {
+            (Some((index, offset)), Some(word)) => {
+                assert_eq!(rt; word as usize % 1000, index, "{addr:#x}");
+                assert_eq!(rt; word / 1000, offset / 4, "{addr:#x}");
+            }
+            (expected, answer) => {
+                assert!(rt; expected.is_none() && answer.is_none(), "{addr:#x}");
+            }
+        }
+    }
+    Ok(())
+}

@@ -1,4 +1,4 @@
-use Rattle.std.proofs.Common.{rules, tests}
+use Rattle.std.proofs.Common.{ap, rules, tests}
 use Rattle.std.proofs.lemmas.Iterator.{cases_from_any, YieldsList-from_slice}
 use Rattle.rrs_lib.specs.declared.memories.space.MemoryRegion.{MemoryRegion}
 use Rattle.rrs_lib.specs.SpaceFields.{region_of}
@@ -13,9 +13,9 @@ returns g c =
     let No : MemoryRegion g.row.M.Denot → Type 0 = λ x. Yes x → ⊥ in
     any_overlaps
     fields
-    c.args.self.now
+    c.args.self.now.regions
     c.args.base
     c.args.size
     c.any.result
-    c.self.view_is
+    (ap (λ s. s.regions) c.self.view_is)
     (cases_from_any _ _ _ Yes No c.any.ensures.ran (YieldsList-from_slice fields cc) (λ x q k. search (rules, tests)) (λ x q k. search (rules, tests)))

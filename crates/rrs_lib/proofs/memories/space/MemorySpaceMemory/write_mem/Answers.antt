@@ -1,23 +1,32 @@
-use Rattle.std.proofs.Common.{ℕ, refl, sym, ◌∙◌, None, false}
+use Rattle.std.proofs.Common.{◌≡◌, ℕ, map, sym, ap, ◌∙◌, None, false, arith}
+use Rattle.std.specs.List.{slice_get}
 use Rattle.rrs_lib.specs.Bytes.{width, Writes}
+use Rattle.rrs_lib.specs.Spaces.{space_bytes, space_writable, space_layout, bounds}
 use Rattle.rrs_lib.specs.SpaceFields.{region_of}
-use Rattle.rrs_lib.proofs.Regions.{IsSpace-with_memory, bounds-with_memory, OthersKept-with_memory, served_same, layout-with_memory, served_writable, served_written, served_lawful, served_becomes, unserved_writable, unserved_lawful, space_ends}
+use Rattle.rrs_lib.proofs.Regions.{IsSpace-with_memory, bounds-with_memory, OthersKept-with_memory, served_same, layout-with_memory, served_writable, served_written, served_lawful, served_becomes, unserved_becomes, unserved_writable, unserved_lawful, space_ends}
 use Rattle.rrs_lib.proofs.RegionFields.{OnTrue_then, OnFalse_then, served_field, with_memory_of}
+use Rattle.rrs_lib.proofs.SearchOrder.{order_kept, counts_along}
 use Rattle.rrs_lib.proofs.memories.space.MemorySpaceMemory.write_mem.Goals as goal
 
 pub invariant_of-self : goal.invariant_of-self
 invariant_of-self g c =
     let x = c.index_mut.result.now in
-    let old = c.args.self.now in
+    let fields = c.self.inside.regions.items in
+    let old = c.args.self.now.regions in
+    let view : map region_of fields ≡ old = ap (λ s. s.regions) c.self.view_is ∙ c.in-Some.ensures.regions_kept in
     let i = c.in-Some.index in
-    let served = served_field c.self.inside.regions.items old i x c.args.addr c.self.view_is c.in-Some.ensures.region c.index_mut.ensures.value in
-    let e = with_memory_of c.self.inside.regions.items old i x c.write.new.self c.self.view_is served.0 c.write.ensures.rest_kept in
-    rw e (IsSpace-with_memory old i c.write.new.self.memory c.in-Some.ensures.space)
+    let served = served_field fields old i x c.args.addr view c.in-Some.ensures.region c.index_mut.ensures.value in
+    let e = with_memory_of fields old i x c.write.new.self view served.0 c.write.ensures.rest_kept in (
+      rw e (IsSpace-with_memory old i c.write.new.self.memory c.in-Some.ensures.space),
+      order_kept fields c.self.inside.by_base.items i x c.write.new.self served.0 c.write.ensures.rest_kept c.self.invariant.1,
+    )
 
 pub returns-in-Some : goal.returns-in-Some
 returns-in-Some g c =
     let x = c.index_mut.result.now in
-    let old = c.args.self.now in
+    let fields = c.self.inside.regions.items in
+    let old = c.args.self.now.regions in
+    let view : map region_of fields ≡ old = ap (λ s. s.regions) c.self.view_is ∙ c.in-Some.ensures.regions_kept in
     let i = c.in-Some.index in
     let a = c.args.addr in
     let n = c.args.size in
@@ -27,11 +36,12 @@ returns-in-Some g c =
     let bytes = g.M.Memory.bytes in
     let writable = g.M.Memory.writable in
     let layout = g.M.Memory.layout in
-    let served = served_field c.self.inside.regions.items old i x a c.self.view_is c.in-Some.ensures.region c.index_mut.ensures.value in
-    let e = with_memory_of c.self.inside.regions.items old i x c.write.new.self c.self.view_is served.0 c.write.ensures.rest_kept in
+    let served = served_field fields old i x a view c.in-Some.ensures.region c.index_mut.ensures.value in
+    let e = with_memory_of fields old i x c.write.new.self view served.0 c.write.ensures.rest_kept in
     let laws = c.write.ensures.laws in
     let Access : g.row.M.Denot → ℕ → g.row.M.Denot → Type 0 =
     λ before offset after. Writes bytes writable layout before after offset (width n) v c.write.result in
+    let count : c.self.inside.looked_at ≡ c.region_at.new.self.looked_at = ap (λ s. s.looked_at) c.self.view_is in
     record {
       laws = record {
         granted = laws.granted ∙ sym (served_writable writable old a i (region_of x) n space c.requires served.1 served.2);
@@ -45,15 +55,36 @@ returns-in-Some g c =
       regions_kept = rw e (bounds-with_memory old i m);
       others_kept = rw e (OthersKept-with_memory old i (region_of x) m a served.1 served.2);
       served = rw e (served_becomes Access old a i (region_of x) m space served.1 served.2 laws);
+      compares_few = omega (arith, count, c.in-Some.ensures.counts.counted, c.in-Some.ensures.counts.few);
+      counts = counts_along c.args.self.now c.region_at.new.self _ count c.in-Some.ensures.counts;
     }
 
-pub returns-in-None-clause-laws : goal.returns-in-None-clause-laws
-returns-in-None-clause-laws g c = record {
-  granted = sym (unserved_writable g.M.Memory.writable c.args.self.now c.args.addr c.args.size c.in-None.ensures.space c.requires c.ranges.addr.fits c.in-None.ensures.region);
-  written = tt;
-  refused = refl;
-  writable_kept = refl;
-  layout_kept = refl;
-  lawful = unserved_lawful g.M.Memory.bytes g.M.Memory.writable c.args.self.now c.args.addr c.args.size c.in-None.ensures.space c.requires c.ranges.addr.fits c.in-None.ensures.region;
-  ends = space_ends g.M.Memory.bytes g.M.Memory.writable c.args.self.now;
-}
+pub returns-in-None : goal.returns-in-None
+returns-in-None g c =
+    let old = c.args.self.now.regions in
+    let a = c.args.addr in
+    let n = c.args.size in
+    let space = c.in-None.ensures.space in
+    let unserved = c.in-None.ensures.region in
+    let same = c.in-None.ensures.regions_kept in
+    let bytes = g.M.Memory.bytes in
+    let writable = g.M.Memory.writable in
+    let layout = g.M.Memory.layout in
+    let Access : g.row.M.Denot → ℕ → g.row.M.Denot → Type 0 =
+    λ before offset after. Writes bytes writable layout before after offset (width n) c.args.store_data false in
+    record {
+      laws = record {
+        granted = sym (unserved_writable writable old a n space c.requires c.ranges.addr.fits unserved);
+        written = tt;
+        refused = ap (space_bytes bytes) same;
+        writable_kept = ap (space_writable writable) same;
+        layout_kept = ap (space_layout layout) same;
+        lawful = unserved_lawful bytes writable old a n space c.requires c.ranges.addr.fits unserved;
+        ends = space_ends bytes writable old;
+      };
+      regions_kept = ap (λ rs. map bounds rs) same;
+      others_kept = λ i r stands miss. ap (λ rs. slice_get rs i) same ∙ stands;
+      served = unserved_becomes Access old c.region_at.new.self.regions a unserved;
+      compares_few = omega (arith, c.in-None.ensures.counts.counted, c.in-None.ensures.counts.few);
+      counts = c.in-None.ensures.counts;
+    }
