@@ -1,16 +1,18 @@
 -- What is printed of a fault of a run, and what a fault says of the reader and of the output.
-use Rattle.std.specs.Prelude.{◌≡◌, ◌⊎◌, ℕ, ◌≤◌, List, ◌++◌, length, codes, Option}
+use Rattle.std.specs.Prelude.{◌≡◌, ◌⊎◌, ℕ, ◌≤◌, List, length, codes, Option}
 use Rattle.std.specs.Io.KnownBytes.{Consumes, Keeps}
 use Rattle.rrs_run.specs.declared.fault.RunFault.{RunFault}
 use Rattle.rrs_run.specs.declared.fault.RunFault.TheVariants.{OutOfMemory, Reader, Refused, Output}
-use Rattle.rrs_lib.specs.Texts.{hexadecimal}
+use Rattle.rrs_lib.specs.declared.memories.load.LoadFault.TheVariants as LoadFault
+use Rattle.rrs_lib.specs.LoadTexts.{load_text}
 use Rattle.rrs_run.specs.Account.{AppendsLines, IsBeginning, PrintsSteps, PrintsPart, PrintsOfRun}
 
--- the text of a fault
+-- the text of a fault: those of a load are the loader's, of which that of a failed read names no
+-- error and so is given here again
 abbrev pub fault_text : RunFault → List ℕ
 fault_text OutOfMemory = codes "out of memory"
 fault_text Reader = codes "Could not read byte"
-fault_text (Refused address) = codes "Could not write byte at address 0x" ++ hexadecimal 8 address
+fault_text (Refused address) = load_text (LoadFault.Refused address)
 fault_text Output = codes "cannot write output"
 
 -- What stops a load, by the reader's bytes before and after it, where these are known: a read
