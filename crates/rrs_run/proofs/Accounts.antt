@@ -32,10 +32,6 @@ appends_after P Q R a b c f p q = record {
   appended = Appends-trans a b c p.lines q.lines p.appended q.appended;
 }
 
--- no line was printed
-pub appends_none : (a : Option (List ℕ)) → AppendsLines (λ lines. lines ≡ []) a a
-appends_none a = record { lines = []; are_lines = refl; appended = Appends-nil a }
-
 -- what is written already is done, and what is to be written is of another kind
 pub stops_weaker : (P P' Q Q' : List ℕ → Type 0) (a b : Option (List ℕ)) (fault : RunFault) → ((lines : List ℕ) → P lines → P' lines) → ((lines : List ℕ) → Q lines → Q' lines) → StopsPrinting P Q a b fault → StopsPrinting P' Q' a b fault
 stops_weaker P P' Q Q' a b OutOfMemory f g p = appends_weaker P P' a b f p
@@ -48,12 +44,6 @@ stops_weaker P P' Q Q' a b Output f g p =
 pub if_stops_weaker : {T : Type 0} (P P' Q Q' : List ℕ → Type 0) (a b : Option (List ℕ)) (r : Result T RunFault) → ((lines : List ℕ) → P lines → P' lines) → ((lines : List ℕ) → Q lines → Q' lines) → IfErr r (StopsPrinting P Q a b) → IfErr r (StopsPrinting P' Q' a b)
 if_stops_weaker P P' Q Q' a b (Ok x) f g p = p
 if_stops_weaker P P' Q Q' a b (Err e) f g p = stops_weaker P P' Q Q' a b e f g p
-
--- out of memory, and nothing was printed
-pub stops_at_once : (Q : List ℕ → Type 0) (a : Option (List ℕ)) (fault : RunFault) → fault ≡ OutOfMemory → StopsPrinting (λ lines. lines ≡ []) Q a a fault
-stops_at_once Q a fault e =
-    let P : RunFault → Type 0 = λ f. StopsPrinting (λ lines. lines ≡ []) Q a a f in
-    subst P (sym e) (appends_none a)
 
 -- ---- the lines before a step
 
@@ -126,19 +116,6 @@ run_printed AreLines input rest old new hart a b r printed =
     let FromState : State → Type 0 = λ s. AppendsLines (AreLines s) a b in
     let start = start_is hart (bytes_of_words new) (lies_in_words new) r.registers r.pc r.last (r.writable ∙ ap lies_in_words r.zeros) in
     record { bytes = bytes_of_words new; loaded = subst FromWords r.zeros r.loads; printed = subst FromState start printed }
-
--- nothing was read or printed
-pub stopped_at_start : (limit : ℕ) (a b : Option (List ℕ)) (fault : RunFault) → fault ≡ OutOfMemory → StopsRun limit a a b b fault
-stopped_at_start limit a b fault e =
-    let P : RunFault → Type 0 = λ f. StopsRun limit a a b b f in
-    subst P (sym e) (inl (Keeps-refl a, Keeps-refl b))
-
--- the load was stopped
-pub stopped_in_load : (limit : ℕ) (input rest a : Option (List ℕ)) (fault : RunFault) → StopsLoad input rest fault → StopsRun limit input rest a a fault
-stopped_in_load limit input rest a OutOfMemory p = absurd p
-stopped_in_load limit input rest a Reader p = (p, Keeps-refl a)
-stopped_in_load limit input rest a (Refused x) p = (p, Keeps-refl a)
-stopped_in_load limit input rest a Output p = absurd p
 
 -- the steps were stopped
 pub stopped_in_steps : (limit : ℕ) (input rest : Option (List ℕ)) (old new : List ℕ) (hart : HartState) (a b : Option (List ℕ)) (fault : RunFault) → Ready input rest old new hart → StopsPrinting (PrintsSteps limit (ready_state new hart)) (PrintsToNext limit (ready_state new hart)) a b fault → StopsRun limit input rest a b fault

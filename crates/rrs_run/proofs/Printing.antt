@@ -10,10 +10,6 @@ use Rattle.rrs_run.specs.Texts.{register_line, register_lines, pc_line, hart_lin
 
 pub ruleset appending = Appends-trans
 
--- one more register
-pub register_lines-more : (s : State) (n : ℕ) → register_lines s (n + 1) ≡ register_lines s n ++ register_line s n
-register_lines-more s n = ap (register_lines s) (add-one n)
-
 -- all registers, and then the program counter
 pub hart_lines-printed : {E : Type 0} (a b c : Option (List ℕ)) (s : State) (n : ℕ) (r : Result (Unit {0}) E) → n ≡ 32 → Appends a b (register_lines s n) → OnOk r (Appends b c (pc_line s.pc)) → OnOk r (Appends a c (hart_lines s))
 hart_lines-printed a b c s n (Ok x) e first second =

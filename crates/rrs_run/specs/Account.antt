@@ -105,9 +105,11 @@ start_of bytes = record {
 pub record PrintsOfRun (AreLines : State → List ℕ → Type 0)
     (input rest before after : Option (List ℕ)) : Type 0 where
   pub bytes : ByteMap
-  pub loaded : Loads input rest (bytes_of_words zero_words) bytes (lies_in_words zero_words) 0 (Ok tt)
+  pub loaded :
+      Loads input rest (bytes_of_words zero_words) bytes (lies_in_words zero_words) 0 (Ok tt)
   pub printed : AppendsLines (AreLines (start_of bytes)) before after
 
 -- what is printed is the whole account of the run of the reader's bytes
-abbrev pub Account : Option (List ℕ) → Option (List ℕ) → ℕ → Option (List ℕ) → Option (List ℕ) → Type 0
+abbrev pub Account : Option (List ℕ) → Option (List ℕ) → ℕ
+    → Option (List ℕ) → Option (List ℕ) → Type 0
 Account input rest limit before after = PrintsOfRun (AccountOf limit) input rest before after

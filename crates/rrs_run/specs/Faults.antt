@@ -43,7 +43,8 @@ StopsPrinting AreDone AreToWrite before after Output =
 abbrev pub StopsRun : ℕ → Option (List ℕ) → Option (List ℕ)
     → Option (List ℕ) → Option (List ℕ) → RunFault → Type 0
 StopsRun limit input rest before after OutOfMemory =
-    (Keeps input rest × Keeps before after) ⊎ PrintsOfRun (PrintsSteps limit) input rest before after
+    (Keeps input rest × Keeps before after)
+    ⊎ PrintsOfRun (PrintsSteps limit) input rest before after
 StopsRun limit input rest before after Reader = StopsLoad input rest Reader × Keeps before after
 StopsRun limit input rest before after (Refused a) =
     StopsLoad input rest (Refused a) × Keeps before after

@@ -2,7 +2,8 @@
 //!
 //! `rrs-run FILE LIMIT` puts the bytes of FILE at address 0 on, starts a hart there, and makes at
 //! most LIMIT steps. It prints the text of each instruction before it is executed, then how the run
-//! ended, and then the registers.
+//! ended, and then the registers. A word of the command line that is not UTF-8, the program's own
+//! name among them, counts as a wrong argument.
 
 #![tactic(auto)]
 

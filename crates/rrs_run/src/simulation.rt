@@ -22,6 +22,13 @@ const WORDS: usize = 16384;
 
 /// Runs the reader's bytes as a program, for `limit` steps or up to the first fault, and prints
 /// the text of each instruction, how the run ended, and the registers.
+///
+/// # Errors
+///
+/// `RunFault::Reader` and `RunFault::Refused` where the bytes can't be loaded: nothing is printed
+/// then. `RunFault::OutOfMemory` before anything is read or printed, or after the lines of the steps
+/// so far and nothing else. `RunFault::Output` where a write or the flush fails: a beginning of the
+/// account is printed then, up to all of it.
 pub fn simulate<R: Read, W: Write>(
     alloc: Global,
     reader: &mut R,
@@ -76,6 +83,9 @@ fn load<R: Read>(reader: &mut R, memory: &mut VecMemory) -> Result<(), RunFault>
 }
 
 /// Makes steps as `InstructionExecutor::run` does, and prints each instruction before its step.
+///
+/// The word at the pc is so read twice: here, to print its text from the bytes that stand before the
+/// step, and again by the step, which may write over them.
 fn trace<M: Memory, W: Write>(
     executor: &mut InstructionExecutor<M>,
     alloc: Global,
@@ -148,7 +158,8 @@ fn print_instruction<W: Write>(
     }
 }
 
-/// Makes one step.
+/// Makes one step: a slice of one, since what the library claims as a whole is the contract of
+/// `step_each`, and the program stands on that call.
 fn step<M: Memory>(executor: &mut InstructionExecutor<M>) -> Result<(), InstructionException>
     ensures { Step (state_in M.bytes M.writable executor.old)
         (state_in M.bytes M.writable executor.new) result }

@@ -333,6 +333,30 @@ fn writes_a_beginning_where_a_write_fails_once(rt: HostRuntime) -> Result<(), Fa
     Ok(())
 }
 
+/// The same words, and how long the account is before each of its steps and at its end.
+const THREE_WORDS_BYTES: &[u8] = b"\x37\xb1\x34\x12\xb7\xe1\x87\xf3\xb3\x00\x31\x00";
+
+const WHOLE_LINES: [usize; 5] = [0, 31, 62, 89, 636];
+
+/// With no allocation that fails this prints the whole account. With one (`docs/RUNNING.md` says
+/// how) it prints the lines before the steps so far, and ends with `OutOfMemory`.
+#[test]
+fn out_of_memory_leaves_whole_lines(rt: HostRuntime) {
+    let account = THREE_WORDS_ACCOUNT.as_bytes();
+    let mut room = [0u8; 1000];
+    let mut out = room.as_mut_slice();
+    let result = simulate(rt.alloc(), &mut THREE_WORDS_BYTES, 10, &mut out);
+    let written = 1000 - out.len();
+    assert!(rt; WHOLE_LINES.contains(&written), "{written} bytes");
+    assert!(rt; &room[..written] == &account[..written], "{written} bytes");
+    if result != Err(RunFault::OutOfMemory) {
+        assert_eq!(rt; result, Ok(()));
+        assert_eq!(rt; written, account.len());
+    } else {
+        assert!(rt; written < account.len(), "{written} bytes");
+    }
+}
+
 #[test]
 fn tells_what_went_wrong(rt: HostRuntime) -> Result<(), Fail> {
     for (fault, want) in [
