@@ -170,7 +170,7 @@ stopped_in_flush limit input rest a d (Ok x) e account = tt
 stopped_in_flush limit input rest a d (Err fault) e account =
     let P : RunFault → Type 0 = λ f. StopsRun limit input rest a d f in
     let whole : (s : State) (lines : List ℕ) → AccountOf limit s lines → IsBeginning (PrintsPart limit s) lines =
-        λ s lines p. ([], inr (subst (AccountOf limit s) (sym (append-nil lines)) p)) in
+    λ s lines p. ([], inr (subst (AccountOf limit s) (sym (append-nil lines)) p)) in
     subst P (sym e) (record {
       bytes = account.bytes;
       loaded = account.loaded;

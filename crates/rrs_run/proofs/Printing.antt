@@ -36,7 +36,7 @@ nothing_written a b c xs ys k none first second =
 pub piece_written : (text : List ℕ) (n k m : ℕ) (a b c : Option (List ℕ)) → m ≡ n + k → Appends a b (take n text) → Appends b c (take k (take (length text - n) (drop n text))) → Appends a c (take m text)
 piece_written text n k m a b c e first second =
     let joined : take n text ++ take k (take (length text - n) (drop n text)) ≡ take m text =
-        ap (λ l. take n text ++ take k l) (take_rest text n) ∙ sym (take-add n k text) ∙ ap (λ i. take i text) (sym e) in
+    ap (λ l. take n text ++ take k l) (take_rest text n) ∙ sym (take-add n k text) ∙ ap (λ i. take i text) (sym e) in
     subst (Appends a c) joined (Appends-trans a b c _ _ first second)
 
 pub piece_within : (text : List ℕ) (n k m : ℕ) → m ≡ n + k → n ≤ length text → k ≤ length (take (length text - n) (drop n text)) → m ≤ length text

@@ -5,9 +5,8 @@ ghost use Rattle.rrs_run.specs.Faults.{fault_text};
 
 use rrs_lib::memories::LoadFault;
 use std::error::Error;
-use std::fmt;
-use std::io;
 use std::io::ErrorKind;
+use std::{fmt, io};
 
 /// Why a run can't be made, or its account not be written.
 #[derive(Debug, PartialEq, Drop)]

@@ -97,7 +97,9 @@ fn perform<R: Env + Files + Print + AllocGlobal>(rt: &R) -> Result<(), Failure> 
 /// as a failure of the run.
 fn arguments<R: Env + AllocGlobal>(rt: &R) -> Result<Vec<String>, Failure> {
     match std::env::args(rt) {
-        Ok(words) => words.collect(rt.alloc()).map_err(|_| Failure::Run(RunFault::OutOfMemory)),
+        Ok(words) => words
+            .collect(rt.alloc())
+            .map_err(|_| Failure::Run(RunFault::OutOfMemory)),
         Err(e) if e.kind() == ErrorKind::OutOfMemory => Err(Failure::Run(RunFault::OutOfMemory)),
         Err(_) => Err(Failure::Usage),
     }
@@ -108,11 +110,7 @@ fn arguments<R: Env + AllocGlobal>(rt: &R) -> Result<Vec<String>, Failure> {
 /// # Errors
 ///
 /// `Failure::CannotOpen` where the file can't be opened, and else `Failure::Run`.
-fn run_file<R: Files + Print + AllocGlobal>(
-    rt: &R,
-    path: &str,
-    limit: u64,
-) -> Result<(), Failure> {
+fn run_file<R: Files + Print + AllocGlobal>(rt: &R, path: &str, limit: u64) -> Result<(), Failure> {
     let Ok(file) = fs::open(rt, path) else {
         return Err(Failure::CannotOpen);
     };

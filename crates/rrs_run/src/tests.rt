@@ -301,9 +301,16 @@ fn runs_the_file_that_is_named_up_to_the_limit_that_is_named(rt: HostRuntime) ->
         assert_eq!(rt; status, 0, "{want}");
         assert!(rt; text.is_empty(), "{want}");
         assert!(rt; printed.starts_with(want.as_bytes()), "{want}");
-        assert!(rt; printed[want.len()..].starts_with(b"x0 0x00000000\n"), "{want}");
+        assert!(rt;
+            printed[want.len()..].starts_with(b"x0 0x00000000\n"),
+            "{want}"
+        );
         let lines = printed.iter().filter(|byte| **byte == b'\n').count();
-        let before = want.as_bytes().iter().filter(|byte| **byte == b'\n').count();
+        let before = want
+            .as_bytes()
+            .iter()
+            .filter(|byte| **byte == b'\n')
+            .count();
         assert_eq!(rt; lines, before + 33, "{want}");
     }
     Ok(())
@@ -379,7 +386,10 @@ fn tells_an_output_that_fails(rt: HostRuntime) -> Result<(), Fail> {
                 let (status, text, printed) = run(rt.alloc(), &words, &FILES, room)?;
                 assert_eq!(rt; status, 1, "with room for {room}");
                 assert_eq!(rt; text.as_str(), "rrs-run: cannot write output", "at {room}");
-                assert!(rt; printed.as_slice() == &whole[..room], "with room for {room}");
+                assert!(rt;
+                    printed.as_slice() == &whole[..room],
+                    "with room for {room}"
+                );
             }
         }
     }

@@ -283,7 +283,11 @@ fn tells_a_reader_that_fails(rt: HostRuntime) {
             let mut out = Room { left: 1000 };
             let result = simulate(rt.alloc(), &mut reader, 10, &mut out);
             assert_eq!(rt; result, Err(RunFault::Reader), "after {fails_at} bytes");
-            assert_eq!(rt; reader.given, fails_at, "no byte is taken after the failure");
+            assert_eq!(rt;
+                reader.given,
+                fails_at,
+                "no byte is taken after the failure"
+            );
             assert_eq!(rt; out.left, 1000, "after {fails_at} bytes");
         }
     }
@@ -326,7 +330,10 @@ fn writes_a_beginning_where_a_write_fails_once(rt: HostRuntime) -> Result<(), Fa
                 assert!(rt; out.written.as_slice() == account, "at {fails_at}");
             } else {
                 assert_eq!(rt; result, Err(RunFault::Output), "at {fails_at}");
-                assert!(rt; out.written.as_slice() == &account[..fails_at], "at {fails_at}");
+                assert!(rt;
+                    out.written.as_slice() == &account[..fails_at],
+                    "at {fails_at}"
+                );
             }
         }
     }

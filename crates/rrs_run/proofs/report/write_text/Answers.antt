@@ -21,11 +21,11 @@ loop-preserved g c =
     let written = c.loop.written in
     let before = c.loop.invariant in
     elim c.match-write.branch [
-      in-Ok w ↦ record {
+      | in-Ok w ↦ record {
         within = piece_within text written w.in-Ok.count _ w.written-is before.within w.in-Ok.ensures.bound;
         appended = piece_written text written w.in-Ok.count _ _ _ _ w.written-is before.appended w.in-Ok.ensures.bytes;
       }
-    | in-Err+else-ne w ↦ record {
+      | in-Err+else-ne w ↦ record {
         within = omega (arith, w.written-is);
         appended = none_written text written _ _ _ _ w.written-is before.appended w.in-Err.ensures.bytes;
       }
