@@ -8,7 +8,8 @@ use Rattle.rrs_replay.specs.declared.questions.ParseError.{ParseError}
 use Rattle.rrs_replay.specs.declared.questions.ParseError.TheVariants.{Malformed, OutOfMemory}
 use Rattle.rrs_replay.specs.Numerals.{below, word_of, decimal_of, register_of}
 
--- what is asked: the row of a word; the text of a word at an address; or what so many steps answer, and what they leave of a state
+-- what is asked: the row of a word; the text of a word at an address; or what so many steps return,
+-- and what they leave of a state
 pub data Asked : Type 0 where
   AsksRow : (word : ℕ) → Asked
   AsksText : (pc word : ℕ) → Asked
@@ -18,7 +19,9 @@ pub data Asked : Type 0 where
 abbrev pub asked : Question → Asked
 asked (Decode word) = AsksRow word
 asked (Text pc word) = AsksText pc word
-asked (Steps steps) = AsksSteps steps.count steps.pc (option_map (λ register. register.index) steps.last) steps.registers steps.memory.items
+asked (Steps steps) =
+    AsksSteps steps.count steps.pc (option_map (λ register. register.index) steps.last)
+    steps.registers steps.memory.items
 
 -- ---- words
 
@@ -27,7 +30,8 @@ abbrev pub words : List ℕ → List (List ℕ)
 words text = slice_split (λ b. b == 32) text
 
 -- the first word is read, and then what follows it
-abbrev pub reads : {A B : Type 0} → (List ℕ → Option A) → (A → List (List ℕ) → Option B) → List (List ℕ) → Option B
+abbrev pub reads : {A B : Type 0} → (List ℕ → Option A) → (A → List (List ℕ) → Option B)
+    → List (List ℕ) → Option B
 reads read follows [] = None
 reads read follows (w ∷ ws) = option_and_then (λ x. follows x ws) (read w)
 
@@ -46,7 +50,9 @@ named text =
 
 -- the value of a word that is `name=value`
 abbrev pub value_of : List ℕ → List ℕ → Option (List ℕ)
-value_of name w = option_and_then (λ (p : List ℕ × List ℕ). if bytes_eq p.0 name then Some p.1 else None) (named w)
+value_of name w =
+    option_and_then (λ (p : List ℕ × List ℕ). if bytes_eq p.0 name then Some p.1 else None)
+    (named w)
 
 -- the same, where the value is read
 abbrev pub value_as : {A : Type 0} → List ℕ → (List ℕ → Option A) → List ℕ → Option A
@@ -67,18 +73,28 @@ entries text = slice_split (λ b. b == 44) text
 -- a register and its value, which is not 0
 abbrev pub entry_of : List ℕ → Option (ℕ × ℕ)
 entry_of text =
-    option_and_then (λ (p : List ℕ × List ℕ). option_and_then (λ register. option_and_then (λ value. if nat_eq value 0 then None else Some (register, value)) (word_of p.1)) (register_of p.0)) (named text)
+    option_and_then (λ (p : List ℕ × List ℕ).
+    option_and_then (λ register.
+    option_and_then (λ value. if nat_eq value 0 then None else Some (register, value))
+    (word_of p.1))
+    (register_of p.0))
+    (named text)
 
--- Registers after entries for them are read, where the first entry may be for register `least` or a higher one: no entry comes twice, and they
--- are in the order of the registers.
+-- Registers after entries for them are read, where the first entry may be for register `least` or a
+-- higher one: no entry comes twice, and they are in the order of the registers.
 abbrev pub registers_with : ℕ → List ℕ → List (List ℕ) → Option (List ℕ)
 registers_with least registers [] = Some registers
 registers_with least registers (x ∷ xs) =
-    option_and_then (λ (e : ℕ × ℕ). if nat_lt e.0 least then None else registers_with (e.0 + 1) (slice_set registers e.0 e.1) xs) (entry_of x)
+    option_and_then (λ (e : ℕ × ℕ).
+    if nat_lt e.0 least then None
+    else registers_with (e.0 + 1) (slice_set registers e.0 e.1) xs)
+    (entry_of x)
 
 -- all 32 registers: those that a list has, or none at `-`, and 0 for the others
 abbrev pub registers_of : List ℕ → Option (List ℕ)
-registers_of text = if bytes_eq text (codes "-") then Some (replicate 32 0) else registers_with 0 (replicate 32 0) (entries text)
+registers_of text =
+    if bytes_eq text (codes "-") then Some (replicate 32 0)
+    else registers_with 0 (replicate 32 0) (entries text)
 
 -- the words that entries are, each one
 abbrev pub words_of : List (List ℕ) → Option (List ℕ)
@@ -92,18 +108,24 @@ memory_of text = if bytes_eq text (codes "-") then Some [] else words_of (entrie
 -- ---- questions
 
 -- `N pc=PC last=LAST regs=REGS mem=MEM`
-abbrev pub reads_steps : {B : Type 0} → (Asked → List (List ℕ) → Option B) → List (List ℕ) → Option B
+abbrev pub reads_steps : {B : Type 0} → (Asked → List (List ℕ) → Option B)
+    → List (List ℕ) → Option B
 reads_steps follows =
-    reads count_of (λ count. reads (value_as (codes "pc") word_of) (λ pc. reads (value_as (codes "last") last_of) (λ last.
-    reads (value_as (codes "regs") registers_of) (λ registers. reads (value_as (codes "mem") memory_of) (λ memory.
+    reads count_of (λ count.
+    reads (value_as (codes "pc") word_of) (λ pc.
+    reads (value_as (codes "last") last_of) (λ last.
+    reads (value_as (codes "regs") registers_of) (λ registers.
+    reads (value_as (codes "mem") memory_of) (λ memory.
     follows (AsksSteps count pc last registers memory))))))
 
 -- `decode WORD`, `text PC WORD`, or `steps` and the rest
-abbrev pub reads_question : {B : Type 0} → (Asked → List (List ℕ) → Option B) → List (List ℕ) → Option B
+abbrev pub reads_question : {B : Type 0} → (Asked → List (List ℕ) → Option B)
+    → List (List ℕ) → Option B
 reads_question follows [] = None
 reads_question follows (w ∷ ws) =
     if bytes_eq w (codes "decode") then reads word_of (λ word. follows (AsksRow word)) ws
-    else (if bytes_eq w (codes "text") then reads word_of (λ pc. reads word_of (λ word. follows (AsksText pc word))) ws
+    else (if bytes_eq w (codes "text")
+    then reads word_of (λ pc. reads word_of (λ word. follows (AsksText pc word))) ws
     else (if bytes_eq w (codes "steps") then reads_steps follows ws else None))
 
 -- what a line asks, if it is a question and nothing else

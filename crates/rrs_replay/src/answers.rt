@@ -10,9 +10,11 @@ use std::alloc::{AllocError, Global};
 use std::io;
 use std::io::Write;
 
-/// Writes the answer to a question.
+/// Writes the answer to a question. What steps return is written as the steps are made.
 ///
-/// The answers of steps are written as the steps are made.
+/// # Errors
+///
+/// The error of a write that fails, or out of memory, where nothing of the answer is written.
 pub fn write_answer<W: Write>(alloc: Global, question: Question, out: &mut W) -> io::Result<()> {
     match question {
         Question::Decode(word) => write_row(alloc, word, out),
@@ -52,7 +54,7 @@ fn first_word(text: &str) -> &str {
     }
 }
 
-/// Makes the steps, and writes what each answers and then the state that they leave.
+/// Makes the steps, and writes what each returns and then the state that they leave.
 fn write_steps<W: Write>(steps: Steps, out: &mut W) -> io::Result<()> {
     let Steps {
         count,
@@ -86,7 +88,7 @@ fn write_steps<W: Write>(steps: Steps, out: &mut W) -> io::Result<()> {
     write_memory(&memory.mem, out)
 }
 
-/// Writes what a step answers.
+/// Writes what a step returned.
 fn write_step<W: Write>(answer: &Result<(), InstructionException>, out: &mut W) -> io::Result<()> {
     let Err(exception) = answer else {
         return write!(out, "Ok");

@@ -5,7 +5,7 @@
 //! |---|---|
 //! | `decode WORD` | the number and the name of the word's row, as `11 addi`, or `none` |
 //! | `text PC WORD` | the text of the word at this address, or `none` |
-//! | `steps N pc=PC last=LAST regs=REGS mem=MEM` | `ANSWERS pc=PC last=LAST regs=REGS mem=MEM`: what N steps answer, and the state that they leave |
+//! | `steps N pc=PC last=LAST regs=REGS mem=MEM` | `ANSWERS pc=PC last=LAST regs=REGS mem=MEM`: what N steps return, and the state that they leave |
 //!
 //! A word, an address or a register's value is `0x` and 8 lower-case hexadecimal digits, and N a
 //! decimal number up to 1000000 with no leading 0. LAST is the register that the latest
@@ -15,6 +15,10 @@
 //! has an answer a step, separated by `;`, or is `-`.
 //!
 //! A line of another form is answered by `error: ` and what is wrong with it.
+//!
+//! Each line is answered before the program waits for the next one. Where a read or a write fails,
+//! or out of memory, it says so on standard error and ends with status 1; what it answered before
+//! stands on standard output, and a line that was cut off is not answered.
 
 #![tactic(auto)]
 
@@ -28,7 +32,7 @@ use crate::parsing::question_of;
 use crate::questions::{Mistake, ParseError};
 use std::alloc::Global;
 use std::io;
-use std::io::{BufRead, BufReader, BufWriter, ErrorKind, Write};
+use std::io::{BufRead, BufReader, BufWriter, ErrorKind, Read, Write};
 use std::process::ExitCode;
 
 fn main(rt: HostRuntime) -> ExitCode {
@@ -42,22 +46,40 @@ fn main(rt: HostRuntime) -> ExitCode {
 }
 
 /// Answers the lines of standard input on standard output.
+///
+/// # Errors
+///
+/// The error of a read or a write that fails, or out of memory. The lines before it are answered.
 fn replay<R: Input + Print + AllocGlobal>(rt: &R) -> io::Result<()> {
-    let mut input = BufReader::new(rt.alloc(), rt.reader())?;
-    let mut output = BufWriter::new(rt.alloc(), io::writer(rt))?;
-    let answered = answer_lines(rt.alloc(), &mut input, &mut output);
+    answer_all(rt.alloc(), rt.reader(), io::writer(rt))
+}
+
+/// Answers the lines of a reader on a writer, through buffers.
+fn answer_all<R: Read + Drop, W: Write + Drop>(
+    alloc: Global,
+    reader: R,
+    writer: W,
+) -> io::Result<()> {
+    let mut input = BufReader::new(alloc, reader)?;
+    let mut output = BufWriter::new(alloc, writer)?;
+    let answered = answer_lines(alloc, &mut input, &mut output);
     let flushed = output.flush();
     answered.and(flushed)
 }
 
 /// Answers each line of the input, keeping one line at a time.
-fn answer_lines<R: BufRead, W: Write>(
+///
+/// The output is flushed before a read that may wait for the next line.
+fn answer_lines<R: Read, W: Write>(
     alloc: Global,
-    input: &mut R,
+    input: &mut BufReader<R>,
     output: &mut W,
 ) -> io::Result<()> {
     let mut line = Vec::new(alloc);
     for _ in 0..u64::MAX {
+        if !input.buffer().contains(&b'\n') {
+            output.flush()?;
+        }
         line.clear();
         if input.read_until(b'\n', &mut line)? == 0 {
             break;
@@ -70,6 +92,10 @@ fn answer_lines<R: BufRead, W: Write>(
 }
 
 /// Writes the answer to a line's question, or what is wrong with the line.
+///
+/// # Errors
+///
+/// The error of a write that fails, or out of memory, where nothing of the answer is written.
 fn answer_line<W: Write>(alloc: Global, line: &[u8], output: &mut W) -> io::Result<()> {
     let Ok(text) = str::from_utf8(line) else {
         let mistake = Mistake::NotText;

@@ -154,6 +154,11 @@ impl<'a> Words<'a> {
 }
 
 /// The question that a line asks.
+///
+/// # Errors
+///
+/// `ParseError::Malformed` where the line asks nothing, with what is wrong with it, and
+/// `ParseError::OutOfMemory`, which says nothing of the line.
 pub fn question_of(alloc: Global, line: &str) -> Result<Question, ParseError>
     ensures asked { IfOk result (λ question. asks line.now ≡ Some (asked question)) }
     ensures refused { IfErr result (WhereMalformed (asks line.now ≡ None)) }

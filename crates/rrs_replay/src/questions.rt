@@ -39,7 +39,7 @@ pub enum Question {
     Decode(u32),
     /// The text of a word at an address.
     Text { pc: u32, word: u32 },
-    /// What steps answer, and the state that they leave.
+    /// What steps return, and the state that they leave.
     Steps(Steps),
 }
 
@@ -98,7 +98,7 @@ impl fmt::Display for Mistake {
 pub enum ParseError {
     /// The line is malformed.
     Malformed(Mistake),
-    /// There is no memory left for the question.
+    /// Out of memory for the question.
     OutOfMemory,
 }
 

@@ -1,49 +1,182 @@
-//! Lines in and answers out, over readers and writers of memory, some of which fail.
+//! Lines in and answers out, over readers and writers of memory, some of which fail. Those that fail
+//! do so once and then go on, so that a read or a write that is made again shows.
+
+ghost use Rattle.std.specs.Prelude.{◌≤◌};
 
 use super::*;
-use std::io::Read;
 use std::test::Fail;
 
 /// Three lines, the second of which is no text; the last has no end.
 const LINES: &[u8] = b"decode 0x00108333\ndecode \xff\ndecode 0x00000000";
 
-/// A reader that fails once its bytes are used up.
+/// The answers to these lines.
+const ANSWERS: &[u8] = b"1 add\nerror: the line is not UTF-8\nnone\n";
+
+/// A reader that gives a byte a read, and fails once before byte `fails_at`.
 #[derive(Drop)]
 struct Cut<'a> {
-    rest: &'a [u8],
+    bytes: &'a [u8],
+    given: usize,
+    fails_at: usize,
+    kind: ErrorKind,
+    has_failed: bool,
 }
 
 impl Read for Cut<'_> {
     fn read(&mut self, buf: &mut [u8]) -> io::Result<usize> {
-        let Some((first, others)) = self.rest.split_first() else {
-            return Err(io::Error::from(ErrorKind::BrokenPipe));
-        };
-        if buf.is_empty() {
+        if self.given == self.fails_at && !self.has_failed {
+            self.has_failed = true;
+            return Err(io::Error::from(self.kind));
+        }
+        if buf.is_empty() || self.given >= self.bytes.len() {
             return Ok(0);
         }
-        buf[0] = *first;
-        self.rest = others;
+        buf[0] = self.bytes[self.given];
+        self.given += 1;
         Ok(1)
     }
 }
 
-#[test]
-fn answers_each_line(rt: HostRuntime) -> Result<(), Fail> {
-    let mut input = LINES;
-    let mut output = Vec::new(rt.alloc());
-    answer_lines(rt.alloc(), &mut input, &mut output)?;
-    let wanted = b"1 add\nerror: the line is not UTF-8\nnone\n";
-    assert!(rt; output.as_slice() == wanted.as_slice());
-    Ok(())
+/// A writer of up to 1000 bytes, which fails once before byte `fails_at`.
+#[derive(Drop)]
+struct Page {
+    bytes: [u8; 1000],
+    used: usize,
+    fails_at: usize,
+    has_failed: bool,
+    ghost within: { used ≤ 1000 },
+}
+
+impl Page {
+    fn new(fails_at: usize) -> Page {
+        Page {
+            bytes: [0; 1000],
+            used: 0,
+            fails_at,
+            has_failed: false,
+        }
+    }
+
+    /// Whether these bytes are written, and nothing else.
+    fn holds(&self, bytes: &[u8]) -> bool {
+        self.bytes.get(..self.used) == Some(bytes)
+    }
+}
+
+impl Write for Page {
+    fn write(&mut self, buf: &[u8]) -> io::Result<usize> {
+        if self.used >= self.fails_at && !self.has_failed {
+            self.has_failed = true;
+            return Err(io::Error::from(ErrorKind::StorageFull));
+        }
+        let limit = if self.has_failed {
+            1000
+        } else {
+            self.fails_at.min(1000)
+        };
+        let count = buf.len().min(limit.saturating_sub(self.used));
+        self.bytes[self.used..self.used + count].copy_from_slice(&buf[..count]);
+        self.used += count;
+        Ok(count)
+    }
+
+    fn flush(&mut self) -> io::Result<()> {
+        Ok(())
+    }
+}
+
+/// A reader of lines that fails at this byte.
+fn reader_of_lines(fails_at: usize, kind: ErrorKind) -> Cut<'static> {
+    Cut {
+        bytes: LINES,
+        given: 0,
+        fails_at,
+        kind,
+        has_failed: false,
+    }
 }
 
 #[test]
-fn a_line_that_is_cut_off_is_no_answer(rt: HostRuntime) -> Result<(), Fail> {
-    let mut input = BufReader::new(rt.alloc(), Cut { rest: LINES })?;
-    let mut output = Vec::new(rt.alloc());
-    let answered = answer_lines(rt.alloc(), &mut input, &mut output);
-    assert!(rt; answered.is_err());
-    let wanted = b"1 add\nerror: the line is not UTF-8\n";
-    assert!(rt; output.as_slice() == wanted.as_slice());
-    Ok(())
+fn answers_each_line(rt: HostRuntime) {
+    let mut output = Page::new(1000);
+    let answered = answer_all(rt.alloc(), LINES, &mut output);
+    assert!(rt; answered.is_ok());
+    assert!(rt; output.holds(ANSWERS));
+}
+
+#[test]
+fn answers_the_lines_before_a_read_that_fails(rt: HostRuntime) {
+    for fails_at in 0..=LINES.len() {
+        let mut output = Page::new(1000);
+        let answered = answer_all(
+            rt.alloc(),
+            reader_of_lines(fails_at, ErrorKind::BrokenPipe),
+            &mut output,
+        );
+        assert!(rt; answered.is_err(), "at {fails_at}");
+        let whole = match fails_at {
+            0..=17 => 0,
+            18..=26 => 6,
+            _ => 35,
+        };
+        assert!(rt; output.holds(&ANSWERS[..whole]), "at {fails_at}");
+    }
+}
+
+#[test]
+fn reads_again_after_an_interruption(rt: HostRuntime) {
+    for fails_at in 0..=LINES.len() {
+        let mut output = Page::new(1000);
+        let answered = answer_all(
+            rt.alloc(),
+            reader_of_lines(fails_at, ErrorKind::Interrupted),
+            &mut output,
+        );
+        assert!(rt; answered.is_ok(), "at {fails_at}");
+        assert!(rt; output.holds(ANSWERS), "at {fails_at}");
+    }
+}
+
+#[test]
+fn tells_a_write_that_fails_once(rt: HostRuntime) {
+    // Without a buffer a beginning of the answers stands there.
+    for fails_at in 0..ANSWERS.len() {
+        let mut output = Page::new(fails_at);
+        let Ok(mut input) = BufReader::new(rt.alloc(), LINES) else {
+            return;
+        };
+        let answered = answer_lines(rt.alloc(), &mut input, &mut output);
+        assert!(rt; answered.is_err(), "at {fails_at}");
+        assert!(rt; output.holds(&ANSWERS[..fails_at]), "at {fails_at}");
+    }
+    // With one, what it held is written later, and the failure is told all the same.
+    for fails_at in 0..ANSWERS.len() {
+        let mut output = Page::new(fails_at);
+        let answered = answer_all(rt.alloc(), LINES, &mut output);
+        assert!(rt; answered.is_err(), "at {fails_at}");
+        assert!(rt;
+            ANSWERS.starts_with(&output.bytes[..output.used]),
+            "at {fails_at}"
+        );
+        assert!(rt; output.used >= fails_at, "at {fails_at}");
+    }
+}
+
+/// The answers before the first line, after each of them, and all.
+const WHOLE_ANSWERS: [usize; 4] = [0, 6, 35, 40];
+
+/// With no allocation that fails this writes all answers. With one (`docs/RUNNING.md` says how) it
+/// writes those before it, and says so.
+#[test]
+fn out_of_memory_leaves_whole_answers(rt: HostRuntime) {
+    let mut output = Page::new(1000);
+    let answered = answer_all(rt.alloc(), LINES, &mut output);
+    match answered {
+        Ok(()) => assert!(rt; output.holds(ANSWERS)),
+        Err(error) => {
+            assert_eq!(rt; error.kind(), ErrorKind::OutOfMemory);
+            assert!(rt; WHOLE_ANSWERS.contains(&output.used));
+            assert!(rt; ANSWERS.starts_with(&output.bytes[..output.used]));
+        }
+    }
 }

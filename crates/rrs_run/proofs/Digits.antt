@@ -30,12 +30,6 @@ pub digit-bound : (n i d : ℕ) → n < 10 ^ i → d < 10 → n * 10 + d < 10 ^ 
 digit-bound n i d h small =
     let e : 10 ^ (i + 1) ≡ 10 ^ i * 10 = ap (λ k. 10 ^ k) (add-one i) ∙ pow-suc 10 i in omega (arith, e, h, small)
 
--- a number of at most nine digits is below 10 ^ 9
-pub nine_digits : (n i : ℕ) → n < 10 ^ i → i ≤ 9 → n < 10 ^ 9
-nine_digits n i h small =
-    let positive : zero < 10 = omega arith in
-    let le : 10 ^ i ≤ 10 ^ 9 = pow-le-pow_right positive small in omega arith
-
 -- a word with a byte that is no digit is no limit
 pub limit_in-not_digit : (xs : List ℕ) (i : ℕ) → i < length xs → is_ascii_digit (get_or xs i 0) ≡ false → limit_in xs ≡ None
 limit_in-not_digit xs i h bad =

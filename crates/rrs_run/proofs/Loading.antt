@@ -45,8 +45,3 @@ not_past n h = omega (arith, h)
 pub fails_in_time : (before after : Option (List ℕ)) (old new : ByteMap) (words input : List ℕ) → length words ≡ 16384 → Loaded old new (lies_in_words words) 0 input → Consumes before after input → StopsLoad before after RunFault.Reader
 fails_in_time before after old new words input e loaded read =
     (input, read, not_past (length input) (λ past. input_fits words (length input) e loaded.writable_there past))
-
--- The addresses do not come to their end.
-pub not_past_end : (before after : Option (List ℕ)) (old new : ByteMap) (words : List ℕ) → length words ≡ 16384 → Loads before after old new (lies_in_words words) 0 (Err EndOfAddresses) → ⊥
-not_past_end before after old new words e loads =
-    input_fits words (length loads.input) e loads.loaded.writable_there (omega (arith, loads.answered.0))

@@ -1,4 +1,5 @@
 pub mod Limits
+pub mod Requests
 pub mod Texts
 pub mod Faults
 pub mod Failures

@@ -3,7 +3,8 @@ use Rattle.std.specs.Prelude.{ℕ, ◌+◌, ◌-◌, ◌*◌, List, length, fold
 use Rattle.std.specs.List.{list_all}
 use Rattle.std.specs.Char.{is_ascii_digit}
 
--- the number that decimal digits are, the first of them the most significant: ten times the number so far plus the digit
+-- the number that decimal digits are, the first of them the most significant: ten times the number
+-- so far plus the digit
 abbrev pub number_of_digits : List ℕ → ℕ
 number_of_digits digits = fold (λ n digit. 10 * n + (digit - 48)) 0 digits
 

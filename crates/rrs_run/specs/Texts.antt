@@ -12,7 +12,9 @@ instruction_line pc text = codes "0x" ++ (hexadecimal 8 pc ++ (codes ": " ++ (te
 
 -- the fault that ended a run
 abbrev pub exception_text : InstructionException → List ℕ
-exception_text (IllegalInstruction pc word) = (codes "end: IllegalInstruction pc=0x" ++ hexadecimal 8 pc) ++ (codes " word=0x" ++ hexadecimal 8 word)
+exception_text (IllegalInstruction pc word) =
+    (codes "end: IllegalInstruction pc=0x" ++ hexadecimal 8 pc)
+    ++ (codes " word=0x" ++ hexadecimal 8 word)
 exception_text (FetchError pc) = codes "end: FetchError pc=0x" ++ hexadecimal 8 pc
 exception_text (LoadAccessFault addr) = codes "end: LoadAccessFault addr=0x" ++ hexadecimal 8 addr
 exception_text (StoreAccessFault addr) = codes "end: StoreAccessFault addr=0x" ++ hexadecimal 8 addr
@@ -33,7 +35,8 @@ end_line steps exception = reason_text exception ++ steps_text steps
 
 -- the line of register r
 abbrev pub register_line : State → ℕ → List ℕ
-register_line s r = codes "x" ++ (decimal r ++ (codes " 0x" ++ (hexadecimal 8 (reg s r) ++ 10 ∷ [])))
+register_line s r =
+    codes "x" ++ (decimal r ++ (codes " 0x" ++ (hexadecimal 8 (reg s r) ++ 10 ∷ [])))
 
 -- the lines of the first n registers
 abbrev pub register_lines : State → ℕ → List ℕ

@@ -3,8 +3,10 @@
 ghost use Rattle.std.specs.Prelude.{Some};
 ghost use Rattle.rrs_run.specs.Faults.{fault_text};
 
+use rrs_lib::memories::LoadFault;
 use std::error::Error;
-use std::fmt;
+use std::io::ErrorKind;
+use std::{fmt, io};
 
 /// Why a run can't be made, or its account not be written.
 #[derive(Debug, PartialEq, Drop)]
@@ -22,14 +24,16 @@ pub enum RunFault {
 impl fmt::Display for RunFault {
     ghost output = { λ fault. Some (fault_text fault) };
 
-    #[tactic(auto, using(crate::proofs::Digits::padded_eight))]
+    // The loader's texts are printed by its fault, whose text of a failed read is the same for every
+    // error.
     fn fmt<W: fmt::Write>(&self, f: &mut fmt::Formatter<W>) -> fmt::Result {
         match self {
             RunFault::OutOfMemory => write!(f, "out of memory"),
-            RunFault::Reader => write!(f, "Could not read byte"),
-            RunFault::Refused(address) => {
-                write!(f, "Could not write byte at address 0x{address:08x}")
+            RunFault::Reader => {
+                let error = io::Error::from(ErrorKind::Other);
+                write!(f, "{}", LoadFault::Reader(error))
             }
+            RunFault::Refused(address) => write!(f, "{}", LoadFault::Refused(*address)),
             RunFault::Output => write!(f, "cannot write output"),
         }
     }

@@ -2,7 +2,8 @@
 //!
 //! `rrs-run FILE LIMIT` puts the bytes of FILE at address 0 on, starts a hart there, and makes at
 //! most LIMIT steps. It prints the text of each instruction before it is executed, then how the run
-//! ended, and then the registers.
+//! ended, and then the registers. A word of the command line that is not UTF-8, the program's own
+//! name among them, counts as a wrong argument.
 
 #![tactic(auto)]
 
@@ -12,12 +13,15 @@ ghost use Rattle.rrs_run.specs.Failures.{failure_text, status_of};
 mod fault;
 mod limits;
 mod report;
+mod requests;
 mod simulation;
 
 use crate::fault::RunFault;
+use crate::requests::request_of;
+use crate::simulation::simulate;
 use std::alloc::Global;
 use std::error::Error;
-use std::io::{BufWriter, ErrorKind};
+use std::io::{BufReader, BufWriter, ErrorKind};
 use std::process::ExitCode;
 use std::rt::{Env, Files};
 use std::{fmt, fs, io};
@@ -71,36 +75,53 @@ fn main(rt: HostRuntime) -> ExitCode {
 }
 
 /// Runs the program that the arguments name.
+///
+/// # Errors
+///
+/// `Failure::Usage` where the arguments are not a file and a limit, `Failure::CannotOpen` where the
+/// file can't be opened, and `Failure::Run` for what goes wrong later, or where there is no memory
+/// for the arguments or a buffer.
 fn perform<R: Env + Files + Print + AllocGlobal>(rt: &R) -> Result<(), Failure> {
-    let (path, limit) = arguments(rt)?;
-    let Ok(mut file) = fs::open(rt, path.as_str()) else {
+    let words = arguments(rt)?;
+    let Some((path, limit)) = request_of(&words) else {
+        return Err(Failure::Usage);
+    };
+    run_file(rt, path, limit)
+}
+
+/// The words of the command line, the program's own name first.
+///
+/// # Errors
+///
+/// `Failure::Usage` where one of them is not UTF-8, be it the program's own name, and out of memory
+/// as a failure of the run.
+fn arguments<R: Env + AllocGlobal>(rt: &R) -> Result<Vec<String>, Failure> {
+    match std::env::args(rt) {
+        Ok(words) => words
+            .collect(rt.alloc())
+            .map_err(|_| Failure::Run(RunFault::OutOfMemory)),
+        Err(e) if e.kind() == ErrorKind::OutOfMemory => Err(Failure::Run(RunFault::OutOfMemory)),
+        Err(_) => Err(Failure::Usage),
+    }
+}
+
+/// Runs the program in a file, through buffers in front of the file and of standard output.
+///
+/// # Errors
+///
+/// `Failure::CannotOpen` where the file can't be opened, and else `Failure::Run`.
+fn run_file<R: Files + Print + AllocGlobal>(rt: &R, path: &str, limit: u64) -> Result<(), Failure> {
+    let Ok(file) = fs::open(rt, path) else {
         return Err(Failure::CannotOpen);
+    };
+    let Ok(mut reader) = BufReader::new(rt.alloc(), file) else {
+        return Err(Failure::Run(RunFault::OutOfMemory));
     };
     let Ok(mut out) = BufWriter::new(rt.alloc(), io::writer(rt)) else {
         return Err(Failure::Run(RunFault::OutOfMemory));
     };
-    simulation::simulate(rt.alloc(), &mut file, limit, &mut out).map_err(Failure::Run)
+    simulate(rt.alloc(), &mut reader, limit, &mut out).map_err(Failure::Run)
 }
 
-/// The path and the limit that the arguments are.
-fn arguments<R: Env + AllocGlobal>(rt: &R) -> Result<(String, u64), Failure> {
-    let mut words = match std::env::args(rt) {
-        Ok(words) => words,
-        Err(e) if e.kind() == ErrorKind::OutOfMemory => {
-            return Err(Failure::Run(RunFault::OutOfMemory));
-        }
-        Err(_) => return Err(Failure::Usage),
-    };
-    let (Some(_), Some(path), Some(limit), None) = (
-        words.next(),
-        words.next(),
-        words.next(),
-        words.next(),
-    ) else {
-        return Err(Failure::Usage);
-    };
-    let Some(limit) = limits::limit_of(limit.as_str()) else {
-        return Err(Failure::Usage);
-    };
-    Ok((path, limit))
-}
+#[cfg(test)]
+mod tests;

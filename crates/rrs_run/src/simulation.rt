@@ -1,19 +1,19 @@
 //! Runs the bytes of a reader as a program.
 
-ghost use Rattle.std.specs.Prelude.{◌≡◌, Ok, IfOk, OnOk, IfErr, vec_len};
+ghost use Rattle.std.specs.Prelude.{◌≡◌, [], Ok, IfOk, OnOk, IfErr, vec_len};
 ghost use Rattle.rrs_lib.specs.Executor.{state_in};
 ghost use Rattle.rrs_lib.specs.Loading.{Loads};
 ghost use Rattle.rrs_lib.specs.VecBytes.{bytes_of_words, lies_in_words};
 ghost use Rattle.rrs_lib.specs.Steps.{Step};
-ghost use Rattle.rrs_run.specs.Account.{Account, AppendsLines, LinesBefore, LinesOfWord, PrintsUntil, next_word, zero_words};
-ghost use Rattle.rrs_run.specs.Faults.{StopsLoad, StopsRun, IsOutputOrMemory};
+ghost use Rattle.rrs_run.specs.Account.{Account, AppendsLines, LinesBefore, LinesOfWord, PrintsUntil, PrintsSteps, PrintsToNext, zero_words};
+ghost use Rattle.rrs_run.specs.Faults.{StopsLoad, StopsPrinting, StopsRun};
 
 use crate::fault::RunFault;
 use crate::report;
 use rrs_lib::instruction_executor::{InstructionException, InstructionExecutor, RunEnd};
 use rrs_lib::instruction_string_outputter::InstructionStringOutputter;
 use rrs_lib::memories::{LoadFault, VecMemory, read_to_memory};
-use rrs_lib::{HartState, MemAccessSize, Memory, process_instruction};
+use rrs_lib::{HartState, Memory, process_instruction};
 use std::alloc::Global;
 use std::io::{Read, Write};
 
@@ -22,6 +22,13 @@ const WORDS: usize = 16384;
 
 /// Runs the reader's bytes as a program, for `limit` steps or up to the first fault, and prints
 /// the text of each instruction, how the run ended, and the registers.
+///
+/// # Errors
+///
+/// `RunFault::Reader` and `RunFault::Refused` where the bytes can't be loaded: nothing is printed
+/// then. `RunFault::OutOfMemory` before anything is read or printed, or after the lines of the steps
+/// so far and nothing else. `RunFault::Output` where a write or the flush fails: a beginning of the
+/// account is printed then, up to all of it.
 pub fn simulate<R: Read, W: Write>(
     alloc: Global,
     reader: &mut R,
@@ -30,7 +37,7 @@ pub fn simulate<R: Read, W: Write>(
 ) -> Result<(), RunFault>
     ensures account { OnOk result (Account (R.remaining reader.old) (R.remaining reader.new) limit
         (W.contents out.old) (W.contents out.new)) }
-    ensures fault { IfErr result (StopsRun (R.remaining reader.old) (R.remaining reader.new)
+    ensures fault { IfErr result (StopsRun limit (R.remaining reader.old) (R.remaining reader.new)
         (W.contents out.old) (W.contents out.new)) }
 {
     let mut memory = empty_memory(alloc)?;
@@ -41,9 +48,9 @@ pub fn simulate<R: Read, W: Write>(
         hart_state: &mut hart,
     };
     let end = trace(&mut executor, alloc, limit, out)?;
-    report::print_end(out, &end)?;
-    report::print_hart(out, executor.hart_state)?;
-    report::written(out.flush())
+    let ending = report::ending_of(alloc, &end, executor.hart_state)?;
+    report::write_text(out, &ending)?;
+    report::flush(out)
 }
 
 /// A memory of zero words.
@@ -76,6 +83,9 @@ fn load<R: Read>(reader: &mut R, memory: &mut VecMemory) -> Result<(), RunFault>
 }
 
 /// Makes steps as `InstructionExecutor::run` does, and prints each instruction before its step.
+///
+/// The word at the pc is so read twice: here, to print its text from the bytes that stand before the
+/// step, and again by the step, which may write over them.
 fn trace<M: Memory, W: Write>(
     executor: &mut InstructionExecutor<M>,
     alloc: Global,
@@ -86,7 +96,10 @@ fn trace<M: Memory, W: Write>(
         (PrintsUntil limit (state_in M.bytes M.writable executor.old)
         end.steps end.exception (state_in M.bytes M.writable executor.new))
         (W.contents out.old) (W.contents out.new)) }
-    ensures fault { IfErr result IsOutputOrMemory }
+    ensures fault { IfErr result (StopsPrinting
+        (PrintsSteps limit (state_in M.bytes M.writable executor.old))
+        (PrintsToNext limit (state_in M.bytes M.writable executor.old))
+        (W.contents out.old) (W.contents out.new)) }
 {
     for steps in 0..limit {
         print_next(executor, alloc, out)?;
@@ -112,9 +125,11 @@ fn print_next<M: Memory, W: Write>(
         (W.contents out.old) (W.contents out.new)) }
     ensures kept { state_in M.bytes M.writable executor.new
         ≡ state_in M.bytes M.writable executor.old }
-    ensures fault { IfErr result IsOutputOrMemory }
+    ensures fault { IfErr result (StopsPrinting (λ lines. lines ≡ [])
+        (LinesBefore (state_in M.bytes M.writable executor.old))
+        (W.contents out.old) (W.contents out.new)) }
 {
-    match word_at_pc(executor) {
+    match executor.word_at_pc() {
         Some(word) => print_instruction(executor.hart_state.pc, word, alloc, out),
         None => Ok(()),
     }
@@ -129,31 +144,22 @@ fn print_instruction<W: Write>(
 ) -> Result<(), RunFault>
     ensures printed { OnOk result (AppendsLines (LinesOfWord pc word)
         (W.contents out.old) (W.contents out.new)) }
-    ensures fault { IfErr result IsOutputOrMemory }
+    ensures fault { IfErr result (StopsPrinting (λ lines. lines ≡ []) (LinesOfWord pc word)
+        (W.contents out.old) (W.contents out.new)) }
 {
     let mut outputter = InstructionStringOutputter { insn_pc: pc, alloc };
     match process_instruction(&mut outputter, word) {
         None => Ok(()),
-        Some(Ok(text)) => report::print_instruction(out, pc, text.as_str()),
+        Some(Ok(text)) => {
+            let line = report::line_of(alloc, pc, text.as_str())?;
+            report::write_text(out, line.as_bytes())
+        }
         Some(Err(_)) => Err(RunFault::OutOfMemory),
     }
 }
 
-/// The word at the program counter, or `None` where that is not a multiple of 4 or not mapped.
-fn word_at_pc<M: Memory>(executor: &mut InstructionExecutor<M>) -> Option<u32>
-    ensures word { result ≡ next_word (state_in M.bytes M.writable executor.old) }
-    ensures kept { state_in M.bytes M.writable executor.new
-        ≡ state_in M.bytes M.writable executor.old }
-{
-    let pc = executor.hart_state.pc;
-    if pc % 4 == 0 {
-        executor.mem.read_mem(pc, MemAccessSize::Word)
-    } else {
-        None
-    }
-}
-
-/// Makes one step.
+/// Makes one step: a slice of one, since what the library claims as a whole is the contract of
+/// `step_each`, and the program stands on that call.
 fn step<M: Memory>(executor: &mut InstructionExecutor<M>) -> Result<(), InstructionException>
     ensures { Step (state_in M.bytes M.writable executor.old)
         (state_in M.bytes M.writable executor.new) result }

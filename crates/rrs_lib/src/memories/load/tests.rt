@@ -3,7 +3,8 @@ use crate::memories::{MemorySpace, VecMemory};
 use std::alloc::{AllocError, Global};
 use std::test::Fail;
 
-// A reader of bytes, at most `step` a call, whose read before byte `fails_at` fails.
+// A reader of bytes, at most `step` a call, whose read before byte `fails_at` fails once. The next
+// read goes on from there.
 #[derive(Drop)]
 struct Failing<'a> {
     bytes: &'a [u8],
@@ -11,11 +12,13 @@ struct Failing<'a> {
     step: usize,
     fails_at: usize,
     kind: io::ErrorKind,
+    has_failed: bool,
 }
 
 impl Read for Failing<'_> {
     fn read(&mut self, buf: &mut [u8]) -> io::Result<usize> {
-        if self.given == self.fails_at {
+        if self.given == self.fails_at && !self.has_failed {
+            self.has_failed = true;
             return Err(io::Error::from(self.kind));
         }
         let count = buf.len().min(self.bytes.len()).min(self.step);
@@ -76,12 +79,14 @@ fn tells_a_failing_read(rt: HostRuntime) -> Result<(), Fail> {
                 step: 1,
                 fails_at,
                 kind,
+                has_failed: false,
             };
             let text = match read_to_memory(&mut reader, &mut memory, 0) {
                 Err(fault) => format!(in rt.alloc(); "{fault}")?,
                 Ok(()) => format!(in rt.alloc(); "loaded")?,
             };
             assert_eq!(rt; text.as_str(), "Could not read byte", "at {fails_at}");
+            assert_eq!(rt; reader.given, fails_at, "no byte is taken after the failure");
             for (address, byte) in bytes.iter().enumerate() {
                 let want = if address < fails_at { *byte } else { 0 };
                 let word = memory.mem.get(address / 4).copied().unwrap_or(0);
@@ -103,6 +108,7 @@ fn takes_a_reader_in_any_pieces(rt: HostRuntime) -> Result<(), Fail> {
             step,
             fails_at: 9,
             kind: io::ErrorKind::Other,
+            has_failed: false,
         };
         let answer = read_to_memory(&mut reader, &mut memory, 0);
         assert!(rt; answer.is_ok());

@@ -1,14 +1,87 @@
+use Rattle.std.proofs.Common.{ap, ◌∙◌}
+use Rattle.std.proofs.lemmas.Result.{err_from_is_err_and}
 use Rattle.rrs_lib.specs.VecBytes.{bytes_of_words, lies_in_words}
 use Rattle.rrs_lib.proofs.RegionFields.{OnOk_always}
-use Rattle.rrs_run.proofs.Accounts.{whole_printed}
+use Rattle.rrs_run.proofs.Accounts.{Ready, stopped_in_steps, stopped_before_ending, stopped_in_ending, stopped_in_flush, whole_printed}
 use Rattle.rrs_run.proofs.simulation.simulate.Goals as goal
+
+pub returns-in_err-end-clause-fault : goal.returns-in_err-end-clause-fault
+returns-in_err-end-clause-fault g c =
+    let new = c.load.new.memory.mem.items in
+    let hart = c.new-hart.result in
+    let ready : Ready (g.R.Read.remaining c.args.reader.now) (g.R.Read.remaining c.load.new.reader) c.in_ok-memory.memory.mem.items new hart = record {
+      zeros = c.in_ok-memory.ensures.words;
+      loads = c.in_ok-load.ensures.loaded;
+      writable = c.load.ensures.writable_kept;
+      registers = c.new-hart.ensures.registers;
+      pc = c.new-hart.ensures.pc;
+      last = c.new-hart.ensures.last;
+    } in
+    let p = err_from_is_err_and c.from_residual-in_err-end.result c.from_residual-in_err-end.ensures.1 in
+    rw (p.1, p.2) (stopped_in_steps _ _ _ _ new hart _ _ _ ready c.in_err-end.ensures.fault)
+
+pub returns-in_err-ending-clause-fault : goal.returns-in_err-ending-clause-fault
+returns-in_err-ending-clause-fault g c =
+    let new = c.load.new.memory.mem.items in
+    let hart = c.new-hart.result in
+    let ready : Ready (g.R.Read.remaining c.args.reader.now) (g.R.Read.remaining c.load.new.reader) c.in_ok-memory.memory.mem.items new hart = record {
+      zeros = c.in_ok-memory.ensures.words;
+      loads = c.in_ok-load.ensures.loaded;
+      writable = c.load.ensures.writable_kept;
+      registers = c.new-hart.ensures.registers;
+      pc = c.new-hart.ensures.pc;
+      last = c.new-hart.ensures.last;
+    } in
+    let p = err_from_is_err_and c.from_residual-in_err-ending.result c.from_residual-in_err-ending.ensures.1 in
+    rw (p.1, p.2) (stopped_before_ending _ _ _ _ new hart _ _ _ _ _ _ c.in_err-ending.ensures.fault ready c.in_ok-end.ensures.printed)
+
+pub returns-in_err-write_text-clause-fault : goal.returns-in_err-write_text-clause-fault
+returns-in_err-write_text-clause-fault g c =
+    let new = c.load.new.memory.mem.items in
+    let hart = c.new-hart.result in
+    let ready : Ready (g.R.Read.remaining c.args.reader.now) (g.R.Read.remaining c.load.new.reader) c.in_ok-memory.memory.mem.items new hart = record {
+      zeros = c.in_ok-memory.ensures.words;
+      loads = c.in_ok-load.ensures.loaded;
+      writable = c.load.ensures.writable_kept;
+      registers = c.new-hart.ensures.registers;
+      pc = c.new-hart.ensures.pc;
+      last = c.new-hart.ensures.last;
+    } in
+    let left = c.trace.new.executor.mem.now.mem.items in
+    let made = c.in_ok-ending.ensures.text (bytes_of_words left) (lies_in_words left) in
+    let p = err_from_is_err_and c.from_residual-in_err-write_text.result c.from_residual-in_err-write_text.ensures.1 in
+    rw (p.1, p.2) (stopped_in_ending _ _ _ _ new hart _ _ _ _ _ _ _ _ (c.deref.ensures.value ∙ made) ready c.in_ok-end.ensures.printed c.in_err-write_text.ensures.fault)
 
 pub returns-clause-account : goal.returns-clause-account
 returns-clause-account g c =
-    let zero = c.in_ok-memory.memory.mem.items in
-    let loaded = c.load.new.memory.mem.items in
+    let new = c.load.new.memory.mem.items in
+    let hart = c.new-hart.result in
+    let ready : Ready (g.R.Read.remaining c.args.reader.now) (g.R.Read.remaining c.load.new.reader) c.in_ok-memory.memory.mem.items new hart = record {
+      zeros = c.in_ok-memory.ensures.words;
+      loads = c.in_ok-load.ensures.loaded;
+      writable = c.load.ensures.writable_kept;
+      registers = c.new-hart.ensures.registers;
+      pc = c.new-hart.ensures.pc;
+      last = c.new-hart.ensures.last;
+    } in
     let left = c.trace.new.executor.mem.now.mem.items in
-    OnOk_always c.written.result
-    (whole_printed _ _ _ zero loaded c.new-hart.result _ _ _ _ _ _ _ _ c.in_ok-memory.ensures.words
-    c.in_ok-load.ensures.loaded c.load.ensures.writable_kept c.new-hart.ensures.registers c.new-hart.ensures.pc c.new-hart.ensures.last c.in_ok-end.ensures.printed
-    c.in_ok-print_end.ensures.ok (c.in_ok-print_hart.ensures.ok (bytes_of_words left) (lies_in_words left)) c.flush.ensures.bytes)
+    let made = c.in_ok-ending.ensures.text (bytes_of_words left) (lies_in_words left) in
+    OnOk_always c.flush.result
+    (whole_printed _ _ _ _ new hart _ _ _ _ _ _ _ _ (c.deref.ensures.value ∙ made) ready c.in_ok-end.ensures.printed c.in_ok-write_text.ensures.ok c.flush.ensures.kept)
+
+pub returns-clause-fault : goal.returns-clause-fault
+returns-clause-fault g c =
+    let new = c.load.new.memory.mem.items in
+    let hart = c.new-hart.result in
+    let ready : Ready (g.R.Read.remaining c.args.reader.now) (g.R.Read.remaining c.load.new.reader) c.in_ok-memory.memory.mem.items new hart = record {
+      zeros = c.in_ok-memory.ensures.words;
+      loads = c.in_ok-load.ensures.loaded;
+      writable = c.load.ensures.writable_kept;
+      registers = c.new-hart.ensures.registers;
+      pc = c.new-hart.ensures.pc;
+      last = c.new-hart.ensures.last;
+    } in
+    let left = c.trace.new.executor.mem.now.mem.items in
+    let made = c.in_ok-ending.ensures.text (bytes_of_words left) (lies_in_words left) in
+    stopped_in_flush _ _ _ _ _ c.flush.result c.flush.ensures.fault
+    (whole_printed _ _ _ _ new hart _ _ _ _ _ _ _ _ (c.deref.ensures.value ∙ made) ready c.in_ok-end.ensures.printed c.in_ok-write_text.ensures.ok c.flush.ensures.kept)
