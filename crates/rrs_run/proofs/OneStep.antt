@@ -8,7 +8,3 @@ pub one_step : (s t : State) (answers : List StepAnswer) (d : StepAnswer) → le
 one_step s t [] d e run = absurd (omega (arith, e))
 one_step s t (a ∷ []) d e run = let P : State → Type 0 = λ x. Step s x a in subst P (sym run.2) run.1
 one_step s t (a ∷ (b ∷ more)) d e run = absurd (omega (arith, e))
-
--- a step from an equal state
-pub Step-from_same : (s s' t : State) (a : StepAnswer) → s' ≡ s → Step s' t a → Step s t a
-Step-from_same s s' t a e step = let P : State → Type 0 = λ x. Step x t a in subst P e step
