@@ -5,8 +5,11 @@
 
 #![tactic(auto)]
 
+mod paged;
+
 ghost use Rattle.rrs_extra.specs.Numbering.{Numbers};
 
+pub use paged::{PageError, PagedMemory};
 use rrs_lib::InstructionProcessor;
 use rrs_lib::instruction_formats::{BType, IType, ITypeShamt, JType, RType, SType, UType};
 

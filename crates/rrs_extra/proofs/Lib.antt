@@ -1,0 +1,3 @@
+pub mod PageLists
+pub mod PageMaps
+pub mod PageWrites
