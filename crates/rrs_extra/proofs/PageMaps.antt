@@ -235,6 +235,20 @@ found_full es k c pages found =
     (page_at_is (map page_of es) k (page_of (k, c)) pages.full (page_at_lookup es k ∙ ap (option_map (λ c. page_of (k, c))) found)).0
 
 -- a look-up that finds none
-pub none_from_not_some : (o : Option PageContents) → is_some o ≡ false → o ≡ None
-none_from_not_some None e = refl
-none_from_not_some (Some c) e = absurd (true≢false e)
+none_from_not_some : (o : Option PageContents) → (IsSome o → ⊥) → o ≡ None
+none_from_not_some None refuted = refl
+none_from_not_some (Some c) refuted = absurd (refuted refl)
+
+-- a number that no page has is no key
+pub no_entry : (es : List Entry) (old : List Page) (k : ℕ) (there : Bool) → map page_of es ≡ old → there ≡ false → IsTrue there ↔ IsSome (page_at old k) → lookup (is_at (nat_cmp k)) es ≡ None
+no_entry es old k there seen not_there same =
+    let P : List Page → Type 0 = λ pages. IsSome (page_at pages k) in
+    none_from_not_some (lookup (is_at (nat_cmp k)) es) (λ found. true≢false (sym (same.1 (subst P seen (is_there es k ∙ found))) ∙ not_there))
+
+-- and is found nowhere
+pub no_page : (pages : List Page) (k : ℕ) (there : Bool) → there ≡ false → IsTrue there ↔ IsSome (page_at pages k) → page_at pages k ≡ None
+no_page pages k there not_there same = no_page_in (page_at pages k) (λ found. true≢false (sym (same.1 found) ∙ not_there))
+  where
+    no_page_in : (o : Option Page) → (IsSome o → ⊥) → o ≡ None
+    no_page_in None refuted = refl
+    no_page_in (Some p) refuted = absurd (refuted refl)

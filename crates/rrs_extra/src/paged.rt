@@ -1,7 +1,7 @@
 //! A memory of pages, some of whose words are read-only.
 
 ghost use Rattle.std.specs.Prelude.{◌≡◌, ◌≢◌, ◌↔◌, ℕ, ◌/◌, ◌%◌, ◌^◌, ◌<◌, [], List, length, map};
-ghost use Rattle.std.specs.Prelude.{true, false, not, Some, None, Err, OnOk, OnErr, IsSome};
+ghost use Rattle.std.specs.Prelude.{true, false, not, Some, None, Err, OnOk, OnErr, IsSome, IsTrue};
 ghost use Rattle.std.specs.Prelude.{slice_index, slice_index_or, vec_len};
 ghost use Rattle.std.specs.Bool.{OnTrue, OnFalse};
 ghost use Rattle.rrs_lib.specs.Bytes.{width, little_endian, store, Reads, Writes};
@@ -110,6 +110,13 @@ impl PagedMemory {
         self.pages.len()
     }
 
+    /// Whether there is a page of this number.
+    pub fn has_page(&self, number: u32) -> bool
+        ensures { IsTrue result ↔ IsSome (page_at self.now number) }
+    {
+        self.pages.contains_key(&number)
+    }
+
     /// Adds the page of a number below 2^20, with its 1,024 words, each of them read-only where its
     /// mark is `true`.
     ///
@@ -134,7 +141,7 @@ impl PagedMemory {
         ensures err { OnErr result (self.new ≡ self.old) }
         ensures pages { ArePages self.new }
     {
-        if self.pages.contains_key(&number) {
+        if self.has_page(number) {
             return Err(PageError::PageTaken);
         }
         let contents = PageContents {
@@ -182,3 +189,6 @@ impl Memory for PagedMemory {
         }
     }
 }
+
+#[cfg(test)]
+mod tests;
