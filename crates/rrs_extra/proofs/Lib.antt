@@ -1,3 +1,5 @@
+pub mod Agreeing
+pub mod OpenPages
 pub mod PageLists
 pub mod PageMaps
 pub mod PageWrites

@@ -5,6 +5,7 @@
 
 #![tactic(auto)]
 
+pub mod laws;
 mod paged;
 
 ghost use Rattle.rrs_extra.specs.Numbering.{Numbers};
