@@ -1,16 +1,16 @@
 -- Pages without a gap and with no read-only word: their words one after another.
-use Rattle.std.proofs.Common.{◌≡◌, ℕ, zero, suc, ◌+◌, ◌-◌, ◌*◌, ◌/◌, ◌%◌, ◌^◌, ◌<◌, ◌≤◌, List, [], ◌∷◌, ◌++◌, length, All, slice_get, slice_index, slice_index_or, Option, Some, None, option_map, is_some, Bool, true, false, not, if◌then◌else◌, inl, inr, refl, sym, subst, ap, ◌∙◌, arith, length-append}
+use Rattle.std.proofs.Common.{◌≡◌, ℕ, zero, suc, ◌+◌, ◌-◌, ◌*◌, ◌/◌, ◌%◌, ◌^◌, ◌<◌, ◌≤◌, List, [], ◌∷◌, ◌++◌, length, All, slice_get, slice_index, slice_index_or, replicate, Option, Some, None, option_map, is_some, Bool, true, false, not, if◌then◌else◌, inl, inr, refl, sym, subst, ap, ◌∙◌, arith, length-append}
 use Rattle.std.specs.List.{range_with_len}
 use Rattle.std.proofs.Math.Path.{fun_ext}
 use Rattle.std.proofs.Math.Seq.{get_or-append_right}
 use Rattle.std.proofs.lemmas.Bool.{cases_eq, cases_lt, and_right, le-ltb, cond-true, cond-false}
 use Rattle.std.proofs.lemmas.List.{get_or_append_left}
-use Rattle.std.proofs.lemmas.List.Elements.{All-head, All-tail, All-get_or}
+use Rattle.std.proofs.lemmas.List.Elements.{All-head, All-tail, All-cons, All-nil, All-same, All-replicate, All-get_or}
 use Rattle.std.proofs.lemmas.Option.{none-some, same_Some, slice_get-get_or, slice_get_past}
 use Rattle.rrs_lib.specs.Bytes.{EndsAtLastAddress}
 use Rattle.rrs_lib.specs.VecBytes.{bytes_of_words, lies_in_words}
 use Rattle.rrs_lib.proofs.VecWords.{byte_at, byte_past}
-use Rattle.rrs_extra.specs.Pages.{Page, page_at, paged_bytes, paged_writable, paged_layout, IsPage, ArePages}
+use Rattle.rrs_extra.specs.Pages.{Page, page, page_at, paged_bytes, paged_writable, paged_layout, IsPage, ArePages}
 use Rattle.rrs_extra.specs.Agreement.{AreOpenPages, words_of}
 use Rattle.rrs_extra.proofs.PageLists.{page_first, page_later, page_at_is, byte_nowhere, writable_in_page, writable_nowhere, pages_end}
 
@@ -126,3 +126,13 @@ same_pages_writable pages k are whole =
     writable_where_mapped pages k a (page_at pages (a / 4096)) refl are whole
     ∙ ap is_some (same_byte pages k a are whole)
     ∙ lies_where_mapped (words_of pages) a)
+
+-- page 0 alone, with no word that is read-only
+pub one_open_page : (pages : List Page) (words : List ℕ) (marks : List Bool) (n : ℕ) → pages ≡ page 0 words marks ∷ [] → marks ≡ replicate n false → AreOpenPages 1 pages
+one_open_page pages words marks n is unmarked =
+    let shut : All (λ mark. mark ≡ false) marks = All-same (λ mark. mark ≡ false) marks (replicate n false) unmarked (All-replicate (λ mark. mark ≡ false) n false refl) in
+    let P : Page → Type 0 = λ p. All (λ mark. mark ≡ false) p.read_only in
+    record {
+      numbers = ap paged_layout is;
+      open_words = All-same P pages (page 0 words marks ∷ []) is (All-cons P (page 0 words marks) [] shut (All-nil P));
+    }
