@@ -5,6 +5,7 @@ ghost use Rattle.rrs_extra.specs.Pages.{page};
 
 use super::*;
 use rrs_lib::HartState;
+use rrs_lib::memories::{BoxedMemory, MemorySpace};
 use std::alloc::{AllocError, Global};
 use std::test::Fail;
 
@@ -58,5 +59,66 @@ fn a_page_and_its_words_answer_alike(rt: HostRuntime) -> Result<(), Fail> {
     ];
     assert_eq!(rt; first_answers.as_slice(), expected.as_slice());
     assert_eq!(rt; second_answers.as_slice(), expected.as_slice());
+    Ok(())
+}
+
+/// A program that loads the word at 8, stores it at 12, and loads that again twice.
+const PROGRAM: [u32; 4] = [0x0080_2083, 0x0010_2623, 0x00c0_2103, 0];
+
+/// Five steps from address 0 over each of two memories with the same bytes and writable addresses.
+fn five_steps<A: Memory, B: Memory>(
+    first: &mut A,
+    second: &mut B,
+    first_answers: &mut [Result<(), InstructionException>; 5],
+    second_answers: &mut [Result<(), InstructionException>; 5],
+)
+    requires bytes { A.bytes first.old ≡ B.bytes second.old }
+    requires writable { A.writable first.old ≡ B.writable second.old }
+{
+    let mut first_hart = HartState::new();
+    let mut second_hart = HartState::new();
+    let mut first_machine = InstructionExecutor {
+        mem: first,
+        hart_state: &mut first_hart,
+    };
+    let mut second_machine = InstructionExecutor {
+        mem: second,
+        hart_state: &mut second_hart,
+    };
+    agree_each(
+        &mut first_machine,
+        &mut second_machine,
+        first_answers,
+        second_answers,
+    );
+}
+
+/// The answers of the program, over memories of its four words.
+const PROGRAM_ANSWERS: [Result<(), InstructionException>; 5] = [
+    Ok(()),
+    Ok(()),
+    Ok(()),
+    Ok(()),
+    Err(InstructionException::FetchError(16)),
+];
+
+#[test]
+fn a_box_answers_as_what_it_holds(rt: HostRuntime) -> Result<(), Fail> {
+    let alloc = rt.alloc();
+    let held = VecMemory::new(PROGRAM.to_vec(alloc)?);
+    let mut boxed = BoxedMemory {
+        memory: Box::new(alloc, held)?,
+    };
+    let mut memory = VecMemory::new(PROGRAM.to_vec(alloc)?);
+    let mut first_answers = [Ok(()), Ok(()), Ok(()), Ok(()), Ok(())];
+    let mut second_answers = [Ok(()), Ok(()), Ok(()), Ok(()), Ok(())];
+    five_steps(
+        &mut boxed,
+        &mut memory,
+        &mut first_answers,
+        &mut second_answers,
+    );
+    assert_eq!(rt; first_answers.as_slice(), PROGRAM_ANSWERS.as_slice());
+    assert_eq!(rt; second_answers.as_slice(), PROGRAM_ANSWERS.as_slice());
     Ok(())
 }
