@@ -3,3 +3,4 @@ pub mod OpenPages
 pub mod PageLists
 pub mod PageMaps
 pub mod PageWrites
+pub mod WholeSpaces

@@ -1,13 +1,11 @@
 -- Pages without a gap and with no read-only word: their words one after another.
-use Rattle.std.proofs.Common.{◌≡◌, ℕ, zero, suc, ◌+◌, ◌-◌, ◌*◌, ◌/◌, ◌%◌, ◌^◌, ◌<◌, ◌≤◌, List, [], ◌∷◌, ◌++◌, length, All, slice_get, slice_index, slice_index_or, replicate, Option, Some, None, option_map, is_some, Bool, true, false, not, if◌then◌else◌, inl, inr, refl, sym, subst, ap, ◌∙◌, arith, length-append}
+use Rattle.std.proofs.Common.{◌≡◌, ℕ, zero, suc, ◌+◌, ◌*◌, ◌/◌, ◌%◌, ◌^◌, ◌<◌, ◌≤◌, List, [], ◌∷◌, ◌++◌, length, All, slice_get, slice_index, slice_index_or, replicate, Option, Some, None, option_map, is_some, Bool, true, false, not, if◌then◌else◌, inl, inr, refl, sym, subst, ap, ◌∙◌, arith, length-append}
 use Rattle.std.specs.List.{range_with_len}
 use Rattle.std.proofs.Math.Path.{fun_ext}
-use Rattle.std.proofs.Math.Seq.{get_or-append_right}
-use Rattle.std.proofs.lemmas.Bool.{cases_eq, cases_lt, and_right, le-ltb, cond-true, cond-false}
+use Rattle.std.proofs.lemmas.Bool.{cases_eq, cases_lt, and_right, le-ltb, cond-false}
 use Rattle.std.proofs.lemmas.List.{get_or_append_left}
 use Rattle.std.proofs.lemmas.List.Elements.{All-head, All-tail, All-cons, All-nil, All-same, All-replicate, All-get_or}
 use Rattle.std.proofs.lemmas.Option.{none-some, same_Some, slice_get-get_or, slice_get_past}
-use Rattle.rrs_lib.specs.Bytes.{EndsAtLastAddress}
 use Rattle.rrs_lib.specs.VecBytes.{bytes_of_words, lies_in_words}
 use Rattle.rrs_lib.proofs.VecWords.{byte_at, byte_past}
 use Rattle.rrs_extra.specs.Pages.{Page, page, page_at, paged_bytes, paged_writable, paged_layout, IsPage, ArePages}
@@ -16,11 +14,11 @@ use Rattle.rrs_extra.proofs.PageLists.{page_first, page_later, page_at_is, byte_
 
 -- ---- an element of two lists, one after another
 
-get_left : (xs ys : List ℕ) (i : ℕ) → i < length xs → slice_get (xs ++ ys) i ≡ Some (slice_index xs i)
+pub get_left : (xs ys : List ℕ) (i : ℕ) → i < length xs → slice_get (xs ++ ys) i ≡ Some (slice_index xs i)
 get_left xs ys i within =
     slice_get-get_or (xs ++ ys) i 0 (omega (arith, length-append xs ys)) ∙ ap Some (get_or_append_left xs ys 0 i within)
 
-get_right : (xs ys : List ℕ) (i : ℕ) → slice_get (xs ++ ys) (length xs + i) ≡ slice_get ys i
+pub get_right : (xs ys : List ℕ) (i : ℕ) → slice_get (xs ++ ys) (length xs + i) ≡ slice_get ys i
 get_right [] ys i =
     let e : 0 + i ≡ i = omega arith in
     ap (slice_get ys) e
@@ -60,12 +58,17 @@ word_of_page (p ∷ pages) n (suc k) (suc d) i full numbers within =
     ∙ sym (ap (slice_get (words_of (p ∷ pages))) place ∙ get_right p.words (words_of pages) (1024 * d + i))
 
 -- a byte of words, by the word
-byte_of_word : (words : List ℕ) (a : ℕ) → a < 2 ^ 32 → bytes_of_words words a ≡ option_map (λ word. word / 256 ^ (a % 4) % 256) (slice_get words (a / 4))
+pub byte_of_word : (words : List ℕ) (a : ℕ) → a < 2 ^ 32 → bytes_of_words words a ≡ option_map (λ word. word / 256 ^ (a % 4) % 256) (slice_get words (a / 4))
 byte_of_word words a low =
     elim (cases_lt (a / 4) (length words)) [
       | inl there ↦ byte_at words a low there ∙ sym (ap (option_map (λ word. word / 256 ^ (a % 4) % 256)) (slice_get-get_or words (a / 4) 0 there))
       | inr past ↦ byte_past words a past ∙ sym (ap (option_map (λ word. word / 256 ^ (a % 4) % 256)) (slice_get_past words (a / 4) past))
     ]
+
+-- no byte of words is past the last address
+pub past_words : (words : List ℕ) (a : ℕ) → 2 ^ 32 ≤ a → bytes_of_words words a ≡ None
+past_words words a high =
+    cond-false (lies_in_words words a) (Some (slice_index words (a / 4) / 256 ^ (a % 4) % 256)) None (and_right _ _ (le-ltb a (2 ^ 32) high))
 
 -- the same byte at each address
 same_byte : (pages : List Page) (k a : ℕ) → ArePages pages → AreOpenPages k pages → paged_bytes pages a ≡ bytes_of_words (words_of pages) a
@@ -81,9 +84,6 @@ same_byte pages k a are whole =
           ∙ sym (byte_of_word (words_of pages) a low)
       | inr high ↦ (pages_end pages are.full a high).0 ∙ sym (past_words (words_of pages) a high)
     ]
-  where
-    past_words : (words : List ℕ) (a : ℕ) → 2 ^ 32 ≤ a → bytes_of_words words a ≡ None
-    past_words words a high = cond-false (lies_in_words words a) (Some (slice_index words (a / 4) / 256 ^ (a % 4) % 256)) None (and_right _ _ (le-ltb a (2 ^ 32) high))
 
 -- the bytes are equal
 pub same_pages_bytes : (pages : List Page) (k : ℕ) → ArePages pages → AreOpenPages k pages → paged_bytes pages ≡ bytes_of_words (words_of pages)
@@ -112,7 +112,7 @@ writable_where_mapped pages k a (Some p) found are whole =
     writable_in_page pages p a found is.marks_long ∙ ap not mark ∙ sym yes_byte
 
 -- words have a byte where they lie
-lies_where_mapped : (words : List ℕ) (a : ℕ) → is_some (bytes_of_words words a) ≡ lies_in_words words a
+pub lies_where_mapped : (words : List ℕ) (a : ℕ) → is_some (bytes_of_words words a) ≡ lies_in_words words a
 lies_where_mapped words a = some_if (lies_in_words words a) (slice_index words (a / 4) / 256 ^ (a % 4) % 256)
   where
     some_if : (b : Bool) (x : ℕ) → is_some (if b then Some x else None) ≡ b

@@ -1,6 +1,6 @@
 -- When two machines agree: in all that a step depends on. And when a memory of pages holds what one
 -- list of words does.
-use Rattle.std.specs.Prelude.{◌≡◌, ℕ, Bool, false, List, All}
+use Rattle.std.specs.Prelude.{◌≡◌, ℕ, false, List, All}
 use Rattle.std.specs.List.{flat_map, range_with_len}
 use Rattle.rrs_lib.specs.Machine.{State}
 use Rattle.rrs_extra.specs.Pages.{Page, paged_layout}

@@ -1,6 +1,6 @@
 -- What a memory of pages means. Page p holds 1,024 words, of which word i lies at 4096 p + 4 i, as
 -- four bytes, lowest first; a word is writable unless it is marked read-only.
-use Rattle.std.specs.Prelude.{◌≡◌, ℕ, ◌*◌, ◌/◌, ◌%◌, ◌^◌, ◌<◌, ◌==◌, nat_lt, Bool, false, not, if◌then◌else◌, List, [], ◌∷◌, length, map, All, slice_get, slice_index, slice_set, Option, Some, None, option_map, option_and_then, unwrap_or, refl}
+use Rattle.std.specs.Prelude.{◌≡◌, ℕ, ◌/◌, ◌%◌, ◌^◌, ◌<◌, ◌==◌, nat_lt, Bool, false, not, if◌then◌else◌, List, [], ◌∷◌, length, map, All, slice_get, slice_index, Option, Some, None, option_map, option_and_then, unwrap_or, refl}
 use Rattle.std.specs.List.Sorted.{IsStrictlyIncreasing}
 use Rattle.std.specs.Coded.{Coded, code_by, coded×, coded_ℕ, coded_bool, coded_list}
 use Rattle.rrs_lib.specs.Bytes.{ByteMap}

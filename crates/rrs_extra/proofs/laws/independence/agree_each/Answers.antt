@@ -1,5 +1,5 @@
 -- The second run is one from the first state, from where there is only one.
-use Rattle.std.proofs.Common.{◌≡◌, length, ap, arith}
+use Rattle.std.proofs.Common.{ap, arith}
 use Rattle.rrs_lib.specs.Machine.{State}
 use Rattle.rrs_extra.proofs.Agreeing.{Runs-agree}
 use Rattle.rrs_extra.proofs.laws.independence.agree_each.Goals as goal

@@ -1,5 +1,5 @@
 -- The second run is one from the first state, from where there is only one.
-use Rattle.std.proofs.Common.{◌≡◌, ap}
+use Rattle.std.proofs.Common.{ap}
 use Rattle.rrs_lib.specs.Machine.{State}
 use Rattle.rrs_extra.proofs.Agreeing.{RunsUntil-agree, same_end}
 use Rattle.rrs_extra.proofs.laws.independence.same_run.Goals as goal

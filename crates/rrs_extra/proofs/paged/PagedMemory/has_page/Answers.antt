@@ -1,5 +1,5 @@
 -- The map has the number exactly where a page that is seen has it.
-use Rattle.std.proofs.Common.{◌≡◌, ◌↔◌, List, IsTrue, IsSome, subst, sym, ◌∙◌}
+use Rattle.std.proofs.Common.{◌↔◌, List, IsTrue, IsSome, subst, sym, ◌∙◌}
 use Rattle.rrs_extra.specs.Pages.{Page, page_at}
 use Rattle.rrs_extra.proofs.PageMaps.{is_there}
 use Rattle.rrs_extra.proofs.paged.PagedMemory.has_page.Goals as goal
