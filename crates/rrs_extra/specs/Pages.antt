@@ -62,7 +62,7 @@ marks pages = map (λ p. p.read_only) pages
 
 -- ---- what every memory of pages keeps
 
--- addresses of a page are below 2 ^ 32, and it is full
+-- its addresses are below 2 ^ 32, and it has 1,024 words, with a mark for each
 pub record IsPage (p : Page) : Type 0 where
   pub number_fits : p.number < 2 ^ 20
   pub words_long : length p.words ≡ 1024

@@ -1,7 +1,9 @@
-//! Processors over `rrs_lib`, written by its contracts alone.
+//! What users of `rrs_lib` might write, by its contracts alone: a processor, a memory, and laws.
 //!
 //! [RowNumberer] names the row of the table that a word is: its number, 1 to 46. The tests have a
 //! processor that counts the calls of each row, and `docs/PROCESSORS.md` says how to write one.
+//! [PagedMemory] is a memory of pages, some of whose words are read-only. The functions of [laws]
+//! have contracts that say what follows from those of `rrs_lib`.
 
 #![tactic(auto)]
 

@@ -132,6 +132,7 @@ impl PagedMemory {
         requires words_long { vec_len words ≡ 1024 }
         requires marks_long { vec_len read_only ≡ 1024 }
         ensures taken { (result ≡ Err PageError.PageTaken) ↔ IsSome (page_at self.old number) }
+        ensures accepted { OnOk result (page_at self.old number ≡ None) }
         ensures ok { OnOk result
             (self.new ≡ inserted (page number words.items read_only.items) self.old) }
         ensures added { OnOk result
@@ -182,6 +183,7 @@ impl Memory for PagedMemory {
         ensures marks_kept { marks self.new ≡ marks self.old }
         ensures others_kept { (a : ℕ) → a / 4 ≢ addr / 4
             → word_at self.new a ≡ word_at self.old a }
+        ensures pages { ArePages self.new }
     {
         match self.pages.get_mut(&(addr >> 12)) {
             Some(page) => page.write(addr & 0xfff, size, store_data),

@@ -14,6 +14,9 @@ invariant_of-self c =
       marks_long = omega (arith, c.args.read_only.ok, c.requires.marks_long);
     })
 
+pub returns-in-Ok-clause-accepted : goal.returns-in-Ok-clause-accepted
+returns-in-Ok-clause-accepted c = no_page c.args.self.now c.args.number _ c.if-has_page.false c.has_page.ensures
+
 pub returns-in-Ok-clause-ok : goal.returns-in-Ok-clause-ok
 returns-in-Ok-clause-ok c =
     let es = c.self.inside.pages.entries in
@@ -26,8 +29,7 @@ returns-in-Ok-clause-ok c =
 pub returns-in-Ok-clause-added : goal.returns-in-Ok-clause-added
 returns-in-Ok-clause-added c =
     let new = page c.args.number c.args.words.items c.args.read_only.items in
-    let absent = no_page c.args.self.now c.args.number _ c.if-has_page.false c.has_page.ensures in
-    ap (λ pages. page_at pages c.args.number) (returns-in-Ok-clause-ok c) ∙ inserted_at c.args.self.now new absent
+    ap (λ pages. page_at pages c.args.number) (returns-in-Ok-clause-ok c) ∙ inserted_at c.args.self.now new (returns-in-Ok-clause-accepted c)
 
 pub returns-in-Ok-clause-others_kept : goal.returns-in-Ok-clause-others_kept
 returns-in-Ok-clause-others_kept c = λ other apart.

@@ -77,3 +77,6 @@ returns-clause-marks_kept c =
 pub returns-clause-others_kept : goal.returns-clause-others_kept
 returns-clause-others_kept c =
     went_words c.self.inside.pages.entries c.args.self.now _ c.args.addr _ _ _ c.self.view_is (before c) (went c)
+
+pub returns-clause-pages : goal.returns-clause-pages
+returns-clause-pages c = invariant_of-self c
