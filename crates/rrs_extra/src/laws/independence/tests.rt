@@ -225,7 +225,8 @@ fn what_is_writable_tells_memories_apart(rt: HostRuntime) -> Result<(), Fail> {
     Ok(())
 }
 
-/// Runs the program to a limit over each of two memories with the same bytes and writable addresses.
+/// Runs the program to a limit over each of two memories with the same bytes and writable
+/// addresses.
 fn both_runs<A: Memory, B: Memory>(first: &mut A, second: &mut B, limit: u64) -> (RunEnd, RunEnd)
     requires bytes { A.bytes first.old ≡ B.bytes second.old }
     requires writable { A.writable first.old ≡ B.writable second.old }
