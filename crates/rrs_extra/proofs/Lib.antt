@@ -9,3 +9,10 @@ pub mod Gcd
 pub mod ProgramExamples
 pub mod SumLoop
 pub mod Words
+pub mod Agreeing
+pub mod OpenPages
+pub mod PageExamples
+pub mod PageLists
+pub mod PageMaps
+pub mod PageWrites
+pub mod WholeSpaces

@@ -1,8 +1,15 @@
-pub mod Numbering
-pub mod Counting
-pub mod Showing
-pub mod Programs
-pub mod ProgramExamples
+-- What the definitions of rrs_lib are passed on for, since contracts here cite them.
 pub use Rattle.rrs_lib.specs.Encodings
 pub use Rattle.rrs_lib.specs.Table
 pub use Rattle.rrs_lib.specs.Texts
+-- Processors: a row's number, and counts of rows.
+pub mod Numbering
+pub mod Counting
+-- A memory of pages.
+pub mod Pages
+pub mod PageFields
+-- Laws over several calls: machines that agree, what texts show, and programs.
+pub mod Agreement
+pub mod Showing
+pub mod Programs
+pub mod ProgramExamples

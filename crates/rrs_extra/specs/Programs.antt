@@ -58,13 +58,13 @@ sum_of_words bytes a (suc n) = word_at bytes a + sum_of_words bytes (a + 4) n
 
 abbrev pub sum_loop_program : List ℕ
 sum_loop_program =
-    0x00000613 -- addi x12, x0, 0
-    ∷ 0x00058c63 -- beq x11, x0, 24 bytes on
-    ∷ 0x00052683 -- lw x13, 0(x10)
-    ∷ 0x00d60633 -- add x12, x12, x13
-    ∷ 0x00450513 -- addi x10, x10, 4
-    ∷ 0xfff58593 -- addi x11, x11, -1
-    ∷ 0xfedff06f -- jal x0, 20 bytes back
+    0x00000613  -- addi x12, x0, 0
+    ∷ 0x00058c63  -- beq x11, x0, 24 bytes on
+    ∷ 0x00052683  -- lw x13, 0(x10)
+    ∷ 0x00d60633  -- add x12, x12, x13
+    ∷ 0x00450513  -- addi x10, x10, 4
+    ∷ 0xfff58593  -- addi x11, x11, -1
+    ∷ 0xfedff06f  -- jal x0, 20 bytes back
     ∷ []
 
 -- The program is at 0, and a word outside the table behind it; x10 has the address of as many words as x11 says.
@@ -81,27 +81,27 @@ pub record SumLoopStarts (s : State) : Type 0 where
 
 abbrev pub gcd_program : List ℕ
 gcd_program =
-    0x00059463 -- bne x11, x0, 8 bytes on
-    ∷ 0x00008067 -- jalr x0, 0(x1)
-    ∷ 0x02b577b3 -- remu x15, x10, x11
-    ∷ 0x00058513 -- addi x10, x11, 0
-    ∷ 0x00078593 -- addi x11, x15, 0
-    ∷ 0xfedff06f -- jal x0, 20 bytes back
+    0x00059463  -- bne x11, x0, 8 bytes on
+    ∷ 0x00008067  -- jalr x0, 0(x1)
+    ∷ 0x02b577b3  -- remu x15, x10, x11
+    ∷ 0x00058513  -- addi x10, x11, 0
+    ∷ 0x00078593  -- addi x11, x15, 0
+    ∷ 0xfedff06f  -- jal x0, 20 bytes back
     ∷ []
 
 -- ---- the copy of words, as C calls it
 
 abbrev pub copy_words_program : List ℕ
 copy_words_program =
-    0x02060063 -- beq x12, x0, 32 bytes on
-    ∷ 0x00261613 -- slli x12, x12, 2
-    ∷ 0x00c58733 -- add x14, x11, x12
-    ∷ 0x0005a783 -- lw x15, 0(x11)
-    ∷ 0x00458593 -- addi x11, x11, 4
-    ∷ 0x00450513 -- addi x10, x10, 4
-    ∷ 0xfef52e23 -- sw x15, -4(x10)
-    ∷ 0xfee598e3 -- bne x11, x14, 16 bytes back
-    ∷ 0x00008067 -- jalr x0, 0(x1)
+    0x02060063  -- beq x12, x0, 32 bytes on
+    ∷ 0x00261613  -- slli x12, x12, 2
+    ∷ 0x00c58733  -- add x14, x11, x12
+    ∷ 0x0005a783  -- lw x15, 0(x11)
+    ∷ 0x00458593  -- addi x11, x11, 4
+    ∷ 0x00450513  -- addi x10, x10, 4
+    ∷ 0xfef52e23  -- sw x15, -4(x10)
+    ∷ 0xfee598e3  -- bne x11, x14, 16 bytes back
+    ∷ 0x00008067  -- jalr x0, 0(x1)
     ∷ []
 
 -- x10 has the address of n words to write, x11 of n to read, and x12 has n. The program, the word to return to and the words to read stand apart

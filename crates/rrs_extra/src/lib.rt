@@ -1,15 +1,19 @@
-//! Processors over `rrs_lib`, written by its contracts alone.
+//! What users of `rrs_lib` might write, by its contracts alone: a processor, a memory, and laws.
 //!
-//! [RowNumberer] names the row of the table that a word is: its number, 1 to [ROW_COUNT]. [laws] has
-//! calls whose contracts relate what several calls of the kit return. The tests have a processor
-//! that counts the calls of each row, and `docs/PROCESSORS.md` says how to write one.
+//! [RowNumberer] names the row of the table that a word is: its number, 1 to [ROW_COUNT].
+//! [PagedMemory] is a memory of pages, some of whose words are read-only. The functions of [laws]
+//! have contracts that relate what several calls of the kit return, or say what a program does. The
+//! tests have a processor that counts the calls of each row, and `docs/PROCESSORS.md` says how to
+//! write one.
 
 #![tactic(auto)]
 
 pub mod laws;
+mod paged;
 
 ghost use Rattle.rrs_extra.specs.Numbering.{Numbers};
 
+pub use paged::{PageError, PagedMemory};
 use rrs_lib::InstructionProcessor;
 use rrs_lib::instruction_formats::{BType, IType, ITypeShamt, JType, RType, SType, UType};
 

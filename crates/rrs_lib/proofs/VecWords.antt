@@ -159,6 +159,10 @@ lies_not words a past = and_left _ _ (le-ltb a (4 * length words) (omega arith))
 pub byte_at : (words : List ℕ) (a : ℕ) → a < 2 ^ 32 → a / 4 < length words → bytes_of_words words a ≡ Some (slice_index words (a / 4) / 256 ^ (a % 4) % 256)
 byte_at words a low there = cond-true (lies_in_words words a) (Some (slice_index words (a / 4) / 256 ^ (a % 4) % 256)) None (lies words a low there)
 
+-- there is none past them
+pub byte_past : (words : List ℕ) (a : ℕ) → length words ≤ a / 4 → bytes_of_words words a ≡ None
+byte_past words a past = cond-false (lies_in_words words a) (Some (slice_index words (a / 4) / 256 ^ (a % 4) % 256)) None (lies_not words a past)
+
 -- the byte j further in the same word
 pub byte_on : (words : List ℕ) (a j : ℕ) → a < 2 ^ 32 → a / 4 < length words → a % 4 + j < 4 → bytes_of_words words (a + j) ≡ Some (slice_index words (a / 4) / 256 ^ (a % 4 + j) % 256)
 byte_on words a j low there within =

@@ -8,8 +8,8 @@ ghost use Rattle.rrs_lib.specs.Machine.{state_of, reg};
 ghost use Rattle.rrs_lib.specs.Steps.{RunUntil};
 ghost use Rattle.rrs_extra.specs.Programs.{word_at, sum_of_words, SumLoopStarts, IsCalled, HasWords, gcd_program, CopyWordsStarts, CopiesWords, copy_steps};
 
-use rrs_lib::{HartState, Memory};
 use rrs_lib::instruction_executor::{InstructionExecutor, RunEnd};
+use rrs_lib::{HartState, Memory};
 
 /// Runs a program of seven words that adds up words in memory.
 pub fn sum_loop<M: Memory>(executor: &mut InstructionExecutor<M>) -> RunEnd
@@ -21,7 +21,7 @@ pub fn sum_loop<M: Memory>(executor: &mut InstructionExecutor<M>) -> RunEnd
         ≡ Some (IllegalInstruction 0x1c (word_at (M.bytes executor.old.mem.now) 0x1c)) }
     ensures sum { reg (state_in M.bytes M.writable executor.new) 12
         ≡ sum_of_words (M.bytes executor.old.mem.now) (reg (state_in M.bytes M.writable executor.old) 10)
-            (reg (state_in M.bytes M.writable executor.old) 11) % 2 ^ 32 }
+        (reg (state_in M.bytes M.writable executor.old) 11) % 2 ^ 32 }
     ensures bytes_kept { M.bytes executor.new.mem.now ≡ M.bytes executor.old.mem.now }
     ensures rest { KeepsTheRest M.layout executor.old executor.new }
 {
@@ -74,7 +74,11 @@ fn registers_of_call(hart: &HartState)
 {
     let registers = hart.registers;
     let _ = registers.len();
-    let _ = (hart.read_register(1), hart.read_register(10), hart.read_register(11));
+    let _ = (
+        hart.read_register(1),
+        hart.read_register(10),
+        hart.read_register(11),
+    );
 }
 
 #[cfg(test)]

@@ -1,0 +1,121 @@
+-- A step depends on the state without the register that was written last, so from states that agree
+-- the same steps lead.
+use Rattle.std.proofs.Common.{◌≡◌, ℕ, Bool, zero, suc, ◌≤◌, List, [], ◌∷◌, length, replicate, Option, Some, None, Ok, Err, refl, sym, subst, ap, ◌∙◌, arith}
+use Rattle.rrs_lib.specs.declared.instruction_executor.InstructionException.{InstructionException}
+use Rattle.rrs_lib.specs.declared.instruction_executor.RunEnd.{RunEnd}
+use Rattle.rrs_lib.specs.Bytes.{ByteMap}
+use Rattle.rrs_lib.specs.Machine.{State}
+use Rattle.rrs_lib.specs.Steps.{Step, StepAnswer, Misaligned, Unmapped, Illegal, Legal, Run, RunUntil, IsOnlyRun, IsOnlyRunUntil, cleared}
+use Rattle.rrs_extra.specs.Agreement.{Agree}
+
+-- ---- one step
+
+-- a step from a state is one from the state with no last written register
+step_of_cleared : (s t : State) (a : StepAnswer) → Step s t a → Step (cleared s) t a
+step_of_cleared s t a (Misaligned odd same answers) = Misaligned odd same answers
+step_of_cleared s t a (Unmapped aligned read same answers) = Unmapped aligned read same answers
+step_of_cleared s t a (Illegal w aligned read outside same answers) = Illegal w aligned read outside same answers
+step_of_cleared s t a (Legal w row f u b aligned read is executes after answers) = Legal w row f u b aligned read is executes after answers
+
+-- and the other way
+step_from_cleared : (s t : State) (a : StepAnswer) → Step (cleared s) t a → Step s t a
+step_from_cleared s t a (Misaligned odd same answers) = Misaligned odd same answers
+step_from_cleared s t a (Unmapped aligned read same answers) = Unmapped aligned read same answers
+step_from_cleared s t a (Illegal w aligned read outside same answers) = Illegal w aligned read outside same answers
+step_from_cleared s t a (Legal w row f u b aligned read is executes after answers) = Legal w row f u b aligned read is executes after answers
+
+-- a state in which no register was written last
+abbrev bare : List ℕ → ℕ → ByteMap → (ℕ → Bool) → State
+bare registers pc bytes writable = record { registers = registers; pc = pc; last = None; bytes = bytes; writable = writable }
+
+same_parts : (r r' : List ℕ) (p p' : ℕ) (b b' : ByteMap) (w w' : ℕ → Bool) → r ≡ r' → p ≡ p' → b ≡ b' → w ≡ w' → bare r p b w ≡ bare r' p' b' w'
+same_parts r r' p p' b b' w w' registers pc bytes writable =
+    ap (λ x. bare x p b w) registers ∙ ap (λ x. bare r' x b w) pc ∙ ap (λ x. bare r' p' x w) bytes ∙ ap (bare r' p' b') writable
+
+-- states that agree differ in the last written register at most
+same_cleared : (s s' : State) → Agree s s' → cleared s ≡ cleared s'
+same_cleared s s' agree =
+    same_parts _ _ _ _ _ _ _ _ agree.registers agree.pc agree.bytes agree.writable
+
+-- what a step does from one of two states that agree it does from the other
+pub Step-agree : (s s' t : State) (a : StepAnswer) → Agree s s' → Step s' t a → Step s t a
+Step-agree s s' t a agree step =
+    let P : State → Type 0 = λ x. Step x t a in
+    step_from_cleared s t a (subst P (sym (same_cleared s s' agree)) (step_of_cleared s' t a step))
+
+-- ---- runs of a number of steps
+
+-- a run of at least one step is one from each state that agrees
+pub Run-agree : (s s' t : State) (a : StepAnswer) (answers : List StepAnswer) → Agree s s' → Run s' (a ∷ answers) t → Run s (a ∷ answers) t
+Run-agree s s' t a answers agree run = (run.0, Step-agree s s' run.0 a agree run.1, run.2)
+
+-- equal states agree
+Agree-same : (s t : State) → s ≡ t → Agree s t
+Agree-same s t same = record {
+  registers = ap (λ (x : State). x.registers) same;
+  pc = ap (λ (x : State). x.pc) same;
+  bytes = ap (λ (x : State). x.bytes) same;
+  writable = ap (λ (x : State). x.writable) same;
+}
+
+-- what two runs leave: states that agree, and after at least one step equal ones
+pub record EndAlike (n : ℕ) (t t' : State) : Type 0 where
+  pub agree : Agree t t'
+  pub same : 1 ≤ n → t ≡ t'
+
+-- by equal states
+alike_from_same : (n : ℕ) (t t' : State) → t ≡ t' → EndAlike n t t'
+alike_from_same n t t' same = record { agree = Agree-same t t' same; same = λ some. same }
+
+-- by the states before, where nothing was done
+alike_from_none : (n : ℕ) (s s' t t' : State) → n ≡ 0 → Agree s s' → t ≡ s → t' ≡ s' → EndAlike n t t'
+alike_from_none n s s' t t' none agree first second =
+    let P : State → Type 0 = λ x. Agree x s' in
+    let Q : State → Type 0 = λ x. Agree t x in
+    record {
+      agree = subst Q (sym second) (subst P (sym first) agree);
+      same = λ some. absurd (omega (arith, some, none));
+    }
+
+-- runs of one length from states that agree have the same answers
+pub Runs-agree : (s s' t t' : State) (answers answers' : List StepAnswer) → length answers' ≡ length answers → Agree s s' → Run s answers t → IsOnlyRun s answers t → Run s' answers' t' → (answers ≡ answers') × EndAlike (length answers) t t'
+Runs-agree s s' t t' [] [] e agree run only run' = (refl, alike_from_none 0 s s' t t' refl agree run run')
+Runs-agree s s' t t' (a ∷ answers) [] e agree run only run' = absurd (omega (arith, e))
+Runs-agree s s' t t' answers (a' ∷ answers') e agree run only run' =
+    let same = only (a' ∷ answers') t' e (Run-agree s s' t' a' answers' agree run') in
+    (sym same.0, alike_from_same (length answers) t t' (sym same.1))
+
+-- ---- runs until a limit or a fault
+
+-- to a limit of at least 1
+RunUntil-agree : (limit : ℕ) (s s' : State) (steps : ℕ) (e : Option InstructionException) (t : State) → 1 ≤ limit → Agree s s' → RunUntil limit s' steps e t → RunUntil limit s steps e t
+RunUntil-agree limit s s' zero None t some agree run = absurd (omega (arith, some, run.0))
+RunUntil-agree limit s s' (suc steps) None t some agree run =
+    (run.0, Run-agree s s' t (Ok tt) (replicate steps (Ok tt)) agree run.1)
+RunUntil-agree limit s s' zero (Some e) t some agree run =
+    let P : State → Type 0 = λ x. Step x t (Err e) in
+    (run.0, (s, refl, Step-agree s s' t (Err e) agree (subst P run.1.1 run.1.2)))
+RunUntil-agree limit s s' (suc steps) (Some e) t some agree run =
+    (run.0, (run.1.0, Run-agree s s' run.1.0 (Ok tt) (replicate steps (Ok tt)) agree run.1.1, run.1.2))
+
+-- with limit 0 nothing is done
+RunUntil-none : (s : State) (steps : ℕ) (e : Option InstructionException) (t : State) → RunUntil 0 s steps e t → (steps ≡ 0) × (e ≡ None) × (t ≡ s)
+RunUntil-none s zero None t run = (refl, refl, run.1)
+RunUntil-none s (suc steps) None t run = absurd (omega (arith, run.0))
+RunUntil-none s steps (Some e) t run = absurd (omega (arith, run.0))
+
+-- runs to one limit from states that agree end alike
+pub RunsUntil-agree : (limit : ℕ) (s s' t t' : State) (steps steps' : ℕ) (e e' : Option InstructionException) → Agree s s' → RunUntil limit s steps e t → IsOnlyRunUntil limit s steps e t → RunUntil limit s' steps' e' t' → (steps ≡ steps') × (e ≡ e') × EndAlike limit t t'
+RunsUntil-agree zero s s' t t' steps steps' e e' agree run only run' =
+    let first = RunUntil-none s steps e t run in
+    let second = RunUntil-none s' steps' e' t' run' in
+    (first.0 ∙ sym second.0, first.1 ∙ sym second.1, alike_from_none 0 s s' t t' refl agree first.2 second.2)
+RunsUntil-agree (suc limit) s s' t t' steps steps' e e' agree run only run' =
+    let same = only steps' e' t' (RunUntil-agree (suc limit) s s' steps' e' t' (omega arith) agree run') in
+    (sym same.0, sym same.1, alike_from_same (suc limit) t t' (sym same.2))
+
+-- ends of a run that are equal in both parts
+pub same_end : (x y : RunEnd) → x.steps ≡ y.steps → x.exception ≡ y.exception → x ≡ y
+same_end x y steps exception =
+    let end : ℕ → Option InstructionException → RunEnd = λ k e. record { steps = k; exception = e } in
+    ap (λ k. end k x.exception) steps ∙ ap (end y.steps) exception

@@ -1,0 +1,196 @@
+-- Lists of pages: what a look-up finds, the bytes of one page, and what a write into it leaves.
+use Rattle.std.proofs.Common.{◌≡◌, ℕ, zero, suc, ◌/◌, ◌%◌, ◌^◌, ◌+◌, ◌-◌, ◌<◌, ◌≤◌, List, [], ◌∷◌, length, All, slice_get, slice_index, slice_index_or, Option, Some, None, option_map, option_and_then, unwrap_or, Bool, true, false, ◌&&◌, not, IsTrue, IsSome, inl, inr, refl, sym, subst, ap, ◌∙◌, arith}
+use Rattle.std.proofs.Math.Dec.{eqb}
+use Rattle.std.proofs.Math.Path.{fun_ext}
+use Rattle.std.proofs.lemmas.Bool.{false≢true, cases_eq, cases_lt, eq-eqb, ne_eqb, cond-true, cond-false}
+use Rattle.std.proofs.lemmas.List.Elements.{All-head, All-tail}
+use Rattle.std.proofs.lemmas.Option.{none-some, same_Some, slice_get-get_or}
+use Rattle.rrs_lib.specs.Bytes.{ByteMap, little_endian, all_writable, store, IsLawful, EndsAtLastAddress}
+use Rattle.rrs_lib.specs.VecBytes.{bytes_of_words}
+use Rattle.rrs_lib.proofs.VecWords.{byte_at}
+use Rattle.rrs_lib.proofs.Regions.{little_endian-moved, store_inside, store_outside}
+use Rattle.rrs_extra.specs.Pages.{Page, page_at, word_at, place_of, paged_bytes, paged_writable, IsPage}
+
+-- ---- look-ups
+
+-- the first page, where it has the number
+pub page_first : (p : Page) (pages : List Page) (n : ℕ) → p.number ≡ n → page_at (p ∷ pages) n ≡ Some p
+page_first p pages n same =
+    cond-true (eqb p.number n) (Some p) (page_at pages n) (eq-eqb p.number n same)
+
+-- and the later ones, where it has not
+pub page_later : (p : Page) (pages : List Page) (n : ℕ) → (p.number ≡ n → ⊥) → page_at (p ∷ pages) n ≡ page_at pages n
+page_later p pages n apart =
+    cond-false (eqb p.number n) (Some p) (page_at pages n) (ne_eqb p.number n apart)
+
+-- a page that is found is full, and has the number
+pub page_at_is : (pages : List Page) (n : ℕ) (p : Page) → All IsPage pages → page_at pages n ≡ Some p → IsPage p × (p.number ≡ n)
+page_at_is [] n p full found = absurd (none-some _ found)
+page_at_is (q ∷ pages) n p full found =
+    elim (cases_eq q.number n) [
+      | inl same ↦
+          let e : q ≡ p = same_Some _ _ (sym (page_first q pages n same) ∙ found) in
+          (subst IsPage e (All-head IsPage q pages full), ap (λ (x : Page). x.number) (sym e) ∙ same)
+      | inr apart ↦
+          page_at_is pages n p (All-tail IsPage q pages full) (sym (page_later q pages n apart) ∙ found)
+    ]
+
+-- no page has a number from 2 ^ 20 on
+pub no_page_past : (pages : List Page) (n : ℕ) → All IsPage pages → 2 ^ 20 ≤ n → page_at pages n ≡ None
+no_page_past [] n full past = refl
+no_page_past (p ∷ pages) n full past =
+    let is = All-head IsPage p pages full in
+    let apart : p.number ≡ n → ⊥ = λ same. omega (arith, is.number_fits, same, past) in
+    page_later p pages n apart ∙ no_page_past pages n (All-tail IsPage p pages full) past
+
+-- ---- the bytes of one page
+
+-- a byte of a page is one of its words
+pub byte_in_page : (pages : List Page) (p : Page) (b : ℕ) → page_at pages (b / 4096) ≡ Some p → length p.words ≡ 1024 → paged_bytes pages b ≡ bytes_of_words p.words (b % 4096)
+byte_in_page pages p b found long =
+    let place : b % 4 ≡ b % 4096 % 4 = omega arith in
+    rw found (ap (λ x. Some (slice_index p.words (b % 4096 / 4) / 256 ^ x % 256)) place)
+    ∙ sym (byte_at p.words (b % 4096) (omega arith) (omega arith))
+
+-- there is none where there is no page
+pub byte_nowhere : (pages : List Page) (b : ℕ) → page_at pages (b / 4096) ≡ None → paged_bytes pages b ≡ None
+byte_nowhere pages b none = rw none refl
+
+-- it is writable where its word is not read-only
+pub writable_in_page : (pages : List Page) (p : Page) (b : ℕ) → page_at pages (b / 4096) ≡ Some p → length p.read_only ≡ 1024 → paged_writable pages b ≡ not (slice_index_or p.read_only (b % 4096 / 4) true)
+writable_in_page pages p b found long =
+    let there : slice_get p.read_only (b % 4096 / 4) ≡ Some (slice_index_or p.read_only (b % 4096 / 4) true) = slice_get-get_or p.read_only (b % 4096 / 4) true (omega arith) in
+    rw (found, there) refl
+
+-- nothing is where there is no page
+pub writable_nowhere : (pages : List Page) (b : ℕ) → page_at pages (b / 4096) ≡ None → paged_writable pages b ≡ false
+writable_nowhere pages b none = rw none refl
+
+-- ---- an access
+
+-- the bytes of an access are in the page of the first
+pub found_on : (pages : List Page) (o : Option Page) (a n i : ℕ) → a % 4 + n ≤ 4 → i < n → page_at pages (a / 4096) ≡ o → page_at pages ((a + i) / 4096) ≡ o
+found_on pages o a n i within below found =
+    let same : (a + i) / 4096 ≡ a / 4096 = omega arith in
+    ap (page_at pages) same ∙ found
+
+-- the value of some bytes of a word is that in its page
+pub value_in_page : (pages : List Page) (p : Page) (a n : ℕ) → page_at pages (a / 4096) ≡ Some p → length p.words ≡ 1024 → a % 4 + n ≤ 4 → little_endian (paged_bytes pages) a n ≡ little_endian (bytes_of_words p.words) (a % 4096) n
+value_in_page pages p a n found long within =
+    little_endian-moved (paged_bytes pages) (bytes_of_words p.words) a (a % 4096) n (λ i below.
+    let on : (a + i) % 4096 ≡ a % 4096 + i = omega arith in
+    byte_in_page pages p (a + i) (found_on pages _ a n i within below found) long ∙ ap (bytes_of_words p.words) on)
+
+-- addresses that are all writable, or all not
+all_alike : (f : ℕ → Bool) (a n : ℕ) (w : Bool) → 0 < n → ((i : ℕ) → i < n → f (a + i) ≡ w) → all_writable f a n ≡ w
+all_alike f a zero w some same = absurd (omega (arith, some))
+all_alike f a (suc zero) w some same = same 0 (omega arith)
+all_alike f a (suc (suc n)) w some same =
+    rw (all_alike f a (suc n) w (omega arith) (λ i below. same i (omega arith)), same (suc n) (omega arith)) (twice w)
+  where
+    twice : (x : Bool) → (x && x) ≡ x
+    twice true = refl
+    twice false = refl
+
+-- the bytes of one word are writable alike
+pub all_writable_in_page : (pages : List Page) (p : Page) (a n : ℕ) → page_at pages (a / 4096) ≡ Some p → length p.read_only ≡ 1024 → 0 < n → a % 4 + n ≤ 4 → all_writable (paged_writable pages) a n ≡ not (slice_index_or p.read_only (a % 4096 / 4) true)
+all_writable_in_page pages p a n found long some within =
+    all_alike (paged_writable pages) a n _ some (λ i below.
+    let same : (a + i) % 4096 / 4 ≡ a % 4096 / 4 = omega arith in
+    writable_in_page pages p (a + i) (found_on pages _ a n i within below found) long
+    ∙ ap (λ x. not (slice_index_or p.read_only x true)) same)
+
+-- ---- the laws that need no look-up
+
+-- a byte of a word, where there is one, is below 256
+byte_fits : (o : Option ℕ) (k byte : ℕ) → option_map (λ word. word / k % 256) o ≡ Some byte → byte < 256
+byte_fits None k byte e = absurd (none-some _ e)
+byte_fits (Some word) k byte e = omega (arith, same_Some _ _ e)
+
+-- where there is a mark there is a byte
+marked_is_mapped : (o : Option Page) (i k : ℕ) → IsTrue (unwrap_or (option_map not (option_and_then (λ p. slice_get p.read_only i) o)) false) → IsSome (option_map (λ word. word / k % 256) (option_map (λ p. slice_index p.words i) o))
+marked_is_mapped None i k t = absurd (false≢true t)
+marked_is_mapped (Some p) i k t = refl
+
+-- pages are a lawful memory, at any addresses
+pub lawful_pages : (pages : List Page) (a n : ℕ) → IsLawful (paged_bytes pages) (paged_writable pages) a n
+lawful_pages pages a n = record {
+  values = λ i byte below is. byte_fits (word_at pages (a + i)) (256 ^ ((a + i) % 4)) byte is;
+  mapped = λ i below t. marked_is_mapped (page_at pages ((a + i) / 4096)) (place_of (a + i)) (256 ^ ((a + i) % 4)) t;
+}
+
+-- and end at the last address
+pub pages_end : (pages : List Page) → All IsPage pages → EndsAtLastAddress (paged_bytes pages) (paged_writable pages)
+pages_end pages full a past =
+    let none = no_page_past pages (a / 4096) full (omega arith) in
+    (byte_nowhere pages a none, writable_nowhere pages a none)
+
+-- ---- a write into one page
+
+-- the page p of number k became q, and the others stay
+pub record Replaced (old new : List Page) (k : ℕ) (p q : Page) : Type 0 where
+  pub was : page_at old k ≡ Some p
+  pub becomes : page_at new k ≡ Some q
+  pub others : (m : ℕ) → (m ≡ k → ⊥) → page_at new m ≡ page_at old m
+  pub words_were_long : length p.words ≡ 1024
+  pub words_long : length q.words ≡ 1024
+  pub marks_kept : q.read_only ≡ p.read_only
+
+module _ {old new : List Page} {k : ℕ} {p q : Page} (r : Replaced old new k p q) where
+  -- a byte of the page after bytes of one of its words were stored
+  written_inside : (a n v b : ℕ) → a / 4096 ≡ k → a % 4 + n ≤ 4 → bytes_of_words q.words ≡ store (bytes_of_words p.words) (a % 4096) n v → b / 4096 ≡ k → paged_bytes new b ≡ store (paged_bytes old) a n v b
+  written_inside a n v b here within stored same =
+      let after : paged_bytes new b ≡ bytes_of_words q.words (b % 4096) = byte_in_page new q b (ap (page_at new) same ∙ r.becomes) r.words_long in
+      let before : paged_bytes old b ≡ bytes_of_words p.words (b % 4096) = byte_in_page old p b (ap (page_at old) same ∙ r.was) r.words_were_long in
+      let moved : bytes_of_words q.words (b % 4096) ≡ store (bytes_of_words p.words) (a % 4096) n v (b % 4096) = ap (λ (f : ByteMap). f (b % 4096)) stored in
+      let kept : (a ≤ b → a + n ≤ b) → paged_bytes new b ≡ store (paged_bytes old) a n v b = λ outside.
+      after ∙ moved ∙ store_outside (bytes_of_words p.words) (a % 4096) n v (b % 4096) (λ le. omega (arith, le, outside))
+      ∙ sym before ∙ sym (store_outside (paged_bytes old) a n v b outside) in
+      elim (cases_lt b a) [
+        | inl below ↦ kept (λ le. absurd (omega (arith, le, below)))
+        | inr from ↦ elim (cases_lt b (a + n)) [
+          | inl to ↦
+              let far : b % 4096 - a % 4096 ≡ b - a = omega arith in
+              after ∙ moved ∙ store_inside (bytes_of_words p.words) (a % 4096) n v (b % 4096) (omega arith) (omega arith)
+              ∙ ap (λ x. Some (v / 256 ^ x % 256)) far
+              ∙ sym (store_inside (paged_bytes old) a n v b from to)
+          | inr above ↦ kept (λ le. above)
+        ]
+      ]
+
+  -- what is no byte of the page has the bytes that it had
+  kept_outside : (b : ℕ) → (b / 4096 ≡ k → ⊥) → paged_bytes new b ≡ paged_bytes old b
+  kept_outside b apart =
+      ap (λ o. option_map (λ word. word / 256 ^ (b % 4) % 256) (option_map (λ (x : Page). slice_index x.words (place_of b)) o)) (r.others (b / 4096) apart)
+
+  -- bytes that were stored in one word of the page are stored in the memory
+  pub written_in_page : (a n v : ℕ) → a / 4096 ≡ k → a % 4 + n ≤ 4 → bytes_of_words q.words ≡ store (bytes_of_words p.words) (a % 4096) n v → paged_bytes new ≡ store (paged_bytes old) a n v
+  written_in_page a n v here within stored =
+      fun_ext (λ b. elim (cases_eq (b / 4096) k) [
+        | inl same ↦ written_inside a n v b here within stored same
+        | inr apart ↦ kept_outside b apart ∙ sym (store_outside (paged_bytes old) a n v b (λ le. omega arith))
+      ])
+
+  -- what is writable stays
+  pub writable_kept : paged_writable new ≡ paged_writable old
+  writable_kept =
+      fun_ext (λ b. elim (cases_eq (b / 4096) k) [
+        | inl same ↦
+            let after : page_at new (b / 4096) ≡ Some q = ap (page_at new) same ∙ r.becomes in
+            let before : page_at old (b / 4096) ≡ Some p = ap (page_at old) same ∙ r.was in
+            rw (after, before) (ap (λ xs. unwrap_or (option_map not (slice_get xs (b % 4096 / 4))) false) r.marks_kept)
+        | inr apart ↦
+            ap (λ o. unwrap_or (option_map not (option_and_then (λ (x : Page). slice_get x.read_only (place_of b)) o)) false) (r.others (b / 4096) apart)
+      ])
+
+  -- the words stay, but one of the page
+  pub words_kept : (a b : ℕ) → a / 4096 ≡ k → ((i : ℕ) → (i ≡ a % 4096 / 4 → ⊥) → slice_index q.words i ≡ slice_index p.words i) → (b / 4 ≡ a / 4 → ⊥) → word_at new b ≡ word_at old b
+  words_kept a b here others apart =
+      elim (cases_eq (b / 4096) k) [
+        | inl same ↦
+            let after : page_at new (b / 4096) ≡ Some q = ap (page_at new) same ∙ r.becomes in
+            let before : page_at old (b / 4096) ≡ Some p = ap (page_at old) same ∙ r.was in
+            rw (after, before) (ap Some (others (b % 4096 / 4) (λ e. omega arith)))
+        | inr elsewhere ↦
+            ap (λ o. option_map (λ (x : Page). slice_index x.words (place_of b)) o) (r.others (b / 4096) elsewhere)
+      ]
