@@ -32,15 +32,15 @@ pub below_digits : (n : ℕ) → n < 2 ^ binary_digits n
 below_digits zero = omega arith
 below_digits (suc n) = digits_step n (binary_digits n) (below_digits n)
 
--- what is left after a half was ruled out needs one digit less
-pub halved : (len left : ℕ) → 1 < len → len ≤ 2 ^ left → (0 < left) × (len - len / 2 ≤ 2 ^ (left - 1))
-halved len zero many room = absurd (omega arith)
-halved len (suc left) many room =
+-- what is left after more than a half was ruled out needs one digit less
+pub halved : (n rest left : ℕ) → 0 < n → n < 2 ^ left → rest ≤ n / 2 → (0 < left) × (rest < 2 ^ (left - 1))
+halved n rest zero some room half = absurd (omega arith)
+halved n rest (suc left) some room half =
     let same : suc left - 1 ≡ left = omega arith in
-    rw same (omega arith, omega (arith, pow-succ' 2 left, many, room))
+    rw same (omega arith, omega (arith, pow-succ' 2 left, room, half))
 
 -- the digits of the number of all have room for a part of them
-pub digits_room : (len n : ℕ) → len ≤ n → len ≤ 2 ^ (binary_digits n - 0)
+pub digits_room : (len n : ℕ) → len ≤ n → len - 0 < 2 ^ (binary_digits n - 0)
 digits_room len n few =
     let all : binary_digits n - 0 ≡ binary_digits n = omega arith in
     rw all (omega (arith, below_digits n, few))
@@ -57,14 +57,6 @@ later_base spans order j k sorted before within =
           rw same (omega arith)
     ]
 
--- what is known of a base at a place is known at an equal place
-pub begins_at : (spans : List (ℕ × ℕ)) (order : List ℕ) (j k a b : ℕ) → j ≡ k → base_at spans (get_or order k 0) ≡ b → b ≤ a → base_at spans (get_or order j 0) ≤ a
-begins_at spans order j k a b same base from = rw same (omega (arith, base, from))
-
--- the same of a base that is only bounded
-pub begins_still : (spans : List (ℕ × ℕ)) (order : List ℕ) (j k a : ℕ) → j ≡ k → base_at spans (get_or order k 0) ≤ a → base_at spans (get_or order j 0) ≤ a
-begins_still spans order j k a same from = rw same from
-
 -- places after one that begins after an address begin after it too
 pub begins_later : (spans : List (ℕ × ℕ)) (order : List ℕ) (j k a b : ℕ) → IsSearchOrder spans order → j ≤ k → k < length order → base_at spans (get_or order j 0) ≡ b → a < b → a < base_at spans (get_or order k 0)
 begins_later spans order j k a b sorted before within base past =
@@ -74,6 +66,16 @@ begins_later spans order j k a b sorted before within base past =
 pub begins_earlier : (spans : List (ℕ × ℕ)) (order : List ℕ) (j k a b : ℕ) → IsSearchOrder spans order → j ≤ k → k < length order → base_at spans (get_or order k 0) ≡ b → b ≤ a → base_at spans (get_or order j 0) ≤ a
 begins_earlier spans order j k a b sorted before within base from =
     omega (arith, later_base spans order j k sorted before within, base, from)
+
+-- places up to one that ends at an address or before it end there or before it too
+pub ends_earlier : (spans : List (ℕ × ℕ)) (order : List ℕ) (j k a : ℕ) → IsSearchOrder spans order → j ≤ k → k < length order → base_at spans (get_or order k 0) + size_at spans (get_or order k 0) ≤ a → base_at spans (get_or order j 0) + size_at spans (get_or order j 0) ≤ a
+ends_earlier spans order j k a sorted before within ends =
+    elim (cases_lt j k) [
+      | inl first ↦ omega (arith, sorted.rising j k first within, ends)
+      | inr past ↦
+          let same : j ≡ k = omega arith in
+          rw same ends
+    ]
 
 -- ---- one more region
 
@@ -246,20 +248,6 @@ module _ {M : Type 0} where
         | inr none ↦ omega arith
       ])
 
-  -- where the last region of the order that begins in time does not contain the address, none serves it
-  pub not_found : (regions : List (Region M)) (order : List ℕ) (last a : ℕ) → IsSearchOrder (map bounds regions) order → last < length order → (0 < last → base_at (map bounds regions) (get_or order last 0) ≤ a) → ((j : ℕ) → last < j → j < length order → a < base_at (map bounds regions) (get_or order j 0)) → (base_at (map bounds regions) (get_or order last 0) ≤ a → base_at (map bounds regions) (get_or order last 0) + size_at (map bounds regions) (get_or order last 0) ≤ a) → All (λ r. serves r a ≡ false) regions
-  not_found regions order last a sorted within before after apart =
-      none_serves regions order a sorted (λ j below from.
-      elim (cases_lt j last) [
-        | inl early ↦ omega (arith, sorted.rising j last early within, before (omega arith))
-        | inr past ↦ elim (cases_lt last j) [
-          | inl late ↦ absurd (omega (arith, after j late below, from))
-          | inr same ↦
-              let here : j ≡ last = omega arith in
-              rw here (apart (rw here at from))
-        ]
-      ])
-
   -- ---- the fields of the code
 
   -- the base and the size of a region of the code, in the list of both
@@ -295,47 +283,53 @@ module _ {M : Type 0} where
 
   -- ---- a region found
 
-  -- what was kept of the fields is kept of the list that contracts see
-  pub order_of : (fields : List (MemoryRegion M)) (old : List (Region M)) (order : List ℕ) → map region_of fields ≡ old → IsSearchOrder (map bounds (map region_of fields)) order → IsSearchOrder (map bounds old) order
-  order_of fields old order view sorted = rw (← view) sorted
+  -- the base and the size of the region that was read at a place of the order
+  field_span : (fields : List (MemoryRegion M)) (order : List ℕ) (middle index : ℕ) (x : MemoryRegion M) → IsSearchOrder (map bounds (map region_of fields)) order → middle < length order → index ≡ get_or order middle 0 → x ≡ get_or fields index x → get_or (map bounds (map region_of fields)) (get_or order middle 0) (0, 0) ≡ (x.base, x.size)
+  field_span fields order middle index x sorted within at read =
+      let inside : index < length fields = rw at (order_within fields order middle sorted within) in
+      ap (λ i. get_or (map bounds (map region_of fields)) i (0, 0)) (sym at)
+      ∙ span_of_field fields index x inside
+      ∙ ap (λ r. bounds (region_of r)) (sym read)
+
+  -- the base alone
+  pub field_base : (fields : List (MemoryRegion M)) (order : List ℕ) (middle index : ℕ) (x : MemoryRegion M) → IsSearchOrder (map bounds (map region_of fields)) order → middle < length order → index ≡ get_or order middle 0 → x ≡ get_or fields index x → base_at (map bounds (map region_of fields)) (get_or order middle 0) ≡ x.base
+  field_base fields order middle index x sorted within at read =
+      ap (λ p. p.0) (field_span fields order middle index x sorted within at read)
 
   -- the region of the code that contains the address serves it
-  pub field_found : (fields : List (MemoryRegion M)) (old : List (Region M)) (order : List ℕ) (last index a : ℕ) (x : MemoryRegion M) → map region_of fields ≡ old → IsSearchOrder (map bounds (map region_of fields)) order → last < length order → index ≡ get_or order last index → x ≡ get_or fields index x → x.base ≤ a → a < x.base + x.size → a < 2 ^ 32 → IsServedAt old a index
-  field_found fields old order last index a x view sorted within at read from before fits =
-      let place : index ≡ get_or order last 0 = at ∙ get_or_default order last index 0 within in
-      let inside : index < length fields = rw place (order_within fields order last sorted within) in
-      let stands = stands_of fields old index x view (omega (arith, inside, shown_length fields fields old view refl)) read in
+  pub field_found : (fields : List (MemoryRegion M)) (order : List ℕ) (middle index a : ℕ) (x : MemoryRegion M) → IsSearchOrder (map bounds (map region_of fields)) order → middle < length order → index ≡ get_or order middle 0 → x ≡ get_or fields index x → x.base ≤ a → a < x.base + x.size → a < 2 ^ 32 → IsServedAt (map region_of fields) a index
+  field_found fields order middle index a x sorted within at read from before fits =
+      let inside : index < length fields = rw at (order_within fields order middle sorted within) in
+      let long : length (map region_of fields) ≡ length fields = length-map fields region_of in
+      let stands = stands_of fields (map region_of fields) index x refl (omega (arith, inside, long)) read in
       record { region = region_of x; stands = stands.1; serves_it = true_serves (region_of x) a from before fits }
 
-  -- where the region that was found does not contain the address, none serves it
-  pub field_not_found : (fields : List (MemoryRegion M)) (old : List (Region M)) (order : List ℕ) (last index a : ℕ) (x : MemoryRegion M) → map region_of fields ≡ old → IsSearchOrder (map bounds (map region_of fields)) order → last < length order → index ≡ get_or order last index → x ≡ get_or fields index x → (0 < last → base_at (map bounds (map region_of fields)) (get_or order last 0) ≤ a) → ((j : ℕ) → last < j → j < length order → a < base_at (map bounds (map region_of fields)) (get_or order j 0)) → ((x.base ≤ a) × (a < x.base + x.size) → ⊥) → All (λ r. serves r a ≡ false) old
-  field_not_found fields old order last index a x view sorted within at read before after outside =
-      let place : index ≡ get_or order last 0 = at ∙ get_or_default order last index 0 within in
-      let inside : index < length fields = rw place (order_within fields order last sorted within) in
-      let span : get_or (map bounds (map region_of fields)) (get_or order last 0) (0, 0) ≡ bounds (region_of x) =
-      ap (λ i. get_or (map bounds (map region_of fields)) i (0, 0)) (sym place)
-      ∙ span_of_field fields index x inside
-      ∙ ap (λ r. bounds (region_of r)) (sym read) in
-      let base : base_at (map bounds (map region_of fields)) (get_or order last 0) ≡ x.base = ap (λ p. p.0) span in
-      let size : size_at (map bounds (map region_of fields)) (get_or order last 0) ≡ x.size = ap (λ p. p.1) span in
-      rw (← view) (not_found (map region_of fields) order last a sorted within before after (λ from.
+  -- a region of the code that begins in time and does not contain the address has ended
+  pub field_ended : (fields : List (MemoryRegion M)) (order : List ℕ) (middle index a : ℕ) (x : MemoryRegion M) → IsSearchOrder (map bounds (map region_of fields)) order → middle < length order → index ≡ get_or order middle 0 → x ≡ get_or fields index x → x.base ≤ a → ((x.base ≤ a) × (a < x.base + x.size) → ⊥) → base_at (map bounds (map region_of fields)) (get_or order middle 0) + size_at (map bounds (map region_of fields)) (get_or order middle 0) ≤ a
+  field_ended fields order middle index a x sorted within at read from outside =
+      let span = field_span fields order middle index x sorted within at read in
       elim (cases_lt a (x.base + x.size)) [
-        | inl below ↦ absurd (outside (omega (arith, from, base), below))
-        | inr past ↦ omega (arith, base, size, past)
-      ]))
+        | inl below ↦ absurd (outside (from, below))
+        | inr past ↦ omega (arith, ap (λ p. p.0) span, ap (λ p. p.1) span, past)
+      ]
 
-  -- where no region stands in the order, none serves an address, and none has one
-  pub none_in_order : (regions : List (Region M)) (order : List ℕ) (a : ℕ) → IsSearchOrder (map bounds regions) order → length order ≡ 0 → All (λ r. serves r a ≡ false) regions
-  none_in_order regions order a sorted empty =
-      none_serves regions order a sorted (λ j below from. absurd (omega (arith, below, empty)))
+  -- where none of the order is left, none serves the address
+  pub none_left : (fields : List (MemoryRegion M)) (order : List ℕ) (low high a : ℕ) → IsSearchOrder (map bounds (map region_of fields)) order → high ≤ low → ((j : ℕ) → j < low → j < length order → base_at (map bounds (map region_of fields)) (get_or order j 0) + size_at (map bounds (map region_of fields)) (get_or order j 0) ≤ a) → ((j : ℕ) → high ≤ j → j < length order → a < base_at (map bounds (map region_of fields)) (get_or order j 0)) → All (λ r. serves r a ≡ false) (map region_of fields)
+  none_left fields order low high a sorted met before after =
+      none_serves (map region_of fields) order a sorted (λ j below from.
+      elim (cases_lt j low) [
+        | inl early ↦ before j early below
+        | inr late ↦ absurd (omega (arith, after j (omega arith) below, from))
+      ])
 
-  pub none_has_addresses : (regions : List (Region M)) (order : List ℕ) → IsSearchOrder (map bounds regions) order → length order ≡ 0 → Any HasAddresses regions → ⊥
-  none_has_addresses regions order sorted empty any =
+  -- where a region has addresses, it stands in the order
+  pub some_in_order : (regions : List (Region M)) (order : List ℕ) → IsSearchOrder (map bounds regions) order → Any HasAddresses regions → 0 < length order
+  some_in_order regions order sorted any =
       let long : length (map bounds regions) ≡ length regions = length-map regions bounds in
       let size : size_at (map bounds regions) any.0 ≡ (get_or regions any.0 any.1).size = ap (λ p. p.1) (bounds_of regions any.0 any.1 any.2) in
       let here : (get_or regions any.0 any.1).size ≡ any.1.size = ap (λ r. r.size) any.3 in
       let place = sorted.complete any.0 (omega (arith, long, any.2)) (omega (arith, size, here, any.4)) in
-      omega (arith, place.1, empty)
+      omega (arith, place.1)
 
   -- ---- a region appended
 
@@ -365,23 +359,16 @@ module _ {M : Type 0} where
 
   -- ---- what was counted
 
-  -- where nothing has an address, nothing was compared
-  pub counts_none : (old : Space M) → (Any HasAddresses old.regions → ⊥) → old.looked_at < 2 ^ 64 → CountsCompared old old
-  counts_none old none fits = record {
-    compared = 0;
-    counted = omega arith;
-    few = omega arith;
-    some = λ any. absurd (none any);
-  }
-
-  -- a search, and one more comparison
-  pub counts_search : (old new : Space M) (fields : List (MemoryRegion M)) (counted probes : ℕ) → map region_of fields ≡ old.regions → counted ≡ old.looked_at → new.looked_at ≡ min (counted + (probes + 1)) (2 ^ 64 - 1) → probes ≤ binary_digits (length fields) → CountsCompared old new
-  counts_search old new fields counted probes view before after few =
-      let long : length old.regions ≡ length fields = shown_length fields fields old.regions view refl in record {
-        compared = probes + 1;
+  -- what a search compared is added
+  pub counts_search : (old new : Space M) (fields : List (MemoryRegion M)) (order : List ℕ) (counted compared : ℕ) → map region_of fields ≡ old.regions → IsSearchOrder (map bounds (map region_of fields)) order → counted ≡ old.looked_at → new.looked_at ≡ min (counted + compared) (2 ^ 64 - 1) → compared ≤ binary_digits (length fields) → (0 < length order → 0 < compared) → CountsCompared old new
+  counts_search old new fields order counted compared view sorted before after few some =
+      let long : length old.regions ≡ length fields = shown_length fields fields old.regions view refl in
+      let seen : IsSearchOrder (map bounds old.regions) order = rw (← view) sorted in
+      record {
+        compared = compared;
         counted = rw before at after;
         few = rw long (omega (arith, few));
-        some = λ any. omega arith;
+        some = λ any. some (some_in_order old.regions order seen any);
       }
 
   -- the count alone matters

@@ -121,32 +121,38 @@ impl<M: Memory> MemoryRegion<M> {
     }
 }
 
-/// Where in the order the last region stands whose base is at most `addr`, or 0 where there is none,
-/// and how many regions were compared to find it.
+/// The index of the region that serves an address, and how many regions were compared to find it.
 #[inline]
-fn last_from<M>(regions: &[MemoryRegion<M>], by_base: &[usize], addr: u32) -> (usize, u64)
-    requires some { 0 < length by_base.now }
-    requires order { IsSearchOrder (map bounds (map region_of regions.now)) by_base.now }
-    ensures within { result.0 < length by_base.now }
-    ensures before { 0 < result.0 → base_at (map bounds (map region_of regions.now))
-        (slice_index by_base.now result.0) ≤ addr }
-    ensures after { (j : ℕ) → result.0 < j → j < length by_base.now →
-        addr < base_at (map bounds (map region_of regions.now)) (slice_index by_base.now j) }
-    ensures compared { result.1 ≤ binary_digits (length regions.now) }
-    ensures fewer { result.1 < length by_base.now }
+fn find<M: Memory>(
+    regions: &[MemoryRegion<M>],
+    by_base: &[usize],
+    addr: u32,
+) -> (Option<usize>, u64)
+    requires { IsSearchOrder (map bounds (map region_of regions.now)) by_base.now }
+    ensures region { MatchOption result.0
+        (All (λ r. serves r addr ≡ false) (map region_of regions.now))
+        (IsServedAt (map region_of regions.now) addr) }
+    ensures few { result.1 ≤ binary_digits (length regions.now) }
+    ensures some { 0 < length by_base.now → 0 < result.1 }
 {
-    let mut first = 0;
-    let mut len = by_base.len();
+    let mut low = 0;
+    let mut high = by_base.len();
     let mut compared = 0;
-    while len > 1 {
-        let half = len / 2;
-        if regions[by_base[first + half]].base <= addr {
-            first += half;
-        }
-        len -= half;
+    while low < high {
+        let middle = low + (high - low - 1) / 2;
+        let index = by_base[middle];
+        let region = &regions[index];
         compared += 1;
+        if region.contains(addr) {
+            return (Some(index), compared);
+        }
+        if region.base <= addr {
+            low = middle + 1;
+        } else {
+            high = middle;
+        }
     }
-    (first, compared)
+    (None, compared)
 }
 
 /// Where in the order a region of this base goes.
@@ -158,15 +164,17 @@ fn place_of<M>(regions: &[MemoryRegion<M>], by_base: &[usize], base: u32) -> usi
     ensures after { (j : ℕ) → result ≤ j → j < length by_base.now →
         base < base_at (map bounds (map region_of regions.now)) (slice_index by_base.now j) }
 {
-    if by_base.is_empty() {
-        return 0;
+    let mut low = 0;
+    let mut high = by_base.len();
+    while low < high {
+        let middle = low + (high - low) / 2;
+        if regions[by_base[middle]].base <= base {
+            low = middle + 1;
+        } else {
+            high = middle;
+        }
     }
-    let (last, _) = last_from(regions, by_base, base);
-    if regions[by_base[last]].base <= base {
-        last + 1
-    } else {
-        last
-    }
+    low
 }
 
 impl<M: Memory> MemorySpace<M> {
@@ -264,17 +272,9 @@ impl<M: Memory> MemorySpace<M> {
         ensures regions_kept { self.new.regions ≡ self.old.regions }
         ensures counts { CountsCompared self.old self.new }
     {
-        if self.by_base.is_empty() {
-            return None;
-        }
-        let (last, compared) = last_from(&self.regions, &self.by_base, addr);
-        self.looked_at = self.looked_at.saturating_add(compared + 1);
-        let index = self.by_base[last];
-        if self.regions[index].contains(addr) {
-            Some(index)
-        } else {
-            None
-        }
+        let (found, compared) = find(&self.regions, &self.by_base, addr);
+        self.looked_at = self.looked_at.saturating_add(compared);
+        found
     }
 
     /// The memory of the region of this index, in the order in which they were added.
