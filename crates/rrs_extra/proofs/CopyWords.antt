@@ -10,6 +10,7 @@ use Rattle.rrs_lib.specs.Bytes.{ByteMap, little_endian, all_writable, store}
 use Rattle.rrs_lib.specs.Machine.{State, reg, made_even}
 use Rattle.rrs_lib.specs.Steps.{Step, RunsOk, RunUntil, IsOnlyRunUntil}
 use Rattle.rrs_lib.proofs.Examples.{of_R, of_I, of_IShamt, of_S, of_B}
+use Rattle.rrs_lib.proofs.Decoder.{decodes}
 use Rattle.rrs_lib.proofs.Programs
 use Rattle.rrs_lib.proofs.Programs.{at, Others, registers_by}
 use Rattle.rrs_lib.proofs.Accesses.{Outside, outside_from_none, read-stored, read-kept, store-outside, write-allowed}
@@ -19,31 +20,31 @@ use Rattle.rrs_extra.proofs.Words.{word_read, instruction, read_after, holds_aft
 -- ---- the words
 
 beq_x12 : Decodes 0x02060063 Row.Beq (of_B (pos 32) 0 12 0)
-beq_x12 = record { format = refl; in_range = search rules; functs = refl; encoded = refl }
+beq_x12 = decodes _ _ _ refl
 
 slli_x12 : Decodes 0x00261613 Row.Slli (of_IShamt 0 2 12 1 12)
-slli_x12 = record { format = refl; in_range = search rules; functs = (refl, tt); encoded = refl }
+slli_x12 = decodes _ _ _ refl
 
 add_x14 : Decodes 0x00c58733 Row.Add (of_R 0 12 11 0 14)
-add_x14 = record { format = refl; in_range = search rules; functs = (refl, refl); encoded = refl }
+add_x14 = decodes _ _ _ refl
 
 lw_x15 : Decodes 0x0005a783 Row.Lw (of_I (pos 0) 11 2 15)
-lw_x15 = record { format = refl; in_range = search rules; functs = refl; encoded = refl }
+lw_x15 = decodes _ _ _ refl
 
 addi_x11 : Decodes 0x00458593 Row.Addi (of_I (pos 4) 11 0 11)
-addi_x11 = record { format = refl; in_range = search rules; functs = refl; encoded = refl }
+addi_x11 = decodes _ _ _ refl
 
 addi_x10 : Decodes 0x00450513 Row.Addi (of_I (pos 4) 10 0 10)
-addi_x10 = record { format = refl; in_range = search rules; functs = refl; encoded = refl }
+addi_x10 = decodes _ _ _ refl
 
 sw_x15 : Decodes 0xfef52e23 Row.Sw (of_S (neg_ℤ (pos 4)) 15 10 2)
-sw_x15 = record { format = refl; in_range = search rules; functs = refl; encoded = refl }
+sw_x15 = decodes _ _ _ refl
 
 bne_x11 : Decodes 0xfee598e3 Row.Bne (of_B (neg_ℤ (pos 16)) 14 11 1)
-bne_x11 = record { format = refl; in_range = search rules; functs = refl; encoded = refl }
+bne_x11 = decodes _ _ _ refl
 
 ret : Decodes 0x00008067 Row.Jalr (of_I (pos 0) 1 0 0)
-ret = record { format = refl; in_range = search rules; functs = tt; encoded = refl }
+ret = decodes _ _ _ refl
 
 -- ---- one round
 

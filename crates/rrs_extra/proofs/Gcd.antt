@@ -13,6 +13,7 @@ use Rattle.rrs_lib.specs.Results.{remu}
 use Rattle.rrs_lib.specs.Machine.{State, reg, made_even}
 use Rattle.rrs_lib.specs.Steps.{RunsOk, RunUntil, IsOnlyRunUntil}
 use Rattle.rrs_lib.proofs.Examples.{of_R, of_I, of_B, of_J}
+use Rattle.rrs_lib.proofs.Decoder.{decodes}
 use Rattle.rrs_lib.proofs.Programs
 use Rattle.rrs_lib.proofs.Programs.{at, Others, registers_by}
 use Rattle.rrs_extra.specs.Programs.{HoldsWords, IsCalled, HasWords, word_at, gcd_program}
@@ -21,22 +22,22 @@ use Rattle.rrs_extra.proofs.Words.{word_read, instruction}
 -- ---- the words
 
 bne_x11 : Decodes 0x00059463 Row.Bne (of_B (pos 8) 0 11 1)
-bne_x11 = record { format = refl; in_range = search rules; functs = refl; encoded = refl }
+bne_x11 = decodes _ _ _ refl
 
 ret : Decodes 0x00008067 Row.Jalr (of_I (pos 0) 1 0 0)
-ret = record { format = refl; in_range = search rules; functs = tt; encoded = refl }
+ret = decodes _ _ _ refl
 
 remu_x15 : Decodes 0x02b577b3 Row.Remu (of_R 1 11 10 7 15)
-remu_x15 = record { format = refl; in_range = search rules; functs = (refl, refl); encoded = refl }
+remu_x15 = decodes _ _ _ refl
 
 mv_x10 : Decodes 0x00058513 Row.Addi (of_I (pos 0) 11 0 10)
-mv_x10 = record { format = refl; in_range = search rules; functs = refl; encoded = refl }
+mv_x10 = decodes _ _ _ refl
 
 mv_x11 : Decodes 0x00078593 Row.Addi (of_I (pos 0) 15 0 11)
-mv_x11 = record { format = refl; in_range = search rules; functs = refl; encoded = refl }
+mv_x11 = decodes _ _ _ refl
 
 jal_back : Decodes 0xfedff06f Row.Jal (of_J (neg_ℤ (pos 20)) 0)
-jal_back = record { format = refl; in_range = search rules; functs = tt; encoded = refl }
+jal_back = decodes _ _ _ refl
 
 -- ---- one round
 

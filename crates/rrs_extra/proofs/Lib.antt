@@ -1,4 +1,5 @@
 pub mod CopyWords
+pub mod CountDown
 pub mod Gcd
 pub mod PortLemmas
 pub mod ProgramExamples

@@ -9,6 +9,7 @@ use Rattle.rrs_lib.specs.Bytes.{ByteMap, little_endian}
 use Rattle.rrs_lib.specs.Machine.{State, reg}
 use Rattle.rrs_lib.specs.Steps.{RunsOk, RunUntil, IsOnlyRunUntil}
 use Rattle.rrs_lib.proofs.Examples.{of_R, of_I, of_B, of_J}
+use Rattle.rrs_lib.proofs.Decoder.{decodes}
 use Rattle.rrs_lib.proofs.Programs
 use Rattle.rrs_lib.proofs.Programs.{at, Fetches, fetches, Others, registers_by}
 use Rattle.rrs_extra.specs.Programs.{HoldsWords, HoldsIllegal, IsMapped, word_at, sum_of_words, sum_loop_program, SumLoopStarts}
@@ -17,25 +18,25 @@ use Rattle.rrs_extra.proofs.Words.{word_read}
 -- ---- the words
 
 li_x12 : Decodes 0x00000613 Row.Addi (of_I (pos 0) 0 0 12)
-li_x12 = record { format = refl; in_range = search rules; functs = refl; encoded = refl }
+li_x12 = decodes _ _ _ refl
 
 beq_x11 : Decodes 0x00058c63 Row.Beq (of_B (pos 24) 0 11 0)
-beq_x11 = record { format = refl; in_range = search rules; functs = refl; encoded = refl }
+beq_x11 = decodes _ _ _ refl
 
 lw_x13 : Decodes 0x00052683 Row.Lw (of_I (pos 0) 10 2 13)
-lw_x13 = record { format = refl; in_range = search rules; functs = refl; encoded = refl }
+lw_x13 = decodes _ _ _ refl
 
 add_x12 : Decodes 0x00d60633 Row.Add (of_R 0 13 12 0 12)
-add_x12 = record { format = refl; in_range = search rules; functs = (refl, refl); encoded = refl }
+add_x12 = decodes _ _ _ refl
 
 addi_x10 : Decodes 0x00450513 Row.Addi (of_I (pos 4) 10 0 10)
-addi_x10 = record { format = refl; in_range = search rules; functs = refl; encoded = refl }
+addi_x10 = decodes _ _ _ refl
 
 addi_x11 : Decodes 0xfff58593 Row.Addi (of_I (neg_ℤ (pos 1)) 11 0 11)
-addi_x11 = record { format = refl; in_range = search rules; functs = refl; encoded = refl }
+addi_x11 = decodes _ _ _ refl
 
 jal_back : Decodes 0xfedff06f Row.Jal (of_J (neg_ℤ (pos 20)) 0)
-jal_back = record { format = refl; in_range = search rules; functs = tt; encoded = refl }
+jal_back = decodes _ _ _ refl
 
 -- ---- one round
 

@@ -217,6 +217,8 @@ impl InstructionProcessor for RowNumberer {
 #[cfg(test)]
 mod call_counter;
 #[cfg(test)]
+mod count_down;
+#[cfg(test)]
 mod output_port;
 #[cfg(test)]
 mod tests;
