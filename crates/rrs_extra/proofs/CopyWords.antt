@@ -205,7 +205,7 @@ rounds (suc n) o x1 to from x12 x13 x14 x15 p last bytes writable ready end =
       x15_after = rest.x15_after;
       bytes_after = rest.bytes_after;
       copies = copies_more bytes rest.bytes_after to from (suc n) v read ready.apart_source rest.copies;
-      runs = Programs.RunsOk-as (5 + 5 * suc n) (5 * suc (suc n)) _ _ (omega arith) (Programs.RunsOk-append 5 (5 * suc n) _ _ _ one rest.runs);
+      runs = Programs.RunsOk-join 5 (5 * suc n) (5 * suc (suc n)) _ _ _ (omega arith) one rest.runs;
     }
 
 -- ---- the run
@@ -252,7 +252,7 @@ calls (suc m) o x1 to from x13 x14 x15 p last bytes writable ready return_aligne
       registers_after = _;
       bytes_after = all.bytes_after;
       copies = all.copies;
-      runs = Programs.RunsOk-as (3 + (5 * suc m + 1)) (5 * suc m + 4) _ _ (omega arith) (Programs.RunsOk-append 3 (5 * suc m + 1) _ _ _ three (Programs.RunsOk-append (5 * suc m) 1 _ _ _ all.runs (Programs.RunsOk-one _ _ out)));
+      runs = Programs.RunsOk-join 3 (5 * suc m + 1) (5 * suc m + 4) _ _ _ (omega arith) three (Programs.RunsOk-append (5 * suc m) 1 _ _ _ all.runs (Programs.RunsOk-one _ _ out));
     }
 
 pub record Copies (s : State) : Type 0 where
@@ -288,9 +288,8 @@ copies_from o x1 to from n p x13 x14 x15 last bytes writable starts small =
 
 copies : (s : State) → 15 ≤ length s.registers → CopyWordsStarts s → reg s 1 < 2 ^ 32 → Copies s
 copies s long starts small =
-    let r = Programs.opened s.registers long in
-    let same : s ≡ at (registers_by r.others (reg s 1) (reg s 10) (reg s 11) (reg s 12) r.x13 r.x14 r.x15) s.pc s.last s.bytes s.writable = λ i. at (r.same i) s.pc s.last s.bytes s.writable in
-    subst Copies (sym same) (copies_from r.others (reg s 1) (reg s 10) (reg s 11) (reg s 12) s.pc r.x13 r.x14 r.x15 s.last s.bytes s.writable (subst CopyWordsStarts same starts) small)
+    let open_s = Programs.opened s long in
+    subst Copies (sym open_s.same) (copies_from open_s.others (reg s 1) (reg s 10) (reg s 11) (reg s 12) s.pc (reg s 13) (reg s 14) (reg s 15) s.last s.bytes s.writable (subst CopyWordsStarts open_s.same starts) small)
 
 -- what a call of `run` returned
 pub record Copied (s : State) (steps : ℕ) (e : Option InstructionException) (t : State) : Type 0 where

@@ -92,7 +92,7 @@ rounds (suc bound) (suc m) within o x1 a p x12 x13 x14 x15 last bytes writable h
       is_gcd = IsGcd-from_mod a (suc m) rest.divisor rest.is_gcd;
       value = rest.value;
       last_after = rest.last_after;
-      runs = Programs.RunsOk-as (5 + 5 * rest.count) (5 * suc rest.count) _ _ (omega arith) (Programs.RunsOk-append 5 (5 * rest.count) _ _ _ one rest.runs);
+      runs = Programs.RunsOk-join 5 (5 * rest.count) (5 * suc rest.count) _ _ _ (omega arith) one rest.runs;
     }
 
 -- ---- the run
@@ -133,9 +133,8 @@ divides_from o x1 a b p x12 x13 x14 x15 last bytes writable called words =
 
 divides : (s : State) → 15 ≤ length s.registers → IsCalled gcd_program s → HasWords s → Divides s
 divides s long called words =
-    let r = Programs.opened s.registers long in
-    let same : s ≡ at (registers_by r.others (reg s 1) (reg s 10) (reg s 11) (reg s 12) r.x13 r.x14 r.x15) s.pc s.last s.bytes s.writable = λ i. at (r.same i) s.pc s.last s.bytes s.writable in
-    subst Divides (sym same) (divides_from r.others (reg s 1) (reg s 10) (reg s 11) s.pc (reg s 12) r.x13 r.x14 r.x15 s.last s.bytes s.writable (subst (IsCalled gcd_program) same called) words)
+    let open_s = Programs.opened s long in
+    subst Divides (sym open_s.same) (divides_from open_s.others (reg s 1) (reg s 10) (reg s 11) s.pc (reg s 12) (reg s 13) (reg s 14) (reg s 15) s.last s.bytes s.writable (subst (IsCalled gcd_program) open_s.same called) words)
 
 -- what a call of `run` returned
 pub record Divided (s : State) (steps : ℕ) (e : Option InstructionException) (t : State) : Type 0 where

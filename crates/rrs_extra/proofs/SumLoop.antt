@@ -90,7 +90,7 @@ rounds (suc n) o x1 a sum total x13 x14 x15 last bytes writable holds aligned fi
     ap (λ y. (word (pos (sum + word (pos x))) + y) % 2 ^ 32) (next_words bytes a n fits) ∙ same_sum sum x (sum_of_words bytes (a + 4) n) ∙ is in
     let others = rounds n o x1 (word (pos (a + 4))) (word (pos (sum + word (pos x)))) total (word (pos x)) x14 x15 None bytes writable holds (omega arith) (omega arith) (next_mapped bytes a n fits mapped) (omega arith) total_is in
     let one = round o x1 a n sum x x13 x14 x15 last bytes writable holds aligned (omega arith) (omega arith) read in
-    record { end = others.end; value = others.value; runs = Programs.RunsOk-as _ _ _ _ (omega arith) (Programs.RunsOk-append 6 (6 * n + 1) _ _ _ one others.runs) }
+    record { end = others.end; value = others.value; runs = Programs.RunsOk-join 6 (6 * n + 1) (6 * suc n + 1) _ _ _ (omega arith) one others.runs }
 
 -- ---- the run
 
@@ -110,9 +110,10 @@ sums_from o x1 a n x12 x13 x14 x15 last bytes writable starts =
 
 pub sums : (s : State) → 15 ≤ length s.registers → SumLoopStarts s → Sums s
 sums s long starts =
-    let r = Programs.opened s.registers long in
-    let same : s ≡ at (registers_by r.others (slice_index s.registers 0) (reg s 10) (reg s 11) (reg s 12) r.x13 r.x14 r.x15) 0 s.last s.bytes s.writable = λ i. at (r.same i) (starts.pc i) s.last s.bytes s.writable in
-    subst Sums (sym same) (sums_from r.others (slice_index s.registers 0) (reg s 10) (reg s 11) (reg s 12) r.x13 r.x14 r.x15 s.last s.bytes s.writable (subst SumLoopStarts same starts))
+    let open_s = Programs.opened s long in
+    let same : s ≡ at (registers_by open_s.others (reg s 1) (reg s 10) (reg s 11) (reg s 12) (reg s 13) (reg s 14) (reg s 15)) 0 s.last s.bytes s.writable =
+    open_s.same ∙ Programs.at_pc _ 0 starts.pc in
+    subst Sums (sym same) (sums_from open_s.others (reg s 1) (reg s 10) (reg s 11) (reg s 12) (reg s 13) (reg s 14) (reg s 15) s.last s.bytes s.writable (subst SumLoopStarts same starts))
 
 -- what a call of `run` returned
 pub record Summed (s : State) (steps : ℕ) (e : Option InstructionException) (t : State) : Type 0 where
