@@ -52,12 +52,23 @@ body : (o : Others) (x1 to from to' from' v x12 x13 x14 x15 p : ℕ) (last : Opt
     → HoldsWords bytes p copy_words_program → p % 4 ≡ 0 → p + 36 ≤ 2 ^ 32 → from % 4 ≡ 0 → from < 2 ^ 32 → to % 4 ≡ 0 → to < 2 ^ 32
     → little_endian bytes from 4 ≡ Some v → all_writable writable to 4 ≡ true → word (pos (to + 4)) ≡ to' → word (pos (from + 4)) ≡ from'
     → RunsOk 4 (at (registers_by o x1 to from x12 x13 x14 x15) (p + 12) last bytes writable) (at (registers_by o x1 to' from' x12 x13 x14 (word (pos v))) (p + 28) None (store bytes to 4 (word (pos v))) writable)
-body o x1 to from to' from' v x12 x13 x14 x15 p last bytes writable holds aligned fits from_aligned from_small to_aligned to_small read allowed to_next from_next =
-    (_, Programs.step-loads (p + 16) 4 pos from v (word (pos v)) (instruction holds aligned 3 (omega arith) (omega arith) lw_x15) refl (omega arith) from_aligned read refl (omega arith),
-    (_, Programs.step-writes (p + 20) 10 from' (pos (from + 4)) (instruction holds aligned 4 (omega arith) (omega arith) addi_x11) refl from_next (omega arith),
-    (_, Programs.step-writes (p + 24) 9 to' (pos (to + 4)) (instruction holds aligned 5 (omega arith) (omega arith) addi_x10) refl to_next (omega arith),
-    (_, Programs.step-stores (p + 28) 4 to (word (pos v)) (instruction holds aligned 6 (omega arith) (omega arith) sw_x15) refl (omega arith) refl to_aligned allowed (omega arith),
-    refl))))
+body o x1 to from to' from' v x12 x13 x14 x15 p last bytes writable holds aligned fits from_aligned from_small to_aligned to_small read allowed to_next from_next = (
+  _,
+  Programs.step-loads (p + 16) 4 pos from v (word (pos v)) (instruction holds aligned 3 (omega arith) (omega arith) lw_x15) refl (omega arith) from_aligned read refl (omega arith),
+  (
+    _,
+    Programs.step-writes (p + 20) 10 from' (pos (from + 4)) (instruction holds aligned 4 (omega arith) (omega arith) addi_x11) refl from_next (omega arith),
+    (
+      _,
+      Programs.step-writes (p + 24) 9 to' (pos (to + 4)) (instruction holds aligned 5 (omega arith) (omega arith) addi_x10) refl to_next (omega arith),
+      (
+        _,
+        Programs.step-stores (p + 28) 4 to (word (pos v)) (instruction holds aligned 6 (omega arith) (omega arith) sw_x15) refl (omega arith) refl to_aligned allowed (omega arith),
+        refl,
+      ),
+    ),
+  ),
+)
 
 again : (o : Others) (x1 x10 x11 x12 x13 x14 x15 p : ℕ) (bytes : ByteMap) (writable : ℕ → Bool) → HoldsWords bytes p copy_words_program → p % 4 ≡ 0 → p + 36 ≤ 2 ^ 32 → x11 ≢ x14
     → Step (at (registers_by o x1 x10 x11 x12 x13 x14 x15) (p + 28) None bytes writable) (at (registers_by o x1 x10 x11 x12 x13 x14 x15) (p + 12) None bytes writable) (Ok tt)
@@ -225,11 +236,19 @@ returns o x1 x10 x11 x12 x13 x14 x15 p bytes writable holds aligned fits return_
 -- the three instructions before the first round
 begins : (o : Others) (x1 to from m x13 x14 x15 p : ℕ) (last : Option ℕ) (bytes : ByteMap) (writable : ℕ → Bool) → HoldsWords bytes p copy_words_program → p % 4 ≡ 0 → p + 36 ≤ 2 ^ 32
     → RunsOk 3 (at (registers_by o x1 to from (suc m) x13 x14 x15) p last bytes writable) (at (registers_by o x1 to from (word (pos (suc m * 4))) x13 (word (pos (from + 4 * suc m))) x15) (p + 12) (Some 14) bytes writable)
-begins o x1 to from m x13 x14 x15 p last bytes writable holds aligned fits =
-    (_, Programs.step-stays (p + 4) (suc m == 0) (pos 32) (instruction holds aligned 0 (omega arith) (omega arith) beq_x12) refl (grind (arith, nat_tests)) (omega arith),
-    (_, Programs.step-writes (p + 8) 11 (word (pos (suc m * 4))) (pos (suc m * 4)) (instruction holds aligned 1 (omega arith) (omega arith) slli_x12) refl refl (omega arith),
-    (_, Programs.step-writes (p + 12) 13 (word (pos (from + 4 * suc m))) (pos (from + word (pos (suc m * 4)))) (instruction holds aligned 2 (omega arith) (omega arith) add_x14) refl (omega arith) (omega arith),
-    refl)))
+begins o x1 to from m x13 x14 x15 p last bytes writable holds aligned fits = (
+  _,
+  Programs.step-stays (p + 4) (suc m == 0) (pos 32) (instruction holds aligned 0 (omega arith) (omega arith) beq_x12) refl (grind (arith, nat_tests)) (omega arith),
+  (
+    _,
+    Programs.step-writes (p + 8) 11 (word (pos (suc m * 4))) (pos (suc m * 4)) (instruction holds aligned 1 (omega arith) (omega arith) slli_x12) refl refl (omega arith),
+    (
+      _,
+      Programs.step-writes (p + 12) 13 (word (pos (from + 4 * suc m))) (pos (from + word (pos (suc m * 4)))) (instruction holds aligned 2 (omega arith) (omega arith) add_x14) refl (omega arith) (omega arith),
+      refl,
+    ),
+  ),
+)
 
 calls : (n : ℕ) (o : Others) (x1 to from x13 x14 x15 p : ℕ) (last : Option ℕ) (bytes : ByteMap) (writable : ℕ → Bool)
     → Ready to from n p bytes writable → x1 % 4 ≡ 0 → x1 < 2 ^ 32 → Called o x1 to from n n x13 x14 x15 p last bytes writable

@@ -23,23 +23,27 @@ module _ (bytes : ByteMap) (writable : ℕ → Bool) (first : little_endian byte
 
   -- the last round, and one before it
   last_round : (rest : List ℕ) (last : Option ℕ) → RunsOk 2 (loop 1 rest 0 last) (loop 0 rest 8 None)
-  last_round rest last =
-    (_, step-writes 4 0 0 (pos (1 + 4294967295)) (fetches refl first addi) refl refl refl,
-    (_, step-stays 8 false (neg_ℤ (pos 4)) {registers = 0 ∷ rest} (fetches refl second bne) refl refl refl, refl))
+  last_round rest last = (
+    _,
+    step-writes 4 0 0 (pos (1 + 4294967295)) (fetches refl first addi) refl refl refl,
+    (_, step-stays 8 false (neg_ℤ (pos 4)) {registers = 0 ∷ rest} (fetches refl second bne) refl refl refl, refl),
+  )
 
   round : (n : ℕ) (rest : List ℕ) (last : Option ℕ) → suc (suc n) < 2 ^ 32 → RunsOk 2 (loop (suc (suc n)) rest 0 last) (loop (suc n) rest 0 None)
-  round n rest last small =
-    (_, step-writes 4 0 (suc n) (pos (suc (suc n) + 4294967295)) (fetches refl first addi) refl (omega arith) refl,
-    (_, step-branches 0 (not (suc n == 0)) (neg_ℤ (pos 4)) (fetches refl second bne) refl (grind (arith, nat_tests)) refl, refl))
+  round n rest last small = (
+    _,
+    step-writes 4 0 (suc n) (pos (suc (suc n) + 4294967295)) (fetches refl first addi) refl (omega arith) refl,
+    (_, step-branches 0 (not (suc n == 0)) (neg_ℤ (pos 4)) (fetches refl second bne) refl (grind (arith, nat_tests)) refl, refl),
+  )
 
   -- all rounds
   rounds : (n : ℕ) (rest : List ℕ) (last : Option ℕ) → suc n < 2 ^ 32 → RunsOk (2 * suc n) (loop (suc n) rest 0 last) (loop 0 rest 8 None)
   rounds zero rest last small = last_round rest last
   rounds (suc n) rest last small =
-    RunsOk-join 2 (2 * suc n) (2 * suc (suc n)) _ _ _ (omega arith) (round n rest last small) (rounds n rest None (omega arith))
+      RunsOk-join 2 (2 * suc n) (2 * suc (suc n)) _ _ _ (omega arith) (round n rest last small) (rounds n rest None (omega arith))
 
   counts_down : (registers : List ℕ) (last : Option ℕ) → 0 < slice_index registers 0 → slice_index registers 0 < 2 ^ 32
-    → (rest : List ℕ) × RunsOk (2 * slice_index registers 0) (at registers 0 last bytes writable) (loop 0 rest 8 None)
+      → (rest : List ℕ) × RunsOk (2 * slice_index registers 0) (at registers 0 last bytes writable) (loop 0 rest 8 None)
   counts_down (suc n ∷ rest) last some small = (rest, rounds n rest last small)
   counts_down _ last some small = absurd (omega (arith, some))
 

@@ -53,13 +53,27 @@ round : (o : Others) (x1 a m p x12 x13 x14 x15 : ℕ) (last : Option ℕ) (bytes
     → HoldsWords bytes p gcd_program → p % 4 ≡ 0 → p + 24 ≤ 2 ^ 32 → suc m < 2 ^ 32
     → RunsOk 5 (at (registers_by o x1 a (suc m) x12 x13 x14 x15) p last bytes writable) (at (registers_by o x1 (suc m) (a % suc m) x12 x13 x14 (a % suc m)) p None bytes writable)
 round o x1 a m p x12 x13 x14 x15 last bytes writable holds aligned fits small =
-    let r_small : a % suc m < 2 ^ 32 = omega arith in
-    (_, Programs.step-branches (p + 8) (not (suc m == 0)) (pos 8) (instruction holds aligned 0 (omega arith) (omega arith) bne_x11) refl (grind (arith, nat_tests)) (omega arith),
-    (_, Programs.step-writes (p + 12) 14 (a % suc m) (remu a (suc m)) (instruction holds aligned 2 (omega arith) (omega arith) remu_x15) refl (remainder a m small) (omega arith),
-    (_, Programs.step-writes (p + 16) 9 (suc m) (pos (suc m + 0)) (instruction holds aligned 3 (omega arith) (omega arith) mv_x10) refl (omega arith) (omega arith),
-    (_, Programs.step-writes (p + 20) 10 (a % suc m) (pos (a % suc m + 0)) (instruction holds aligned 4 (omega arith) (omega arith) mv_x11) refl (omega arith) (omega arith),
-    (_, Programs.step-jumps p 0 (word (pos (p + 20 + 4294967276))) (instruction holds aligned 5 (omega arith) (omega arith) jal_back) refl (omega arith),
-    refl)))))
+    let r_small : a % suc m < 2 ^ 32 = omega arith in (
+      _,
+      Programs.step-branches (p + 8) (not (suc m == 0)) (pos 8) (instruction holds aligned 0 (omega arith) (omega arith) bne_x11) refl (grind (arith, nat_tests)) (omega arith),
+      (
+        _,
+        Programs.step-writes (p + 12) 14 (a % suc m) (remu a (suc m)) (instruction holds aligned 2 (omega arith) (omega arith) remu_x15) refl (remainder a m small) (omega arith),
+        (
+          _,
+          Programs.step-writes (p + 16) 9 (suc m) (pos (suc m + 0)) (instruction holds aligned 3 (omega arith) (omega arith) mv_x10) refl (omega arith) (omega arith),
+          (
+            _,
+            Programs.step-writes (p + 20) 10 (a % suc m) (pos (a % suc m + 0)) (instruction holds aligned 4 (omega arith) (omega arith) mv_x11) refl (omega arith) (omega arith),
+            (
+              _,
+              Programs.step-jumps p 0 (word (pos (p + 20 + 4294967276))) (instruction holds aligned 5 (omega arith) (omega arith) jal_back) refl (omega arith),
+              refl,
+            ),
+          ),
+        ),
+      ),
+    )
 
 -- ---- all rounds
 
@@ -101,10 +115,15 @@ rounds (suc bound) (suc m) within o x1 a p x12 x13 x14 x15 last bytes writable h
 leaves : (o : Others) (x1 g p x12 x13 x14 x15 : ℕ) (last : Option ℕ) (bytes : ByteMap) (writable : ℕ → Bool)
     → HoldsWords bytes p gcd_program → p % 4 ≡ 0 → p + 24 ≤ 2 ^ 32 → x1 % 4 ≡ 0 → x1 < 2 ^ 32
     → RunsOk 2 (at (registers_by o x1 g 0 x12 x13 x14 x15) p last bytes writable) (at (registers_by o x1 g 0 x12 x13 x14 x15) x1 None bytes writable)
-leaves o x1 g p x12 x13 x14 x15 last bytes writable holds aligned fits return_aligned small =
-    (_, Programs.step-stays (p + 4) false (pos 8) {registers = registers_by o x1 g 0 x12 x13 x14 x15} (instruction holds aligned 0 (omega arith) (omega arith) bne_x11) refl refl (omega arith),
-    (_, Programs.step-jumps x1 0 (made_even (word (pos (x1 + 0)))) (instruction holds aligned 1 (omega arith) (omega arith) ret) refl (omega arith),
-    refl))
+leaves o x1 g p x12 x13 x14 x15 last bytes writable holds aligned fits return_aligned small = (
+  _,
+  Programs.step-stays (p + 4) false (pos 8) {registers = registers_by o x1 g 0 x12 x13 x14 x15} (instruction holds aligned 0 (omega arith) (omega arith) bne_x11) refl refl (omega arith),
+  (
+    _,
+    Programs.step-jumps x1 0 (made_even (word (pos (x1 + 0)))) (instruction holds aligned 1 (omega arith) (omega arith) ret) refl (omega arith),
+    refl,
+  ),
+)
 
 pub record Divides (s : State) : Type 0 where
   pub count : ℕ

@@ -43,14 +43,31 @@ jal_back = decodes _ _ _ refl
 round : (o : Others) (x1 a n sum x x13 x14 x15 : ℕ) (last : Option ℕ) (bytes : ByteMap) (writable : ℕ → Bool)
     → HoldsWords bytes 0 sum_loop_program → a % 4 ≡ 0 → a < 2 ^ 32 → suc n < 2 ^ 32 → little_endian bytes a 4 ≡ Some x
     → RunsOk 6 (at (registers_by o x1 a (suc n) sum x13 x14 x15) 4 last bytes writable) (at (registers_by o x1 (word (pos (a + 4))) n (word (pos (sum + word (pos x)))) (word (pos x)) x14 x15) 4 None bytes writable)
-round o x1 a n sum x x13 x14 x15 last bytes writable holds aligned small few read =
-    (_, Programs.step-stays 8 (suc n == 0) (pos 24) (fetches refl (holds.each 1 (omega arith)) beq_x11) refl (grind arith) refl,
-    (_, Programs.step-loads 12 4 pos a x (word (pos x)) (fetches refl (holds.each 2 (omega arith)) lw_x13) refl (omega arith) aligned read refl refl,
-    (_, Programs.step-writes 16 11 _ (pos (sum + word (pos x))) (fetches refl (holds.each 3 (omega arith)) add_x12) refl refl refl,
-    (_, Programs.step-writes 20 9 _ (pos (a + 4)) (fetches refl (holds.each 4 (omega arith)) addi_x10) refl refl refl,
-    (_, Programs.step-writes 24 10 n (pos (suc n + 4294967295)) (fetches refl (holds.each 5 (omega arith)) addi_x11) refl (omega arith) refl,
-    (_, Programs.step-jumps 4 0 4 (fetches refl (holds.each 6 (omega arith)) jal_back) refl refl,
-    refl))))))
+round o x1 a n sum x x13 x14 x15 last bytes writable holds aligned small few read = (
+  _,
+  Programs.step-stays 8 (suc n == 0) (pos 24) (fetches refl (holds.each 1 (omega arith)) beq_x11) refl (grind arith) refl,
+  (
+    _,
+    Programs.step-loads 12 4 pos a x (word (pos x)) (fetches refl (holds.each 2 (omega arith)) lw_x13) refl (omega arith) aligned read refl refl,
+    (
+      _,
+      Programs.step-writes 16 11 _ (pos (sum + word (pos x))) (fetches refl (holds.each 3 (omega arith)) add_x12) refl refl refl,
+      (
+        _,
+        Programs.step-writes 20 9 _ (pos (a + 4)) (fetches refl (holds.each 4 (omega arith)) addi_x10) refl refl refl,
+        (
+          _,
+          Programs.step-writes 24 10 n (pos (suc n + 4294967295)) (fetches refl (holds.each 5 (omega arith)) addi_x11) refl (omega arith) refl,
+          (
+            _,
+            Programs.step-jumps 4 0 4 (fetches refl (holds.each 6 (omega arith)) jal_back) refl refl,
+            refl,
+          ),
+        ),
+      ),
+    ),
+  ),
+)
 
 -- ---- all rounds
 

@@ -5,8 +5,8 @@ ghost use Rattle.rrs_lib.specs.Executor.{state_in};
 ghost use Rattle.rrs_lib.specs.Machine.{reg};
 ghost use Rattle.rrs_lib.specs.Bytes.{little_endian};
 
-use rrs_lib::instruction_executor::{InstructionExecutor, RunEnd};
 use rrs_lib::Memory;
+use rrs_lib::instruction_executor::{InstructionExecutor, RunEnd};
 
 /// Runs `addi x1, x1, -1` and `bne x1, x0, -4`, at 0 and 4, until x1 is 0.
 pub(crate) fn count_down<M: Memory>(executor: &mut InstructionExecutor<M>) -> RunEnd

@@ -56,8 +56,8 @@ read-apart bytes a n v b m (inr above) = read-kept bytes (store bytes a n v) a n
 pub outside_from_none : (a n b : ℕ) → ((i : ℕ) → i < n → a + i ≢ b) → Outside a n b
 outside_from_none a n b none =
     elim (cases_lt b a) [
-        inl below ↦ inl below
-        | inr from ↦ elim (cases_lt b (a + n)) [ inl to ↦ absurd (none (b - a) (omega arith) (omega arith)) | inr above ↦ inr above ]
+      | inl below ↦ inl below
+      | inr from ↦ elim (cases_lt b (a + n)) [ inl to ↦ absurd (none (b - a) (omega arith) (omega arith)) | inr above ↦ inr above ]
     ]
 
 -- what is read of a store, from its lowest byte on

@@ -90,7 +90,10 @@ fn adds_up_words(rt: HostRuntime) -> Result<(), Fail> {
     let mut hart = HartState::new();
     let end = add_up(&mut memory, &mut hart, 3);
     assert_eq!(rt; end.steps, 20);
-    assert_eq!(rt; end.exception, Some(InstructionException::IllegalInstruction(0x1c, 0)));
+    assert_eq!(rt;
+        end.exception,
+        Some(InstructionException::IllegalInstruction(0x1c, 0))
+    );
     assert_eq!(rt; hart.registers[12], 11);
     assert_eq!(rt; hart.pc, 0x1c);
     Ok(())
@@ -104,7 +107,10 @@ fn adds_up_words_of_a_space(rt: HostRuntime) -> Result<(), Fail> {
         let mut hart = HartState::new();
         let end = add_up(&mut space, &mut hart, 3);
         assert_eq!(rt; end.steps, 20);
-        assert_eq!(rt; end.exception, Some(InstructionException::IllegalInstruction(0x1c, 0)));
+        assert_eq!(rt;
+            end.exception,
+            Some(InstructionException::IllegalInstruction(0x1c, 0))
+        );
         assert_eq!(rt; hart.registers[12], 11);
     } else {
         assert!(rt; false, "no memory for the space");
@@ -119,7 +125,10 @@ fn adds_up_no_words(rt: HostRuntime) -> Result<(), Fail> {
     hart.registers[12] = 9;
     let end = add_up(&mut memory, &mut hart, 0);
     assert_eq!(rt; end.steps, 2);
-    assert_eq!(rt; end.exception, Some(InstructionException::IllegalInstruction(0x1c, 0)));
+    assert_eq!(rt;
+        end.exception,
+        Some(InstructionException::IllegalInstruction(0x1c, 0))
+    );
     assert_eq!(rt; hart.registers[12], 0);
     Ok(())
 }
@@ -141,7 +150,9 @@ fn adds_up_within_a_limit(rt: HostRuntime) -> Result<(), Fail> {
 fn words_of_gcd(alloc: Global) -> Result<VecMemory, AllocError>
     ensures { IfOk result (λ memory. memory.mem.items ≡ words_of_gcd) }
 {
-    let words = [0x00059463, 0x00008067, 0x02b577b3, 0x00058513, 0x00078593, 0xfedff06f, 0];
+    let words = [
+        0x00059463, 0x00008067, 0x02b577b3, 0x00058513, 0x00078593, 0xfedff06f, 0,
+    ];
     Ok(VecMemory::new(words.to_vec(alloc)?))
 }
 
@@ -160,11 +171,20 @@ fn divide<M: Memory>(mem: &mut M, hart_state: &mut HartState, a: u32, b: u32) ->
 
 #[test]
 fn divides(rt: HostRuntime) -> Result<(), Fail> {
-    for (a, b, divisor) in [(1071, 462, 21), (0, 5, 5), (5, 0, 5), (0, 0, 0), (0xffffffff, 1, 1)] {
+    for (a, b, divisor) in [
+        (1071, 462, 21),
+        (0, 5, 5),
+        (5, 0, 5),
+        (0, 0, 0),
+        (0xffffffff, 1, 1),
+    ] {
         let mut memory = words_of_gcd(rt.alloc())?;
         let mut hart = HartState::new();
         let end = divide(&mut memory, &mut hart, a, b);
-        assert_eq!(rt; end.exception, Some(InstructionException::IllegalInstruction(24, 0)));
+        assert_eq!(rt;
+            end.exception,
+            Some(InstructionException::IllegalInstruction(24, 0))
+        );
         assert_eq!(rt; hart.registers[10], divisor, "of {a} and {b}");
     }
     Ok(())
@@ -204,7 +224,10 @@ fn copies_words(rt: HostRuntime) -> Result<(), Fail> {
     let mut hart = HartState::new();
     let end = copy(&mut memory, &mut hart, 2);
     assert_eq!(rt; end.steps, 14);
-    assert_eq!(rt; end.exception, Some(InstructionException::IllegalInstruction(36, 0)));
+    assert_eq!(rt;
+        end.exception,
+        Some(InstructionException::IllegalInstruction(36, 0))
+    );
     let expected = [0, 5, 7, 0xffffffff, 5, 7, 9];
     for (word, wanted) in memory.mem.iter().skip(9).zip(expected) {
         assert_eq!(rt; *word, wanted);
@@ -230,11 +253,18 @@ fn copies_many_words(rt: HostRuntime) -> Result<(), Fail> {
         let mut hart = called(0, 36, 440, 40, count);
         let end = run_over(&mut memory, &mut hart, 5 * u64::from(count) + 5);
         assert_eq!(rt; end.steps, steps);
-        assert_eq!(rt; end.exception, Some(InstructionException::IllegalInstruction(36, 0)));
+        assert_eq!(rt;
+            end.exception,
+            Some(InstructionException::IllegalInstruction(36, 0))
+        );
         for (i, word) in memory.mem.iter().enumerate() {
             if i >= 110 {
                 let copied = i < 110 + count as usize;
-                let expected = if copied { 0xffffff00 + (i - 110) as u32 } else { 7 };
+                let expected = if copied {
+                    0xffffff00 + (i - 110) as u32
+                } else {
+                    7
+                };
                 assert_eq!(rt; *word, expected, "word {i}");
             }
         }
