@@ -1,5 +1,5 @@
 -- The program that copies words, as a run.
-use Rattle.std.proofs.Common.{rules, ◌≡◌, ◌≢◌, ◌⊎◌, ℕ, zero, suc, ◌+◌, ◌*◌, ◌%◌, ◌^◌, ◌<◌, ◌≤◌, ◌==◌, List, length, slice_index, pos, neg_ℤ, not, Bool, true, false, Option, Some, None, IsSome, IsTrue, Ok, Err, inl, inr, refl, sym, ap, subst, ◌∙◌, arith}
+use Rattle.std.proofs.Common.{◌≡◌, ◌≢◌, ◌⊎◌, ℕ, zero, suc, ◌+◌, ◌*◌, ◌%◌, ◌^◌, ◌<◌, ◌≤◌, ◌==◌, List, length, pos, neg_ℤ, not, Bool, true, Option, Some, None, IsSome, IsTrue, Ok, inl, inr, refl, sym, ap, subst, ◌∙◌, arith}
 use Rattle.std.proofs.lemmas.Option.{same_Some}
 use Rattle.std.proofs.lemmas.Bool.Decides.{nat_tests}
 use Rattle.rrs_lib.specs.declared.instruction_executor.InstructionException.{InstructionException}
@@ -13,8 +13,8 @@ use Rattle.rrs_lib.proofs.Examples.{of_R, of_I, of_IShamt, of_S, of_B}
 use Rattle.rrs_lib.proofs.Decoder.{decodes}
 use Rattle.rrs_lib.proofs.Programs
 use Rattle.rrs_lib.proofs.Programs.{at, Others, registers_by}
-use Rattle.rrs_lib.proofs.Accesses.{Outside, outside_from_none, read-stored, read-kept, store-outside, write-allowed}
-use Rattle.rrs_extra.specs.Programs.{HoldsWords, IsCalled, IsMapped, IsWritable, AreApart, CopyWordsStarts, CopiesWords, copy_steps, word_at, copy_words_program}
+use Rattle.rrs_lib.proofs.Accesses.{outside_from_none, read-stored, read-kept, store-outside, write-allowed}
+use Rattle.rrs_extra.specs.Programs.{HoldsWords, IsMapped, IsWritable, AreApart, CopyWordsStarts, CopiesWords, copy_steps, word_at, copy_words_program}
 use Rattle.rrs_extra.proofs.Words.{word_read, instruction, read_after, holds_after}
 
 -- ---- the words

@@ -1,10 +1,9 @@
 -- The program that adds up words, as a run.
-use Rattle.std.proofs.Common.{rules, ◌≡◌, ◌⊎◌, ℕ, zero, suc, ◌+◌, ◌*◌, ◌%◌, ◌^◌, ◌<◌, ◌≤◌, ◌==◌, List, ◌∷◌, length, slice_index, ℤ, pos, neg_ℤ, Bool, true, false, Option, Some, None, IsSome, Ok, Err, refl, sym, ap, subst, ◌∙◌, arith}
+use Rattle.std.proofs.Common.{◌≡◌, ℕ, zero, suc, ◌+◌, ◌*◌, ◌%◌, ◌^◌, ◌<◌, ◌≤◌, ◌==◌, length, pos, neg_ℤ, Bool, true, Option, Some, None, IsSome, refl, sym, ap, subst, ◌∙◌, arith}
 use Rattle.rrs_lib.specs.declared.instruction_executor.InstructionException.{InstructionException}
 use Rattle.rrs_lib.specs.declared.instruction_executor.InstructionException.TheVariants.{IllegalInstruction}
 use Rattle.rrs_lib.specs.Words.{word}
-use Rattle.rrs_lib.specs.Encodings.{Fields}
-use Rattle.rrs_lib.specs.Table.{Row, Decodes, IsIllegal}
+use Rattle.rrs_lib.specs.Table.{Row, Decodes}
 use Rattle.rrs_lib.specs.Bytes.{ByteMap, little_endian}
 use Rattle.rrs_lib.specs.Machine.{State, reg}
 use Rattle.rrs_lib.specs.Steps.{RunsOk, RunUntil, IsOnlyRunUntil}
@@ -12,7 +11,7 @@ use Rattle.rrs_lib.proofs.Examples.{of_R, of_I, of_B, of_J}
 use Rattle.rrs_lib.proofs.Decoder.{decodes}
 use Rattle.rrs_lib.proofs.Programs
 use Rattle.rrs_lib.proofs.Programs.{at, Fetches, fetches, Others, registers_by}
-use Rattle.rrs_extra.specs.Programs.{HoldsWords, HoldsIllegal, IsMapped, word_at, sum_of_words, sum_loop_program, SumLoopStarts}
+use Rattle.rrs_extra.specs.Programs.{HoldsWords, IsMapped, word_at, sum_of_words, sum_loop_program, SumLoopStarts}
 use Rattle.rrs_extra.proofs.Words.{word_read}
 
 -- ---- the words
