@@ -1,5 +1,5 @@
 -- The program that copies words, as a run.
-use Rattle.std.proofs.Common.{rules, ◌≡◌, ◌≢◌, ◌⊎◌, ℕ, zero, suc, ◌+◌, ◌*◌, ◌%◌, ◌^◌, ◌<◌, ◌≤◌, ◌==◌, List, length, slice_index, pos, neg_ℤ, not, Bool, true, false, Option, Some, None, IsSome, IsTrue, Ok, Err, inl, inr, refl, sym, ap, subst, ◌∙◌, arith}
+use Rattle.std.proofs.Common.{◌≡◌, ◌≢◌, ◌⊎◌, ℕ, zero, suc, ◌+◌, ◌*◌, ◌%◌, ◌^◌, ◌<◌, ◌≤◌, ◌==◌, List, length, pos, neg_ℤ, not, Bool, true, Option, Some, None, IsSome, IsTrue, Ok, inl, inr, refl, sym, ap, subst, ◌∙◌, arith}
 use Rattle.std.proofs.lemmas.Option.{same_Some}
 use Rattle.std.proofs.lemmas.Bool.Decides.{nat_tests}
 use Rattle.rrs_lib.specs.declared.instruction_executor.InstructionException.{InstructionException}
@@ -10,40 +10,41 @@ use Rattle.rrs_lib.specs.Bytes.{ByteMap, little_endian, all_writable, store}
 use Rattle.rrs_lib.specs.Machine.{State, reg, made_even}
 use Rattle.rrs_lib.specs.Steps.{Step, RunsOk, RunUntil, IsOnlyRunUntil}
 use Rattle.rrs_lib.proofs.Examples.{of_R, of_I, of_IShamt, of_S, of_B}
+use Rattle.rrs_lib.proofs.Decoder.{decodes}
 use Rattle.rrs_lib.proofs.Programs
 use Rattle.rrs_lib.proofs.Programs.{at, Others, registers_by}
-use Rattle.rrs_lib.proofs.Accesses.{Outside, outside_from_none, read-stored, read-kept, store-outside, write-allowed}
-use Rattle.rrs_extra.specs.Programs.{HoldsWords, IsCalled, IsMapped, IsWritable, AreApart, CopyWordsStarts, CopiesWords, copy_steps, word_at, copy_words_program}
+use Rattle.rrs_lib.proofs.Accesses.{outside_from_none, read-stored, read-kept, store-outside, write-allowed}
+use Rattle.rrs_extra.specs.Programs.{HoldsWords, IsMapped, IsWritable, AreApart, CopyWordsStarts, CopiesWords, copy_steps, word_at, copy_words_program}
 use Rattle.rrs_extra.proofs.Words.{word_read, instruction, read_after, holds_after}
 
 -- ---- the words
 
 beq_x12 : Decodes 0x02060063 Row.Beq (of_B (pos 32) 0 12 0)
-beq_x12 = record { format = refl; in_range = search rules; functs = refl; encoded = refl }
+beq_x12 = decodes _ _ _ refl
 
 slli_x12 : Decodes 0x00261613 Row.Slli (of_IShamt 0 2 12 1 12)
-slli_x12 = record { format = refl; in_range = search rules; functs = (refl, tt); encoded = refl }
+slli_x12 = decodes _ _ _ refl
 
 add_x14 : Decodes 0x00c58733 Row.Add (of_R 0 12 11 0 14)
-add_x14 = record { format = refl; in_range = search rules; functs = (refl, refl); encoded = refl }
+add_x14 = decodes _ _ _ refl
 
 lw_x15 : Decodes 0x0005a783 Row.Lw (of_I (pos 0) 11 2 15)
-lw_x15 = record { format = refl; in_range = search rules; functs = refl; encoded = refl }
+lw_x15 = decodes _ _ _ refl
 
 addi_x11 : Decodes 0x00458593 Row.Addi (of_I (pos 4) 11 0 11)
-addi_x11 = record { format = refl; in_range = search rules; functs = refl; encoded = refl }
+addi_x11 = decodes _ _ _ refl
 
 addi_x10 : Decodes 0x00450513 Row.Addi (of_I (pos 4) 10 0 10)
-addi_x10 = record { format = refl; in_range = search rules; functs = refl; encoded = refl }
+addi_x10 = decodes _ _ _ refl
 
 sw_x15 : Decodes 0xfef52e23 Row.Sw (of_S (neg_ℤ (pos 4)) 15 10 2)
-sw_x15 = record { format = refl; in_range = search rules; functs = refl; encoded = refl }
+sw_x15 = decodes _ _ _ refl
 
 bne_x11 : Decodes 0xfee598e3 Row.Bne (of_B (neg_ℤ (pos 16)) 14 11 1)
-bne_x11 = record { format = refl; in_range = search rules; functs = refl; encoded = refl }
+bne_x11 = decodes _ _ _ refl
 
 ret : Decodes 0x00008067 Row.Jalr (of_I (pos 0) 1 0 0)
-ret = record { format = refl; in_range = search rules; functs = tt; encoded = refl }
+ret = decodes _ _ _ refl
 
 -- ---- one round
 
@@ -215,7 +216,7 @@ rounds (suc n) o x1 to from x12 x13 x14 x15 p last bytes writable ready end =
       x15_after = rest.x15_after;
       bytes_after = rest.bytes_after;
       copies = copies_more bytes rest.bytes_after to from (suc n) v read ready.apart_source rest.copies;
-      runs = Programs.RunsOk-as (5 + 5 * suc n) (5 * suc (suc n)) _ _ (omega arith) (Programs.RunsOk-append 5 (5 * suc n) _ _ _ one rest.runs);
+      runs = Programs.RunsOk-join 5 (5 * suc n) (5 * suc (suc n)) _ _ _ (omega arith) one rest.runs;
     }
 
 -- ---- the run
@@ -270,7 +271,7 @@ calls (suc m) o x1 to from x13 x14 x15 p last bytes writable ready return_aligne
       registers_after = _;
       bytes_after = all.bytes_after;
       copies = all.copies;
-      runs = Programs.RunsOk-as (3 + (5 * suc m + 1)) (5 * suc m + 4) _ _ (omega arith) (Programs.RunsOk-append 3 (5 * suc m + 1) _ _ _ three (Programs.RunsOk-append (5 * suc m) 1 _ _ _ all.runs (Programs.RunsOk-one _ _ out)));
+      runs = Programs.RunsOk-join 3 (5 * suc m + 1) (5 * suc m + 4) _ _ _ (omega arith) three (Programs.RunsOk-append (5 * suc m) 1 _ _ _ all.runs (Programs.RunsOk-one _ _ out));
     }
 
 pub record Copies (s : State) : Type 0 where
@@ -306,9 +307,8 @@ copies_from o x1 to from n p x13 x14 x15 last bytes writable starts small =
 
 copies : (s : State) → 15 ≤ length s.registers → CopyWordsStarts s → reg s 1 < 2 ^ 32 → Copies s
 copies s long starts small =
-    let r = Programs.opened s.registers long in
-    let same : s ≡ at (registers_by r.others (reg s 1) (reg s 10) (reg s 11) (reg s 12) r.x13 r.x14 r.x15) s.pc s.last s.bytes s.writable = λ i. at (r.same i) s.pc s.last s.bytes s.writable in
-    subst Copies (sym same) (copies_from r.others (reg s 1) (reg s 10) (reg s 11) (reg s 12) s.pc r.x13 r.x14 r.x15 s.last s.bytes s.writable (subst CopyWordsStarts same starts) small)
+    let open_s = Programs.opened s long in
+    subst Copies (sym open_s.same) (copies_from open_s.others (reg s 1) (reg s 10) (reg s 11) (reg s 12) s.pc (reg s 13) (reg s 14) (reg s 15) s.last s.bytes s.writable (subst CopyWordsStarts open_s.same starts) small)
 
 -- what a call of `run` returned
 pub record Copied (s : State) (steps : ℕ) (e : Option InstructionException) (t : State) : Type 0 where

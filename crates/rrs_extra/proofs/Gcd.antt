@@ -1,5 +1,5 @@
 -- The program of the greatest common divisor, as a run.
-use Rattle.std.proofs.Common.{rules, ◌≡◌, ℕ, zero, suc, ◌+◌, ◌*◌, ◌%◌, ◌^◌, ◌<◌, ◌≤◌, ◌==◌, List, length, slice_index, pos, neg_ℤ, not, Bool, true, false, Option, Some, None, Ok, Err, refl, sym, ap, subst, ◌∙◌, arith}
+use Rattle.std.proofs.Common.{◌≡◌, ℕ, zero, suc, ◌+◌, ◌*◌, ◌%◌, ◌^◌, ◌<◌, ◌≤◌, ◌==◌, length, pos, neg_ℤ, not, Bool, false, Option, Some, None, refl, sym, ap, subst, ◌∙◌, arith}
 use Rattle.std.specs.Int.{IsGcd}
 use Rattle.std.proofs.lemmas.Nat.Gcd.{IsGcd-from_zero, IsGcd-from_mod}
 use Rattle.std.proofs.lemmas.Bool.{cond-false}
@@ -13,6 +13,7 @@ use Rattle.rrs_lib.specs.Results.{remu}
 use Rattle.rrs_lib.specs.Machine.{State, reg, made_even}
 use Rattle.rrs_lib.specs.Steps.{RunsOk, RunUntil, IsOnlyRunUntil}
 use Rattle.rrs_lib.proofs.Examples.{of_R, of_I, of_B, of_J}
+use Rattle.rrs_lib.proofs.Decoder.{decodes}
 use Rattle.rrs_lib.proofs.Programs
 use Rattle.rrs_lib.proofs.Programs.{at, Others, registers_by}
 use Rattle.rrs_extra.specs.Programs.{HoldsWords, IsCalled, HasWords, word_at, gcd_program}
@@ -21,22 +22,22 @@ use Rattle.rrs_extra.proofs.Words.{word_read, instruction}
 -- ---- the words
 
 bne_x11 : Decodes 0x00059463 Row.Bne (of_B (pos 8) 0 11 1)
-bne_x11 = record { format = refl; in_range = search rules; functs = refl; encoded = refl }
+bne_x11 = decodes _ _ _ refl
 
 ret : Decodes 0x00008067 Row.Jalr (of_I (pos 0) 1 0 0)
-ret = record { format = refl; in_range = search rules; functs = tt; encoded = refl }
+ret = decodes _ _ _ refl
 
 remu_x15 : Decodes 0x02b577b3 Row.Remu (of_R 1 11 10 7 15)
-remu_x15 = record { format = refl; in_range = search rules; functs = (refl, refl); encoded = refl }
+remu_x15 = decodes _ _ _ refl
 
 mv_x10 : Decodes 0x00058513 Row.Addi (of_I (pos 0) 11 0 10)
-mv_x10 = record { format = refl; in_range = search rules; functs = refl; encoded = refl }
+mv_x10 = decodes _ _ _ refl
 
 mv_x11 : Decodes 0x00078593 Row.Addi (of_I (pos 0) 15 0 11)
-mv_x11 = record { format = refl; in_range = search rules; functs = refl; encoded = refl }
+mv_x11 = decodes _ _ _ refl
 
 jal_back : Decodes 0xfedff06f Row.Jal (of_J (neg_ℤ (pos 20)) 0)
-jal_back = record { format = refl; in_range = search rules; functs = tt; encoded = refl }
+jal_back = decodes _ _ _ refl
 
 -- ---- one round
 
@@ -105,7 +106,7 @@ rounds (suc bound) (suc m) within o x1 a p x12 x13 x14 x15 last bytes writable h
       is_gcd = IsGcd-from_mod a (suc m) rest.divisor rest.is_gcd;
       value = rest.value;
       last_after = rest.last_after;
-      runs = Programs.RunsOk-as (5 + 5 * rest.count) (5 * suc rest.count) _ _ (omega arith) (Programs.RunsOk-append 5 (5 * rest.count) _ _ _ one rest.runs);
+      runs = Programs.RunsOk-join 5 (5 * rest.count) (5 * suc rest.count) _ _ _ (omega arith) one rest.runs;
     }
 
 -- ---- the run
@@ -151,9 +152,8 @@ divides_from o x1 a b p x12 x13 x14 x15 last bytes writable called words =
 
 divides : (s : State) → 15 ≤ length s.registers → IsCalled gcd_program s → HasWords s → Divides s
 divides s long called words =
-    let r = Programs.opened s.registers long in
-    let same : s ≡ at (registers_by r.others (reg s 1) (reg s 10) (reg s 11) (reg s 12) r.x13 r.x14 r.x15) s.pc s.last s.bytes s.writable = λ i. at (r.same i) s.pc s.last s.bytes s.writable in
-    subst Divides (sym same) (divides_from r.others (reg s 1) (reg s 10) (reg s 11) s.pc (reg s 12) r.x13 r.x14 r.x15 s.last s.bytes s.writable (subst (IsCalled gcd_program) same called) words)
+    let open_s = Programs.opened s long in
+    subst Divides (sym open_s.same) (divides_from open_s.others (reg s 1) (reg s 10) (reg s 11) s.pc (reg s 12) (reg s 13) (reg s 14) (reg s 15) s.last s.bytes s.writable (subst (IsCalled gcd_program) open_s.same called) words)
 
 -- what a call of `run` returned
 pub record Divided (s : State) (steps : ℕ) (e : Option InstructionException) (t : State) : Type 0 where

@@ -5,6 +5,7 @@ pub mod Faithful
 pub mod SameWords
 pub mod ExampleShowing
 pub mod CopyWords
+pub mod CountDown
 pub mod Gcd
 pub mod ProgramExamples
 pub mod SumLoop

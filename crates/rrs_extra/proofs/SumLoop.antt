@@ -1,41 +1,41 @@
 -- The program that adds up words, as a run.
-use Rattle.std.proofs.Common.{rules, ◌≡◌, ◌⊎◌, ℕ, zero, suc, ◌+◌, ◌*◌, ◌%◌, ◌^◌, ◌<◌, ◌≤◌, ◌==◌, List, ◌∷◌, length, slice_index, ℤ, pos, neg_ℤ, Bool, true, false, Option, Some, None, IsSome, Ok, Err, refl, sym, ap, subst, ◌∙◌, arith}
+use Rattle.std.proofs.Common.{◌≡◌, ℕ, zero, suc, ◌+◌, ◌*◌, ◌%◌, ◌^◌, ◌<◌, ◌≤◌, ◌==◌, length, pos, neg_ℤ, Bool, true, Option, Some, None, IsSome, refl, sym, ap, subst, ◌∙◌, arith}
 use Rattle.rrs_lib.specs.declared.instruction_executor.InstructionException.{InstructionException}
 use Rattle.rrs_lib.specs.declared.instruction_executor.InstructionException.TheVariants.{IllegalInstruction}
 use Rattle.rrs_lib.specs.Words.{word}
-use Rattle.rrs_lib.specs.Encodings.{Fields}
-use Rattle.rrs_lib.specs.Table.{Row, Decodes, IsIllegal}
+use Rattle.rrs_lib.specs.Table.{Row, Decodes}
 use Rattle.rrs_lib.specs.Bytes.{ByteMap, little_endian}
 use Rattle.rrs_lib.specs.Machine.{State, reg}
 use Rattle.rrs_lib.specs.Steps.{RunsOk, RunUntil, IsOnlyRunUntil}
 use Rattle.rrs_lib.proofs.Examples.{of_R, of_I, of_B, of_J}
+use Rattle.rrs_lib.proofs.Decoder.{decodes}
 use Rattle.rrs_lib.proofs.Programs
 use Rattle.rrs_lib.proofs.Programs.{at, Fetches, fetches, Others, registers_by}
-use Rattle.rrs_extra.specs.Programs.{HoldsWords, HoldsIllegal, IsMapped, word_at, sum_of_words, sum_loop_program, SumLoopStarts}
+use Rattle.rrs_extra.specs.Programs.{HoldsWords, IsMapped, word_at, sum_of_words, sum_loop_program, SumLoopStarts}
 use Rattle.rrs_extra.proofs.Words.{word_read}
 
 -- ---- the words
 
 li_x12 : Decodes 0x00000613 Row.Addi (of_I (pos 0) 0 0 12)
-li_x12 = record { format = refl; in_range = search rules; functs = refl; encoded = refl }
+li_x12 = decodes _ _ _ refl
 
 beq_x11 : Decodes 0x00058c63 Row.Beq (of_B (pos 24) 0 11 0)
-beq_x11 = record { format = refl; in_range = search rules; functs = refl; encoded = refl }
+beq_x11 = decodes _ _ _ refl
 
 lw_x13 : Decodes 0x00052683 Row.Lw (of_I (pos 0) 10 2 13)
-lw_x13 = record { format = refl; in_range = search rules; functs = refl; encoded = refl }
+lw_x13 = decodes _ _ _ refl
 
 add_x12 : Decodes 0x00d60633 Row.Add (of_R 0 13 12 0 12)
-add_x12 = record { format = refl; in_range = search rules; functs = (refl, refl); encoded = refl }
+add_x12 = decodes _ _ _ refl
 
 addi_x10 : Decodes 0x00450513 Row.Addi (of_I (pos 4) 10 0 10)
-addi_x10 = record { format = refl; in_range = search rules; functs = refl; encoded = refl }
+addi_x10 = decodes _ _ _ refl
 
 addi_x11 : Decodes 0xfff58593 Row.Addi (of_I (neg_ℤ (pos 1)) 11 0 11)
-addi_x11 = record { format = refl; in_range = search rules; functs = refl; encoded = refl }
+addi_x11 = decodes _ _ _ refl
 
 jal_back : Decodes 0xfedff06f Row.Jal (of_J (neg_ℤ (pos 20)) 0)
-jal_back = record { format = refl; in_range = search rules; functs = tt; encoded = refl }
+jal_back = decodes _ _ _ refl
 
 -- ---- one round
 
@@ -106,7 +106,7 @@ rounds (suc n) o x1 a sum total x13 x14 x15 last bytes writable holds aligned fi
     ap (λ y. (word (pos (sum + word (pos x))) + y) % 2 ^ 32) (next_words bytes a n fits) ∙ same_sum sum x (sum_of_words bytes (a + 4) n) ∙ is in
     let others = rounds n o x1 (word (pos (a + 4))) (word (pos (sum + word (pos x)))) total (word (pos x)) x14 x15 None bytes writable holds (omega arith) (omega arith) (next_mapped bytes a n fits mapped) (omega arith) total_is in
     let one = round o x1 a n sum x x13 x14 x15 last bytes writable holds aligned (omega arith) (omega arith) read in
-    record { end = others.end; value = others.value; runs = Programs.RunsOk-as _ _ _ _ (omega arith) (Programs.RunsOk-append 6 (6 * n + 1) _ _ _ one others.runs) }
+    record { end = others.end; value = others.value; runs = Programs.RunsOk-join 6 (6 * n + 1) (6 * suc n + 1) _ _ _ (omega arith) one others.runs }
 
 -- ---- the run
 
@@ -126,9 +126,10 @@ sums_from o x1 a n x12 x13 x14 x15 last bytes writable starts =
 
 pub sums : (s : State) → 15 ≤ length s.registers → SumLoopStarts s → Sums s
 sums s long starts =
-    let r = Programs.opened s.registers long in
-    let same : s ≡ at (registers_by r.others (slice_index s.registers 0) (reg s 10) (reg s 11) (reg s 12) r.x13 r.x14 r.x15) 0 s.last s.bytes s.writable = λ i. at (r.same i) (starts.pc i) s.last s.bytes s.writable in
-    subst Sums (sym same) (sums_from r.others (slice_index s.registers 0) (reg s 10) (reg s 11) (reg s 12) r.x13 r.x14 r.x15 s.last s.bytes s.writable (subst SumLoopStarts same starts))
+    let open_s = Programs.opened s long in
+    let same : s ≡ at (registers_by open_s.others (reg s 1) (reg s 10) (reg s 11) (reg s 12) (reg s 13) (reg s 14) (reg s 15)) 0 s.last s.bytes s.writable =
+    open_s.same ∙ Programs.at_pc _ 0 starts.pc in
+    subst Sums (sym same) (sums_from open_s.others (reg s 1) (reg s 10) (reg s 11) (reg s 12) (reg s 13) (reg s 14) (reg s 15) s.last s.bytes s.writable (subst SumLoopStarts same starts))
 
 -- what a call of `run` returned
 pub record Summed (s : State) (steps : ℕ) (e : Option InstructionException) (t : State) : Type 0 where

@@ -17,7 +17,9 @@ words_to_add = words_of_program ++ three_words
 -- eight words at 0, and three at 0x20
 abbrev pub two_regions : VecMemory → VecMemory → List (Region VecMemory)
 two_regions low high =
-    record { base = 0; size = 0x20; memory = low } ∷ record { base = 0x20; size = 12; memory = high } ∷ []
+    record { base = 0; size = 0x20; memory = low }
+    ∷ record { base = 0x20; size = 12; memory = high }
+    ∷ []
 
 abbrev pub words_of_gcd : List ℕ
 words_of_gcd = gcd_program ++ 0 ∷ []

@@ -1,4 +1,6 @@
--- What is said of three programs: the words of each, what holds when one is called, and what it computes from the memory.
+-- What is said of three programs: the words of each, what holds when one is called, and what it
+-- computes from the memory. Registers go by their numbers: x1 has the address to return to, and
+-- x10, x11 and x12 the arguments, as the C calling convention has it.
 use Rattle.std.specs.Prelude.{◌≡◌, ◌≢◌, ◌⊎◌, ℕ, zero, suc, ◌+◌, ◌*◌, ◌%◌, ◌^◌, ◌<◌, ◌≤◌, List, [], ◌∷◌, length, slice_index, Bool, Option, Some, None, IsSome, IsTrue}
 use Rattle.rrs_lib.specs.Table.{IsIllegal}
 use Rattle.rrs_lib.specs.Bytes.{ByteMap, little_endian}
@@ -18,6 +20,7 @@ IsWritable writable a n = (i : ℕ) → i < n → IsTrue (writable (a + i))
 abbrev pub AreApart : ℕ → ℕ → ℕ → ℕ → Type 0
 AreApart a m b n = (i j : ℕ) → i < m → j < n → a + i ≢ b + j
 
+-- a number, or 0 where there is none
 abbrev pub or_zero : Option ℕ → ℕ
 or_zero None = 0
 or_zero (Some x) = x
@@ -28,20 +31,21 @@ word_at bytes a = or_zero (little_endian bytes a 4)
 
 -- the words stand one after another from a on
 pub record HoldsWords (bytes : ByteMap) (a : ℕ) (words : List ℕ) : Type 0 where
-  pub each : (i : ℕ) → i < length words → little_endian bytes (a + 4 * i) 4 ≡ Some (slice_index words i)
+  pub each : (i : ℕ) → i < length words
+      → little_endian bytes (a + 4 * i) 4 ≡ Some (slice_index words i)
 
--- a word outside the table stands at a
+-- a word outside the table stands at a: a step there faults
 pub record HoldsIllegal (bytes : ByteMap) (a : ℕ) : Type 0 where
   pub mapped : IsMapped bytes a 4
   pub outside : IsIllegal (word_at bytes a)
 
 -- ---- the registers of a call
 
--- registers 1, 10 and 11, which have the address to return to and the first arguments, hold words
+-- registers 1, 10 and 11 hold words
 abbrev pub HasWords : State → Type 0
 HasWords s = (reg s 1 < 2 ^ 32) × (reg s 10 < 2 ^ 32) × (reg s 11 < 2 ^ 32)
 
--- The program stands from the program counter on, and register 1 has the address to return to, where a word outside the table stands.
+-- The program stands from the program counter on, and a word outside the table where it returns to.
 pub record IsCalled (program : List ℕ) (s : State) : Type 0 where
   pub program_there : HoldsWords s.bytes s.pc program
   pub aligned : s.pc % 4 ≡ 0
@@ -56,6 +60,7 @@ abbrev pub sum_of_words : ByteMap → ℕ → ℕ → ℕ
 sum_of_words bytes a zero = 0
 sum_of_words bytes a (suc n) = word_at bytes a + sum_of_words bytes (a + 4) n
 
+-- the words of the program
 abbrev pub sum_loop_program : List ℕ
 sum_loop_program =
     0x00000613  -- addi x12, x0, 0
@@ -67,7 +72,8 @@ sum_loop_program =
     ∷ 0xfedff06f  -- jal x0, 20 bytes back
     ∷ []
 
--- The program is at 0, and a word outside the table behind it; x10 has the address of as many words as x11 says.
+-- The program is at 0, and a word outside the table behind it; x10 has the address of as many
+-- words as x11 says.
 pub record SumLoopStarts (s : State) : Type 0 where
   pub pc : s.pc ≡ 0
   pub program : HoldsWords s.bytes 0 sum_loop_program
@@ -79,6 +85,7 @@ pub record SumLoopStarts (s : State) : Type 0 where
 
 -- ---- the greatest common divisor, as C calls it
 
+-- the words of the program
 abbrev pub gcd_program : List ℕ
 gcd_program =
     0x00059463  -- bne x11, x0, 8 bytes on
@@ -91,6 +98,7 @@ gcd_program =
 
 -- ---- the copy of words, as C calls it
 
+-- the words of the program
 abbrev pub copy_words_program : List ℕ
 copy_words_program =
     0x02060063  -- beq x12, x0, 32 bytes on
@@ -104,8 +112,8 @@ copy_words_program =
     ∷ 0x00008067  -- jalr x0, 0(x1)
     ∷ []
 
--- x10 has the address of n words to write, x11 of n to read, and x12 has n. The program, the word to return to and the words to read stand apart
--- from those to write.
+-- x10 has the address of n words to write, x11 of n words to read, and x12 has n. The program, the
+-- word at the address to return to and the words to read stand apart from those to write.
 pub record CopyWordsStarts (s : State) : Type 0 where
   pub called : IsCalled copy_words_program s
   pub to_aligned : reg s 10 % 4 ≡ 0
@@ -118,12 +126,14 @@ pub record CopyWordsStarts (s : State) : Type 0 where
   pub apart_from_program : AreApart (reg s 10) (4 * reg s 12) s.pc 36
   pub apart_from_return : AreApart (reg s 10) (4 * reg s 12) (reg s 1) 4
 
--- The n words that stood from one address on stand from another one on; all other bytes are as before.
+-- Each of the n words, a number below 2 ^ 32, that stood from one address on stands from another
+-- one on; all other bytes are as before.
 pub record CopiesWords (old new : ByteMap) (to from n : ℕ) : Type 0 where
-  pub words : (i x : ℕ) → i < n → x < 2 ^ 32 → little_endian old (from + 4 * i) 4 ≡ Some x → little_endian new (to + 4 * i) 4 ≡ Some x
+  pub words : (i x : ℕ) → i < n → x < 2 ^ 32
+      → little_endian old (from + 4 * i) 4 ≡ Some x → little_endian new (to + 4 * i) 4 ≡ Some x
   pub others : (a : ℕ) → (a < to) ⊎ (to + 4 * n ≤ a) → new a ≡ old a
 
--- the steps of a copy of n words
+-- how many steps a copy of n words takes until it has returned
 abbrev pub copy_steps : ℕ → ℕ
 copy_steps zero = 2
 copy_steps (suc n) = 5 * suc n + 4

@@ -1,5 +1,8 @@
-//! Laws over several calls of the kit, and theorems about programs: what a function `requires` has
-//! to hold before, and what it `ensures` is how what its calls return is related.
+//! Laws over several calls of the kit, and theorems about programs, as calls.
+//!
+//! What each call requires is what has to hold before, and what it ensures is how what its calls
+//! return is related, or what the machine does. The proofs use the contracts and definitions of
+//! `rrs_lib` alone.
 
 mod independence;
 mod programs;

@@ -222,6 +222,8 @@ mod call_counter;
 #[cfg(test)]
 mod coverage;
 #[cfg(test)]
+mod count_down;
+#[cfg(test)]
 mod output_port;
 #[cfg(test)]
 mod tests;

@@ -1,8 +1,15 @@
--- For proofs of programs: what reads give, also after writes.
-use Rattle.std.proofs.Common.{◌≡◌, ◌≢◌, ◌⊎◌, ℕ, zero, suc, ◌+◌, ◌-◌, ◌*◌, ◌/◌, ◌%◌, ◌^◌, ◌<◌, ◌≤◌, Bool, true, false, ◌&&◌, Option, Some, None, IsSome, IsTrue, inl, inr, refl, sym, ap, subst, ◌∙◌, arith}
-use Rattle.std.proofs.Math.Nat.{mod-one, add-zero}
-use Rattle.std.proofs.lemmas.Bool.{and_from, cases_lt}
+-- For proofs of programs: what reads give, also after writes, and which instructions change no memory.
+use Rattle.std.proofs.Common.{◌≡◌, ◌≢◌, ◌⊎◌, ℕ, zero, suc, ◌+◌, ◌-◌, ◌/◌, ◌%◌, ◌^◌, ◌<◌, ◌≤◌, Bool, true, false, ◌==◌, ℤ, pos, Ok, Err, Option, Some, None, IsSome, IsTrue, inl, inr, refl, sym, ap, subst, ◌∙◌, arith}
+use Rattle.std.proofs.Math.Nat.{mod-one}
+use Rattle.std.proofs.lemmas.Bool.{and_from, cases_lt, cond_both}
 use Rattle.rrs_lib.specs.Bytes.{ByteMap, little_endian, all_writable, store, sum_if_both, at_place}
+use Rattle.rrs_lib.specs.declared.instruction_executor.InstructionException.{InstructionException}
+use Rattle.rrs_lib.specs.declared.instruction_executor.InstructionException.TheVariants.{LoadAccessFault, AlignmentFault}
+use Rattle.rrs_lib.specs.Encodings.{Fields, R, I, IShamt, S, B, U, J}
+use Rattle.rrs_lib.specs.Table.{Row, InS, table, Decodes}
+use Rattle.rrs_lib.specs.Machine.{State, Answer, Outcome, outcome, writes, faults, branches, jumps, loaded, loads, execute}
+use Rattle.rrs_lib.specs.Steps.{Step, StepAnswer, Misaligned, Unmapped, Illegal, Legal, cleared, advanced}
+use Rattle.rrs_lib.proofs.Keeping.{put-bytes, put-writable}
 use Rattle.rrs_lib.proofs.VecWords.{one_more_byte, store_inside, store_below, store_above}
 
 -- what lies outside [a, a + n)
@@ -49,8 +56,8 @@ read-apart bytes a n v b m (inr above) = read-kept bytes (store bytes a n v) a n
 pub outside_from_none : (a n b : ℕ) → ((i : ℕ) → i < n → a + i ≢ b) → Outside a n b
 outside_from_none a n b none =
     elim (cases_lt b a) [
-        inl below ↦ inl below
-        | inr from ↦ elim (cases_lt b (a + n)) [ inl to ↦ absurd (none (b - a) (omega arith) (omega arith)) | inr above ↦ inr above ]
+      | inl below ↦ inl below
+      | inr from ↦ elim (cases_lt b (a + n)) [ inl to ↦ absurd (none (b - a) (omega arith) (omega arith)) | inr above ↦ inr above ]
     ]
 
 -- what is read of a store, from its lowest byte on
@@ -66,3 +73,80 @@ read-low bytes a n v (suc m) within =
 -- what was stored is read
 pub read-stored : (bytes : ByteMap) (a n v : ℕ) → little_endian (store bytes a n v) a n ≡ Some (v % 256 ^ n)
 read-stored bytes a n v = read-low bytes a n v n (omega arith)
+
+-- ---- instructions that store nothing
+
+-- the bytes and the writable addresses are as before
+pub record SameMemory (s t : State) : Type 0 where
+  pub same_bytes : t.bytes ≡ s.bytes
+  pub same_writable : t.writable ≡ s.writable
+
+writes_same : (rd : ℕ) (z : ℤ) (s : State) → SameMemory s (writes rd z s).after
+writes_same rd z s = record { same_bytes = put-bytes s rd z; same_writable = put-writable s rd z }
+
+faults_same : (e : InstructionException) (s : State) → SameMemory s (faults e s).after
+faults_same e s = record { same_bytes = refl; same_writable = refl }
+
+branches_same : (taken : Bool) (imm : ℤ) (s : State) → SameMemory s (branches taken imm s).after
+branches_same true imm s = record { same_bytes = refl; same_writable = refl }
+branches_same false imm s = record { same_bytes = refl; same_writable = refl }
+
+jumps_same : (rd target : ℕ) (s : State) → SameMemory s (jumps rd target s).after
+jumps_same rd target s = record { same_bytes = put-bytes s rd (pos (s.pc + 4)); same_writable = put-writable s rd (pos (s.pc + 4)) }
+
+loaded_same : (extended : ℕ → ℤ) (rd address : ℕ) (s : State) (value : Option ℕ) → SameMemory s (loaded extended rd address s value).after
+loaded_same extended rd address s None = faults_same (LoadAccessFault address) s
+loaded_same extended rd address s (Some value) = writes_same rd (extended value) s
+
+loads_same : (n : ℕ) (extended : ℕ → ℤ) (rd address : ℕ) (s : State) → SameMemory s (loads n extended rd address s).after
+loads_same n extended rd address s =
+    cond_both (address % n == 0) (loaded extended rd address s (little_endian s.bytes address n)) (faults (AlignmentFault address) s) (λ o. SameMemory s o.after)
+    (λ t. loaded_same extended rd address s (little_endian s.bytes address n))
+    (λ t. faults_same (AlignmentFault address) s)
+
+fence_same : (s : State) → SameMemory s (outcome s (Ok false)).after
+fence_same s = record { same_bytes = refl; same_writable = refl }
+
+abbrev SameIfAny : State → Option Outcome → Type 0
+SameIfAny s None = Unit {0}
+SameIfAny s (Some o) = SameMemory s o.after
+
+execute-same : (row : Row) (f : Fields) (s : State) → (table row).format ≢ InS → SameIfAny s (execute row f s)
+execute-same Row.Add (R f) s other = writes_same _ _ s
+execute-same Row.Add _ s other = tt
+execute-same Row.Sb (S f) s other = absurd (other refl)
+execute-same Row.Sh (S f) s other = absurd (other refl)
+execute-same Row.Sw (S f) s other = absurd (other refl)
+execute-same _ (R f) s other = search writes_same
+execute-same _ (I f) s other = search (writes_same, loads_same, jumps_same, fence_same)
+execute-same _ (IShamt f) s other = search writes_same
+execute-same _ (S f) s other = tt
+execute-same _ (B f) s other = search branches_same
+execute-same _ (U f) s other = search writes_same
+execute-same _ (J f) s other = search jumps_same
+
+-- an instruction of another format than S keeps the memory
+pub execute-stores_nothing : (row : Row) (f : Fields) (s : State) (o : Outcome) → (table row).format ≢ InS → execute row f s ≡ Some o → SameMemory s o.after
+execute-stores_nothing row f s o other e = subst (SameIfAny s) e (execute-same row f s other)
+
+-- no row of the format S is the word that is fetched
+abbrev pub FetchesNoStore : State → Type 0
+FetchesNoStore s = (w : ℕ) (row : Row) (f : Fields) → little_endian s.bytes s.pc 4 ≡ Some w → Decodes w row f → (table row).format ≢ InS
+
+cleared_same : (s t : State) → t ≡ cleared s → SameMemory s t
+cleared_same s t same = record { same_bytes = ap (λ (x : State). x.bytes) same; same_writable = ap (λ (x : State). x.writable) same }
+
+advanced_same : (s u : State) (a : Answer) → SameMemory s u → SameMemory s (advanced u a)
+advanced_same s u (Ok true) same = same
+advanced_same s u (Ok false) same = record { same_bytes = same.same_bytes; same_writable = same.same_writable }
+advanced_same s u (Err e) same = same
+
+-- a step that fetches no store keeps the memory
+pub Step-stores_nothing : (s t : State) (answer : StepAnswer) → FetchesNoStore s → Step s t answer → SameMemory s t
+Step-stores_nothing s t answer none (Misaligned odd same answers) = cleared_same s t same
+Step-stores_nothing s t answer none (Unmapped aligned read same answers) = cleared_same s t same
+Step-stores_nothing s t answer none (Illegal w aligned read outside same answers) = cleared_same s t same
+Step-stores_nothing s t answer none (Legal w row f u a aligned read is executes after answers) =
+    let P : State → Type 0 = λ x. SameMemory s x in
+    let kept = execute-stores_nothing row f (cleared s) (outcome u a) (none w row f read is) executes in
+    subst P (sym after) (advanced_same s u a (record { same_bytes = kept.same_bytes; same_writable = kept.same_writable }))

@@ -1,4 +1,9 @@
-//! Programs, and what they compute over any memory.
+//! Three programs, and what each computes, over every memory that keeps the laws of [Memory].
+//!
+//! Each call makes one `run`. Its `requires` is what has to hold before: the program's words stand
+//! in memory, and its arguments in the registers. Its clauses say how many steps the run makes, where
+//! it ends, what it computes and what stays. `docs/PROGRAMS.md` has the C sources, and says how such
+//! a proof is made.
 
 ghost use Rattle.std.specs.Prelude.{◌≡◌, ℕ, ◌+◌, ◌*◌, ◌%◌, ◌^◌, ◌≤◌, Bool, Option, Some, length};
 ghost use Rattle.std.specs.Int.{IsGcd};
@@ -11,7 +16,10 @@ ghost use Rattle.rrs_extra.specs.Programs.{word_at, sum_of_words, SumLoopStarts,
 use rrs_lib::instruction_executor::{InstructionExecutor, RunEnd};
 use rrs_lib::{HartState, Memory};
 
-/// Runs a program of seven words that adds up words in memory.
+/// Runs a program of seven words at 0 that adds up the x11 words from the address in x10 on.
+///
+/// The answer is after how many steps it faulted, at 0x1c, on the word behind the program. Then x12
+/// is the sum modulo 2^32, and the bytes of memory are as before.
 pub fn sum_loop<M: Memory>(executor: &mut InstructionExecutor<M>) -> RunEnd
     requires { SumLoopStarts (state_in M.bytes M.writable executor.old) }
     ensures run { RunUntil (6 * reg (state_in M.bytes M.writable executor.old) 11 + 3)
@@ -30,7 +38,11 @@ pub fn sum_loop<M: Memory>(executor: &mut InstructionExecutor<M>) -> RunEnd
     executor.run(6 * u64::from(count) + 3)
 }
 
-/// Calls a program of six words that computes the greatest common divisor of its arguments.
+/// Calls a program of six words that computes the greatest common divisor of x10 and x11.
+///
+/// The program stands where the pc is. The answer is after how many steps it faulted, at the address
+/// in x1 to which it returns. Then x10 is the divisor, 0 where both were 0, and the bytes of memory
+/// are as before. It makes five steps for each remainder, of which there are at most x11.
 pub fn gcd<M: Memory>(executor: &mut InstructionExecutor<M>) -> RunEnd
     requires { IsCalled gcd_program (state_in M.bytes M.writable executor.old) }
     ensures run { RunUntil (5 * reg (state_in M.bytes M.writable executor.old) 11 + 3)
@@ -48,7 +60,10 @@ pub fn gcd<M: Memory>(executor: &mut InstructionExecutor<M>) -> RunEnd
     executor.run(5 * u64::from(divisor) + 3)
 }
 
-/// Calls a program of nine words that copies words in memory.
+/// Calls a program of nine words that copies the x12 words from the address in x11 on to that in x10.
+///
+/// The program stands where the pc is. The answer is after how many steps it faulted, at the address
+/// in x1 to which it returns. Then the words stand in both places, and all other bytes are as before.
 pub fn copy_words<M: Memory>(executor: &mut InstructionExecutor<M>) -> RunEnd
     requires { CopyWordsStarts (state_in M.bytes M.writable executor.old) }
     ensures run { RunUntil (5 * reg (state_in M.bytes M.writable executor.old) 12 + 5)

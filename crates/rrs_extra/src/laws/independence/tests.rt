@@ -130,7 +130,7 @@ fn space_around<M: Memory + Drop>(
     memory: M,
 ) -> Result<MemorySpace<M>, AllocError>
     ensures { IfOk result (λ space.
-        space ≡ record { base = 0; size = size; memory = memory } ∷ []) }
+        space.regions ≡ record { base = 0; size = size; memory = memory } ∷ []) }
 {
     let mut space = MemorySpace::new(alloc);
     match space.add_memory(0, size, memory) {
@@ -145,7 +145,7 @@ fn two_regions(
     first: VecMemory,
     second: VecMemory,
 ) -> Result<MemorySpace<VecMemory>, AllocError>
-    ensures { IfOk result (λ space. space ≡ record { base = 0; size = 8; memory = first }
+    ensures { IfOk result (λ space. space.regions ≡ record { base = 0; size = 8; memory = first }
         ∷ record { base = 8; size = 8; memory = second } ∷ []) }
 {
     let mut space = space_around(alloc, 8, first)?;

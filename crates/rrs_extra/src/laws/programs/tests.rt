@@ -40,7 +40,7 @@ fn three_words(alloc: Global) -> Result<VecMemory, AllocError>
 
 /// A space of two regions, at 0 and at 0x20. There is none where memory runs out.
 fn space_of_two(alloc: Global, low: VecMemory, high: VecMemory) -> Option<MemorySpace<VecMemory>>
-    ensures { IfSome result (λ space. space ≡ two_regions low high) }
+    ensures { IfSome result (λ space. space.regions ≡ two_regions low high) }
 {
     let mut space = MemorySpace::new(alloc);
     if space.add_memory(0, 0x20, low).is_err() {

@@ -1,5 +1,5 @@
 -- The run that the call made is the one that the program makes.
-use Rattle.std.proofs.Common.{◌≡◌, ℕ, ◌+◌, ◌*◌, ap, subst, sym, ◌∙◌, arith}
+use Rattle.std.proofs.Common.{◌≡◌, ◌+◌, ◌*◌, ap, subst, ◌∙◌, arith}
 use Rattle.std.proofs.lemmas.List.{length-drop}
 use Rattle.rrs_lib.specs.Executor.{state_in}
 use Rattle.rrs_lib.specs.Machine.{reg}

@@ -15,4 +15,4 @@ five_steps-requires-clause-bytes g c =
 
 pub five_steps-requires-clause-writable : goal.five_steps-requires-clause-writable
 five_steps-requires-clause-writable g c =
-    writable_by_bytes c.in_ok-space.space c.new-memory.result (five_steps-requires-clause-bytes g c)
+    writable_by_bytes c.in_ok-space.space.regions c.new-memory.result (five_steps-requires-clause-bytes g c)
