@@ -1,5 +1,5 @@
-//! Lines in and answers out, over readers and writers of memory, some of which fail. Those that fail
-//! do so once and then go on, so that a read or a write that is made again shows.
+//! Lines in and answers out, over readers and writers of memory, some of which fail. Those that
+//! fail do so once and then go on, so that a read or a write that is made again shows.
 
 ghost use Rattle.std.specs.Prelude.{◌≤◌};
 

@@ -1,7 +1,7 @@
 -- Accounts of runs, put together from what is printed before each step.
-use Rattle.std.proofs.Common.{◌≡◌, ℕ, ◌+◌, ◌<◌, List, [], ◌++◌, drop, replicate, Bool, Option, Some, None, Result, Ok, Err, OnOk, IfErr, refl, sym, ap, ◌∙◌, subst, add-one, append_assoc, append-nil, arith, inl, inr}
+use Rattle.std.proofs.Common.{◌≡◌, ℕ, ◌+◌, ◌<◌, List, [], ◌++◌, drop, replicate, Bool, Option, Some, None, Result, Ok, Err, IfErr, refl, sym, ap, ◌∙◌, subst, add-one, append_assoc, append-nil, arith, inl, inr}
 use Rattle.std.specs.Io.KnownBytes.{Appends, Keeps}
-use Rattle.std.proofs.KnownBytes.{Appends-nil, Appends-trans, Appends-kept, Keeps-refl}
+use Rattle.std.proofs.KnownBytes.{Appends-trans, Appends-kept}
 use Rattle.rrs_lib.specs.declared.HartState.{HartState}
 use Rattle.rrs_lib.specs.declared.instruction_executor.InstructionException.{InstructionException}
 use Rattle.rrs_lib.specs.Encodings.{Fields}
@@ -15,7 +15,7 @@ use Rattle.rrs_lib.specs.Steps.{Step, next_word}
 use Rattle.rrs_run.specs.declared.fault.RunFault.{RunFault}
 use Rattle.rrs_run.specs.declared.fault.RunFault.TheVariants.{OutOfMemory, Reader, Refused, Output}
 use Rattle.rrs_run.specs.Texts.{instruction_line, end_line, hart_lines}
-use Rattle.rrs_run.specs.Faults.{StopsLoad, StopsPrinting, StopsRun}
+use Rattle.rrs_run.specs.Faults.{StopsPrinting, StopsRun}
 use Rattle.rrs_run.specs.Account.{AppendsLines, IsBeginning, LinesOfWord, Inside, LinesOfAny, LinesBefore, PrintsOk, PrintsUntil, PrintsSteps, PrintsToNext, PrintsPart, AccountOf, PrintsOfRun, zero_words, start_of, Account}
 
 -- ---- lines of a kind

@@ -1,12 +1,12 @@
 -- Texts that are written one after another.
-use Rattle.std.proofs.Common.{◌≡◌, ℕ, ◌+◌, ◌-◌, ◌≤◌, List, length, length-drop, arith, ◌∙◌, [], ◌++◌, take, drop, Option, sym, ap, add-one, subst, Result, Ok, Err, OnOk, append-nil, take-append-drop}
+use Rattle.std.proofs.Common.{◌≡◌, ℕ, ◌+◌, ◌-◌, ◌≤◌, List, length, length-drop, arith, ◌∙◌, [], ◌++◌, take, drop, Option, sym, ap, subst, Result, Ok, Err, OnOk, append-nil, take-append-drop}
 use Rattle.std.proofs.lemmas.List.{take_rest}
 use Rattle.std.proofs.Math.Seq.{take-add}
 use Rattle.std.specs.Io.KnownBytes.{Appends, Keeps}
 use Rattle.std.proofs.KnownBytes.{Appends-trans, Appends-kept}
 use Rattle.rrs_lib.specs.Machine.{State}
 use Rattle.rrs_run.specs.Account.{AppendsLines, IsBeginning}
-use Rattle.rrs_run.specs.Texts.{register_line, register_lines, pc_line, hart_lines}
+use Rattle.rrs_run.specs.Texts.{register_lines, pc_line, hart_lines}
 
 pub ruleset appending = Appends-trans
 

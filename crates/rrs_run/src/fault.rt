@@ -11,7 +11,7 @@ use std::{fmt, io};
 /// Why a run can't be made, or its account not be written.
 #[derive(Debug, PartialEq, Drop)]
 pub enum RunFault {
-    /// The words of the memory, or a buffer, were refused.
+    /// Out of memory for the words of the memory, for a text or for a buffer.
     OutOfMemory,
     /// A read of the program's bytes failed.
     Reader,
@@ -24,8 +24,7 @@ pub enum RunFault {
 impl fmt::Display for RunFault {
     ghost output = { λ fault. Some (fault_text fault) };
 
-    // The loader's texts are printed by its fault, whose text of a failed read is the same for every
-    // error.
+    // The loader's texts are printed by its fault: that of a failed read is the same for every error.
     fn fmt<W: fmt::Write>(&self, f: &mut fmt::Formatter<W>) -> fmt::Result {
         match self {
             RunFault::OutOfMemory => write!(f, "out of memory"),

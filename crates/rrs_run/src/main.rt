@@ -79,8 +79,8 @@ fn main(rt: HostRuntime) -> ExitCode {
 /// # Errors
 ///
 /// `Failure::Usage` where the arguments are not a file and a limit, `Failure::CannotOpen` where the
-/// file can't be opened, and `Failure::Run` for what goes wrong later, or where there is no memory
-/// for the arguments or a buffer.
+/// file can't be opened, and `Failure::Run` for what goes wrong later, and out of memory for the
+/// arguments or a buffer.
 fn perform<R: Env + Files + Print + AllocGlobal>(rt: &R) -> Result<(), Failure> {
     let words = arguments(rt)?;
     let Some((path, limit)) = request_of(&words) else {

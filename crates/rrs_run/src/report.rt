@@ -1,5 +1,8 @@
-//! The lines that are printed of a run. Each is made in memory first and then written, so that what
-//! stands in the output is known after a failure too.
+//! The lines that are printed of a run.
+//!
+//! Each text is made in memory first and then written, so that what stands in the output is known
+//! after a failure too: nothing of a text that could not be made, and a beginning of one that could
+//! not be written.
 
 ghost use Rattle.std.specs.Prelude.{◌≡◌, ◌<◌, ◌++◌, ℕ, Bool, Option, IfOk, OnOk, IfErr, IsOkUnless, string_bytes};
 ghost use Rattle.std.specs.Io.KnownBytes.{Appends, Keeps};
@@ -22,7 +25,7 @@ const REGISTERS: usize = 32;
 ///
 /// # Errors
 ///
-/// `RunFault::OutOfMemory` where there is no memory for the line.
+/// `RunFault::OutOfMemory`, out of memory for the line.
 #[tactic(auto, using(crate::proofs::Digits::padded_eight))]
 pub fn line_of(alloc: Global, pc: u32, text: &str) -> Result<String, RunFault>
     ensures line { IfOk result (λ line. string_bytes line ≡ instruction_line pc text.now) }
@@ -35,7 +38,7 @@ pub fn line_of(alloc: Global, pc: u32, text: &str) -> Result<String, RunFault>
 ///
 /// # Errors
 ///
-/// `RunFault::OutOfMemory` where there is no memory for the text.
+/// `RunFault::OutOfMemory`, out of memory for the text.
 pub fn ending_of(alloc: Global, end: &RunEnd, hart: &HartState) -> Result<Vec<u8>, RunFault>
     ensures text { (bytes : ℕ → Option ℕ) (writable : ℕ → Bool)
         → IfOk result (λ text. text.items

@@ -26,9 +26,9 @@ const WORDS: usize = 16384;
 /// # Errors
 ///
 /// `RunFault::Reader` and `RunFault::Refused` where the bytes can't be loaded: nothing is printed
-/// then. `RunFault::OutOfMemory` before anything is read or printed, or after the lines of the steps
-/// so far and nothing else. `RunFault::Output` where a write or the flush fails: a beginning of the
-/// account is printed then, up to all of it.
+/// then. `RunFault::OutOfMemory` before anything is read or printed, or after the lines before the
+/// steps so far and nothing else. `RunFault::Output` where a write or the flush fails: a beginning
+/// of the account is printed then, up to all of it.
 pub fn simulate<R: Read, W: Write>(
     alloc: Global,
     reader: &mut R,
@@ -84,8 +84,8 @@ fn load<R: Read>(reader: &mut R, memory: &mut VecMemory) -> Result<(), RunFault>
 
 /// Makes steps as `InstructionExecutor::run` does, and prints each instruction before its step.
 ///
-/// The word at the pc is so read twice: here, to print its text from the bytes that stand before the
-/// step, and again by the step, which may write over them.
+/// The word at the pc is so read twice: here, to print its text from the bytes that stand before
+/// the step, and again by the step, which may write over them.
 fn trace<M: Memory, W: Write>(
     executor: &mut InstructionExecutor<M>,
     alloc: Global,
