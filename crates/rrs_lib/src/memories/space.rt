@@ -30,7 +30,9 @@ pub enum MemorySpaceError {
 /// An address space of regions, each with a memory of its own.
 ///
 /// An access goes to the region that serves its address, at the offset from that region's base.
-/// Where no region serves the address, a read answers `None` and a write `false`.
+/// Where no region serves the address, a read returns `None` and a write `false`. The region is found
+/// by a search of the bases: of r regions an access compares at most as many as r has binary digits,
+/// plus one.
 #[derive(Drop)]
 pub struct MemorySpace<M> {
     // In the order in which they were added.
@@ -200,11 +202,31 @@ impl<M: Memory> MemorySpace<M> {
         self.looked_at
     }
 
-    /// Adds a region, and answers its index.
+    /// Adds a region, and returns its index: the number of regions that were there.
     ///
-    /// It is refused where its base or its size is not a multiple of 4, where it would overlap a
-    /// region of the space, and where there is no memory for it. Then the memory that was passed is
-    /// dropped.
+    /// The region has `size` bytes from `base` on. Its memory's address 0 lies at `base`; past the
+    /// region's size that memory is hidden, and past the memory accesses fail. A region that passes
+    /// 2^32 serves up to address 0xffffffff. An empty region serves nothing.
+    ///
+    /// # Errors
+    ///
+    /// Tested in this order: `Unaligned` where `base` or `size` is not a multiple of 4;
+    /// `RegionOverlap` where the region would overlap one of the space; `OutOfMemory` where there is
+    /// no memory for it. After each of them the space is as before, and the memory that was passed
+    /// is dropped.
+    ///
+    /// # Examples
+    ///
+    /// ```
+    /// let mut space = MemorySpace::new(alloc);
+    /// let words = VecMemory::new(vec![in alloc; 5, 7]?);
+    /// assert_eq!(rt; space.add_memory(0x100, 8, words), Ok(0));
+    /// assert_eq!(rt; space.read_mem(0x104, MemAccessSize::Word), Some(7));
+    /// assert_eq!(rt; space.read_mem(0x108, MemAccessSize::Word), None);
+    /// let words = VecMemory::new(vec![in alloc; 9]?);
+    /// let refused = Err(MemorySpaceError::RegionOverlap);
+    /// assert_eq!(rt; space.add_memory(0x104, 4, words), refused);
+    /// ```
     pub fn add_memory(&mut self, base: u32, size: u32, memory: M) -> Result<usize, MemorySpaceError>
     where
         M: Drop,

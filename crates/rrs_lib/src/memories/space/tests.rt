@@ -18,6 +18,42 @@ fn word_at<M: Memory>(memory: &mut M, addr: u32) -> Option<u32>
     memory.read_mem(addr, MemAccessSize::Word)
 }
 
+// The example of `add_memory`.
+#[test]
+fn adds_as_in_the_example(rt: HostRuntime) -> Result<(), Fail> {
+    let alloc = rt.alloc();
+    let mut space = MemorySpace::new(alloc);
+    let words = VecMemory::new(vec![in alloc; 5, 7]?);
+    assert_eq!(rt; space.add_memory(0x100, 8, words), Ok(0));
+    assert_eq!(rt; space.read_mem(0x104, MemAccessSize::Word), Some(7));
+    assert_eq!(rt; space.read_mem(0x108, MemAccessSize::Word), None);
+    let words = VecMemory::new(vec![in alloc; 9]?);
+    let refused = Err(MemorySpaceError::RegionOverlap);
+    assert_eq!(rt; space.add_memory(0x104, 4, words), refused);
+    Ok(())
+}
+
+// Regions at the last address, and past it.
+#[test]
+fn regions_at_the_end_of_the_addresses(rt: HostRuntime) -> Result<(), Fail> {
+    let mut space = MemorySpace::new(rt.alloc());
+    let cases = [
+        (0xffff_fffc, 0xffff_fffc, Ok(0)),
+        (0, 4, Ok(1)),
+        (0xffff_fffc, 0, Ok(2)),
+        (0xffff_fffc, 4, Err(MemorySpaceError::RegionOverlap)),
+    ];
+    for (base, size, expected) in cases {
+        let memory = words(rt.alloc(), &[])?;
+        assert_eq!(rt;
+            space.add_memory(base, size, memory),
+            expected,
+            "{base:#x}, {size}"
+        );
+    }
+    Ok(())
+}
+
 #[test]
 fn regions_are_accepted_in_turn(rt: HostRuntime) -> Result<(), Fail> {
     let mut space = MemorySpace::new(rt.alloc());
