@@ -220,9 +220,9 @@ impl InstructionProcessor for RowNumberer {
 #[cfg(test)]
 mod call_counter;
 #[cfg(test)]
-mod coverage;
-#[cfg(test)]
 mod count_down;
+#[cfg(test)]
+mod coverage;
 #[cfg(test)]
 mod output_port;
 #[cfg(test)]
