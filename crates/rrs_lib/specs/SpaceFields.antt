@@ -19,8 +19,8 @@ base_at bounds i = (slice_index_or bounds i (0, 0)).0
 abbrev pub size_at : List (ℕ × ℕ) → ℕ → ℕ
 size_at bounds i = (slice_index_or bounds i (0, 0)).1
 
--- The order in which regions are searched: the indexes of those of size above 0, by their bases. Each
--- of them ends where the next begins, or before.
+-- The order in which regions are searched: the indexes of those of size above 0, by their bases.
+-- Each of them ends where the next begins, or before.
 pub record IsSearchOrder (bounds : List (ℕ × ℕ)) (order : List ℕ) : Type 0 where
   pub within : (j : ℕ) → j < length order → slice_index order j < length bounds
   pub nonempty : (j : ℕ) → j < length order → 0 < size_at bounds (slice_index order j)

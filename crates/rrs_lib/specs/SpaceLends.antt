@@ -12,7 +12,8 @@ abbrev pub lends_inner : (M : RattleType) → MutBor (MemoryRegion M.Denot) → 
 lends_inner M s r = Lends (region_row M) M s r (with_inner s.now)
 
 module _ (M : RattleType) (s : MutBor (Space M.Denot)) (index : ℕ) where
-  -- once the borrow r ends, the region of this index has the memory that was left behind r, and nothing else has changed
+  -- once the borrow r ends, the region of this index has the memory that was left behind r, and
+  -- nothing else has changed
   abbrev pub lends_memory : MutBor M.Denot → Fml
   lends_memory r = Lends (the_row M) M s r (with_region_memory s.now index)
 

@@ -1,4 +1,5 @@
--- What an address space of regions means. A region has a base, a size, and an inner memory, whose address 0 lies at the base.
+-- What an address space of regions means. A region has a base, a size, and an inner memory, whose
+-- address 0 lies at the base.
 use Rattle.std.specs.Prelude.{◌≡◌, ℕ, zero, suc, ◌+◌, ◌-◌, ◌%◌, ◌^◌, ◌<◌, ◌≤◌, min, Bool, true, false, ◌&&◌, ◌==◌, nat_le, nat_lt, if◌then◌else◌, List, [], ◌∷◌, ◌++◌, length, Option, Some, None, All, Any, AllPairs, slice_get, option_map, refl}
 use Rattle.std.specs.Coded.{Coded, code_by, coded×, coded_ℕ, coded_list}
 use Rattle.rrs_lib.specs.Bytes.{ByteMap}
@@ -19,8 +20,8 @@ region_code {M} code =
     (λ p. record { base = p.0; size = p.1.0; memory = p.1.1 })
     (λ _. refl)
 
--- an address space as a contract sees it: its regions in the order in which they were added, and how
--- many of them its reads and writes have compared so far
+-- an address space as a contract sees it: its regions in the order in which they were added, and
+-- how many regions its reads and writes have compared so far
 pub record Space (M : Type 0) : Type 0 where
   pub regions : List (Region M)
   pub looked_at : ℕ
@@ -53,10 +54,12 @@ module _ {M : Type 0} where
   abbrev pub serves : Region M → ℕ → Bool
   serves r a = (nat_le r.base a && nat_lt a (r.base + r.size)) && nat_lt a (2 ^ 32)
 
-  -- what the first region that serves the address says of it, or a default where none does: in a space no two regions serve one address
+  -- what the first region that serves the address says of it, or a default where none does: in a
+  -- space no two regions serve one address
   abbrev pub served_by : {T : Type 0} → (M → ℕ → T) → T → List (Region M) → ℕ → T
   served_by says default [] a = default
-  served_by says default (r ∷ regions) a = if serves r a then says r.memory (a - r.base) else served_by says default regions a
+  served_by says default (r ∷ regions) a =
+      if serves r a then says r.memory (a - r.base) else served_by says default regions a
 
   -- the byte at an address: that of the inner memory of the region that serves it
   abbrev pub space_bytes : (M → ByteMap) → List (Region M) → ByteMap
@@ -70,7 +73,9 @@ module _ {M : Type 0} where
   abbrev pub space_layout : (M → List ℕ) → List (Region M) → List ℕ
   space_layout layout [] = []
   space_layout layout (r ∷ regions) =
-      (r.base ∷ r.size ∷ length (layout r.memory) ∷ []) ++ layout r.memory ++ space_layout layout regions
+      (r.base ∷ r.size ∷ length (layout r.memory) ∷ [])
+      ++ layout r.memory
+      ++ space_layout layout regions
 
   -- a region of this base and size would overlap r: the sums are exact
   abbrev pub Overlaps : ℕ → ℕ → Region M → Type 0
@@ -109,9 +114,9 @@ module _ {M : Type 0} where
   abbrev pub with_region_memory : Space M → ℕ → M → Space M
   with_region_memory s i m = record s { regions = with_memory s.regions i m }
 
-  -- The count after an access, which compared some of the regions. It stays at 2 ^ 64 - 1 once it is
-  -- there. At most as many are compared as the number of all regions has binary digits, plus one, and at
-  -- least one where some region has addresses.
+  -- The count after an access, which compared some of the regions: it stays at 2 ^ 64 - 1 once it
+  -- is there. At most as many are compared as the number of all regions has binary digits, plus one,
+  -- and at least one where some region has addresses.
   pub record CountsCompared (old new : Space M) : Type 0 where
     pub compared : ℕ
     pub counted : new.looked_at ≡ min (old.looked_at + compared) (2 ^ 64 - 1)
@@ -120,7 +125,8 @@ module _ {M : Type 0} where
 
   -- each region that does not serve the address is as it was, memory and all
   abbrev pub OthersKept : ℕ → List (Region M) → List (Region M) → Type 0
-  OthersKept a old new = (i : ℕ) (r : Region M) → slice_get old i ≡ Some r → serves r a ≡ false → slice_get new i ≡ Some r
+  OthersKept a old new = (i : ℕ) (r : Region M) → slice_get old i ≡ Some r → serves r a ≡ false →
+      slice_get new i ≡ Some r
 
   -- region i serves the address
   pub record IsServedAt (regions : List (Region M)) (a i : ℕ) : Type 0 where
@@ -128,6 +134,9 @@ module _ {M : Type 0} where
     pub stands : slice_get regions i ≡ Some region
     pub serves_it : serves region a ≡ true
 
-  -- P holds of the memory that serves the address as it was, of the address in it, and of that memory as it is
+  -- P holds of the memory that serves the address as it was, of the address in it, and of that
+  -- memory as it is
   abbrev pub ServedBecomes : ℕ → List (Region M) → List (Region M) → (M → ℕ → M → Type 0) → Type 0
-  ServedBecomes a old new P = (i : ℕ) (r s : Region M) → slice_get old i ≡ Some r → serves r a ≡ true → slice_get new i ≡ Some s → P r.memory (a - r.base) s.memory
+  ServedBecomes a old new P = (i : ℕ) (r s : Region M) →
+      slice_get old i ≡ Some r → serves r a ≡ true → slice_get new i ≡ Some s →
+      P r.memory (a - r.base) s.memory

@@ -1,4 +1,4 @@
-use Rattle.std.proofs.Common.{◌≡◌, ℕ, ◌+◌, ◌-◌, ◌/◌, ◌<◌, ◌≤◌, length, map, get_or, refl, arith}
+use Rattle.std.proofs.Common.{◌≡◌, ◌+◌, ◌-◌, ◌/◌, ◌<◌, length, map, get_or, refl, arith}
 use Rattle.rrs_lib.specs.Spaces.{bounds, binary_digits}
 use Rattle.rrs_lib.specs.SpaceFields.{region_of}
 use Rattle.rrs_lib.proofs.RegionFields.{refuted}
