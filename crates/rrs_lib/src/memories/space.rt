@@ -31,6 +31,9 @@ pub enum MemorySpaceError {
 ///
 /// An access goes to the region that serves its address, at the offset from that region's base.
 /// Where no region serves the address, a read answers `None` and a write `false`.
+///
+/// A read or a write finds its region by a binary search of their bases. It compares at most as many
+/// regions as the number of all regions has binary digits, plus one.
 #[derive(Drop)]
 pub struct MemorySpace<M> {
     // In the order in which they were added.
