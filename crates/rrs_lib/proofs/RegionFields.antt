@@ -1,14 +1,14 @@
 -- The regions of the code, and the list that contracts see of them.
-use Rattle.std.proofs.Common.{◌≡◌, ◌↔◌, ℕ, zero, suc, ◌+◌, ◌<◌, ◌≤◌, List, [], ◌∷◌, ◌++◌, length, map, get_or, set, Some, Result, Ok, Err, OnOk, Bool, true, false, IsTrue, Any, MatchBool, inl, inr, refl, sym, subst, ap, ◌∙◌, arith}
+use Rattle.std.proofs.Common.{◌≡◌, ◌↔◌, ℕ, zero, suc, ◌<◌, List, [], ◌∷◌, ◌++◌, length, map, get_or, set, Some, Result, Ok, Err, OnOk, Bool, true, false, IsTrue, Any, MatchBool, inl, inr, refl, sym, subst, ap, ◌∙◌, arith}
 use Rattle.std.specs.List.{slice_get, HoldsAt, AllWithin}
 use Rattle.std.specs.Bool.{OnTrue, OnFalse}
-use Rattle.std.proofs.lemmas.Bool.{false≢true, cases_lt}
+use Rattle.std.proofs.lemmas.Bool.{false≢true}
 use Rattle.std.proofs.lemmas.List.{map_push, length-map}
 use Rattle.std.proofs.lemmas.Option.{none-some, same_Some, slice_get-map, slice_get_read, slice_get_within, slice_get_cases, get_or_from_slice_get}
 use Rattle.rrs_lib.specs.declared.memories.space.MemoryRegion.{MemoryRegion}
 use Rattle.rrs_lib.specs.SpaceFields.{region_of, with_inner}
 use Rattle.rrs_lib.specs.Spaces.{Region, Space, with_region_memory, serves, Overlaps, IsWordRegion, IsSpace, with_memory, IsServedAt}
-use Rattle.rrs_lib.proofs.Regions.{IsSpace-push, false_serves}
+use Rattle.rrs_lib.proofs.Regions.{IsSpace-push}
 
 -- a fact that a test says does not hold
 pub refuted : {P : Type 0} (r : Bool) → r ≡ false → IsTrue r ↔ P → P → ⊥
@@ -71,23 +71,9 @@ module _ {M : Type 0} where
   IsSpace-after_push fields new old y view space word apart e =
       rw (e, map_push) (IsSpace-push (map region_of fields) (region_of y) space word (rw (← view) at apart))
 
-  -- the region that a loop over the code's list has come to, as the contract sees it
-  pub shown_at : (fields shown : List (MemoryRegion M)) (old : List (Region M)) (i : ℕ) (x : MemoryRegion M) → map region_of fields ≡ old → shown ≡ fields → i < length shown → x ≡ get_or shown i x → slice_get old i ≡ Some (region_of x)
-  shown_at fields shown old i x view same within read =
-      let at_shown : slice_get shown i ≡ Some x = slice_get_read shown (length shown) i x refl within read in
-      ap (λ xs. slice_get xs i) (sym view ∙ ap (λ xs. map region_of xs) (sym same)) ∙ slice_get-map region_of shown i ∙ rw at_shown refl
-
   -- the two lists are of one length
   pub shown_length : (fields shown : List (MemoryRegion M)) (old : List (Region M)) → map region_of fields ≡ old → shown ≡ fields → length old ≡ length shown
   shown_length fields shown old view same = ap length (sym view) ∙ length-map fields region_of ∙ ap length (sym same)
-
-  -- a region that does not contain the address does not serve it
-  pub not_contained : (r : Region M) (a : ℕ) (answer : Bool) → answer ≡ false → IsTrue answer ↔ (r.base ≤ a) × (a < r.base + r.size) → serves r a ≡ false
-  not_contained r a answer e same =
-      false_serves r a (λ past. elim (cases_lt a (r.base + r.size)) [
-        | inl below ↦ absurd (refuted answer e same (past, below))
-        | inr after ↦ after
-      ])
 
   -- an answer that is told of the regions of the code is told of those that the contract sees
   pub any_overlaps : (fields : List (MemoryRegion M)) (old : List (Region M)) (base size : ℕ) (answer : Bool) → map region_of fields ≡ old → MatchBool answer ((k : ℕ) × (k < length fields) × HoldsAt (λ x. Overlaps base size (region_of x)) fields k) (AllWithin (λ x. Overlaps base size (region_of x) → ⊥) fields 0 (length fields)) → IsTrue answer ↔ Any (Overlaps base size) old

@@ -30,9 +30,10 @@ pub enum MemorySpaceError {
 /// An address space of regions, each with a memory of its own.
 ///
 /// An access goes to the region that serves its address, at the offset from that region's base.
-/// Where no region serves the address, a read returns `None` and a write `false`. The region is found
-/// by a search of the bases: of r regions an access compares at most as many as r has binary digits,
-/// plus one.
+/// Where no region serves the address, a read returns `None` and a write `false`.
+///
+/// A read or a write finds its region by a binary search of their bases. It compares at most as many
+/// regions as the number of all regions has binary digits, plus one.
 #[derive(Drop)]
 pub struct MemorySpace<M> {
     // In the order in which they were added.
