@@ -1,7 +1,8 @@
-//! Processors over `rrs_lib`, written by its contracts alone.
+//! Processors over `rrs_lib`, and theorems about programs, by its contracts alone.
 //!
 //! [RowNumberer] names the row of the table that a word is: its number, 1 to 46. The tests have a
 //! processor that counts the calls of each row, and `docs/PROCESSORS.md` says how to write one.
+//! [laws] has programs whose runs are proved, and `docs/PROGRAMS.md` says how to prove one.
 
 #![tactic(auto)]
 
