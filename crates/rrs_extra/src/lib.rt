@@ -4,7 +4,7 @@
 //! [PagedMemory] is a memory of pages, some of whose words are read-only. The functions of [laws]
 //! have contracts that relate what several calls of the kit return, or say what a program does. The
 //! tests have a processor that counts the calls of each row, and `docs/PROCESSORS.md` says how to
-//! write one.
+//! write one; `docs/PROGRAMS.md` says how to prove a program.
 
 #![tactic(auto)]
 
