@@ -86,7 +86,11 @@ fn tells_a_failing_read(rt: HostRuntime) -> Result<(), Fail> {
                 Ok(()) => format!(in rt.alloc(); "loaded")?,
             };
             assert_eq!(rt; text.as_str(), "Could not read byte", "at {fails_at}");
-            assert_eq!(rt; reader.given, fails_at, "no byte is taken after the failure");
+            assert_eq!(rt;
+                reader.given,
+                fails_at,
+                "no byte is taken after the failure"
+            );
             for (address, byte) in bytes.iter().enumerate() {
                 let want = if address < fails_at { *byte } else { 0 };
                 let word = memory.mem.get(address / 4).copied().unwrap_or(0);
