@@ -4,3 +4,7 @@ pub mod Programs
 pub mod ProgramExamples
 pub use Rattle.rrs_lib.specs.Encodings
 pub use Rattle.rrs_lib.specs.Table
+pub use Rattle.rrs_lib.specs.Bytes
+pub use Rattle.rrs_lib.specs.Machine
+pub use Rattle.rrs_lib.specs.Steps
+pub use Rattle.rrs_lib.specs.Executor
