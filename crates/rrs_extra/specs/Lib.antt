@@ -2,6 +2,10 @@
 pub use Rattle.rrs_lib.specs.Encodings
 pub use Rattle.rrs_lib.specs.Table
 pub use Rattle.rrs_lib.specs.Texts
+pub use Rattle.rrs_lib.specs.Bytes
+pub use Rattle.rrs_lib.specs.Machine
+pub use Rattle.rrs_lib.specs.Steps
+pub use Rattle.rrs_lib.specs.Executor
 -- Processors: a row's number, and counts of rows.
 pub mod Numbering
 pub mod Counting
