@@ -68,7 +68,7 @@ impl PageContents {
         self.words.read_mem(place, size)
     }
 
-    /// Writes the low bytes of a value at a place in the page, and answers whether its word is not
+    /// Writes the low bytes of a value at a place in the page, and returns whether its word is not
     /// read-only.
     #[inline]
     fn write(&mut self, place: u32, size: MemAccessSize, value: u32) -> bool
@@ -120,8 +120,11 @@ impl PagedMemory {
     /// Adds the page of a number below 2^20, with its 1,024 words, each of them read-only where its
     /// mark is `true`.
     ///
-    /// It is refused where there is a page of this number, and where there is no memory for it.
-    /// Then the pages are as before, and what was passed is dropped.
+    /// # Errors
+    ///
+    /// Tested in this order: `PageTaken` where there is a page of this number; `OutOfMemory` where
+    /// there is no memory for it. After both the pages are as before, and what was passed is
+    /// dropped.
     pub fn add_page(
         &mut self,
         number: u32,

@@ -5,6 +5,7 @@ ghost use Rattle.std.specs.Prelude.{◌≡◌, ◌<◌, IfOk, vec_len};
 use super::*;
 use rrs_lib::HartState;
 use rrs_lib::instruction_executor::{InstructionException, InstructionExecutor};
+use std::alloc::AllocError;
 use std::test::Fail;
 
 /// The words of a page that begins with some, and is zero after them.
@@ -52,6 +53,55 @@ fn a_page_is_read_and_written_but_for_its_read_only_word(rt: HostRuntime) -> Res
     assert_eq!(rt; memory.read_mem(4092, MemAccessSize::Word), Some(0x2345));
     assert_eq!(rt; memory.read_mem(4096, MemAccessSize::Word), None);
     assert!(rt; !memory.write_mem(4096, MemAccessSize::Byte, 1));
+    Ok(())
+}
+
+/// The two lists of a page whose words are all one, and writable.
+fn open_page(alloc: Global, word: u32) -> Result<(Vec<u32>, Vec<bool>), AllocError>
+    ensures { IfOk result (λ lists. (vec_len lists.0 ≡ 1024) × (vec_len lists.1 ≡ 1024)) }
+{
+    let words = vec![in alloc; word; 1024]?;
+    let marks = vec![in alloc; false; 1024]?;
+    Ok((words, marks))
+}
+
+/// The same, asked for again where an allocation is refused.
+fn some_page(alloc: Global, word: u32) -> Result<(Vec<u32>, Vec<bool>), AllocError>
+    ensures { IfOk result (λ lists. (vec_len lists.0 ≡ 1024) × (vec_len lists.1 ≡ 1024)) }
+{
+    match open_page(alloc, word) {
+        Ok(lists) => Ok(lists),
+        Err(AllocError) => open_page(alloc, word),
+    }
+}
+
+/// Whichever allocation fails, the pages are as before, and the same call then adds the page. A
+/// number that is taken is refused for that, whatever memory there is.
+#[test]
+fn a_refused_page_may_be_added_again(rt: HostRuntime) -> Result<(), Fail> {
+    let alloc = rt.alloc();
+    let mut memory = PagedMemory::new(alloc);
+    for count in 0..13 {
+        let number = (count * 5 + 7) % 13;
+        let (words, marks) = some_page(alloc, number + 100)?;
+        let mut added = memory.add_page(number, words, marks);
+        if added == Err(PageError::OutOfMemory) {
+            assert_eq!(rt; memory.page_count(), count as usize);
+            assert!(rt; !memory.has_page(number));
+            let (words, marks) = some_page(alloc, number + 100)?;
+            added = memory.add_page(number, words, marks);
+        }
+        assert_eq!(rt; added, Ok(()));
+        let (words, marks) = some_page(alloc, 0)?;
+        assert_eq!(rt;
+            memory.add_page(number, words, marks),
+            Err(PageError::PageTaken)
+        );
+    }
+    for number in 0..13 {
+        let first = memory.read_mem(number * 4096, MemAccessSize::Word);
+        assert_eq!(rt; first, Some(number + 100));
+    }
     Ok(())
 }
 

@@ -77,6 +77,33 @@ fn regions_are_accepted_in_turn(rt: HostRuntime) -> Result<(), Fail> {
     Ok(())
 }
 
+/// Whichever allocation fails, the space is as before, and the same call then gives the index. A
+/// region that is not aligned or overlaps is refused for that, whatever memory there is.
+#[test]
+fn a_refused_region_may_be_added_again(rt: HostRuntime) -> Result<(), Fail> {
+    let alloc = rt.alloc();
+    let empty = || VecMemory::new(Vec::new(alloc));
+    let mut space = MemorySpace::new(alloc);
+    for (index, base) in [0x300, 0x100, 0x500, 0x200, 0, 0x400]
+        .into_iter()
+        .enumerate()
+    {
+        let unaligned = Err(MemorySpaceError::Unaligned);
+        assert_eq!(rt; space.add_memory(base | 2, 8, empty()), unaligned);
+        let mut added = space.add_memory(base, 8, empty());
+        if added == Err(MemorySpaceError::OutOfMemory) {
+            assert!(rt; space.get_memory_ref(index).is_none());
+            added = space.add_memory(base, 8, empty());
+        }
+        assert_eq!(rt; added, Ok(index));
+        let overlap = Err(MemorySpaceError::RegionOverlap);
+        assert_eq!(rt; space.add_memory(base | 4, 8, empty()), overlap);
+        assert!(rt; space.get_memory_ref(index).is_some());
+    }
+    assert_eq!(rt; space.regions_looked_at(), 0);
+    Ok(())
+}
+
 #[test]
 fn a_region_over_an_empty_one_is_refused(rt: HostRuntime) -> Result<(), Fail> {
     let mut space = MemorySpace::new(rt.alloc());
