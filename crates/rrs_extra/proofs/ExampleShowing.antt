@@ -1,5 +1,5 @@
 -- Pairs of words whose texts show alike, and that do not: known answers, by the definitions. No contract cites them.
-use Rattle.std.proofs.Common.{◌≡◌, ℕ, ◌∷◌, [], pos, neg_ℤ, refl, sym, arith, ◌∙◌}
+use Rattle.std.proofs.Common.{◌≡◌, ℕ, ◌∷◌, [], pos, neg_ℤ, refl, sym, rules, arith, ◌∙◌}
 use Rattle.rrs_lib.specs.Encodings.{Fields}
 use Rattle.rrs_lib.specs.Table.{Row, Decodes}
 use Rattle.rrs_lib.proofs.Examples.{of_R, of_I, of_IShamt, of_S, of_B, of_U, of_J}
@@ -31,15 +31,15 @@ shows-J = refl
 pub shows-fence : shown_by Row.Fence (of_I (pos 255) 0 0 0) ≡ []
 shows-fence = refl
 
--- slli x1, x1, 1 with two values of funct7
-slli_127 : Decodes 0xfe109093 Row.Slli (of_IShamt 127 1 1 1 1)
-slli_127 = record { format = refl; in_range = (omega arith, omega arith, omega arith, omega arith, omega arith); functs = (refl, tt); encoded = refl }
+-- fence with two values of its immediate
+fence_255 : Decodes 0x0ff0000f Row.Fence (of_I (pos 255) 0 0 0)
+fence_255 = record { format = refl; in_range = search rules; functs = refl; encoded = refl }
 
-slli_0 : Decodes 0x00109093 Row.Slli (of_IShamt 0 1 1 1 1)
-slli_0 = record { format = refl; in_range = (omega arith, omega arith, omega arith, omega arith, omega arith); functs = (refl, tt); encoded = refl }
+fence_0 : Decodes 0x0000000f Row.Fence (of_I (pos 0) 0 0 0)
+fence_0 = record { format = refl; in_range = search rules; functs = refl; encoded = refl }
 
-pub alike-slli : ShowAlike 0xfe109093 0x00109093
-alike-slli = record { row = Row.Slli; first_fields = of_IShamt 127 1 1 1 1; second_fields = of_IShamt 0 1 1 1 1; is_first = slli_127; is_second = slli_0; same = refl }
+pub alike-fence : ShowAlike 0x0ff0000f 0x0000000f
+alike-fence = record { row = Row.Fence; first_fields = of_I (pos 255) 0 0 0; second_fields = of_I (pos 0) 0 0 0; is_first = fence_255; is_second = fence_0; same = refl }
 
 -- branches by 8 and by 4
 beq_8 : Decodes 0x00000463 Row.Beq (of_B (pos 8) 0 0 0)
@@ -63,7 +63,7 @@ not_alike-beq alike =
 
 -- slli x3, x1, 7 and srli x3, x1, 7
 slli_7 : Decodes 0x00709193 Row.Slli (of_IShamt 0 7 1 1 3)
-slli_7 = record { format = refl; in_range = (omega arith, omega arith, omega arith, omega arith, omega arith); functs = (refl, tt); encoded = refl }
+slli_7 = record { format = refl; in_range = (omega arith, omega arith, omega arith, omega arith, omega arith); functs = (refl, refl); encoded = refl }
 
 srli_7 : Decodes 0x0070d193 Row.Srli (of_IShamt 0 7 1 5 3)
 srli_7 = record { format = refl; in_range = (omega arith, omega arith, omega arith, omega arith, omega arith); functs = (refl, refl); encoded = refl }

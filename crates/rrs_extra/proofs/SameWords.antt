@@ -1,9 +1,10 @@
 -- Of a row that fixes its functs and shows all other fields, what a text shows determines the word.
-use Rattle.std.proofs.Common.{◌≡◌, ℕ, List, [], ◌∷◌, refl, ap, ◌∙◌, sym}
+use Rattle.std.proofs.Common.{◌≡◌, ◌⊎◌, ◌↔◌, inl, inr, ℕ, List, [], ◌∷◌, Option, Some, None, IfSome, Ok, Err, IfOk, string_bytes, refl, ap, ◌∙◌, sym, subst}
 use Rattle.rrs_lib.specs.Encodings.{Fields, R, I, IShamt, S, B, U, J, encode}
-use Rattle.rrs_lib.specs.Table.{Row, table, format_of, MeetsFuncts, Decodes}
-use Rattle.rrs_extra.specs.Showing.{shown, shown_by}
-use Rattle.rrs_extra.proofs.Faithful.{ForBoth, at_both}
+use Rattle.rrs_lib.specs.Table.{Row, table, format_of, MeetsFuncts, Decodes, IsRowAnd}
+use Rattle.rrs_lib.specs.Texts.{text_of}
+use Rattle.rrs_extra.specs.Showing.{shown, shown_by, ShowAlike, IsFence, AreOneOrFences, Asked, IfBothTexts}
+use Rattle.rrs_extra.proofs.Faithful.{ForBoth, at_both, faithful}
 
 -- the funct3 and the funct7 of fields that have them
 abbrev functs : Fields → List ℕ
@@ -59,10 +60,8 @@ same_fields (J f) (J g) k s t =
     λ i. J (record { imm = c i; rd = a i })
 same_fields f g k s t = absurd (cc)
 
--- the rows that leave a funct open, and fence, which shows no fields
+-- the row that shows no fields
 abbrev pub IsLax : Row → Type 0
-IsLax Row.Slli = Unit {0}
-IsLax Row.Jalr = Unit {0}
 IsLax Row.Fence = Unit {0}
 IsLax _ = ⊥
 
@@ -72,8 +71,6 @@ Determined row f g =
     MeetsFuncts (table row).funct3 (table row).funct7 f → MeetsFuncts (table row).funct3 (table row).funct7 g → shown_by row f ≡ shown_by row g → f ≡ g
 
 determined : (row : Row) → ¬ IsLax row → ForBoth (Determined row) (table row).format
-determined Row.Slli strict = absurd (strict tt)
-determined Row.Jalr strict = absurd (strict tt)
 determined Row.Fence strict = absurd (strict tt)
 determined _ strict = λ f g p q a b s. same_fields _ _ refl s (cc)
 
@@ -82,3 +79,44 @@ pub same_words : (v w : ℕ) (row : Row) (f g : Fields) → ¬ IsLax row → Dec
 same_words v w row f g strict is is' s =
     let fields : f ≡ g = at_both (Determined row) (table row).format f g is.format is'.format (determined row strict) is.in_range is'.in_range is.functs is'.functs s in
     is.encoded ∙ ap (encode (table row).opcode) fields ∙ sym is'.encoded
+
+-- a row is fence, or it is not lax
+fence_or_strict : (row : Row) → (row ≡ Row.Fence) ⊎ (¬ IsLax row)
+fence_or_strict Row.Fence = inl refl
+fence_or_strict _ = inr (λ lax. lax)
+
+-- Words that show alike are one, or both are fence.
+one_or_fences : (first second : ℕ) → ShowAlike first second → AreOneOrFences first second
+one_or_fences first second alike =
+    elim (fence_or_strict alike.row) [
+      | inl fence ↦ inr (
+        (alike.first_fields, subst (λ r. Decodes first r alike.first_fields) fence alike.is_first),
+        (alike.second_fields, subst (λ r. Decodes second r alike.second_fields) fence alike.is_second),
+      )
+      | inr strict ↦ inl (same_words first second alike.row alike.first_fields alike.second_fields strict alike.is_first alike.is_second alike.same)
+    ]
+
+-- One word of a row shows what it shows, and so do two of fence.
+alike_from : (first second : ℕ) (row : Row) (f : Fields) → Decodes first row f → AreOneOrFences first second → ShowAlike first second
+alike_from first second row f is (inl same) =
+    record { row = row; first_fields = f; second_fields = f; is_first = is; is_second = subst (λ w. Decodes w row f) same is; same = refl }
+alike_from first second row f is (inr fences) =
+    record { row = Row.Fence; first_fields = fences.0.0; second_fields = fences.1.0; is_first = fences.0.1; is_second = fences.1.1; same = refl }
+
+-- Two texts at one address are equal exactly when their words are one or both fence.
+words_faithful : (pc first second : ℕ) (a b : List ℕ) → IsRowAnd first (λ row f. text_of row f pc ≡ Some a) → IsRowAnd second (λ row f. text_of row f pc ≡ Some b)
+    → (a ≡ b) ↔ AreOneOrFences first second
+words_faithful pc first second a b x y =
+    let texts = faithful pc first second a b x y in
+    (λ same. one_or_fences first second (texts.0 same), λ one. texts.1 (alike_from first second x.row x.fields x.is one))
+
+-- Of two answers, where both are texts, they are equal exactly when their words are one or both fence.
+pub both_one_or_fences : (pc first second : ℕ) (a b : Asked)
+    → IfSome a (λ answer. IsRowAnd first (λ row f. IfOk answer (λ text. text_of row f pc ≡ Some (string_bytes text))))
+    → IfSome b (λ answer. IsRowAnd second (λ row f. IfOk answer (λ text. text_of row f pc ≡ Some (string_bytes text))))
+    → IfBothTexts a b (λ text other. (text ≡ other) ↔ AreOneOrFences first second)
+both_one_or_fences pc first second None b x y = tt
+both_one_or_fences pc first second (Some (Err e)) b x y = tt
+both_one_or_fences pc first second (Some (Ok s)) None x y = tt
+both_one_or_fences pc first second (Some (Ok s)) (Some (Err e)) x y = tt
+both_one_or_fences pc first second (Some (Ok s)) (Some (Ok t)) x y = words_faithful pc first second (string_bytes s) (string_bytes t) x y

@@ -1,7 +1,7 @@
 -- What the text of an instruction shows of its fields: register numbers, and the immediate or the
 -- shift amount as the field has it, also where the text has its sum with the address. funct3 and
 -- funct7 are not shown, and `fence` shows none of its fields.
-use Rattle.std.specs.Prelude.{◌≡◌, ℕ, List, [], ◌∷◌, ℤ, pos, Option, Some, Result, Ok, String, string_bytes}
+use Rattle.std.specs.Prelude.{◌≡◌, ◌⊎◌, ℕ, List, [], ◌∷◌, ℤ, pos, Option, Some, Result, Ok, String, string_bytes}
 use Rattle.std.specs.declared.alloc.AllocError.{AllocError}
 use Rattle.std.specs.declared.alloc.Global.{Global}
 use Rattle.rrs_lib.specs.Encodings.{Fields, R, I, IShamt, S, B, U, J}
@@ -30,6 +30,14 @@ pub record ShowAlike (first second : ℕ) : Type 0 where
   pub is_first : Decodes first row first_fields
   pub is_second : Decodes second row second_fields
   pub same : shown_by row first_fields ≡ shown_by row second_fields
+
+-- a word of the row fence, whatever its other fields
+abbrev pub IsFence : ℕ → Type 0
+IsFence w = (f : Fields) × Decodes w Row.Fence f
+
+-- one word, or two words of fence
+abbrev pub AreOneOrFences : ℕ → ℕ → Type 0
+AreOneOrFences first second = (first ≡ second) ⊎ (IsFence first × IsFence second)
 
 -- the answer for a word: no text, where it is of no row, or its text, or out of memory
 abbrev pub Asked : Type 0

@@ -55,7 +55,13 @@ fn process_opcode_op_imm<T: InstructionProcessor>(
     let dec_insn = IType::new(insn_bits);
     match dec_insn.funct3 {
         0 => Some(processor.process_addi(dec_insn)),
-        1 => Some(processor.process_slli(ITypeShamt::new(insn_bits))),
+        1 => {
+            let dec_insn = ITypeShamt::new(insn_bits);
+            match dec_insn.funct7 {
+                0 => Some(processor.process_slli(dec_insn)),
+                _ => None,
+            }
+        }
         2 => Some(processor.process_slti(dec_insn)),
         3 => Some(processor.process_sltui(dec_insn)),
         4 => Some(processor.process_xori(dec_insn)),
@@ -129,6 +135,21 @@ fn process_opcode_store<T: InstructionProcessor>(
     }
 }
 
+/// Calls the function of `jalr`, or returns `None` for another funct3.
+fn process_opcode_jalr<T: InstructionProcessor>(
+    processor: &mut T,
+    insn_bits: u32,
+) -> Option<T::InstructionResult>
+    requires { insn_bits % 128 ≡ 0x67 }
+    ensures { Dispatches T.did insn_bits processor.old processor.new result }
+{
+    let dec_insn = IType::new(insn_bits);
+    match dec_insn.funct3 {
+        0 => Some(processor.process_jalr(dec_insn)),
+        _ => None,
+    }
+}
+
 /// Calls the function of `fence`, or returns `None` for another funct3.
 fn process_opcode_misc_mem<T: InstructionProcessor>(
     processor: &mut T,
@@ -157,7 +178,7 @@ fn process_opcode_misc_mem<T: InstructionProcessor>(
 /// the word is no row (`outside`) and the processor is what it was (`unchanged`); no word is two rows
 /// or has two tuples of fields (`unique`).
 ///
-/// Two rows are laxer than the specification: `slli` with any funct7, and `jalr` with any funct3.
+/// A word whose funct3 or funct7 is not the row's is outside the table.
 ///
 /// # Examples
 ///
@@ -199,7 +220,7 @@ fn dispatch<T: InstructionProcessor>(
         OPCODE_LOAD => process_opcode_load(processor, insn_bits),
         OPCODE_STORE => process_opcode_store(processor, insn_bits),
         OPCODE_JAL => Some(processor.process_jal(JType::new(insn_bits))),
-        OPCODE_JALR => Some(processor.process_jalr(IType::new(insn_bits))),
+        OPCODE_JALR => process_opcode_jalr(processor, insn_bits),
         OPCODE_MISC_MEM => process_opcode_misc_mem(processor, insn_bits),
         _ => None,
     }

@@ -3,7 +3,7 @@
 ghost use Rattle.std.specs.Prelude.{◌≡◌, ◌↔◌, Some, IfSome, IfNone, IfOk, string_bytes};
 ghost use Rattle.rrs_lib.specs.Table.{IsRowAnd, IsIllegal};
 ghost use Rattle.rrs_lib.specs.Texts.{text_of};
-ghost use Rattle.rrs_extra.specs.Showing.{ShowAlike, IfBothTexts};
+ghost use Rattle.rrs_extra.specs.Showing.{ShowAlike, AreOneOrFences, IfBothTexts};
 
 use rrs_lib::instruction_string_outputter::InstructionStringOutputter;
 use rrs_lib::process_instruction;
@@ -15,10 +15,10 @@ use std::alloc::{AllocError, Global};
 /// `Some` of the text of the word's row with its fields at `insn_pc`, or of the error when out of
 /// memory.
 ///
-/// Where both are texts, they are equal exactly when the words are of one row and agree in the
-/// register numbers and the immediate or shift amount that a text of that row shows. So a text
-/// leaves out no operand. What it does leave out is funct7 of `slli`, funct3 of `jalr`, and all
-/// fields of `fence`, which the table takes as they are.
+/// Where both are texts, they are equal exactly when the words are equal or both are `fence` words,
+/// whose fields the table takes as they are and no text shows (`faithful`). So a text is the word
+/// again. That is so because they are equal exactly when the words are of one row and agree in the
+/// register numbers and the immediate or shift amount that a text of that row shows (`alike`).
 ///
 /// This needs one address for both words, since a branch is printed with its target: `beq` by 8
 /// bytes at 0x100 and by 4 bytes at 0x104 have the same text.
@@ -38,6 +38,8 @@ pub fn both_texts(
     ensures first_outside { IfNone result.0 (IsIllegal first) }
     ensures second_outside { IfNone result.1 (IsIllegal second) }
     ensures faithful { IfBothTexts result.0 result.1
+        (λ text other. (text ≡ other) ↔ AreOneOrFences first second) }
+    ensures alike { IfBothTexts result.0 result.1
         (λ text other. (text ≡ other) ↔ ShowAlike first second) }
 {
     (

@@ -119,6 +119,23 @@ fn jumps_to_the_last_addresses(rt: HostRuntime) -> Result<(), Fail> {
     Ok(())
 }
 
+/// `jalr` with another funct3, and `slli` with another funct7.
+#[test]
+fn other_functs_are_illegal(rt: HostRuntime) -> Result<(), Fail> {
+    for word in [0x0000_9067, 0xfe10_9093] {
+        let mut memory = VecMemory::new(vec![in rt.alloc(); word]?);
+        let mut hart = HartState::new();
+        let mut executor = InstructionExecutor {
+            mem: &mut memory,
+            hart_state: &mut hart,
+        };
+        let illegal = Err(InstructionException::IllegalInstruction(0, word));
+        assert_eq!(rt; executor.step(), illegal);
+        assert_eq!(rt; hart.pc, 0);
+    }
+    Ok(())
+}
+
 #[test]
 fn an_empty_memory_has_no_instruction(rt: HostRuntime) {
     let mut memory = VecMemory::new(Vec::new(rt.alloc()));

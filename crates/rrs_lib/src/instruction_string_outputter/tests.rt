@@ -81,7 +81,7 @@ fn decodes_as_in_the_example(rt: HostRuntime) -> Result<(), Fail> {
     Ok(())
 }
 
-/// Addresses below 0, negative immediates, and a funct7 and a funct3 that the row leaves open.
+/// Addresses below 0, and negative immediates.
 #[test]
 fn texts_at_address_zero(rt: HostRuntime) -> Result<(), Fail> {
     let table = [
@@ -91,8 +91,6 @@ fn texts_at_address_zero(rt: HostRuntime) -> Result<(), Fail> {
         (0xfe000fa3, "sb x0, -1(x0)"),
         (0xfff00067, "jalr x0, 0xffffffff(x0)"),
         (0x00008067, "jalr x0, 0x000(x1)"),
-        (0xfe109093, "slli x1, x1, 1"),
-        (0x00009067, "jalr x0, 0x000(x1)"),
     ];
     let mut outputter = InstructionStringOutputter {
         insn_pc: 0,
@@ -105,14 +103,17 @@ fn texts_at_address_zero(rt: HostRuntime) -> Result<(), Fail> {
     Ok(())
 }
 
-/// ecall, fence.i, and the words of all ones and of all zeros are no row.
+/// ecall, fence.i, slli with another funct7, jalr with another funct3, and the words of all ones and
+/// of all zeros are no row.
 #[test]
 fn words_outside_the_table_have_no_text(rt: HostRuntime) {
     let mut outputter = InstructionStringOutputter {
         insn_pc: 0,
         alloc: rt.alloc(),
     };
-    for insn_bits in [0x00000073, 0x0000100f, 0xffffffff, 0x00000000] {
+    for insn_bits in [
+        0x00000073, 0x0000100f, 0xfe109093, 0x00009067, 0xffffffff, 0x00000000,
+    ] {
         let answer = process_instruction(&mut outputter, insn_bits);
         assert!(rt; answer.is_none(), "of {insn_bits:#010x}");
     }

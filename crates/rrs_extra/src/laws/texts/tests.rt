@@ -3,20 +3,33 @@
 use super::*;
 use std::test::Fail;
 
-/// What a text does not show: funct7 of `slli`, funct3 of `jalr`, and all fields of `fence`.
+/// What a text does not show: the fields of `fence`.
 #[test]
-fn words_that_show_alike_have_one_text(rt: HostRuntime) -> Result<(), Fail> {
+fn fences_have_one_text(rt: HostRuntime) -> Result<(), Fail> {
+    for other in [0x0000000f, 0x0330000f, 0x8330000f, 0x0100000f, 0xffff8f8f] {
+        let (one, other_text) = both_texts(rt.alloc(), 0, 0x0ff0000f, other);
+        assert_eq!(rt; one.ok_or("no row")??.as_str(), "fence");
+        assert_eq!(rt;
+            other_text.ok_or("no row")??.as_str(),
+            "fence",
+            "of {other:#010x}"
+        );
+    }
+    Ok(())
+}
+
+/// What would show alike is outside the table: `slli` with another funct7, `jalr` with another
+/// funct3.
+#[test]
+fn words_of_other_functs_have_no_text(rt: HostRuntime) -> Result<(), Fail> {
     let pairs = [
         (0xfe109093, 0x00109093, "slli x1, x1, 1"),
         (0x00009067, 0x00008067, "jalr x0, 0x000(x1)"),
-        (0x0ff0000f, 0x0000000f, "fence"),
     ];
-    for (first, second, expected) in pairs {
-        let (one, other) = both_texts(rt.alloc(), 0, first, second);
-        let one = one.ok_or("the first is no row")??;
-        let other = other.ok_or("the second is no row")??;
-        assert_eq!(rt; one.as_str(), expected, "the text of {first:#010x}");
-        assert_eq!(rt; other.as_str(), expected, "the text of {second:#010x}");
+    for (outside, row, expected) in pairs {
+        let (none, text) = both_texts(rt.alloc(), 0, outside, row);
+        assert!(rt; none.is_none(), "of {outside:#010x}");
+        assert_eq!(rt; text.ok_or("no row")??.as_str(), expected);
     }
     Ok(())
 }
