@@ -1,5 +1,5 @@
 -- What an address space of regions means. A region has a base, a size, and an inner memory, whose
--- address 0 lies at the base. Addresses are those of the RV32I base instruction set: 0 to 2 ^ 32 - 1.
+-- address 0 lies at the base. Addresses are those of RV32I: 0 to 2 ^ 32 - 1.
 use Rattle.std.specs.Prelude.{◌≡◌, ℕ, zero, suc, ◌+◌, ◌-◌, ◌%◌, ◌^◌, ◌<◌, ◌≤◌, min, Bool, true, false, ◌&&◌, ◌==◌, nat_le, nat_lt, if◌then◌else◌, List, [], ◌∷◌, ◌++◌, length, Option, Some, None, All, Any, AllPairs, slice_get, option_map, refl}
 use Rattle.std.specs.Coded.{Coded, code_by, coded×, coded_ℕ, coded_list}
 use Rattle.rrs_lib.specs.Bytes.{ByteMap}
