@@ -1,9 +1,9 @@
 -- Of a row that fixes its functs and shows all other fields, what a text shows determines the word.
-use Rattle.std.proofs.Common.{◌≡◌, ◌⊎◌, ◌↔◌, inl, inr, ℕ, List, [], ◌∷◌, Option, Some, None, IfSome, Ok, Err, IfOk, string_bytes, refl, ap, ◌∙◌, sym, subst}
+use Rattle.std.proofs.Common.{◌≡◌, ◌⊎◌, ◌↔◌, inl, inr, ℕ, List, [], ◌∷◌, Some, None, IfSome, Ok, Err, IfOk, string_bytes, refl, ap, ◌∙◌, sym, subst}
 use Rattle.rrs_lib.specs.Encodings.{Fields, R, I, IShamt, S, B, U, J, encode}
 use Rattle.rrs_lib.specs.Table.{Row, table, format_of, MeetsFuncts, Decodes, IsRowAnd}
 use Rattle.rrs_lib.specs.Texts.{text_of}
-use Rattle.rrs_extra.specs.Showing.{shown, shown_by, ShowAlike, IsFence, AreOneOrFences, Asked, IfBothTexts}
+use Rattle.rrs_extra.specs.Showing.{shown, shown_by, ShowAlike, AreOneOrFences, Asked, IfBothTexts}
 use Rattle.rrs_extra.proofs.Faithful.{ForBoth, at_both, faithful}
 
 -- the funct3 and the funct7 of fields that have them

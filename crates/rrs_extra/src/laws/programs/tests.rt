@@ -1,10 +1,11 @@
 //! The three programs on chosen words: run, and called with their premises proved.
 
 ghost use Rattle.std.specs.Prelude.{◌≡◌, ◌+◌, ◌*◌, ◌≤◌, IfOk, IfSome};
-ghost use Rattle.rrs_extra.specs.ProgramExamples.{words_to_add, words_of_program, three_words, two_regions, words_of_gcd, words_to_copy};
+ghost use Rattle.rrs_extra.specs.ProgramExamples.{words_to_add, words_of_program, three_words, two_regions, pages_to_add, words_of_gcd, words_to_copy};
 ghost use Rattle.rrs_extra.specs.Programs.{HoldsWords, HoldsIllegal, IsMapped, IsWritable, sum_loop_program, gcd_program, copy_words_program};
 
 use super::*;
+use crate::PagedMemory;
 use rrs_lib::instruction_executor::InstructionException;
 use rrs_lib::memories::{MemorySpace, VecMemory};
 use std::alloc::{AllocError, Global};
@@ -50,6 +51,20 @@ fn space_of_two(alloc: Global, low: VecMemory, high: VecMemory) -> Option<Memory
         return None;
     }
     Some(space)
+}
+
+/// A page that begins with the program and the words to add up.
+fn page_to_add(alloc: Global) -> Result<PagedMemory, AllocError>
+    ensures { IfOk result (λ pages. pages ≡ pages_to_add) }
+{
+    let mut words = words_to_add(alloc)?.mem;
+    words.resize(1024, 0)?;
+    let marks = [false; 1024].to_vec(alloc)?;
+    let mut pages = PagedMemory::new(alloc);
+    match pages.add_page(0, words, marks) {
+        Ok(()) => Ok(pages),
+        Err(_) => Err(AllocError),
+    }
 }
 
 /// A hart that is called at an address, with the address to return to and three arguments.
@@ -115,6 +130,20 @@ fn adds_up_words_of_a_space(rt: HostRuntime) -> Result<(), Fail> {
     } else {
         assert!(rt; false, "no memory for the space");
     }
+    Ok(())
+}
+
+#[test]
+fn adds_up_words_of_a_page(rt: HostRuntime) -> Result<(), Fail> {
+    let mut pages = page_to_add(rt.alloc())?;
+    let mut hart = HartState::new();
+    let end = add_up(&mut pages, &mut hart, 3);
+    assert_eq!(rt; end.steps, 20);
+    assert_eq!(rt;
+        end.exception,
+        Some(InstructionException::IllegalInstruction(0x1c, 0))
+    );
+    assert_eq!(rt; hart.registers[12], 11);
     Ok(())
 }
 
