@@ -15,7 +15,7 @@ fn hart_with(x1: u32, x2: u32) -> HartState {
     hart
 }
 
-// An executor is made and let go over any memory.
+// An executor is made and dropped over any memory.
 fn step_once<M: Memory>(
     mem: &mut M,
     hart_state: &mut HartState,
