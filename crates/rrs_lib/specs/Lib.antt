@@ -17,6 +17,7 @@ pub mod LoadTexts
 -- The code as seen by these: what a processor, the executor and the outputter say of themselves.
 pub mod Dispatching
 pub mod Executor
+pub mod Accesses
 pub mod Outputter
 pub mod SpaceFields
 pub mod SpaceLends
