@@ -1,5 +1,6 @@
 pub mod Accesses
 pub mod Bitwise
+pub mod Boxes
 pub mod Decoder
 pub mod Examples
 pub mod Fields
