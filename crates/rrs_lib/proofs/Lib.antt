@@ -1,6 +1,7 @@
 pub mod Accesses
 pub mod Bitwise
 pub mod Decoder
+pub mod Engines
 pub mod Examples
 pub mod Fields
 pub mod Keeping
@@ -10,6 +11,7 @@ pub mod Programs
 pub mod RegionFields
 pub mod Regions
 pub mod Rows
+mod Instructions
 pub mod SearchOrder
 pub mod SignExtension
 pub mod Signed
