@@ -11,7 +11,6 @@ pub mod Programs
 pub mod RegionFields
 pub mod Regions
 pub mod Rows
-mod Instructions
 pub mod SearchOrder
 pub mod SignExtension
 pub mod Signed

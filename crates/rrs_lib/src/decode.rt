@@ -1,26 +1,26 @@
 //! Decoding a word, and calling a processor's function for it.
 
-ghost use Rattle.std.specs.Prelude.{◌≡◌, ◌%◌, Some, IfSome, IfNone};
-ghost use Rattle.rrs_lib.specs.declared.instruction.Instruction.{Instruction};
+ghost use Rattle.std.specs.Prelude.{◌≡◌, ◌%◌, IfSome, IfNone};
 ghost use Rattle.rrs_lib.specs.Encodings.{Fields};
 ghost use Rattle.rrs_lib.specs.Table.{Row, Decodes, IsIllegal, IsRowAnd, IsOneRowAtMost};
-ghost use Rattle.rrs_lib.specs.Instructions.{IsInstruction, IsDecoded};
+ghost use Rattle.rrs_lib.specs.Instructions.{row_of, fields_of, IsInstruction, IsDecoded};
 
 use crate::InstructionProcessor;
 use crate::instruction::Instruction;
 use crate::instruction_formats::{
     BType, IType, ITypeShamt, JType, OPCODE_AUIPC, OPCODE_BRANCH, OPCODE_JAL, OPCODE_JALR,
-    OPCODE_LOAD, OPCODE_LUI, OPCODE_MISC_MEM, OPCODE_OP, OPCODE_OP_IMM, OPCODE_STORE, RType, SType,
-    UType,
+    OPCODE_LOAD, OPCODE_LUI, OPCODE_MISC_MEM, OPCODE_OP, OPCODE_OP_IMM, OPCODE_STORE,
+    OPCODE_SYSTEM, RType, SType, UType,
 };
 
 /// The instruction that a word is, or `None` where it is none of the table.
 ///
-/// A word whose funct3 or funct7 is not the row's is outside the table. No memory is read: the same
-/// word always gives the same instruction.
+/// A word whose funct3 or funct7 is not the row's is outside the table. `ecall` and `ebreak` are one
+/// word each.
 ///
 /// The clauses: at `Some` the word is that instruction (`decoded`), and at `None` it is no row
-/// (`outside`); an instruction that the word is known to be is the one returned (`only`).
+/// (`outside`); whichever row and fields the word is known to be, they are those of the instruction
+/// (`only`).
 ///
 /// # Examples
 ///
@@ -34,8 +34,8 @@ use crate::instruction_formats::{
 pub fn decode(word: u32) -> Option<Instruction>
     ensures decoded { IfSome result (IsInstruction word) }
     ensures outside { IfNone result (IsIllegal word) }
-    ensures only { (instruction : Instruction) → IsInstruction word instruction
-        → result ≡ Some instruction }
+    ensures only { IfSome result (λ instruction. (row : Row) (f : Fields) → Decodes word row f
+        → (row ≡ row_of instruction) × (f ≡ fields_of instruction)) }
 {
     decode_opcode(word)
 }
@@ -56,6 +56,7 @@ fn decode_opcode(word: u32) -> Option<Instruction>
         OPCODE_JAL => Some(Instruction::Jal(JType::new(word))),
         OPCODE_JALR => decode_jalr(word),
         OPCODE_MISC_MEM => decode_misc_mem(word),
+        OPCODE_SYSTEM => decode_system(word),
         _ => None,
     }
 }
@@ -192,10 +193,23 @@ fn decode_misc_mem(word: u32) -> Option<Instruction>
     }
 }
 
+/// The `ecall` or `ebreak` that a word is, or `None` for any other SYSTEM word.
+fn decode_system(word: u32) -> Option<Instruction>
+    requires { word % 128 ≡ 0x73 }
+    ensures { IsDecoded word result }
+{
+    let dec_insn = IType::new(word);
+    match (dec_insn.rd, dec_insn.funct3, dec_insn.rs1, dec_insn.imm) {
+        (0, 0, 0, 0) => Some(Instruction::Ecall(dec_insn)),
+        (0, 0, 0, 1) => Some(Instruction::Ebreak(dec_insn)),
+        _ => None,
+    }
+}
+
 /// Decodes the word `insn_bits`, and calls the processor's function for it.
 ///
-/// The rows of the table are RV32I and the M extension, without `ecall`, `ebreak` and the other
-/// SYSTEM instructions. A word that is a row's is passed, as the decoded fields, to that row's
+/// The rows of the table are RV32I and the M extension; of the SYSTEM instructions, `ecall` and
+/// `ebreak` alone. A word that is a row's is passed, as the decoded fields, to that row's
 /// function, which is called once, and the result is `Some` of what it returns. A word is one row's
 /// at most. The result is `None` exactly for the words outside the table, and the processor is then
 /// unchanged.
@@ -205,7 +219,8 @@ fn decode_misc_mem(word: u32) -> Option<Instruction>
 /// the word is no row (`outside`) and the processor is what it was (`unchanged`); no word is two rows
 /// or has two tuples of fields (`unique`).
 ///
-/// A word whose funct3 or funct7 is not the row's is outside the table.
+/// A word whose funct3 or funct7 is not the row's is outside the table. `ecall` and `ebreak` are one
+/// word each.
 ///
 /// # Examples
 ///

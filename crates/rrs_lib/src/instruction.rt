@@ -109,6 +109,10 @@ pub enum Instruction {
     Remu(RType),
     /// `fence`: an order of memory accesses, which does nothing here.
     Fence(IType),
+    /// `ecall`: a call of the environment, which is a fault here.
+    Ecall(IType),
+    /// `ebreak`: a breakpoint, which is a fault here.
+    Ebreak(IType),
 }
 
 impl Instruction {
@@ -177,7 +181,8 @@ impl Instruction {
             Instruction::Rem(dec_insn) => processor.process_rem(*dec_insn),
             Instruction::Remu(dec_insn) => processor.process_remu(*dec_insn),
             Instruction::Fence(dec_insn) => processor.process_fence(*dec_insn),
+            Instruction::Ecall(dec_insn) => processor.process_ecall(*dec_insn),
+            Instruction::Ebreak(dec_insn) => processor.process_ebreak(*dec_insn),
         }
     }
 }
-
