@@ -2,6 +2,7 @@ pub mod Accesses
 pub mod Bitwise
 pub mod Boxes
 pub mod Decoder
+pub mod Engines
 pub mod Examples
 pub mod Fields
 pub mod Keeping

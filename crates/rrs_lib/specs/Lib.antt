@@ -5,6 +5,7 @@
 pub mod Words
 pub mod Encodings
 pub mod Table
+pub mod Instructions
 pub mod Results
 pub mod Machine
 pub mod Steps
@@ -19,6 +20,8 @@ pub mod LoadTexts
 -- The code as seen by these: what a processor, the executor and the outputter say of themselves.
 pub mod Dispatching
 pub mod Executor
+pub mod Engines
+pub mod Decoded
 pub mod Outputter
 pub mod SpaceFields
 pub mod SpaceLends

@@ -85,7 +85,7 @@ fn sign_extended(value: u32, width: u32) -> i32
 }
 
 /// The R format: operations on two registers.
-#[derive(Debug, PartialEq, Drop)]
+#[derive(Debug, PartialEq, Clone, Copy)]
 pub struct RType {
     /// Bits 31 to 25, below 128: which of the instructions with this opcode and funct3 it is.
     pub funct7: u32,
@@ -117,7 +117,7 @@ impl RType {
 }
 
 /// The I format: operations on a register and an immediate, loads, `jalr` and `fence`.
-#[derive(Debug, PartialEq, Drop)]
+#[derive(Debug, PartialEq, Clone, Copy)]
 pub struct IType {
     /// Bits 31 to 20 are the immediate's bits 11 to 0: it is between -2048 and 2047.
     pub imm: i32,
@@ -148,7 +148,7 @@ impl IType {
 
 /// The variant of the I format whose immediate is a funct7 and a shift amount: `slli`, `srli` and
 /// `srai`.
-#[derive(Debug, PartialEq, Drop)]
+#[derive(Debug, PartialEq, Clone, Copy)]
 pub struct ITypeShamt {
     /// Bits 31 to 25, below 128: which of the instructions with this opcode and funct3 it is. That
     /// of `slli` may be anything.
@@ -181,7 +181,7 @@ impl ITypeShamt {
 }
 
 /// The S format: stores.
-#[derive(Debug, PartialEq, Drop)]
+#[derive(Debug, PartialEq, Clone, Copy)]
 pub struct SType {
     /// Bits 31 to 25 are the immediate's bits 11 to 5, and bits 11 to 7 its bits 4 to 0: it is
     /// between -2048 and 2047. The address is the value of `rs1` plus this.
@@ -211,7 +211,7 @@ impl SType {
 }
 
 /// The B format: branches.
-#[derive(Debug, PartialEq, Drop)]
+#[derive(Debug, PartialEq, Clone, Copy)]
 pub struct BType {
     /// Bit 31 is the immediate's bit 12, bit 7 its bit 11, bits 30 to 25 its bits 10 to 5, and bits
     /// 11 to 8 its bits 4 to 1. Bit 0 is 0: it is an even number between -4096 and 4094, the offset
@@ -248,7 +248,7 @@ impl BType {
 }
 
 /// The U format: `lui` and `auipc`.
-#[derive(Debug, PartialEq, Drop)]
+#[derive(Debug, PartialEq, Clone, Copy)]
 pub struct UType {
     /// Bits 31 to 12 are the immediate's bits 31 to 12, and its lower bits are 0: it is a multiple
     /// of 4096 between -2147483648 and 2147479552.
@@ -272,7 +272,7 @@ impl UType {
 }
 
 /// The J format: `jal`.
-#[derive(Debug, PartialEq, Drop)]
+#[derive(Debug, PartialEq, Clone, Copy)]
 pub struct JType {
     /// Bit 31 is the immediate's bit 20, bits 19 to 12 its bits 19 to 12, bit 20 its bit 11, and
     /// bits 30 to 21 its bits 10 to 1. Bit 0 is 0: it is an even number between -1048576 and

@@ -11,6 +11,7 @@
 
 mod arithmetic;
 mod decode;
+pub mod instruction;
 pub mod instruction_executor;
 pub mod instruction_formats;
 pub mod instruction_string_outputter;
