@@ -8,6 +8,7 @@ pub mod CopyWords
 pub mod CountDown
 pub mod Gcd
 pub mod ProgramExamples
+pub mod PutString
 pub mod SumLoop
 pub mod Words
 pub mod Agreeing

@@ -16,4 +16,5 @@ pub mod PageFields
 pub mod Agreement
 pub mod Showing
 pub mod Programs
+pub mod Printing
 pub mod ProgramExamples
