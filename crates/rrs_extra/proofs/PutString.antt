@@ -2,12 +2,13 @@
 use Rattle.std.proofs.Common.{◌≡◌, ◌≢◌, ℕ, suc, ◌+◌, ◌*◌, ◌%◌, ◌^◌, ◌<◌, ◌≤◌, ◌==◌, List, [], ◌∷◌, ◌++◌, length, slice_index, pos, neg_ℤ, not, Bool, true, false, Option, Some, None, IsTrue, inl, inr, refl, sym, ap, subst, ◌∙◌, arith, append-nil}
 use Rattle.std.proofs.lemmas.Bool.Decides.{nat_tests}
 use Rattle.rrs_lib.specs.declared.MemAccessSize.TheVariants.{Byte}
+use Rattle.rrs_lib.specs.declared.instruction_executor.InstructionException.{InstructionException}
 use Rattle.rrs_lib.specs.declared.instruction_executor.InstructionException.TheVariants.{IllegalInstruction}
 use Rattle.rrs_lib.specs.Words.{word}
 use Rattle.rrs_lib.specs.Table.{Row, Decodes}
 use Rattle.rrs_lib.specs.Bytes.{ByteMap, little_endian, all_writable, store, sum_if_both, at_place}
 use Rattle.rrs_lib.specs.Machine.{State, reg, made_even}
-use Rattle.rrs_lib.specs.Steps.{RunUntil}
+use Rattle.rrs_lib.specs.Steps.{RunUntil, IsOnlyRunUntil}
 use Rattle.rrs_lib.specs.Accesses.{Access, Read, Write, fetch, AccessesOfRun, answers_of_run}
 use Rattle.rrs_lib.proofs.Examples.{of_I, of_S, of_B, of_J}
 use Rattle.rrs_lib.proofs.Decoder.{decodes}
@@ -267,3 +268,24 @@ puts : (text : List ℕ) (s : State) → 15 ≤ length s.registers → PutString
 puts text s long starts small port_small =
     let open_s = Programs.opened s long in
     subst (PutsString text) (sym open_s.same) (puts_from text open_s.others (reg s 1) (reg s 10) (reg s 11) (reg s 12) (reg s 13) (reg s 14) (reg s 15) s.pc s.last s.bytes s.writable (subst (PutStringStarts text) open_s.same starts) small port_small)
+
+-- what a call of `run` returned
+pub record PutAll (text : List ℕ) (s : State) (steps : ℕ) (e : Option InstructionException) (t : State) : Type 0 where
+  pub steps_made : steps ≡ 5 * length text + 3
+  pub fault : e ≡ Some (IllegalInstruction (reg s 1) (word_at s.bytes (reg s 1)))
+  pub bytes_kept : (b : ℕ) → b ≢ reg s 10 → t.bytes b ≡ s.bytes b
+  pub printed : (accesses : List Access) → AccessesOfRun s (answers_of_run steps e) accesses → writes_of accesses ≡ writes_to (reg s 10) text
+
+pub put_all : (text : List ℕ) (s t : State) (limit steps : ℕ) (e : Option InstructionException) → 15 ≤ length s.registers → PutStringStarts text s → reg s 1 < 2 ^ 32 → reg s 10 < 2 ^ 32 → limit ≡ 5 * length text + 4 → IsOnlyRunUntil limit s steps e t → PutAll text s steps e t
+put_all text s t limit steps e long starts small port_small limit_is only =
+    let known = puts text s long starts small port_small in
+    let same = Programs.returned only limit_is known.runs in
+    let P : State → Type 0 = λ x. (b : ℕ) → b ≢ reg s 10 → x.bytes b ≡ s.bytes b in
+    let are : answers_of_run (5 * length text + 3) (Some (IllegalInstruction (reg s 1) (word_at s.bytes (reg s 1)))) ≡ answers_of_run steps e = λ i. answers_of_run (sym same.0 i) (sym same.1 i) in
+    let makes = subst (λ answers. AccessesOfRun s answers known.accesses) are known.makes in
+    record {
+      steps_made = same.0;
+      fault = same.1;
+      bytes_kept = subst P (sym same.2) known.others;
+      printed = λ accesses made. ap writes_of (AccessChains.AccessesOfRun-unique s (answers_of_run steps e) accesses known.accesses made makes) ∙ known.printed;
+    }
