@@ -12,6 +12,8 @@ pub mod Counting
 -- A memory of pages.
 pub mod Pages
 pub mod PageFields
+-- A port that prints.
+pub mod Ports
 -- Laws over several calls: machines that agree, what texts show, and programs.
 pub mod Agreement
 pub mod Showing

@@ -1,0 +1,46 @@
+-- What a port that prints means: one byte, which a program in the simulated machine writes to, and a
+-- log of the bytes that it wrote (RISC-V unprivileged specification, RV32I, "Load and Store
+-- Instructions": a device is reached as memory is).
+use Rattle.std.specs.Prelude.{◌≡◌, ℕ, ◌+◌, ◌-◌, ◌%◌, ◌^◌, min, ◌==◌, nat_lt, Bool, if◌then◌else◌, List, [], ◌∷◌, ◌++◌, Option, Some, None, vec_len, vec_capacity}
+use Rattle.std.specs.Bool.{OnTrue, OnFalse}
+use Rattle.rrs_lib.specs.declared.MemAccessSize.{MemAccessSize}
+use Rattle.rrs_lib.specs.Bytes.{ByteMap}
+use Rattle.rrs_extra.specs.declared.print_port.PrintPort.{PrintPort}
+
+-- ---- as a memory
+
+-- its byte is at 0, and has the value that was written last
+abbrev pub port_bytes : PrintPort → ByteMap
+port_bytes port a = if a == 0 then Some port.last else None
+
+abbrev pub port_writable : PrintPort → ℕ → Bool
+port_writable port a = a == 0
+
+-- no access changes how many bytes the log has room for
+abbrev pub port_layout : PrintPort → List ℕ
+port_layout port = vec_capacity port.log ∷ []
+
+-- ---- as a device
+
+-- whether the log has room for one byte more
+abbrev pub has_room : PrintPort → Bool
+has_room port = nat_lt (vec_len port.log) (vec_capacity port.log)
+
+-- The port took a byte. It goes to the end of the log while there is room, and is counted as lost
+-- else. The count stays at 2 ^ 64 - 1 once it is there.
+pub record Takes (old : PrintPort) (byte : ℕ) (new : PrintPort) : Type 0 where
+  pub last : new.last ≡ byte
+  pub log : new.log.items
+      ≡ (if has_room old then old.log.items ++ byte ∷ [] else old.log.items)
+  pub lost : new.lost ≡ (if has_room old then old.lost else min (old.lost + 1) (2 ^ 64 - 1))
+  pub room_kept : vec_capacity new.log ≡ vec_capacity old.log
+
+-- a read leaves the whole port
+abbrev pub port_reads : PrintPort → ℕ → MemAccessSize → PrintPort → Option ℕ → Type 0
+port_reads old address size new answer = new ≡ old
+
+-- by a write that is granted it takes the low byte; one that is refused leaves the whole port
+pub record PortWrites (old : PrintPort) (address : ℕ) (size : MemAccessSize) (value : ℕ)
+    (new : PrintPort) (answer : Bool) : Type 0 where
+  pub taken : OnTrue answer (Takes old (value % 256) new)
+  pub refused : OnFalse answer (new ≡ old)
