@@ -1,6 +1,7 @@
 pub mod AccessChains
 pub mod Accesses
 pub mod Bitwise
+pub mod Boxes
 pub mod Decoder
 pub mod Examples
 pub mod Fields

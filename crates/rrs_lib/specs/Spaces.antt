@@ -1,6 +1,6 @@
 -- What an address space of regions means. A region has a base, a size, and an inner memory, whose
 -- address 0 lies at the base. Addresses are those of RV32I: 0 to 2 ^ 32 - 1.
-use Rattle.std.specs.Prelude.{◌≡◌, ℕ, zero, suc, ◌+◌, ◌-◌, ◌%◌, ◌^◌, ◌<◌, ◌≤◌, min, Bool, true, false, ◌&&◌, ◌==◌, nat_le, nat_lt, if◌then◌else◌, List, [], ◌∷◌, ◌++◌, length, Option, Some, None, All, Any, AllPairs, slice_get, option_map, refl}
+use Rattle.std.specs.Prelude.{◌≡◌, ℕ, zero, suc, ◌+◌, ◌-◌, ◌%◌, ◌^◌, ◌<◌, ◌≤◌, min, Bool, true, false, ◌&&◌, ◌==◌, nat_le, nat_lt, if◌then◌else◌, List, [], ◌∷◌, ◌++◌, length, Option, Some, None, map, All, Any, AllPairs, slice_get, option_map, refl}
 use Rattle.std.specs.Coded.{Coded, code_by, coded×, coded_ℕ, coded_list}
 use Rattle.rrs_lib.specs.Bytes.{ByteMap}
 
@@ -139,3 +139,11 @@ module _ {M : Type 0} where
   ServedBecomes a old new P = (i : ℕ) (r s : Region M)
       → slice_get old i ≡ Some r → serves r a ≡ true → slice_get new i ≡ Some s
       → P r.memory (a - r.base) s.memory
+
+  -- What an access at an address does to a space, where P says what it does to an inner memory: to
+  -- the one that serves the address, at the offset from its base. No other region changes.
+  pub record SpaceAccess (a : ℕ) (old new : Space M) (P : M → ℕ → M → Type 0) : Type 0 where
+    pub regions_kept : map bounds new.regions ≡ map bounds old.regions
+    pub others_kept : OthersKept a old.regions new.regions
+    pub served : ServedBecomes a old.regions new.regions P
+    pub counts : CountsCompared old new

@@ -317,9 +317,14 @@ pub enum MemAccessSize {
 /// An implementation says which addresses are mapped, with which byte, which of them are writable,
 /// and its layout, a list of numbers of its own choice that no access changes: for a space of
 /// regions it lists these, so that a caller knows after any number of accesses which they are. Both
-/// calls are proved to keep the laws that their clauses state. A device may keep other state beside
-/// these bytes.
+/// calls are proved to keep the laws that their clauses state.
+///
+/// A device may keep other state beside these bytes. What a call does to all of its value it says
+/// by two relations, `reads` and `writes`. One that has nothing to say beside the laws answers
+/// `Unit {0}` to both.
 pub trait Memory {
+    ghost use Rattle.rrs_lib.specs.declared.MemAccessSize.{MemAccessSize};
+
     /// The byte at each address, or `None` where none is mapped.
     ghost bytes: { Self → ℕ → Option ℕ };
 
@@ -329,13 +334,22 @@ pub trait Memory {
     /// What never changes by an access.
     ghost layout: { Self → List ℕ };
 
+    /// What a read does to the whole value: the memory before, the address, the size, the memory
+    /// after, and the answer.
+    ghost reads: { Self → ℕ → MemAccessSize → Self → Option ℕ → Type 0 };
+
+    /// What a write does to the whole value: the memory before, the address, the size, the value
+    /// that it was handed, the memory after, and the answer.
+    ghost writes: { Self → ℕ → MemAccessSize → ℕ → Self → Bool → Type 0 };
+
     /// Reads `size` bytes from `addr`, which is a multiple of the size.
     ///
     /// Returns their little-endian value, or `None` exactly where one of them is not mapped. No
     /// byte changes.
     fn read_mem(&mut self, addr: u32, size: MemAccessSize) -> Option<u32>
         requires { addr % width size ≡ 0 }
-        ensures laws { Reads bytes writable layout self.old self.new addr (width size) result };
+        ensures laws { Reads bytes writable layout self.old self.new addr (width size) result }
+        ensures did { reads self.old addr size self.new result };
 
     /// Writes the low `size` bytes of `store_data` to `addr`, which is a multiple of the size.
     ///
@@ -344,5 +358,6 @@ pub trait Memory {
     fn write_mem(&mut self, addr: u32, size: MemAccessSize, store_data: u32) -> bool
         requires { addr % width size ≡ 0 }
         ensures laws { Writes bytes writable layout
-            self.old self.new addr (width size) store_data result };
+            self.old self.new addr (width size) store_data result }
+        ensures did { writes self.old addr size store_data self.new result };
 }

@@ -103,7 +103,7 @@ fn write_words(words: &mut [u32], addr: u32, size: MemAccessSize, value: u32) ->
 }
 
 impl Memory for VecMemory {
-    ghost use Rattle.rrs_lib.specs.VecBytes.{vec_bytes, vec_writable, vec_layout};
+    ghost use Rattle.rrs_lib.specs.VecBytes.{vec_bytes, vec_writable, vec_layout, vec_reads, VecWrites};
 
     ghost bytes = { vec_bytes };
 
@@ -111,11 +111,16 @@ impl Memory for VecMemory {
 
     ghost layout = { vec_layout };
 
+    ghost reads = { vec_reads };
+
+    ghost writes = { VecWrites };
+
     #[inline]
     fn read_mem(&mut self, addr: u32, size: MemAccessSize) -> Option<u32>
         requires { addr % width size ≡ 0 }
         ensures laws { Reads vec_bytes vec_writable vec_layout
             self.old self.new addr (width size) result }
+        ensures did { vec_reads self.old addr size self.new result }
         ensures words_kept { self.new.mem.items ≡ self.old.mem.items }
     {
         read_words(&self.mem, addr, size)
@@ -126,6 +131,7 @@ impl Memory for VecMemory {
         requires { addr % width size ≡ 0 }
         ensures laws { Writes vec_bytes vec_writable vec_layout
             self.old self.new addr (width size) store_data result }
+        ensures did { VecWrites self.old addr size store_data self.new result }
         ensures length_kept { vec_len self.new.mem ≡ vec_len self.old.mem }
         ensures others_kept { (i : ℕ) → i ≢ addr / 4
             → slice_index self.new.mem.items i ≡ slice_index self.old.mem.items i }

@@ -1,7 +1,7 @@
 //! What steps return at the edges of words and addresses.
 
-ghost use Rattle.std.specs.Prelude.{◌≡◌, ◌%◌};
-ghost use Rattle.rrs_lib.specs.VecBytes.{vec_bytes, vec_writable, vec_layout};
+ghost use Rattle.std.specs.Prelude.{◌≡◌, ◌+◌, ◌%◌, ◌^◌};
+ghost use Rattle.rrs_lib.specs.VecBytes.{vec_bytes, vec_writable, vec_layout, vec_reads, VecWrites};
 
 use super::*;
 use crate::memories::VecMemory;
@@ -21,6 +21,13 @@ impl Memory for CountedWords {
     ghost writable = { λ counted. vec_writable counted.words };
 
     ghost layout = { λ counted. vec_layout counted.words };
+
+    ghost reads = { λ old address size new answer. vec_reads old.words address size new.words answer
+        × (new.calls ≡ (old.calls + 1) % 2 ^ 64) };
+
+    ghost writes = { λ old address size value new answer.
+        VecWrites old.words address size value new.words answer
+        × (new.calls ≡ (old.calls + 1) % 2 ^ 64) };
 
     fn read_mem(&mut self, addr: u32, size: MemAccessSize) -> Option<u32> {
         self.calls = self.calls.wrapping_add(1);

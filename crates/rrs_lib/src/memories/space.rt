@@ -8,7 +8,7 @@ ghost use Rattle.std.specs.Borrow.{sem};
 ghost use Rattle.rrs_lib.specs.Bytes.{width, Reads, Writes};
 ghost use Rattle.rrs_lib.specs.Spaces.{space_bytes, space_writable, space_layout, bounds, serves};
 ghost use Rattle.rrs_lib.specs.Spaces.{Overlaps, AreAligned, IsWordRegion, IsSpace, IsServedAt};
-ghost use Rattle.rrs_lib.specs.Spaces.{memory_at, OthersKept, ServedBecomes, CountsCompared};
+ghost use Rattle.rrs_lib.specs.Spaces.{memory_at, OthersKept, ServedBecomes, CountsCompared, SpaceAccess};
 ghost use Rattle.rrs_lib.specs.Spaces.{binary_digits};
 ghost use Rattle.rrs_lib.specs.SpaceFields.{region_of, base_at, IsSearchOrder};
 
@@ -106,6 +106,7 @@ impl<M: Memory> MemoryRegion<M> {
         requires aligned { (addr - self.old.base) % width size ≡ 0 }
         ensures laws { Reads M.bytes M.writable M.layout
             self.old.memory self.new.memory (addr - self.old.base) (width size) result }
+        ensures did { M.reads self.old.memory (addr - self.old.base) size self.new.memory result }
         ensures rest_kept { self.new ≡ record self.old { memory = self.new.memory } }
     {
         self.memory.read_mem(addr - self.base, size)
@@ -118,6 +119,8 @@ impl<M: Memory> MemoryRegion<M> {
         requires aligned { (addr - self.old.base) % width size ≡ 0 }
         ensures laws { Writes M.bytes M.writable M.layout
             self.old.memory self.new.memory (addr - self.old.base) (width size) store_data result }
+        ensures did { M.writes
+            self.old.memory (addr - self.old.base) size store_data self.new.memory result }
         ensures rest_kept { self.new ≡ record self.old { memory = self.new.memory } }
     {
         self.memory.write_mem(addr - self.base, size, store_data)
@@ -338,6 +341,12 @@ impl<M: Memory> Memory for MemorySpace<M> {
 
     ghost layout = { λ s. space_layout M.layout s.regions };
 
+    ghost reads = { λ old address size new answer. SpaceAccess address old new
+        (λ before offset after. M.reads before offset size after answer) };
+
+    ghost writes = { λ old address size value new answer. SpaceAccess address old new
+        (λ before offset after. M.writes before offset size value after answer) };
+
     fn read_mem(&mut self, addr: u32, size: MemAccessSize) -> Option<u32>
         requires { addr % width size ≡ 0 }
         ensures laws { Reads
@@ -345,6 +354,8 @@ impl<M: Memory> Memory for MemorySpace<M> {
             (λ s. space_writable M.writable s.regions)
             (λ s. space_layout M.layout s.regions)
             self.old self.new addr (width size) result }
+        ensures did { SpaceAccess addr self.old self.new
+            (λ before offset after. M.reads before offset size after result) }
         ensures regions_kept { map bounds self.new.regions ≡ map bounds self.old.regions }
         ensures others_kept { OthersKept addr self.old.regions self.new.regions }
         ensures served { ServedBecomes addr self.old.regions self.new.regions (λ before offset after.
@@ -366,6 +377,8 @@ impl<M: Memory> Memory for MemorySpace<M> {
             (λ s. space_writable M.writable s.regions)
             (λ s. space_layout M.layout s.regions)
             self.old self.new addr (width size) store_data result }
+        ensures did { SpaceAccess addr self.old self.new
+            (λ before offset after. M.writes before offset size store_data after result) }
         ensures regions_kept { map bounds self.new.regions ≡ map bounds self.old.regions }
         ensures others_kept { OthersKept addr self.old.regions self.new.regions }
         ensures served { ServedBecomes addr self.old.regions self.new.regions (λ before offset after.

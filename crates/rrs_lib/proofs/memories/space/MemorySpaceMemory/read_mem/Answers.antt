@@ -40,6 +40,7 @@ returns-in-Some g c =
     let laws = c.read.ensures.laws in
     let Access : g.row.M.Denot → ℕ → g.row.M.Denot → Type 0 =
     λ before offset after. Reads bytes writable layout before after offset (width n) c.read.result in
+    let Did : g.row.M.Denot → ℕ → g.row.M.Denot → Type 0 = λ before offset after. g.M.Memory.reads before offset n after c.read.result in
     let count : c.self.inside.looked_at ≡ c.region_at.new.self.looked_at = ap (λ s. s.looked_at) c.self.view_is in
     record {
       laws = record {
@@ -49,6 +50,12 @@ returns-in-Some g c =
         layout_kept = rw e (layout-with_memory layout old i (region_of x) m served.1 laws.layout_kept);
         lawful = served_lawful bytes writable old a i (region_of x) n space c.requires served.1 served.2 laws.lawful;
         ends = space_ends bytes writable old;
+      };
+      did = record {
+        regions_kept = rw e (bounds-with_memory old i m);
+        others_kept = rw e (OthersKept-with_memory old i (region_of x) m a served.1 served.2);
+        served = rw e (served_becomes Did old a i (region_of x) m space served.1 served.2 c.read.ensures.did);
+        counts = counts_along c.args.self.now c.region_at.new.self _ count c.in-Some.ensures.counts;
       };
       regions_kept = rw e (bounds-with_memory old i m);
       others_kept = rw e (OthersKept-with_memory old i (region_of x) m a served.1 served.2);
@@ -70,6 +77,7 @@ returns-in-None g c =
     let layout = g.M.Memory.layout in
     let Access : g.row.M.Denot → ℕ → g.row.M.Denot → Type 0 =
     λ before offset after. Reads bytes writable layout before after offset (width n) None in
+    let Did : g.row.M.Denot → ℕ → g.row.M.Denot → Type 0 = λ before offset after. g.M.Memory.reads before offset n after None in
     record {
       laws = record {
         value = sym (unserved_value bytes old a n space c.requires c.ranges.addr.fits unserved);
@@ -78,6 +86,12 @@ returns-in-None g c =
         layout_kept = ap (space_layout layout) same;
         lawful = unserved_lawful bytes writable old a n space c.requires c.ranges.addr.fits unserved;
         ends = space_ends bytes writable old;
+      };
+      did = record {
+        regions_kept = ap (λ rs. map bounds rs) same;
+        others_kept = λ i r stands miss. ap (λ rs. slice_get rs i) same ∙ stands;
+        served = unserved_becomes Did old c.region_at.new.self.regions a unserved;
+        counts = c.in-None.ensures.counts;
       };
       regions_kept = ap (λ rs. map bounds rs) same;
       others_kept = λ i r stands miss. ap (λ rs. slice_get rs i) same ∙ stands;
