@@ -5,7 +5,10 @@ use Rattle.std.specs.Prelude.{◌≡◌, ℕ, ◌+◌, ◌-◌, ◌%◌, ◌^◌
 use Rattle.std.specs.Bool.{OnTrue, OnFalse}
 use Rattle.rrs_lib.specs.declared.MemAccessSize.{MemAccessSize}
 use Rattle.rrs_lib.specs.Bytes.{ByteMap}
+use Rattle.rrs_lib.specs.VecBytes.{vec_bytes, vec_writable, vec_layout, VecWrites}
 use Rattle.rrs_extra.specs.declared.print_port.PrintPort.{PrintPort}
+use Rattle.rrs_extra.specs.declared.print_port.RamOrPort.{RamOrPort}
+use Rattle.rrs_extra.specs.declared.print_port.RamOrPort.TheVariants.{Ram, Port}
 
 -- ---- as a memory
 
@@ -44,3 +47,31 @@ pub record PortWrites (old : PrintPort) (address : ℕ) (size : MemAccessSize) (
     (new : PrintPort) (answer : Bool) : Type 0 where
   pub taken : OnTrue answer (Takes old (value % 256) new)
   pub refused : OnFalse answer (new ≡ old)
+
+-- ---- words or a port
+
+-- each kind has its own bytes, writable addresses and layout
+abbrev pub part_bytes : RamOrPort → ByteMap
+part_bytes (Ram words) = vec_bytes words
+part_bytes (Port port) = port_bytes port
+
+abbrev pub part_writable : RamOrPort → ℕ → Bool
+part_writable (Ram words) = vec_writable words
+part_writable (Port port) = port_writable port
+
+abbrev pub part_layout : RamOrPort → List ℕ
+part_layout (Ram words) = vec_layout words
+part_layout (Port port) = port_layout port
+
+-- a read leaves the whole memory
+abbrev pub part_reads : RamOrPort → ℕ → MemAccessSize → RamOrPort → Option ℕ → Type 0
+part_reads old address size new answer = new ≡ old
+
+-- a memory stays of its kind, and is written to as one of that kind
+abbrev pub part_writes : RamOrPort → ℕ → MemAccessSize → ℕ → RamOrPort → Bool → Type 0
+part_writes (Ram old) address size value (Ram new) answer =
+    VecWrites old address size value new answer
+part_writes (Port old) address size value (Port new) answer =
+    PortWrites old address size value new answer
+part_writes (Ram old) address size value (Port new) answer = ⊥
+part_writes (Port old) address size value (Ram new) answer = ⊥

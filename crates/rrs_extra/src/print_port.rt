@@ -5,6 +5,7 @@ ghost use Rattle.std.specs.Bool.{OnTrue, OnFalse};
 ghost use Rattle.rrs_lib.specs.Bytes.{width, Reads, Writes};
 ghost use Rattle.rrs_extra.specs.Ports.{port_bytes, port_writable, port_layout, port_reads, PortWrites, Takes};
 
+use rrs_lib::memories::VecMemory;
 use rrs_lib::{MemAccessSize, Memory};
 use std::alloc::{AllocError, Global};
 
@@ -77,6 +78,10 @@ impl Memory for PrintPort {
 
     ghost layout = { port_layout };
 
+    ghost reads = { port_reads };
+
+    ghost writes = { PortWrites };
+
     fn read_mem(&mut self, addr: u32, size: MemAccessSize) -> Option<u32>
         requires { addr % width size ≡ 0 }
         ensures laws { Reads port_bytes port_writable port_layout
@@ -101,6 +106,43 @@ impl Memory for PrintPort {
             MemAccessSize::Byte => self.write_byte(addr, store_data),
             MemAccessSize::HalfWord => false,
             MemAccessSize::Word => false,
+        }
+    }
+}
+
+/// A memory that is one of two kinds, so that a space may have regions of both: words, or a port.
+#[derive(Drop)]
+pub enum RamOrPort {
+    /// Words, all of them writable.
+    Ram(VecMemory),
+    /// A port.
+    Port(PrintPort),
+}
+
+impl Memory for RamOrPort {
+    ghost use Rattle.rrs_extra.specs.Ports.{part_bytes, part_writable, part_layout, part_reads, part_writes};
+
+    ghost bytes = { part_bytes };
+
+    ghost writable = { part_writable };
+
+    ghost layout = { part_layout };
+
+    ghost reads = { part_reads };
+
+    ghost writes = { part_writes };
+
+    fn read_mem(&mut self, addr: u32, size: MemAccessSize) -> Option<u32> {
+        match self {
+            RamOrPort::Ram(ram) => ram.read_mem(addr, size),
+            RamOrPort::Port(port) => port.read_mem(addr, size),
+        }
+    }
+
+    fn write_mem(&mut self, addr: u32, size: MemAccessSize, store_data: u32) -> bool {
+        match self {
+            RamOrPort::Ram(ram) => ram.write_mem(addr, size, store_data),
+            RamOrPort::Port(port) => port.write_mem(addr, size, store_data),
         }
     }
 }
