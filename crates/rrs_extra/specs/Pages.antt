@@ -1,9 +1,11 @@
 -- What a memory of pages means. Page p holds 1,024 words, of which word i lies at 4096 p + 4 i, as
 -- four bytes, lowest first; a word is writable unless it is marked read-only.
-use Rattle.std.specs.Prelude.{◌≡◌, ℕ, ◌/◌, ◌%◌, ◌^◌, ◌<◌, ◌==◌, nat_lt, Bool, false, not, if◌then◌else◌, List, [], ◌∷◌, length, map, All, slice_get, slice_index, Option, Some, None, option_map, option_and_then, unwrap_or, refl}
+use Rattle.std.specs.Prelude.{◌≡◌, ◌≢◌, ℕ, ◌/◌, ◌%◌, ◌^◌, ◌<◌, ◌==◌, nat_lt, Bool, false, not, if◌then◌else◌, List, [], ◌∷◌, length, map, All, slice_get, slice_index, Option, Some, None, option_map, option_and_then, unwrap_or, refl}
 use Rattle.std.specs.List.Sorted.{IsStrictlyIncreasing}
 use Rattle.std.specs.Coded.{Coded, code_by, coded×, coded_ℕ, coded_bool, coded_list}
-use Rattle.rrs_lib.specs.Bytes.{ByteMap}
+use Rattle.std.specs.Bool.{OnTrue, OnFalse}
+use Rattle.rrs_lib.specs.declared.MemAccessSize.{MemAccessSize}
+use Rattle.rrs_lib.specs.Bytes.{ByteMap, width, store}
 
 -- a page: its number, its words, and for each word whether it is read-only
 pub record Page : Type 0 where
@@ -80,3 +82,17 @@ abbrev pub inserted : Page → List Page → List Page
 inserted new [] = new ∷ []
 inserted new (p ∷ pages) =
     if nat_lt new.number p.number then new ∷ p ∷ pages else p ∷ inserted new pages
+
+-- a read leaves the pages
+abbrev pub paged_reads : List Page → ℕ → MemAccessSize → List Page → Option ℕ → Type 0
+paged_reads old address size new answer = new ≡ old
+
+-- a write that is granted stores its bytes, in one word; one that is refused leaves the pages
+pub record PagedWrites (old : List Page) (address : ℕ) (size : MemAccessSize) (value : ℕ)
+    (new : List Page) (answer : Bool) : Type 0 where
+  pub written : OnTrue answer
+      (paged_bytes new ≡ store (paged_bytes old) address (width size) value)
+  pub refused : OnFalse answer (new ≡ old)
+  pub layout_kept : paged_layout new ≡ paged_layout old
+  pub marks_kept : marks new ≡ marks old
+  pub others_kept : (a : ℕ) → a / 4 ≢ address / 4 → word_at new a ≡ word_at old a

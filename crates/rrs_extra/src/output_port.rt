@@ -1,7 +1,7 @@
 //! A device that a user might write: a port of one byte, which a program in the simulated machine
 //! writes to.
 
-ghost use Rattle.std.specs.Prelude.{◌≡◌, ◌==◌, ◌%◌, ◌^◌, ◌↔◌, IsTrue, Some, None, [], if◌then◌else◌};
+ghost use Rattle.std.specs.Prelude.{◌≡◌, ◌==◌, ◌+◌, ◌-◌, ◌%◌, ◌^◌, min, ◌↔◌, IsTrue, Some, None, [], if◌then◌else◌};
 ghost use Rattle.std.specs.Bool.{OnTrue, OnFalse};
 
 use rrs_lib::instruction_executor::{InstructionException, InstructionExecutor, RunEnd};
@@ -23,6 +23,7 @@ impl OutputPort {
     fn put(&mut self, addr: u32, value: u32) -> bool
         ensures answer { IsTrue result ↔ (addr ≡ 0) }
         ensures taken { OnTrue result (self.new.last ≡ value % 2 ^ 8) }
+        ensures counted { OnTrue result (self.new.writes ≡ min (self.old.writes + 1) (2 ^ 64 - 1)) }
         ensures refused { OnFalse result (self.new ≡ self.old) }
     {
         if addr != 0 {
@@ -40,6 +41,12 @@ impl Memory for OutputPort {
     ghost writable = { λ port a. a == 0 };
 
     ghost layout = { λ port. [] };
+
+    ghost reads = { λ old address size new answer. new ≡ old };
+
+    ghost writes = { λ old address size value new answer.
+        OnTrue answer ((new.last ≡ value % 2 ^ 8) × (new.writes ≡ min (old.writes + 1) (2 ^ 64 - 1)))
+        × OnFalse answer (new ≡ old) };
 
     fn read_mem(&mut self, addr: u32, size: MemAccessSize) -> Option<u32> {
         let last = self.last;
@@ -71,7 +78,7 @@ pub enum Part {
 
 impl Memory for Part {
     ghost use Rattle.std.specs.Prelude.{vec_len, ◌∷◌};
-    ghost use Rattle.rrs_lib.specs.VecBytes.{vec_bytes, vec_writable, vec_layout};
+    ghost use Rattle.rrs_lib.specs.VecBytes.{vec_bytes, vec_writable, vec_layout, VecWrites};
     ghost use Rattle.rrs_extra.specs.declared.output_port.Part.TheVariants.{Words, Port};
 
     ghost bytes = { elim [
@@ -82,6 +89,18 @@ impl Memory for Part {
     ghost writable = { elim [ Words words ↦ vec_writable words | Port port ↦ (λ a. a == 0) ] };
 
     ghost layout = { elim [ Words words ↦ vec_layout words | Port port ↦ [] ] };
+
+    // The part stays of its kind, and it is read or written as one of that kind.
+    ghost reads = { λ old address size new answer. new ≡ old };
+
+    ghost writes = { elim [
+      | Words words ↦ (λ address size value new answer. (after : _) × (new ≡ Words after)
+          × VecWrites words address size value after answer)
+      | Port port ↦ (λ address size value new answer. (after : _) × (new ≡ Port after)
+          × OnTrue answer ((after.last ≡ value % 2 ^ 8)
+          × (after.writes ≡ min (port.writes + 1) (2 ^ 64 - 1)))
+          × OnFalse answer (after ≡ port))
+    ] };
 
     fn read_mem(&mut self, addr: u32, size: MemAccessSize) -> Option<u32> {
         match self {

@@ -8,6 +8,7 @@ ghost use Rattle.rrs_lib.specs.Bytes.{width, little_endian, store, Reads, Writes
 ghost use Rattle.rrs_lib.specs.VecBytes.{bytes_of_words};
 ghost use Rattle.rrs_extra.specs.Pages.{page, page_at, word_at, ArePages, inserted, marks};
 ghost use Rattle.rrs_extra.specs.Pages.{paged_bytes, paged_writable, paged_layout};
+ghost use Rattle.rrs_extra.specs.Pages.{paged_reads, PagedWrites};
 
 use rrs_lib::memories::VecMemory;
 use rrs_lib::{MemAccessSize, Memory};
@@ -166,10 +167,15 @@ impl Memory for PagedMemory {
 
     ghost layout = { paged_layout };
 
+    ghost reads = { paged_reads };
+
+    ghost writes = { PagedWrites };
+
     fn read_mem(&mut self, addr: u32, size: MemAccessSize) -> Option<u32>
         requires { addr % width size ≡ 0 }
         ensures laws { Reads paged_bytes paged_writable paged_layout
             self.old self.new addr (width size) result }
+        ensures did { paged_reads self.old addr size self.new result }
         ensures pages_kept { self.new ≡ self.old }
     {
         match self.pages.get_mut(&(addr >> 12)) {
@@ -182,6 +188,7 @@ impl Memory for PagedMemory {
         requires { addr % width size ≡ 0 }
         ensures laws { Writes paged_bytes paged_writable paged_layout
             self.old self.new addr (width size) store_data result }
+        ensures did { PagedWrites self.old addr size store_data self.new result }
         ensures refused { OnFalse result (self.new ≡ self.old) }
         ensures marks_kept { marks self.new ≡ marks self.old }
         ensures others_kept { (a : ℕ) → a / 4 ≢ addr / 4

@@ -66,3 +66,6 @@ returns-clause-laws c =
       lawful = lawful_pages old a n;
       ends = pages_end old pages.full;
     }
+
+pub returns-clause-did : goal.returns-clause-did
+returns-clause-did c = returns-clause-pages_kept c

@@ -78,5 +78,16 @@ pub returns-clause-others_kept : goal.returns-clause-others_kept
 returns-clause-others_kept c =
     went_words c.self.inside.pages.entries c.args.self.now _ c.args.addr _ _ _ c.self.view_is (before c) (went c)
 
+pub returns-clause-did : goal.returns-clause-did
+returns-clause-did c =
+    let laws = returns-clause-laws c in
+    record {
+      written = laws.written;
+      refused = returns-clause-refused c;
+      layout_kept = laws.layout_kept;
+      marks_kept = returns-clause-marks_kept c;
+      others_kept = returns-clause-others_kept c;
+    }
+
 pub returns-clause-pages : goal.returns-clause-pages
 returns-clause-pages c = invariant_of-self c
