@@ -1,7 +1,7 @@
 -- What a port that prints means: one byte, which a program in the simulated machine writes to, and a
 -- log of the bytes that it wrote (RISC-V unprivileged specification, RV32I, "Load and Store
 -- Instructions": a device is reached as memory is).
-use Rattle.std.specs.Prelude.{◌≡◌, ℕ, ◌+◌, ◌-◌, ◌%◌, ◌^◌, min, ◌==◌, nat_lt, Bool, if◌then◌else◌, List, [], ◌∷◌, ◌++◌, Option, Some, None, vec_len, vec_capacity}
+use Rattle.std.specs.Prelude.{◌≡◌, ℕ, ◌+◌, ◌-◌, ◌%◌, ◌^◌, min, ◌==◌, nat_lt, Bool, if◌then◌else◌, List, [], ◌∷◌, ◌++◌, Option, Some, None, length, vec_capacity}
 use Rattle.std.specs.Bool.{OnTrue, OnFalse}
 use Rattle.rrs_lib.specs.declared.MemAccessSize.{MemAccessSize}
 use Rattle.rrs_lib.specs.Bytes.{ByteMap}
@@ -27,7 +27,7 @@ port_layout port = vec_capacity port.log ∷ []
 
 -- whether the log has room for one byte more
 abbrev pub has_room : PrintPort → Bool
-has_room port = nat_lt (vec_len port.log) (vec_capacity port.log)
+has_room port = nat_lt (length port.log.items) (vec_capacity port.log)
 
 -- The port took a byte. It goes to the end of the log while there is room, and is counted as lost
 -- else. The count stays at 2 ^ 64 - 1 once it is there.
