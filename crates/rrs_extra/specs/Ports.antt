@@ -1,10 +1,11 @@
 -- What a port that prints means: one byte, which a program in the simulated machine writes to, and a
 -- log of the bytes that it wrote (RISC-V unprivileged specification, RV32I, "Load and Store
 -- Instructions": a device is reached as memory is).
-use Rattle.std.specs.Prelude.{◌≡◌, ℕ, ◌+◌, ◌-◌, ◌%◌, ◌^◌, min, ◌==◌, nat_lt, Bool, if◌then◌else◌, List, [], ◌∷◌, ◌++◌, Option, Some, None, length, vec_capacity}
+use Rattle.std.specs.Prelude.{◌≡◌, ℕ, ◌+◌, ◌-◌, ◌%◌, ◌^◌, ◌<◌, min, ◌==◌, nat_lt, Bool, if◌then◌else◌, List, [], ◌∷◌, ◌++◌, Option, Some, None, length, slice_get, vec_capacity}
 use Rattle.std.specs.Bool.{OnTrue, OnFalse}
 use Rattle.rrs_lib.specs.declared.MemAccessSize.{MemAccessSize}
 use Rattle.rrs_lib.specs.Bytes.{ByteMap}
+use Rattle.rrs_lib.specs.Spaces.{Region}
 use Rattle.rrs_lib.specs.VecBytes.{vec_bytes, vec_writable, vec_layout, VecWrites}
 use Rattle.rrs_extra.specs.declared.print_port.PrintPort.{PrintPort}
 use Rattle.rrs_extra.specs.declared.print_port.RamOrPort.{RamOrPort}
@@ -75,3 +76,19 @@ part_writes (Port old) address size value (Port new) answer =
     PortWrites old address size value new answer
 part_writes (Ram old) address size value (Port new) answer = ⊥
 part_writes (Port old) address size value (Ram new) answer = ⊥
+
+-- ---- a port in a space
+
+-- region i is a port, whose byte is at the address
+pub record IsPortAt (regions : List (Region RamOrPort)) (i address : ℕ) (port : PrintPort)
+    : Type 0 where
+  pub region : Region RamOrPort
+  pub stands : slice_get regions i ≡ Some region
+  pub is_port : region.memory ≡ Port port
+  pub begins_there : region.base ≡ address
+  pub has_addresses : 0 < region.size
+
+-- the port took the bytes of a text, one after the other
+abbrev pub TakesText : PrintPort → List ℕ → PrintPort → Type 0
+TakesText old [] new = new ≡ old
+TakesText old (byte ∷ text) new = (mid : PrintPort) × Takes old byte mid × TakesText mid text new
