@@ -1,5 +1,6 @@
 -- The program that prints, as a run with its accesses.
-use Rattle.std.proofs.Common.{◌≡◌, ◌≢◌, ℕ, suc, ◌+◌, ◌*◌, ◌%◌, ◌^◌, ◌<◌, ◌≤◌, ◌==◌, List, [], ◌∷◌, ◌++◌, length, slice_index, pos, neg_ℤ, not, Bool, true, false, Option, Some, None, IsTrue, inl, inr, refl, sym, ap, subst, ◌∙◌, arith, append-nil}
+use Rattle.std.proofs.Common.{◌≡◌, ◌≢◌, ℕ, zero, suc, ◌+◌, ◌*◌, ◌%◌, ◌^◌, ◌<◌, ◌≤◌, ◌==◌, ◌&&◌, nat_lt, List, [], ◌∷◌, ◌++◌, length, slice_index, pos, neg_ℤ, not, Bool, true, false, Option, Some, None, IsTrue, inl, inr, refl, sym, ap, subst, ◌∙◌, arith, append-nil}
+use Rattle.std.proofs.lemmas.Bool.{and_parts, ltb-true}
 use Rattle.std.proofs.lemmas.Bool.Decides.{nat_tests}
 use Rattle.rrs_lib.specs.declared.MemAccessSize.TheVariants.{Byte}
 use Rattle.rrs_lib.specs.declared.instruction_executor.InstructionException.{InstructionException}
@@ -19,7 +20,7 @@ use Rattle.rrs_lib.proofs.AccessChains
 use Rattle.rrs_lib.proofs.AccessChains.{RunsMaking, making}
 use Rattle.rrs_extra.specs.Programs.{HoldsWords, AreApart, word_at}
 use Rattle.rrs_extra.specs.Printing.{HoldsString, put_string_program, PutStringStarts, writes_of, writes_to}
-use Rattle.rrs_extra.proofs.Words.{word_read, instruction, read_after, holds_after}
+use Rattle.rrs_extra.proofs.Words.{word_read, instruction, read_after, holds_after, is_value, value_is}
 
 -- ---- the words
 
@@ -288,4 +289,52 @@ put_all text s t limit steps e long starts small port_small limit_is only =
       fault = same.1;
       bytes_kept = subst P (sym same.2) known.others;
       printed = λ accesses made. ap writes_of (AccessChains.AccessesOfRun-unique s (answers_of_run steps e) accesses known.accesses made makes) ∙ known.printed;
+    }
+
+-- ---- strings of memories that are known, by computation
+
+abbrev pub string_test : ByteMap → ℕ → List ℕ → Bool
+string_test bytes a [] = is_value (bytes a) 0
+string_test bytes a (b ∷ text) = is_value (bytes a) b && (nat_lt 0 b && nat_lt b 256) && string_test bytes (a + 1) text
+
+each_of : (bytes : ByteMap) (a b : ℕ) (text : List ℕ) → bytes a ≡ Some b → ((i : ℕ) → i < length text → bytes (a + 1 + i) ≡ Some (slice_index text i)) → (i : ℕ) → i < length (b ∷ text) → bytes (a + i) ≡ Some (slice_index (b ∷ text) i)
+each_of bytes a b text first rest zero less =
+    let P : ℕ → Type 0 = λ x. bytes x ≡ Some b in
+    let there : a ≡ a + 0 = omega arith in
+    subst P there first
+each_of bytes a b text first rest (suc i) less =
+    let P : ℕ → Type 0 = λ x. bytes x ≡ Some (slice_index text i) in
+    let there : a + 1 + i ≡ a + suc i = omega arith in
+    subst P there (rest i (omega (arith, less)))
+
+not_zero_of : (b : ℕ) (text : List ℕ) → 0 < b → ((i : ℕ) → i < length text → slice_index text i ≢ 0) → (i : ℕ) → i < length (b ∷ text) → slice_index (b ∷ text) i ≢ 0
+not_zero_of b text first rest zero less = λ is. omega (arith, first, is)
+not_zero_of b text first rest (suc i) less = rest i (omega (arith, less))
+
+below_of : (b : ℕ) (text : List ℕ) → b < 256 → ((i : ℕ) → i < length text → slice_index text i < 256) → (i : ℕ) → i < length (b ∷ text) → slice_index (b ∷ text) i < 256
+below_of b text first rest zero less = first
+below_of b text first rest (suc i) less = rest i (omega (arith, less))
+
+pub string_by_test : (bytes : ByteMap) (a : ℕ) (text : List ℕ) → string_test bytes a text ≡ true → HoldsString bytes a text
+string_by_test bytes a [] test =
+    let P : ℕ → Type 0 = λ x. bytes x ≡ Some 0 in
+    let there : a ≡ a + 0 = omega arith in
+    record {
+      each = λ i less. absurd (omega (arith, less));
+      not_zero = λ i less. absurd (omega (arith, less));
+      below_256 = λ i less. absurd (omega (arith, less));
+      ended = subst P there (value_is (bytes a) 0 test);
+    }
+string_by_test bytes a (b ∷ text) test =
+    let both = and_parts _ _ test in
+    let first = and_parts _ _ both.0 in
+    let range = and_parts _ _ first.1 in
+    let rest = string_by_test bytes (a + 1) text both.1 in
+    record {
+      each = each_of bytes a b text (value_is (bytes a) b first.0) rest.each;
+      not_zero = not_zero_of b text (ltb-true 0 b range.0) rest.not_zero;
+      below_256 = below_of b text (ltb-true b 256 range.1) rest.below_256;
+      ended = let P : ℕ → Type 0 = λ x. bytes x ≡ Some 0 in
+          let there : a + 1 + length text ≡ a + length (b ∷ text) = omega arith in
+          subst P there rest.ended;
     }

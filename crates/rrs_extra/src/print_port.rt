@@ -146,3 +146,6 @@ impl Memory for RamOrPort {
         }
     }
 }
+
+#[cfg(test)]
+mod tests;

@@ -35,3 +35,6 @@ pub fn put_string<M: Memory>(executor: &mut InstructionExecutor<M>, text: &[u8])
     registers_of_call(executor.hart_state);
     executor.run(5 * text.len() as u64 + 4)
 }
+
+#[cfg(test)]
+mod tests;
