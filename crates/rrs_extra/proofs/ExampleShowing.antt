@@ -33,20 +33,20 @@ shows-fence = refl
 
 -- fence with two values of its immediate
 fence_255 : Decodes 0x0ff0000f Row.Fence (of_I (pos 255) 0 0 0)
-fence_255 = record { format = refl; in_range = search rules; functs = refl; encoded = refl }
+fence_255 = record { format = refl; in_range = search rules; functs = refl; operands = tt; encoded = refl }
 
 fence_0 : Decodes 0x0000000f Row.Fence (of_I (pos 0) 0 0 0)
-fence_0 = record { format = refl; in_range = search rules; functs = refl; encoded = refl }
+fence_0 = record { format = refl; in_range = search rules; functs = refl; operands = tt; encoded = refl }
 
 pub alike-fence : ShowAlike 0x0ff0000f 0x0000000f
 alike-fence = record { row = Row.Fence; first_fields = of_I (pos 255) 0 0 0; second_fields = of_I (pos 0) 0 0 0; is_first = fence_255; is_second = fence_0; same = refl }
 
 -- branches by 8 and by 4
 beq_8 : Decodes 0x00000463 Row.Beq (of_B (pos 8) 0 0 0)
-beq_8 = record { format = refl; in_range = (omega arith, omega arith, omega arith, omega arith, omega arith, refl); functs = refl; encoded = refl }
+beq_8 = record { format = refl; in_range = (omega arith, omega arith, omega arith, omega arith, omega arith, refl); functs = refl; operands = tt; encoded = refl }
 
 beq_4 : Decodes 0x00000263 Row.Beq (of_B (pos 4) 0 0 0)
-beq_4 = record { format = refl; in_range = (omega arith, omega arith, omega arith, omega arith, omega arith, refl); functs = refl; encoded = refl }
+beq_4 = record { format = refl; in_range = (omega arith, omega arith, omega arith, omega arith, omega arith, refl); functs = refl; operands = tt; encoded = refl }
 
 -- what shows alike is the same by the row and the fields that each word is
 alike_at : (v w : ℕ) (row : Row) (f g : Fields) → Decodes v row f → Decodes w row g → ShowAlike v w → shown_by row f ≡ shown_by row g
@@ -63,10 +63,10 @@ not_alike-beq alike =
 
 -- slli x3, x1, 7 and srli x3, x1, 7
 slli_7 : Decodes 0x00709193 Row.Slli (of_IShamt 0 7 1 1 3)
-slli_7 = record { format = refl; in_range = (omega arith, omega arith, omega arith, omega arith, omega arith); functs = (refl, refl); encoded = refl }
+slli_7 = record { format = refl; in_range = (omega arith, omega arith, omega arith, omega arith, omega arith); functs = (refl, refl); operands = tt; encoded = refl }
 
 srli_7 : Decodes 0x0070d193 Row.Srli (of_IShamt 0 7 1 5 3)
-srli_7 = record { format = refl; in_range = (omega arith, omega arith, omega arith, omega arith, omega arith); functs = (refl, refl); encoded = refl }
+srli_7 = record { format = refl; in_range = (omega arith, omega arith, omega arith, omega arith, omega arith); functs = (refl, refl); operands = tt; encoded = refl }
 
 pub not_alike-shifts : ¬ ShowAlike 0x00709193 0x0070d193
 not_alike-shifts alike =

@@ -80,53 +80,13 @@ begins_with_name _ = λ f p pc. refl
 abbrev ShownAlike : Row → Fields → Fields → Type 0
 ShownAlike row f g = (pc : ℕ) → (text_of row f pc ≡ text_of row g pc) ↔ (shown_by row f ≡ shown_by row g)
 
+-- rows whose texts show no operands
+no-operands : {A B : Type 0} (x : A) (y : B) → (x ≡ x) ↔ (y ≡ y)
+no-operands x y = (λ _. refl, λ _. refl)
+
 shown_alike : (row : Row) → ForBoth (ShownAlike row) (table row).format
-shown_alike Row.Add = λ f g p q pc. three-alike Row.Add f g p q
-shown_alike Row.Sub = λ f g p q pc. three-alike Row.Sub f g p q
-shown_alike Row.Sll = λ f g p q pc. three-alike Row.Sll f g p q
-shown_alike Row.Slt = λ f g p q pc. three-alike Row.Slt f g p q
-shown_alike Row.Sltu = λ f g p q pc. three-alike Row.Sltu f g p q
-shown_alike Row.Xor = λ f g p q pc. three-alike Row.Xor f g p q
-shown_alike Row.Srl = λ f g p q pc. three-alike Row.Srl f g p q
-shown_alike Row.Sra = λ f g p q pc. three-alike Row.Sra f g p q
-shown_alike Row.Or = λ f g p q pc. three-alike Row.Or f g p q
-shown_alike Row.And = λ f g p q pc. three-alike Row.And f g p q
-shown_alike Row.Addi = λ f g p q pc. two-alike Row.Addi f g p q
-shown_alike Row.Slli = λ f g p q pc. shift-alike Row.Slli f g p q
-shown_alike Row.Slti = λ f g p q pc. two-alike Row.Slti f g p q
-shown_alike Row.Sltiu = λ f g p q pc. two-alike Row.Sltiu f g p q
-shown_alike Row.Xori = λ f g p q pc. two-alike Row.Xori f g p q
-shown_alike Row.Srli = λ f g p q pc. shift-alike Row.Srli f g p q
-shown_alike Row.Srai = λ f g p q pc. shift-alike Row.Srai f g p q
-shown_alike Row.Ori = λ f g p q pc. two-alike Row.Ori f g p q
-shown_alike Row.Andi = λ f g p q pc. two-alike Row.Andi f g p q
-shown_alike Row.Lui = λ f g p q pc. lui-alike Row.Lui f g p q
-shown_alike Row.Auipc = λ f g p q pc. auipc-alike Row.Auipc pc f g p q
-shown_alike Row.Beq = λ f g p q pc. branch-alike Row.Beq pc f g p q
-shown_alike Row.Bne = λ f g p q pc. branch-alike Row.Bne pc f g p q
-shown_alike Row.Blt = λ f g p q pc. branch-alike Row.Blt pc f g p q
-shown_alike Row.Bltu = λ f g p q pc. branch-alike Row.Bltu pc f g p q
-shown_alike Row.Bge = λ f g p q pc. branch-alike Row.Bge pc f g p q
-shown_alike Row.Bgeu = λ f g p q pc. branch-alike Row.Bgeu pc f g p q
-shown_alike Row.Lb = λ f g p q pc. load-alike Row.Lb f g p q
-shown_alike Row.Lbu = λ f g p q pc. load-alike Row.Lbu f g p q
-shown_alike Row.Lh = λ f g p q pc. load-alike Row.Lh f g p q
-shown_alike Row.Lhu = λ f g p q pc. load-alike Row.Lhu f g p q
-shown_alike Row.Lw = λ f g p q pc. load-alike Row.Lw f g p q
-shown_alike Row.Sb = λ f g p q pc. store-alike Row.Sb f g p q
-shown_alike Row.Sh = λ f g p q pc. store-alike Row.Sh f g p q
-shown_alike Row.Sw = λ f g p q pc. store-alike Row.Sw f g p q
-shown_alike Row.Jal = λ f g p q pc. jal-alike Row.Jal pc f g p q
 shown_alike Row.Jalr = λ f g p q pc. jalr-alike f g p q
-shown_alike Row.Mul = λ f g p q pc. three-alike Row.Mul f g p q
-shown_alike Row.Mulh = λ f g p q pc. three-alike Row.Mulh f g p q
-shown_alike Row.Mulhu = λ f g p q pc. three-alike Row.Mulhu f g p q
-shown_alike Row.Mulhsu = λ f g p q pc. three-alike Row.Mulhsu f g p q
-shown_alike Row.Div = λ f g p q pc. three-alike Row.Div f g p q
-shown_alike Row.Divu = λ f g p q pc. three-alike Row.Divu f g p q
-shown_alike Row.Rem = λ f g p q pc. three-alike Row.Rem f g p q
-shown_alike Row.Remu = λ f g p q pc. three-alike Row.Remu f g p q
-shown_alike Row.Fence = λ f g p q pc. (λ _. refl, λ _. refl)
+shown_alike _ = λ f g p q pc. search (three-alike, two-alike, shift-alike, lui-alike, auipc-alike, branch-alike, load-alike, store-alike, jal-alike, no-operands)
 
 -- ---- two words
 

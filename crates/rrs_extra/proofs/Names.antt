@@ -4,19 +4,12 @@ use Rattle.std.specs.List.{find}
 use Rattle.std.specs.Str.{bytes_eq}
 use Rattle.rrs_lib.specs.Table.{Row}
 use Rattle.rrs_lib.specs.Texts.{name_of}
+use Rattle.rrs_lib.proofs.Rows.{all_rows}
 
 -- what stands before the first blank, or the whole text where there is none
 abbrev pub first_word : List ℕ → List ℕ
 first_word [] = []
 first_word (byte ∷ rest) = if byte == 32 then [] else (byte ∷ first_word rest)
-
--- the rows, in their order
-abbrev all_rows : List Row
-all_rows =
-    Row.Add ∷ Row.Sub ∷ Row.Sll ∷ Row.Slt ∷ Row.Sltu ∷ Row.Xor ∷ Row.Srl ∷ Row.Sra ∷ Row.Or ∷ Row.And ∷ Row.Addi ∷ Row.Slli ∷ Row.Slti ∷ Row.Sltiu
-    ∷ Row.Xori ∷ Row.Srli ∷ Row.Srai ∷ Row.Ori ∷ Row.Andi ∷ Row.Lui ∷ Row.Auipc ∷ Row.Beq ∷ Row.Bne ∷ Row.Blt ∷ Row.Bltu ∷ Row.Bge ∷ Row.Bgeu
-    ∷ Row.Lb ∷ Row.Lbu ∷ Row.Lh ∷ Row.Lhu ∷ Row.Lw ∷ Row.Sb ∷ Row.Sh ∷ Row.Sw ∷ Row.Jal ∷ Row.Jalr ∷ Row.Mul ∷ Row.Mulh ∷ Row.Mulhu ∷ Row.Mulhsu
-    ∷ Row.Div ∷ Row.Divu ∷ Row.Rem ∷ Row.Remu ∷ Row.Fence ∷ []
 
 -- the row that a name is of
 row_named : List ℕ → Option Row

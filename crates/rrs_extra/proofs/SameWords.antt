@@ -1,7 +1,8 @@
 -- Of a row that fixes its functs and shows all other fields, what a text shows determines the word.
-use Rattle.std.proofs.Common.{◌≡◌, ◌⊎◌, ◌↔◌, inl, inr, ℕ, List, [], ◌∷◌, Some, None, IfSome, Ok, Err, IfOk, string_bytes, refl, ap, ◌∙◌, sym, subst}
+use Rattle.std.proofs.Common.{◌≡◌, ◌⊎◌, ◌↔◌, inl, inr, ℕ, List, [], ◌∷◌, ℤ, Some, None, IfSome, Ok, Err, IfOk, string_bytes, refl, ap, ◌∙◌, sym, subst}
+use Rattle.rrs_lib.specs.declared.instruction_formats.IType.{IType}
 use Rattle.rrs_lib.specs.Encodings.{Fields, R, I, IShamt, S, B, U, J, encode}
-use Rattle.rrs_lib.specs.Table.{Row, table, format_of, MeetsFuncts, Decodes, IsRowAnd}
+use Rattle.rrs_lib.specs.Table.{Row, table, format_of, MeetsFuncts, MeetsOperands, Decodes, IsRowAnd}
 use Rattle.rrs_lib.specs.Texts.{text_of}
 use Rattle.rrs_extra.specs.Showing.{shown, shown_by, ShowAlike, AreOneOrFences, Asked, IfBothTexts}
 use Rattle.rrs_extra.proofs.Faithful.{ForBoth, at_both, faithful}
@@ -60,24 +61,32 @@ same_fields (J f) (J g) k s t =
     λ i. J (record { imm = c i; rd = a i })
 same_fields f g k s t = absurd (cc)
 
--- the row that shows no fields
+-- the row whose words are many and look alike
 abbrev pub IsLax : Row → Type 0
 IsLax Row.Fence = Unit {0}
 IsLax _ = ⊥
 
--- of one row, fields that meet its functs are equal if what it shows of them is
+-- of one row, fields that are as it says are equal if what it shows of them is
+abbrev IsAsSaid : Row → Fields → Type 0
+IsAsSaid row f = MeetsFuncts (table row).funct3 (table row).funct7 f × MeetsOperands (table row).operands f
+
 abbrev Determined : Row → Fields → Fields → Type 0
-Determined row f g =
-    MeetsFuncts (table row).funct3 (table row).funct7 f → MeetsFuncts (table row).funct3 (table row).funct7 g → shown_by row f ≡ shown_by row g → f ≡ g
+Determined row f g = IsAsSaid row f → IsAsSaid row g → shown_by row f ≡ shown_by row g → f ≡ g
+
+-- operands that are fixed are what a text of them would show
+fixed_alike : {imm : ℤ} (f g : IType) → (f.rd ≡ 0) × (f.rs1 ≡ 0) × (f.imm ≡ imm) → (g.rd ≡ 0) × (g.rs1 ≡ 0) × (g.imm ≡ imm) → shown (I f) ≡ shown (I g)
+fixed_alike f g a b = cc (a.0, a.1, a.2, b.0, b.1, b.2)
 
 determined : (row : Row) → ¬ IsLax row → ForBoth (Determined row) (table row).format
 determined Row.Fence strict = absurd (strict tt)
+determined Row.Ecall strict = λ f g p q a b s. same_fields _ _ refl (fixed_alike f g a.1 b.1) (cc)
+determined Row.Ebreak strict = λ f g p q a b s. same_fields _ _ refl (fixed_alike f g a.1 b.1) (cc)
 determined _ strict = λ f g p q a b s. same_fields _ _ refl s (cc)
 
 -- Two words of one row that is not lax are equal if they show the same.
 pub same_words : (v w : ℕ) (row : Row) (f g : Fields) → ¬ IsLax row → Decodes v row f → Decodes w row g → shown_by row f ≡ shown_by row g → v ≡ w
 same_words v w row f g strict is is' s =
-    let fields : f ≡ g = at_both (Determined row) (table row).format f g is.format is'.format (determined row strict) is.in_range is'.in_range is.functs is'.functs s in
+    let fields : f ≡ g = at_both (Determined row) (table row).format f g is.format is'.format (determined row strict) is.in_range is'.in_range (is.functs, is.operands) (is'.functs, is'.operands) s in
     is.encoded ∙ ap (encode (table row).opcode) fields ∙ sym is'.encoded
 
 -- a row is fence, or it is not lax

@@ -1,6 +1,6 @@
 -- What the text of an instruction shows of its fields: register numbers, and the immediate or the
 -- shift amount as the field has it, also where the text has its sum with the address. funct3 and
--- funct7 are not shown, and `fence` shows none of its fields.
+-- funct7 are not shown, and `fence`, `ecall` and `ebreak` show none of their fields.
 use Rattle.std.specs.Prelude.{◌≡◌, ◌⊎◌, ℕ, List, [], ◌∷◌, ℤ, pos, Option, Some, Result, Ok, String, string_bytes}
 use Rattle.std.specs.declared.alloc.AllocError.{AllocError}
 use Rattle.std.specs.declared.alloc.Global.{Global}
@@ -20,6 +20,8 @@ shown (J f) = pos f.rd ∷ f.imm ∷ []
 -- what the texts of a row show
 abbrev pub shown_by : Row → Fields → List ℤ
 shown_by Row.Fence f = []
+shown_by Row.Ecall f = []
+shown_by Row.Ebreak f = []
 shown_by _ f = shown f
 
 -- two words are of one row, and what its texts show of their fields is equal

@@ -233,6 +233,14 @@ impl InstructionProcessor for CallCounter {
     fn process_fence(&mut self, _dec_insn: IType) {
         self.count(46)
     }
+
+    fn process_ecall(&mut self, _dec_insn: IType) {
+        self.count(47)
+    }
+
+    fn process_ebreak(&mut self, _dec_insn: IType) {
+        self.count(48)
+    }
 }
 
 /// Counts the row of a word, and returns whether the word is one.

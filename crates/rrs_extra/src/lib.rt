@@ -20,7 +20,7 @@ use rrs_lib::InstructionProcessor;
 use rrs_lib::instruction_formats::{BType, IType, ITypeShamt, JType, RType, SType, UType};
 
 /// The number of rows of the table.
-pub const ROW_COUNT: usize = 46;
+pub const ROW_COUNT: usize = 48;
 
 /// Returns the number of the row of an instruction, 1 to [ROW_COUNT], in the order of the table.
 ///
@@ -216,6 +216,14 @@ impl InstructionProcessor for RowNumberer {
 
     fn process_fence(&mut self, _dec_insn: IType) -> Self::InstructionResult {
         46
+    }
+
+    fn process_ecall(&mut self, _dec_insn: IType) -> Self::InstructionResult {
+        47
+    }
+
+    fn process_ebreak(&mut self, _dec_insn: IType) -> Self::InstructionResult {
+        48
     }
 }
 

@@ -7,6 +7,7 @@ pub mod Examples
 pub mod Fields
 pub mod Keeping
 pub mod LoadLemmas
+pub mod Making
 pub mod Masks
 pub mod Programs
 pub mod RegionFields

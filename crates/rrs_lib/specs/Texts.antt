@@ -1,7 +1,7 @@
 -- The texts of instructions, close to the assembly syntax of the RISC-V unprivileged specification,
 -- with x and a number for a register. `lui` shows its whole value, and `auipc`, the branches and
 -- `jal` the sum with the address of the instruction, as 8 hexadecimal digits; `jalr` shows its
--- immediate modulo 2 ^ 32 in at least 3; `fence` shows no operands.
+-- immediate modulo 2 ^ 32 in at least 3; `fence`, `ecall` and `ebreak` show no operands.
 use Rattle.std.specs.Prelude.{ℕ, ◌-◌, false, List, ◌++◌, length, replicate, ℤ, Option, Some, None, codes}
 use Rattle.std.specs.Fmt.{decimal, signed_decimal, digits}
 use Rattle.rrs_lib.specs.declared.instruction_formats.RType.{RType}
@@ -118,4 +118,6 @@ text_of Row.Divu (R f) pc = Some (three_registers Row.Divu f)
 text_of Row.Rem (R f) pc = Some (three_registers Row.Rem f)
 text_of Row.Remu (R f) pc = Some (three_registers Row.Remu f)
 text_of Row.Fence (I f) pc = Some (name_of Row.Fence)
+text_of Row.Ecall (I f) pc = Some (name_of Row.Ecall)
+text_of Row.Ebreak (I f) pc = Some (name_of Row.Ebreak)
 text_of _ _ pc = None

@@ -8,8 +8,8 @@ ghost use Rattle.rrs_lib.specs.Dispatching.{Dispatches};
 use crate::InstructionProcessor;
 use crate::instruction_formats::{
     BType, IType, ITypeShamt, JType, OPCODE_AUIPC, OPCODE_BRANCH, OPCODE_JAL, OPCODE_JALR,
-    OPCODE_LOAD, OPCODE_LUI, OPCODE_MISC_MEM, OPCODE_OP, OPCODE_OP_IMM, OPCODE_STORE, RType, SType,
-    UType,
+    OPCODE_LOAD, OPCODE_LUI, OPCODE_MISC_MEM, OPCODE_OP, OPCODE_OP_IMM, OPCODE_STORE,
+    OPCODE_SYSTEM, RType, SType, UType,
 };
 
 /// Calls the function of a register-register operation, or returns `None` where there is none.
@@ -165,10 +165,26 @@ fn process_opcode_misc_mem<T: InstructionProcessor>(
     }
 }
 
+/// Calls the function of `ecall` or `ebreak`, or returns `None` for any other SYSTEM word.
+fn process_opcode_system<T: InstructionProcessor>(
+    processor: &mut T,
+    insn_bits: u32,
+) -> Option<T::InstructionResult>
+    requires { insn_bits % 128 ≡ 0x73 }
+    ensures { Dispatches T.did insn_bits processor.old processor.new result }
+{
+    let dec_insn = IType::new(insn_bits);
+    match (dec_insn.rd, dec_insn.funct3, dec_insn.rs1, dec_insn.imm) {
+        (0, 0, 0, 0) => Some(processor.process_ecall(dec_insn)),
+        (0, 0, 0, 1) => Some(processor.process_ebreak(dec_insn)),
+        _ => None,
+    }
+}
+
 /// Decodes the word `insn_bits`, and calls the processor's function for it.
 ///
-/// The rows of the table are RV32I and the M extension, without `ecall`, `ebreak` and the other
-/// SYSTEM instructions. A word that is a row's is passed, as the decoded fields, to that row's
+/// The rows of the table are RV32I and the M extension; of the SYSTEM instructions, `ecall` and
+/// `ebreak` alone. A word that is a row's is passed, as the decoded fields, to that row's
 /// function, which is called once, and the result is `Some` of what it returns. A word is one row's
 /// at most. The result is `None` exactly for the words outside the table, and the processor is then
 /// unchanged.
@@ -178,7 +194,8 @@ fn process_opcode_misc_mem<T: InstructionProcessor>(
 /// the word is no row (`outside`) and the processor is what it was (`unchanged`); no word is two rows
 /// or has two tuples of fields (`unique`).
 ///
-/// A word whose funct3 or funct7 is not the row's is outside the table.
+/// A word whose funct3 or funct7 is not the row's is outside the table. `ecall` and `ebreak` are one
+/// word each.
 ///
 /// # Examples
 ///
@@ -222,6 +239,7 @@ fn dispatch<T: InstructionProcessor>(
         OPCODE_JAL => Some(processor.process_jal(JType::new(insn_bits))),
         OPCODE_JALR => process_opcode_jalr(processor, insn_bits),
         OPCODE_MISC_MEM => process_opcode_misc_mem(processor, insn_bits),
+        OPCODE_SYSTEM => process_opcode_system(processor, insn_bits),
         _ => None,
     }
 }

@@ -45,8 +45,8 @@ pub const OPCODE_JALR: u32 = 0x67;
 /// Opcode of `jal`, of the J format.
 pub const OPCODE_JAL: u32 = 0x6f;
 
-/// Opcode of `ecall`, `ebreak` and the instructions on control and status registers. No row of the
-/// table has it: the crate decodes none of them.
+/// Opcode of `ecall`, `ebreak` and the instructions on control and status registers. Of these words
+/// the crate decodes those of `ecall` and `ebreak` alone, of the I format.
 pub const OPCODE_SYSTEM: u32 = 0x73;
 
 // The opcodes of the listings.

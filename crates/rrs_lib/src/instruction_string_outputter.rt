@@ -325,6 +325,14 @@ impl InstructionProcessor for InstructionStringOutputter {
     fn process_fence(&mut self, _dec_insn: IType) -> Self::InstructionResult {
         format!(in self.alloc; "fence")
     }
+
+    fn process_ecall(&mut self, _dec_insn: IType) -> Self::InstructionResult {
+        format!(in self.alloc; "ecall")
+    }
+
+    fn process_ebreak(&mut self, _dec_insn: IType) -> Self::InstructionResult {
+        format!(in self.alloc; "ebreak")
+    }
 }
 
 #[cfg(test)]

@@ -221,6 +221,14 @@ pub trait InstructionProcessor {
     fn process_fence(&mut self, dec_insn: IType) -> Self::InstructionResult
         requires { HasRegisters (I dec_insn) }
         ensures { did Row.Fence (I dec_insn) self.old self.new result };
+
+    fn process_ecall(&mut self, dec_insn: IType) -> Self::InstructionResult
+        requires { HasRegisters (I dec_insn) }
+        ensures { did Row.Ecall (I dec_insn) self.old self.new result };
+
+    fn process_ebreak(&mut self, dec_insn: IType) -> Self::InstructionResult
+        requires { HasRegisters (I dec_insn) }
+        ensures { did Row.Ebreak (I dec_insn) self.old self.new result };
 }
 
 /// The state of a single RISC-V hart (hardware thread).

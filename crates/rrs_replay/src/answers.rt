@@ -105,6 +105,8 @@ fn write_step<W: Write>(answer: &Result<(), InstructionException>, out: &mut W) 
             write!(out, "StoreAccessFault 0x{addr:08x}")
         }
         InstructionException::AlignmentFault(addr) => write!(out, "AlignmentFault 0x{addr:08x}"),
+        InstructionException::EnvironmentCall(pc) => write!(out, "EnvironmentCall 0x{pc:08x}"),
+        InstructionException::Breakpoint(pc) => write!(out, "Breakpoint 0x{pc:08x}"),
     }
 }
 

@@ -2,7 +2,7 @@
 use Rattle.std.specs.Prelude.{ℕ, zero, suc, List, [], ◌∷◌, ◌++◌, codes, Option, Some, None}
 use Rattle.std.specs.Fmt.{decimal}
 use Rattle.rrs_lib.specs.declared.instruction_executor.InstructionException.{InstructionException}
-use Rattle.rrs_lib.specs.declared.instruction_executor.InstructionException.TheVariants.{IllegalInstruction, FetchError, LoadAccessFault, StoreAccessFault, AlignmentFault}
+use Rattle.rrs_lib.specs.declared.instruction_executor.InstructionException.TheVariants.{IllegalInstruction, FetchError, LoadAccessFault, StoreAccessFault, AlignmentFault, EnvironmentCall, Breakpoint}
 use Rattle.rrs_lib.specs.Machine.{State, reg}
 use Rattle.rrs_lib.specs.Texts.{hexadecimal}
 
@@ -19,6 +19,8 @@ exception_text (FetchError pc) = codes "end: FetchError pc=0x" ++ hexadecimal 8 
 exception_text (LoadAccessFault addr) = codes "end: LoadAccessFault addr=0x" ++ hexadecimal 8 addr
 exception_text (StoreAccessFault addr) = codes "end: StoreAccessFault addr=0x" ++ hexadecimal 8 addr
 exception_text (AlignmentFault addr) = codes "end: AlignmentFault addr=0x" ++ hexadecimal 8 addr
+exception_text (EnvironmentCall pc) = codes "end: EnvironmentCall pc=0x" ++ hexadecimal 8 pc
+exception_text (Breakpoint pc) = codes "end: Breakpoint pc=0x" ++ hexadecimal 8 pc
 
 -- why a run ended: its limit, or a fault
 abbrev pub reason_text : Option InstructionException → List ℕ

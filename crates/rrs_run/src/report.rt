@@ -148,6 +148,10 @@ fn print_exception<W: Write>(out: &mut W, exception: &InstructionException) -> i
         InstructionException::AlignmentFault(addr) => {
             print_word(out, "end: AlignmentFault addr=0x", *addr)
         }
+        InstructionException::EnvironmentCall(pc) => {
+            print_word(out, "end: EnvironmentCall pc=0x", *pc)
+        }
+        InstructionException::Breakpoint(pc) => print_word(out, "end: Breakpoint pc=0x", *pc),
     }
 }
 

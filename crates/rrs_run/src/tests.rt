@@ -13,6 +13,9 @@ use std::test::Fail;
 /// lui x2, 0x1234b / lui x3, 0xf387e / add x1, x2, x3
 const PROGRAM: &[u8] = b"\x37\xb1\x34\x12\xb7\xe1\x87\xf3\xb3\x00\x31\x00";
 
+/// addi x1, x0, 5 / ecall
+const CALL: &[u8] = b"\x93\x00\x50\x00\x73\x00\x00\x00";
+
 /// jal x0, 0, which jumps to itself
 const LOOP: &[u8] = b"\x6f\x00\x00\x00";
 
@@ -223,10 +226,15 @@ fn run(
     Ok((status, text, machine.printed.into_inner()))
 }
 
-const FILES: [Contents<'static>; 2] = [
+const FILES: [Contents<'static>; 3] = [
     Contents {
         name: "program",
         bytes: PROGRAM,
+        fails: false,
+    },
+    Contents {
+        name: "call",
+        bytes: CALL,
         fails: false,
     },
     Contents {
@@ -266,8 +274,13 @@ fn refuses_other_words(rt: HostRuntime) -> Result<(), Fail> {
 
 #[test]
 fn runs_the_file_that_is_named_up_to_the_limit_that_is_named(rt: HostRuntime) -> Result<(), Fail> {
-    let cases: [(&[u8], &[u8], &str); 7] = [
+    let cases: [(&[u8], &[u8], &str); 8] = [
         (b"program", b"0", "end: limit, steps 0\n"),
+        (
+            b"call",
+            b"10",
+            "0x00000000: addi x1, x0, 5\n0x00000004: ecall\nend: EnvironmentCall pc=0x00000004, steps 1\n",
+        ),
         (
             b"program",
             b"1",

@@ -79,7 +79,8 @@ fn no_access_where_the_address_is_not_aligned(rt: HostRuntime) -> Result<(), Fai
         (0x0000_2083, 2), // lw x1, 0(x0)
         (0x0010_2023, 2), // sw x1, 0(x0)
         (0x0000_0013, 1), // addi x0, x0, 0
-        (0x0000_0073, 1), // no row
+        (0x0000_0073, 1), // ecall
+        (0x0000_1073, 1), // no row
     ] {
         let mut memory = CountedWords {
             words: VecMemory::new(vec![in rt.alloc(); word, 0]?),
@@ -140,6 +141,44 @@ fn other_functs_are_illegal(rt: HostRuntime) -> Result<(), Fail> {
         assert_eq!(rt; executor.step(), illegal);
         assert_eq!(rt; hart.pc, 0);
     }
+    Ok(())
+}
+
+/// What a caller does for the program: service 1 doubles its argument, and any other returns 0.
+fn serve(service: u32, argument: u32) -> u32 {
+    match service {
+        1 => argument.wrapping_mul(2),
+        _ => 0,
+    }
+}
+
+/// addi a7, x0, 1 / addi a0, x0, 20 / ecall / addi a0, a0, 1 / ebreak
+#[test]
+fn an_environment_call_is_served(rt: HostRuntime) -> Result<(), Fail> {
+    let words = vec![in rt.alloc();
+        0x0010_0893,
+        0x0140_0513,
+        0x0000_0073,
+        0x0015_0513,
+        0x0010_0073,
+    ]?;
+    let mut memory = VecMemory::new(words);
+    let mut hart = HartState::new();
+    let mut executor = InstructionExecutor {
+        mem: &mut memory,
+        hart_state: &mut hart,
+    };
+    if let Some(InstructionException::EnvironmentCall(pc)) = executor.run(100).exception {
+        let service = executor.hart_state.read_register(17);
+        let argument = executor.hart_state.read_register(10);
+        executor
+            .hart_state
+            .write_register(10, serve(service, argument));
+        executor.hart_state.pc = pc.wrapping_add(4);
+    }
+    let end = executor.run(100);
+    assert_eq!(rt; end.exception, Some(InstructionException::Breakpoint(16)));
+    assert_eq!(rt; (end.steps, hart.registers[10]), (1, 41));
     Ok(())
 }
 

@@ -190,10 +190,27 @@ fn faults(rt: HostRuntime) -> Result<(), Fail> {
             InstructionException::StoreAccessFault(0xffffffff),
         ),
         (0x00402003, 0, InstructionException::LoadAccessFault(4)),
+        (0x00000073, 0, InstructionException::EnvironmentCall(0)),
+        (0x00100073, 0, InstructionException::Breakpoint(0)),
         (
-            0x00000073,
+            0x00200073,
             0,
-            InstructionException::IllegalInstruction(0, 0x73),
+            InstructionException::IllegalInstruction(0, 0x200073),
+        ),
+        (
+            0x000000f3,
+            0,
+            InstructionException::IllegalInstruction(0, 0xf3),
+        ),
+        (
+            0x00008073,
+            0,
+            InstructionException::IllegalInstruction(0, 0x8073),
+        ),
+        (
+            0x00001073,
+            0,
+            InstructionException::IllegalInstruction(0, 0x1073),
         ),
         (0x00000013, 2, InstructionException::AlignmentFault(2)),
         (0x00000013, 4, InstructionException::FetchError(4)),
@@ -315,6 +332,57 @@ fn runs_to_a_limit_or_a_fault(rt: HostRuntime) -> Result<(), Fail> {
         assert_eq!(rt; hart.pc, pc, "to {limit}");
         assert_eq!(rt; hart.last_register_write, last, "to {limit}");
     }
+    Ok(())
+}
+
+// addi x1, x0, 5 / ecall
+#[test]
+fn a_run_ends_at_an_environment_call(rt: HostRuntime) -> Result<(), Fail> {
+    let mut memory = memory_of(rt.alloc(), &[0x00500093, 0x00000073])?;
+    let mut hart = HartState::new();
+    let mut executor = InstructionExecutor {
+        mem: &mut memory,
+        hart_state: &mut hart,
+    };
+    assert_eq!(rt;
+        executor.run(10),
+        RunEnd {
+            steps: 1,
+            exception: Some(InstructionException::EnvironmentCall(4))
+        }
+    );
+    assert_eq!(rt; (hart.pc, hart.registers[1]), (4, 5));
+    assert_eq!(rt; hart.last_register_write, None);
+    Ok(())
+}
+
+// Whatever fields are handed in, the fault is the answer and the state stays.
+#[test]
+fn environment_calls_ignore_their_fields(rt: HostRuntime) -> Result<(), Fail> {
+    let mut memory = memory_of(rt.alloc(), &[])?;
+    let mut hart = hart_with(3, 5);
+    hart.pc = 0x102;
+    hart.last_register_write = Some(9);
+    let mut executor = InstructionExecutor {
+        mem: &mut memory,
+        hart_state: &mut hart,
+    };
+    let fields = || IType {
+        imm: -7,
+        rs1: 2,
+        funct3: 5,
+        rd: 1,
+    };
+    assert_eq!(rt;
+        executor.process_ecall(fields()),
+        Err(InstructionException::EnvironmentCall(0x102))
+    );
+    assert_eq!(rt;
+        executor.process_ebreak(fields()),
+        Err(InstructionException::Breakpoint(0x102))
+    );
+    assert_eq!(rt; (hart.pc, hart.last_register_write), (0x102, Some(9)));
+    assert_eq!(rt; (hart.registers[1], hart.registers[2]), (3, 5));
     Ok(())
 }
 

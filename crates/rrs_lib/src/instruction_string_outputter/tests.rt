@@ -54,6 +54,8 @@ fn each_row_has_its_text(rt: HostRuntime) -> Result<(), Fail> {
         (0x0220e1b3, "rem x3, x1, x2"),
         (0x0220f1b3, "remu x3, x1, x2"),
         (0x0ff0000f, "fence"),
+        (0x00000073, "ecall"),
+        (0x00100073, "ebreak"),
     ];
     let mut outputter = InstructionStringOutputter {
         insn_pc: 0x100,
@@ -91,6 +93,7 @@ fn texts_at_address_zero(rt: HostRuntime) -> Result<(), Fail> {
         (0xfe000fa3, "sb x0, -1(x0)"),
         (0xfff00067, "jalr x0, 0xffffffff(x0)"),
         (0x00008067, "jalr x0, 0x000(x1)"),
+        (0x00100073, "ebreak"),
     ];
     let mut outputter = InstructionStringOutputter {
         insn_pc: 0,
@@ -103,8 +106,8 @@ fn texts_at_address_zero(rt: HostRuntime) -> Result<(), Fail> {
     Ok(())
 }
 
-/// ecall, fence.i, slli with another funct7, jalr with another funct3, and the words of all ones and
-/// of all zeros are no row.
+/// SYSTEM words beside ecall and ebreak, fence.i, slli with another funct7, jalr with another funct3,
+/// and the words of all ones and of all zeros are no row.
 #[test]
 fn words_outside_the_table_have_no_text(rt: HostRuntime) {
     let mut outputter = InstructionStringOutputter {
@@ -112,7 +115,8 @@ fn words_outside_the_table_have_no_text(rt: HostRuntime) {
         alloc: rt.alloc(),
     };
     for insn_bits in [
-        0x00000073, 0x0000100f, 0xfe109093, 0x00009067, 0xffffffff, 0x00000000,
+        0x00200073, 0x000000f3, 0x00008073, 0x00001073, 0x0000100f, 0xfe109093, 0x00009067,
+        0xffffffff, 0x00000000,
     ] {
         let answer = process_instruction(&mut outputter, insn_bits);
         assert!(rt; answer.is_none(), "of {insn_bits:#010x}");
@@ -150,6 +154,7 @@ fn a_refused_text_may_be_asked_for_again(rt: HostRuntime) -> Result<(), Fail> {
         (0xffc0d183, "lhu x3, -4(x1)"),
         (0x014081e7, "jalr x3, 0x014(x1)"),
         (0x0ff0000f, "fence"),
+        (0x00000073, "ecall"),
     ];
     let mut outputter = InstructionStringOutputter {
         insn_pc: 0x100,

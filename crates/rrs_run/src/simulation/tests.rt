@@ -166,7 +166,7 @@ fn prints_the_whole_run(rt: HostRuntime) -> Result<(), Fail> {
 
 #[test]
 fn begins_with_these_lines(rt: HostRuntime) -> Result<(), Fail> {
-    let cases: [(&[u32], u64, &str); 13] = [
+    let cases: [(&[u32], u64, &str); 15] = [
         (&[], 0, "end: limit, steps 0\nx0 0x00000000\n"),
         (
             &[],
@@ -188,6 +188,18 @@ fn begins_with_these_lines(rt: HostRuntime) -> Result<(), Fail> {
             &[0xffff_ffff],
             5,
             "end: IllegalInstruction pc=0x00000000 word=0xffffffff, steps 0\n",
+        ),
+        // addi x1, x0, 5 / ecall
+        (
+            &[0x0050_0093, 0x0000_0073],
+            10,
+            "0x00000000: addi x1, x0, 5\n0x00000004: ecall\nend: EnvironmentCall pc=0x00000004, steps 1\nx0 0x00000000\nx1 0x00000005\n",
+        ),
+        // ebreak
+        (
+            &[0x0010_0073],
+            10,
+            "0x00000000: ebreak\nend: Breakpoint pc=0x00000000, steps 0\nx0 0x00000000\n",
         ),
         // lw x1, 2(x0)
         (

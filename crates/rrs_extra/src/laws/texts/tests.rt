@@ -43,6 +43,7 @@ fn words_that_show_other_things_have_two_texts(rt: HostRuntime) -> Result<(), Fa
         (0x002081b3, 0x002101b3),
         (0x002081b3, 0x001081b3),
         (0xffb08193, 0x00508193),
+        (0x00000073, 0x00100073),
     ];
     for (first, second) in pairs {
         let (one, other) = both_texts(rt.alloc(), 0, first, second);
@@ -73,7 +74,7 @@ fn branches_are_told_apart_at_one_address(rt: HostRuntime) -> Result<(), Fail> {
 /// A word outside the table has no text, as the first of two and as the second.
 #[test]
 fn a_word_outside_the_table_has_no_text(rt: HostRuntime) {
-    for outside in [0x00000073, 0x0000100f, 0xffffffff, 0x00000000] {
+    for outside in [0x00200073, 0x0000100f, 0xffffffff, 0x00000000] {
         let (none, some) = both_texts(rt.alloc(), 0, outside, 0x0000000f);
         assert!(rt; none.is_none(), "of {outside:#010x}");
         assert!(rt; some.is_some(), "beside {outside:#010x}");
