@@ -126,3 +126,14 @@ logged (b ∷ text) before after takes room =
     let longer : length takes.0.log.items ≡ length before.log.items + 1 = ap length log ∙ length-append before.log.items (b ∷ []) in
     let rest = logged text takes.0 after takes.2 (omega (arith, room, longer, one.room_kept)) in
     rest ∙ ap (λ xs. xs ++ text) log ∙ append_assoc before.log.items (b ∷ []) text
+
+-- a region is one port
+abbrev port_or : PrintPort → RamOrPort → PrintPort
+port_or default (Ram words) = default
+port_or default (Port port) = port
+
+pub same_port : (regions : List (Region RamOrPort)) (i address : ℕ) (p q : PrintPort) → IsPortAt regions i address p → IsPortAt regions i address q → p ≡ q
+same_port regions i address p q is is' =
+    let same : is.region ≡ is'.region = same_Some _ _ (sym is.stands ∙ is'.stands) in
+    let memory : Region RamOrPort → RamOrPort = λ r. r.memory in
+    ap (port_or p) (sym is.is_port ∙ ap memory same ∙ is'.is_port)

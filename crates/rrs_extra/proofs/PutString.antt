@@ -16,6 +16,8 @@ use Rattle.rrs_lib.proofs.Decoder.{decodes}
 use Rattle.rrs_lib.proofs.Programs
 use Rattle.rrs_lib.proofs.Programs.{at, Others, registers_by}
 use Rattle.rrs_lib.proofs.Accesses.{Outside, outside_from_none, store-outside, write-allowed}
+use Rattle.rrs_lib.proofs.Making.{AccessesOfRun-unique, accesses_of_illegal}
+use Rattle.rrs_lib.proofs.Rows.{one_row_at_most}
 use Rattle.rrs_lib.proofs.AccessChains
 use Rattle.rrs_lib.proofs.AccessChains.{RunsMaking, making}
 use Rattle.rrs_extra.specs.Programs.{HoldsWords, AreApart, word_at}
@@ -255,7 +257,7 @@ puts_from text o x1 port a x12 x13 x14 x15 p last bytes writable starts small po
     let s = at (registers_by o x1 port a x12 x13 x14 x15) p last bytes writable in
     let fault = Programs.step-illegal {registers = all.registers_after} {pc = x1} {last = None} {bytes = all.bytes_after} {writable = writable} called.return_aligned read called.stops.outside in
     let chain = AccessChains.RunsMaking-runs (5 * length text + 3) s m all.runs.accesses all.runs.makes in
-    let last_fetch = AccessChains.fetch-alone m called.return_aligned read called.stops.outside in
+    let last_fetch = accesses_of_illegal m _ called.return_aligned read called.stops.outside in
     record {
       after = m;
       runs = Programs.RunUntil-fault (5 * length text + 4) (5 * length text + 3) s m m _ (omega arith) chain fault;
@@ -288,7 +290,7 @@ put_all text s t limit steps e long starts small port_small limit_is only =
       steps_made = same.0;
       fault = same.1;
       bytes_kept = subst P (sym same.2) known.others;
-      printed = λ accesses made. ap writes_of (AccessChains.AccessesOfRun-unique s (answers_of_run steps e) accesses known.accesses made makes) ∙ known.printed;
+      printed = λ accesses made. ap writes_of (AccessesOfRun-unique one_row_at_most s (answers_of_run steps e) accesses known.accesses made makes) ∙ known.printed;
     }
 
 -- ---- strings of memories that are known, by computation

@@ -10,6 +10,6 @@ mod programs;
 mod texts;
 
 pub use independence::{agree_each, same_bytes, same_run};
-pub use printing::put_string;
+pub use printing::{print_string, put_string};
 pub use programs::{copy_words, gcd, sum_loop};
 pub use texts::both_texts;

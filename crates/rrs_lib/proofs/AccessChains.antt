@@ -1,21 +1,18 @@
 -- For proofs of programs whose accesses count: a step with the accesses that it makes, chains of such steps, and the accesses of the run that a chain
 -- is. docs/PROGRAMS.md shows how.
-use Rattle.std.proofs.Common.{◌≡◌, ℕ, zero, suc, ◌+◌, ◌%◌, ◌==◌, List, [], ◌∷◌, ◌++◌, replicate, slice_set, Bool, true, if◌then◌else◌, ℤ, pos, Option, Some, None, IfSome, Ok, Err, refl, sym, ap, subst, ◌∙◌, arith, append_assoc, append-nil, eq-eqb}
+use Rattle.std.proofs.Common.{◌≡◌, ℕ, zero, suc, ◌+◌, ◌%◌, ◌==◌, List, [], ◌∷◌, ◌++◌, replicate, slice_set, Bool, true, if◌then◌else◌, ℤ, pos, Option, Some, None, Ok, Err, refl, sym, ap, subst, ◌∙◌, arith, append_assoc, append-nil, eq-eqb}
 use Rattle.std.proofs.lemmas.Bool.{cond-true}
-use Rattle.std.proofs.lemmas.Option.{same_Some}
 use Rattle.rrs_lib.specs.declared.MemAccessSize.{MemAccessSize}
 use Rattle.rrs_lib.specs.declared.instruction_executor.InstructionException.{InstructionException}
 use Rattle.rrs_lib.specs.Words.{word}
 use Rattle.rrs_lib.specs.Encodings.{Fields}
-use Rattle.rrs_lib.specs.Table.{Row, Decodes, IsIllegal}
+use Rattle.rrs_lib.specs.Table.{Row}
 use Rattle.rrs_lib.specs.Bytes.{ByteMap, width, little_endian, all_writable, store}
 use Rattle.rrs_lib.specs.Machine.{State, reg, from_register, execute, loads, stores}
-use Rattle.rrs_lib.specs.Steps.{Step, StepAnswer, RunsOk}
-use Rattle.rrs_lib.specs.Accesses.{Access, Read, Write, read_in, write_in, load_access, store_access, accesses_of_row, fetch, AccessesOf, OfNone, OfFetch, OfRow, AccessesOfRun, answers_of_run}
+use Rattle.rrs_lib.specs.Steps.{Step, RunsOk}
+use Rattle.rrs_lib.specs.Accesses.{Access, Read, Write, read_in, write_in, load_access, store_access, accesses_of_row, fetch, AccessesOf, OfRow, AccessesOfRun, answers_of_run}
 use Rattle.rrs_lib.proofs.Examples.{of_I, of_S}
 use Rattle.rrs_lib.proofs.Programs.{at, Fetches, step-loads, step-stores}
-use Rattle.rrs_lib.proofs.Rows.{one_row_at_most}
-use Rattle.rrs_lib.proofs.Stepping.{Step-unique}
 
 -- ---- steps
 
@@ -111,44 +108,3 @@ RunsMaking-fault (suc n) s m t e accesses last run fault makes =
     let more = RunsMaking-fault n run.0 m t e run.2 last run.4 fault makes in
     let joined : accesses ++ last ≡ run.1 ++ (run.2 ++ last) = ap (λ xs. xs ++ last) run.5 ∙ append_assoc run.1 run.2 last in
     (run.0, run.1, run.2 ++ last, run.3.step, run.3.makes, more, joined)
-
--- the accesses of a step at a word outside the table: the fetch
-pub fetch-alone : {w : ℕ} (s : State) → s.pc % 4 ≡ 0 → little_endian s.bytes s.pc 4 ≡ Some w → IsIllegal w → AccessesOf s (fetch s ∷ [])
-fetch-alone {w = w} s aligned read outside =
-    let P : Option ℕ → Type 0 = λ o. IfSome o IsIllegal in
-    OfFetch aligned (subst P (sym read) outside) refl
-
--- ---- there are no others
-
--- what a state's word is, and that it is outside the table, do not go together
-not_both : (s : State) (w : ℕ) (row : Row) (f : Fields) → IfSome (little_endian s.bytes s.pc 4) IsIllegal → little_endian s.bytes s.pc 4 ≡ Some w → Decodes w row f → ⊥
-not_both s w row f outside read is =
-    let P : Option ℕ → Type 0 = λ o. IfSome o IsIllegal in
-    let illegal : IsIllegal w = subst P read outside in
-    illegal row f is
-
--- a state has one list of accesses
-pub AccessesOf-unique : (s : State) (accesses accesses' : List Access) → AccessesOf s accesses → AccessesOf s accesses' → accesses ≡ accesses'
-AccessesOf-unique s accesses accesses' (OfNone odd are) (OfNone odd' are') = are ∙ sym are'
-AccessesOf-unique s accesses accesses' (OfNone odd are) (OfFetch aligned' outside' are') = absurd (odd aligned')
-AccessesOf-unique s accesses accesses' (OfNone odd are) (OfRow w' row' f' aligned' read' is' are') = absurd (odd aligned')
-AccessesOf-unique s accesses accesses' (OfFetch aligned outside are) (OfNone odd' are') = absurd (odd' aligned)
-AccessesOf-unique s accesses accesses' (OfFetch aligned outside are) (OfFetch aligned' outside' are') = are ∙ sym are'
-AccessesOf-unique s accesses accesses' (OfFetch aligned outside are) (OfRow w' row' f' aligned' read' is' are') = absurd (not_both s w' row' f' outside read' is')
-AccessesOf-unique s accesses accesses' (OfRow w row f aligned read is are) (OfNone odd' are') = absurd (odd' aligned)
-AccessesOf-unique s accesses accesses' (OfRow w row f aligned read is are) (OfFetch aligned' outside' are') = absurd (not_both s w row f outside' read is)
-AccessesOf-unique s accesses accesses' (OfRow w row f aligned read is are) (OfRow w' row' f' aligned' read' is' are') =
-    let same_word : w' ≡ w = same_Some _ _ (sym read' ∙ read) in
-    let P : ℕ → Type 0 = λ x. Decodes x row' f' in
-    let same = one_row_at_most w row row' f f' is (subst P same_word is') in
-    are ∙ (λ i. fetch s ∷ accesses_of_row (same.0 i) (same.1 i) s) ∙ sym are'
-
--- and so has a run
-pub AccessesOfRun-unique : (s : State) (answers : List StepAnswer) (accesses accesses' : List Access) → AccessesOfRun s answers accesses → AccessesOfRun s answers accesses' → accesses ≡ accesses'
-AccessesOfRun-unique s [] accesses accesses' run run' = run ∙ sym run'
-AccessesOfRun-unique s (answer ∷ answers) accesses accesses' run run' =
-    let same_state = (Step-unique one_row_at_most s run.0 run'.0 answer answer run.3 run'.3).0 in
-    let P : State → Type 0 = λ x. AccessesOfRun x answers run'.2 in
-    let first = AccessesOf-unique s run.1 run'.1 run.4 run'.4 in
-    let later = AccessesOfRun-unique run.0 answers run.2 run'.2 run.5 (subst P (sym same_state) run'.5) in
-    run.6 ∙ (λ i. first i ++ later i) ∙ sym run'.6

@@ -19,3 +19,6 @@ returns-clause-fault g c = (known g c).fault
 
 pub returns-clause-bytes_kept : goal.returns-clause-bytes_kept
 returns-clause-bytes_kept g c = (known g c).bytes_kept
+
+pub returns-clause-printed : goal.returns-clause-printed
+returns-clause-printed g c = (known g c).printed
