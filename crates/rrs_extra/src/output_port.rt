@@ -90,16 +90,20 @@ impl Memory for Part {
 
     ghost layout = { elim [ Words words ↦ vec_layout words | Port port ↦ [] ] };
 
-    // The part stays of its kind, and it is read or written as one of that kind.
     ghost reads = { λ old address size new answer. new ≡ old };
 
-    ghost writes = { elim [
-      | Words words ↦ (λ address size value new answer. (after : _) × (new ≡ Words after)
-          × VecWrites words address size value after answer)
-      | Port port ↦ (λ address size value new answer. (after : _) × (new ≡ Port after)
-          × OnTrue answer ((after.last ≡ value % 2 ^ 8)
-          × (after.writes ≡ min (port.writes + 1) (2 ^ 64 - 1)))
-          × OnFalse answer (after ≡ port))
+    // It stays of its kind, and is written as one of that kind.
+    ghost writes = { λ old address size value new answer. elim old [
+      | Words words ↦ elim new [
+        | Words after ↦ VecWrites words address size value after answer
+        | Port port ↦ ⊥
+      ]
+      | Port port ↦ elim new [
+        | Words words ↦ ⊥
+        | Port after ↦ OnTrue answer ((after.last ≡ value % 2 ^ 8)
+            × (after.writes ≡ min (port.writes + 1) (2 ^ 64 - 1)))
+            × OnFalse answer (after ≡ port)
+      ]
     ] };
 
     fn read_mem(&mut self, addr: u32, size: MemAccessSize) -> Option<u32> {

@@ -1,12 +1,14 @@
 -- The definitions, from the instruction set up to the code. docs/READING.md leads through them.
 
--- The instruction set: words, encodings, the table of rows, results, the machine, and texts.
+-- The instruction set: words, encodings, the table of rows, results, the machine, what its steps
+-- access, and texts.
 pub mod Words
 pub mod Encodings
 pub mod Table
 pub mod Results
 pub mod Machine
 pub mod Steps
+pub mod Accesses
 pub mod Texts
 -- Memory: bytes at addresses, what each memory keeps, and the memories of the kit.
 pub mod Bytes
@@ -17,7 +19,6 @@ pub mod LoadTexts
 -- The code as seen by these: what a processor, the executor and the outputter say of themselves.
 pub mod Dispatching
 pub mod Executor
-pub mod Accesses
 pub mod Outputter
 pub mod SpaceFields
 pub mod SpaceLends
