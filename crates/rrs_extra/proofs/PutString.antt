@@ -248,7 +248,7 @@ puts_from text o x1 port a x12 x13 x14 x15 p last bytes writable starts small po
       port_small = port_small;
       port_writable = starts.port_writable;
       apart_program = starts.apart_from_program;
-      apart_text = starts.apart_from_text;
+      apart_text = λ i j less within. starts.apart_from_text i j less (omega (arith, within));
     } in
     let all = prints text o x1 port a x12 x13 x14 x15 p last bytes writable ready called.return_aligned small in
     let others : (b : ℕ) → Outside port 1 b → all.bytes_after b ≡ bytes b = λ b outside. all.others b (λ same. elim outside [ inl below ↦ omega (arith, same, below) | inr above ↦ omega (arith, same, above) ]) in
