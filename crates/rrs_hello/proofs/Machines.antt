@@ -36,14 +36,14 @@ pub holds_greeting : (regions : List (Region RamOrPort)) (ram : VecMemory) (port
 holds_greeting regions ram port are words =
     of_machine (λ bytes. HoldsString bytes 28 greeting) regions ram port are words (string_by_test (in_machine words_to_run port) 28 greeting refl)
 
-pub has_room : (regions : List (Region RamOrPort)) (ram : VecMemory) (port : PrintPort) → regions ≡ machine_regions ram port → port.log.items ≡ [] → vec_capacity port.log ≡ 15 → HasRoom regions
+pub has_room : (regions : List (Region RamOrPort)) (ram : VecMemory) (port : PrintPort) → regions ≡ machine_regions ram port → port.log.items ≡ [] → length greeting ≤ vec_capacity port.log → HasRoom regions
 has_room regions ram port are empty room =
     let P : List (Region RamOrPort) → Type 0 = λ rs. HasRoom rs in
     subst P (sym are) (record {
       port = port;
       is = record { region = _; stands = refl; is_port = refl; begins_there = refl; has_addresses = omega arith };
       empty = empty;
-      room = omega (arith, room);
+      room = room;
     })
 
 -- the port takes the greeting as a text that it has room for
