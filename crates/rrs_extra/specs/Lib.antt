@@ -6,6 +6,7 @@ pub use Rattle.rrs_lib.specs.Bytes
 pub use Rattle.rrs_lib.specs.Machine
 pub use Rattle.rrs_lib.specs.Steps
 pub use Rattle.rrs_lib.specs.Executor
+pub use Rattle.rrs_lib.specs.Accesses
 -- Processors: a row's number, and counts of rows.
 pub mod Numbering
 pub mod Counting

@@ -5,7 +5,7 @@ use Rattle.std.specs.Prelude.{◌≡◌, ℕ, ◌+◌, ◌-◌, ◌%◌, ◌^◌
 use Rattle.std.specs.Bool.{OnTrue, OnFalse}
 use Rattle.rrs_lib.specs.declared.MemAccessSize.{MemAccessSize}
 use Rattle.rrs_lib.specs.Bytes.{ByteMap}
-use Rattle.rrs_lib.specs.Spaces.{Region, Space, space_bytes, space_writable}
+use Rattle.rrs_lib.specs.Spaces.{Region, Space, space_bytes, space_writable, space_layout}
 use Rattle.rrs_lib.specs.VecBytes.{vec_bytes, vec_writable, vec_layout, VecWrites}
 use Rattle.rrs_extra.specs.declared.print_port.PrintPort.{PrintPort}
 use Rattle.rrs_extra.specs.declared.print_port.RamOrPort.{RamOrPort}
@@ -79,12 +79,15 @@ part_writes (Port old) address size value (Ram new) answer = ⊥
 
 -- ---- a port in a space
 
--- the bytes and the writable addresses of a space of such memories
+-- the bytes, the writable addresses and the layout of a space of such memories
 abbrev pub parts_bytes : Space RamOrPort → ByteMap
 parts_bytes space = space_bytes part_bytes space.regions
 
 abbrev pub parts_writable : Space RamOrPort → ℕ → Bool
 parts_writable space = space_writable part_writable space.regions
+
+abbrev pub parts_layout : Space RamOrPort → List ℕ
+parts_layout space = space_layout part_layout space.regions
 
 -- region i is a port, whose byte is at the address
 pub record IsPortAt (regions : List (Region RamOrPort)) (i address : ℕ) (port : PrintPort)

@@ -47,11 +47,11 @@ has_room regions ram port are empty room =
     })
 
 -- the port takes the greeting as a text that it has room for
-pub logs_greeting : (old new : List (Region RamOrPort)) (address : ℕ) → address ≡ port_address → HasRoom old
+pub logs_greeting : (old new : List (Region RamOrPort)) (address : ℕ) → HasRoom old
     → ((before : PrintPort) → IsPortAt old 1 address before → (after : PrintPort) × IsPortAt new 1 address after × TakesText before greeting after)
     → ((before after : PrintPort) → IsPortAt old 1 address before → IsPortAt new 1 address after → length before.log.items + length greeting ≤ vec_capacity before.log → after.log.items ≡ before.log.items ++ greeting)
-    → HasLog new greeting
-logs_greeting old new address there room taken log =
+    → address ≡ port_address → HasLog new greeting
+logs_greeting old new address room taken log there =
     let is = subst (λ a. IsPortAt old 1 a room.port) (sym there) room.is in
     let after = taken room.port is in
     let none : length room.port.log.items ≡ 0 = ap length room.empty in

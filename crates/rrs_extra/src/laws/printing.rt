@@ -10,7 +10,7 @@ ghost use Rattle.rrs_lib.specs.Executor.{state_in, KeepsTheRest};
 ghost use Rattle.rrs_lib.specs.Machine.{reg};
 ghost use Rattle.rrs_lib.specs.Steps.{RunUntil};
 ghost use Rattle.rrs_extra.specs.Programs.{word_at};
-ghost use Rattle.rrs_extra.specs.Ports.{parts_bytes, parts_writable, IsPortAt, TakesText};
+ghost use Rattle.rrs_extra.specs.Ports.{parts_bytes, parts_writable, parts_layout, IsPortAt, TakesText};
 ghost use Rattle.rrs_extra.specs.Printing.{PutStringStarts, writes_of, writes_to};
 ghost use Rattle.rrs_extra.specs.declared.print_port.PrintPort.{PrintPort};
 
@@ -57,11 +57,14 @@ pub fn print_string(
     text: &[u8],
 ) -> RunEnd
     requires { PutStringStarts text.now (state_in parts_bytes parts_writable executor.old) }
+    ensures run { RunUntil (5 * length text.now + 4) (state_in parts_bytes parts_writable executor.old)
+        result.steps result.exception (state_in parts_bytes parts_writable executor.new) }
     ensures steps { result.steps ≡ 5 * length text.now + 3 }
     ensures fault { result.exception ≡ Some (IllegalInstruction (reg (state_in parts_bytes parts_writable executor.old) 1)
         (word_at (parts_bytes executor.old.mem.now) (reg (state_in parts_bytes parts_writable executor.old) 1))) }
     ensures bytes_kept { (a : ℕ) → a ≢ reg (state_in parts_bytes parts_writable executor.old) 10
         → parts_bytes executor.new.mem.now a ≡ parts_bytes executor.old.mem.now a }
+    ensures rest { KeepsTheRest parts_layout executor.old executor.new }
     ensures taken { (i : ℕ) (before : PrintPort)
         → IsPortAt executor.old.mem.now.regions i (reg (state_in parts_bytes parts_writable executor.old) 10) before
         → (after : PrintPort)
