@@ -7,7 +7,9 @@ pub mod ExampleShowing
 pub mod CopyWords
 pub mod CountDown
 pub mod Gcd
+pub mod PortLogs
 pub mod ProgramExamples
+pub mod PutString
 pub mod SumLoop
 pub mod Words
 pub mod Agreeing

@@ -1,4 +1,5 @@
 -- The memories of the tests hold the programs.
+use Rattle.std.specs.Prelude.{codes}
 use Rattle.std.proofs.Common.{◌≡◌, ℕ, ◌∷◌, ◌++◌, ◌-◌, take, length, replicate, Bool, true, false, List, [], refl, sym, ap, subst, ◌∙◌}
 use Rattle.rrs_lib.specs.declared.memories.VecMemory.{VecMemory}
 use Rattle.rrs_lib.specs.Bytes.{ByteMap}
@@ -6,7 +7,9 @@ use Rattle.rrs_lib.specs.VecBytes.{bytes_of_words}
 use Rattle.rrs_lib.specs.Spaces.{Region, space_bytes}
 use Rattle.rrs_extra.specs.Pages.{Page, page, inserted, paged_bytes}
 use Rattle.rrs_extra.specs.Programs.{HoldsWords, sum_loop_program, gcd_program, copy_words_program}
-use Rattle.rrs_extra.specs.ProgramExamples.{words_to_add, words_of_program, three_words, two_regions, pages_to_add, words_of_gcd, words_to_copy}
+use Rattle.rrs_extra.specs.ProgramExamples.{words_to_add, words_of_program, three_words, two_regions, pages_to_add, words_of_gcd, words_to_copy, words_to_print}
+use Rattle.rrs_extra.specs.Printing.{HoldsString, put_string_program}
+use Rattle.rrs_extra.proofs.PutString.{string_by_test}
 use Rattle.rrs_extra.proofs.Words.{holds_test, holds_by_test}
 
 -- words that are known hold a program
@@ -50,3 +53,12 @@ space_holds_sum_loop low high space is low_is high_is =
     let Q : ByteMap → Type 0 = λ b. HoldsWords b 0 sum_loop_program in
     let bytes : in_regions words_of_program three_words ≡ space_bytes (λ m. bytes_of_words m.mem.items) (two_regions low high) = λ i. in_regions (sym low_is i) (sym high_is i) in
     subst P (sym is) (subst Q bytes (holds_by_test (in_regions words_of_program three_words) 0 sum_loop_program refl))
+
+-- words that are known hold the program that prints, and the string
+pub holds_put_string : (words : List ℕ) → words ≡ words_to_print → HoldsWords (bytes_of_words words) 0 put_string_program
+holds_put_string words are = held words_to_print put_string_program words refl are
+
+pub holds_hello : (words : List ℕ) → words ≡ words_to_print → HoldsString (bytes_of_words words) 28 (codes "Hello, RISC-V!")
+holds_hello words are =
+    let P : List ℕ → Type 0 = λ ws. HoldsString (bytes_of_words ws) 28 (codes "Hello, RISC-V!") in
+    subst P (sym are) (string_by_test (bytes_of_words words_to_print) 28 (codes "Hello, RISC-V!") refl)

@@ -38,7 +38,7 @@ abbrev pub is_value : Option ℕ → ℕ → Bool
 is_value None w = false
 is_value (Some x) w = x == w
 
-value_is : (o : Option ℕ) (w : ℕ) → is_value o w ≡ true → o ≡ Some w
+pub value_is : (o : Option ℕ) (w : ℕ) → is_value o w ≡ true → o ≡ Some w
 value_is None w test = cc
 value_is (Some x) w test = ap Some (eqb-true x w test)
 

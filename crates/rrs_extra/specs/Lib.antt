@@ -6,14 +6,18 @@ pub use Rattle.rrs_lib.specs.Bytes
 pub use Rattle.rrs_lib.specs.Machine
 pub use Rattle.rrs_lib.specs.Steps
 pub use Rattle.rrs_lib.specs.Executor
+pub use Rattle.rrs_lib.specs.Accesses
 -- Processors: a row's number, and counts of rows.
 pub mod Numbering
 pub mod Counting
 -- A memory of pages.
 pub mod Pages
 pub mod PageFields
+-- A port that prints.
+pub mod Ports
 -- Laws over several calls: machines that agree, what texts show, and programs.
 pub mod Agreement
 pub mod Showing
 pub mod Programs
+pub mod Printing
 pub mod ProgramExamples

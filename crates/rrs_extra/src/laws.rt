@@ -5,9 +5,11 @@
 //! they stand on its contracts, its definitions, and lemmas over these.
 
 mod independence;
+mod printing;
 mod programs;
 mod texts;
 
 pub use independence::{agree_each, same_bytes, same_run};
+pub use printing::{print_string, put_string};
 pub use programs::{copy_words, gcd, sum_loop};
 pub use texts::both_texts;

@@ -10,10 +10,12 @@
 
 pub mod laws;
 mod paged;
+mod print_port;
 
 ghost use Rattle.rrs_extra.specs.Numbering.{Numbers};
 
 pub use paged::{PageError, PagedMemory};
+pub use print_port::{PrintPort, RamOrPort};
 use rrs_lib::InstructionProcessor;
 use rrs_lib::instruction_formats::{BType, IType, ITypeShamt, JType, RType, SType, UType};
 

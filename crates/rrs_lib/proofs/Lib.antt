@@ -1,3 +1,4 @@
+pub mod AccessChains
 pub mod Accesses
 pub mod Bitwise
 pub mod Boxes

@@ -57,7 +57,7 @@ module _ {M : Type 0} where
   false_serves r a h = grind (arith, nat_tests)
 
   -- whether a region serves an address, in two cases
-  serves_cases : (r : Region M) (a : ℕ) → (serves r a ≡ true) ⊎ (serves r a ≡ false)
+  pub serves_cases : (r : Region M) (a : ℕ) → (serves r a ≡ true) ⊎ (serves r a ≡ false)
   serves_cases r a = bool_cases (serves r a)
     where
       bool_cases : (b : Bool) → (b ≡ true) ⊎ (b ≡ false)

@@ -82,7 +82,7 @@ pub fn copy_words<M: Memory>(executor: &mut InstructionExecutor<M>) -> RunEnd
 }
 
 /// What the type of the registers says: there are 32, and those that a call is handed are words.
-fn registers_of_call(hart: &HartState)
+pub(super) fn registers_of_call(hart: &HartState)
     ensures count { length hart.now.registers ≡ 32 }
     ensures words { (bytes : ℕ → Option ℕ) (writable : ℕ → Bool)
         → HasWords (state_of hart.now bytes writable) }

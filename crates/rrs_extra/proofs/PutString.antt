@@ -1,0 +1,342 @@
+-- The program that prints, as a run with its accesses.
+use Rattle.std.proofs.Common.{◌≡◌, ◌≢◌, ℕ, zero, suc, ◌+◌, ◌*◌, ◌%◌, ◌^◌, ◌<◌, ◌≤◌, ◌==◌, ◌&&◌, nat_lt, List, [], ◌∷◌, ◌++◌, length, slice_index, pos, neg_ℤ, not, Bool, true, false, Option, Some, None, IsTrue, inl, inr, refl, sym, ap, subst, ◌∙◌, arith, append-nil}
+use Rattle.std.proofs.lemmas.Bool.{and_parts, ltb-true}
+use Rattle.std.proofs.lemmas.Bool.Decides.{nat_tests}
+use Rattle.rrs_lib.specs.declared.MemAccessSize.TheVariants.{Byte}
+use Rattle.rrs_lib.specs.declared.instruction_executor.InstructionException.{InstructionException}
+use Rattle.rrs_lib.specs.declared.instruction_executor.InstructionException.TheVariants.{IllegalInstruction}
+use Rattle.rrs_lib.specs.Words.{word}
+use Rattle.rrs_lib.specs.Table.{Row, Decodes}
+use Rattle.rrs_lib.specs.Bytes.{ByteMap, little_endian, all_writable, store, sum_if_both, at_place}
+use Rattle.rrs_lib.specs.Machine.{State, reg, made_even}
+use Rattle.rrs_lib.specs.Steps.{RunUntil, IsOnlyRunUntil}
+use Rattle.rrs_lib.specs.Accesses.{Access, Read, Write, fetch, AccessesOfRun, answers_of_run}
+use Rattle.rrs_lib.proofs.Examples.{of_I, of_S, of_B, of_J}
+use Rattle.rrs_lib.proofs.Decoder.{decodes}
+use Rattle.rrs_lib.proofs.Programs
+use Rattle.rrs_lib.proofs.Programs.{at, Others, registers_by}
+use Rattle.rrs_lib.proofs.Accesses.{Outside, outside_from_none, store-outside, write-allowed}
+use Rattle.rrs_lib.proofs.Making.{AccessesOfRun-unique, accesses_of_illegal}
+use Rattle.rrs_lib.proofs.Rows.{one_row_at_most}
+use Rattle.rrs_lib.proofs.AccessChains
+use Rattle.rrs_lib.proofs.AccessChains.{RunsMaking, making}
+use Rattle.rrs_extra.specs.Programs.{HoldsWords, AreApart, word_at}
+use Rattle.rrs_extra.specs.Printing.{HoldsString, put_string_program, PutStringStarts, writes_of, writes_to}
+use Rattle.rrs_extra.proofs.Words.{word_read, instruction, read_after, holds_after, is_value, value_is}
+
+-- ---- the words
+
+lbu_x15 : Decodes 0x0005c783 Row.Lbu (of_I (pos 0) 11 4 15)
+lbu_x15 = decodes _ _ _ refl
+
+bne_x15 : Decodes 0x00079463 Row.Bne (of_B (pos 8) 0 15 1)
+bne_x15 = decodes _ _ _ refl
+
+ret : Decodes 0x00008067 Row.Jalr (of_I (pos 0) 1 0 0)
+ret = decodes _ _ _ refl
+
+addi_x11 : Decodes 0x00158593 Row.Addi (of_I (pos 1) 11 0 11)
+addi_x11 = decodes _ _ _ refl
+
+sb_x15 : Decodes 0x00f50023 Row.Sb (of_S (pos 0) 15 10 0)
+sb_x15 = decodes _ _ _ refl
+
+jal_back : Decodes 0xfedff06f Row.Jal (of_J (neg_ℤ (pos 20)) 0)
+jal_back = decodes _ _ _ refl
+
+-- ---- one round
+
+-- a chain whose accesses have these writes
+record Printing (n : ℕ) (s t : State) (writes : List Access) : Type 0 where
+  accesses : List Access
+  makes : RunsMaking n s t accesses
+  printed : writes_of accesses ≡ writes
+
+round : (o : Others) (x1 port a c x12 x13 x14 x15 p : ℕ) (last : Option ℕ) (bytes : ByteMap) (writable : ℕ → Bool)
+    → HoldsWords bytes p put_string_program → HoldsWords (store bytes port 1 c) p put_string_program → p % 4 ≡ 0 → p + 24 ≤ 2 ^ 32
+    → port < 2 ^ 32 → a + 1 < 2 ^ 32 → c ≢ 0 → c < 256 → little_endian bytes a 1 ≡ Some c → all_writable writable port 1 ≡ true
+    → Printing 5 (at (registers_by o x1 port a x12 x13 x14 x15) p last bytes writable) (at (registers_by o x1 port (a + 1) x12 x13 x14 c) p None (store bytes port 1 c) writable) (Write port Byte c true ∷ [])
+round o x1 port a c x12 x13 x14 x15 p last bytes writable holds holds' aligned fits small a_small some byte read allowed = record {
+  accesses = _;
+  makes = (
+    _,
+    _,
+    _,
+    AccessChains.making-loads (p + 4) Byte pos a c c (instruction holds aligned 0 (omega arith) (omega arith) lbu_x15) refl refl (omega arith) (omega arith) read (omega arith) (omega arith),
+    (
+      _,
+      _,
+      _,
+      making (instruction holds aligned 1 (omega arith) (omega arith) bne_x15) (λ f. Programs.step-branches (p + 12) (not (c == 0)) (pos 8) f refl (grind (arith, nat_tests)) (omega arith)) refl,
+      (
+        _,
+        _,
+        _,
+        making (instruction holds aligned 3 (omega arith) (omega arith) addi_x11) (λ f. Programs.step-writes (p + 16) 10 (a + 1) (pos (a + 1)) f refl (omega arith) (omega arith)) refl,
+        (
+          _,
+          _,
+          _,
+          AccessChains.making-stores (p + 20) Byte port c (instruction holds aligned 4 (omega arith) (omega arith) sb_x15) refl refl (omega arith) refl (omega arith) allowed (omega arith),
+          (
+            _,
+            _,
+            _,
+            making (instruction holds' aligned 5 (omega arith) (omega arith) jal_back) (λ f. Programs.step-jumps p 0 (word (pos (p + 20 + 4294967276))) f refl (omega arith)) refl,
+            (refl, refl),
+            refl,
+          ),
+          refl,
+        ),
+        refl,
+      ),
+      refl,
+    ),
+    refl,
+  );
+  printed = refl;
+}
+
+-- ---- the string
+
+-- the first byte, as it is read
+first_read : (bytes : ByteMap) (a b : ℕ) → bytes (a + 0) ≡ Some b → little_endian bytes a 1 ≡ Some b
+first_read bytes a b is = ap (λ o. sum_if_both (Some 0) (at_place 0 o)) is ∙ ap Some (omega arith)
+
+-- the bytes outside a store of one byte are as before
+store_others : (bytes : ByteMap) (port c b : ℕ) → Outside port 1 b → store bytes port 1 c b ≡ bytes b
+store_others bytes port c b outside = store-outside bytes port 1 c b outside
+
+-- a byte apart from the port is as before
+byte_kept : (bytes : ByteMap) (port c a n i : ℕ) → AreApart port 1 a n → i < n → store bytes port 1 c (a + i) ≡ bytes (a + i)
+byte_kept bytes port c a n i apart less = store_others bytes port c (a + i) (outside_from_none port 1 (a + i) (λ j h. apart j i h less))
+
+-- the string apart from the port, after its first byte
+string_after : (bytes : ByteMap) (port c a b : ℕ) (text : List ℕ) → AreApart port 1 a (length (b ∷ text) + 1) → HoldsString bytes a (b ∷ text) → HoldsString (store bytes port 1 c) (a + 1) text
+string_after bytes port c a b text apart string = record {
+  each = λ i less. let there : a + suc i ≡ a + 1 + i = omega arith in
+      let P : ℕ → Type 0 = λ x. store bytes port 1 c x ≡ Some (slice_index text i) in
+      subst P there (byte_kept bytes port c a (length (b ∷ text) + 1) (suc i) apart (omega (arith, less)) ∙ string.each (suc i) (omega (arith, less)));
+  not_zero = λ i less. string.not_zero (suc i) (omega (arith, less));
+  below_256 = λ i less. string.below_256 (suc i) (omega (arith, less));
+  ended = let there : a + length (b ∷ text) ≡ a + 1 + length text = omega arith in
+      let P : ℕ → Type 0 = λ x. store bytes port 1 c x ≡ Some 0 in
+      subst P there (byte_kept bytes port c a (length (b ∷ text) + 1) (length (b ∷ text)) apart (omega arith) ∙ string.ended);
+}
+
+-- ---- all rounds
+
+-- what holds before each round
+record Ready (port a p : ℕ) (text : List ℕ) (bytes : ByteMap) (writable : ℕ → Bool) : Type 0 where
+  holds : HoldsWords bytes p put_string_program
+  aligned : p % 4 ≡ 0
+  fits : p + 24 ≤ 2 ^ 32
+  string : HoldsString bytes a text
+  in_range : a + length text < 2 ^ 32
+  port_small : port < 2 ^ 32
+  port_writable : IsTrue (writable port)
+  apart_program : AreApart port 1 p 24
+  apart_text : AreApart port 1 a (length text + 1)
+
+ready_after : (port a p b : ℕ) (text : List ℕ) (bytes : ByteMap) (writable : ℕ → Bool) → Ready port a p (b ∷ text) bytes writable → Ready port (a + 1) p text (store bytes port 1 b) writable
+ready_after port a p b text bytes writable ready = record {
+  holds = holds_after bytes (store bytes port 1 b) port 1 p 24 put_string_program (store_others bytes port b) ready.apart_program (omega arith) ready.holds;
+  aligned = ready.aligned;
+  fits = ready.fits;
+  string = string_after bytes port b a b text ready.apart_text ready.string;
+  in_range = omega (arith, ready.in_range);
+  port_small = ready.port_small;
+  port_writable = ready.port_writable;
+  apart_program = ready.apart_program;
+  apart_text = λ i j less less' same. ready.apart_text i (suc j) less (omega (arith, less')) (omega (arith, same));
+}
+
+-- the program from its first instruction to its return
+record Prints (o : Others) (x1 port a x12 x13 x14 x15 p : ℕ) (last : Option ℕ) (text : List ℕ) (bytes : ByteMap) (writable : ℕ → Bool) : Type 0 where
+  registers_after : List ℕ
+  bytes_after : ByteMap
+  others : (b : ℕ) → b ≢ port → bytes_after b ≡ bytes b
+  runs : Printing (5 * length text + 3) (at (registers_by o x1 port a x12 x13 x14 x15) p last bytes writable) (at registers_after x1 None bytes_after writable) (writes_to port text)
+
+-- at the 0 behind the string the program returns
+returns : (o : Others) (x1 port a x12 x13 x14 x15 p : ℕ) (last : Option ℕ) (bytes : ByteMap) (writable : ℕ → Bool)
+    → HoldsWords bytes p put_string_program → p % 4 ≡ 0 → p + 24 ≤ 2 ^ 32 → a < 2 ^ 32 → little_endian bytes a 1 ≡ Some 0 → x1 % 4 ≡ 0 → x1 < 2 ^ 32
+    → Printing 3 (at (registers_by o x1 port a x12 x13 x14 x15) p last bytes writable) (at (registers_by o x1 port a x12 x13 x14 0) x1 None bytes writable) []
+returns o x1 port a x12 x13 x14 x15 p last bytes writable holds aligned fits a_small read return_aligned small = record {
+  accesses = _;
+  makes = (
+    _,
+    _,
+    _,
+    AccessChains.making-loads (p + 4) Byte pos a 0 0 (instruction holds aligned 0 (omega arith) (omega arith) lbu_x15) refl refl (omega arith) (omega arith) read refl (omega arith),
+    (
+      _,
+      _,
+      _,
+      making (instruction holds aligned 1 (omega arith) (omega arith) bne_x15) (λ f. Programs.step-stays (p + 8) false (pos 8) {registers = registers_by o x1 port a x12 x13 x14 0} f refl refl (omega arith)) refl,
+      (
+        _,
+        _,
+        _,
+        making (instruction holds aligned 2 (omega arith) (omega arith) ret) (λ f. Programs.step-jumps x1 0 (made_even (word (pos (x1 + 0)))) f refl (omega arith)) refl,
+        (refl, refl),
+        refl,
+      ),
+      refl,
+    ),
+    refl,
+  );
+  printed = refl;
+}
+
+-- the writes of two lists are those of the first, and then those of the second
+writes_of-append : (accesses later : List Access) → writes_of (accesses ++ later) ≡ writes_of accesses ++ writes_of later
+writes_of-append [] later = refl
+writes_of-append (Read a size answer ∷ accesses) later = writes_of-append accesses later
+writes_of-append (Write a size value answer ∷ accesses) later = ap (λ xs. Write a size value answer ∷ xs) (writes_of-append accesses later)
+
+-- one chain, and then another
+prints_join : (m n k : ℕ) (s u t : State) (first later writes : List Access) → m + n ≡ k → first ++ later ≡ writes → Printing m s u first → Printing n u t later → Printing k s t writes
+prints_join m n k s u t first later writes together are one more = record {
+  accesses = one.accesses ++ more.accesses;
+  makes = AccessChains.RunsMaking-join m n k s u t one.accesses more.accesses together one.makes more.makes;
+  printed = writes_of-append one.accesses more.accesses ∙ (λ i. one.printed i ++ more.printed i) ∙ are;
+}
+
+prints : (text : List ℕ) (o : Others) (x1 port a x12 x13 x14 x15 p : ℕ) (last : Option ℕ) (bytes : ByteMap) (writable : ℕ → Bool)
+    → Ready port a p text bytes writable → x1 % 4 ≡ 0 → x1 < 2 ^ 32 → Prints o x1 port a x12 x13 x14 x15 p last text bytes writable
+prints [] o x1 port a x12 x13 x14 x15 p last bytes writable ready return_aligned small = record {
+  registers_after = registers_by o x1 port a x12 x13 x14 0;
+  bytes_after = bytes;
+  others = λ b other. refl;
+  runs = returns o x1 port a x12 x13 x14 x15 p last bytes writable ready.holds ready.aligned ready.fits (omega (arith, ready.in_range)) (first_read bytes a 0 ready.string.ended) return_aligned small;
+}
+prints (b ∷ text) o x1 port a x12 x13 x14 x15 p last bytes writable ready return_aligned small =
+    let next = ready_after port a p b text bytes writable ready in
+    let read = first_read bytes a b (ready.string.each 0 (omega arith)) in
+    let allowed = write-allowed writable port 1 (λ i less. let P : ℕ → Type 0 = λ x. IsTrue (writable x) in let there : port ≡ port + i = omega (arith, less) in subst P there ready.port_writable) in
+    let one = round o x1 port a b x12 x13 x14 x15 p last bytes writable ready.holds next.holds ready.aligned ready.fits ready.port_small (omega (arith, ready.in_range)) (ready.string.not_zero 0 (omega arith)) (ready.string.below_256 0 (omega arith)) read allowed in
+    let rest = prints text o x1 port (a + 1) x12 x13 x14 b p None (store bytes port 1 b) writable next return_aligned small in
+    record {
+      registers_after = rest.registers_after;
+      bytes_after = rest.bytes_after;
+      others = λ x other. rest.others x other ∙ store_others bytes port b x (outside_from_none port 1 x (λ i less same. other (omega (arith, less, same))));
+      runs = prints_join 5 (5 * length text + 3) (5 * length (b ∷ text) + 3) _ _ _ (Write port Byte b true ∷ []) (writes_to port text) (writes_to port (b ∷ text)) (omega arith) refl one rest.runs;
+    }
+
+-- ---- the run
+
+pub record PutsString (text : List ℕ) (s : State) : Type 0 where
+  pub after : State
+  pub runs : RunUntil (5 * length text + 4) s (5 * length text + 3) (Some (IllegalInstruction (reg s 1) (word_at s.bytes (reg s 1)))) after
+  pub accesses : List Access
+  pub makes : AccessesOfRun s (answers_of_run (5 * length text + 3) (Some (IllegalInstruction (reg s 1) (word_at s.bytes (reg s 1))))) accesses
+  pub printed : writes_of accesses ≡ writes_to (reg s 10) text
+  pub others : (b : ℕ) → b ≢ reg s 10 → after.bytes b ≡ s.bytes b
+
+puts_from : (text : List ℕ) (o : Others) (x1 port a x12 x13 x14 x15 p : ℕ) (last : Option ℕ) (bytes : ByteMap) (writable : ℕ → Bool)
+    → PutStringStarts text (at (registers_by o x1 port a x12 x13 x14 x15) p last bytes writable) → x1 < 2 ^ 32 → port < 2 ^ 32
+    → PutsString text (at (registers_by o x1 port a x12 x13 x14 x15) p last bytes writable)
+puts_from text o x1 port a x12 x13 x14 x15 p last bytes writable starts small port_small =
+    let called = starts.called in
+    let ready : Ready port a p text bytes writable = record {
+      holds = called.program_there;
+      aligned = called.aligned;
+      fits = called.in_range;
+      string = starts.string;
+      in_range = starts.in_range;
+      port_small = port_small;
+      port_writable = starts.port_writable;
+      apart_program = starts.apart_from_program;
+      apart_text = λ i j less within. starts.apart_from_text i j less (omega (arith, within));
+    } in
+    let all = prints text o x1 port a x12 x13 x14 x15 p last bytes writable ready called.return_aligned small in
+    let others : (b : ℕ) → Outside port 1 b → all.bytes_after b ≡ bytes b = λ b outside. all.others b (λ same. elim outside [ inl below ↦ omega (arith, same, below) | inr above ↦ omega (arith, same, above) ]) in
+    let read = read_after bytes all.bytes_after port 1 x1 4 x1 4 others starts.apart_from_return (omega arith) (omega arith) ∙ word_read bytes x1 called.stops.mapped in
+    let m = at all.registers_after x1 None all.bytes_after writable in
+    let s = at (registers_by o x1 port a x12 x13 x14 x15) p last bytes writable in
+    let fault = Programs.step-illegal {registers = all.registers_after} {pc = x1} {last = None} {bytes = all.bytes_after} {writable = writable} called.return_aligned read called.stops.outside in
+    let chain = AccessChains.RunsMaking-runs (5 * length text + 3) s m all.runs.accesses all.runs.makes in
+    let last_fetch = accesses_of_illegal m _ called.return_aligned read called.stops.outside in
+    record {
+      after = m;
+      runs = Programs.RunUntil-fault (5 * length text + 4) (5 * length text + 3) s m m _ (omega arith) chain fault;
+      accesses = all.runs.accesses ++ (fetch m ∷ []);
+      makes = AccessChains.RunsMaking-fault (5 * length text + 3) s m m _ all.runs.accesses (fetch m ∷ []) all.runs.makes fault last_fetch;
+      printed = writes_of-append all.runs.accesses (fetch m ∷ []) ∙ append-nil _ ∙ all.runs.printed;
+      others = all.others;
+    }
+
+puts : (text : List ℕ) (s : State) → 15 ≤ length s.registers → PutStringStarts text s → reg s 1 < 2 ^ 32 → reg s 10 < 2 ^ 32 → PutsString text s
+puts text s long starts small port_small =
+    let open_s = Programs.opened s long in
+    subst (PutsString text) (sym open_s.same) (puts_from text open_s.others (reg s 1) (reg s 10) (reg s 11) (reg s 12) (reg s 13) (reg s 14) (reg s 15) s.pc s.last s.bytes s.writable (subst (PutStringStarts text) open_s.same starts) small port_small)
+
+-- what a call of `run` returned
+pub record PutAll (text : List ℕ) (s : State) (steps : ℕ) (e : Option InstructionException) (t : State) : Type 0 where
+  pub steps_made : steps ≡ 5 * length text + 3
+  pub fault : e ≡ Some (IllegalInstruction (reg s 1) (word_at s.bytes (reg s 1)))
+  pub bytes_kept : (b : ℕ) → b ≢ reg s 10 → t.bytes b ≡ s.bytes b
+  pub printed : (accesses : List Access) → AccessesOfRun s (answers_of_run steps e) accesses → writes_of accesses ≡ writes_to (reg s 10) text
+
+pub put_all : (text : List ℕ) (s t : State) (limit steps : ℕ) (e : Option InstructionException) → 15 ≤ length s.registers → PutStringStarts text s → reg s 1 < 2 ^ 32 → reg s 10 < 2 ^ 32 → limit ≡ 5 * length text + 4 → IsOnlyRunUntil limit s steps e t → PutAll text s steps e t
+put_all text s t limit steps e long starts small port_small limit_is only =
+    let known = puts text s long starts small port_small in
+    let same = Programs.returned only limit_is known.runs in
+    let P : State → Type 0 = λ x. (b : ℕ) → b ≢ reg s 10 → x.bytes b ≡ s.bytes b in
+    let are : answers_of_run (5 * length text + 3) (Some (IllegalInstruction (reg s 1) (word_at s.bytes (reg s 1)))) ≡ answers_of_run steps e = λ i. answers_of_run (sym same.0 i) (sym same.1 i) in
+    let makes = subst (λ answers. AccessesOfRun s answers known.accesses) are known.makes in
+    record {
+      steps_made = same.0;
+      fault = same.1;
+      bytes_kept = subst P (sym same.2) known.others;
+      printed = λ accesses made. ap writes_of (AccessesOfRun-unique one_row_at_most s (answers_of_run steps e) accesses known.accesses made makes) ∙ known.printed;
+    }
+
+-- ---- strings of memories that are known, by computation
+
+abbrev pub string_test : ByteMap → ℕ → List ℕ → Bool
+string_test bytes a [] = is_value (bytes a) 0
+string_test bytes a (b ∷ text) = is_value (bytes a) b && (nat_lt 0 b && nat_lt b 256) && string_test bytes (a + 1) text
+
+each_of : (bytes : ByteMap) (a b : ℕ) (text : List ℕ) → bytes a ≡ Some b → ((i : ℕ) → i < length text → bytes (a + 1 + i) ≡ Some (slice_index text i)) → (i : ℕ) → i < length (b ∷ text) → bytes (a + i) ≡ Some (slice_index (b ∷ text) i)
+each_of bytes a b text first rest zero less =
+    let P : ℕ → Type 0 = λ x. bytes x ≡ Some b in
+    let there : a ≡ a + 0 = omega arith in
+    subst P there first
+each_of bytes a b text first rest (suc i) less =
+    let P : ℕ → Type 0 = λ x. bytes x ≡ Some (slice_index text i) in
+    let there : a + 1 + i ≡ a + suc i = omega arith in
+    subst P there (rest i (omega (arith, less)))
+
+not_zero_of : (b : ℕ) (text : List ℕ) → 0 < b → ((i : ℕ) → i < length text → slice_index text i ≢ 0) → (i : ℕ) → i < length (b ∷ text) → slice_index (b ∷ text) i ≢ 0
+not_zero_of b text first rest zero less = λ is. omega (arith, first, is)
+not_zero_of b text first rest (suc i) less = rest i (omega (arith, less))
+
+below_of : (b : ℕ) (text : List ℕ) → b < 256 → ((i : ℕ) → i < length text → slice_index text i < 256) → (i : ℕ) → i < length (b ∷ text) → slice_index (b ∷ text) i < 256
+below_of b text first rest zero less = first
+below_of b text first rest (suc i) less = rest i (omega (arith, less))
+
+pub string_by_test : (bytes : ByteMap) (a : ℕ) (text : List ℕ) → string_test bytes a text ≡ true → HoldsString bytes a text
+string_by_test bytes a [] test =
+    let P : ℕ → Type 0 = λ x. bytes x ≡ Some 0 in
+    let there : a ≡ a + 0 = omega arith in
+    record {
+      each = λ i less. absurd (omega (arith, less));
+      not_zero = λ i less. absurd (omega (arith, less));
+      below_256 = λ i less. absurd (omega (arith, less));
+      ended = subst P there (value_is (bytes a) 0 test);
+    }
+string_by_test bytes a (b ∷ text) test =
+    let both = and_parts _ _ test in
+    let first = and_parts _ _ both.0 in
+    let range = and_parts _ _ first.1 in
+    let rest = string_by_test bytes (a + 1) text both.1 in
+    record {
+      each = each_of bytes a b text (value_is (bytes a) b first.0) rest.each;
+      not_zero = not_zero_of b text (ltb-true 0 b range.0) rest.not_zero;
+      below_256 = below_of b text (ltb-true b 256 range.1) rest.below_256;
+      ended = let P : ℕ → Type 0 = λ x. bytes x ≡ Some 0 in
+          let there : a + 1 + length text ≡ a + length (b ∷ text) = omega arith in
+          subst P there rest.ended;
+    }

@@ -1,0 +1,5 @@
+-- What the definitions of rrs_extra are passed on for, since contracts here cite them.
+pub use Rattle.rrs_extra.specs.Ports
+pub use Rattle.rrs_extra.specs.Printing
+pub use Rattle.rrs_extra.specs.Programs
+pub mod Greeting

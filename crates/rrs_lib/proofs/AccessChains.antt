@@ -1,0 +1,110 @@
+-- For proofs of programs whose accesses count: a step with the accesses that it makes, chains of such steps, and the accesses of the run that a chain
+-- is. docs/PROGRAMS.md shows how.
+use Rattle.std.proofs.Common.{◌≡◌, ℕ, zero, suc, ◌+◌, ◌%◌, ◌==◌, List, [], ◌∷◌, ◌++◌, replicate, slice_set, Bool, true, if◌then◌else◌, ℤ, pos, Option, Some, None, Ok, Err, refl, sym, ap, subst, ◌∙◌, arith, append_assoc, append-nil, eq-eqb}
+use Rattle.std.proofs.lemmas.Bool.{cond-true}
+use Rattle.rrs_lib.specs.declared.MemAccessSize.{MemAccessSize}
+use Rattle.rrs_lib.specs.declared.instruction_executor.InstructionException.{InstructionException}
+use Rattle.rrs_lib.specs.Words.{word}
+use Rattle.rrs_lib.specs.Encodings.{Fields}
+use Rattle.rrs_lib.specs.Table.{Row}
+use Rattle.rrs_lib.specs.Bytes.{ByteMap, width, little_endian, all_writable, store}
+use Rattle.rrs_lib.specs.Machine.{State, reg, from_register, execute, loads, stores}
+use Rattle.rrs_lib.specs.Steps.{Step, RunsOk}
+use Rattle.rrs_lib.specs.Accesses.{Access, Read, Write, read_in, write_in, load_access, store_access, accesses_of_row, fetch, AccessesOf, OfRow, AccessesOfRun, answers_of_run}
+use Rattle.rrs_lib.proofs.Examples.{of_I, of_S}
+use Rattle.rrs_lib.proofs.Programs.{at, Fetches, step-loads, step-stores}
+
+-- ---- steps
+
+-- a step that is Ok, and the accesses that it makes
+pub record StepMaking (s t : State) (accesses : List Access) : Type 0 where
+  pub step : Step s t (Ok tt)
+  pub makes : AccessesOf s accesses
+
+-- The step at a known instruction, by a lemma that makes it of the fetch. Its accesses are the fetch, and then those of the row: none, if it is no
+-- load and no store.
+pub making : {s t : State} {row : Row} {f : Fields} {rest : List Access} → Fetches s.bytes s.pc row f → (Fetches s.bytes s.pc row f → Step s t (Ok tt)) → accesses_of_row row f s ≡ rest → StepMaking s t (fetch s ∷ rest)
+making {s = s} {row = row} {f = f} fetched steps are = record {
+  step = steps fetched;
+  makes = OfRow fetched.word_there row f fetched.aligned fetched.read fetched.decodes (ap (λ r. fetch s ∷ r) (sym are));
+}
+
+-- a load of an address, whose value is y, to a register that is not x0
+pub making-loads : (next : ℕ) (size : MemAccessSize) (extended : ℕ → ℤ) (from y x : ℕ) {row : Row} {imm : ℤ} {rs1 funct3 r : ℕ} {registers : List ℕ} {pc : ℕ} {last : Option ℕ} {bytes : ByteMap} {writable : ℕ → Bool}
+    → Fetches bytes pc row (of_I imm rs1 funct3 (suc r)) → execute row (of_I imm rs1 funct3 (suc r)) (at registers pc None bytes writable) ≡ Some (loads (width size) extended (suc r) (from_register (at registers pc None bytes writable) rs1 imm) (at registers pc None bytes writable))
+    → accesses_of_row row (of_I imm rs1 funct3 (suc r)) (at registers pc last bytes writable) ≡ load_access size (record { imm = imm; rs1 = rs1; funct3 = funct3; rd = suc r }) (at registers pc last bytes writable)
+    → from_register (at registers pc None bytes writable) rs1 imm ≡ from → from % width size ≡ 0 → little_endian bytes from (width size) ≡ Some y → word (extended y) ≡ x → word (pos (pc + 4)) ≡ next
+    → StepMaking (at registers pc last bytes writable) (at (slice_set registers r x) next (Some (suc r)) bytes writable) (fetch (at registers pc last bytes writable) ∷ Read from size (Some y) ∷ [])
+making-loads next size extended from y x {row = row} {imm = imm} {rs1 = rs1} {funct3 = funct3} {r = r} {registers = registers} {pc = pc} {last = last} {bytes = bytes} {writable = writable} fetched executes is_load there aligned read value goes =
+    let s = at registers pc last bytes writable in
+    let of_address : ℕ → List Access = λ a. if a % width size == 0 then read_in s a size ∷ [] else [] in
+    let of_read : Option ℕ → List Access = λ o. Read from size o ∷ [] in
+    let of_test = cond-true (from % width size == 0) (read_in s from size ∷ []) [] (eq-eqb _ _ aligned) in
+    making fetched (λ f. step-loads next (width size) extended from y x f executes there aligned read value goes) (is_load ∙ ap of_address there ∙ of_test ∙ ap of_read read)
+
+-- a store of the low bytes of y, the value of rs2, to an address
+pub making-stores : (next : ℕ) (size : MemAccessSize) (to y : ℕ) {row : Row} {imm : ℤ} {rs2 rs1 funct3 : ℕ} {registers : List ℕ} {pc : ℕ} {last : Option ℕ} {bytes : ByteMap} {writable : ℕ → Bool}
+    → Fetches bytes pc row (of_S imm rs2 rs1 funct3) → execute row (of_S imm rs2 rs1 funct3) (at registers pc None bytes writable) ≡ Some (stores (width size) (reg (at registers pc None bytes writable) rs2) (from_register (at registers pc None bytes writable) rs1 imm) (at registers pc None bytes writable))
+    → accesses_of_row row (of_S imm rs2 rs1 funct3) (at registers pc last bytes writable) ≡ store_access size (record { imm = imm; rs2 = rs2; rs1 = rs1; funct3 = funct3 }) (at registers pc last bytes writable)
+    → from_register (at registers pc None bytes writable) rs1 imm ≡ to → reg (at registers pc None bytes writable) rs2 ≡ y → to % width size ≡ 0 → all_writable writable to (width size) ≡ true → word (pos (pc + 4)) ≡ next
+    → StepMaking (at registers pc last bytes writable) (at registers next None (store bytes to (width size) y) writable) (fetch (at registers pc last bytes writable) ∷ Write to size y true ∷ [])
+making-stores next size to y {row = row} {imm = imm} {rs2 = rs2} {rs1 = rs1} {funct3 = funct3} {registers = registers} {pc = pc} {last = last} {bytes = bytes} {writable = writable} fetched executes is_store there value aligned allowed goes =
+    let s = at registers pc last bytes writable in
+    let of_address : ℕ → List Access = λ a. if a % width size == 0 then write_in s a size (reg s rs2) ∷ [] else [] in
+    let of_test = cond-true (to % width size == 0) (write_in s to size (reg s rs2) ∷ []) [] (eq-eqb _ _ aligned) in
+    let of_value : ℕ → List Access = λ v. write_in s to size v ∷ [] in
+    let of_answer : Bool → List Access = λ b. Write to size y b ∷ [] in
+    making fetched (λ f. step-stores next (width size) to y f executes there value aligned allowed goes) (is_store ∙ ap of_address there ∙ of_test ∙ ap of_value value ∙ ap of_answer allowed)
+
+-- ---- chains
+
+-- s goes to t by n steps that are all Ok, and these are the accesses that they make
+abbrev pub RunsMaking : ℕ → State → State → List Access → Type 0
+RunsMaking zero s t accesses = (t ≡ s) × (accesses ≡ [])
+RunsMaking (suc n) s t accesses =
+    (m : State) × (first later : List Access)
+    × StepMaking s m first × RunsMaking n m t later
+    × (accesses ≡ first ++ later)
+
+-- it is a chain of steps
+pub RunsMaking-runs : (n : ℕ) (s t : State) (accesses : List Access) → RunsMaking n s t accesses → RunsOk n s t
+RunsMaking-runs zero s t accesses run = run.0
+RunsMaking-runs (suc n) s t accesses run = (run.0, run.3.step, RunsMaking-runs n run.0 t run.2 run.4)
+
+-- a chain of as many steps
+pub RunsMaking-as : (m n : ℕ) (s t : State) (accesses : List Access) → m ≡ n → RunsMaking m s t accesses → RunsMaking n s t accesses
+RunsMaking-as m n s t accesses e run = subst (λ k. RunsMaking k s t accesses) e run
+
+-- two chains: the accesses of one, and then those of the other
+pub RunsMaking-append : (m n : ℕ) (s u t : State) (first later : List Access) → RunsMaking m s u first → RunsMaking n u t later → RunsMaking (m + n) s t (first ++ later)
+RunsMaking-append zero n s u t first later run run' =
+    let P : State → Type 0 = λ x. RunsMaking n x t later in
+    let Q : List Access → Type 0 = λ xs. RunsMaking n s t (xs ++ later) in
+    RunsMaking-as n (0 + n) s t (first ++ later) (omega arith) (subst Q (sym run.1) (subst P run.0 run'))
+RunsMaking-append (suc m) n s u t first later run run' =
+    let more = RunsMaking-append m n run.0 u t run.2 later run.4 run' in
+    let joined : first ++ later ≡ run.1 ++ (run.2 ++ later) = ap (λ xs. xs ++ later) run.5 ∙ append_assoc run.1 run.2 later in
+    RunsMaking-as (suc (m + n)) (suc m + n) s t (first ++ later) (omega arith) (run.0, run.1, run.2 ++ later, run.3, more, joined)
+
+-- two chains, which are k steps together
+pub RunsMaking-join : (m n k : ℕ) (s u t : State) (first later : List Access) → m + n ≡ k → RunsMaking m s u first → RunsMaking n u t later → RunsMaking k s t (first ++ later)
+RunsMaking-join m n k s u t first later together run run' = RunsMaking-as (m + n) k s t (first ++ later) together (RunsMaking-append m n s u t first later run run')
+
+-- ---- the accesses of a run
+
+-- a chain is a run that makes its accesses
+pub RunsMaking-accesses : (n : ℕ) (s t : State) (accesses : List Access) → RunsMaking n s t accesses → AccessesOfRun s (replicate n (Ok tt)) accesses
+RunsMaking-accesses zero s t accesses run = run.1
+RunsMaking-accesses (suc n) s t accesses run = (run.0, run.1, run.2, run.3.step, run.3.makes, RunsMaking-accesses n run.0 t run.2 run.4, run.5)
+
+-- and so is a chain that is followed by one more step, which faults
+pub RunsMaking-fault : (n : ℕ) (s m t : State) (e : InstructionException) (accesses last : List Access) → RunsMaking n s m accesses → Step m t (Err e) → AccessesOf m last → AccessesOfRun s (answers_of_run n (Some e)) (accesses ++ last)
+RunsMaking-fault zero s m t e accesses last run fault makes =
+    let P : State → Type 0 = λ x. Step x t (Err e) in
+    let Q : State → Type 0 = λ x. AccessesOf x last in
+    let joined : accesses ++ last ≡ last ++ [] = ap (λ xs. xs ++ last) run.1 ∙ sym (append-nil last) in
+    (t, last, [], subst P run.0 fault, subst Q run.0 makes, refl, joined)
+RunsMaking-fault (suc n) s m t e accesses last run fault makes =
+    let more = RunsMaking-fault n run.0 m t e run.2 last run.4 fault makes in
+    let joined : accesses ++ last ≡ run.1 ++ (run.2 ++ last) = ap (λ xs. xs ++ last) run.5 ∙ append_assoc run.1 run.2 last in
+    (run.0, run.1, run.2 ++ last, run.3.step, run.3.makes, more, joined)
