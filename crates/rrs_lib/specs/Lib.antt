@@ -18,7 +18,6 @@ pub mod Spaces
 pub mod Loading
 pub mod LoadTexts
 -- The code as seen by these: what a processor, the executor and the outputter say of themselves.
-pub mod Dispatching
 pub mod Executor
 pub mod Engines
 pub mod Decoded

@@ -31,6 +31,7 @@ use crate::instruction_formats::{
 /// assert_eq!(rt; fields.imm, 8);
 /// assert_eq!(rt; decode(0xffff_ffff), None);
 /// ```
+#[inline(always)]
 pub fn decode(word: u32) -> Option<Instruction>
     ensures decoded { IfSome result (IsInstruction word) }
     ensures outside { IfNone result (IsIllegal word) }
@@ -41,7 +42,7 @@ pub fn decode(word: u32) -> Option<Instruction>
 }
 
 /// The instruction that a word is, by its opcode.
-#[inline]
+#[inline(always)]
 fn decode_opcode(word: u32) -> Option<Instruction>
     ensures { IsDecoded word result }
 {
@@ -62,6 +63,7 @@ fn decode_opcode(word: u32) -> Option<Instruction>
 }
 
 /// The operation on two registers that a word is, or `None` where it is none.
+#[inline(always)]
 fn decode_op(word: u32) -> Option<Instruction>
     requires { word % 128 ≡ 0x33 }
     ensures { IsDecoded word result }
@@ -91,6 +93,7 @@ fn decode_op(word: u32) -> Option<Instruction>
 }
 
 /// The operation on a register and an immediate that a word is, or `None` where it is none.
+#[inline(always)]
 fn decode_op_imm(word: u32) -> Option<Instruction>
     requires { word % 128 ≡ 0x13 }
     ensures { IsDecoded word result }
@@ -123,6 +126,7 @@ fn decode_op_imm(word: u32) -> Option<Instruction>
 }
 
 /// The branch that a word is, or `None` where it is none.
+#[inline(always)]
 fn decode_branch(word: u32) -> Option<Instruction>
     requires { word % 128 ≡ 0x63 }
     ensures { IsDecoded word result }
@@ -140,6 +144,7 @@ fn decode_branch(word: u32) -> Option<Instruction>
 }
 
 /// The load that a word is, or `None` where it is none.
+#[inline(always)]
 fn decode_load(word: u32) -> Option<Instruction>
     requires { word % 128 ≡ 0x03 }
     ensures { IsDecoded word result }
@@ -156,6 +161,7 @@ fn decode_load(word: u32) -> Option<Instruction>
 }
 
 /// The store that a word is, or `None` where it is none.
+#[inline(always)]
 fn decode_store(word: u32) -> Option<Instruction>
     requires { word % 128 ≡ 0x23 }
     ensures { IsDecoded word result }
@@ -170,6 +176,7 @@ fn decode_store(word: u32) -> Option<Instruction>
 }
 
 /// The `jalr` that a word is, or `None` for another funct3.
+#[inline(always)]
 fn decode_jalr(word: u32) -> Option<Instruction>
     requires { word % 128 ≡ 0x67 }
     ensures { IsDecoded word result }
@@ -182,6 +189,7 @@ fn decode_jalr(word: u32) -> Option<Instruction>
 }
 
 /// The `fence` that a word is, or `None` for another funct3.
+#[inline(always)]
 fn decode_misc_mem(word: u32) -> Option<Instruction>
     requires { word % 128 ≡ 0x0f }
     ensures { IsDecoded word result }
@@ -194,6 +202,7 @@ fn decode_misc_mem(word: u32) -> Option<Instruction>
 }
 
 /// The `ecall` or `ebreak` that a word is, or `None` for any other SYSTEM word.
+#[inline(always)]
 fn decode_system(word: u32) -> Option<Instruction>
     requires { word % 128 ≡ 0x73 }
     ensures { IsDecoded word result }

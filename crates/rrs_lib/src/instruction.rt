@@ -186,3 +186,6 @@ impl Instruction {
         }
     }
 }
+
+#[cfg(test)]
+mod tests;

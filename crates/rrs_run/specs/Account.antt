@@ -1,27 +1,14 @@
 -- What is printed of a run: a line for each instruction before it is executed, then how the run
 -- ended, and then the registers.
-use Rattle.std.specs.Prelude.{◌≡◌, ◌⊎◌, ℕ, zero, suc, ◌<◌, ◌≤◌, List, [], ◌++◌, replicate, Option, Some, None, Ok, Err}
-use Rattle.std.specs.Io.KnownBytes.{Appends}
+use Rattle.std.specs.Prelude.{◌≡◌, ◌⊎◌, ℕ, zero, suc, ◌<◌, ◌≤◌, List, [], ◌++◌, Option, Some, None, Ok, Err}
 use Rattle.rrs_lib.specs.declared.instruction_executor.InstructionException.{InstructionException}
 use Rattle.rrs_lib.specs.Encodings.{Fields}
 use Rattle.rrs_lib.specs.Table.{Row, Decodes, IsIllegal}
-use Rattle.rrs_lib.specs.Bytes.{ByteMap}
 use Rattle.rrs_lib.specs.Machine.{State}
 use Rattle.rrs_lib.specs.Texts.{text_of}
-use Rattle.rrs_lib.specs.VecBytes.{bytes_of_words, lies_in_words}
-use Rattle.rrs_lib.specs.Loading.{Loads}
 use Rattle.rrs_lib.specs.Steps.{Step, next_word}
-use Rattle.rrs_run.specs.Texts.{instruction_line, end_line, hart_lines}
-
--- lines of this kind were appended to a writer's bytes, where these are known
-pub record AppendsLines (AreLines : List ℕ → Type 0) (before after : Option (List ℕ)) : Type 0 where
-  pub lines : List ℕ
-  pub are_lines : AreLines lines
-  pub appended : Appends before after lines
-
--- a beginning of lines of this kind: none of them, some, or all
-abbrev pub IsBeginning : (List ℕ → Type 0) → List ℕ → Type 0
-IsBeginning AreLines begun = (rest : List ℕ) × AreLines (begun ++ rest)
+use Rattle.rrs_program.specs.Texts.{instruction_line, end_line, hart_lines}
+use Rattle.rrs_program.specs.Printed.{PrintsOfRun}
 
 -- ---- the lines before the steps
 
@@ -84,30 +71,7 @@ PrintsToNext limit s lines =
 abbrev pub PrintsPart : ℕ → State → List ℕ → Type 0
 PrintsPart limit s lines = PrintsToNext limit s lines ⊎ AccountOf limit s lines
 
--- ---- the run of a reader's bytes
-
--- the words of a new memory
-abbrev pub zero_words : List ℕ
-zero_words = replicate 16384 0
-
--- a new hart, all of whose registers are 0, at address 0 of a memory with these bytes
-abbrev pub start_of : ByteMap → State
-start_of bytes = record {
-  registers = replicate 31 0;
-  pc = 0;
-  last = None;
-  bytes = bytes;
-  writable = lies_in_words zero_words;
-}
-
--- The bytes of a reader are loaded at address 0, and lines of this kind are printed of the run that
--- starts there, and nothing else.
-pub record PrintsOfRun (AreLines : State → List ℕ → Type 0)
-    (input rest before after : Option (List ℕ)) : Type 0 where
-  pub bytes : ByteMap
-  pub loaded :
-      Loads input rest (bytes_of_words zero_words) bytes (lies_in_words zero_words) 0 (Ok tt)
-  pub printed : AppendsLines (AreLines (start_of bytes)) before after
+-- ---- the account of a reader's bytes
 
 -- what is printed is the whole account of the run of the reader's bytes
 abbrev pub Account : Option (List ℕ) → Option (List ℕ) → ℕ

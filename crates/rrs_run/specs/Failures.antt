@@ -2,7 +2,7 @@
 use Rattle.std.specs.Prelude.{ℕ, List, ◌++◌, codes}
 use Rattle.rrs_run.specs.declared.Failure.{Failure}
 use Rattle.rrs_run.specs.declared.Failure.TheVariants.{Usage, CannotOpen, Run}
-use Rattle.rrs_run.specs.Faults.{fault_text}
+use Rattle.rrs_program.specs.Faults.{fault_text}
 
 -- the line on standard error
 abbrev pub failure_text : Failure → List ℕ

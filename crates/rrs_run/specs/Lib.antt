@@ -1,6 +1,3 @@
-pub mod Limits
-pub mod Requests
-pub mod Texts
 pub mod Faults
 pub mod Failures
 pub mod Account

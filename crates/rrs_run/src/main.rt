@@ -10,15 +10,11 @@
 ghost use Rattle.std.specs.Prelude.{◌≡◌, Some};
 ghost use Rattle.rrs_run.specs.Failures.{failure_text, status_of};
 
-mod fault;
-mod limits;
-mod report;
-mod requests;
 mod simulation;
 
-use crate::fault::RunFault;
-use crate::requests::request_of;
 use crate::simulation::simulate;
+use rrs_program::fault::RunFault;
+use rrs_program::requests::request_of;
 use std::alloc::Global;
 use std::error::Error;
 use std::io::{BufReader, BufWriter, ErrorKind};

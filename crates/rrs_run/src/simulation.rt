@@ -1,24 +1,21 @@
 //! Runs the bytes of a reader as a program.
 
-ghost use Rattle.std.specs.Prelude.{◌≡◌, [], Ok, IfOk, OnOk, IfErr, vec_len};
+ghost use Rattle.std.specs.Prelude.{◌≡◌, [], IfOk, OnOk, IfErr};
 ghost use Rattle.rrs_lib.specs.Executor.{state_in};
-ghost use Rattle.rrs_lib.specs.Loading.{Loads};
-ghost use Rattle.rrs_lib.specs.VecBytes.{bytes_of_words, lies_in_words};
 ghost use Rattle.rrs_lib.specs.Steps.{Step};
-ghost use Rattle.rrs_run.specs.Account.{Account, AppendsLines, LinesBefore, LinesOfWord, PrintsUntil, PrintsSteps, PrintsToNext, zero_words};
-ghost use Rattle.rrs_run.specs.Faults.{StopsLoad, StopsPrinting, StopsRun};
+ghost use Rattle.rrs_run.specs.Account.{Account, LinesBefore, LinesOfWord, PrintsUntil, PrintsSteps, PrintsToNext};
+ghost use Rattle.rrs_run.specs.Faults.{StopsRun};
+ghost use Rattle.rrs_program.specs.Printed.{AppendsLines};
+ghost use Rattle.rrs_program.specs.Faults.{StopsPrinting};
 
-use crate::fault::RunFault;
-use crate::report;
 use rrs_lib::instruction_executor::{InstructionException, InstructionExecutor, RunEnd};
 use rrs_lib::instruction_string_outputter::InstructionStringOutputter;
-use rrs_lib::memories::{LoadFault, VecMemory, read_to_memory};
 use rrs_lib::{HartState, Memory, process_instruction};
+use rrs_program::fault::RunFault;
+use rrs_program::loading::{empty_memory, load};
+use rrs_program::report;
 use std::alloc::Global;
 use std::io::{Read, Write};
-
-/// The number of words of the memory.
-const WORDS: usize = 16384;
 
 /// Runs the reader's bytes as a program, for `limit` steps or up to the first fault, and prints
 /// the text of each instruction, how the run ended, and the registers.
@@ -51,35 +48,6 @@ pub fn simulate<R: Read, W: Write>(
     let ending = report::ending_of(alloc, &end, executor.hart_state)?;
     report::write_text(out, &ending)?;
     report::flush(out)
-}
-
-/// A memory of zero words.
-fn empty_memory(alloc: Global) -> Result<VecMemory, RunFault>
-    ensures words { IfOk result (λ m. m.mem.items ≡ zero_words) }
-    ensures fault { IfErr result (λ e. e ≡ RunFault.OutOfMemory) }
-{
-    match vec![in alloc; 0; WORDS] {
-        Ok(words) => Ok(VecMemory::new(words)),
-        Err(_) => Err(RunFault::OutOfMemory),
-    }
-}
-
-/// Loads the reader's bytes at the addresses 0, 1, 2, .. until it ends.
-fn load<R: Read>(reader: &mut R, memory: &mut VecMemory) -> Result<(), RunFault>
-    requires { vec_len memory.old.mem ≡ 16384 }
-    ensures loaded { OnOk result (Loads (R.remaining reader.old) (R.remaining reader.new)
-        (bytes_of_words memory.old.mem.items) (bytes_of_words memory.new.mem.items)
-        (lies_in_words memory.old.mem.items) 0 (Ok tt)) }
-    ensures writable_kept { lies_in_words memory.new.mem.items
-        ≡ lies_in_words memory.old.mem.items }
-    ensures fault { IfErr result (StopsLoad (R.remaining reader.old) (R.remaining reader.new)) }
-{
-    match read_to_memory(reader, memory, 0) {
-        Ok(()) => Ok(()),
-        Err(LoadFault::Reader(_)) => Err(RunFault::Reader),
-        Err(LoadFault::Refused(address)) => Err(RunFault::Refused(address)),
-        Err(LoadFault::EndOfAddresses) => unreachable!(),
-    }
 }
 
 /// Makes steps as `InstructionExecutor::run` does, and prints each instruction before its step.

@@ -1,6 +1,7 @@
 use super::*;
 use crate::instruction_formats::ITypeShamt;
 use crate::memories::VecMemory;
+use crate::process_instruction;
 use std::alloc::{AllocError, Global};
 use std::test::Fail;
 

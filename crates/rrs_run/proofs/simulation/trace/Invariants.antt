@@ -1,5 +1,6 @@
 use Rattle.rrs_lib.specs.Executor.{state_in}
-use Rattle.rrs_run.specs.Account.{AppendsLines, PrintsOk}
+use Rattle.rrs_program.specs.Printed.{AppendsLines}
+use Rattle.rrs_run.specs.Account.{PrintsOk}
 use Rattle.rrs_run.proofs.simulation.trace.Given as goal
 
 -- the steps so far were Ok, and what stood before each is printed

@@ -1,0 +1,47 @@
+use super::*;
+use crate::HartState;
+use crate::instruction_executor::InstructionExecutor;
+use crate::instruction_string_outputter::InstructionStringOutputter;
+use crate::memories::VecMemory;
+use std::test::Fail;
+
+#[test]
+fn words_are_these_instructions(rt: HostRuntime) {
+    let branch = BType {
+        imm: 8,
+        rs2: 2,
+        rs1: 1,
+        funct3: 0,
+    };
+    assert_eq!(rt; decode(0x0020_8463), Some(Instruction::Beq(branch)));
+    let system = IType {
+        imm: 1,
+        rs1: 0,
+        funct3: 0,
+        rd: 0,
+    };
+    assert_eq!(rt; decode(0x0010_0073), Some(Instruction::Ebreak(system)));
+    assert_eq!(rt; decode(0xffff_ffff), None);
+}
+
+#[test]
+fn an_instruction_is_processed(rt: HostRuntime) -> Result<(), Fail> {
+    let alloc = rt.alloc();
+    let instruction = decode(0x0020_8463).ok_or("no row")?;
+    let mut outputter = InstructionStringOutputter {
+        insn_pc: 0x100,
+        alloc,
+    };
+    let text = instruction.process(&mut outputter)?;
+    assert_eq!(rt; text.as_str(), "beq x1, x2, 0x00000108");
+    let mut memory = VecMemory::new(Vec::new(alloc));
+    let mut hart = HartState::new();
+    hart.pc = 0x100;
+    let mut executor = InstructionExecutor {
+        mem: &mut memory,
+        hart_state: &mut hart,
+    };
+    assert_eq!(rt; instruction.process(&mut executor), Ok(true));
+    assert_eq!(rt; hart.pc, 0x108);
+    Ok(())
+}

@@ -1,0 +1,4 @@
+pub mod Digits
+pub mod LoadEnds
+pub mod Printed
+pub mod Printing
