@@ -1,5 +1,5 @@
 -- The program that prints, as a run with its accesses.
-use Rattle.std.proofs.Common.{◌≡◌, ◌≢◌, ℕ, zero, suc, ◌+◌, ◌*◌, ◌%◌, ◌^◌, ◌<◌, ◌≤◌, ◌==◌, ◌&&◌, nat_lt, List, [], ◌∷◌, ◌++◌, length, slice_index, pos, neg_ℤ, not, Bool, true, false, Option, Some, None, IsTrue, inl, inr, refl, sym, ap, subst, ◌∙◌, arith, append-nil}
+use Rattle.std.proofs.Common.{◌≡◌, ◌≢◌, ℕ, zero, suc, ◌+◌, ◌*◌, ◌%◌, ◌^◌, ◌<◌, ◌≤◌, ◌==◌, ◌&&◌, nat_lt, List, [], ◌∷◌, ◌++◌, length, slice_index, pos, neg_ℤ, not, Bool, true, false, Option, Some, None, IsTrue, inl, inr, refl, sym, ap, subst, ◌∙◌, arith, append-nil, length-append}
 use Rattle.std.proofs.lemmas.Bool.{and_parts, ltb-true}
 use Rattle.std.proofs.lemmas.Bool.Decides.{nat_tests}
 use Rattle.rrs_lib.specs.declared.MemAccessSize.TheVariants.{Byte}
@@ -19,7 +19,7 @@ use Rattle.rrs_lib.proofs.Accesses.{Outside, outside_from_none, store-outside, w
 use Rattle.rrs_lib.proofs.Making.{AccessesOfRun-unique, accesses_of_illegal}
 use Rattle.rrs_lib.proofs.Rows.{one_row_at_most}
 use Rattle.rrs_lib.proofs.AccessChains
-use Rattle.rrs_lib.proofs.AccessChains.{RunsMaking, making}
+use Rattle.rrs_lib.proofs.AccessChains.{RunsMaking, joined, making, making-loads, making-stores}
 use Rattle.rrs_extra.specs.Programs.{HoldsWords, AreApart, word_at}
 use Rattle.rrs_extra.specs.Printing.{HoldsString, put_string_program, PutStringStarts, writes_of, writes_to}
 use Rattle.rrs_extra.proofs.Words.{word_read, instruction, read_after, holds_after, is_value, value_is}
@@ -48,51 +48,38 @@ jal_back = decodes _ _ _ refl
 
 -- a chain whose accesses have these writes
 record Printing (n : ℕ) (s t : State) (writes : List Access) : Type 0 where
-  accesses : List Access
-  makes : RunsMaking n s t accesses
-  printed : writes_of accesses ≡ writes
+  each : List (List Access)
+  count : length each ≡ n
+  makes : RunsMaking s each t
+  printed : writes_of (joined each) ≡ writes
 
 round : (o : Others) (x1 port a c x12 x13 x14 x15 p : ℕ) (last : Option ℕ) (bytes : ByteMap) (writable : ℕ → Bool)
     → HoldsWords bytes p put_string_program → HoldsWords (store bytes port 1 c) p put_string_program → p % 4 ≡ 0 → p + 24 ≤ 2 ^ 32
     → port < 2 ^ 32 → a + 1 < 2 ^ 32 → c ≢ 0 → c < 256 → little_endian bytes a 1 ≡ Some c → all_writable writable port 1 ≡ true
     → Printing 5 (at (registers_by o x1 port a x12 x13 x14 x15) p last bytes writable) (at (registers_by o x1 port (a + 1) x12 x13 x14 c) p None (store bytes port 1 c) writable) (Write port Byte c true ∷ [])
 round o x1 port a c x12 x13 x14 x15 p last bytes writable holds holds' aligned fits small a_small some byte read allowed = record {
-  accesses = _;
+  each = _ ∷ _ ∷ _ ∷ _ ∷ _ ∷ [];
+  count = refl;
   makes = (
     _,
-    _,
-    _,
-    AccessChains.making-loads (p + 4) Byte pos a c c (instruction holds aligned 0 (omega arith) (omega arith) lbu_x15) refl refl (omega arith) (omega arith) read (omega arith) (omega arith),
+    making-loads (p + 4) Byte pos a c c (instruction holds aligned 0 (omega arith) (omega arith) lbu_x15) refl refl (omega arith) (omega arith) read (omega arith) (omega arith),
     (
-      _,
-      _,
       _,
       making (instruction holds aligned 1 (omega arith) (omega arith) bne_x15) (λ f. Programs.step-branches (p + 12) (not (c == 0)) (pos 8) f refl (grind (arith, nat_tests)) (omega arith)) refl,
       (
         _,
-        _,
-        _,
         making (instruction holds aligned 3 (omega arith) (omega arith) addi_x11) (λ f. Programs.step-writes (p + 16) 10 (a + 1) (pos (a + 1)) f refl (omega arith) (omega arith)) refl,
         (
           _,
-          _,
-          _,
-          AccessChains.making-stores (p + 20) Byte port c (instruction holds aligned 4 (omega arith) (omega arith) sb_x15) refl refl (omega arith) refl (omega arith) allowed (omega arith),
+          making-stores (p + 20) Byte port c (instruction holds aligned 4 (omega arith) (omega arith) sb_x15) refl refl (omega arith) refl (omega arith) allowed (omega arith),
           (
             _,
-            _,
-            _,
             making (instruction holds' aligned 5 (omega arith) (omega arith) jal_back) (λ f. Programs.step-jumps p 0 (word (pos (p + 20 + 4294967276))) f refl (omega arith)) refl,
-            (refl, refl),
             refl,
           ),
-          refl,
         ),
-        refl,
       ),
-      refl,
     ),
-    refl,
   );
   printed = refl;
 }
@@ -163,28 +150,20 @@ returns : (o : Others) (x1 port a x12 x13 x14 x15 p : ℕ) (last : Option ℕ) (
     → HoldsWords bytes p put_string_program → p % 4 ≡ 0 → p + 24 ≤ 2 ^ 32 → a < 2 ^ 32 → little_endian bytes a 1 ≡ Some 0 → x1 % 4 ≡ 0 → x1 < 2 ^ 32
     → Printing 3 (at (registers_by o x1 port a x12 x13 x14 x15) p last bytes writable) (at (registers_by o x1 port a x12 x13 x14 0) x1 None bytes writable) []
 returns o x1 port a x12 x13 x14 x15 p last bytes writable holds aligned fits a_small read return_aligned small = record {
-  accesses = _;
+  each = _ ∷ _ ∷ _ ∷ [];
+  count = refl;
   makes = (
     _,
-    _,
-    _,
-    AccessChains.making-loads (p + 4) Byte pos a 0 0 (instruction holds aligned 0 (omega arith) (omega arith) lbu_x15) refl refl (omega arith) (omega arith) read refl (omega arith),
+    making-loads (p + 4) Byte pos a 0 0 (instruction holds aligned 0 (omega arith) (omega arith) lbu_x15) refl refl (omega arith) (omega arith) read refl (omega arith),
     (
-      _,
-      _,
       _,
       making (instruction holds aligned 1 (omega arith) (omega arith) bne_x15) (λ f. Programs.step-stays (p + 8) false (pos 8) {registers = registers_by o x1 port a x12 x13 x14 0} f refl refl (omega arith)) refl,
       (
         _,
-        _,
-        _,
         making (instruction holds aligned 2 (omega arith) (omega arith) ret) (λ f. Programs.step-jumps x1 0 (made_even (word (pos (x1 + 0)))) f refl (omega arith)) refl,
-        (refl, refl),
         refl,
       ),
-      refl,
     ),
-    refl,
   );
   printed = refl;
 }
@@ -198,9 +177,10 @@ writes_of-append (Write a size value answer ∷ accesses) later = ap (λ xs. Wri
 -- one chain, and then another
 prints_join : (m n k : ℕ) (s u t : State) (first later writes : List Access) → m + n ≡ k → first ++ later ≡ writes → Printing m s u first → Printing n u t later → Printing k s t writes
 prints_join m n k s u t first later writes together are one more = record {
-  accesses = one.accesses ++ more.accesses;
-  makes = AccessChains.RunsMaking-join m n k s u t one.accesses more.accesses together one.makes more.makes;
-  printed = writes_of-append one.accesses more.accesses ∙ (λ i. one.printed i ++ more.printed i) ∙ are;
+  each = one.each ++ more.each;
+  count = length-append one.each more.each ∙ (λ i. one.count i + more.count i) ∙ together;
+  makes = AccessChains.RunsMaking-append one.each more.each s u t one.makes more.makes;
+  printed = ap writes_of (AccessChains.joined-append one.each more.each) ∙ writes_of-append (joined one.each) (joined more.each) ∙ (λ i. one.printed i ++ more.printed i) ∙ are;
 }
 
 prints : (text : List ℕ) (o : Others) (x1 port a x12 x13 x14 x15 p : ℕ) (last : Option ℕ) (bytes : ByteMap) (writable : ℕ → Bool)
@@ -256,14 +236,14 @@ puts_from text o x1 port a x12 x13 x14 x15 p last bytes writable starts small po
     let m = at all.registers_after x1 None all.bytes_after writable in
     let s = at (registers_by o x1 port a x12 x13 x14 x15) p last bytes writable in
     let fault = Programs.step-illegal {registers = all.registers_after} {pc = x1} {last = None} {bytes = all.bytes_after} {writable = writable} called.return_aligned read called.stops.outside in
-    let chain = AccessChains.RunsMaking-runs (5 * length text + 3) s m all.runs.accesses all.runs.makes in
+    let chain = Programs.RunsOk-as (length all.runs.each) (5 * length text + 3) s m all.runs.count (AccessChains.RunsMaking-runs all.runs.each s m all.runs.makes) in
     let last_fetch = accesses_of_illegal m _ called.return_aligned read called.stops.outside in
     record {
       after = m;
       runs = Programs.RunUntil-fault (5 * length text + 4) (5 * length text + 3) s m m _ (omega arith) chain fault;
-      accesses = all.runs.accesses ++ (fetch m ∷ []);
-      makes = AccessChains.RunsMaking-fault (5 * length text + 3) s m m _ all.runs.accesses (fetch m ∷ []) all.runs.makes fault last_fetch;
-      printed = writes_of-append all.runs.accesses (fetch m ∷ []) ∙ append-nil _ ∙ all.runs.printed;
+      accesses = joined all.runs.each ++ (fetch m ∷ []);
+      makes = subst (λ n. AccessesOfRun s (answers_of_run n (Some (IllegalInstruction x1 (word_at bytes x1)))) (joined all.runs.each ++ (fetch m ∷ []))) all.runs.count (AccessChains.RunsMaking-fault all.runs.each s m m _ (fetch m ∷ []) all.runs.makes fault last_fetch);
+      printed = writes_of-append (joined all.runs.each) (fetch m ∷ []) ∙ append-nil _ ∙ all.runs.printed;
       others = all.others;
     }
 

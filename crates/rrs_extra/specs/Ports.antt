@@ -1,5 +1,5 @@
--- What a port that prints means: one byte, which a program in the simulated machine writes to, and a
--- log of the bytes that it wrote (RISC-V unprivileged specification, RV32I, "Load and Store
+-- What a port that prints means: one byte, which a program in the simulated machine writes to,
+-- and a log of the bytes that it wrote (RISC-V unprivileged specification, RV32I, "Load and Store
 -- Instructions": a device is reached as memory is).
 use Rattle.std.specs.Prelude.{◌≡◌, ℕ, ◌+◌, ◌-◌, ◌%◌, ◌^◌, ◌<◌, min, ◌==◌, nat_lt, Bool, if◌then◌else◌, List, [], ◌∷◌, ◌++◌, Option, Some, None, length, slice_get, vec_capacity}
 use Rattle.std.specs.Bool.{OnTrue, OnFalse}

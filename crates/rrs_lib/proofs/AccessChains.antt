@@ -1,6 +1,6 @@
 -- For proofs of programs whose accesses count: a step with the accesses that it makes, chains of such steps, and the accesses of the run that a chain
 -- is. docs/PROGRAMS.md shows how.
-use Rattle.std.proofs.Common.{◌≡◌, ℕ, zero, suc, ◌+◌, ◌%◌, ◌==◌, List, [], ◌∷◌, ◌++◌, replicate, slice_set, Bool, true, if◌then◌else◌, ℤ, pos, Option, Some, None, Ok, Err, refl, sym, ap, subst, ◌∙◌, arith, append_assoc, append-nil, eq-eqb}
+use Rattle.std.proofs.Common.{◌≡◌, ℕ, suc, ◌+◌, ◌%◌, ◌==◌, List, [], ◌∷◌, ◌++◌, length, replicate, slice_set, Bool, true, if◌then◌else◌, ℤ, pos, Option, Some, None, Ok, Err, refl, sym, ap, subst, ◌∙◌, append_assoc, append-nil, eq-eqb}
 use Rattle.std.proofs.lemmas.Bool.{cond-true}
 use Rattle.rrs_lib.specs.declared.MemAccessSize.{MemAccessSize}
 use Rattle.rrs_lib.specs.declared.instruction_executor.InstructionException.{InstructionException}
@@ -58,53 +58,42 @@ making-stores next size to y {row = row} {imm = imm} {rs2 = rs2} {rs1 = rs1} {fu
 
 -- ---- chains
 
--- s goes to t by n steps that are all Ok, and these are the accesses that they make
-abbrev pub RunsMaking : ℕ → State → State → List Access → Type 0
-RunsMaking zero s t accesses = (t ≡ s) × (accesses ≡ [])
-RunsMaking (suc n) s t accesses =
-    (m : State) × (first later : List Access)
-    × StepMaking s m first × RunsMaking n m t later
-    × (accesses ≡ first ++ later)
+-- the accesses of steps, one step's after the other's
+abbrev pub joined : List (List Access) → List Access
+joined [] = []
+joined (first ∷ later) = first ++ joined later
 
--- it is a chain of steps
-pub RunsMaking-runs : (n : ℕ) (s t : State) (accesses : List Access) → RunsMaking n s t accesses → RunsOk n s t
-RunsMaking-runs zero s t accesses run = run.0
-RunsMaking-runs (suc n) s t accesses run = (run.0, run.3.step, RunsMaking-runs n run.0 t run.2 run.4)
+-- s goes to t by steps that are all Ok, and these are the accesses of each
+abbrev pub RunsMaking : State → List (List Access) → State → Type 0
+RunsMaking s [] t = t ≡ s
+RunsMaking s (first ∷ later) t = (m : State) × StepMaking s m first × RunsMaking m later t
 
--- a chain of as many steps
-pub RunsMaking-as : (m n : ℕ) (s t : State) (accesses : List Access) → m ≡ n → RunsMaking m s t accesses → RunsMaking n s t accesses
-RunsMaking-as m n s t accesses e run = subst (λ k. RunsMaking k s t accesses) e run
+-- it is a chain of as many steps
+pub RunsMaking-runs : (each : List (List Access)) (s t : State) → RunsMaking s each t → RunsOk (length each) s t
+RunsMaking-runs [] s t run = run
+RunsMaking-runs (first ∷ later) s t run = (run.0, run.1.step, RunsMaking-runs later run.0 t run.2)
 
--- two chains: the accesses of one, and then those of the other
-pub RunsMaking-append : (m n : ℕ) (s u t : State) (first later : List Access) → RunsMaking m s u first → RunsMaking n u t later → RunsMaking (m + n) s t (first ++ later)
-RunsMaking-append zero n s u t first later run run' =
-    let P : State → Type 0 = λ x. RunsMaking n x t later in
-    let Q : List Access → Type 0 = λ xs. RunsMaking n s t (xs ++ later) in
-    RunsMaking-as n (0 + n) s t (first ++ later) (omega arith) (subst Q (sym run.1) (subst P run.0 run'))
-RunsMaking-append (suc m) n s u t first later run run' =
-    let more = RunsMaking-append m n run.0 u t run.2 later run.4 run' in
-    let joined : first ++ later ≡ run.1 ++ (run.2 ++ later) = ap (λ xs. xs ++ later) run.5 ∙ append_assoc run.1 run.2 later in
-    RunsMaking-as (suc (m + n)) (suc m + n) s t (first ++ later) (omega arith) (run.0, run.1, run.2 ++ later, run.3, more, joined)
+-- two chains, one after the other
+pub RunsMaking-append : (each each' : List (List Access)) (s u t : State) → RunsMaking s each u → RunsMaking u each' t → RunsMaking s (each ++ each') t
+RunsMaking-append [] each' s u t run run' = subst (λ x. RunsMaking x each' t) run run'
+RunsMaking-append (first ∷ later) each' s u t run run' = (run.0, run.1, RunsMaking-append later each' run.0 u t run.2 run')
 
--- two chains, which are k steps together
-pub RunsMaking-join : (m n k : ℕ) (s u t : State) (first later : List Access) → m + n ≡ k → RunsMaking m s u first → RunsMaking n u t later → RunsMaking k s t (first ++ later)
-RunsMaking-join m n k s u t first later together run run' = RunsMaking-as (m + n) k s t (first ++ later) together (RunsMaking-append m n s u t first later run run')
+pub joined-append : (each each' : List (List Access)) → joined (each ++ each') ≡ joined each ++ joined each'
+joined-append [] each' = refl
+joined-append (first ∷ later) each' = ap (λ xs. first ++ xs) (joined-append later each') ∙ sym (append_assoc first (joined later) (joined each'))
 
 -- ---- the accesses of a run
 
 -- a chain is a run that makes its accesses
-pub RunsMaking-accesses : (n : ℕ) (s t : State) (accesses : List Access) → RunsMaking n s t accesses → AccessesOfRun s (replicate n (Ok tt)) accesses
-RunsMaking-accesses zero s t accesses run = run.1
-RunsMaking-accesses (suc n) s t accesses run = (run.0, run.1, run.2, run.3.step, run.3.makes, RunsMaking-accesses n run.0 t run.2 run.4, run.5)
+pub RunsMaking-accesses : (each : List (List Access)) (s t : State) → RunsMaking s each t → AccessesOfRun s (replicate (length each) (Ok tt)) (joined each)
+RunsMaking-accesses [] s t run = refl
+RunsMaking-accesses (first ∷ later) s t run = (run.0, first, joined later, run.1.step, run.1.makes, RunsMaking-accesses later run.0 t run.2, refl)
 
 -- and so is a chain that is followed by one more step, which faults
-pub RunsMaking-fault : (n : ℕ) (s m t : State) (e : InstructionException) (accesses last : List Access) → RunsMaking n s m accesses → Step m t (Err e) → AccessesOf m last → AccessesOfRun s (answers_of_run n (Some e)) (accesses ++ last)
-RunsMaking-fault zero s m t e accesses last run fault makes =
+pub RunsMaking-fault : (each : List (List Access)) (s m t : State) (e : InstructionException) (last : List Access) → RunsMaking s each m → Step m t (Err e) → AccessesOf m last → AccessesOfRun s (answers_of_run (length each) (Some e)) (joined each ++ last)
+RunsMaking-fault [] s m t e last run fault makes =
     let P : State → Type 0 = λ x. Step x t (Err e) in
     let Q : State → Type 0 = λ x. AccessesOf x last in
-    let joined : accesses ++ last ≡ last ++ [] = ap (λ xs. xs ++ last) run.1 ∙ sym (append-nil last) in
-    (t, last, [], subst P run.0 fault, subst Q run.0 makes, refl, joined)
-RunsMaking-fault (suc n) s m t e accesses last run fault makes =
-    let more = RunsMaking-fault n run.0 m t e run.2 last run.4 fault makes in
-    let joined : accesses ++ last ≡ run.1 ++ (run.2 ++ last) = ap (λ xs. xs ++ last) run.5 ∙ append_assoc run.1 run.2 last in
-    (run.0, run.1, run.2 ++ last, run.3.step, run.3.makes, more, joined)
+    (t, last, [], subst P run fault, subst Q run makes, refl, sym (append-nil last))
+RunsMaking-fault (first ∷ later) s m t e last run fault makes =
+    (run.0, first, joined later ++ last, run.1.step, run.1.makes, RunsMaking-fault later run.0 m t e last run.2 fault makes, append_assoc first (joined later) last)
