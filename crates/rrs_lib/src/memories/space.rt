@@ -338,6 +338,7 @@ impl<M: Memory> Memory for MemorySpace<M> {
 
     ghost layout = { λ s. space_layout M.layout s.regions };
 
+    #[inline]
     fn read_mem(&mut self, addr: u32, size: MemAccessSize) -> Option<u32>
         requires { addr % width size ≡ 0 }
         ensures laws { Reads
@@ -359,6 +360,7 @@ impl<M: Memory> Memory for MemorySpace<M> {
         }
     }
 
+    #[inline]
     fn write_mem(&mut self, addr: u32, size: MemAccessSize, store_data: u32) -> bool
         requires { addr % width size ≡ 0 }
         ensures laws { Writes
