@@ -5,6 +5,29 @@ use crate::instruction_string_outputter::InstructionStringOutputter;
 use crate::memories::VecMemory;
 use std::test::Fail;
 
+/// Where the jump or the branch at `pc` goes to if it is taken, where its word alone tells.
+fn target_of(pc: u32, word: u32) -> Option<u32> {
+    let offset = match decode(word)? {
+        Instruction::Jal(fields) => fields.imm,
+        Instruction::Beq(fields)
+        | Instruction::Bne(fields)
+        | Instruction::Blt(fields)
+        | Instruction::Bltu(fields)
+        | Instruction::Bge(fields)
+        | Instruction::Bgeu(fields) => fields.imm,
+        _ => return None,
+    };
+    Some(pc.wrapping_add(offset.cast_unsigned()))
+}
+
+#[test]
+fn targets_are_told(rt: HostRuntime) {
+    assert_eq!(rt; target_of(0x100, 0x0020_8463), Some(0x108)); // beq x1, x2, 8
+    assert_eq!(rt; target_of(0x14, 0xfedf_f06f), Some(0)); // jal x0, -20
+    assert_eq!(rt; target_of(0, 0x0000_80e7), None); // jalr x1, 0x0(x1)
+    assert_eq!(rt; target_of(0, 0xffff_ffff), None);
+}
+
 #[test]
 fn words_are_these_instructions(rt: HostRuntime) {
     let branch = BType {

@@ -347,6 +347,7 @@ impl<M: Memory> Memory for MemorySpace<M> {
     ghost writes = { λ old address size value new answer. SpaceAccess address old new
         (λ before offset after. M.writes before offset size value after answer) };
 
+    #[inline]
     fn read_mem(&mut self, addr: u32, size: MemAccessSize) -> Option<u32>
         requires { addr % width size ≡ 0 }
         ensures laws { Reads
@@ -370,6 +371,7 @@ impl<M: Memory> Memory for MemorySpace<M> {
         }
     }
 
+    #[inline]
     fn write_mem(&mut self, addr: u32, size: MemAccessSize, store_data: u32) -> bool
         requires { addr % width size ≡ 0 }
         ensures laws { Writes
