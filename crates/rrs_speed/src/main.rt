@@ -118,4 +118,3 @@ fn run_file<R: Files + Print + AllocGlobal>(rt: &R, path: &str, limit: u64) -> R
     };
     simulate(rt.alloc(), &mut reader, limit, &mut out).map_err(Failure::Run)
 }
-

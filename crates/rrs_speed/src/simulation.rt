@@ -46,3 +46,5 @@ pub fn simulate<R: Read, W: Write>(
     report::flush(out)
 }
 
+#[cfg(test)]
+mod tests;
