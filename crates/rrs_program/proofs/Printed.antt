@@ -1,6 +1,5 @@
 -- What is printed, put together, and the state that a run of a reader's bytes starts in.
 use Rattle.std.proofs.Common.{◌≡◌, ℕ, List, ◌++◌, drop, replicate, Bool, Option, None, Result, Ok, Err, IfErr, ap, ◌∙◌, subst}
-use Rattle.std.specs.Io.KnownBytes.{Appends}
 use Rattle.std.proofs.KnownBytes.{Appends-trans}
 use Rattle.rrs_lib.specs.declared.HartState.{HartState}
 use Rattle.rrs_lib.specs.Bytes.{ByteMap}

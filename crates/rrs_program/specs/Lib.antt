@@ -8,3 +8,4 @@ pub mod Requests
 pub mod Texts
 pub mod Printed
 pub mod Faults
+pub mod Failures

@@ -1,22 +1,19 @@
 -- Accounts of runs, put together from what is printed before each step.
-use Rattle.std.proofs.Common.{◌≡◌, ℕ, ◌+◌, ◌<◌, List, [], ◌++◌, drop, replicate, Bool, Option, Some, None, Result, Ok, Err, IfErr, refl, sym, ap, ◌∙◌, subst, add-one, append_assoc, append-nil, arith, inl, inr}
+use Rattle.std.proofs.Common.{◌≡◌, ℕ, ◌+◌, ◌<◌, List, [], ◌++◌, Option, Some, None, Result, Ok, Err, IfErr, refl, sym, ap, ◌∙◌, subst, add-one, append_assoc, append-nil, arith, inl, inr}
 use Rattle.std.specs.Io.KnownBytes.{Appends, Keeps}
 use Rattle.std.proofs.KnownBytes.{Appends-trans, Appends-kept}
 use Rattle.rrs_lib.specs.declared.HartState.{HartState}
 use Rattle.rrs_lib.specs.declared.instruction_executor.InstructionException.{InstructionException}
 use Rattle.rrs_lib.specs.Encodings.{Fields}
 use Rattle.rrs_lib.specs.Table.{Row, Decodes}
-use Rattle.rrs_lib.specs.Bytes.{ByteMap}
-use Rattle.rrs_lib.specs.Machine.{State, state_of}
-use Rattle.rrs_lib.specs.VecBytes.{bytes_of_words, lies_in_words}
-use Rattle.rrs_lib.specs.Loading.{Loads}
+use Rattle.rrs_lib.specs.Machine.{State}
 use Rattle.rrs_lib.specs.Texts.{text_of}
 use Rattle.rrs_lib.specs.Steps.{Step, next_word}
 use Rattle.rrs_program.specs.declared.fault.RunFault.{RunFault}
 use Rattle.rrs_program.specs.declared.fault.RunFault.TheVariants.{OutOfMemory, Reader, Refused, Output}
 use Rattle.rrs_program.specs.Texts.{instruction_line, end_line, hart_lines}
 use Rattle.rrs_program.specs.Faults.{StopsPrinting}
-use Rattle.rrs_program.specs.Printed.{AppendsLines, IsBeginning, PrintsOfRun, start_of}
+use Rattle.rrs_program.specs.Printed.{AppendsLines, IsBeginning, start_of}
 use Rattle.rrs_program.proofs.Printed.{appends_weaker, appends_after, Ready, ready_state, run_printed}
 use Rattle.rrs_run.specs.Faults.{StopsRun}
 use Rattle.rrs_run.specs.Account.{LinesOfWord, Inside, LinesOfAny, LinesBefore, PrintsOk, PrintsUntil, PrintsSteps, PrintsToNext, PrintsPart, AccountOf, Account}

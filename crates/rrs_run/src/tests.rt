@@ -7,7 +7,9 @@ use std::cell::{Cell, RefCell};
 use std::env::FillError;
 use std::fmt::Display;
 use std::fs::{Metadata, OpenFile, OpenOptions};
-use std::io::{Read, Seek, SeekFrom, Write};
+use std::io;
+use std::io::{ErrorKind, Read, Seek, SeekFrom, Write};
+use std::rt::{Env, Files};
 use std::test::Fail;
 
 /// lui x2, 0x1234b / lui x3, 0xf387e / add x1, x2, x3
@@ -219,9 +221,14 @@ fn run(
         printed: RefCell::new(Vec::new(alloc)),
         room: Cell::new(room),
     };
-    let (status, text) = match perform(&machine) {
+    let (status, text) = match perform(&machine, &Tracing) {
         Ok(()) => (0, String::new(alloc)),
-        Err(failure) => (failure.status(), format!(in alloc; "{failure}")?),
+        Err(failure) => {
+            let status = failure.status();
+            let program = NAME;
+            let named = NamedFailure { program, failure };
+            (status, format!(in alloc; "{named}")?)
+        }
     };
     Ok((status, text, machine.printed.into_inner()))
 }

@@ -10,7 +10,7 @@ use Rattle.rrs_program.specs.declared.fault.RunFault.{RunFault}
 use Rattle.rrs_program.specs.declared.fault.RunFault.TheVariants.{OutOfMemory, Reader, Refused, Output}
 use Rattle.rrs_program.specs.Texts.{end_line, hart_lines}
 use Rattle.rrs_program.specs.Faults.{StopsPrinting}
-use Rattle.rrs_program.specs.Printed.{AppendsLines, IsBeginning, PrintsOfRun, start_of}
+use Rattle.rrs_program.specs.Printed.{IsBeginning, PrintsOfRun, start_of}
 use Rattle.rrs_program.proofs.Printed.{appends_weaker, Ready, ready_state, run_printed}
 use Rattle.rrs_speed.specs.Ending.{EndingOf, StopsEnding}
 
