@@ -1,3 +1,5 @@
+//! Instructions as values: what words are, and what is done with them.
+
 use super::*;
 use crate::HartState;
 use crate::instruction_executor::InstructionExecutor;

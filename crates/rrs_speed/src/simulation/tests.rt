@@ -1,3 +1,5 @@
+//! What is printed of a run, and what is left where a write fails.
+
 use super::*;
 use std::io;
 use std::io::ErrorKind;
