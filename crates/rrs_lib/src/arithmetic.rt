@@ -219,6 +219,3 @@ pub(crate) fn made_even(x: u32) -> u32
 {
     x & 0xffff_fffe
 }
-
-#[cfg(test)]
-mod tests;

@@ -186,6 +186,3 @@ impl Instruction {
         }
     }
 }
-
-#[cfg(test)]
-mod tests;

@@ -301,6 +301,3 @@ impl JType {
         }
     }
 }
-
-#[cfg(test)]
-mod tests;

@@ -334,6 +334,3 @@ impl InstructionProcessor for InstructionStringOutputter {
         format!(in self.alloc; "ebreak")
     }
 }
-
-#[cfg(test)]
-mod tests;

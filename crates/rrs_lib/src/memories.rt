@@ -139,6 +139,3 @@ impl Memory for VecMemory {
         write_words(&mut self.mem, addr, size, store_data)
     }
 }
-
-#[cfg(test)]
-mod tests;

@@ -97,6 +97,3 @@ pub fn read_to_memory<R: Read, M: Memory>(
         Err(error) => Err(LoadFault::Reader(error)),
     }
 }
-
-#[cfg(test)]
-mod tests;

@@ -396,6 +396,3 @@ impl<M: Memory> Memory for MemorySpace<M> {
         }
     }
 }
-
-#[cfg(test)]
-mod tests;

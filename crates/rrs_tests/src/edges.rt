@@ -3,9 +3,9 @@
 ghost use Rattle.std.specs.Prelude.{◌≡◌, ◌+◌, ◌%◌, ◌^◌};
 ghost use Rattle.rrs_lib.specs.VecBytes.{vec_bytes, vec_writable, vec_layout, vec_reads, VecWrites};
 
-use super::*;
-use crate::memories::VecMemory;
-use crate::{MemAccessSize, Memory};
+use rrs_lib::instruction_executor::{InstructionException, InstructionExecutor};
+use rrs_lib::memories::VecMemory;
+use rrs_lib::{HartState, MemAccessSize, Memory};
 use std::test::Fail;
 
 /// Words, with a count of the reads and writes so far, modulo 2^64.

@@ -1,10 +1,11 @@
 //! Instructions as values: what words are, and what is done with them.
 
-use super::*;
-use crate::HartState;
-use crate::instruction_executor::InstructionExecutor;
-use crate::instruction_string_outputter::InstructionStringOutputter;
-use crate::memories::VecMemory;
+use rrs_lib::HartState;
+use rrs_lib::instruction::{Instruction, decode};
+use rrs_lib::instruction_executor::InstructionExecutor;
+use rrs_lib::instruction_formats::{BType, IType};
+use rrs_lib::instruction_string_outputter::InstructionStringOutputter;
+use rrs_lib::memories::VecMemory;
 use std::test::Fail;
 
 /// Where the jump or the branch at `pc` goes to if it is taken, where its word alone tells.

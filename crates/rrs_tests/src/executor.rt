@@ -1,13 +1,11 @@
-use super::*;
-use crate::instruction_formats::ITypeShamt;
-use crate::memories::VecMemory;
-use crate::process_instruction;
-use std::alloc::{AllocError, Global};
-use std::test::Fail;
+//! What steps and runs of chosen words do to a hart, and what fault they return.
 
-fn memory_of(alloc: Global, words: &[u32]) -> Result<VecMemory, AllocError> {
-    Ok(VecMemory::new(words.to_vec(alloc)?))
-}
+use crate::memory_of;
+use rrs_lib::instruction_executor::{InstructionException, InstructionExecutor, RunEnd};
+use rrs_lib::instruction_formats::{IType, ITypeShamt};
+use rrs_lib::memories::VecMemory;
+use rrs_lib::{HartState, InstructionProcessor, Memory, process_instruction};
+use std::test::Fail;
 
 fn hart_with(x1: u32, x2: u32) -> HartState {
     let mut hart = HartState::new();
@@ -88,10 +86,17 @@ fn looks_at_the_next_word(rt: HostRuntime) -> Result<(), Fail> {
 #[test]
 fn computes(rt: HostRuntime) -> Result<(), Fail> {
     let cases = [
+        (0x002081b3, 0xffffffff, 2, 1),
         (0x402081b3, 0, 1, 0xffffffff),
         (0x002091b3, 1, 0xffffffe1, 2),
         (0x0020a1b3, 0x80000000, 0, 1),
         (0x0020b1b3, 0x80000000, 0, 0),
+        (0x0020b1b3, 5, 0xffffffff, 1),
+        (0x0020c1b3, 15, 0xfffffffb, 0xfffffff4),
+        (0x0020d1b3, 0x80000000, 7, 0x01000000),
+        (0x4020d1b3, 0x80000000, 7, 0xff000000),
+        (0x0020e1b3, 15, 0xfffffffb, 0xffffffff),
+        (0x0020f1b3, 15, 0xfffffffb, 0x0000000b),
         (0x0070d193, 0x80000000, 0, 0x01000000),
         (0x4070d193, 0x80000000, 0, 0xff000000),
         (0xffb0c193, 15, 0, 0xfffffff4),

@@ -1,4 +1,7 @@
-use super::*;
+//! What a memory of words answers, and one byte after another read into it.
+
+use rrs_lib::memories::{VecMemory, read_to_memory};
+use rrs_lib::{MemAccessSize, Memory};
 use std::test::Fail;
 
 #[test]

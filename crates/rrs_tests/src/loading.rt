@@ -1,6 +1,9 @@
-use super::*;
-use crate::memories::{MemorySpace, VecMemory};
+//! What `read_to_memory` writes, where it stops, and what it says of a failing reader.
+
+use rrs_lib::memories::{LoadFault, MemorySpace, VecMemory, read_to_memory};
+use rrs_lib::{MemAccessSize, Memory};
 use std::alloc::{AllocError, Global};
+use std::io::{self, Read};
 use std::test::Fail;
 
 // A reader of bytes, at most `step` a call, whose read before byte `fails_at` fails once. The next

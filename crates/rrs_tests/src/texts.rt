@@ -1,7 +1,9 @@
 //! The texts of chosen words, and that a text whose memory is refused may be asked for again.
 
-use super::*;
-use crate::process_instruction;
+use rrs_lib::instruction_formats::ITypeShamt;
+use rrs_lib::instruction_string_outputter::InstructionStringOutputter;
+use rrs_lib::{InstructionProcessor, process_instruction};
+use std::alloc::AllocError;
 use std::test::Fail;
 
 /// Each row of the table, and its text at address 0x100.

@@ -1,4 +1,6 @@
-use super::*;
+//! The fields that the formats' `new` reads from chosen words.
+
+use rrs_lib::instruction_formats::{BType, IType, ITypeShamt, JType, RType, SType, UType};
 
 #[test]
 fn i_type_immediates(rt: HostRuntime) {

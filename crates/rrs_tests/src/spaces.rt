@@ -2,15 +2,11 @@
 
 ghost use Rattle.std.specs.Prelude.{◌≡◌, ◌%◌};
 
-use super::*;
-use crate::HartState;
-use crate::instruction_executor::{InstructionException, InstructionExecutor};
-use crate::memories::{BoxedMemory, VecMemory};
+use crate::memory_of;
+use rrs_lib::instruction_executor::{InstructionException, InstructionExecutor};
+use rrs_lib::memories::{BoxedMemory, MemorySpace, MemorySpaceError, VecMemory};
+use rrs_lib::{HartState, MemAccessSize, Memory};
 use std::test::Fail;
-
-fn words(alloc: Global, words: &[u32]) -> Result<VecMemory, Fail> {
-    Ok(VecMemory::new(Vec::from_slice(alloc, words)?))
-}
 
 fn word_at<M: Memory>(memory: &mut M, addr: u32) -> Option<u32>
     requires { addr % 4 ≡ 0 }
@@ -44,7 +40,7 @@ fn regions_at_the_end_of_the_addresses(rt: HostRuntime) -> Result<(), Fail> {
         (0xffff_fffc, 4, Err(MemorySpaceError::RegionOverlap)),
     ];
     for (base, size, expected) in cases {
-        let memory = words(rt.alloc(), &[])?;
+        let memory = memory_of(rt.alloc(), &[])?;
         assert_eq!(rt;
             space.add_memory(base, size, memory),
             expected,
@@ -67,7 +63,7 @@ fn regions_are_accepted_in_turn(rt: HostRuntime) -> Result<(), Fail> {
         (0x100, 0, Ok(2)),
     ];
     for (base, size, expected) in cases {
-        let memory = words(rt.alloc(), &[])?;
+        let memory = memory_of(rt.alloc(), &[])?;
         assert_eq!(rt;
             space.add_memory(base, size, memory),
             expected,
@@ -107,9 +103,12 @@ fn a_refused_region_may_be_added_again(rt: HostRuntime) -> Result<(), Fail> {
 #[test]
 fn a_region_over_an_empty_one_is_refused(rt: HostRuntime) -> Result<(), Fail> {
     let mut space = MemorySpace::new(rt.alloc());
-    assert_eq!(rt; space.add_memory(0x104, 0, words(rt.alloc(), &[])?), Ok(0));
     assert_eq!(rt;
-        space.add_memory(0x100, 0x10, words(rt.alloc(), &[])?),
+        space.add_memory(0x104, 0, memory_of(rt.alloc(), &[])?),
+        Ok(0)
+    );
+    assert_eq!(rt;
+        space.add_memory(0x100, 0x10, memory_of(rt.alloc(), &[])?),
         Err(MemorySpaceError::RegionOverlap)
     );
     Ok(())
@@ -119,11 +118,11 @@ fn a_region_over_an_empty_one_is_refused(rt: HostRuntime) -> Result<(), Fail> {
 fn each_region_has_its_memory(rt: HostRuntime) -> Result<(), Fail> {
     let mut space = MemorySpace::new(rt.alloc());
     assert_eq!(rt;
-        space.add_memory(0x100, 8, words(rt.alloc(), &[0x1122_3344])?),
+        space.add_memory(0x100, 8, memory_of(rt.alloc(), &[0x1122_3344])?),
         Ok(0)
     );
     assert_eq!(rt;
-        space.add_memory(0x200, 4, words(rt.alloc(), &[1, 2])?),
+        space.add_memory(0x200, 4, memory_of(rt.alloc(), &[1, 2])?),
         Ok(1)
     );
     assert_eq!(rt; word_at(&mut space, 0x100), Some(0x1122_3344));
@@ -145,9 +144,12 @@ fn each_region_has_its_memory(rt: HostRuntime) -> Result<(), Fail> {
 #[test]
 fn writes_go_to_one_region(rt: HostRuntime) -> Result<(), Fail> {
     let mut space = MemorySpace::new(rt.alloc());
-    assert_eq!(rt; space.add_memory(0x100, 8, words(rt.alloc(), &[1])?), Ok(0));
     assert_eq!(rt;
-        space.add_memory(0x108, 4, words(rt.alloc(), &[2, 3])?),
+        space.add_memory(0x100, 8, memory_of(rt.alloc(), &[1])?),
+        Ok(0)
+    );
+    assert_eq!(rt;
+        space.add_memory(0x108, 4, memory_of(rt.alloc(), &[2, 3])?),
         Ok(1)
     );
     assert!(rt; space.write_mem(0x109, MemAccessSize::Byte, 0x1ff));
@@ -164,7 +166,7 @@ fn writes_go_to_one_region(rt: HostRuntime) -> Result<(), Fail> {
 fn a_region_past_the_last_address(rt: HostRuntime) -> Result<(), Fail> {
     let mut space = MemorySpace::new(rt.alloc());
     assert_eq!(rt;
-        space.add_memory(0xffff_fffc, 8, words(rt.alloc(), &[7, 8])?),
+        space.add_memory(0xffff_fffc, 8, memory_of(rt.alloc(), &[7, 8])?),
         Ok(0)
     );
     assert_eq!(rt; word_at(&mut space, 0xffff_fffc), Some(7));
@@ -176,7 +178,7 @@ fn a_region_past_the_last_address(rt: HostRuntime) -> Result<(), Fail> {
 fn a_space_in_a_space(rt: HostRuntime) -> Result<(), Fail> {
     let mut inner = MemorySpace::new(rt.alloc());
     assert_eq!(rt;
-        inner.add_memory(0x10, 8, words(rt.alloc(), &[7, 8])?),
+        inner.add_memory(0x10, 8, memory_of(rt.alloc(), &[7, 8])?),
         Ok(0)
     );
     let mut outer = MemorySpace::new(rt.alloc());
@@ -198,9 +200,9 @@ fn a_space_in_a_space(rt: HostRuntime) -> Result<(), Fail> {
 #[test]
 fn memories_of_two_types(rt: HostRuntime) -> Result<(), Fail> {
     let mut inner = MemorySpace::new(rt.alloc());
-    assert_eq!(rt; inner.add_memory(4, 4, words(rt.alloc(), &[9])?), Ok(0));
+    assert_eq!(rt; inner.add_memory(4, 4, memory_of(rt.alloc(), &[9])?), Ok(0));
     let program = BoxedMemory {
-        memory: Box::new(rt.alloc(), words(rt.alloc(), &[0x0050_0093])?)?,
+        memory: Box::new(rt.alloc(), memory_of(rt.alloc(), &[0x0050_0093])?)?,
     };
     let device = BoxedMemory {
         memory: Box::new(rt.alloc(), inner)?,
@@ -226,7 +228,7 @@ fn steps_at_the_last_address(rt: HostRuntime) -> Result<(), Fail> {
     for (word, pc, last) in [(0x0000_0013, 0, None), (0x0080_00ef, 4, Some(1))] {
         let mut space = MemorySpace::new(rt.alloc());
         assert_eq!(rt;
-            space.add_memory(0xffff_fffc, 4, words(rt.alloc(), &[word])?),
+            space.add_memory(0xffff_fffc, 4, memory_of(rt.alloc(), &[word])?),
             Ok(0)
         );
         let mut hart = HartState::new();
@@ -248,14 +250,17 @@ fn an_empty_region_serves_nothing(rt: HostRuntime) -> Result<(), Fail> {
     for (first, second, served) in [(0, 0x10, 2), (0x10, 0, 1)] {
         let mut space = MemorySpace::new(rt.alloc());
         assert_eq!(rt;
-            space.add_memory(0x100, first, words(rt.alloc(), &[1])?),
+            space.add_memory(0x100, first, memory_of(rt.alloc(), &[1])?),
             Ok(0)
         );
         assert_eq!(rt;
-            space.add_memory(0x100, second, words(rt.alloc(), &[2])?),
+            space.add_memory(0x100, second, memory_of(rt.alloc(), &[2])?),
             Ok(1)
         );
-        assert_eq!(rt; space.add_memory(0x200, 0, words(rt.alloc(), &[3])?), Ok(2));
+        assert_eq!(rt;
+            space.add_memory(0x200, 0, memory_of(rt.alloc(), &[3])?),
+            Ok(2)
+        );
         assert_eq!(rt; word_at(&mut space, 0x100), Some(served), "{first:#x}");
         assert_eq!(rt; word_at(&mut space, 0x200), None);
     }
@@ -266,10 +271,16 @@ fn an_empty_region_serves_nothing(rt: HostRuntime) -> Result<(), Fail> {
 fn accesses_alone_count(rt: HostRuntime) -> Result<(), Fail> {
     let mut space = MemorySpace::new(rt.alloc());
     assert_eq!(rt; space.regions_looked_at(), 0);
-    assert_eq!(rt; space.add_memory(0x100, 0, words(rt.alloc(), &[1])?), Ok(0));
+    assert_eq!(rt;
+        space.add_memory(0x100, 0, memory_of(rt.alloc(), &[1])?),
+        Ok(0)
+    );
     assert_eq!(rt; word_at(&mut space, 0x100), None);
     assert_eq!(rt; space.regions_looked_at(), 0);
-    assert_eq!(rt; space.add_memory(0x100, 8, words(rt.alloc(), &[1])?), Ok(1));
+    assert_eq!(rt;
+        space.add_memory(0x100, 8, memory_of(rt.alloc(), &[1])?),
+        Ok(1)
+    );
     assert_eq!(rt; word_at(&mut space, 0x100), Some(1));
     assert!(rt; !space.write_mem(0x200, MemAccessSize::Byte, 7));
     let count = space.regions_looked_at();
@@ -278,7 +289,7 @@ fn accesses_alone_count(rt: HostRuntime) -> Result<(), Fail> {
         (0x104, 8, MemorySpaceError::RegionOverlap),
         (0x102, 8, MemorySpaceError::Unaligned),
     ] {
-        let memory = words(rt.alloc(), &[])?;
+        let memory = memory_of(rt.alloc(), &[])?;
         assert_eq!(rt; space.add_memory(base, size, memory), Err(refusal));
     }
     assert!(rt; space.get_memory_ref(1).is_some());
@@ -310,7 +321,7 @@ fn a_thousand_regions_are_searched(rt: HostRuntime) -> Result<(), Fail> {
     let mut bases = Vec::new(rt.alloc());
     for index in 0..1000 {
         let base = (index * 367 + 101) % 1000 * 32;
-        let memory = words(
+        let memory = memory_of(
             rt.alloc(),
             &[index, index + 1000, index + 2000, index + 3000],
         )?;
