@@ -297,12 +297,16 @@ module _ {M : Type 0} where
       ap (λ p. p.0) (field_span fields order middle index x sorted within at read)
 
   -- the region of the code that contains the address serves it
-  pub field_found : (fields : List (MemoryRegion M)) (order : List ℕ) (middle index a : ℕ) (x : MemoryRegion M) → IsSearchOrder (map bounds (map region_of fields)) order → middle < length order → index ≡ get_or order middle 0 → x ≡ get_or fields index x → x.base ≤ a → a < x.base + x.size → a < 2 ^ 32 → IsServedAt (map region_of fields) a index
-  field_found fields order middle index a x sorted within at read from before fits =
-      let inside : index < length fields = rw at (order_within fields order middle sorted within) in
+  pub field_at : (fields : List (MemoryRegion M)) (index a : ℕ) (x : MemoryRegion M) → index < length fields → x ≡ get_or fields index x → x.base ≤ a → a < x.base + x.size → a < 2 ^ 32 → IsServedAt (map region_of fields) a index
+  field_at fields index a x inside read from before fits =
       let long : length (map region_of fields) ≡ length fields = length-map fields region_of in
       let stands = stands_of fields (map region_of fields) index x refl (omega (arith, inside, long)) read in
       record { region = region_of x; stands = stands.1; serves_it = true_serves (region_of x) a from before fits }
+
+  -- the same of the region of a place in the order
+  pub field_found : (fields : List (MemoryRegion M)) (order : List ℕ) (middle index a : ℕ) (x : MemoryRegion M) → IsSearchOrder (map bounds (map region_of fields)) order → middle < length order → index ≡ get_or order middle 0 → x ≡ get_or fields index x → x.base ≤ a → a < x.base + x.size → a < 2 ^ 32 → IsServedAt (map region_of fields) a index
+  field_found fields order middle index a x sorted within at read from before fits =
+      field_at fields index a x (rw at (order_within fields order middle sorted within)) read from before fits
 
   -- a region of the code that begins in time and does not contain the address has ended
   pub field_ended : (fields : List (MemoryRegion M)) (order : List ℕ) (middle index a : ℕ) (x : MemoryRegion M) → IsSearchOrder (map bounds (map region_of fields)) order → middle < length order → index ≡ get_or order middle 0 → x ≡ get_or fields index x → x.base ≤ a → ((x.base ≤ a) × (a < x.base + x.size) → ⊥) → base_at (map bounds (map region_of fields)) (get_or order middle 0) + size_at (map bounds (map region_of fields)) (get_or order middle 0) ≤ a
@@ -360,7 +364,7 @@ module _ {M : Type 0} where
   -- ---- what was counted
 
   -- what a search compared is added
-  pub counts_search : (old new : Space M) (fields : List (MemoryRegion M)) (order : List ℕ) (counted compared : ℕ) → map region_of fields ≡ old.regions → IsSearchOrder (map bounds (map region_of fields)) order → counted ≡ old.looked_at → new.looked_at ≡ min (counted + compared) (2 ^ 64 - 1) → compared ≤ binary_digits (length fields) → (0 < length order → 0 < compared) → CountsCompared old new
+  pub counts_search : (old new : Space M) (fields : List (MemoryRegion M)) (order : List ℕ) (counted compared : ℕ) → map region_of fields ≡ old.regions → IsSearchOrder (map bounds (map region_of fields)) order → counted ≡ old.looked_at → new.looked_at ≡ min (counted + compared) (2 ^ 64 - 1) → compared ≤ binary_digits (length fields) + 1 → (0 < length order → 0 < compared) → CountsCompared old new
   counts_search old new fields order counted compared view sorted before after few some =
       let long : length old.regions ≡ length fields = shown_length fields fields old.regions view refl in
       let seen : IsSearchOrder (map bounds old.regions) order = rw (← view) sorted in

@@ -32,14 +32,17 @@ pub enum MemorySpaceError {
 /// An access goes to the region that serves its address, at the offset from that region's base.
 /// Where no region serves the address, a read returns `None` and a write `false`.
 ///
-/// A read or a write finds its region by a binary search of their bases. It compares at most as many
-/// regions as the number of all regions has binary digits, plus one.
+/// A read or a write compares the region that served last, and where that does not serve the address
+/// it finds its region by a binary search of their bases. It compares at most as many regions as the
+/// number of all regions has binary digits, plus one.
 #[derive(Drop)]
 pub struct MemorySpace<M> {
     // In the order in which they were added.
     regions: Vec<MemoryRegion<M>>,
     // The indexes of the regions of size above 0, by their bases.
     by_base: Vec<usize>,
+    // The index of the region that served last, or a number that is no region's.
+    latest: usize,
     // How many regions reads and writes have compared so far.
     looked_at: u64,
 }
@@ -128,7 +131,33 @@ impl<M: Memory> MemoryRegion<M> {
 }
 
 /// The index of the region that serves an address, and how many regions were compared to find it.
+/// The region of the index `latest` is compared first, if there is one.
 #[inline]
+fn find_from<M: Memory>(
+    regions: &[MemoryRegion<M>],
+    by_base: &[usize],
+    latest: usize,
+    addr: u32,
+) -> (Option<usize>, u64)
+    requires { IsSearchOrder (map bounds (map region_of regions.now)) by_base.now }
+    ensures region { MatchOption result.0
+        (All (λ r. serves r addr ≡ false) (map region_of regions.now))
+        (IsServedAt (map region_of regions.now) addr) }
+    ensures few { result.1 ≤ binary_digits (length regions.now) + 1 }
+    ensures some { 0 < length by_base.now → 0 < result.1 }
+{
+    if latest >= regions.len() {
+        return find(regions, by_base, addr);
+    }
+    if regions[latest].contains(addr) {
+        return (Some(latest), 1);
+    }
+    let (found, compared) = find(regions, by_base, addr);
+    (found, compared + 1)
+}
+
+/// The same by a binary search.
+#[inline(never)]
 fn find<M: Memory>(
     regions: &[MemoryRegion<M>],
     by_base: &[usize],
@@ -139,6 +168,7 @@ fn find<M: Memory>(
         (All (λ r. serves r addr ≡ false) (map region_of regions.now))
         (IsServedAt (map region_of regions.now) addr) }
     ensures few { result.1 ≤ binary_digits (length regions.now) }
+    ensures fewer { result.1 ≤ length by_base.now }
     ensures some { 0 < length by_base.now → 0 < result.1 }
 {
     let mut low = 0;
@@ -193,6 +223,7 @@ impl<M: Memory> MemorySpace<M> {
         MemorySpace {
             regions: Vec::new(alloc),
             by_base: Vec::new(alloc),
+            latest: usize::MAX,
             looked_at: 0,
         }
     }
@@ -298,7 +329,8 @@ impl<M: Memory> MemorySpace<M> {
         ensures regions_kept { self.new.regions ≡ self.old.regions }
         ensures counts { CountsCompared self.old self.new }
     {
-        let (found, compared) = find(&self.regions, &self.by_base, addr);
+        let (found, compared) = find_from(&self.regions, &self.by_base, self.latest, addr);
+        self.latest = found.unwrap_or(self.latest);
         self.looked_at = self.looked_at.saturating_add(compared);
         found
     }
