@@ -130,34 +130,23 @@ impl<M: Memory> MemoryRegion<M> {
     }
 }
 
-/// The index of the region that serves an address, and how many regions were compared to find it.
-/// The region of the index `latest` is compared first, if there is one.
+/// Whether there is a region of this index, and it serves an address.
 #[inline]
-fn find_from<M: Memory>(
-    regions: &[MemoryRegion<M>],
-    by_base: &[usize],
-    latest: usize,
-    addr: u32,
-) -> (Option<usize>, u64)
-    requires { IsSearchOrder (map bounds (map region_of regions.now)) by_base.now }
-    ensures region { MatchOption result.0
-        (All (λ r. serves r addr ≡ false) (map region_of regions.now))
-        (IsServedAt (map region_of regions.now) addr) }
-    ensures few { result.1 ≤ binary_digits (length regions.now) + 1 }
-    ensures some { 0 < length by_base.now → 0 < result.1 }
+fn is_served_by<M: Memory>(regions: &[MemoryRegion<M>], index: usize, addr: u32) -> bool
+    ensures { IsTrue result → IsServedAt (map region_of regions.now) addr index }
 {
-    if latest >= regions.len() {
-        return find(regions, by_base, addr);
-    }
-    if regions[latest].contains(addr) {
-        return (Some(latest), 1);
-    }
-    let (found, compared) = find(regions, by_base, addr);
-    (found, compared + 1)
+    index < regions.len() && regions[index].contains(addr)
 }
 
-/// The same by a binary search.
-#[inline(never)]
+/// How many regions have this index: one, or none.
+fn count_of<M>(regions: &[MemoryRegion<M>], index: usize) -> u64
+    ensures { result ≤ 1 }
+{
+    if index < regions.len() { 1 } else { 0 }
+}
+
+/// The index of the region that serves an address, and how many regions were compared to find it.
+#[inline]
 fn find<M: Memory>(
     regions: &[MemoryRegion<M>],
     by_base: &[usize],
@@ -329,9 +318,26 @@ impl<M: Memory> MemorySpace<M> {
         ensures regions_kept { self.new.regions ≡ self.old.regions }
         ensures counts { CountsCompared self.old self.new }
     {
-        let (found, compared) = find_from(&self.regions, &self.by_base, self.latest, addr);
+        if is_served_by(&self.regions, self.latest, addr) {
+            self.looked_at = self.looked_at.saturating_add(1);
+            return Some(self.latest);
+        }
+        self.search(addr)
+    }
+
+    /// The same by a search, where the region that served last, if there is one, was compared before.
+    #[inline(never)]
+    fn search(&mut self, addr: u32) -> Option<usize>
+        ensures region { MatchOption result (All (λ r. serves r addr ≡ false) self.old.regions)
+            (IsServedAt self.old.regions addr) }
+        ensures space { IsSpace self.old.regions }
+        ensures regions_kept { self.new.regions ≡ self.old.regions }
+        ensures counts { CountsCompared self.old self.new }
+    {
+        let (found, compared) = find(&self.regions, &self.by_base, addr);
+        let before = count_of(&self.regions, self.latest);
         self.latest = found.unwrap_or(self.latest);
-        self.looked_at = self.looked_at.saturating_add(compared);
+        self.looked_at = self.looked_at.saturating_add(before + compared);
         found
     }
 
