@@ -1,4 +1,4 @@
-use Rattle.std.proofs.Common.{◌≡◌, ℕ, ℤ, pos, w32, w64, to_z, of_z, FitsSigned, ◌*ℤ◌, ◌∙◌, rules, arith}
+use Rattle.std.proofs.Common.{◌≡◌, pos, w32, w64, to_z, of_z, FitsSigned, ◌∙◌, rules, arith}
 use Rattle.std.proofs.lemmas.Int.{fits_signed_mul, to_z-of_z}
 use Rattle.rrs_lib.proofs.Signed.{abs_of_word}
 use Rattle.rrs_lib.proofs.arithmetic.mulhsu.Goals as goal
