@@ -10,6 +10,7 @@ pub mod Keeping
 pub mod LoadLemmas
 pub mod Making
 pub mod Masks
+pub mod Places
 pub mod Programs
 pub mod RegionFields
 pub mod Regions

@@ -38,6 +38,13 @@ module _ {M : Type 0} where
       let at_fields : slice_get fields i ≡ Some x = slice_get_read fields (length fields) i x refl (omega (arith, long, long_old, within)) read in
       (at_fields, ap (λ xs. slice_get xs i) (sym view) ∙ slice_get-map region_of fields i ∙ rw at_fields refl)
 
+  -- a region that serves an address is one of the code's list
+  pub served_within : (fields : List (MemoryRegion M)) (old : List (Region M)) (i a : ℕ) → map region_of fields ≡ old → IsServedAt old a i → i < length fields
+  served_within fields old i a view found =
+      let long : length (map region_of fields) ≡ length fields = length-map fields region_of in
+      let long_old : length (map region_of fields) ≡ length old = ap length view in
+      omega (arith, long, long_old, slice_get_within old i found.region found.stands)
+
   -- the region that was read at a served index stands there and serves
   pub served_field : (fields : List (MemoryRegion M)) (old : List (Region M)) (i : ℕ) (x : MemoryRegion M) (a : ℕ) → map region_of fields ≡ old → IsServedAt old a i → x ≡ get_or fields i x → (slice_get fields i ≡ Some x) × (slice_get old i ≡ Some (region_of x)) × (serves (region_of x) a ≡ true)
   served_field fields old i x a view found read =

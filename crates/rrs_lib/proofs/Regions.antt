@@ -337,6 +337,12 @@ module _ {M : Type 0} where
   served_word regions i r space stands =
       rw (get_or_from_slice_get regions i r r stands) at (space.words i r (slice_get_within regions i r stands))
 
+  -- an aligned access at an address that it serves begins in it, at an aligned offset
+  pub served_offset : (regions : List (Region M)) (a i : ℕ) (r : Region M) (n : MemAccessSize) → IsSpace regions → a % width n ≡ 0 → slice_get regions i ≡ Some r → serves r a ≡ true → (r.base ≤ a) × ((a - r.base) % width n ≡ 0)
+  served_offset regions a i r n space al stands hit =
+      let from : r.base ≤ a = (serves_true r a hit).0 in
+      (from, aligned_offset r.base a n (served_word regions i r space stands).aligned.0 al from)
+
   -- each of its bytes is the inner memory's at the offset from the base
   offset_at : {T : Type 0} (says : M → ℕ → T) (default : T) (regions : List (Region M)) (a i k : ℕ) (r : Region M) (n : MemAccessSize) → IsSpace regions → a % width n ≡ 0 → slice_get regions i ≡ Some r → serves r a ≡ true → k < width n → served_by says default regions (a + k) ≡ says r.memory ((a - r.base) + k)
   offset_at says default regions a i k r n space al stands hit below =

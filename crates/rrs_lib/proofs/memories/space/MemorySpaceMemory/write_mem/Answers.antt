@@ -1,12 +1,34 @@
-use Rattle.std.proofs.Common.{◌≡◌, ℕ, map, sym, ap, ◌∙◌, None, false, arith}
+use Rattle.std.proofs.Common.{◌≡◌, ℕ, ◌-◌, ◌%◌, ◌≤◌, map, sym, ap, ◌∙◌, None, false, arith}
 use Rattle.std.specs.List.{slice_get}
 use Rattle.rrs_lib.specs.Bytes.{width, Writes}
 use Rattle.rrs_lib.specs.Spaces.{space_bytes, space_writable, space_layout, bounds}
 use Rattle.rrs_lib.specs.SpaceFields.{region_of}
-use Rattle.rrs_lib.proofs.Regions.{IsSpace-with_memory, bounds-with_memory, OthersKept-with_memory, served_same, layout-with_memory, served_writable, served_written, served_lawful, served_becomes, unserved_becomes, unserved_writable, unserved_lawful, space_ends}
-use Rattle.rrs_lib.proofs.RegionFields.{OnTrue_then, OnFalse_then, served_field, with_memory_of}
+use Rattle.rrs_lib.proofs.Regions.{served_offset, IsSpace-with_memory, bounds-with_memory, OthersKept-with_memory, served_same, layout-with_memory, served_writable, served_written, served_lawful, served_becomes, unserved_becomes, unserved_writable, unserved_lawful, space_ends}
+use Rattle.rrs_lib.proofs.RegionFields.{OnTrue_then, OnFalse_then, served_within, served_field, with_memory_of}
 use Rattle.rrs_lib.proofs.SearchOrder.{order_kept, counts_along}
+use Rattle.rrs_lib.proofs.memories.space.MemorySpaceMemory.write_mem.Given as Given
 use Rattle.rrs_lib.proofs.memories.space.MemorySpaceMemory.write_mem.Goals as goal
+
+pub index_mut-requires : goal.index_mut-requires
+index_mut-requires g c =
+    let view = ap (λ s. s.regions) c.self.view_is ∙ c.in-Some.ensures.regions_kept in
+    let within = served_within c.self.inside.regions.items c.args.self.now.regions c.in-Some.index c.args.addr view c.in-Some.ensures.region in
+    omega (arith, within, c.self.inside.regions.ok.0)
+
+-- the access begins in the region, at an aligned offset
+in_region : (g : Given.Over) (c : goal.After-index_mut g) → (c.index_mut.result.now.base ≤ c.args.addr) × ((c.args.addr - c.index_mut.result.now.base) % width c.args.size ≡ 0)
+in_region g c =
+    let x = c.index_mut.result.now in
+    let old = c.args.self.now.regions in
+    let view = ap (λ s. s.regions) c.self.view_is ∙ c.in-Some.ensures.regions_kept in
+    let served = served_field c.self.inside.regions.items old c.in-Some.index x c.args.addr view c.in-Some.ensures.region c.index_mut.ensures.value in
+    served_offset old c.args.addr c.in-Some.index (region_of x) c.args.size c.in-Some.ensures.space c.requires served.1 served.2
+
+pub write-requires-clause-from : goal.write-requires-clause-from
+write-requires-clause-from g c = (in_region g c).0
+
+pub write-requires-clause-aligned : goal.write-requires-clause-aligned
+write-requires-clause-aligned g c = (in_region g c).1
 
 pub invariant_of-self : goal.invariant_of-self
 invariant_of-self g c =
