@@ -32,19 +32,21 @@ pub enum MemorySpaceError {
 /// An access goes to the region that serves its address, at the offset from that region's base.
 /// Where no region serves the address, a read returns `None` and a write `false`.
 ///
-/// A read or a write compares the region that served last, and where that does not serve the address
-/// it finds its region by a binary search of their bases. It compares at most as many regions as the
-/// number of all regions has binary digits, plus one.
+/// A read or a write compares one region that served before, and where that does not serve the
+/// address it finds its region by a binary search of their bases. It compares at most as many regions
+/// as the number of all regions has binary digits, plus one.
 #[derive(Drop)]
 pub struct MemorySpace<M> {
     // In the order in which they were added.
     regions: Vec<MemoryRegion<M>>,
     // The indexes of the regions of size above 0, by their bases.
     by_base: Vec<usize>,
-    // The index of the region that served last, or a number that is no region's.
-    latest: usize,
+    // The index of the region that is compared first, or a number that is no region's.
+    first: usize,
     // How many regions reads and writes have compared so far.
     looked_at: u64,
+    // What `looked_at` was after the last search.
+    searched_at: u64,
 }
 
 #[derive(Drop)]
@@ -212,8 +214,9 @@ impl<M: Memory> MemorySpace<M> {
         MemorySpace {
             regions: Vec::new(alloc),
             by_base: Vec::new(alloc),
-            latest: usize::MAX,
+            first: usize::MAX,
             looked_at: 0,
+            searched_at: 0,
         }
     }
 
@@ -318,14 +321,18 @@ impl<M: Memory> MemorySpace<M> {
         ensures regions_kept { self.new.regions ≡ self.old.regions }
         ensures counts { CountsCompared self.old self.new }
     {
-        if is_served_by(&self.regions, self.latest, addr) {
+        if is_served_by(&self.regions, self.first, addr) {
             self.looked_at = self.looked_at.saturating_add(1);
-            return Some(self.latest);
+            return Some(self.first);
         }
         self.search(addr)
     }
 
-    /// The same by a search, where the region that served last, if there is one, was compared before.
+    /// The same by a search, where the region that is compared first, if there is one, was compared.
+    ///
+    /// Where two accesses in a row need a search, the region of the second is compared first from
+    /// then on. So where a program's loads and stores go to another region than its fetches, the
+    /// fetches need none.
     #[inline(never)]
     fn search(&mut self, addr: u32) -> Option<usize>
         ensures region { MatchOption result (All (λ r. serves r addr ≡ false) self.old.regions)
@@ -335,9 +342,14 @@ impl<M: Memory> MemorySpace<M> {
         ensures counts { CountsCompared self.old self.new }
     {
         let (found, compared) = find(&self.regions, &self.by_base, addr);
-        let before = count_of(&self.regions, self.latest);
-        self.latest = found.unwrap_or(self.latest);
+        let before = count_of(&self.regions, self.first);
+        self.first = if self.looked_at == self.searched_at {
+            found.unwrap_or(self.first)
+        } else {
+            self.first
+        };
         self.looked_at = self.looked_at.saturating_add(before + compared);
+        self.searched_at = self.looked_at;
         found
     }
 
