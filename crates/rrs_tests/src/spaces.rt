@@ -299,6 +299,37 @@ fn accesses_alone_count(rt: HostRuntime) -> Result<(), Fail> {
     Ok(())
 }
 
+/// Two regions, and how many regions each access compares: the one that is compared first, and those
+/// of a search. A region is compared first once it was found by the second of two searches in a row.
+#[test]
+fn a_region_that_served_is_compared_first(rt: HostRuntime) -> Result<(), Fail> {
+    let mut space = MemorySpace::new(rt.alloc());
+    assert_eq!(rt;
+        space.add_memory(0x100, 4, memory_of(rt.alloc(), &[1])?),
+        Ok(0)
+    );
+    assert_eq!(rt;
+        space.add_memory(0x200, 4, memory_of(rt.alloc(), &[2])?),
+        Ok(1)
+    );
+    for (addr, word, compared) in [
+        (0x100, Some(1), 1),
+        (0x100, Some(1), 1),
+        (0x200, Some(2), 3),
+        (0x100, Some(1), 1),
+        (0x200, Some(2), 3),
+        (0x200, Some(2), 3),
+        (0x200, Some(2), 1),
+        (0x300, None, 3),
+    ] {
+        let before = space.regions_looked_at();
+        assert_eq!(rt; word_at(&mut space, addr), word, "{addr:#x}");
+        let after = space.regions_looked_at();
+        assert_eq!(rt; after.wrapping_sub(before), compared, "{addr:#x}");
+    }
+    Ok(())
+}
+
 /// What a list of bases, each of a region of 16 bytes, says of an address: the index of the region
 /// that serves it, and the offset in it.
 fn served_by(bases: &[u32], addr: u32) -> Option<(usize, u32)> {
