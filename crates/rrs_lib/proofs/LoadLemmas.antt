@@ -1,8 +1,6 @@
 -- How a load goes on by one byte.
-use Rattle.std.proofs.Common.{◌≡◌, ◌≢◌, ◌⊎◌, ℕ, ◌+◌, ◌^◌, ◌<◌, ◌≤◌, Bool, true, List, [], ◌∷◌, ◌++◌, length, slice_index, Option, Some, is_some, refl, sym, subst, ap, ◌∙◌, arith, inl, inr, below_more}
-use Rattle.std.proofs.KnownBytes.{Consumes-trans}
-use Rattle.std.specs.Io.KnownBytes.{Consumes}
-use Rattle.std.proofs.lemmas.List.{append-nil, get_or_append_left}
+use Rattle.std.proofs.Common.{◌≡◌, ◌≢◌, ◌⊎◌, ℕ, ◌+◌, ◌^◌, ◌<◌, ◌≤◌, Bool, true, List, [], ◌∷◌, ◌++◌, length, slice_index, Some, is_some, refl, sym, ap, ◌∙◌, arith, inl, inr, below_more}
+use Rattle.std.proofs.lemmas.List.{get_or_append_left}
 use Rattle.std.proofs.lemmas.Bool.Decides.{nat_tests}
 use Rattle.std.proofs.lemmas.Grind.{common_steps}
 use Rattle.rrs_lib.specs.Bytes.{ByteMap, store, IsLawful}
@@ -61,7 +59,3 @@ Loaded-next old mid new writable writable' start byte value addr input so_far pl
 
 pub length-more : (xs : List ℕ) (x start addr : ℕ) → start + length xs ≡ addr → start + length (xs ++ x ∷ []) ≡ addr + 1
 length-more xs x start addr placed = let more : length (xs ++ x ∷ []) ≡ length xs + 1 = grind (arith, common_steps) in omega (arith, more, placed)
-
--- after what was read, nothing more
-pub Consumes-no-more : (a b c : Option (List ℕ)) (bs : List ℕ) → Consumes a b bs → Consumes b c [] → Consumes a c bs
-Consumes-no-more a b c bs first second = subst (Consumes a c) (append-nil bs) (Consumes-trans a b c bs [] first second)

@@ -1,5 +1,5 @@
 -- Words as signed numbers: what a cast gives, and the remainder of a signed division.
-use Rattle.std.proofs.Common.{◌≡◌, ℕ, ◌%◌, ◌^◌, ◌<◌, ℤ, pos, negsuc, ◌+ℤ◌, ◌-ℤ◌, ◌*ℤ◌, FitsSigned, unsigned_abs, ◌≤◌, int_div, int_rem, sym, ap, ◌∙◌, Bool, cond, false, nat_eq, arith}
+use Rattle.std.proofs.Common.{◌≡◌, ℕ, ◌%◌, ◌^◌, ◌<◌, ℤ, pos, negsuc, ◌+ℤ◌, ◌-ℤ◌, ◌*ℤ◌, FitsSigned, int_div, int_rem, sym, ap, ◌∙◌, Bool, cond, false, nat_eq, arith}
 use Rattle.std.specs.Int.{w32, cast_signed, cast_unsigned}
 use Rattle.std.proofs.lemmas.Int.{ints, quot-rem, to_z-of_z}
 use Rattle.std.proofs.lemmas.Bool.Decides.{nat_tests}
@@ -43,8 +43,3 @@ remainder-is_word a b x y z bits p q not_zero fx fy fz ex ey ez e =
     in
     e ∙ ap (cast_unsigned w32) (to_z-of_z w32 z fz) ∙ cast-is_word z fz ∙ ap word rest
     ∙ ap (λ (t : Bool). word (cond t (pos a) (signed a -ℤ signed b *ℤ truncated_quotient (signed a) (signed b)))) (sym not_zero)
-
--- a signed word is at most 2 ^ 31 from 0
-pub abs_of_word : (z : ℤ) → FitsSigned w32 z → unsigned_abs z ≤ 2147483648
-abs_of_word (pos a) f = omega (arith, ints)
-abs_of_word (negsuc a) f = omega (arith, ints)

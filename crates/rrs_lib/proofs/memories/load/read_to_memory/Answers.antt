@@ -1,6 +1,6 @@
 use Rattle.std.proofs.Common.{◌++◌, [], ◌∷◌, ◌∙◌, arith}
 use Rattle.std.proofs.KnownBytes.{Consumes-trans}
-use Rattle.rrs_lib.proofs.LoadLemmas.{Consumes-no-more, Loaded-next, length-more}
+use Rattle.rrs_lib.proofs.LoadLemmas.{Loaded-next, length-more}
 use Rattle.rrs_lib.proofs.memories.load.read_to_memory.Goals as goal
 
 pub loop-addr-preserved : goal.loop-addr-preserved
@@ -16,25 +16,3 @@ loop-addr-preserved g c =
       writable_kept = wrote.writable_kept ∙ so_far.writable_kept;
       layout_kept = wrote.layout_kept ∙ so_far.layout_kept;
     }
-
-pub returns-in-Err-clause-loads : goal.returns-in-Err-clause-loads
-returns-in-Err-clause-loads g c =
-    let so_far = c.loop-addr.invariant in
-    record { input = so_far.input; loaded = so_far.loaded; answered = Consumes-no-more _ _ _ _ so_far.consumed c.in-Err.ensures }
-
-pub returns-in-Ok-None-clause-loads : goal.returns-in-Ok-None-clause-loads
-returns-in-Ok-None-clause-loads g c =
-    let so_far = c.loop-addr.invariant in
-    let given = rw c.in-Ok-None.field-0-is at c.in-Ok-None.ensures in
-    record { input = so_far.input; loaded = so_far.loaded; answered = (Consumes-no-more _ _ _ _ so_far.consumed given.0, given.1) }
-
-pub returns-in-Err-next_byte-clause-loads : goal.returns-in-Err-next_byte-clause-loads
-returns-in-Err-next_byte-clause-loads g c =
-    let so_far = c.loop-addr.invariant in
-    record { input = so_far.input; loaded = so_far.loaded; answered = Consumes-no-more _ _ _ _ so_far.consumed c.in-Err-next_byte.ensures }
-
-pub returns-in-Ok-None-next_byte-clause-loads : goal.returns-in-Ok-None-next_byte-clause-loads
-returns-in-Ok-None-next_byte-clause-loads g c =
-    let so_far = c.loop-addr.invariant in
-    let given = rw c.in-Ok-None-next_byte.field-0-is at c.in-Ok-None-next_byte.ensures in
-    record { input = so_far.input; loaded = so_far.loaded; answered = (Consumes-no-more _ _ _ _ so_far.consumed given.0, given.1) }
