@@ -2,16 +2,16 @@
 -- is. docs/PROGRAMS.md shows how.
 use Rattle.std.proofs.Common.{◌≡◌, ℕ, suc, ◌+◌, ◌%◌, ◌==◌, List, [], ◌∷◌, ◌++◌, length, replicate, slice_set, Bool, true, if◌then◌else◌, ℤ, pos, Option, Some, None, Ok, Err, refl, sym, ap, subst, ◌∙◌, append_assoc, append-nil, eq-eqb}
 use Rattle.std.proofs.lemmas.Bool.{cond-true}
-use Rattle.rrs_lib.specs.declared.MemAccessSize.{MemAccessSize}
+use Rattle.rrs_memory.specs.declared.MemAccessSize.{MemAccessSize}
 use Rattle.rrs_lib.specs.declared.instruction_executor.InstructionException.{InstructionException}
-use Rattle.rrs_lib.specs.Words.{word}
-use Rattle.rrs_lib.specs.Encodings.{Fields}
-use Rattle.rrs_lib.specs.Table.{Row}
-use Rattle.rrs_lib.specs.Bytes.{ByteMap, width, little_endian, all_writable, store}
+use Rattle.rrs_instruction.specs.Words.{word}
+use Rattle.rrs_instruction.specs.Encodings.{Fields}
+use Rattle.rrs_instruction.specs.Table.{Row}
+use Rattle.rrs_memory.specs.Bytes.{ByteMap, width, little_endian, all_writable, store}
 use Rattle.rrs_lib.specs.Machine.{State, reg, from_register, execute, loads, stores}
 use Rattle.rrs_lib.specs.Steps.{Step, RunsOk}
 use Rattle.rrs_lib.specs.Accesses.{Access, Read, Write, read_in, write_in, load_access, store_access, accesses_of_row, fetch, AccessesOf, OfRow, AccessesOfRun, answers_of_run}
-use Rattle.rrs_lib.proofs.Examples.{of_I, of_S}
+use Rattle.rrs_instruction.proofs.Examples.{of_I, of_S}
 use Rattle.rrs_lib.proofs.Programs.{at, Fetches, step-loads, step-stores}
 
 -- ---- steps

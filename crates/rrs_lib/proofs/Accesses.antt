@@ -2,15 +2,15 @@
 use Rattle.std.proofs.Common.{◌≡◌, ◌≢◌, ◌⊎◌, ℕ, zero, suc, ◌+◌, ◌-◌, ◌/◌, ◌%◌, ◌^◌, ◌<◌, ◌≤◌, Bool, true, false, ◌==◌, ℤ, pos, Ok, Err, Option, Some, None, IsSome, IsTrue, inl, inr, refl, sym, ap, subst, ◌∙◌, arith}
 use Rattle.std.proofs.Math.Nat.{mod-one}
 use Rattle.std.proofs.lemmas.Bool.{and_from, cases_lt, cond_both}
-use Rattle.rrs_lib.specs.Bytes.{ByteMap, little_endian, all_writable, store, sum_if_both, at_place}
+use Rattle.rrs_memory.specs.Bytes.{ByteMap, little_endian, all_writable, store, sum_if_both, at_place}
 use Rattle.rrs_lib.specs.declared.instruction_executor.InstructionException.{InstructionException}
 use Rattle.rrs_lib.specs.declared.instruction_executor.InstructionException.TheVariants.{LoadAccessFault, AlignmentFault}
-use Rattle.rrs_lib.specs.Encodings.{Fields, R, I, IShamt, S, B, U, J}
-use Rattle.rrs_lib.specs.Table.{Row, InS, table, Decodes}
+use Rattle.rrs_instruction.specs.Encodings.{Fields, R, I, IShamt, S, B, U, J}
+use Rattle.rrs_instruction.specs.Table.{Row, InS, table, Decodes}
 use Rattle.rrs_lib.specs.Machine.{State, Answer, Outcome, outcome, writes, faults, branches, jumps, loaded, loads, execute}
 use Rattle.rrs_lib.specs.Steps.{Step, StepAnswer, Misaligned, Unmapped, Illegal, Legal, cleared, advanced}
 use Rattle.rrs_lib.proofs.Keeping.{put-bytes, put-writable}
-use Rattle.rrs_lib.proofs.VecWords.{one_more_byte, store_inside, store_below, store_above}
+use Rattle.rrs_memory.proofs.VecWords.{one_more_byte, store_inside, store_below, store_above}
 
 -- what lies outside [a, a + n)
 abbrev pub Outside : ℕ → ℕ → ℕ → Type 0

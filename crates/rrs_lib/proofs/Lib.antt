@@ -1,23 +1,19 @@
+-- Lemmas of the crates below that proofs of programs and of memories cite.
+pub use Rattle.rrs_instruction.proofs.Decoder
+pub use Rattle.rrs_instruction.proofs.Examples
+pub use Rattle.rrs_instruction.proofs.Fields
+pub use Rattle.rrs_instruction.proofs.Rows
+pub use Rattle.rrs_memory.proofs.RegionFields
+pub use Rattle.rrs_memory.proofs.Regions
+pub use Rattle.rrs_memory.proofs.TextLemmas
+pub use Rattle.rrs_memory.proofs.VecWords
+-- Lemmas of this crate.
 pub mod AccessChains
 pub mod Accesses
-pub mod Bitwise
-pub mod Boxes
-pub mod Decoder
+pub mod ComputedSteps
 pub mod Engines
-pub mod Examples
-pub mod Fields
+pub mod ExampleRows
 pub mod Keeping
-pub mod LoadLemmas
 pub mod Making
-pub mod Masks
-pub mod Places
 pub mod Programs
-pub mod RegionFields
-pub mod Regions
-pub mod Rows
-pub mod SearchOrder
-pub mod SignExtension
-pub mod Signed
 pub mod Stepping
-pub mod TextLemmas
-pub mod VecWords

@@ -4,8 +4,8 @@ use Rattle.std.specs.Prelude.{◌≡◌, Some, Result, String, IfOk, string_byte
 use Rattle.std.specs.declared.alloc.AllocError.{AllocError}
 use Rattle.std.specs.declared.alloc.Global.{Global}
 use Rattle.rrs_lib.specs.declared.instruction_string_outputter.InstructionStringOutputter.{InstructionStringOutputter}
-use Rattle.rrs_lib.specs.Encodings.{Fields}
-use Rattle.rrs_lib.specs.Table.{Row}
+use Rattle.rrs_instruction.specs.Encodings.{Fields}
+use Rattle.rrs_instruction.specs.Table.{Row}
 use Rattle.rrs_lib.specs.Texts.{text_of}
 
 -- The outputter's relation: an answer that is Ok is the row's text at the outputter's address, and

@@ -2,24 +2,21 @@
 -- with x and a number for a register. `lui` shows its whole value, and `auipc`, the branches and
 -- `jal` the sum with the address of the instruction, as 8 hexadecimal digits; `jalr` shows its
 -- immediate modulo 2 ^ 32 in at least 3; `fence`, `ecall` and `ebreak` show no operands.
-use Rattle.std.specs.Prelude.{ℕ, ◌-◌, false, List, ◌++◌, length, replicate, ℤ, Option, Some, None, codes}
-use Rattle.std.specs.Fmt.{decimal, signed_decimal, digits}
-use Rattle.rrs_lib.specs.declared.instruction_formats.RType.{RType}
-use Rattle.rrs_lib.specs.declared.instruction_formats.IType.{IType}
-use Rattle.rrs_lib.specs.declared.instruction_formats.ITypeShamt.{ITypeShamt}
-use Rattle.rrs_lib.specs.declared.instruction_formats.BType.{BType}
-use Rattle.rrs_lib.specs.Words.{word}
-use Rattle.rrs_lib.specs.Encodings.{Fields, R, I, IShamt, S, B, U, J}
-use Rattle.rrs_lib.specs.Table.{Row, table}
-use Rattle.rrs_lib.specs.Machine.{plus_immediate}
+use Rattle.std.specs.Prelude.{ℕ, List, ◌++◌, ℤ, Option, Some, None, codes}
+use Rattle.std.specs.Fmt.{decimal, signed_decimal}
+use Rattle.rrs_instruction.specs.declared.instruction_formats.RType.{RType}
+use Rattle.rrs_instruction.specs.declared.instruction_formats.IType.{IType}
+use Rattle.rrs_instruction.specs.declared.instruction_formats.ITypeShamt.{ITypeShamt}
+use Rattle.rrs_instruction.specs.declared.instruction_formats.BType.{BType}
+use Rattle.rrs_instruction.specs.Words.{word}
+use Rattle.rrs_instruction.specs.Encodings.{Fields, R, I, IShamt, S, B, U, J}
+use Rattle.rrs_instruction.specs.Table.{Row, table}
+pub use Rattle.rrs_memory.specs.Hexadecimal.{hexadecimal}
+use Rattle.rrs_instruction.specs.Results.{plus_immediate}
 
 -- the mnemonic of a row
 abbrev pub name_of : Row → List ℕ
 name_of row = (table row).name
-
--- lower-case hexadecimal digits, with zeros in front up to n digits: a word has at most 8
-abbrev pub hexadecimal : ℕ → ℕ → List ℕ
-hexadecimal n x = replicate (n - length (digits 16 false x)) 48 ++ digits 16 false x
 
 abbrev pub register : ℕ → List ℕ
 register r = codes "x" ++ decimal r

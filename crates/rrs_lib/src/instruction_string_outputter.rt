@@ -21,12 +21,13 @@
 
 ghost use Rattle.std.specs.Prelude.{◌≡◌, ◌++◌, codes, IfOk, string_bytes};
 ghost use Rattle.std.specs.Fmt.{decimal, signed_decimal};
-ghost use Rattle.rrs_lib.specs.Words.{word};
-ghost use Rattle.rrs_lib.specs.Machine.{plus_immediate};
+ghost use Rattle.rrs_instruction.specs.Words.{word};
+ghost use Rattle.rrs_instruction.specs.Results.{plus_immediate};
 ghost use Rattle.rrs_lib.specs.Texts.{hexadecimal, register};
 
 use crate::instruction_formats::{BType, IType, ITypeShamt, JType, RType, SType, UType};
-use crate::{InstructionProcessor, arithmetic};
+use crate::InstructionProcessor;
+use rrs_instruction::arithmetic;
 use std::alloc::{AllocError, Global};
 
 /// A processor whose functions return the text of each instruction.

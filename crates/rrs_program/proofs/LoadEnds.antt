@@ -3,7 +3,7 @@ use Rattle.std.proofs.Common.{◌≡◌, ℕ, ◌+◌, ◌<◌, ◌≤◌, true,
 use Rattle.std.proofs.lemmas.Bool.Decides.{nat_tests}
 use Rattle.std.proofs.lemmas.List.{length-append}
 use Rattle.std.specs.Io.KnownBytes.{Consumes}
-use Rattle.rrs_lib.specs.declared.memories.load.LoadFault.TheVariants.{Refused}
+use Rattle.rrs_lib.specs.declared.memories.LoadFault.TheVariants.{Refused}
 use Rattle.rrs_lib.specs.Bytes.{ByteMap}
 use Rattle.rrs_lib.specs.VecBytes.{lies_in_words}
 use Rattle.rrs_lib.specs.Loading.{Loaded, Loads}

@@ -3,7 +3,7 @@ use Rattle.std.specs.Prelude.{◌≡◌, ℕ, ◌≤◌, List, length, codes, Op
 use Rattle.std.specs.Io.KnownBytes.{Consumes}
 use Rattle.rrs_program.specs.declared.fault.RunFault.{RunFault}
 use Rattle.rrs_program.specs.declared.fault.RunFault.TheVariants.{OutOfMemory, Reader, Refused, Output}
-use Rattle.rrs_lib.specs.declared.memories.load.LoadFault.TheVariants as LoadFault
+use Rattle.rrs_lib.specs.declared.memories.LoadFault.TheVariants as LoadFault
 use Rattle.rrs_lib.specs.LoadTexts.{load_text}
 use Rattle.rrs_program.specs.Printed.{AppendsLines, IsBeginning}
 

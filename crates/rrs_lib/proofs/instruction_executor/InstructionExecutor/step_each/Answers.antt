@@ -5,7 +5,7 @@ use Rattle.rrs_lib.specs.Steps.{StepAnswer, Run}
 use Rattle.rrs_lib.specs.Accesses.{AccessesOfRun, MakesExactly}
 use Rattle.rrs_lib.proofs.Making.{exactly-more}
 use Rattle.rrs_lib.proofs.Stepping.{Run-more, Run-unique, KeepsTheRest-trans}
-use Rattle.rrs_lib.proofs.Rows.{one_row_at_most}
+use Rattle.rrs_instruction.proofs.Rows.{one_row_at_most}
 use Rattle.rrs_lib.proofs.instruction_executor.InstructionExecutor.step_each.Goals as goal
 
 pub loop-answer-preserved : goal.loop-answer-preserved

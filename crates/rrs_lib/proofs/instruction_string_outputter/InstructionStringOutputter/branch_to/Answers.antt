@@ -1,7 +1,7 @@
 use Rattle.std.proofs.Common.{w32, rules}
 use Rattle.std.proofs.lemmas.List.{append_assoc}
 use Rattle.std.proofs.lemmas.Int.{to_z-of_z}
-use Rattle.rrs_lib.proofs.TextLemmas.{same_text, padded_hexadecimal}
+use Rattle.rrs_memory.proofs.TextLemmas.{same_text, padded_hexadecimal}
 use Rattle.rrs_lib.proofs.instruction_string_outputter.InstructionStringOutputter.branch_to.Goals as goal
 
 pub returns : goal.returns

@@ -1,5 +1,5 @@
 use Rattle.std.proofs.lemmas.List.{append_assoc}
-use Rattle.rrs_lib.proofs.TextLemmas.{same_text, padded_hexadecimal}
+use Rattle.rrs_memory.proofs.TextLemmas.{same_text, padded_hexadecimal}
 use Rattle.rrs_lib.proofs.instruction_string_outputter.InstructionStringOutputter.register_and_word.Goals as goal
 
 pub returns : goal.returns

@@ -1,8 +1,8 @@
 use Rattle.std.proofs.Common.{◌≡◌, true, false, ◌+◌, pos, Ok, Err, refl, sym, ap, subst, ◌∙◌}
-use Rattle.rrs_lib.specs.Words.{word}
+use Rattle.rrs_instruction.specs.Words.{word}
 use Rattle.rrs_lib.specs.Machine.{Answer, Executes, with_pc}
 use Rattle.rrs_lib.specs.Engines.{engine_state}
-use Rattle.rrs_lib.specs.Instructions.{row_of, fields_of}
+use Rattle.rrs_instruction.specs.Instructions.{row_of, fields_of}
 use Rattle.rrs_lib.specs.Accesses.{accesses_of_row}
 use Rattle.rrs_lib.proofs.Keeping.{Executes-pc}
 use Rattle.rrs_lib.proofs.Making.{accesses_of_legal}

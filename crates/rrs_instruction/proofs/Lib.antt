@@ -1,0 +1,9 @@
+pub mod Bitwise
+pub mod Decoder
+pub mod Examples
+pub mod Fields
+pub mod Masks
+pub mod Places
+pub mod Rows
+pub mod SignExtension
+pub mod Signed

@@ -1,0 +1,192 @@
+//! Instructions as values.
+//!
+//! An [Instruction] is a row of the table with its decoded fields, to match on. `decode` gives the
+//! one that a word is, and `process` hands it to an [InstructionProcessor].
+//! `process_instruction` is the one after the other.
+
+ghost use Rattle.std.specs.Prelude.{◌≡◌};
+ghost use Rattle.rrs_instruction.specs.Encodings.{HasRegisters};
+
+use crate::InstructionProcessor;
+pub use crate::decode::decode;
+use crate::instruction_formats::{BType, IType, ITypeShamt, JType, RType, SType, UType};
+
+/// An instruction: a variant for each row of the table, in its order, that holds the row's fields.
+///
+/// Which row and which fields a value is, is written in `specs/Instructions.antt`. The fields may be
+/// any, also such as no word has; those of a value that `decode` returned are in their ranges.
+#[derive(Debug, PartialEq, Clone, Copy)]
+pub enum Instruction {
+    /// `add`: the sum.
+    Add(RType),
+    /// `sub`: the difference.
+    Sub(RType),
+    /// `sll`: a shift to the left.
+    Sll(RType),
+    /// `slt`: whether one is below the other, signed.
+    Slt(RType),
+    /// `sltu`: whether one is below the other, unsigned.
+    Sltu(RType),
+    /// `xor`: exclusive or, bit by bit.
+    Xor(RType),
+    /// `srl`: a shift to the right that fills with zeros.
+    Srl(RType),
+    /// `sra`: a shift to the right that fills with the sign.
+    Sra(RType),
+    /// `or`: or, bit by bit.
+    Or(RType),
+    /// `and`: and, bit by bit.
+    And(RType),
+    /// `addi`: the sum with the immediate.
+    Addi(IType),
+    /// `slli`: a shift to the left by the shift amount.
+    Slli(ITypeShamt),
+    /// `slti`: whether it is below the immediate, signed.
+    Slti(IType),
+    /// `sltiu`: whether it is below the immediate, unsigned.
+    Sltiu(IType),
+    /// `xori`: exclusive or with the immediate, bit by bit.
+    Xori(IType),
+    /// `srli`: a shift to the right by the shift amount that fills with zeros.
+    Srli(ITypeShamt),
+    /// `srai`: a shift to the right by the shift amount that fills with the sign.
+    Srai(ITypeShamt),
+    /// `ori`: or with the immediate, bit by bit.
+    Ori(IType),
+    /// `andi`: and with the immediate, bit by bit.
+    Andi(IType),
+    /// `lui`: the immediate.
+    Lui(UType),
+    /// `auipc`: the pc plus the immediate.
+    Auipc(UType),
+    /// `beq`: a branch where they are equal.
+    Beq(BType),
+    /// `bne`: a branch where they differ.
+    Bne(BType),
+    /// `blt`: a branch where one is below the other, signed.
+    Blt(BType),
+    /// `bltu`: a branch where one is below the other, unsigned.
+    Bltu(BType),
+    /// `bge`: a branch where one is not below the other, signed.
+    Bge(BType),
+    /// `bgeu`: a branch where one is not below the other, unsigned.
+    Bgeu(BType),
+    /// `lb`: a load of a byte, sign-extended.
+    Lb(IType),
+    /// `lbu`: a load of a byte.
+    Lbu(IType),
+    /// `lh`: a load of a half-word, sign-extended.
+    Lh(IType),
+    /// `lhu`: a load of a half-word.
+    Lhu(IType),
+    /// `lw`: a load of a word.
+    Lw(IType),
+    /// `sb`: a store of a byte.
+    Sb(SType),
+    /// `sh`: a store of a half-word.
+    Sh(SType),
+    /// `sw`: a store of a word.
+    Sw(SType),
+    /// `jal`: a jump by the immediate, with a link.
+    Jal(JType),
+    /// `jalr`: a jump to a register plus the immediate, with a link.
+    Jalr(IType),
+    /// `mul`: the low word of the product.
+    Mul(RType),
+    /// `mulh`: the high word of the product, signed.
+    Mulh(RType),
+    /// `mulhu`: the high word of the product, unsigned.
+    Mulhu(RType),
+    /// `mulhsu`: the high word of the product, signed by unsigned.
+    Mulhsu(RType),
+    /// `div`: the quotient, signed.
+    Div(RType),
+    /// `divu`: the quotient, unsigned.
+    Divu(RType),
+    /// `rem`: the remainder, signed.
+    Rem(RType),
+    /// `remu`: the remainder, unsigned.
+    Remu(RType),
+    /// `fence`: an order of memory accesses, which does nothing here.
+    Fence(IType),
+    /// `ecall`: a call of the environment, which is a fault here.
+    Ecall(IType),
+    /// `ebreak`: a breakpoint, which is a fault here.
+    Ebreak(IType),
+}
+
+impl Instruction {
+    ghost use Rattle.rrs_instruction.specs.Instructions.{row_of, fields_of};
+
+    /// Calls the processor's function for this instruction, once, and returns what it returned.
+    ///
+    /// The processor did what it does for the row and the fields that the instruction is.
+    pub fn process<T: InstructionProcessor>(self, processor: &mut T) -> T::InstructionResult
+        requires { HasRegisters (fields_of self) }
+        ensures { T.did (row_of self) (fields_of self) processor.old processor.new result }
+    {
+        self.hand_to(processor)
+    }
+
+    /// Calls the processor's function for this instruction, with its fields, as `process` does, and
+    /// returns what that returns. It reads the instruction where it stands, and of its fields only
+    /// those of its row.
+    ///
+    /// The processor did what it does for the row and the fields that the instruction is.
+    #[inline(always)]
+    pub fn hand_to<T: InstructionProcessor>(&self, processor: &mut T) -> T::InstructionResult
+        requires { HasRegisters (fields_of self.now) }
+        ensures { T.did (row_of self.now) (fields_of self.now) processor.old processor.new result }
+    {
+        match *self {
+            Instruction::Add(dec_insn) => T::process_add(processor, dec_insn),
+            Instruction::Sub(dec_insn) => T::process_sub(processor, dec_insn),
+            Instruction::Sll(dec_insn) => T::process_sll(processor, dec_insn),
+            Instruction::Slt(dec_insn) => T::process_slt(processor, dec_insn),
+            Instruction::Sltu(dec_insn) => T::process_sltu(processor, dec_insn),
+            Instruction::Xor(dec_insn) => T::process_xor(processor, dec_insn),
+            Instruction::Srl(dec_insn) => T::process_srl(processor, dec_insn),
+            Instruction::Sra(dec_insn) => T::process_sra(processor, dec_insn),
+            Instruction::Or(dec_insn) => T::process_or(processor, dec_insn),
+            Instruction::And(dec_insn) => T::process_and(processor, dec_insn),
+            Instruction::Addi(dec_insn) => T::process_addi(processor, dec_insn),
+            Instruction::Slli(dec_insn) => T::process_slli(processor, dec_insn),
+            Instruction::Slti(dec_insn) => T::process_slti(processor, dec_insn),
+            Instruction::Sltiu(dec_insn) => T::process_sltui(processor, dec_insn),
+            Instruction::Xori(dec_insn) => T::process_xori(processor, dec_insn),
+            Instruction::Srli(dec_insn) => T::process_srli(processor, dec_insn),
+            Instruction::Srai(dec_insn) => T::process_srai(processor, dec_insn),
+            Instruction::Ori(dec_insn) => T::process_ori(processor, dec_insn),
+            Instruction::Andi(dec_insn) => T::process_andi(processor, dec_insn),
+            Instruction::Lui(dec_insn) => T::process_lui(processor, dec_insn),
+            Instruction::Auipc(dec_insn) => T::process_auipc(processor, dec_insn),
+            Instruction::Beq(dec_insn) => T::process_beq(processor, dec_insn),
+            Instruction::Bne(dec_insn) => T::process_bne(processor, dec_insn),
+            Instruction::Blt(dec_insn) => T::process_blt(processor, dec_insn),
+            Instruction::Bltu(dec_insn) => T::process_bltu(processor, dec_insn),
+            Instruction::Bge(dec_insn) => T::process_bge(processor, dec_insn),
+            Instruction::Bgeu(dec_insn) => T::process_bgeu(processor, dec_insn),
+            Instruction::Lb(dec_insn) => T::process_lb(processor, dec_insn),
+            Instruction::Lbu(dec_insn) => T::process_lbu(processor, dec_insn),
+            Instruction::Lh(dec_insn) => T::process_lh(processor, dec_insn),
+            Instruction::Lhu(dec_insn) => T::process_lhu(processor, dec_insn),
+            Instruction::Lw(dec_insn) => T::process_lw(processor, dec_insn),
+            Instruction::Sb(dec_insn) => T::process_sb(processor, dec_insn),
+            Instruction::Sh(dec_insn) => T::process_sh(processor, dec_insn),
+            Instruction::Sw(dec_insn) => T::process_sw(processor, dec_insn),
+            Instruction::Jal(dec_insn) => T::process_jal(processor, dec_insn),
+            Instruction::Jalr(dec_insn) => T::process_jalr(processor, dec_insn),
+            Instruction::Mul(dec_insn) => T::process_mul(processor, dec_insn),
+            Instruction::Mulh(dec_insn) => T::process_mulh(processor, dec_insn),
+            Instruction::Mulhu(dec_insn) => T::process_mulhu(processor, dec_insn),
+            Instruction::Mulhsu(dec_insn) => T::process_mulhsu(processor, dec_insn),
+            Instruction::Div(dec_insn) => T::process_div(processor, dec_insn),
+            Instruction::Divu(dec_insn) => T::process_divu(processor, dec_insn),
+            Instruction::Rem(dec_insn) => T::process_rem(processor, dec_insn),
+            Instruction::Remu(dec_insn) => T::process_remu(processor, dec_insn),
+            Instruction::Fence(dec_insn) => T::process_fence(processor, dec_insn),
+            Instruction::Ecall(dec_insn) => T::process_ecall(processor, dec_insn),
+            Instruction::Ebreak(dec_insn) => T::process_ebreak(processor, dec_insn),
+        }
+    }
+}

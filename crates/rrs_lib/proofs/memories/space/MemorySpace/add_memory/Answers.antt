@@ -1,9 +1,0 @@
-use Rattle.rrs_lib.proofs.Regions.{all_apart}
-use Rattle.rrs_lib.proofs.RegionFields.{refuted}
-use Rattle.rrs_lib.proofs.memories.space.MemorySpace.add_memory.Goals as goal
-
-pub returns-in-Ok-clause-accepted : goal.returns-in-Ok-clause-accepted
-returns-in-Ok-clause-accepted g c = (
-  (c.if-base-ne0.false, c.if-size-ne0.false),
-  all_apart c.args.self.now.regions c.args.base c.args.size (refuted _ c.if-overlaps.false c.overlaps.ensures),
-)

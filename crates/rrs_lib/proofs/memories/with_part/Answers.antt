@@ -1,8 +1,0 @@
--- The masks cut the word into its parts.
-use Rattle.std.proofs.Common.{arith}
-use Rattle.rrs_lib.specs.Bytes.{width}
-use Rattle.rrs_lib.proofs.VecWords.{replaced}
-use Rattle.rrs_lib.proofs.memories.with_part.Goals as goal
-
-pub returns : goal.returns
-returns c = replaced c.args.word c.args.value c.mask_of-mask.result (width c.args.size) c.args.place (omega arith) (omega arith) c.mask_of-mask.ensures

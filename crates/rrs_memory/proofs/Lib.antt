@@ -1,0 +1,7 @@
+pub mod Boxes
+pub mod LoadLemmas
+pub mod RegionFields
+pub mod Regions
+pub mod SearchOrder
+pub mod TextLemmas
+pub mod VecWords

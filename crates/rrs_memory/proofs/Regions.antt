@@ -1,0 +1,461 @@
+-- What the regions of an address space say of an address, and what replacing one region's memory changes of that.
+use Rattle.std.proofs.Common.{◌≡◌, ◌⊎◌, ℕ, zero, suc, ◌+◌, ◌-◌, ◌/◌, ◌%◌, ◌^◌, ◌<◌, ◌≤◌, List, [], ◌∷◌, ◌++◌, length, map, get_or, Some, None, Bool, true, false, ◌&&◌, All, Any, nat_lt, nat_le, inl, inr, refl, sym, ap, subst, ◌∙◌, arith}
+use Rattle.std.specs.List.{AllPairs, slice_get}
+use Rattle.std.proofs.Math.Path.{fun_ext}
+use Rattle.std.proofs.lemmas.Bool.{cases_lt, false≢true}
+use Rattle.std.proofs.lemmas.Bool.Decides.{nat_tests}
+use Rattle.std.proofs.lemmas.Option.{none-some, same_Some, get_or_from_slice_get, slice_get_within}
+use Rattle.std.proofs.lemmas.List.Quantifiers.{all_pairs_push}
+use Rattle.std.proofs.lemmas.List.Elements.{All-push}
+use Rattle.std.proofs.lemmas.List.{get_or_default}
+use Rattle.rrs_memory.specs.declared.MemAccessSize.{MemAccessSize}
+use Rattle.rrs_memory.specs.declared.MemAccessSize.TheVariants.{Byte, HalfWord, Word}
+use Rattle.rrs_memory.specs.Bytes.{ByteMap, width, little_endian, all_writable, store, IsLawful, EndsAtLastAddress}
+use Rattle.rrs_memory.specs.Spaces.{Region, serves, served_by, space_bytes, space_writable, space_layout, Overlaps, bounds, IsWordRegion, IsSpace, with_memory, OthersKept, ServedBecomes}
+
+-- ---- numbers
+
+-- an address of an aligned access lies at a base or past it exactly where the access begins there
+aligned_from : (base a i : ℕ) (n : MemAccessSize) → base % 4 ≡ 0 → a % width n ≡ 0 → i < width n → base ≤ a + i → base ≤ a
+aligned_from base a i Byte b al below past = omega arith
+aligned_from base a i HalfWord b al below past = omega arith
+aligned_from base a i Word b al below past = omega arith
+
+-- an aligned access that begins below a multiple of 4 ends below it
+aligned_below : (end a i : ℕ) (n : MemAccessSize) → end % 4 ≡ 0 → a % width n ≡ 0 → i < width n → a < end → a + i < end
+aligned_below end a i Byte e al below before = omega arith
+aligned_below end a i HalfWord e al below before = omega arith
+aligned_below end a i Word e al below before = omega arith
+
+-- the offset of an aligned access from a multiple of 4 is aligned
+pub aligned_offset : (base a : ℕ) (n : MemAccessSize) → base % 4 ≡ 0 → a % width n ≡ 0 → base ≤ a → (a - base) % width n ≡ 0
+aligned_offset base a Byte b al past = omega arith
+aligned_offset base a HalfWord b al past = omega arith
+aligned_offset base a Word b al past = omega arith
+
+-- an access has a first byte
+pub width_pos : (n : MemAccessSize) → 0 < width n
+width_pos Byte = omega arith
+width_pos HalfWord = omega arith
+width_pos Word = omega arith
+
+module _ {M : Type 0} where
+  -- what it means that a region serves an address
+  pub serves_true : (r : Region M) (a : ℕ) → serves r a ≡ true → (r.base ≤ a) × (a < r.base + r.size) × (a < 2 ^ 32)
+  serves_true r a e = grind (arith, nat_tests)
+
+  -- an address in the region and below the end of all addresses is served
+  pub true_serves : (r : Region M) (a : ℕ) → r.base ≤ a → a < r.base + r.size → a < 2 ^ 32 → serves r a ≡ true
+  true_serves r a p q w = grind (arith, nat_tests)
+
+  -- what it means that a region serves no address
+  pub serves_false : (r : Region M) (a : ℕ) → a < 2 ^ 32 → serves r a ≡ false → r.base ≤ a → r.base + r.size ≤ a
+  serves_false r a w e p = grind (arith, nat_tests)
+
+  -- an address outside of the region is not served
+  pub false_serves : (r : Region M) (a : ℕ) → (r.base ≤ a → r.base + r.size ≤ a) → serves r a ≡ false
+  false_serves r a h = grind (arith, nat_tests)
+
+  -- whether a region serves an address, in two cases
+  pub serves_cases : (r : Region M) (a : ℕ) → (serves r a ≡ true) ⊎ (serves r a ≡ false)
+  serves_cases r a = bool_cases (serves r a)
+    where
+      bool_cases : (b : Bool) → (b ≡ true) ⊎ (b ≡ false)
+      bool_cases true = inl refl
+      bool_cases false = inr refl
+
+  -- all bytes of an aligned access are served by the region that serves the first
+  pub serves_all : (r : Region M) (a i : ℕ) (n : MemAccessSize) → IsWordRegion r → a % width n ≡ 0 → i < width n → serves r a ≡ true → serves r (a + i) ≡ true
+  serves_all r a i n word al below e =
+      let t = serves_true r a e in
+      let whole : (r.base + r.size) % 4 ≡ 0 = omega (arith, word.aligned.0, word.aligned.1) in
+      true_serves r (a + i) (omega (arith, t.0)) (aligned_below (r.base + r.size) a i n whole al below t.1) (aligned_below (2 ^ 32) a i n (omega arith) al below t.2)
+
+  -- no byte of an aligned access is served by a region that does not serve the first
+  pub serves_none : (r : Region M) (a i : ℕ) (n : MemAccessSize) → IsWordRegion r → a % width n ≡ 0 → i < width n → a < 2 ^ 32 → serves r a ≡ false → serves r (a + i) ≡ false
+  serves_none r a i n word al below fits e =
+      let whole : (r.base + r.size) % 4 ≡ 0 = omega (arith, word.aligned.0, word.aligned.1) in
+      false_serves r (a + i) (λ past.
+      let from : r.base ≤ a = aligned_from r.base a i n word.aligned.0 al below past in
+      omega (arith, serves_false r a fits e from))
+
+  -- two regions that serve one address overlap
+  serve_both : (r s : Region M) (a : ℕ) → serves r a ≡ true → serves s a ≡ true → Overlaps s.base s.size r
+  serve_both r s a p q =
+      let t = serves_true r a p in
+      let u = serves_true s a q in
+      (omega (arith, t.0, u.1), omega (arith, t.1, u.0))
+
+  -- ---- what the list says of an address
+
+  -- no region serves an address from 2 ^ 32 on
+  unserved_from_end : {T : Type 0} (says : M → ℕ → T) (default : T) (regions : List (Region M)) (a : ℕ) → 2 ^ 32 ≤ a → served_by says default regions a ≡ default
+  unserved_from_end says default [] a past = refl
+  unserved_from_end says default (r ∷ regions) a past =
+      let miss : serves r a ≡ false = grind (arith, nat_tests) in
+      rw miss (unserved_from_end says default regions a past)
+
+  -- a space ends at 2 ^ 32
+  pub space_ends : (bytes : M → ByteMap) (writable : M → ℕ → Bool) (regions : List (Region M)) → EndsAtLastAddress (space_bytes bytes regions) (space_writable writable regions)
+  space_ends bytes writable regions a past =
+      (unserved_from_end bytes None regions a past, unserved_from_end writable false regions a past)
+
+  -- where no region serves an address, the list says the default
+  pub served_nowhere : {T : Type 0} (says : M → ℕ → T) (default : T) (regions : List (Region M)) (a : ℕ) → All (λ r. serves r a ≡ false) regions → served_by says default regions a ≡ default
+  served_nowhere says default [] a h = refl
+  served_nowhere says default (r ∷ regions) a h =
+      let miss : serves r a ≡ false = h 0 r (omega arith) in
+      rw miss (served_nowhere says default regions a (λ k d below. h (suc k) d (omega arith)))
+
+  -- of apart regions, the one that serves an address is the one that the list asks
+  pub served_at : {T : Type 0} (says : M → ℕ → T) (default : T) (regions : List (Region M)) (a i : ℕ) (r : Region M) → slice_get regions i ≡ Some r → serves r a ≡ true → AllPairs (λ r s. Overlaps s.base s.size r → ⊥) regions → served_by says default regions a ≡ says r.memory (a - r.base)
+  served_at says default [] a i r stands e apart = absurd (none-some _ stands)
+  served_at says default (x ∷ regions) a zero r stands e apart =
+      let same : x ≡ r = same_Some _ _ stands in
+      let hit : serves x a ≡ true = ap (λ y. serves y a) same ∙ e in
+      rw hit (ap (λ y. says y.memory (a - y.base)) same)
+  served_at says default (x ∷ regions) a (suc i) r stands e apart =
+      let here : get_or regions i r ≡ r = get_or_from_slice_get regions i r r stands in
+      let within : i < length regions = slice_get_within regions i r stands in
+      elim (serves_cases x a) [
+        | inl hit ↦ absurd ((rw here at (apart 0 (suc i) r (omega arith) (omega arith))) (serve_both x r a hit e))
+        | inr miss ↦ rw miss (served_at says default regions a i r stands e (λ j k d below inside. apart (suc j) (suc k) d (omega arith) (omega arith)))
+      ]
+
+  -- of apart regions at most one serves an address
+  pub served_once : (regions : List (Region M)) (a i j : ℕ) (r s : Region M) → AllPairs (λ r s. Overlaps s.base s.size r → ⊥) regions → slice_get regions i ≡ Some r → slice_get regions j ≡ Some s → serves r a ≡ true → serves s a ≡ true → i ≡ j
+  served_once regions a i j r s apart stands_r stands_s hit_r hit_s =
+      let here_r : get_or regions i r ≡ r = get_or_from_slice_get regions i r r stands_r in
+      let here_s : get_or regions j s ≡ s = get_or_from_slice_get regions j s s stands_s in
+      let also_r : get_or regions i s ≡ r = get_or_from_slice_get regions i r s stands_r in
+      let also_s : get_or regions j r ≡ s = get_or_from_slice_get regions j s r stands_s in
+      let within_r : i < length regions = slice_get_within regions i r stands_r in
+      let within_s : j < length regions = slice_get_within regions j s stands_s in
+      elim (cases_lt i j) [
+        | inl first ↦ absurd ((rw (here_r, also_s) at (apart i j r first within_s)) (serve_both r s a hit_r hit_s))
+        | inr later ↦ elim (cases_lt j i) [
+          | inl second ↦ absurd ((rw (here_s, also_r) at (apart j i s second within_r)) (serve_both s r a hit_s hit_r))
+          | inr same ↦ omega (arith, later, same)
+        ]
+      ]
+
+  -- ---- a memory replaced
+
+  -- the list keeps its length
+  pub length-with_memory : (regions : List (Region M)) (i : ℕ) (m : M) → length (with_memory regions i m) ≡ length regions
+  length-with_memory [] i m = refl
+  length-with_memory (r ∷ regions) zero m = refl
+  length-with_memory (r ∷ regions) (suc i) m = ap (λ n. suc n) (length-with_memory regions i m)
+
+  -- all bounds stay
+  pub bounds-with_memory : (regions : List (Region M)) (i : ℕ) (m : M) → map bounds (with_memory regions i m) ≡ map bounds regions
+  bounds-with_memory [] i m = refl
+  bounds-with_memory (r ∷ regions) zero m = refl
+  bounds-with_memory (r ∷ regions) (suc i) m = ap (λ xs. (r.base, r.size) ∷ xs) (bounds-with_memory regions i m)
+
+  -- the same at each index
+  bounds_at : (regions : List (Region M)) (i k : ℕ) (m : M) (d : Region M) → bounds (get_or (with_memory regions i m) k d) ≡ bounds (get_or regions k d)
+  bounds_at [] i k m d = refl
+  bounds_at (r ∷ regions) zero zero m d = refl
+  bounds_at (r ∷ regions) zero (suc k) m d = refl
+  bounds_at (r ∷ regions) (suc i) zero m d = refl
+  bounds_at (r ∷ regions) (suc i) (suc k) m d = bounds_at regions i k m d
+
+  -- a region of the same bounds is of whole words too
+  word_by_bounds : (r s : Region M) → bounds r ≡ bounds s → IsWordRegion s → IsWordRegion r
+  word_by_bounds r s e word =
+      let base : r.base ≡ s.base = ap (λ p. p.0) e in
+      let size : r.size ≡ s.size = ap (λ p. p.1) e in
+      record {
+        aligned = (rw base word.aligned.0, rw size word.aligned.1);
+        base_fits = rw base word.base_fits;
+        size_fits = rw size word.size_fits;
+      }
+
+  -- regions of the same bounds are apart too
+  apart_by_bounds : (r r' s s' : Region M) → bounds r ≡ bounds r' → bounds s ≡ bounds s' → (Overlaps s'.base s'.size r' → ⊥) → Overlaps s.base s.size r → ⊥
+  apart_by_bounds r r' s s' e f apart both =
+      let base_r : r.base ≡ r'.base = ap (λ p. p.0) e in
+      let size_r : r.size ≡ r'.size = ap (λ p. p.1) e in
+      let base_s : s.base ≡ s'.base = ap (λ p. p.0) f in
+      let size_s : s.size ≡ s'.size = ap (λ p. p.1) f in
+      apart (omega (arith, both.0), omega (arith, both.1))
+
+  -- it stays an address space
+  pub IsSpace-with_memory : (regions : List (Region M)) (i : ℕ) (m : M) → IsSpace regions → IsSpace (with_memory regions i m)
+  IsSpace-with_memory regions i m space =
+      let long : length (with_memory regions i m) ≡ length regions = length-with_memory regions i m in
+      record {
+        words = λ k d below. word_by_bounds (get_or (with_memory regions i m) k d) (get_or regions k d) (bounds_at regions i k m d) (space.words k d (omega arith));
+        apart = λ j k d first below.
+            apart_by_bounds
+            (get_or (with_memory regions i m) j d)
+            (get_or regions j d)
+            (get_or (with_memory regions i m) k d)
+            (get_or regions k d)
+            (bounds_at regions i j m d)
+            (bounds_at regions i k m d)
+            (space.apart j k d first (omega arith));
+      }
+
+  -- the region stands where it stood, with the other memory
+  pub stands-with_memory : (regions : List (Region M)) (i : ℕ) (r : Region M) (m : M) → slice_get regions i ≡ Some r → slice_get (with_memory regions i m) i ≡ Some (record r { memory = m })
+  stands-with_memory [] i r m stands = absurd (none-some _ stands)
+  stands-with_memory (x ∷ regions) zero r m stands =
+      let put : Region M → Region M = λ y. record y { memory = m } in
+      ap (λ y. Some (put y)) (same_Some x r stands)
+  stands-with_memory (x ∷ regions) (suc i) r m stands = stands-with_memory regions i r m stands
+
+  -- the regions that do not serve the address stay
+  pub OthersKept-with_memory : (regions : List (Region M)) (i : ℕ) (r : Region M) (m : M) (a : ℕ) → slice_get regions i ≡ Some r → serves r a ≡ true → OthersKept a regions (with_memory regions i m)
+  OthersKept-with_memory regions i r m a stands hit = by_index regions i stands
+    where
+      by_index : (regions : List (Region M)) (i : ℕ) → slice_get regions i ≡ Some r → (k : ℕ) (s : Region M) → slice_get regions k ≡ Some s → serves s a ≡ false → slice_get (with_memory regions i m) k ≡ Some s
+      by_index [] i stands k s other miss = absurd (none-some _ stands)
+      by_index (x ∷ regions) zero stands zero s other miss =
+          let same : r ≡ s = same_Some _ _ (sym stands ∙ other) in
+          absurd (false≢true (sym miss ∙ ap (λ y. serves y a) (sym same) ∙ hit))
+      by_index (x ∷ regions) zero stands (suc k) s other miss = other
+      by_index (x ∷ regions) (suc i) stands zero s other miss = other
+      by_index (x ∷ regions) (suc i) stands (suc k) s other miss = by_index regions i stands k s other miss
+
+  -- the list says the same of an address unless the two memories differ there
+  pub served-with_memory : {T : Type 0} (says : M → ℕ → T) (default : T) (regions : List (Region M)) (i : ℕ) (r : Region M) (m : M) (a : ℕ) → slice_get regions i ≡ Some r → (serves r a ≡ true → says m (a - r.base) ≡ says r.memory (a - r.base)) → served_by says default (with_memory regions i m) a ≡ served_by says default regions a
+  served-with_memory says default [] i r m a stands same = absurd (none-some _ stands)
+  served-with_memory says default (x ∷ regions) zero r m a stands same =
+      let P : Region M → Type 0 = λ y. serves y a ≡ true → says m (a - y.base) ≡ says y.memory (a - y.base) in
+      let same_x : serves x a ≡ true → says m (a - x.base) ≡ says x.memory (a - x.base) = subst P (sym (same_Some x r stands)) same in
+      elim (serves_cases x a) [
+        | inl hit ↦ rw hit (same_x hit)
+        | inr miss ↦ rw miss refl
+      ]
+  served-with_memory says default (x ∷ regions) (suc i) r m a stands same =
+      elim (serves_cases x a) [
+        | inl hit ↦ rw hit refl
+        | inr miss ↦ rw miss (served-with_memory says default regions i r m a stands same)
+      ]
+
+  -- the list says the same of every address where the two memories do
+  pub served_same : {T : Type 0} (says : M → ℕ → T) (default : T) (regions : List (Region M)) (i : ℕ) (r : Region M) (m : M) → slice_get regions i ≡ Some r → says m ≡ says r.memory → served_by says default (with_memory regions i m) ≡ served_by says default regions
+  served_same says default regions i r m stands same =
+      fun_ext (λ a. served-with_memory says default regions i r m a stands (λ hit. ap (λ f. f (a - r.base)) same))
+
+  -- the layout stays where the inner one does
+  pub layout-with_memory : (layout : M → List ℕ) (regions : List (Region M)) (i : ℕ) (r : Region M) (m : M) → slice_get regions i ≡ Some r → layout m ≡ layout r.memory → space_layout layout (with_memory regions i m) ≡ space_layout layout regions
+  layout-with_memory layout [] i r m stands same = absurd (none-some _ stands)
+  layout-with_memory layout (x ∷ regions) zero r m stands same =
+      let same_x : layout m ≡ layout x.memory = same ∙ ap (λ y. layout y.memory) (sym (same_Some x r stands)) in
+      ap (λ inner. (x.base ∷ x.size ∷ length inner ∷ []) ++ inner ++ space_layout layout regions) same_x
+  layout-with_memory layout (x ∷ regions) (suc i) r m stands same =
+      ap (λ rest. (x.base ∷ x.size ∷ length (layout x.memory) ∷ []) ++ layout x.memory ++ rest) (layout-with_memory layout regions i r m stands same)
+
+-- ---- the bytes of an access in two maps
+
+-- equal bytes have one little-endian value
+pub little_endian-moved : (f g : ByteMap) (a b n : ℕ) → ((i : ℕ) → i < n → f (a + i) ≡ g (b + i)) → little_endian f a n ≡ little_endian g b n
+little_endian-moved f g a b zero h = refl
+little_endian-moved f g a b (suc n) h =
+    rw (little_endian-moved f g a b n (λ i below. h i (omega arith)), h n (omega arith)) refl
+
+-- addresses that are writable alike are all writable alike
+pub all_writable-moved : (f g : ℕ → Bool) (a b n : ℕ) → ((i : ℕ) → i < n → f (a + i) ≡ g (b + i)) → all_writable f a n ≡ all_writable g b n
+all_writable-moved f g a b zero h = refl
+all_writable-moved f g a b (suc n) h =
+    rw (all_writable-moved f g a b n (λ i below. h i (omega arith)), h n (omega arith)) refl
+
+-- what is lawful of an access is lawful of the same bytes elsewhere
+pub IsLawful-moved : (f g : ByteMap) (v w : ℕ → Bool) (a b n : ℕ) → ((i : ℕ) → i < n → f (a + i) ≡ g (b + i)) → ((i : ℕ) → i < n → v (a + i) ≡ w (b + i)) → IsLawful g w b n → IsLawful f v a n
+IsLawful-moved f g v w a b n same_bytes same_writable law = record {
+  values = λ i byte below e. law.values i byte below (sym (same_bytes i below) ∙ e);
+  mapped = λ i below t. rw (same_bytes i below) (law.mapped i below (rw (same_writable i below) at t));
+}
+
+-- an access whose first byte is not mapped has no value
+pub little_endian-unmapped : (f : ByteMap) (a n : ℕ) → 0 < n → f (a + 0) ≡ None → little_endian f a n ≡ None
+little_endian-unmapped f a zero p e = absurd (omega (arith, p))
+little_endian-unmapped f a (suc zero) p e = rw e refl
+little_endian-unmapped f a (suc (suc n)) p e = rw (little_endian-unmapped f a (suc n) (omega arith) e) refl
+
+-- an access whose first byte is not writable is not writable
+pub all_writable-refused : (f : ℕ → Bool) (a n : ℕ) → 0 < n → f (a + 0) ≡ false → all_writable f a n ≡ false
+all_writable-refused f a zero p e = absurd (omega (arith, p))
+all_writable-refused f a (suc zero) p e = rw e refl
+all_writable-refused f a (suc (suc n)) p e = rw (all_writable-refused f a (suc n) (omega arith) e) refl
+
+-- an access of which no byte is mapped or writable is lawful
+pub IsLawful-unmapped : (f : ByteMap) (w : ℕ → Bool) (a n : ℕ) → ((i : ℕ) → i < n → f (a + i) ≡ None) → ((i : ℕ) → i < n → w (a + i) ≡ false) → IsLawful f w a n
+IsLawful-unmapped f w a n no_byte not_writable = record {
+  values = λ i byte below e. absurd (none-some _ (sym (no_byte i below) ∙ e));
+  mapped = λ i below t. absurd (false≢true (sym (not_writable i below) ∙ t));
+}
+
+-- an address among those that were stored has its byte of the value
+pub store_inside : (f : ByteMap) (a n v b : ℕ) → a ≤ b → b < a + n → store f a n v b ≡ Some (v / 256 ^ (b - a) % 256)
+store_inside f a n v b p q =
+    let test : (nat_le a b && nat_lt b (a + n)) ≡ true = grind (arith, nat_tests) in
+    rw test refl
+
+-- every other address has what it had
+pub store_outside : (f : ByteMap) (a n v b : ℕ) → (a ≤ b → a + n ≤ b) → store f a n v b ≡ f b
+store_outside f a n v b h =
+    let test : (nat_le a b && nat_lt b (a + n)) ≡ false = grind (arith, nat_tests) in
+    rw test refl
+
+module _ {M : Type 0} where
+  -- ---- an access that no region serves
+
+  -- no byte of it is served
+  unserved_at : {T : Type 0} (says : M → ℕ → T) (default : T) (regions : List (Region M)) (a i : ℕ) (n : MemAccessSize) → IsSpace regions → a % width n ≡ 0 → a < 2 ^ 32 → All (λ r. serves r a ≡ false) regions → i < width n → served_by says default regions (a + i) ≡ default
+  unserved_at says default regions a i n space al fits none below =
+      served_nowhere says default regions (a + i) (λ k d within. serves_none (get_or regions k d) a i n (space.words k d within) al below fits (none k d within))
+
+  -- it has no value
+  pub unserved_value : (bytes : M → ByteMap) (regions : List (Region M)) (a : ℕ) (n : MemAccessSize) → IsSpace regions → a % width n ≡ 0 → a < 2 ^ 32 → All (λ r. serves r a ≡ false) regions → little_endian (space_bytes bytes regions) a (width n) ≡ None
+  unserved_value bytes regions a n space al fits none =
+      little_endian-unmapped (space_bytes bytes regions) a (width n) (width_pos n) (unserved_at bytes None regions a 0 n space al fits none (width_pos n))
+
+  -- it is not writable
+  pub unserved_writable : (writable : M → ℕ → Bool) (regions : List (Region M)) (a : ℕ) (n : MemAccessSize) → IsSpace regions → a % width n ≡ 0 → a < 2 ^ 32 → All (λ r. serves r a ≡ false) regions → all_writable (space_writable writable regions) a (width n) ≡ false
+  unserved_writable writable regions a n space al fits none =
+      all_writable-refused (space_writable writable regions) a (width n) (width_pos n) (unserved_at writable false regions a 0 n space al fits none (width_pos n))
+
+  -- it is lawful
+  pub unserved_lawful : (bytes : M → ByteMap) (writable : M → ℕ → Bool) (regions : List (Region M)) (a : ℕ) (n : MemAccessSize) → IsSpace regions → a % width n ≡ 0 → a < 2 ^ 32 → All (λ r. serves r a ≡ false) regions → IsLawful (space_bytes bytes regions) (space_writable writable regions) a (width n)
+  unserved_lawful bytes writable regions a n space al fits none =
+      IsLawful-unmapped
+      (space_bytes bytes regions)
+      (space_writable writable regions)
+      a
+      (width n)
+      (λ i below. unserved_at bytes None regions a i n space al fits none below)
+      (λ i below. unserved_at writable false regions a i n space al fits none below)
+
+  -- ---- an access that a region serves
+
+  -- the region is of whole words
+  pub served_word : (regions : List (Region M)) (i : ℕ) (r : Region M) → IsSpace regions → slice_get regions i ≡ Some r → IsWordRegion r
+  served_word regions i r space stands =
+      rw (get_or_from_slice_get regions i r r stands) at (space.words i r (slice_get_within regions i r stands))
+
+  -- an aligned access at an address that it serves begins in it, at an aligned offset
+  pub served_offset : (regions : List (Region M)) (a i : ℕ) (r : Region M) (n : MemAccessSize) → IsSpace regions → a % width n ≡ 0 → slice_get regions i ≡ Some r → serves r a ≡ true → (r.base ≤ a) × ((a - r.base) % width n ≡ 0)
+  served_offset regions a i r n space al stands hit =
+      let from : r.base ≤ a = (serves_true r a hit).0 in
+      (from, aligned_offset r.base a n (served_word regions i r space stands).aligned.0 al from)
+
+  -- each of its bytes is the inner memory's at the offset from the base
+  offset_at : {T : Type 0} (says : M → ℕ → T) (default : T) (regions : List (Region M)) (a i k : ℕ) (r : Region M) (n : MemAccessSize) → IsSpace regions → a % width n ≡ 0 → slice_get regions i ≡ Some r → serves r a ≡ true → k < width n → served_by says default regions (a + k) ≡ says r.memory ((a - r.base) + k)
+  offset_at says default regions a i k r n space al stands hit below =
+      let from : r.base ≤ a = (serves_true r a hit).0 in
+      let offset : a + k - r.base ≡ (a - r.base) + k = omega arith in
+      served_at says default regions (a + k) i r stands (serves_all r a k n (served_word regions i r space stands) al below hit) space.apart
+      ∙ ap (says r.memory) offset
+
+  -- its value is the inner memory's
+  pub served_value : (bytes : M → ByteMap) (regions : List (Region M)) (a i : ℕ) (r : Region M) (n : MemAccessSize) → IsSpace regions → a % width n ≡ 0 → slice_get regions i ≡ Some r → serves r a ≡ true → little_endian (space_bytes bytes regions) a (width n) ≡ little_endian (bytes r.memory) (a - r.base) (width n)
+  served_value bytes regions a i r n space al stands hit =
+      little_endian-moved
+      (space_bytes bytes regions)
+      (bytes r.memory)
+      a
+      (a - r.base)
+      (width n)
+      (λ k below. offset_at bytes None regions a i k r n space al stands hit below)
+
+  -- it is writable where the inner memory is
+  pub served_writable : (writable : M → ℕ → Bool) (regions : List (Region M)) (a i : ℕ) (r : Region M) (n : MemAccessSize) → IsSpace regions → a % width n ≡ 0 → slice_get regions i ≡ Some r → serves r a ≡ true → all_writable (space_writable writable regions) a (width n) ≡ all_writable (writable r.memory) (a - r.base) (width n)
+  served_writable writable regions a i r n space al stands hit =
+      all_writable-moved
+      (space_writable writable regions)
+      (writable r.memory)
+      a
+      (a - r.base)
+      (width n)
+      (λ k below. offset_at writable false regions a i k r n space al stands hit below)
+
+  -- it is lawful where the inner access is
+  pub served_lawful : (bytes : M → ByteMap) (writable : M → ℕ → Bool) (regions : List (Region M)) (a i : ℕ) (r : Region M) (n : MemAccessSize) → IsSpace regions → a % width n ≡ 0 → slice_get regions i ≡ Some r → serves r a ≡ true → IsLawful (bytes r.memory) (writable r.memory) (a - r.base) (width n) → IsLawful (space_bytes bytes regions) (space_writable writable regions) a (width n)
+  served_lawful bytes writable regions a i r n space al stands hit law =
+      IsLawful-moved
+      (space_bytes bytes regions)
+      (bytes r.memory)
+      (space_writable writable regions)
+      (writable r.memory)
+      a
+      (a - r.base)
+      (width n)
+      (λ k below. offset_at bytes None regions a i k r n space al stands hit below)
+      (λ k below. offset_at writable false regions a i k r n space al stands hit below)
+      law
+
+  -- A write that the inner memory took is a write of the space.
+  pub served_written : (bytes : M → ByteMap) (regions : List (Region M)) (a i v : ℕ) (r : Region M) (m : M) (n : MemAccessSize) → IsSpace regions → a % width n ≡ 0 → slice_get regions i ≡ Some r → serves r a ≡ true → bytes m ≡ store (bytes r.memory) (a - r.base) (width n) v → space_bytes bytes (with_memory regions i m) ≡ store (space_bytes bytes regions) a (width n) v
+  served_written bytes regions a i v r m n space al stands hit wrote = fun_ext each
+    where
+      from : r.base ≤ a
+      from = (serves_true r a hit).0
+
+      inside : (b : ℕ) → a ≤ b → b < a + width n → space_bytes bytes (with_memory regions i m) b ≡ store (space_bytes bytes regions) a (width n) v b
+      inside b p q =
+          let k : a + (b - a) ≡ b = omega arith in
+          let whole : serves r b ≡ true = rw k at (serves_all r a (b - a) n (served_word regions i r space stands) al (omega arith) hit) in
+          let place : b - r.base - (a - r.base) ≡ b - a = omega (arith, from) in
+          let other : Region M = record r { memory = m } in
+          served_at bytes None (with_memory regions i m) b i other (stands-with_memory regions i r m stands) whole (IsSpace-with_memory regions i m space).apart
+          ∙ ap (λ f. f (b - r.base)) wrote
+          ∙ store_inside (bytes r.memory) (a - r.base) (width n) v (b - r.base) (omega (arith, from)) (omega (arith, from))
+          ∙ ap (λ x. Some (v / 256 ^ x % 256)) place
+          ∙ sym (store_inside (space_bytes bytes regions) a (width n) v b p q)
+
+      outside : (b : ℕ) → (a ≤ b → a + width n ≤ b) → space_bytes bytes (with_memory regions i m) b ≡ store (space_bytes bytes regions) a (width n) v b
+      outside b apart =
+          served-with_memory bytes None regions i r m b stands (λ hit_b.
+          let from_b : r.base ≤ b = (serves_true r b hit_b).0 in
+          ap (λ f. f (b - r.base)) wrote
+          ∙ store_outside (bytes r.memory) (a - r.base) (width n) v (b - r.base) (λ p.
+          let q : a ≤ b = omega (arith, from, from_b, p) in
+          omega (arith, from, from_b, apart q)))
+          ∙ sym (store_outside (space_bytes bytes regions) a (width n) v b apart)
+
+      each : (b : ℕ) → space_bytes bytes (with_memory regions i m) b ≡ store (space_bytes bytes regions) a (width n) v b
+      each b =
+          elim (cases_lt b a) [
+            | inl below ↦ outside b (λ p. absurd (omega (arith, p, below)))
+            | inr past ↦ elim (cases_lt b (a + width n)) [
+              | inl within ↦ inside b (omega (arith, past)) within
+              | inr after ↦ outside b (λ p. omega (arith, after))
+            ]
+          ]
+
+  -- ---- a region appended
+
+  -- a list of regions with one more, which overlaps none of them, is an address space
+  pub IsSpace-push : (regions : List (Region M)) (r : Region M) → IsSpace regions → IsWordRegion r → (Any (Overlaps r.base r.size) regions → ⊥) → IsSpace (regions ++ r ∷ [])
+  IsSpace-push regions r space word apart = record {
+    words = All-push IsWordRegion regions r space.words word;
+    apart = all_pairs_push (λ r s. Overlaps s.base s.size r → ⊥) regions r space.apart (λ k d within both.
+        apart (k, get_or regions k d, within, get_or_default regions k _ d within, both));
+  }
+
+  -- where no region overlaps, each is apart
+  pub all_apart : (regions : List (Region M)) (base size : ℕ) → (Any (Overlaps base size) regions → ⊥) → All (λ r. Overlaps base size r → ⊥) regions
+  all_apart regions base size none k d within both =
+      none (k, get_or regions k d, within, get_or_default regions k _ d within, both)
+
+  -- what holds of the memory that serves an address, as it was and as it is
+  pub served_becomes : (P : M → ℕ → M → Type 0) (regions : List (Region M)) (a i : ℕ) (r : Region M) (m : M) → IsSpace regions → slice_get regions i ≡ Some r → serves r a ≡ true → P r.memory (a - r.base) m → ServedBecomes a regions (with_memory regions i m) P
+  served_becomes P regions a i r m space stands hit holds j r' s stands' hit' after =
+      let here : i ≡ j = served_once regions a i j r r' space.apart stands stands' hit hit' in
+      let same : r ≡ r' = same_Some _ _ (sym stands ∙ ap (λ k. slice_get regions k) here ∙ stands') in
+      let other : Region M = record r { memory = m } in
+      let new : other ≡ s = same_Some _ _ (sym (stands-with_memory regions i r m stands) ∙ ap (λ k. slice_get (with_memory regions i m) k) here ∙ after) in
+      let Q : Region M → Type 0 = λ y. P y.memory (a - y.base) s.memory in
+      let R : Region M → Type 0 = λ y. P r.memory (a - r.base) y.memory in
+      subst Q same (subst R new holds)
+
+  -- where no region serves the address, nothing is said of its memory
+  pub unserved_becomes : (P : M → ℕ → M → Type 0) (regions new : List (Region M)) (a : ℕ) → All (λ r. serves r a ≡ false) regions → ServedBecomes a regions new P
+  unserved_becomes P regions new a none j r s stands hit after =
+      let within : j < length regions = slice_get_within regions j r stands in
+      let here : get_or regions j r ≡ r = get_or_from_slice_get regions j r r stands in
+      absurd (false≢true (sym (rw here at (none j r within)) ∙ hit))

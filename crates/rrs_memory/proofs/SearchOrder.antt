@@ -1,0 +1,385 @@
+-- How the regions of a space are found in the order of their bases, and what one more region leaves of that order.
+use Rattle.std.proofs.Common.{◌≡◌, ◌⊎◌, ℕ, zero, suc, ◌+◌, ◌-◌, ◌/◌, ◌^◌, ◌<◌, ◌≤◌, min, List, [], ◌∷◌, ◌++◌, length, map, get_or, set, Some, false, All, Any, inl, inr, refl, sym, ap, ◌∙◌, arith}
+use Rattle.std.specs.List.{slice_get, insert}
+use Rattle.std.proofs.Math.Nat.{pow-succ'}
+use Rattle.std.proofs.lemmas.Nat.{pow_pos}
+use Rattle.std.proofs.lemmas.Bool.{cases_lt, cases_eq}
+use Rattle.std.proofs.lemmas.Bool.Decides.{nat_tests}
+use Rattle.std.proofs.lemmas.List.{get_or-map, length-map, get_or_default, get_or_append_left, get_or_push, length_push, map_push}
+use Rattle.std.proofs.lemmas.List.Edits.{length-insert, get_or-insert_at, get_or-insert_below, get_or-insert_above}
+use Rattle.rrs_memory.specs.declared.memories.space.MemoryRegion.{MemoryRegion}
+use Rattle.rrs_memory.specs.SpaceFields.{region_of, with_inner, base_at, size_at, IsSearchOrder}
+use Rattle.rrs_memory.specs.Spaces.{Region, Space, serves, bounds, Overlaps, HasAddresses, IsServedAt, CountsCompared, digits_after, binary_digits}
+use Rattle.rrs_memory.proofs.Regions.{true_serves, false_serves, bounds-with_memory}
+use Rattle.rrs_memory.proofs.RegionFields.{set_is_with_memory, stands_of, shown_length}
+
+-- ---- digits
+
+-- one more number, one more digit where it is a power of 2
+digits_step : (n d : ℕ) → n < 2 ^ d → suc n < 2 ^ digits_after (suc n) d
+digits_step n d below =
+    elim (cases_eq (suc n) (2 ^ d)) [
+      | inl same ↦
+          let test : digits_after (suc n) d ≡ suc d = grind (arith, nat_tests) in
+          rw test (omega (arith, pow-succ' 2 d, below, same, pow_pos d))
+      | inr other ↦
+          let test : digits_after (suc n) d ≡ d = grind (arith, nat_tests) in
+          rw test (omega (arith, below, other))
+    ]
+
+-- a number is below 2 to the power of its digits
+pub below_digits : (n : ℕ) → n < 2 ^ binary_digits n
+below_digits zero = omega arith
+below_digits (suc n) = digits_step n (binary_digits n) (below_digits n)
+
+-- what is left after more than a half was ruled out needs one digit less
+pub halved : (n rest left : ℕ) → 0 < n → n < 2 ^ left → rest ≤ n / 2 → (0 < left) × (rest < 2 ^ (left - 1))
+halved n rest zero some room half = absurd (omega arith)
+halved n rest (suc left) some room half =
+    let same : suc left - 1 ≡ left = omega arith in
+    rw same (omega arith, omega (arith, pow-succ' 2 left, room, half))
+
+-- the digits of the number of all have room for a part of them
+pub digits_room : (len n : ℕ) → len ≤ n → len - 0 < 2 ^ (binary_digits n - 0)
+digits_room len n few =
+    let all : binary_digits n - 0 ≡ binary_digits n = omega arith in
+    rw all (omega (arith, below_digits n, few))
+
+-- ---- the order
+
+-- bases do not fall along the order
+pub later_base : (spans : List (ℕ × ℕ)) (order : List ℕ) (j k : ℕ) → IsSearchOrder spans order → j ≤ k → k < length order → base_at spans (get_or order j 0) ≤ base_at spans (get_or order k 0)
+later_base spans order j k sorted before within =
+    elim (cases_lt j k) [
+      | inl first ↦ omega (arith, sorted.rising j k first within)
+      | inr past ↦
+          let same : j ≡ k = omega arith in
+          rw same (omega arith)
+    ]
+
+-- places after one that begins after an address begin after it too
+pub begins_later : (spans : List (ℕ × ℕ)) (order : List ℕ) (j k a b : ℕ) → IsSearchOrder spans order → j ≤ k → k < length order → base_at spans (get_or order j 0) ≡ b → a < b → a < base_at spans (get_or order k 0)
+begins_later spans order j k a b sorted before within base past =
+    omega (arith, later_base spans order j k sorted before within, base, past)
+
+-- places up to one that begins at an address or before it begin there or before it too
+pub begins_earlier : (spans : List (ℕ × ℕ)) (order : List ℕ) (j k a b : ℕ) → IsSearchOrder spans order → j ≤ k → k < length order → base_at spans (get_or order k 0) ≡ b → b ≤ a → base_at spans (get_or order j 0) ≤ a
+begins_earlier spans order j k a b sorted before within base from =
+    omega (arith, later_base spans order j k sorted before within, base, from)
+
+-- places up to one that ends at an address or before it end there or before it too
+pub ends_earlier : (spans : List (ℕ × ℕ)) (order : List ℕ) (j k a : ℕ) → IsSearchOrder spans order → j ≤ k → k < length order → base_at spans (get_or order k 0) + size_at spans (get_or order k 0) ≤ a → base_at spans (get_or order j 0) + size_at spans (get_or order j 0) ≤ a
+ends_earlier spans order j k a sorted before within ends =
+    elim (cases_lt j k) [
+      | inl first ↦ omega (arith, sorted.rising j k first within, ends)
+      | inr past ↦
+          let same : j ≡ k = omega arith in
+          rw same ends
+    ]
+
+-- ---- one more region
+
+-- what stands at a place of an order into which an index was inserted
+inserted_at : (order : List ℕ) (place new j : ℕ) → place ≤ length order → ((j < place) × (get_or (insert order place new) j 0 ≡ get_or order j 0)) ⊎ (((j ≡ place) × (get_or (insert order place new) j 0 ≡ new)) ⊎ ((place < j) × (get_or (insert order place new) j 0 ≡ get_or order (j - 1) 0)))
+inserted_at order place new j fits =
+    elim (cases_lt j place) [
+      | inl below ↦ inl (below, get_or-insert_below order place new 0 j below fits)
+      | inr past ↦ elim (cases_lt place j) [
+        | inl above ↦
+            let back : j - 1 + 1 ≡ j = omega arith in
+            inr (inr (above, rw back at (get_or-insert_above order place new 0 (j - 1) (omega arith) fits)))
+        | inr at ↦
+            let here : j ≡ place = omega arith in
+            inr (inl (here, rw here (get_or-insert_at order place new 0 fits)))
+      ]
+    ]
+
+module _ (spans : List (ℕ × ℕ)) (order : List ℕ) (place : ℕ) (span : ℕ × ℕ) where
+  -- the base and the size of what stands at a place of the new order
+  span_at : (j : ℕ) → IsSearchOrder spans order → place ≤ length order → j < length order + 1 → ((j < place) × (get_or (spans ++ span ∷ []) (get_or (insert order place (length spans)) j 0) (0, 0) ≡ get_or spans (get_or order j 0) (0, 0))) ⊎ (((j ≡ place) × (get_or (spans ++ span ∷ []) (get_or (insert order place (length spans)) j 0) (0, 0) ≡ span)) ⊎ ((place < j) × (get_or (spans ++ span ∷ []) (get_or (insert order place (length spans)) j 0) (0, 0) ≡ get_or spans (get_or order (j - 1) 0) (0, 0))))
+  span_at j sorted fits within =
+      elim (inserted_at order place (length spans) j fits) [
+        | inl below ↦ inl (below.0, rw (below.1) (get_or_append_left spans (span ∷ []) (0, 0) (get_or order j 0) (sorted.within j (omega (arith, below.0, fits)))))
+        | inr other ↦ elim other [
+          | inl at ↦ inr (inl (at.0, rw (at.1) (get_or_push spans span (0, 0) (length spans) refl)))
+          | inr above ↦ inr (inr (above.0, rw (above.1) (get_or_append_left spans (span ∷ []) (0, 0) (get_or order (j - 1) 0) (sorted.within (j - 1) (omega (arith, above.0, within))))))
+        ]
+      ]
+
+  -- a region of size above 0 that overlaps no other, added at the end, and its index put at its place
+  pub IsSearchOrder-insert : IsSearchOrder spans order → place ≤ length order → 0 < span.1 → ((j : ℕ) → j < place → base_at spans (get_or order j 0) ≤ span.0) → ((j : ℕ) → place ≤ j → j < length order → span.0 < base_at spans (get_or order j 0)) → ((i : ℕ) → i < length spans → (base_at spans i < span.0 + span.1) × (span.0 < base_at spans i + size_at spans i) → ⊥) → IsSearchOrder (spans ++ span ∷ []) (insert order place (length spans))
+  IsSearchOrder-insert sorted fits some before after apart = record {
+    within = λ j below. within j (omega (arith, longer, below));
+    nonempty = λ j below. nonempty j (omega (arith, longer, below));
+    complete = λ i inside large. complete i (omega (arith, more, inside)) large;
+    rising = λ j k first below. rising j k first (omega (arith, longer, below));
+    few = omega (arith, longer, more, sorted.few);
+  }
+    where
+      longer : length (insert order place (length spans)) ≡ length order + 1
+      longer = length-insert order place (length spans) fits
+
+      more : length (spans ++ span ∷ []) ≡ length spans + 1
+      more = length_push spans span
+
+      within : (j : ℕ) → j < length order + 1 → get_or (insert order place (length spans)) j 0 < length (spans ++ span ∷ [])
+      within j below =
+          elim (inserted_at order place (length spans) j fits) [
+            | inl early ↦ omega (arith, early.1, more, sorted.within j (omega (arith, early.0, fits)))
+            | inr other ↦ elim other [
+              | inl at ↦ omega (arith, at.1, more)
+              | inr late ↦ omega (arith, late.1, more, sorted.within (j - 1) (omega (arith, late.0, below)))
+            ]
+          ]
+
+      nonempty : (j : ℕ) → j < length order + 1 → 0 < size_at (spans ++ span ∷ []) (get_or (insert order place (length spans)) j 0)
+      nonempty j below =
+          elim (span_at j sorted fits below) [
+            | inl early ↦ omega (arith, ap (λ p. p.1) (early.1), sorted.nonempty j (omega (arith, early.0, fits)))
+            | inr other ↦ elim other [
+              | inl at ↦ omega (arith, ap (λ p. p.1) (at.1), some)
+              | inr late ↦ omega (arith, ap (λ p. p.1) (late.1), sorted.nonempty (j - 1) (omega (arith, late.0, below)))
+            ]
+          ]
+
+      complete : (i : ℕ) → i < length spans + 1 → 0 < size_at (spans ++ span ∷ []) i → (j : ℕ) × (j < length (insert order place (length spans))) × (get_or (insert order place (length spans)) j 0 ≡ i)
+      complete i inside large =
+          elim (cases_lt i (length spans)) [
+            | inl old ↦
+                let same = get_or_append_left spans (span ∷ []) (0, 0) i old in
+                let stood = sorted.complete i old (omega (arith, ap (λ p. p.1) same, large)) in
+                elim (cases_lt stood.0 place) [
+                  | inl early ↦ (stood.0, omega (arith, stood.1, longer), get_or-insert_below order place (length spans) 0 stood.0 early fits ∙ stood.2)
+                  | inr late ↦ (stood.0 + 1, omega (arith, stood.1, longer), get_or-insert_above order place (length spans) 0 stood.0 late fits ∙ stood.2)
+                ]
+            | inr new ↦
+                let here : length spans ≡ i = omega arith in
+                (place, omega (arith, longer, fits), get_or-insert_at order place (length spans) 0 fits ∙ here)
+          ]
+
+      -- the new region begins where those before it have ended
+      ends_before : (j : ℕ) → j < place → base_at spans (get_or order j 0) + size_at spans (get_or order j 0) ≤ span.0
+      ends_before j early =
+          let inside = sorted.within j (omega (arith, early, fits)) in
+          elim (cases_lt span.0 (base_at spans (get_or order j 0) + size_at spans (get_or order j 0))) [
+            | inl over ↦ absurd (apart (get_or order j 0) inside (omega (arith, before j early, some), over))
+            | inr done ↦ done
+          ]
+
+      -- it ends where those after it begin
+      ends_in_time : (j : ℕ) → place ≤ j → j < length order → span.0 + span.1 ≤ base_at spans (get_or order j 0)
+      ends_in_time j late below =
+          let inside = sorted.within j below in
+          elim (cases_lt (base_at spans (get_or order j 0)) (span.0 + span.1)) [
+            | inl over ↦ absurd (apart (get_or order j 0) inside (over, omega (arith, after j late below)))
+            | inr done ↦ done
+          ]
+
+      rising : (j k : ℕ) → j < k → k < length order + 1 → base_at (spans ++ span ∷ []) (get_or (insert order place (length spans)) j 0) + size_at (spans ++ span ∷ []) (get_or (insert order place (length spans)) j 0) ≤ base_at (spans ++ span ∷ []) (get_or (insert order place (length spans)) k 0)
+      rising j k first below =
+          elim (span_at j sorted fits (omega arith)) [
+            | inl early ↦ elim (span_at k sorted fits below) [
+              | inl early_k ↦ omega (arith, ap (λ p. p.0) (early.1), ap (λ p. p.1) (early.1), ap (λ p. p.0) (early_k.1), sorted.rising j k first (omega (arith, early_k.0, fits)))
+              | inr other_k ↦ elim other_k [
+                | inl at_k ↦ omega (arith, ap (λ p. p.0) (early.1), ap (λ p. p.1) (early.1), ap (λ p. p.0) (at_k.1), ends_before j (early.0))
+                | inr late_k ↦ omega (arith, ap (λ p. p.0) (early.1), ap (λ p. p.1) (early.1), ap (λ p. p.0) (late_k.1), sorted.rising j (k - 1) (omega (arith, early.0, late_k.0)) (omega (arith, late_k.0, below)))
+              ]
+            ]
+            | inr other ↦ elim (span_at k sorted fits below) [
+              | inl early_k ↦ elim other [
+                | inl at ↦ absurd (omega (arith, early_k.0, at.0, first))
+                | inr late ↦ absurd (omega (arith, early_k.0, late.0, first))
+              ]
+              | inr other_k ↦ elim other_k [
+                | inl at_k ↦ elim other [
+                  | inl at ↦ absurd (omega (arith, at_k.0, at.0, first))
+                  | inr late ↦ absurd (omega (arith, at_k.0, late.0, first))
+                ]
+                | inr late_k ↦ elim other [
+                  | inl at ↦ omega (arith, ap (λ p. p.0) (at.1), ap (λ p. p.1) (at.1), ap (λ p. p.0) (late_k.1), ends_in_time (k - 1) (omega (arith, late_k.0)) (omega (arith, late_k.0, below)))
+                  | inr late ↦ omega (arith, ap (λ p. p.0) (late.1), ap (λ p. p.1) (late.1), ap (λ p. p.0) (late_k.1), sorted.rising (j - 1) (k - 1) (omega (arith, late.0, first)) (omega (arith, late_k.0, below)))
+                ]
+              ]
+            ]
+          ]
+
+-- an empty region added at the end
+pub IsSearchOrder-push_empty : (spans : List (ℕ × ℕ)) (order : List ℕ) (span : ℕ × ℕ) → IsSearchOrder spans order → span.1 ≡ 0 → IsSearchOrder (spans ++ span ∷ []) order
+IsSearchOrder-push_empty spans order span sorted empty = record {
+  within = λ j below. omega (arith, more, sorted.within j below);
+  nonempty = λ j below. omega (arith, ap (λ p. p.1) (same j below), sorted.nonempty j below);
+  complete = λ i inside large.
+      elim (cases_lt i (length spans)) [
+        | inl old ↦ sorted.complete i old (omega (arith, ap (λ p. p.1) (get_or_append_left spans (span ∷ []) (0, 0) i old), large))
+        | inr new ↦
+            let here : length spans ≡ i = omega (arith, more, inside) in
+            absurd (omega (arith, ap (λ p. p.1) (get_or_push spans span (0, 0) i here), large))
+      ];
+  rising = λ j k first below.
+      omega (arith, ap (λ p. p.0) (same j (omega (arith, first, below))), ap (λ p. p.1) (same j (omega (arith, first, below))), ap (λ p. p.0) (same k below), sorted.rising j k first below);
+  few = omega (arith, more, sorted.few);
+}
+  where
+    more : length (spans ++ span ∷ []) ≡ length spans + 1
+    more = length_push spans span
+
+    same : (j : ℕ) → j < length order → get_or (spans ++ span ∷ []) (get_or order j 0) (0, 0) ≡ get_or spans (get_or order j 0) (0, 0)
+    same j below = get_or_append_left spans (span ∷ []) (0, 0) (get_or order j 0) (sorted.within j below)
+
+module _ {M : Type 0} where
+  -- the base and the size of a region, in the list of both
+  bounds_of : (regions : List (Region M)) (i : ℕ) (d : Region M) → i < length regions → get_or (map bounds regions) i (0, 0) ≡ bounds (get_or regions i d)
+  bounds_of regions i d within = get_or-map bounds regions i d (0, 0) within
+
+  -- no region serves an address where each of the order ends before it or begins after it
+  pub none_serves : (regions : List (Region M)) (order : List ℕ) (a : ℕ) → IsSearchOrder (map bounds regions) order → ((j : ℕ) → j < length order → base_at (map bounds regions) (get_or order j 0) ≤ a → base_at (map bounds regions) (get_or order j 0) + size_at (map bounds regions) (get_or order j 0) ≤ a) → All (λ r. serves r a ≡ false) regions
+  none_serves regions order a sorted apart k d within =
+      let r = get_or regions k d in
+      let long : length (map bounds regions) ≡ length regions = length-map regions bounds in
+      let here : get_or (map bounds regions) k (0, 0) ≡ bounds r = bounds_of regions k d within in
+      let base : base_at (map bounds regions) k ≡ r.base = ap (λ p. p.0) here in
+      let size : size_at (map bounds regions) k ≡ r.size = ap (λ p. p.1) here in
+      false_serves r a (λ past.
+      elim (cases_lt 0 r.size) [
+        | inl some ↦
+            let place = sorted.complete k (omega arith) (omega arith) in
+            let far = rw (place.2) at (apart place.0 place.1) in
+            omega (arith, far (omega arith))
+        | inr none ↦ omega arith
+      ])
+
+  -- ---- the fields of the code
+
+  -- the base and the size of a region of the code, in the list of both
+  pub span_of_field : (fields : List (MemoryRegion M)) (i : ℕ) (d : MemoryRegion M) → i < length fields → get_or (map bounds (map region_of fields)) i (0, 0) ≡ bounds (region_of (get_or fields i d))
+  span_of_field fields i d within =
+      let long : length (map region_of fields) ≡ length fields = length-map fields region_of in
+      get_or-map bounds (map region_of fields) i (region_of d) (0, 0) (omega arith)
+      ∙ ap bounds (get_or-map region_of fields i d (region_of d) within)
+
+  -- an index of the order is that of a region
+  pub order_within : (fields : List (MemoryRegion M)) (order : List ℕ) (j : ℕ) → IsSearchOrder (map bounds (map region_of fields)) order → j < length order → get_or order j 0 < length fields
+  order_within fields order j sorted within =
+      let long : length (map region_of fields) ≡ length fields = length-map fields region_of in
+      let more : length (map bounds (map region_of fields)) ≡ length (map region_of fields) = length-map (map region_of fields) bounds in
+      omega (arith, sorted.within j within)
+
+  -- the base that is read at a place of the order is the one that stands there
+  pub base_read : (fields : List (MemoryRegion M)) (order : List ℕ) (j : ℕ) (d : MemoryRegion M) → IsSearchOrder (map bounds (map region_of fields)) order → j < length order → base_at (map bounds (map region_of fields)) (get_or order j 0) ≡ (get_or fields (get_or order j 0) d).base
+  base_read fields order j d sorted within =
+      ap (λ p. p.0) (span_of_field fields (get_or order j 0) d (order_within fields order j sorted within))
+
+  -- there is no longer order than there are regions
+  pub order_few : (fields : List (MemoryRegion M)) (order : List ℕ) → IsSearchOrder (map bounds (map region_of fields)) order → length order ≤ length fields
+  order_few fields order sorted =
+      let long : length (map region_of fields) ≡ length fields = length-map fields region_of in
+      let more : length (map bounds (map region_of fields)) ≡ length (map region_of fields) = length-map (map region_of fields) bounds in
+      omega (arith, sorted.few)
+
+  -- a region with another memory leaves the order
+  pub order_kept : (fields : List (MemoryRegion M)) (order : List ℕ) (i : ℕ) (x y : MemoryRegion M) → slice_get fields i ≡ Some x → y ≡ with_inner x y.memory → IsSearchOrder (map bounds (map region_of fields)) order → IsSearchOrder (map bounds (map region_of (set fields i y))) order
+  order_kept fields order i x y stands e sorted =
+      rw (set_is_with_memory fields i x y stands e, bounds-with_memory) sorted
+
+  -- ---- a region found
+
+  -- the base and the size of the region that was read at a place of the order
+  field_span : (fields : List (MemoryRegion M)) (order : List ℕ) (middle index : ℕ) (x : MemoryRegion M) → IsSearchOrder (map bounds (map region_of fields)) order → middle < length order → index ≡ get_or order middle 0 → x ≡ get_or fields index x → get_or (map bounds (map region_of fields)) (get_or order middle 0) (0, 0) ≡ (x.base, x.size)
+  field_span fields order middle index x sorted within at read =
+      let inside : index < length fields = rw at (order_within fields order middle sorted within) in
+      ap (λ i. get_or (map bounds (map region_of fields)) i (0, 0)) (sym at)
+      ∙ span_of_field fields index x inside
+      ∙ ap (λ r. bounds (region_of r)) (sym read)
+
+  -- the base alone
+  pub field_base : (fields : List (MemoryRegion M)) (order : List ℕ) (middle index : ℕ) (x : MemoryRegion M) → IsSearchOrder (map bounds (map region_of fields)) order → middle < length order → index ≡ get_or order middle 0 → x ≡ get_or fields index x → base_at (map bounds (map region_of fields)) (get_or order middle 0) ≡ x.base
+  field_base fields order middle index x sorted within at read =
+      ap (λ p. p.0) (field_span fields order middle index x sorted within at read)
+
+  -- the region of the code that contains the address serves it
+  pub field_at : (fields : List (MemoryRegion M)) (index a : ℕ) (x : MemoryRegion M) → index < length fields → x ≡ get_or fields index x → x.base ≤ a → a < x.base + x.size → a < 2 ^ 32 → IsServedAt (map region_of fields) a index
+  field_at fields index a x inside read from before fits =
+      let long : length (map region_of fields) ≡ length fields = length-map fields region_of in
+      let stands = stands_of fields (map region_of fields) index x refl (omega (arith, inside, long)) read in
+      record { region = region_of x; stands = stands.1; serves_it = true_serves (region_of x) a from before fits }
+
+  -- the same of the region of a place in the order
+  pub field_found : (fields : List (MemoryRegion M)) (order : List ℕ) (middle index a : ℕ) (x : MemoryRegion M) → IsSearchOrder (map bounds (map region_of fields)) order → middle < length order → index ≡ get_or order middle 0 → x ≡ get_or fields index x → x.base ≤ a → a < x.base + x.size → a < 2 ^ 32 → IsServedAt (map region_of fields) a index
+  field_found fields order middle index a x sorted within at read from before fits =
+      field_at fields index a x (rw at (order_within fields order middle sorted within)) read from before fits
+
+  -- a region of the code that begins in time and does not contain the address has ended
+  pub field_ended : (fields : List (MemoryRegion M)) (order : List ℕ) (middle index a : ℕ) (x : MemoryRegion M) → IsSearchOrder (map bounds (map region_of fields)) order → middle < length order → index ≡ get_or order middle 0 → x ≡ get_or fields index x → x.base ≤ a → ((x.base ≤ a) × (a < x.base + x.size) → ⊥) → base_at (map bounds (map region_of fields)) (get_or order middle 0) + size_at (map bounds (map region_of fields)) (get_or order middle 0) ≤ a
+  field_ended fields order middle index a x sorted within at read from outside =
+      let span = field_span fields order middle index x sorted within at read in
+      elim (cases_lt a (x.base + x.size)) [
+        | inl below ↦ absurd (outside (from, below))
+        | inr past ↦ omega (arith, ap (λ p. p.0) span, ap (λ p. p.1) span, past)
+      ]
+
+  -- where none of the order is left, none serves the address
+  pub none_left : (fields : List (MemoryRegion M)) (order : List ℕ) (low high a : ℕ) → IsSearchOrder (map bounds (map region_of fields)) order → high ≤ low → ((j : ℕ) → j < low → j < length order → base_at (map bounds (map region_of fields)) (get_or order j 0) + size_at (map bounds (map region_of fields)) (get_or order j 0) ≤ a) → ((j : ℕ) → high ≤ j → j < length order → a < base_at (map bounds (map region_of fields)) (get_or order j 0)) → All (λ r. serves r a ≡ false) (map region_of fields)
+  none_left fields order low high a sorted met before after =
+      none_serves (map region_of fields) order a sorted (λ j below from.
+      elim (cases_lt j low) [
+        | inl early ↦ before j early below
+        | inr late ↦ absurd (omega (arith, after j (omega arith) below, from))
+      ])
+
+  -- where a region has addresses, it stands in the order
+  pub some_in_order : (regions : List (Region M)) (order : List ℕ) → IsSearchOrder (map bounds regions) order → Any HasAddresses regions → 0 < length order
+  some_in_order regions order sorted any =
+      let long : length (map bounds regions) ≡ length regions = length-map regions bounds in
+      let size : size_at (map bounds regions) any.0 ≡ (get_or regions any.0 any.1).size = ap (λ p. p.1) (bounds_of regions any.0 any.1 any.2) in
+      let here : (get_or regions any.0 any.1).size ≡ any.1.size = ap (λ r. r.size) any.3 in
+      let place = sorted.complete any.0 (omega (arith, long, any.2)) (omega (arith, size, here, any.4)) in
+      omega (arith, place.1)
+
+  -- ---- a region appended
+
+  -- the bases and sizes after a push
+  spans_push : (fields new : List (MemoryRegion M)) (y : MemoryRegion M) → new ≡ fields ++ y ∷ [] → map bounds (map region_of new) ≡ map bounds (map region_of fields) ++ (y.base, y.size) ∷ []
+  spans_push fields new y e = rw e (simp map_push)
+
+  -- a region of size above 0 that overlaps no other, whose index was put where it belongs
+  pub order_inserted : (fields new : List (MemoryRegion M)) (old : List (Region M)) (order new_order : List ℕ) (place index : ℕ) (y : MemoryRegion M) → map region_of fields ≡ old → IsSearchOrder (map bounds (map region_of fields)) order → (Any (Overlaps y.base y.size) old → ⊥) → new ≡ fields ++ y ∷ [] → new_order ≡ insert order place index → index ≡ length fields → 0 < y.size → place ≤ length order → ((j : ℕ) → j < place → base_at (map bounds (map region_of fields)) (get_or order j 0) ≤ y.base) → ((j : ℕ) → place ≤ j → j < length order → y.base < base_at (map bounds (map region_of fields)) (get_or order j 0)) → IsSearchOrder (map bounds (map region_of new)) new_order
+  order_inserted fields new old order new_order place index y view sorted apart e inserted at some fits before after =
+      let spans = map bounds (map region_of fields) in
+      let long : length (map region_of fields) ≡ length fields = length-map fields region_of in
+      let more : length spans ≡ length (map region_of fields) = length-map (map region_of fields) bounds in
+      let last : index ≡ length spans = omega arith in
+      rw (spans_push fields new y e, inserted, last) (IsSearchOrder-insert spans order place (y.base, y.size) sorted fits some before after (λ i within both.
+      let inside : i < length (map region_of fields) = omega (arith, more, within) in
+      let r = get_or (map region_of fields) i (region_of y) in
+      let here : get_or spans i (0, 0) ≡ bounds r = bounds_of (map region_of fields) i (region_of y) inside in
+      let overlaps : Overlaps y.base y.size r = (omega (arith, ap (λ p. p.0) here, both.0), omega (arith, ap (λ p. p.0) here, ap (λ p. p.1) here, both.1)) in
+      let apart_here : Any (Overlaps y.base y.size) (map region_of fields) → ⊥ = rw (← view) at apart in
+      apart_here (i, r, inside, get_or_default (map region_of fields) i r (region_of y) inside, overlaps)))
+
+  -- an empty region
+  pub order_pushed_empty : (fields new : List (MemoryRegion M)) (order : List ℕ) (y : MemoryRegion M) → IsSearchOrder (map bounds (map region_of fields)) order → new ≡ fields ++ y ∷ [] → y.size ≡ 0 → IsSearchOrder (map bounds (map region_of new)) order
+  order_pushed_empty fields new order y sorted e empty =
+      rw (spans_push fields new y e) (IsSearchOrder-push_empty (map bounds (map region_of fields)) order (y.base, y.size) sorted empty)
+
+  -- ---- what was counted
+
+  -- what a search compared is added
+  pub counts_search : (old new : Space M) (fields : List (MemoryRegion M)) (order : List ℕ) (counted compared : ℕ) → map region_of fields ≡ old.regions → IsSearchOrder (map bounds (map region_of fields)) order → counted ≡ old.looked_at → new.looked_at ≡ min (counted + compared) (2 ^ 64 - 1) → compared ≤ binary_digits (length fields) + 1 → (0 < length order → 0 < compared) → CountsCompared old new
+  counts_search old new fields order counted compared view sorted before after few some =
+      let long : length old.regions ≡ length fields = shown_length fields fields old.regions view refl in
+      let seen : IsSearchOrder (map bounds old.regions) order = rw (← view) sorted in
+      record {
+        compared = compared;
+        counted = rw before at after;
+        few = rw long (omega (arith, few));
+        some = λ any. some (some_in_order old.regions order seen any);
+      }
+
+  -- the count alone matters
+  pub counts_along : (old between new : Space M) → new.looked_at ≡ between.looked_at → CountsCompared old between → CountsCompared old new
+  counts_along old between new same counts = record {
+    compared = counts.compared;
+    counted = same ∙ counts.counted;
+    few = counts.few;
+    some = counts.some;
+  }

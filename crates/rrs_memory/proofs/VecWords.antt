@@ -1,0 +1,279 @@
+-- A memory of words as a map of bytes: what a read of one word gives, and what a write of one word leaves.
+use Rattle.std.proofs.Common.{◌≡◌, ◌≢◌, ℕ, zero, suc, ◌+◌, ◌-◌, ◌*◌, ◌/◌, ◌%◌, ◌^◌, ◌<◌, ◌≤◌, List, length, slice_index, slice_set, Some, None, Bool, true, false, ◌&&◌, nat_lt, nat_le, if◌then◌else◌, inl, inr, refl, sym, ap, ◌∙◌, arith}
+use Rattle.std.specs.Int.Bits.{bit_and, bit_or, or_zero_r}
+use Rattle.std.proofs.Math.Nat.{pow-suc, pow-succ', div-div-eq-div-mul, add-mul, mul_assoc, add-mul-div_right, add-mul-mod_self_right, mod-one, add-zero}
+use Rattle.std.proofs.Math.Arith.{mod-mul}
+use Rattle.std.proofs.lemmas.Nat.{pow-add, and_mask, and-not, or_shifted, or_block, and_comm, pow_pos, shr-shr, shr_split, mod_below, shl_whole, div-mul-add, div-add-mod'}
+use Rattle.std.proofs.lemmas.Nat.Bits.{and_high}
+use Rattle.std.proofs.Math.Pow.{pow_mono}
+use Rattle.std.proofs.Math.Path.{fun_ext}
+use Rattle.std.proofs.lemmas.Bool.{lt-ltb, le-ltb, le-leb, lt-leb, and_from, and_left, and_right, cond-true, cond-false, cases_lt, cases_eq}
+use Rattle.std.proofs.lemmas.List.{length-set, get_or-set_same, get_or-set_other}
+use Rattle.rrs_memory.specs.declared.MemAccessSize.{MemAccessSize}
+use Rattle.rrs_memory.specs.declared.MemAccessSize.TheVariants.{Byte, HalfWord, Word}
+use Rattle.rrs_memory.specs.Bytes.{ByteMap, width, little_endian, all_writable, store, sum_if_both, at_place}
+use Rattle.rrs_memory.specs.VecBytes.{bytes_of_words, lies_in_words}
+
+-- a power of 256 as a power of 2
+pub pow-256 : (k : ℕ) → 256 ^ k ≡ 2 ^ (8 * k)
+pow-256 zero = refl
+pow-256 (suc k) = pow-suc 256 k ∙ ap (λ x. x * 256) (pow-256 k) ∙ sym (pow-add 2 (8 * k) 8) ∙ ap (λ x. 2 ^ x) (omega arith)
+
+-- no power of 256 is 0
+pub pow-256_pos : (k : ℕ) → 0 < 256 ^ k
+pow-256_pos k = omega (arith, pow-256 k, pow_pos (8 * k))
+
+-- a mask of the lowest n bytes
+pub and_low : (x m n : ℕ) → m + 1 ≡ 256 ^ n → bit_and x m ≡ x % 256 ^ n
+and_low x m n e =
+    let p : 256 ^ n ≡ 2 ^ (8 * n) = pow-256 n in
+    let q : m ≡ 2 ^ (8 * n) - 1 = omega arith in
+    ap (λ y. bit_and x y) q ∙ and_mask x (8 * n) ∙ ap (λ y. x % y) (sym p)
+
+-- a word in three parts: below place k, the n bits from there on, and those above
+pub three_parts : (w n k : ℕ) → w ≡ (w / 2 ^ (n + k) * 2 ^ n) * 2 ^ k + (w / 2 ^ k % 2 ^ n) * 2 ^ k + w % 2 ^ k
+three_parts w n k =
+    let low : w / 2 ^ k * 2 ^ k + w % 2 ^ k ≡ w = shr_split w k in
+    let high : w / 2 ^ k / 2 ^ n * 2 ^ n + w / 2 ^ k % 2 ^ n ≡ w / 2 ^ k = shr_split (w / 2 ^ k) n in
+    let joined : w / 2 ^ k / 2 ^ n ≡ w / 2 ^ (n + k) = shr-shr w k n ∙ ap (λ x. w / 2 ^ x) (omega arith) in
+    let parted : (w / 2 ^ (n + k) * 2 ^ n + w / 2 ^ k % 2 ^ n) * 2 ^ k ≡ (w / 2 ^ (n + k) * 2 ^ n) * 2 ^ k + (w / 2 ^ k % 2 ^ n) * 2 ^ k = add-mul (w / 2 ^ (n + k) * 2 ^ n) (w / 2 ^ k % 2 ^ n) (2 ^ k) in
+    let front : w / 2 ^ (n + k) * 2 ^ n + w / 2 ^ k % 2 ^ n ≡ w / 2 ^ k = ap (λ x. x * 2 ^ n + w / 2 ^ k % 2 ^ n) (sym joined) ∙ high in
+    let scaled : (w / 2 ^ (n + k) * 2 ^ n + w / 2 ^ k % 2 ^ n) * 2 ^ k ≡ w / 2 ^ k * 2 ^ k = ap (λ x. x * 2 ^ k) front in
+    omega arith
+
+-- n ones from place k on
+pub ones_from : (n k : ℕ) → (2 ^ n - 1) * 2 ^ k ≡ 2 ^ (n + k) - 2 ^ k
+ones_from n k =
+    let one_more : 2 ^ n - 1 + 1 ≡ 2 ^ n = omega (arith, pow_pos n) in
+    let product : (2 ^ n - 1 + 1) * 2 ^ k ≡ (2 ^ n - 1) * 2 ^ k + 1 * 2 ^ k = add-mul (2 ^ n - 1) 1 (2 ^ k) in
+    let whole : (2 ^ n - 1 + 1) * 2 ^ k ≡ 2 ^ (n + k) = ap (λ x. x * 2 ^ k) one_more ∙ sym (pow-add 2 n k) in
+    omega arith
+
+-- a word with the n bits from place k on cleared
+pub cleared : (w n k : ℕ) → w < 2 ^ 32 → n + k ≤ 32 → bit_and w (2 ^ 32 - 1 - (2 ^ n - 1) * 2 ^ k) ≡ (w / 2 ^ (n + k) * 2 ^ n) * 2 ^ k + w % 2 ^ k
+cleared w n k below fits =
+    let ones : (2 ^ n - 1) * 2 ^ k ≡ 2 ^ (n + k) - 2 ^ k = ones_from n k in
+    let in_word : 2 ^ (n + k) ≤ 2 ^ 32 = pow_mono fits in
+    let mask_fits : (2 ^ n - 1) * 2 ^ k < 2 ^ 32 = omega (arith, pow_pos k, pow_pos 32) in
+    let both : bit_and (2 ^ 32 - 1 - (2 ^ n - 1) * 2 ^ k) w + bit_and ((2 ^ n - 1) * 2 ^ k) w ≡ w = and-not 32 ((2 ^ n - 1) * 2 ^ k) w mask_fits below in
+    let turned : bit_and w (2 ^ 32 - 1 - (2 ^ n - 1) * 2 ^ k) ≡ bit_and (2 ^ 32 - 1 - (2 ^ n - 1) * 2 ^ k) w = and_comm w (2 ^ 32 - 1 - (2 ^ n - 1) * 2 ^ k) in
+    let middle : bit_and ((2 ^ n - 1) * 2 ^ k) w ≡ (w / 2 ^ k % 2 ^ n) * 2 ^ k = and_comm ((2 ^ n - 1) * 2 ^ k) w ∙ ap (λ x. bit_and w x) ones ∙ and_high w n k in
+    let parts : w ≡ (w / 2 ^ (n + k) * 2 ^ n) * 2 ^ k + (w / 2 ^ k % 2 ^ n) * 2 ^ k + w % 2 ^ k = three_parts w n k in
+    omega arith
+
+-- n bits put at place k of a word where they were cleared
+pub replaced_bits : (h v l n k : ℕ) → v < 2 ^ n → l < 2 ^ k → bit_or ((h * 2 ^ n) * 2 ^ k + l) (v * 2 ^ k) ≡ (h * 2 ^ n + v) * 2 ^ k + l
+replaced_bits h v l n k pv pl =
+    ap (λ x. bit_or ((h * 2 ^ n) * 2 ^ k + l) x) (omega arith)
+    ∙ or_block k (h * 2 ^ n) v l 0 pl (pow_pos k)
+    ∙ ap (λ x. x * 2 ^ k + bit_or l 0) (or_shifted h n v pv)
+    ∙ ap (λ x. (h * 2 ^ n + v) * 2 ^ k + x) (or_zero_r l)
+
+-- a word with the n bytes from byte p on replaced
+pub replaced : (w v m n p : ℕ) → w < 2 ^ 32 → n + p ≤ 4 → m + 1 ≡ 256 ^ n
+    → bit_or (bit_and w (2 ^ 32 - 1 - m * 2 ^ (8 * p) % 2 ^ 32)) (bit_and v m * 2 ^ (8 * p) % 2 ^ 32)
+    ≡ (w / 256 ^ (n + p) * 256 ^ n + v % 256 ^ n) * 256 ^ p + w % 256 ^ p
+replaced w v m n p below fits e =
+    let pn : 256 ^ n ≡ 2 ^ (8 * n) = pow-256 n in
+    let pp : 256 ^ p ≡ 2 ^ (8 * p) = pow-256 p in
+    let pnp : 256 ^ (n + p) ≡ 2 ^ (8 * n + 8 * p) = pow-256 (n + p) ∙ ap (λ x. 2 ^ x) (omega arith) in
+    let m_is : m ≡ 2 ^ (8 * n) - 1 = omega arith in
+    let bits : 8 * n + 8 * p ≤ 32 = omega arith in
+    let in_word : 2 ^ (8 * n + 8 * p) ≤ 2 ^ 32 = pow_mono bits in
+    let mask_is : m * 2 ^ (8 * p) ≡ 2 ^ (8 * n + 8 * p) - 2 ^ (8 * p) = ap (λ x. x * 2 ^ (8 * p)) m_is ∙ ones_from (8 * n) (8 * p) in
+    let mask_whole : m * 2 ^ (8 * p) % 2 ^ 32 ≡ (2 ^ (8 * n) - 1) * 2 ^ (8 * p) = shl_whole m (8 * n) (8 * p) 32 (omega (arith, pow_pos (8 * n))) bits ∙ ap (λ x. x * 2 ^ (8 * p)) m_is in
+    let v_is : bit_and v m ≡ v % 2 ^ (8 * n) = and_low v m n e ∙ ap (λ x. v % x) pn in
+    let v_below : v % 2 ^ (8 * n) < 2 ^ (8 * n) = mod_below v (2 ^ (8 * n)) (pow_pos (8 * n)) in
+    let v_whole : bit_and v m * 2 ^ (8 * p) % 2 ^ 32 ≡ (v % 2 ^ (8 * n)) * 2 ^ (8 * p) = ap (λ x. x * 2 ^ (8 * p) % 2 ^ 32) v_is ∙ shl_whole (v % 2 ^ (8 * n)) (8 * n) (8 * p) 32 v_below bits in
+    let rest_is : bit_and w (2 ^ 32 - 1 - m * 2 ^ (8 * p) % 2 ^ 32) ≡ (w / 2 ^ (8 * n + 8 * p) * 2 ^ (8 * n)) * 2 ^ (8 * p) + w % 2 ^ (8 * p) = ap (λ x. bit_and w (2 ^ 32 - 1 - x)) mask_whole ∙ cleared w (8 * n) (8 * p) below bits in
+    ap (λ x. bit_or x (bit_and v m * 2 ^ (8 * p) % 2 ^ 32)) rest_is
+    ∙ ap (λ x. bit_or ((w / 2 ^ (8 * n + 8 * p) * 2 ^ (8 * n)) * 2 ^ (8 * p) + w % 2 ^ (8 * p)) x) v_whole
+    ∙ replaced_bits (w / 2 ^ (8 * n + 8 * p)) (v % 2 ^ (8 * n)) (w % 2 ^ (8 * p)) (8 * n) (8 * p) v_below (mod_below w (2 ^ (8 * p)) (pow_pos (8 * p)))
+    ∙ ap (λ x. (w / x * 2 ^ (8 * n) + v % 2 ^ (8 * n)) * 2 ^ (8 * p) + w % 2 ^ (8 * p)) (sym pnp)
+    ∙ ap (λ x. (w / 256 ^ (n + p) * x + v % x) * 2 ^ (8 * p) + w % 2 ^ (8 * p)) (sym pn)
+    ∙ ap (λ x. (w / 256 ^ (n + p) * 256 ^ n + v % 256 ^ n) * x + w % x) (sym pp)
+
+-- ---- the bytes of a word of which some were replaced
+
+-- a byte below the n-th is not changed by what stands from the n-th on
+pub low_byte : (r h n i : ℕ) → i < n → (r + h * 256 ^ n) / 256 ^ i % 256 ≡ r / 256 ^ i % 256
+low_byte r h n i below =
+    let split : 256 ^ n ≡ 256 ^ (n - suc i) * 256 * 256 ^ i =
+    ap (λ x. 256 ^ x) (omega arith) ∙ pow-add 256 (n - suc i) (suc i) ∙ ap (λ x. 256 ^ (n - suc i) * x) (pow-succ' 256 i) ∙ sym (mul_assoc (256 ^ (n - suc i)) 256 (256 ^ i)) in
+    let high : h * 256 ^ n ≡ (h * 256 ^ (n - suc i) * 256) * 256 ^ i =
+    ap (λ x. h * x) split ∙ sym (mul_assoc h (256 ^ (n - suc i) * 256) (256 ^ i)) ∙ ap (λ x. x * 256 ^ i) (sym (mul_assoc h (256 ^ (n - suc i)) 256)) in
+    ap (λ x. (r + x) / 256 ^ i % 256) high
+    ∙ ap (λ x. x % 256) (add-mul-div_right r (h * 256 ^ (n - suc i) * 256) (pow-256_pos i))
+    ∙ add-mul-mod_self_right (r / 256 ^ i) (h * 256 ^ (n - suc i)) 256
+
+-- the lowest n bytes of a number are its bytes
+pub byte_of_low : (v n i : ℕ) → i < n → v % 256 ^ n / 256 ^ i % 256 ≡ v / 256 ^ i % 256
+byte_of_low v n i below =
+    let parts : v % 256 ^ n + v / 256 ^ n * 256 ^ n ≡ v = omega (arith, div-add-mod' v (256 ^ n)) in
+    sym (low_byte (v % 256 ^ n) (v / 256 ^ n) n i below) ∙ ap (λ x. x / 256 ^ i % 256) parts
+
+-- the word w with the n bytes from byte p on replaced by the lowest n bytes of v
+abbrev pub with_bytes : ℕ → ℕ → ℕ → ℕ → ℕ
+with_bytes w v n p = (w / 256 ^ (n + p) * 256 ^ n + v % 256 ^ n) * 256 ^ p + w % 256 ^ p
+
+-- the bytes below those that are replaced
+pub byte_below : (w v n p j : ℕ) → j < p → with_bytes w v n p / 256 ^ j % 256 ≡ w / 256 ^ j % 256
+byte_below w v n p j below =
+    ap (λ x. x / 256 ^ j % 256) (omega arith)
+    ∙ low_byte (w % 256 ^ p) (w / 256 ^ (n + p) * 256 ^ n + v % 256 ^ n) p j below
+    ∙ byte_of_low w p j below
+
+-- the bytes that are replaced
+pub byte_inside : (w v n p i : ℕ) → i < n → with_bytes w v n p / 256 ^ (p + i) % 256 ≡ v / 256 ^ i % 256
+byte_inside w v n p i below =
+    ap (λ x. with_bytes w v n p / x % 256) (pow-add 256 p i)
+    ∙ ap (λ x. x % 256) (sym (div-div-eq-div-mul (with_bytes w v n p) (256 ^ p) (256 ^ i)))
+    ∙ ap (λ x. x / 256 ^ i % 256) (div-mul-add (w / 256 ^ (n + p) * 256 ^ n + v % 256 ^ n) (256 ^ p) (w % 256 ^ p) (mod_below w (256 ^ p) (pow-256_pos p)))
+    ∙ ap (λ x. x / 256 ^ i % 256) (omega arith)
+    ∙ low_byte (v % 256 ^ n) (w / 256 ^ (n + p)) n i below
+    ∙ byte_of_low v n i below
+
+-- the bytes above those that are replaced
+pub byte_above : (w v n p i : ℕ) → with_bytes w v n p / 256 ^ (n + p + i) % 256 ≡ w / 256 ^ (n + p + i) % 256
+byte_above w v n p i =
+    let shifted : (x : ℕ) → x / 256 ^ (n + p + i) ≡ x / 256 ^ (n + p) / 256 ^ i = λ x.
+    ap (λ y. x / y) (pow-add 256 (n + p) i) ∙ sym (div-div-eq-div-mul x (256 ^ (n + p)) (256 ^ i)) in
+    let high : with_bytes w v n p / 256 ^ (n + p) ≡ w / 256 ^ (n + p) =
+    ap (λ x. with_bytes w v n p / x) (ap (λ x. 256 ^ x) (omega arith) ∙ pow-add 256 p n)
+    ∙ sym (div-div-eq-div-mul (with_bytes w v n p) (256 ^ p) (256 ^ n))
+    ∙ ap (λ x. x / 256 ^ n) (div-mul-add (w / 256 ^ (n + p) * 256 ^ n + v % 256 ^ n) (256 ^ p) (w % 256 ^ p) (mod_below w (256 ^ p) (pow-256_pos p)))
+    ∙ div-mul-add (w / 256 ^ (n + p)) (256 ^ n) (v % 256 ^ n) (mod_below v (256 ^ n) (pow-256_pos n)) in
+    ap (λ x. x % 256) (shifted (with_bytes w v n p) ∙ ap (λ x. x / 256 ^ i) high ∙ sym (shifted w))
+
+-- ---- the bytes of a list of words
+
+-- an address below 2 ^ 32 lies in the words where its word does
+pub lies : (words : List ℕ) (a : ℕ) → a < 2 ^ 32 → a / 4 < length words → lies_in_words words a ≡ true
+lies words a low there = and_from _ _ (lt-ltb a (4 * length words) (omega arith)) (lt-ltb a (2 ^ 32) low)
+
+-- and else it does not
+pub lies_not : (words : List ℕ) (a : ℕ) → length words ≤ a / 4 → lies_in_words words a ≡ false
+lies_not words a past = and_left _ _ (le-ltb a (4 * length words) (omega arith))
+
+-- the byte at an address that lies in the words
+pub byte_at : (words : List ℕ) (a : ℕ) → a < 2 ^ 32 → a / 4 < length words → bytes_of_words words a ≡ Some (slice_index words (a / 4) / 256 ^ (a % 4) % 256)
+byte_at words a low there = cond-true (lies_in_words words a) (Some (slice_index words (a / 4) / 256 ^ (a % 4) % 256)) None (lies words a low there)
+
+-- there is none past them
+pub byte_past : (words : List ℕ) (a : ℕ) → length words ≤ a / 4 → bytes_of_words words a ≡ None
+byte_past words a past = cond-false (lies_in_words words a) (Some (slice_index words (a / 4) / 256 ^ (a % 4) % 256)) None (lies_not words a past)
+
+-- the byte j further in the same word
+pub byte_on : (words : List ℕ) (a j : ℕ) → a < 2 ^ 32 → a / 4 < length words → a % 4 + j < 4 → bytes_of_words words (a + j) ≡ Some (slice_index words (a / 4) / 256 ^ (a % 4 + j) % 256)
+byte_on words a j low there within =
+    let same_word : (a + j) / 4 ≡ a / 4 = omega arith in
+    let place : (a + j) % 4 ≡ a % 4 + j = omega arith in
+    byte_at words (a + j) (omega arith) (omega arith)
+    ∙ ap (λ x. Some (slice_index words x / 256 ^ ((a + j) % 4) % 256)) same_word
+    ∙ ap (λ x. Some (slice_index words (a / 4) / 256 ^ x % 256)) place
+
+-- one more byte of a number
+pub one_more_byte : (x n : ℕ) → x % 256 ^ n + x / 256 ^ n % 256 * 256 ^ n ≡ x % 256 ^ suc n
+one_more_byte x n =
+    let both : x % (256 * 256 ^ n) ≡ (x / 256 ^ n % 256) * 256 ^ n + x % 256 ^ n = mod-mul x {m = 256} {c = 256 ^ n} (omega arith) (pow-256_pos n) in
+    let whole : x % 256 ^ suc n ≡ x % (256 * 256 ^ n) = ap (λ y. x % y) (pow-succ' 256 n) in
+    omega arith
+
+-- the value of n bytes of one word
+pub value_of_bytes : (words : List ℕ) (a n : ℕ) → a < 2 ^ 32 → a / 4 < length words → a % 4 + n ≤ 4
+    → little_endian (bytes_of_words words) a n ≡ Some (slice_index words (a / 4) / 256 ^ (a % 4) % 256 ^ n)
+value_of_bytes words a zero low there within = ap Some (sym (mod-one (slice_index words (a / 4) / 256 ^ (a % 4))))
+value_of_bytes words a (suc n) low there within =
+    let x = slice_index words (a / 4) / 256 ^ (a % 4) in
+    let byte : slice_index words (a / 4) / 256 ^ (a % 4 + n) ≡ x / 256 ^ n =
+    ap (λ y. slice_index words (a / 4) / y) (pow-add 256 (a % 4) n) ∙ sym (div-div-eq-div-mul (slice_index words (a / 4)) (256 ^ (a % 4)) (256 ^ n)) in
+    ap (λ o. sum_if_both o (at_place n (bytes_of_words words (a + n)))) (value_of_bytes words a n low there (omega arith))
+    ∙ ap (λ o. sum_if_both (Some (x % 256 ^ n)) (at_place n o)) (byte_on words a n low there (omega arith))
+    ∙ ap (λ y. Some (x % 256 ^ n + y % 256 * 256 ^ n)) byte
+    ∙ ap Some (one_more_byte x n)
+
+-- there is no value where the first byte is not mapped
+pub no_value : (bytes : ByteMap) (a n : ℕ) → bytes a ≡ None → little_endian bytes a (suc n) ≡ None
+no_value bytes a zero none = ap (λ x. sum_if_both (Some 0) (at_place 0 (bytes x))) (add-zero a) ∙ ap (λ o. sum_if_both (Some 0) (at_place 0 o)) none
+no_value bytes a (suc n) none = ap (λ o. sum_if_both o (at_place (suc n) (bytes (a + suc n)))) (no_value bytes a n none)
+
+-- n bytes of one word are writable
+pub all_lie : (words : List ℕ) (a n : ℕ) → a < 2 ^ 32 → a / 4 < length words → a % 4 + n ≤ 4 → all_writable (lies_in_words words) a n ≡ true
+all_lie words a zero low there within = refl
+all_lie words a (suc n) low there within = and_from _ _ (all_lie words a n low there (omega arith)) (lies words (a + n) (omega arith) (omega arith))
+
+-- not all are writable where the first is not
+pub not_all : (writable : ℕ → Bool) (a n : ℕ) → writable a ≡ false → all_writable writable a (suc n) ≡ false
+not_all writable a zero shut = ap writable (add-zero a) ∙ shut
+not_all writable a (suc n) shut = and_left _ _ (not_all writable a n shut)
+
+-- a stored byte
+pub store_inside : (bytes : ByteMap) (a n v b : ℕ) → a ≤ b → b < a + n → store bytes a n v b ≡ Some (v / 256 ^ (b - a) % 256)
+store_inside bytes a n v b from to = cond-true (nat_le a b && nat_lt b (a + n)) (Some (v / 256 ^ (b - a) % 256)) (bytes b) (and_from _ _ (le-leb a b from) (lt-ltb b (a + n) to))
+
+-- the bytes below those that are stored
+pub store_below : (bytes : ByteMap) (a n v b : ℕ) → b < a → store bytes a n v b ≡ bytes b
+store_below bytes a n v b below = cond-false (nat_le a b && nat_lt b (a + n)) (Some (v / 256 ^ (b - a) % 256)) (bytes b) (and_left _ _ (lt-leb a b below))
+
+-- the bytes above those that are stored
+pub store_above : (bytes : ByteMap) (a n v b : ℕ) → a + n ≤ b → store bytes a n v b ≡ bytes b
+store_above bytes a n v b above = cond-false (nat_le a b && nat_lt b (a + n)) (Some (v / 256 ^ (b - a) % 256)) (bytes b) (and_right _ _ (le-ltb b (a + n) above))
+
+-- a byte of another word does not change
+pub byte_of_other : (words : List ℕ) (i x b : ℕ) → b / 4 ≢ i → bytes_of_words (slice_set words i x) b ≡ bytes_of_words words b
+byte_of_other words i x b other =
+    ap (λ n. if nat_lt b (4 * n) && nat_lt b (2 ^ 32) then Some (slice_index (slice_set words i x) (b / 4) / 256 ^ (b % 4) % 256) else None) (length-set words i x)
+    ∙ ap (λ w. if lies_in_words words b then Some (w / 256 ^ (b % 4) % 256) else None) (get_or-set_other words i (b / 4) x 0 other)
+
+-- a byte of the word that was set
+pub byte_of_set : (words : List ℕ) (i x b : ℕ) → b < 2 ^ 32 → i < length words → b / 4 ≡ i → bytes_of_words (slice_set words i x) b ≡ Some (x / 256 ^ (b % 4) % 256)
+byte_of_set words i x b low there same =
+    byte_at (slice_set words i x) b low (omega (arith, length-set words i x))
+    ∙ ap (λ w. Some (w / 256 ^ (b % 4) % 256)) (ap (λ j. slice_index (slice_set words i x) j) same ∙ get_or-set_same words i x 0 there)
+
+-- a byte of the word with n bytes replaced
+pub byte_of_written : (words : List ℕ) (a n v b : ℕ) → a < 2 ^ 32 → a / 4 < length words → a % 4 + n ≤ 4 → b / 4 ≡ a / 4
+    → Some (with_bytes (slice_index words (a / 4)) v n (a % 4) / 256 ^ (b % 4) % 256) ≡ store (bytes_of_words words) a n v b
+byte_of_written words a n v b low there within same =
+    let w = slice_index words (a / 4) in
+    let old : bytes_of_words words b ≡ Some (w / 256 ^ (b % 4) % 256) = byte_at words b (omega arith) (omega arith) ∙ ap (λ i. Some (slice_index words i / 256 ^ (b % 4) % 256)) same in
+    elim (cases_lt b a) [
+      | inl below ↦ ap Some (byte_below w v n (a % 4) (b % 4) (omega arith)) ∙ sym old ∙ sym (store_below (bytes_of_words words) a n v b below)
+      | inr from ↦ elim (cases_lt b (a + n)) [
+        | inl to ↦
+            let place : a % 4 + (b - a) ≡ b % 4 = omega arith in
+            ap (λ j. Some (with_bytes w v n (a % 4) / 256 ^ j % 256)) (sym place)
+            ∙ ap Some (byte_inside w v n (a % 4) (b - a) (omega arith))
+            ∙ sym (store_inside (bytes_of_words words) a n v b from to)
+        | inr above ↦
+            let place : n + a % 4 + (b % 4 - (n + a % 4)) ≡ b % 4 = omega arith in
+            ap (λ j. Some (with_bytes w v n (a % 4) / 256 ^ j % 256)) (sym place)
+            ∙ ap Some (byte_above w v n (a % 4) (b % 4 - (n + a % 4)))
+            ∙ ap (λ j. Some (w / 256 ^ j % 256)) place
+            ∙ sym old ∙ sym (store_above (bytes_of_words words) a n v b above)
+      ]
+    ]
+
+-- a byte after a write of one word
+pub byte_after : (words : List ℕ) (a n v b : ℕ) → a < 2 ^ 32 → a / 4 < length words → a % 4 + n ≤ 4
+    → bytes_of_words (slice_set words (a / 4) (with_bytes (slice_index words (a / 4)) v n (a % 4))) b ≡ store (bytes_of_words words) a n v b
+byte_after words a n v b low there within =
+    let x = with_bytes (slice_index words (a / 4)) v n (a % 4) in
+    elim (cases_eq (b / 4) (a / 4)) [
+      | inl same ↦ byte_of_set words (a / 4) x b (omega arith) there same ∙ byte_of_written words a n v b low there within same
+      | inr other ↦ byte_of_other words (a / 4) x b other ∙ elim (cases_lt b a) [
+        | inl below ↦ sym (store_below (bytes_of_words words) a n v b below)
+        | inr from ↦ sym (store_above (bytes_of_words words) a n v b (omega arith))
+      ]
+    ]
+
+-- replacing n bytes of the word at a stores them
+pub write_stores : (words : List ℕ) (a n v : ℕ) → a < 2 ^ 32 → a / 4 < length words → a % 4 + n ≤ 4
+    → bytes_of_words (slice_set words (a / 4) (with_bytes (slice_index words (a / 4)) v n (a % 4))) ≡ store (bytes_of_words words) a n v
+write_stores words a n v low there within = fun_ext (λ b. byte_after words a n v b low there within)
+
+-- an access at a multiple of its size stays in one word
+pub aligned_in_word : (a : ℕ) (size : MemAccessSize) → a % width size ≡ 0 → a % 4 + width size ≤ 4
+aligned_in_word a Byte aligned = omega arith
+aligned_in_word a HalfWord aligned = omega arith
+aligned_in_word a Word aligned = omega arith

@@ -1,0 +1,18 @@
+use Rattle.std.proofs.Common.{◌++◌, [], ◌∷◌, ◌∙◌, arith}
+use Rattle.std.proofs.KnownBytes.{Consumes-trans}
+use Rattle.rrs_memory.proofs.LoadLemmas.{Loaded-next, length-more}
+use Rattle.rrs_memory.proofs.memories.load.read_to_memory.Goals as goal
+
+pub loop-addr-preserved : goal.loop-addr-preserved
+loop-addr-preserved g c =
+    let so_far = c.loop-addr.invariant in
+    let wrote = c.if-not-write_mem.ensures.laws in
+    let given = rw c.in-Ok-Some.field-0-is at c.in-Ok-Some.ensures in
+    record {
+      input = so_far.input ++ c.in-Ok-Some.byte ∷ [];
+      placed = length-more so_far.input c.in-Ok-Some.byte _ _ so_far.placed;
+      loaded = Loaded-next _ _ _ _ _ _ _ _ _ _ so_far.loaded so_far.placed (omega arith) given.0 c.from.ensures so_far.writable_kept wrote.granted wrote.lawful wrote.written;
+      consumed = Consumes-trans _ _ _ _ _ so_far.consumed given.1;
+      writable_kept = wrote.writable_kept ∙ so_far.writable_kept;
+      layout_kept = wrote.layout_kept ∙ so_far.layout_kept;
+    }

@@ -1,0 +1,18 @@
+use Rattle.std.proofs.Common.{◌≡◌, ◌+◌, map, ap, ◌∙◌, arith}
+use Rattle.rrs_memory.specs.SpaceFields.{region_of}
+use Rattle.rrs_memory.proofs.SearchOrder.{counts_search}
+use Rattle.rrs_memory.proofs.memories.space.MemorySpace.search.Goals as goal
+
+pub returns-clause-region : goal.returns-clause-region
+returns-clause-region g c =
+    let view : map region_of c.self.inside.regions.items ≡ c.args.self.now.regions = ap (λ s. s.regions) c.self.view_is in
+    rw (ap (λ xs. map region_of xs) c.deref.ensures.value ∙ view) at c.find-found.ensures.region
+
+pub returns-clause-counts : goal.returns-clause-counts
+returns-clause-counts g c =
+    let fields = c.self.inside.regions.items in
+    let order = c.self.inside.by_base.items in
+    let view : map region_of fields ≡ c.args.self.now.regions = ap (λ s. s.regions) c.self.view_is in
+    let few = rw c.deref.ensures.value at c.find-found.ensures.few in
+    let some = rw c.deref-2.ensures.value at c.find-found.ensures.some in
+    counts_search c.args.self.now _ fields order c.self.inside.looked_at (c.count_of-before.result + c.find-found.result.1) view c.self.invariant.1 (ap (λ s. s.looked_at) c.self.view_is) c.saturating_add-self-inside.ensures (omega (arith, few, c.count_of-before.ensures)) (λ any. omega (arith, some any))

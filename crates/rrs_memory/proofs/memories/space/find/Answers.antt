@@ -1,0 +1,83 @@
+use Rattle.std.proofs.Common.{◌≡◌, ◌+◌, ◌-◌, ◌/◌, ◌<◌, length, map, get_or, refl, arith}
+use Rattle.rrs_memory.specs.Spaces.{bounds, binary_digits}
+use Rattle.rrs_memory.specs.SpaceFields.{region_of}
+use Rattle.rrs_memory.proofs.RegionFields.{refuted}
+use Rattle.rrs_memory.proofs.SearchOrder.{digits_room, halved, order_few, begins_later, ends_earlier, field_base, field_found, field_ended, none_left}
+use Rattle.rrs_memory.proofs.memories.space.find.Goals as goal
+
+pub loop-low-init : goal.loop-low-init
+loop-low-init g c = record {
+  room = omega arith;
+  before = λ j none below. absurd (omega arith);
+  after = λ j past below. absurd (omega arith);
+  digits = omega arith;
+  left = digits_room (length c.args.by_base.now) (length c.args.regions.now) (order_few c.args.regions.now c.args.by_base.now c.requires);
+  fewer = omega arith;
+  some = λ none. omega arith;
+}
+
+pub returns-then-contains-clause-region : goal.returns-then-contains-clause-region
+returns-then-contains-clause-region g c =
+    let regions = c.args.regions.now in
+    let order = c.args.by_base.now in
+    let spans = map bounds (map region_of regions) in
+    let low = c.loop-low.low in
+    let high = c.loop-low.high in
+    let middle = low + (high - low - 1) / 2 in
+    let x = c.index-regions-index.result in
+    let old = c.loop-low.invariant in
+    let within : middle < length order = omega (arith, old.room, c.loop-low-test.true) in
+    let lies = c.contains.ensures.0 c.if-contains.true in
+    field_found regions order middle (get_or order middle 0) c.args.addr x c.requires within refl c.index-regions-index.is (lies.0) (lies.1) (omega arith)
+
+pub loop-low-preserved-then-region-addr : goal.loop-low-preserved-then-region-addr
+loop-low-preserved-then-region-addr g c =
+    let regions = c.args.regions.now in
+    let order = c.args.by_base.now in
+    let spans = map bounds (map region_of regions) in
+    let low = c.loop-low.low in
+    let high = c.loop-low.high in
+    let middle = low + (high - low - 1) / 2 in
+    let x = c.index-regions-index.result in
+    let old = c.loop-low.invariant in
+    let within : middle < length order = omega (arith, old.room, c.loop-low-test.true) in
+    let fewer_left : binary_digits (length regions) - (c.loop-low.compared + 1) ≡ binary_digits (length regions) - c.loop-low.compared - 1 = omega arith in
+    let half = halved (high - low) (high - (middle + 1)) (binary_digits (length regions) - c.loop-low.compared) (omega (arith, c.loop-low-test.true)) old.left (omega arith) in
+    let ended = field_ended regions order middle (get_or order middle 0) c.args.addr x c.requires within refl c.index-regions-index.is c.if-region-addr.true (refuted _ c.if-contains.false c.contains.ensures) in
+    record {
+      room = old.room;
+      before = λ j early below. ends_earlier spans order j middle c.args.addr c.requires (omega arith) within ended;
+      after = old.after;
+      digits = omega (arith, half.0, old.digits);
+      left = rw fewer_left (half.1);
+      fewer = omega (arith, old.fewer, c.loop-low-test.true);
+      some = λ none. absurd (omega arith);
+    }
+
+pub loop-low-preserved : goal.loop-low-preserved
+loop-low-preserved g c =
+    let regions = c.args.regions.now in
+    let order = c.args.by_base.now in
+    let spans = map bounds (map region_of regions) in
+    let low = c.loop-low.low in
+    let high = c.loop-low.high in
+    let middle = low + (high - low - 1) / 2 in
+    let x = c.index-regions-index.result in
+    let old = c.loop-low.invariant in
+    let within : middle < length order = omega (arith, old.room, c.loop-low-test.true) in
+    let fewer_left : binary_digits (length regions) - (c.loop-low.compared + 1) ≡ binary_digits (length regions) - c.loop-low.compared - 1 = omega arith in
+    let half = halved (high - low) (middle - low) (binary_digits (length regions) - c.loop-low.compared) (omega (arith, c.loop-low-test.true)) old.left (omega arith) in
+    let base = field_base regions order middle (get_or order middle 0) x c.requires within refl c.index-regions-index.is in
+    record {
+      room = omega (arith, within);
+      before = old.before;
+      after = λ j late below. begins_later spans order middle j c.args.addr x.base c.requires late below base c.if-region-addr.false;
+      digits = omega (arith, half.0, old.digits);
+      left = rw fewer_left (half.1);
+      fewer = omega (arith, old.fewer, c.loop-low-test.true);
+      some = λ none. absurd (omega arith);
+    }
+
+pub returns-clause-region : goal.returns-clause-region
+returns-clause-region g c =
+    none_left c.args.regions.now c.args.by_base.now c.loop-low.low c.loop-low.high c.args.addr c.requires c.loop-low-test.false c.loop-low.invariant.before c.loop-low.invariant.after

@@ -1,0 +1,11 @@
+-- Memory: bytes at addresses, what each memory keeps, and the memories of the kit.
+-- docs/READING.md leads through them.
+pub mod Bytes
+pub mod VecBytes
+pub mod Spaces
+pub mod Hexadecimal
+pub mod Loading
+pub mod LoadTexts
+-- The code as seen by these.
+pub mod SpaceFields
+pub mod SpaceLends
