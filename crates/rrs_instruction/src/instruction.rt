@@ -4,7 +4,6 @@
 //! one that a word is, and `process` hands it to an [InstructionProcessor].
 //! `process_instruction` is the one after the other.
 
-ghost use Rattle.std.specs.Prelude.{◌≡◌};
 ghost use Rattle.rrs_instruction.specs.Encodings.{HasRegisters};
 
 use crate::InstructionProcessor;

@@ -9,7 +9,7 @@
 //! A register number is between 0 and 31. An immediate is a number in two's complement, whose top
 //! bit is always bit 31 of the word. An offset is in bytes.
 
-ghost use Rattle.std.specs.Prelude.{◌≡◌, ℕ, ◌+◌, ◌-◌, ◌*◌, ◌/◌, ◌%◌, ◌^◌, ◌<◌, ◌≤◌, ℤ, pos, neg_ℤ, ◌≤ℤ◌, ◌<ℤ◌};
+ghost use Rattle.std.specs.Prelude.{◌≡◌, ◌+◌, ◌-◌, ◌/◌, ◌%◌, ◌^◌, ◌<◌, ◌≤◌, ℤ, pos, neg_ℤ, ◌≤ℤ◌, ◌<ℤ◌};
 ghost use Rattle.rrs_instruction.specs.Words.{floor_mod};
 ghost use Rattle.rrs_instruction.specs.Encodings.{R, I, IShamt, S, B, U, J, encode, IsInRange};
 

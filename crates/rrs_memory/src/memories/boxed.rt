@@ -1,8 +1,6 @@
 //! A memory behind a box.
 
-ghost use Rattle.std.specs.Prelude.{◌≡◌, ◌+◌, ◌%◌};
-ghost use Rattle.std.specs.Bool.{OnTrue, OnFalse};
-ghost use Rattle.rrs_memory.specs.Bytes.{width};
+ghost use Rattle.std.specs.Prelude.{◌≡◌, ◌+◌};
 
 use crate::{MemAccessSize, Memory};
 
