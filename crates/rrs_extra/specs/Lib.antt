@@ -9,7 +9,6 @@ pub use Rattle.rrs_lib.specs.Executor
 pub use Rattle.rrs_lib.specs.Accesses
 -- Processors: a row's number, and counts of rows.
 pub mod Numbering
-pub mod Counting
 -- A memory of pages.
 pub mod Pages
 pub mod PageFields
@@ -20,4 +19,3 @@ pub mod Agreement
 pub mod Showing
 pub mod Programs
 pub mod Printing
-pub mod ProgramExamples

@@ -2,9 +2,8 @@
 //!
 //! [RowNumberer] names the row of the table that a word is: its number, 1 to [ROW_COUNT].
 //! [PagedMemory] is a memory of pages, some of whose words are read-only. The functions of [laws]
-//! have contracts that relate what several calls of the kit return, or say what a program does. The
-//! tests have a processor that counts the calls of each row, and `docs/PROCESSORS.md` says how to
-//! write one; `docs/PROGRAMS.md` says how to prove a program.
+//! have contracts that relate what several calls of the kit return, or say what a program does;
+//! `docs/PROGRAMS.md` says how to prove one.
 
 #![tactic(auto)]
 
@@ -226,14 +225,3 @@ impl InstructionProcessor for RowNumberer {
         48
     }
 }
-
-#[cfg(test)]
-mod call_counter;
-#[cfg(test)]
-mod count_down;
-#[cfg(test)]
-mod coverage;
-#[cfg(test)]
-mod output_port;
-#[cfg(test)]
-mod tests;

@@ -201,6 +201,3 @@ impl Memory for PagedMemory {
         }
     }
 }
-
-#[cfg(test)]
-mod tests;

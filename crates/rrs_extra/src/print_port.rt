@@ -146,6 +146,3 @@ impl Memory for RamOrPort {
         }
     }
 }
-
-#[cfg(test)]
-mod tests;

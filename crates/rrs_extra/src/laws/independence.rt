@@ -84,6 +84,3 @@ pub fn same_bytes(pages: &PagedMemory, words: &VecMemory, k: u32)
 {
     let _ = pages.page_count();
 }
-
-#[cfg(test)]
-mod tests;

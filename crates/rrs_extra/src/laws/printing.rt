@@ -79,6 +79,3 @@ pub fn print_string(
     registers_of_call(executor.hart_state);
     put_string(executor, text)
 }
-
-#[cfg(test)]
-mod tests;

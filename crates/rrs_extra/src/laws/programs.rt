@@ -95,6 +95,3 @@ pub(super) fn registers_of_call(hart: &HartState)
         hart.read_register(11),
     );
 }
-
-#[cfg(test)]
-mod tests;

@@ -57,6 +57,3 @@ fn text_at(alloc: Global, insn_pc: u32, word: u32) -> Option<Result<String, Allo
     let mut outputter = InstructionStringOutputter { insn_pc, alloc };
     process_instruction(&mut outputter, word)
 }
-
-#[cfg(test)]
-mod tests;

@@ -1,0 +1,4 @@
+pub mod CountDown
+pub mod ProgramExamples
+pub mod ExampleShowing
+pub mod PageExamples

@@ -1,0 +1,270 @@
+//! The same steps over memories of different kinds.
+
+ghost use Rattle.std.specs.Prelude.{◌≡◌, ◌∷◌, [], IfOk, vec_len, replicate, false};
+ghost use Rattle.rrs_extra.specs.Pages.{page};
+
+use rrs_extra::PagedMemory;
+use rrs_extra::laws::{agree_each, same_bytes, same_run};
+use rrs_lib::instruction_executor::{InstructionException, InstructionExecutor, RunEnd};
+use rrs_lib::memories::{BoxedMemory, MemorySpace, VecMemory};
+use rrs_lib::{HartState, Memory};
+use std::alloc::{AllocError, Global};
+use std::test::Fail;
+
+/// A memory of page 0 alone.
+fn one_page(alloc: Global, words: Vec<u32>, read_only: Vec<bool>) -> Result<PagedMemory, AllocError>
+    requires words_long { vec_len words ≡ 1024 }
+    requires marks_long { vec_len read_only ≡ 1024 }
+    ensures { IfOk result (λ pages. pages ≡ page 0 words.items read_only.items ∷ []) }
+{
+    let mut pages = PagedMemory::new(alloc);
+    match pages.add_page(0, words, read_only) {
+        Ok(()) => Ok(pages),
+        Err(_) => Err(AllocError),
+    }
+}
+
+#[test]
+fn a_page_and_its_words_answer_alike(rt: HostRuntime) -> Result<(), Fail> {
+    let alloc = rt.alloc();
+    let mut words = [0; 1024];
+    words[0] = 0x1234_b137;
+    words[1] = 0xf387_e1b7;
+    words[2] = 0x0031_00b3;
+    let unmarked = Vec::from_slice(alloc, &[false; 1024])?;
+    let mut pages = one_page(alloc, words.to_vec(alloc)?, unmarked)?;
+    let mut memory = VecMemory::new(words.to_vec(alloc)?);
+    same_bytes(&pages, &memory, 1);
+    let mut first_hart = HartState::new();
+    let mut second_hart = HartState::new();
+    let mut first = InstructionExecutor {
+        mem: &mut pages,
+        hart_state: &mut first_hart,
+    };
+    let mut second = InstructionExecutor {
+        mem: &mut memory,
+        hart_state: &mut second_hart,
+    };
+    let mut first_answers = [Ok(()), Ok(()), Ok(()), Ok(())];
+    let mut second_answers = [Ok(()), Ok(()), Ok(()), Ok(())];
+    agree_each(
+        &mut first,
+        &mut second,
+        &mut first_answers,
+        &mut second_answers,
+    );
+    let expected = [
+        Ok(()),
+        Ok(()),
+        Ok(()),
+        Err(InstructionException::IllegalInstruction(0xc, 0)),
+    ];
+    assert_eq!(rt; first_answers.as_slice(), expected.as_slice());
+    assert_eq!(rt; second_answers.as_slice(), expected.as_slice());
+    Ok(())
+}
+
+/// A program that loads the word at 8, stores it at 12, and loads that again twice.
+const PROGRAM: [u32; 4] = [0x0080_2083, 0x0010_2623, 0x00c0_2103, 0];
+
+/// Five steps from address 0 over each of two memories with the same bytes and writable addresses.
+fn five_steps<A: Memory, B: Memory>(
+    first: &mut A,
+    second: &mut B,
+    first_answers: &mut [Result<(), InstructionException>; 5],
+    second_answers: &mut [Result<(), InstructionException>; 5],
+)
+    requires bytes { A.bytes first.old ≡ B.bytes second.old }
+    requires writable { A.writable first.old ≡ B.writable second.old }
+{
+    let mut first_hart = HartState::new();
+    let mut second_hart = HartState::new();
+    let mut first_machine = InstructionExecutor {
+        mem: first,
+        hart_state: &mut first_hart,
+    };
+    let mut second_machine = InstructionExecutor {
+        mem: second,
+        hart_state: &mut second_hart,
+    };
+    agree_each(
+        &mut first_machine,
+        &mut second_machine,
+        first_answers,
+        second_answers,
+    );
+}
+
+/// The answers of the program, over memories of its four words.
+const PROGRAM_ANSWERS: [Result<(), InstructionException>; 5] = [
+    Ok(()),
+    Ok(()),
+    Ok(()),
+    Ok(()),
+    Err(InstructionException::FetchError(16)),
+];
+
+#[test]
+fn a_box_answers_as_what_it_holds(rt: HostRuntime) -> Result<(), Fail> {
+    let alloc = rt.alloc();
+    let held = VecMemory::new(PROGRAM.to_vec(alloc)?);
+    let mut boxed = BoxedMemory {
+        memory: Box::new(alloc, held)?,
+    };
+    let mut memory = VecMemory::new(PROGRAM.to_vec(alloc)?);
+    let mut first_answers = [Ok(()), Ok(()), Ok(()), Ok(()), Ok(())];
+    let mut second_answers = [Ok(()), Ok(()), Ok(()), Ok(()), Ok(())];
+    five_steps(
+        &mut boxed,
+        &mut memory,
+        &mut first_answers,
+        &mut second_answers,
+    );
+    assert_eq!(rt; first_answers.as_slice(), PROGRAM_ANSWERS.as_slice());
+    assert_eq!(rt; second_answers.as_slice(), PROGRAM_ANSWERS.as_slice());
+    Ok(())
+}
+
+/// A space of one region, at address 0.
+fn space_around<M: Memory + Drop>(
+    alloc: Global,
+    size: u32,
+    memory: M,
+) -> Result<MemorySpace<M>, AllocError>
+    ensures { IfOk result (λ space.
+        space.regions ≡ record { base = 0; size = size; memory = memory } ∷ []) }
+{
+    let mut space = MemorySpace::new(alloc);
+    match space.add_memory(0, size, memory) {
+        Ok(_) => Ok(space),
+        Err(_) => Err(AllocError),
+    }
+}
+
+/// A space of two regions of two words each, one after the other.
+fn two_regions(
+    alloc: Global,
+    first: VecMemory,
+    second: VecMemory,
+) -> Result<MemorySpace<VecMemory>, AllocError>
+    ensures { IfOk result (λ space. space.regions ≡ record { base = 0; size = 8; memory = first }
+        ∷ record { base = 8; size = 8; memory = second } ∷ []) }
+{
+    let mut space = space_around(alloc, 8, first)?;
+    match space.add_memory(8, 8, second) {
+        Ok(_) => Ok(space),
+        Err(_) => Err(AllocError),
+    }
+}
+
+#[test]
+fn two_regions_answer_as_all_their_words(rt: HostRuntime) -> Result<(), Fail> {
+    let alloc = rt.alloc();
+    let first = VecMemory::new(Vec::from_slice(alloc, &PROGRAM[..2])?);
+    let second = VecMemory::new(Vec::from_slice(alloc, &PROGRAM[2..])?);
+    let mut space = two_regions(alloc, first, second)?;
+    let mut memory = VecMemory::new(Vec::from_slice(alloc, &PROGRAM)?);
+    let mut first_answers = [Ok(()), Ok(()), Ok(()), Ok(()), Ok(())];
+    let mut second_answers = [Ok(()), Ok(()), Ok(()), Ok(()), Ok(())];
+    five_steps(
+        &mut space,
+        &mut memory,
+        &mut first_answers,
+        &mut second_answers,
+    );
+    assert_eq!(rt; first_answers.as_slice(), PROGRAM_ANSWERS.as_slice());
+    assert_eq!(rt; second_answers.as_slice(), PROGRAM_ANSWERS.as_slice());
+    Ok(())
+}
+
+#[test]
+fn a_space_in_a_space_answers_as_its_words(rt: HostRuntime) -> Result<(), Fail> {
+    let alloc = rt.alloc();
+    let words = VecMemory::new(Vec::from_slice(alloc, &PROGRAM)?);
+    let inner = space_around(alloc, 16, words)?;
+    let mut space = space_around(alloc, 16, inner)?;
+    let mut memory = VecMemory::new(Vec::from_slice(alloc, &PROGRAM)?);
+    let mut first_answers = [Ok(()), Ok(()), Ok(()), Ok(()), Ok(())];
+    let mut second_answers = [Ok(()), Ok(()), Ok(()), Ok(()), Ok(())];
+    five_steps(
+        &mut space,
+        &mut memory,
+        &mut first_answers,
+        &mut second_answers,
+    );
+    assert_eq!(rt; first_answers.as_slice(), PROGRAM_ANSWERS.as_slice());
+    assert_eq!(rt; second_answers.as_slice(), PROGRAM_ANSWERS.as_slice());
+    Ok(())
+}
+
+// A word that is read-only is no part of a memory of the same words: there the store is made.
+#[test]
+fn what_is_writable_tells_memories_apart(rt: HostRuntime) -> Result<(), Fail> {
+    let alloc = rt.alloc();
+    let mut words = [0; 1024];
+    words[0] = 0x0000_2223;
+    words[1] = 5;
+    let mut marks = [false; 1024];
+    marks[1] = true;
+    let marks = Vec::from_slice(alloc, &marks)?;
+    let mut pages = one_page(alloc, Vec::from_slice(alloc, &words)?, marks)?;
+    let mut memory = VecMemory::new(Vec::from_slice(alloc, &words)?);
+    let mut first_hart = HartState::new();
+    let mut first = InstructionExecutor {
+        mem: &mut pages,
+        hart_state: &mut first_hart,
+    };
+    let fault = Err(InstructionException::StoreAccessFault(4));
+    assert_eq!(rt; first.step(), fault);
+    assert_eq!(rt; first.hart_state.pc, 0);
+    let mut second_hart = HartState::new();
+    let mut second = InstructionExecutor {
+        mem: &mut memory,
+        hart_state: &mut second_hart,
+    };
+    assert_eq!(rt; second.step(), Ok(()));
+    assert_eq!(rt; second.hart_state.pc, 4);
+    Ok(())
+}
+
+/// Runs the program to a limit over each of two memories with the same bytes and writable
+/// addresses.
+fn both_runs<A: Memory, B: Memory>(first: &mut A, second: &mut B, limit: u64) -> (RunEnd, RunEnd)
+    requires bytes { A.bytes first.old ≡ B.bytes second.old }
+    requires writable { A.writable first.old ≡ B.writable second.old }
+    ensures { result.0 ≡ result.1 }
+{
+    let mut first_hart = HartState::new();
+    let mut second_hart = HartState::new();
+    let mut first_machine = InstructionExecutor {
+        mem: first,
+        hart_state: &mut first_hart,
+    };
+    let mut second_machine = InstructionExecutor {
+        mem: second,
+        hart_state: &mut second_hart,
+    };
+    same_run(&mut first_machine, &mut second_machine, limit)
+}
+
+#[test]
+fn runs_to_one_limit_end_alike(rt: HostRuntime) -> Result<(), Fail> {
+    let alloc = rt.alloc();
+    for (limit, steps, exception) in [
+        (0, 0, None),
+        (3, 3, None),
+        (4, 4, None),
+        (10, 4, Some(InstructionException::FetchError(16))),
+    ] {
+        let mut memory = VecMemory::new(PROGRAM.to_vec(alloc)?);
+        let held = VecMemory::new(PROGRAM.to_vec(alloc)?);
+        let mut boxed = BoxedMemory {
+            memory: Box::new(alloc, held)?,
+        };
+        let ends = both_runs(&mut memory, &mut boxed, limit);
+        let expected = RunEnd { steps, exception };
+        assert_eq!(rt; ends.0, expected, "limit {limit}");
+        assert_eq!(rt; ends.1, expected, "limit {limit}");
+    }
+    Ok(())
+}

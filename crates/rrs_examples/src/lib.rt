@@ -1,0 +1,31 @@
+//! The examples of the pages under `docs/`, and the tests of `rrs_extra`.
+//!
+//! They are written as a user's crate would be: over what `rrs_lib` and `rrs_extra` offer to every
+//! crate. The processor `call_counter` and its use in `coverage` are those of `docs/PROCESSORS.md`,
+//! the device `output_port` that of `docs/MEMORIES.md`, and `count_down` the program that
+//! `docs/PROGRAMS.md` proves step by step. All of it is built with the tests.
+
+#![tactic(auto)]
+
+#[cfg(test)]
+mod call_counter;
+#[cfg(test)]
+mod count_down;
+#[cfg(test)]
+mod coverage;
+#[cfg(test)]
+mod independence;
+#[cfg(test)]
+mod output_port;
+#[cfg(test)]
+mod pages;
+#[cfg(test)]
+mod ports;
+#[cfg(test)]
+mod printing;
+#[cfg(test)]
+mod programs;
+#[cfg(test)]
+mod rows;
+#[cfg(test)]
+mod texts;
