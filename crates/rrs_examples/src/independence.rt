@@ -59,21 +59,19 @@ fn a_page_and_its_words_answer_alike(rt: HostRuntime) -> Result<(), Fail> {
         Ok(()),
         Err(InstructionException::IllegalInstruction(0xc, 0)),
     ];
-    assert_eq!(rt; first_answers.as_slice(), expected.as_slice());
-    assert_eq!(rt; second_answers.as_slice(), expected.as_slice());
+    let answers = (first_answers.as_slice(), second_answers.as_slice());
+    assert_eq!(rt; answers, (expected.as_slice(), expected.as_slice()));
     Ok(())
 }
 
 /// A program that loads the word at 8, stores it at 12, and loads that again twice.
 const PROGRAM: [u32; 4] = [0x0080_2083, 0x0010_2623, 0x00c0_2103, 0];
 
+/// What five steps from address 0 answer.
+type FiveAnswers = [Result<(), InstructionException>; 5];
+
 /// Five steps from address 0 over each of two memories with the same bytes and writable addresses.
-fn five_steps<A: Memory, B: Memory>(
-    first: &mut A,
-    second: &mut B,
-    first_answers: &mut [Result<(), InstructionException>; 5],
-    second_answers: &mut [Result<(), InstructionException>; 5],
-)
+fn five_steps<A: Memory, B: Memory>(first: &mut A, second: &mut B) -> (FiveAnswers, FiveAnswers)
     requires bytes { A.bytes first.old ≡ B.bytes second.old }
     requires writable { A.writable first.old ≡ B.writable second.old }
 {
@@ -87,16 +85,19 @@ fn five_steps<A: Memory, B: Memory>(
         mem: second,
         hart_state: &mut second_hart,
     };
+    let mut first_answers = [Ok(()), Ok(()), Ok(()), Ok(()), Ok(())];
+    let mut second_answers = [Ok(()), Ok(()), Ok(()), Ok(()), Ok(())];
     agree_each(
         &mut first_machine,
         &mut second_machine,
-        first_answers,
-        second_answers,
+        &mut first_answers,
+        &mut second_answers,
     );
+    (first_answers, second_answers)
 }
 
 /// The answers of the program, over memories of its four words.
-const PROGRAM_ANSWERS: [Result<(), InstructionException>; 5] = [
+const PROGRAM_ANSWERS: FiveAnswers = [
     Ok(()),
     Ok(()),
     Ok(()),
@@ -112,16 +113,10 @@ fn a_box_answers_as_what_it_holds(rt: HostRuntime) -> Result<(), Fail> {
         memory: Box::new(alloc, held)?,
     };
     let mut memory = VecMemory::new(PROGRAM.to_vec(alloc)?);
-    let mut first_answers = [Ok(()), Ok(()), Ok(()), Ok(()), Ok(())];
-    let mut second_answers = [Ok(()), Ok(()), Ok(()), Ok(()), Ok(())];
-    five_steps(
-        &mut boxed,
-        &mut memory,
-        &mut first_answers,
-        &mut second_answers,
-    );
-    assert_eq!(rt; first_answers.as_slice(), PROGRAM_ANSWERS.as_slice());
-    assert_eq!(rt; second_answers.as_slice(), PROGRAM_ANSWERS.as_slice());
+    let (first, second) = five_steps(&mut boxed, &mut memory);
+    let answers = (first.as_slice(), second.as_slice());
+    let expected = PROGRAM_ANSWERS.as_slice();
+    assert_eq!(rt; answers, (expected, expected));
     Ok(())
 }
 
@@ -164,16 +159,10 @@ fn two_regions_answer_as_all_their_words(rt: HostRuntime) -> Result<(), Fail> {
     let second = VecMemory::new(Vec::from_slice(alloc, &PROGRAM[2..])?);
     let mut space = two_regions(alloc, first, second)?;
     let mut memory = VecMemory::new(Vec::from_slice(alloc, &PROGRAM)?);
-    let mut first_answers = [Ok(()), Ok(()), Ok(()), Ok(()), Ok(())];
-    let mut second_answers = [Ok(()), Ok(()), Ok(()), Ok(()), Ok(())];
-    five_steps(
-        &mut space,
-        &mut memory,
-        &mut first_answers,
-        &mut second_answers,
-    );
-    assert_eq!(rt; first_answers.as_slice(), PROGRAM_ANSWERS.as_slice());
-    assert_eq!(rt; second_answers.as_slice(), PROGRAM_ANSWERS.as_slice());
+    let (first, second) = five_steps(&mut space, &mut memory);
+    let answers = (first.as_slice(), second.as_slice());
+    let expected = PROGRAM_ANSWERS.as_slice();
+    assert_eq!(rt; answers, (expected, expected));
     Ok(())
 }
 
@@ -184,17 +173,22 @@ fn a_space_in_a_space_answers_as_its_words(rt: HostRuntime) -> Result<(), Fail> 
     let inner = space_around(alloc, 16, words)?;
     let mut space = space_around(alloc, 16, inner)?;
     let mut memory = VecMemory::new(Vec::from_slice(alloc, &PROGRAM)?);
-    let mut first_answers = [Ok(()), Ok(()), Ok(()), Ok(()), Ok(())];
-    let mut second_answers = [Ok(()), Ok(()), Ok(()), Ok(()), Ok(())];
-    five_steps(
-        &mut space,
-        &mut memory,
-        &mut first_answers,
-        &mut second_answers,
-    );
-    assert_eq!(rt; first_answers.as_slice(), PROGRAM_ANSWERS.as_slice());
-    assert_eq!(rt; second_answers.as_slice(), PROGRAM_ANSWERS.as_slice());
+    let (first, second) = five_steps(&mut space, &mut memory);
+    let answers = (first.as_slice(), second.as_slice());
+    let expected = PROGRAM_ANSWERS.as_slice();
+    assert_eq!(rt; answers, (expected, expected));
     Ok(())
+}
+
+/// A step from address 0: its answer, and the pc after it.
+fn one_step<M: Memory>(mem: &mut M) -> (Result<(), InstructionException>, u32) {
+    let mut hart = HartState::new();
+    let mut executor = InstructionExecutor {
+        mem,
+        hart_state: &mut hart,
+    };
+    let answer = executor.step();
+    (answer, hart.pc)
 }
 
 // A word that is read-only is no part of a memory of the same words: there the store is made.
@@ -209,21 +203,9 @@ fn what_is_writable_tells_memories_apart(rt: HostRuntime) -> Result<(), Fail> {
     let marks = Vec::from_slice(alloc, &marks)?;
     let mut pages = one_page(alloc, Vec::from_slice(alloc, &words)?, marks)?;
     let mut memory = VecMemory::new(Vec::from_slice(alloc, &words)?);
-    let mut first_hart = HartState::new();
-    let mut first = InstructionExecutor {
-        mem: &mut pages,
-        hart_state: &mut first_hart,
-    };
+    let steps = (one_step(&mut pages), one_step(&mut memory));
     let fault = Err(InstructionException::StoreAccessFault(4));
-    assert_eq!(rt; first.step(), fault);
-    assert_eq!(rt; first.hart_state.pc, 0);
-    let mut second_hart = HartState::new();
-    let mut second = InstructionExecutor {
-        mem: &mut memory,
-        hart_state: &mut second_hart,
-    };
-    assert_eq!(rt; second.step(), Ok(()));
-    assert_eq!(rt; second.hart_state.pc, 4);
+    assert_eq!(rt; steps, ((fault, 0), (Ok(()), 4)));
     Ok(())
 }
 
@@ -263,8 +245,8 @@ fn runs_to_one_limit_end_alike(rt: HostRuntime) -> Result<(), Fail> {
         };
         let ends = both_runs(&mut memory, &mut boxed, limit);
         let expected = RunEnd { steps, exception };
-        assert_eq!(rt; ends.0, expected, "limit {limit}");
-        assert_eq!(rt; ends.1, expected, "limit {limit}");
+        let both = (&ends.0, &ends.1);
+        assert_eq!(rt; both, (&expected, &expected), "limit {limit}");
     }
     Ok(())
 }

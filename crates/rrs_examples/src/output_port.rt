@@ -140,20 +140,21 @@ fn a_program_writes_to_the_port(rt: HostRuntime) -> Result<(), Fail> {
     let alloc = rt.alloc();
     let words = VecMemory::new(PROGRAM.to_vec(alloc)?);
     let mut space = MemorySpace::new(alloc);
-    assert_eq!(rt; space.add_memory(0, 0x20, Part::Words(words)), Ok(0));
+    let words_at = space.add_memory(0, 0x20, Part::Words(words));
     let port = OutputPort { last: 0, writes: 0 };
-    assert_eq!(rt; space.add_memory(0x1000, 4, Part::Port(port)), Ok(1));
+    let port_at = space.add_memory(0x1000, 4, Part::Port(port));
+    assert_eq!(rt; (words_at, port_at), (Ok(0), Ok(1)));
     let mut hart = HartState::new();
     let mut executor = InstructionExecutor {
         mem: &mut space,
         hart_state: &mut hart,
     };
-    assert_eq!(rt; executor.run(10), end_of_program());
-    assert_eq!(rt; hart.registers[3], 65);
+    let end = executor.run(10);
     let Some(Part::Port(port)) = space.get_memory_ref(1) else {
         return Err(Fail::from("region 1 is not the port"));
     };
-    assert_eq!(rt; (port.last, port.writes), (66, 2));
+    let left = (end, hart.registers[3], port.last, port.writes);
+    assert_eq!(rt; left, (end_of_program(), 65, 66, 2));
     Ok(())
 }
 
@@ -170,14 +171,16 @@ fn a_program_writes_to_a_boxed_port(rt: HostRuntime) -> Result<(), Fail> {
     let port_box = BoxedMemory {
         memory: Box::new(alloc, port)?,
     };
-    assert_eq!(rt; space.add_memory(0, 0x20, program_box), Ok(0));
-    assert_eq!(rt; space.add_memory(0x1000, 4, port_box), Ok(1));
+    let words_at = space.add_memory(0, 0x20, program_box);
+    let port_at = space.add_memory(0x1000, 4, port_box);
+    assert_eq!(rt; (words_at, port_at), (Ok(0), Ok(1)));
     let mut hart = HartState::new();
     let mut executor = InstructionExecutor {
         mem: &mut space,
         hart_state: &mut hart,
     };
-    assert_eq!(rt; executor.run(10), end_of_program());
-    assert_eq!(rt; space.read_mem(0x1000, MemAccessSize::Byte), Some(66));
+    let end = executor.run(10);
+    let read = space.read_mem(0x1000, MemAccessSize::Byte);
+    assert_eq!(rt; (end, read), (end_of_program(), Some(66)));
     Ok(())
 }

@@ -36,23 +36,25 @@ fn a_page_is_read_and_written_but_for_its_read_only_word(rt: HostRuntime) -> Res
     let alloc = rt.alloc();
     let mut memory = PagedMemory::new(alloc);
     let words = words_of(alloc, &[0, 0xdead_beef])?;
-    assert_eq!(rt; memory.add_page(0, words, one_read_only(alloc, 1)?), Ok(()));
+    let added = memory.add_page(0, words, one_read_only(alloc, 1)?);
     let others = words_of(alloc, &[1, 2, 3])?;
-    assert_eq!(rt;
-        memory.add_page(0, others, one_read_only(alloc, 2)?),
-        Err(PageError::PageTaken)
-    );
-    assert_eq!(rt; memory.page_count(), 1);
-    assert_eq!(rt; memory.read_mem(7, MemAccessSize::Byte), Some(0xde));
-    assert!(rt; !memory.write_mem(7, MemAccessSize::Byte, 0));
-    assert!(rt; !memory.write_mem(4, MemAccessSize::Word, 0));
-    assert_eq!(rt; memory.read_mem(4, MemAccessSize::Word), Some(0xdead_beef));
-    assert!(rt; memory.write_mem(8, MemAccessSize::Word, 5));
-    assert_eq!(rt; memory.read_mem(8, MemAccessSize::Word), Some(5));
-    assert!(rt; memory.write_mem(4092, MemAccessSize::HalfWord, 0x1_2345));
-    assert_eq!(rt; memory.read_mem(4092, MemAccessSize::Word), Some(0x2345));
-    assert_eq!(rt; memory.read_mem(4096, MemAccessSize::Word), None);
-    assert!(rt; !memory.write_mem(4096, MemAccessSize::Byte, 1));
+    let again = memory.add_page(0, others, one_read_only(alloc, 2)?);
+    let pages = (added, again, memory.page_count());
+    assert_eq!(rt; pages, (Ok(()), Err(PageError::PageTaken), 1));
+    let before = memory.read_mem(7, MemAccessSize::Byte);
+    let byte = memory.write_mem(7, MemAccessSize::Byte, 0);
+    let word = memory.write_mem(4, MemAccessSize::Word, 0);
+    let after = memory.read_mem(4, MemAccessSize::Word);
+    let read_only = (before, byte, word, after);
+    assert_eq!(rt; read_only, (Some(0xde), false, false, Some(0xdead_beef)));
+    let written = memory.write_mem(8, MemAccessSize::Word, 5);
+    let word = (written, memory.read_mem(8, MemAccessSize::Word));
+    let written = memory.write_mem(4092, MemAccessSize::HalfWord, 0x1_2345);
+    let last = (written, memory.read_mem(4092, MemAccessSize::Word));
+    assert_eq!(rt; (word, last), ((true, Some(5)), (true, Some(0x2345))));
+    let read = memory.read_mem(4096, MemAccessSize::Word);
+    let outside = (read, memory.write_mem(4096, MemAccessSize::Byte, 1));
+    assert_eq!(rt; outside, (None, false));
     Ok(())
 }
 
@@ -86,17 +88,14 @@ fn a_refused_page_may_be_added_again(rt: HostRuntime) -> Result<(), Fail> {
         let (words, marks) = some_page(alloc, number + 100)?;
         let mut added = memory.add_page(number, words, marks);
         if added == Err(PageError::OutOfMemory) {
-            assert_eq!(rt; memory.page_count(), count as usize);
-            assert!(rt; !memory.has_page(number));
+            let left = (memory.page_count(), memory.has_page(number));
+            assert_eq!(rt; left, (count as usize, false));
             let (words, marks) = some_page(alloc, number + 100)?;
             added = memory.add_page(number, words, marks);
         }
-        assert_eq!(rt; added, Ok(()));
         let (words, marks) = some_page(alloc, 0)?;
-        assert_eq!(rt;
-            memory.add_page(number, words, marks),
-            Err(PageError::PageTaken)
-        );
+        let again = memory.add_page(number, words, marks);
+        assert_eq!(rt; (added, again), (Ok(()), Err(PageError::PageTaken)));
     }
     for number in 0..13 {
         let first = memory.read_mem(number * 4096, MemAccessSize::Word);
@@ -116,12 +115,15 @@ fn pages_are_added_in_any_order(rt: HostRuntime) -> Result<(), Fail> {
             Ok(())
         );
     }
-    assert_eq!(rt; memory.page_count(), 4);
     for number in [0, 3, 7, 0xfffff] {
         let read = memory.read_mem(number << 12, MemAccessSize::Word);
         assert_eq!(rt; read, Some(number + 1), "page {number:#x}");
     }
-    assert_eq!(rt; memory.read_mem(0x1000, MemAccessSize::Word), None);
+    let left = (
+        memory.page_count(),
+        memory.read_mem(0x1000, MemAccessSize::Word),
+    );
+    assert_eq!(rt; left, (4, None));
     Ok(())
 }
 
@@ -131,19 +133,18 @@ fn a_program_runs_off_the_last_page(rt: HostRuntime) -> Result<(), Fail> {
     let mut memory = PagedMemory::new(alloc);
     let mut words = words_of(alloc, &[])?;
     words[1023] = 0x0000_0013;
-    assert_eq!(rt;
-        memory.add_page(0xfffff, words, one_read_only(alloc, 1023)?),
-        Ok(())
-    );
+    let added = memory.add_page(0xfffff, words, one_read_only(alloc, 1023)?);
     let mut hart = HartState::new();
     hart.pc = 0xffff_fffc;
     let mut executor = InstructionExecutor {
         mem: &mut memory,
         hart_state: &mut hart,
     };
-    assert_eq!(rt; executor.step(), Ok(()));
-    assert_eq!(rt; executor.hart_state.pc, 0);
-    assert_eq!(rt; executor.step(), Err(InstructionException::FetchError(0)));
+    let first = executor.step();
+    let pc = executor.hart_state.pc;
+    let left = (added, first, pc, executor.step());
+    let fault = Err(InstructionException::FetchError(0));
+    assert_eq!(rt; left, (Ok(()), Ok(()), 0, fault));
     Ok(())
 }
 
@@ -152,7 +153,7 @@ fn a_store_to_a_read_only_word_faults(rt: HostRuntime) -> Result<(), Fail> {
     let alloc = rt.alloc();
     let mut memory = PagedMemory::new(alloc);
     let words = words_of(alloc, &[0x0000_2223, 5])?;
-    assert_eq!(rt; memory.add_page(0, words, one_read_only(alloc, 1)?), Ok(()));
+    let added = memory.add_page(0, words, one_read_only(alloc, 1)?);
     let mut hart = HartState::new();
     let mut executor = InstructionExecutor {
         mem: &mut memory,
@@ -164,8 +165,9 @@ fn a_store_to_a_read_only_word_faults(rt: HostRuntime) -> Result<(), Fail> {
         Err(InstructionException::StoreAccessFault(4)),
         Err(InstructionException::StoreAccessFault(4)),
     ];
-    assert_eq!(rt; answers.as_slice(), fault.as_slice());
-    assert_eq!(rt; executor.hart_state.pc, 0);
-    assert_eq!(rt; memory.read_mem(4, MemAccessSize::Word), Some(5));
+    let pc = executor.hart_state.pc;
+    let read = memory.read_mem(4, MemAccessSize::Word);
+    let left = (added, answers.as_slice(), pc, read);
+    assert_eq!(rt; left, (Ok(()), fault.as_slice(), 0, Some(5)));
     Ok(())
 }

@@ -62,12 +62,9 @@ fn prints_a_string(rt: HostRuntime) -> Result<(), Fail> {
     let mut memory = words_to_print(rt.alloc())?;
     let mut hart = HartState::new();
     let end = print(&mut memory, &mut hart, 28, 46, b"Hello, RISC-V!");
-    assert_eq!(rt; end, end_after(73));
-    assert_eq!(rt;
-        (hart.pc, hart.registers[11], hart.registers[15]),
-        (24, 42, 0)
-    );
-    assert_eq!(rt; memory.mem.get(11), Some(&0x55215555));
+    let registers = (hart.pc, hart.registers[11], hart.registers[15]);
+    let left = (end, registers, memory.mem.get(11).copied());
+    assert_eq!(rt; left, (end_after(73), (24, 42, 0), Some(0x55215555)));
     Ok(())
 }
 
@@ -76,8 +73,8 @@ fn prints_one_byte(rt: HostRuntime) -> Result<(), Fail> {
     let mut memory = words_to_print(rt.alloc())?;
     let mut hart = HartState::new();
     let end = print(&mut memory, &mut hart, 41, 44, b"!");
-    assert_eq!(rt; end, end_after(8));
-    assert_eq!(rt; memory.mem.get(11), Some(&0x55555521));
+    let left = (end, memory.mem.get(11).copied());
+    assert_eq!(rt; left, (end_after(8), Some(0x55555521)));
     Ok(())
 }
 
@@ -86,8 +83,8 @@ fn prints_nothing(rt: HostRuntime) -> Result<(), Fail> {
     let mut memory = words_to_print(rt.alloc())?;
     let mut hart = HartState::new();
     let end = print(&mut memory, &mut hart, 42, 44, b"");
-    assert_eq!(rt; end, end_after(3));
-    assert_eq!(rt; memory.mem.get(11), Some(&0x55555555));
+    let left = (end, memory.mem.get(11).copied());
+    assert_eq!(rt; left, (end_after(3), Some(0x55555555)));
     Ok(())
 }
 
@@ -122,15 +119,15 @@ fn run_from(space: &mut MemorySpace<RamOrPort>, from: u32, port: u32) -> RunEnd 
 #[test]
 fn a_port_logs_what_is_printed(rt: HostRuntime) -> Result<(), Fail> {
     let mut space = machine(rt.alloc(), 20)?;
-    assert_eq!(rt; run_from(&mut space, 42, 0x1000_0000), end_after(3));
-    assert_eq!(rt; run_from(&mut space, 28, 0x1000_0000), end_after(73));
-    assert_eq!(rt; run_from(&mut space, 41, 0x1000_0000), end_after(8));
-    assert_eq!(rt; run_from(&mut space, 35, 0x1000_0000), end_after(38));
+    for (from, steps) in [(42, 3), (28, 73), (41, 8), (35, 38)] {
+        let end = run_from(&mut space, from, 0x1000_0000);
+        assert_eq!(rt; end, end_after(steps), "of the string at {from}");
+    }
     let Some(RamOrPort::Port(port)) = space.get_memory_ref(1) else {
         return Err(Fail::from("region 1 is not the port"));
     };
-    assert_eq!(rt; port.log.as_slice(), b"Hello, RISC-V!!RISC-".as_slice());
-    assert_eq!(rt; (port.last, port.lost), (0x21, 2));
+    let left = (port.log.as_slice(), port.last, port.lost);
+    assert_eq!(rt; left, (b"Hello, RISC-V!!RISC-".as_slice(), 0x21, 2));
     Ok(())
 }
 
@@ -138,14 +135,14 @@ fn a_port_logs_what_is_printed(rt: HostRuntime) -> Result<(), Fail> {
 #[test]
 fn the_port_is_one_byte(rt: HostRuntime) -> Result<(), Fail> {
     let mut space = machine(rt.alloc(), 20)?;
-    let end = RunEnd {
-        steps: 3,
-        exception: Some(InstructionException::StoreAccessFault(0x1000_0001)),
-    };
-    assert_eq!(rt; run_from(&mut space, 28, 0x1000_0001), end);
+    let end = run_from(&mut space, 28, 0x1000_0001);
     let Some(RamOrPort::Port(port)) = space.get_memory_ref(1) else {
         return Err(Fail::from("region 1 is not the port"));
     };
-    assert_eq!(rt; port.log.len(), 0);
+    let expected = RunEnd {
+        steps: 3,
+        exception: Some(InstructionException::StoreAccessFault(0x1000_0001)),
+    };
+    assert_eq!(rt; (end, port.log.len()), (expected, 0));
     Ok(())
 }

@@ -79,6 +79,14 @@ fn called(pc: u32, x1: u32, x10: u32, x11: u32, x12: u32) -> HartState {
     hart
 }
 
+/// How a program ends after so many steps, at an address where there is a zero word.
+fn end_at(steps: u64, pc: u32) -> RunEnd {
+    RunEnd {
+        steps,
+        exception: Some(InstructionException::IllegalInstruction(pc, 0)),
+    }
+}
+
 /// Runs a hart over a memory.
 fn run_over<M: Memory>(mem: &mut M, hart_state: &mut HartState, limit: u64) -> RunEnd {
     let mut executor = InstructionExecutor { mem, hart_state };
@@ -105,13 +113,8 @@ fn adds_up_words(rt: HostRuntime) -> Result<(), Fail> {
     let mut memory = words_to_add(rt.alloc())?;
     let mut hart = HartState::new();
     let end = add_up(&mut memory, &mut hart, 3);
-    assert_eq!(rt; end.steps, 20);
-    assert_eq!(rt;
-        end.exception,
-        Some(InstructionException::IllegalInstruction(0x1c, 0))
-    );
-    assert_eq!(rt; hart.registers[12], 11);
-    assert_eq!(rt; hart.pc, 0x1c);
+    let left = (end, hart.registers[12], hart.pc);
+    assert_eq!(rt; left, (end_at(20, 0x1c), 11, 0x1c));
     Ok(())
 }
 
@@ -119,18 +122,12 @@ fn adds_up_words(rt: HostRuntime) -> Result<(), Fail> {
 fn adds_up_words_of_a_space(rt: HostRuntime) -> Result<(), Fail> {
     let low = words_of_program(rt.alloc())?;
     let high = three_words(rt.alloc())?;
-    if let Some(mut space) = space_of_two(rt.alloc(), low, high) {
-        let mut hart = HartState::new();
-        let end = add_up(&mut space, &mut hart, 3);
-        assert_eq!(rt; end.steps, 20);
-        assert_eq!(rt;
-            end.exception,
-            Some(InstructionException::IllegalInstruction(0x1c, 0))
-        );
-        assert_eq!(rt; hart.registers[12], 11);
-    } else {
-        assert!(rt; false, "no memory for the space");
-    }
+    let Some(mut space) = space_of_two(rt.alloc(), low, high) else {
+        return Err(Fail::from("no memory for the space"));
+    };
+    let mut hart = HartState::new();
+    let end = add_up(&mut space, &mut hart, 3);
+    assert_eq!(rt; (end, hart.registers[12]), (end_at(20, 0x1c), 11));
     Ok(())
 }
 
@@ -139,12 +136,7 @@ fn adds_up_words_of_a_page(rt: HostRuntime) -> Result<(), Fail> {
     let mut pages = page_to_add(rt.alloc())?;
     let mut hart = HartState::new();
     let end = add_up(&mut pages, &mut hart, 3);
-    assert_eq!(rt; end.steps, 20);
-    assert_eq!(rt;
-        end.exception,
-        Some(InstructionException::IllegalInstruction(0x1c, 0))
-    );
-    assert_eq!(rt; hart.registers[12], 11);
+    assert_eq!(rt; (end, hart.registers[12]), (end_at(20, 0x1c), 11));
     Ok(())
 }
 
@@ -154,24 +146,18 @@ fn adds_up_no_words(rt: HostRuntime) -> Result<(), Fail> {
     let mut hart = HartState::new();
     hart.registers[12] = 9;
     let end = add_up(&mut memory, &mut hart, 0);
-    assert_eq!(rt; end.steps, 2);
-    assert_eq!(rt;
-        end.exception,
-        Some(InstructionException::IllegalInstruction(0x1c, 0))
-    );
-    assert_eq!(rt; hart.registers[12], 0);
+    assert_eq!(rt; (end, hart.registers[12]), (end_at(2, 0x1c), 0));
     Ok(())
 }
 
 #[test]
 fn adds_up_within_a_limit(rt: HostRuntime) -> Result<(), Fail> {
-    for (limit, steps) in [(21, 20), (20, 20), (7, 7)] {
+    let fault = Some(InstructionException::IllegalInstruction(0x1c, 0));
+    for (limit, steps, exception) in [(21, 20, fault), (20, 20, None), (7, 7, None)] {
         let mut memory = words_to_add(rt.alloc())?;
         let mut hart = called(0, 0, 0x20, 3, 9);
         let end = run_over(&mut memory, &mut hart, limit);
-        assert_eq!(rt; end.steps, steps);
-        let fault = Some(InstructionException::IllegalInstruction(0x1c, 0));
-        assert_eq!(rt; end.exception, if limit == 21 { fault } else { None });
+        assert_eq!(rt; end, RunEnd { steps, exception }, "limit {limit}");
     }
     Ok(())
 }
@@ -211,11 +197,9 @@ fn divides(rt: HostRuntime) -> Result<(), Fail> {
         let mut memory = words_of_gcd(rt.alloc())?;
         let mut hart = HartState::new();
         let end = divide(&mut memory, &mut hart, a, b);
-        assert_eq!(rt;
-            end.exception,
-            Some(InstructionException::IllegalInstruction(24, 0))
-        );
-        assert_eq!(rt; hart.registers[10], divisor, "of {a} and {b}");
+        let left = (end.exception, hart.registers[10]);
+        let fault = Some(InstructionException::IllegalInstruction(24, 0));
+        assert_eq!(rt; left, (fault, divisor), "of {a} and {b}");
     }
     Ok(())
 }
@@ -253,40 +237,35 @@ fn copies_words(rt: HostRuntime) -> Result<(), Fail> {
     let mut memory = words_to_copy(rt.alloc())?;
     let mut hart = HartState::new();
     let end = copy(&mut memory, &mut hart, 2);
-    assert_eq!(rt; end.steps, 14);
-    assert_eq!(rt;
-        end.exception,
-        Some(InstructionException::IllegalInstruction(36, 0))
-    );
     let expected = [0, 5, 7, 0xffffffff, 5, 7, 9];
-    for (word, wanted) in memory.mem.iter().skip(9).zip(expected) {
-        assert_eq!(rt; *word, wanted);
-    }
+    let left = (end, memory.mem.get(9..));
+    assert_eq!(rt; left, (end_at(14, 36), Some(expected.as_slice())));
     Ok(())
 }
 
-#[test]
-fn copies_many_words(rt: HostRuntime) -> Result<(), Fail> {
+/// The program that copies words, a word outside the table, 100 words, and room for 101.
+fn many_words_to_copy(alloc: Global) -> Result<VecMemory, AllocError> {
     let program = [
         0x02060063, 0x00261613, 0x00c58733, 0x0005a783, 0x00458593, 0x00450513, 0xfef52e23,
         0xfee598e3, 0x00008067, 0,
     ];
+    let mut words = program.to_vec(alloc)?;
+    for i in 0..100 {
+        words.push(0xffffff00 + i)?;
+    }
+    for _ in 0..101 {
+        words.push(7)?;
+    }
+    Ok(VecMemory::new(words))
+}
+
+#[test]
+fn copies_many_words(rt: HostRuntime) -> Result<(), Fail> {
     for (count, steps) in [(0, 2), (1, 9), (100, 504)] {
-        let mut words = program.to_vec(rt.alloc())?;
-        for i in 0..100 {
-            words.push(0xffffff00 + i)?;
-        }
-        for _ in 0..101 {
-            words.push(7)?;
-        }
-        let mut memory = VecMemory::new(words);
+        let mut memory = many_words_to_copy(rt.alloc())?;
         let mut hart = called(0, 36, 440, 40, count);
         let end = run_over(&mut memory, &mut hart, 5 * u64::from(count) + 5);
-        assert_eq!(rt; end.steps, steps);
-        assert_eq!(rt;
-            end.exception,
-            Some(InstructionException::IllegalInstruction(36, 0))
-        );
+        assert_eq!(rt; end, end_at(steps, 36));
         for (i, word) in memory.mem.iter().enumerate() {
             if i >= 110 {
                 let copied = i < 110 + count as usize;

@@ -36,6 +36,10 @@ fn numbers_each_row(rt: HostRuntime) {
     for (index, word) in ROW_WORDS.iter().enumerate() {
         assert_eq!(rt; number_of(*word), Some(index as u32 + 1), "at {word:#x}");
     }
+}
+
+#[test]
+fn numbers_no_word_outside_the_table(rt: HostRuntime) {
     for word in WORDS_OUTSIDE {
         assert_eq!(rt; number_of(word), None, "at {word:#x}");
     }

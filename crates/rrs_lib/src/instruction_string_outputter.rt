@@ -25,8 +25,8 @@ ghost use Rattle.rrs_instruction.specs.Words.{word};
 ghost use Rattle.rrs_instruction.specs.Results.{plus_immediate};
 ghost use Rattle.rrs_lib.specs.Texts.{hexadecimal, register};
 
-use crate::instruction_formats::{BType, IType, ITypeShamt, JType, RType, SType, UType};
 use crate::InstructionProcessor;
+use crate::instruction_formats::{BType, IType, ITypeShamt, JType, RType, SType, UType};
 use rrs_instruction::arithmetic;
 use std::alloc::{AllocError, Global};
 

@@ -16,11 +16,10 @@ pub mod instruction_string_outputter;
 
 ghost use Rattle.std.specs.Prelude.{◌≡◌, ℕ, ◌<◌, slice_index, length, Bool, Option, None, pos, replicate};
 
-pub use rrs_instruction::instruction;
-pub use rrs_instruction::instruction_formats;
-pub use rrs_instruction::{InstructionProcessor, process_instruction};
-pub use rrs_memory::memories;
-pub use rrs_memory::{MemAccessSize, Memory};
+pub use rrs_instruction::{
+    InstructionProcessor, instruction, instruction_formats, process_instruction,
+};
+pub use rrs_memory::{MemAccessSize, Memory, memories};
 
 /// The state of a single RISC-V hart (hardware thread).
 #[derive(Drop)]

@@ -137,28 +137,29 @@ fn reads_again_after_an_interruption(rt: HostRuntime) {
     }
 }
 
+/// Without a buffer a beginning of the answers stands there.
 #[test]
 fn tells_a_write_that_fails_once(rt: HostRuntime) {
-    // Without a buffer a beginning of the answers stands there.
     for fails_at in 0..ANSWERS.len() {
         let mut output = Page::new(fails_at);
         let Ok(mut input) = BufReader::new(rt.alloc(), LINES) else {
             return;
         };
         let answered = answer_lines(rt.alloc(), &mut input, &mut output);
-        assert!(rt; answered.is_err(), "at {fails_at}");
-        assert!(rt; output.holds(&ANSWERS[..fails_at]), "at {fails_at}");
+        let left = (answered.is_err(), output.holds(&ANSWERS[..fails_at]));
+        assert_eq!(rt; left, (true, true), "at {fails_at}");
     }
-    // With one, what it held is written later, and the failure is told all the same.
+}
+
+/// With a buffer, what it held is written later, and the failure is told all the same.
+#[test]
+fn tells_a_write_of_a_buffer_that_fails_once(rt: HostRuntime) {
     for fails_at in 0..ANSWERS.len() {
         let mut output = Page::new(fails_at);
         let answered = answer_all(rt.alloc(), LINES, &mut output);
-        assert!(rt; answered.is_err(), "at {fails_at}");
-        assert!(rt;
-            ANSWERS.starts_with(&output.bytes[..output.used]),
-            "at {fails_at}"
-        );
-        assert!(rt; output.used >= fails_at, "at {fails_at}");
+        let begins = ANSWERS.starts_with(&output.bytes[..output.used]);
+        let left = (answered.is_err(), begins, output.used >= fails_at);
+        assert_eq!(rt; left, (true, true, true), "at {fails_at}");
     }
 }
 

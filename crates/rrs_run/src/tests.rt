@@ -2,6 +2,7 @@
 //! where they are told to.
 
 use super::*;
+use rrs_program::command::Failure;
 use std::alloc::{AllocError, Allocator};
 use std::cell::{Cell, RefCell};
 use std::env::FillError;
@@ -207,6 +208,17 @@ impl Print for Machine<'_> {
     }
 }
 
+/// The program's status, and what it says on standard error.
+fn told(alloc: Global, ended: Result<(), Failure>) -> Result<(u8, String), AllocError> {
+    let Err(failure) = ended else {
+        return Ok((0, String::new(alloc)));
+    };
+    let status = failure.status();
+    let program = NAME;
+    let named = NamedFailure { program, failure };
+    Ok((status, format!(in alloc; "{named}")?))
+}
+
 /// The program's status, what it says on standard error, and what it printed.
 fn run(
     alloc: Global,
@@ -221,15 +233,7 @@ fn run(
         printed: RefCell::new(Vec::new(alloc)),
         room: Cell::new(room),
     };
-    let (status, text) = match perform(&machine, &Tracing) {
-        Ok(()) => (0, String::new(alloc)),
-        Err(failure) => {
-            let status = failure.status();
-            let program = NAME;
-            let named = NamedFailure { program, failure };
-            (status, format!(in alloc; "{named}")?)
-        }
-    };
+    let (status, text) = told(alloc, perform(&machine, &Tracing))?;
     Ok((status, text, machine.printed.into_inner()))
 }
 
@@ -272,11 +276,23 @@ fn refuses_other_words(rt: HostRuntime) -> Result<(), Fail> {
     ];
     for (index, words) in cases.iter().enumerate() {
         let (status, text, printed) = run(rt.alloc(), words, &FILES, 10_000)?;
-        assert_eq!(rt; status, 2, "at {index}");
-        assert_eq!(rt; text.as_str(), "usage: rrs-run FILE LIMIT", "at {index}");
-        assert!(rt; printed.is_empty(), "at {index}");
+        let left = (status, text.as_str(), printed.len());
+        assert_eq!(rt; left, (2, "usage: rrs-run FILE LIMIT", 0), "at {index}");
     }
     Ok(())
+}
+
+/// Whether these bytes are `beginning`, and then 33 lines, the first of which is that of x0.
+fn is_account(printed: &[u8], beginning: &[u8]) -> bool {
+    match printed.strip_prefix(beginning) {
+        Some(rest) => rest.starts_with(b"x0 0x00000000\n") && lines_in(rest) == 33,
+        None => false,
+    }
+}
+
+/// How many of these bytes end a line.
+fn lines_in(bytes: &[u8]) -> usize {
+    bytes.iter().filter(|byte| **byte == b'\n').count()
 }
 
 #[test]
@@ -318,20 +334,8 @@ fn runs_the_file_that_is_named_up_to_the_limit_that_is_named(rt: HostRuntime) ->
     for (path, limit, want) in cases {
         let words: [&[u8]; 3] = [b"rrs-run", path, limit];
         let (status, text, printed) = run(rt.alloc(), &words, &FILES, 10_000)?;
-        assert_eq!(rt; status, 0, "{want}");
-        assert!(rt; text.is_empty(), "{want}");
-        assert!(rt; printed.starts_with(want.as_bytes()), "{want}");
-        assert!(rt;
-            printed[want.len()..].starts_with(b"x0 0x00000000\n"),
-            "{want}"
-        );
-        let lines = printed.iter().filter(|byte| **byte == b'\n').count();
-        let before = want
-            .as_bytes()
-            .iter()
-            .filter(|byte| **byte == b'\n')
-            .count();
-        assert_eq!(rt; lines, before + 33, "{want}");
+        let left = (status, text.as_str(), is_account(&printed, want.as_bytes()));
+        assert_eq!(rt; left, (0, "", true), "{want}");
     }
     Ok(())
 }
@@ -394,22 +398,32 @@ fn runs_a_file_of_as_many_bytes_as_there_are_addresses(rt: HostRuntime) -> Resul
     Ok(())
 }
 
+/// What is printed where there is room for all of it.
+fn whole_account(alloc: Global, words: &[&[u8]]) -> Result<Vec<u8>, Fail> {
+    let (status, _text, printed) = run(alloc, words, &FILES, 100_000)?;
+    if status != 0 {
+        return Err(Fail::from("the run with room for all failed"));
+    }
+    Ok(printed)
+}
+
+/// Whether an account of this length is tried with this room: near both ends, and at times between.
+fn is_tried(room: usize, length: usize) -> bool {
+    room < 700 || room % 97 == 0 || room.saturating_add(10) > length
+}
+
 #[test]
 fn tells_an_output_that_fails(rt: HostRuntime) -> Result<(), Fail> {
     // The first account is shorter than the buffer, so that the flush fails; the second is longer.
     for (path, limit) in [(b"program".as_slice(), b"10".as_slice()), (b"loop", b"400")] {
         let words: [&[u8]; 3] = [b"rrs-run", path, limit];
-        let (status, _text, whole) = run(rt.alloc(), &words, &FILES, 100_000)?;
-        assert_eq!(rt; status, 0);
+        let whole = whole_account(rt.alloc(), &words)?;
         for room in 0..whole.len() {
-            if room < 700 || room % 97 == 0 || room + 10 > whole.len() {
+            if is_tried(room, whole.len()) {
                 let (status, text, printed) = run(rt.alloc(), &words, &FILES, room)?;
-                assert_eq!(rt; status, 1, "with room for {room}");
-                assert_eq!(rt; text.as_str(), "rrs-run: cannot write output", "at {room}");
-                assert!(rt;
-                    printed.as_slice() == &whole[..room],
-                    "with room for {room}"
-                );
+                let left = (status, text.as_str(), printed.as_slice() == &whole[..room]);
+                let want = (1, "rrs-run: cannot write output", true);
+                assert_eq!(rt; left, want, "with room for {room}");
             }
         }
     }

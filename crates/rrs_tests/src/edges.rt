@@ -3,9 +3,11 @@
 ghost use Rattle.std.specs.Prelude.{◌≡◌, ◌+◌, ◌%◌, ◌^◌};
 ghost use Rattle.rrs_lib.specs.VecBytes.{vec_bytes, vec_writable, vec_layout, vec_reads, VecWrites};
 
+use crate::{memory_of, step_once};
 use rrs_lib::instruction_executor::{InstructionException, InstructionExecutor};
 use rrs_lib::memories::VecMemory;
 use rrs_lib::{HartState, MemAccessSize, Memory};
+use std::alloc::{AllocError, Global};
 use std::test::Fail;
 
 /// Words, with a count of the reads and writes so far, modulo 2^64.
@@ -40,29 +42,28 @@ impl Memory for CountedWords {
     }
 }
 
+fn counted(alloc: Global, words: &[u32]) -> Result<CountedWords, AllocError> {
+    Ok(CountedWords {
+        words: memory_of(alloc, words)?,
+        calls: 0,
+    })
+}
+
 #[test]
 fn no_read_where_the_pc_is_not_aligned(rt: HostRuntime) -> Result<(), Fail> {
     for pc in [1, 2, 3, 0xffff_fffd] {
-        let mut memory = CountedWords {
-            words: VecMemory::new(vec![in rt.alloc(); 0x0000_0013, 0x0000_0013]?),
-            calls: 0,
-        };
+        let mut memory = counted(rt.alloc(), &[0x0000_0013, 0x0000_0013])?;
         let mut hart = HartState::new();
         hart.registers[0] = 77;
         hart.pc = pc;
         hart.last_register_write = Some(9);
-        let mut executor = InstructionExecutor {
-            mem: &mut memory,
-            hart_state: &mut hart,
-        };
+        let answer = step_once(&mut memory, &mut hart);
+        let left = (hart.registers[0], hart.pc, hart.last_register_write);
+        let fault = Err(InstructionException::AlignmentFault(pc));
         assert_eq!(rt;
-            executor.step(),
-            Err(InstructionException::AlignmentFault(pc))
-        );
-        assert_eq!(rt; memory.calls, 0, "at pc {pc}");
-        assert_eq!(rt;
-            (hart.registers[0], hart.pc, hart.last_register_write),
-            (77, pc, None)
+            (answer, memory.calls, left),
+            (fault, 0, (77, pc, None)),
+            "at pc {pc}"
         );
     }
     Ok(())
@@ -82,16 +83,9 @@ fn no_access_where_the_address_is_not_aligned(rt: HostRuntime) -> Result<(), Fai
         (0x0000_0073, 1), // ecall
         (0x0000_1073, 1), // no row
     ] {
-        let mut memory = CountedWords {
-            words: VecMemory::new(vec![in rt.alloc(); word, 0]?),
-            calls: 0,
-        };
+        let mut memory = counted(rt.alloc(), &[word, 0])?;
         let mut hart = HartState::new();
-        let mut executor = InstructionExecutor {
-            mem: &mut memory,
-            hart_state: &mut hart,
-        };
-        let _answer = executor.step();
+        let _answer = step_once(&mut memory, &mut hart);
         assert_eq!(rt; memory.calls, calls, "of {word:08x}");
     }
     Ok(())
@@ -113,16 +107,15 @@ fn jumps_to_the_last_addresses(rt: HostRuntime) -> Result<(), Fail> {
             InstructionException::FetchError(0xffff_fffc),
         ),
     ] {
-        let mut memory = VecMemory::new(vec![in rt.alloc(); word]?);
+        let mut memory = memory_of(rt.alloc(), &[word])?;
         let mut hart = HartState::new();
-        let mut executor = InstructionExecutor {
-            mem: &mut memory,
-            hart_state: &mut hart,
-        };
-        assert_eq!(rt; executor.step(), Ok(()));
-        assert_eq!(rt; executor.hart_state.pc, pc, "after {word:08x}");
-        assert_eq!(rt; executor.step(), Err(fault));
-        assert_eq!(rt; hart.pc, pc);
+        let jump = (step_once(&mut memory, &mut hart), hart.pc);
+        let after = (step_once(&mut memory, &mut hart), hart.pc);
+        assert_eq!(rt;
+            (jump, after),
+            ((Ok(()), pc), (Err(fault), pc)),
+            "after {word:08x}"
+        );
     }
     Ok(())
 }
@@ -131,15 +124,10 @@ fn jumps_to_the_last_addresses(rt: HostRuntime) -> Result<(), Fail> {
 #[test]
 fn other_functs_are_illegal(rt: HostRuntime) -> Result<(), Fail> {
     for word in [0x0000_9067, 0xfe10_9093] {
-        let mut memory = VecMemory::new(vec![in rt.alloc(); word]?);
+        let mut memory = memory_of(rt.alloc(), &[word])?;
         let mut hart = HartState::new();
-        let mut executor = InstructionExecutor {
-            mem: &mut memory,
-            hart_state: &mut hart,
-        };
         let illegal = Err(InstructionException::IllegalInstruction(0, word));
-        assert_eq!(rt; executor.step(), illegal);
-        assert_eq!(rt; hart.pc, 0);
+        assert_eq!(rt; (step_once(&mut memory, &mut hart), hart.pc), (illegal, 0));
     }
     Ok(())
 }
@@ -177,8 +165,8 @@ fn an_environment_call_is_served(rt: HostRuntime) -> Result<(), Fail> {
         executor.hart_state.pc = pc.wrapping_add(4);
     }
     let end = executor.run(100);
-    assert_eq!(rt; end.exception, Some(InstructionException::Breakpoint(16)));
-    assert_eq!(rt; (end.steps, hart.registers[10]), (1, 41));
+    let left = (end.exception, end.steps, hart.registers[10]);
+    assert_eq!(rt; left, (Some(InstructionException::Breakpoint(16)), 1, 41));
     Ok(())
 }
 
@@ -196,14 +184,10 @@ fn an_empty_memory_has_no_instruction(rt: HostRuntime) {
 /// lw x3, 4(x1) with x1 0xfffffffc reads address 0, its own word.
 #[test]
 fn an_address_wraps(rt: HostRuntime) -> Result<(), Fail> {
-    let mut memory = VecMemory::new(vec![in rt.alloc(); 0x0040_a183]?);
+    let mut memory = memory_of(rt.alloc(), &[0x0040_a183])?;
     let mut hart = HartState::new();
     hart.registers[1] = 0xffff_fffc;
-    let mut executor = InstructionExecutor {
-        mem: &mut memory,
-        hart_state: &mut hart,
-    };
-    assert_eq!(rt; executor.step(), Ok(()));
-    assert_eq!(rt; hart.registers[3], 0x0040_a183);
+    let answer = step_once(&mut memory, &mut hart);
+    assert_eq!(rt; (answer, hart.registers[3]), (Ok(()), 0x0040_a183));
     Ok(())
 }

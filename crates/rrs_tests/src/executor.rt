@@ -1,10 +1,11 @@
 //! What steps and runs of chosen words do to a hart, and what fault they return.
 
-use crate::memory_of;
+use crate::{memory_of, step_once};
 use rrs_lib::instruction_executor::{InstructionException, InstructionExecutor, RunEnd};
 use rrs_lib::instruction_formats::{IType, ITypeShamt};
 use rrs_lib::memories::VecMemory;
 use rrs_lib::{HartState, InstructionProcessor, Memory, process_instruction};
+use std::alloc::{AllocError, Global};
 use std::test::Fail;
 
 fn hart_with(x1: u32, x2: u32) -> HartState {
@@ -14,13 +15,35 @@ fn hart_with(x1: u32, x2: u32) -> HartState {
     hart
 }
 
-// An executor is made and dropped over any memory.
-fn step_once<M: Memory>(
+// The word that the next step executes.
+fn word_at_pc<M: Memory>(mem: &mut M, hart_state: &mut HartState) -> Option<u32> {
+    let mut executor = InstructionExecutor { mem, hart_state };
+    executor.word_at_pc()
+}
+
+fn run_to<M: Memory>(limit: u64, mem: &mut M, hart_state: &mut HartState) -> RunEnd {
+    let mut executor = InstructionExecutor { mem, hart_state };
+    executor.run(limit)
+}
+
+// What a word does where it stands, with no step.
+fn process_word<M: Memory>(
+    word: u32,
     mem: &mut M,
     hart_state: &mut HartState,
-) -> Result<(), InstructionException> {
+) -> Option<Result<bool, InstructionException>> {
     let mut executor = InstructionExecutor { mem, hart_state };
-    executor.step()
+    process_instruction(&mut executor, word)
+}
+
+// A step over a memory with one word, at address 0.
+fn step_over(
+    alloc: Global,
+    word: u32,
+    hart: &mut HartState,
+) -> Result<Result<(), InstructionException>, AllocError> {
+    let mut memory = memory_of(alloc, &[word])?;
+    Ok(step_once(&mut memory, hart))
 }
 
 // The program of the original's documentation, and of this repository's README.
@@ -28,18 +51,17 @@ fn step_once<M: Memory>(
 fn runs_the_documented_program(rt: HostRuntime) -> Result<(), Fail> {
     let mut memory = memory_of(rt.alloc(), &[0x1234b137, 0xf387e1b7, 0x003100b3])?;
     let mut hart = HartState::new();
-    let mut executor = InstructionExecutor {
-        mem: &mut memory,
-        hart_state: &mut hart,
-    };
-    assert_eq!(rt; executor.step(), Ok(()));
-    assert_eq!(rt; executor.hart_state.registers[2], 0x1234b000);
-    assert_eq!(rt; executor.step(), Ok(()));
-    assert_eq!(rt; executor.hart_state.registers[3], 0xf387e000);
-    assert_eq!(rt; executor.step(), Ok(()));
-    assert_eq!(rt; executor.hart_state.registers[1], 0x05bc9000);
-    let end = executor.step();
-    assert_eq!(rt; end, Err(InstructionException::FetchError(0xc)));
+    let end = Err(InstructionException::FetchError(0xc));
+    for after in [
+        (Ok(()), 0, 0x1234b000, 0),
+        (Ok(()), 0, 0x1234b000, 0xf387e000),
+        (Ok(()), 0x05bc9000, 0x1234b000, 0xf387e000),
+        (end, 0x05bc9000, 0x1234b000, 0xf387e000),
+    ] {
+        let answer = step_once(&mut memory, &mut hart);
+        let [_, x1, x2, x3, ..] = hart.registers;
+        assert_eq!(rt; (answer, x1, x2, x3), after);
+    }
     Ok(())
 }
 
@@ -66,18 +88,13 @@ fn looks_at_the_next_word(rt: HostRuntime) -> Result<(), Fail> {
     let mut hart = HartState::new();
     hart.write_register(0, 7);
     hart.write_register(31, 8);
-    assert_eq!(rt; hart.read_register(0), 0);
-    assert_eq!(rt; hart.read_register(31), 8);
-    assert_eq!(rt; hart.last_register_write, Some(31));
+    let read = (hart.read_register(0), hart.read_register(31));
+    assert_eq!(rt; (read, hart.last_register_write), ((0, 8), Some(31)));
     for (pc, word) in [(0, Some(0x00500093)), (2, None), (4, None)] {
         hart.pc = pc;
-        let mut executor = InstructionExecutor {
-            mem: &mut memory,
-            hart_state: &mut hart,
-        };
-        assert_eq!(rt; executor.word_at_pc(), word, "at {pc}");
-        assert_eq!(rt; hart.pc, pc);
-        assert_eq!(rt; hart.last_register_write, Some(31));
+        let told = word_at_pc(&mut memory, &mut hart);
+        let left = (told, hart.pc, hart.last_register_write);
+        assert_eq!(rt; left, (word, pc, Some(31)), "at {pc}");
     }
     Ok(())
 }
@@ -123,16 +140,11 @@ fn computes(rt: HostRuntime) -> Result<(), Fail> {
         (0x0040a183, 0xfffffffc, 0, 0x0040a183),
     ];
     for (word, x1, x2, x3) in cases {
-        let mut memory = memory_of(rt.alloc(), &[word])?;
         let mut hart = hart_with(x1, x2);
-        assert_eq!(rt; step_once(&mut memory, &mut hart), Ok(()), "at {word:08x}");
-        assert_eq!(rt;
-            hart.registers[3],
-            x3,
-            "at {word:08x} of {x1:08x}, {x2:08x}"
-        );
-        assert_eq!(rt; hart.last_register_write, Some(3), "at {word:08x}");
-        assert_eq!(rt; hart.pc, 4, "at {word:08x}");
+        let answer = step_over(rt.alloc(), word, &mut hart)?;
+        let left = (answer, hart.registers[3], hart.last_register_write, hart.pc);
+        let want = (Ok(()), x3, Some(3), 4);
+        assert_eq!(rt; left, want, "at {word:08x} of {x1:08x}, {x2:08x}");
     }
     Ok(())
 }
@@ -145,10 +157,10 @@ fn takes_remainders(rt: HostRuntime) -> Result<(), Fail> {
         (0x80000000, 0, 0x80000000),
         (0xfffffff9, 2, 0xffffffff),
     ] {
-        let mut memory = memory_of(rt.alloc(), &[0x0220e233])?;
         let mut hart = hart_with(x1, x2);
-        assert_eq!(rt; step_once(&mut memory, &mut hart), Ok(()));
-        assert_eq!(rt; hart.registers[4], x4, "of {x1:08x}, {x2:08x}");
+        let answer = step_over(rt.alloc(), 0x0220e233, &mut hart)?;
+        let left = (answer, hart.registers[4]);
+        assert_eq!(rt; left, (Ok(()), x4), "of {x1:08x}, {x2:08x}");
     }
     Ok(())
 }
@@ -171,15 +183,13 @@ fn goes_on(rt: HostRuntime) -> Result<(), Fail> {
         (0x0ff0000f, 9, 0, 4, 9, None),
     ];
     for (word, before, x2, pc, x1, last) in cases {
-        let mut memory = memory_of(rt.alloc(), &[word])?;
         let mut hart = hart_with(before, x2);
         hart.registers[0] = 77;
         hart.last_register_write = Some(9);
-        assert_eq!(rt; step_once(&mut memory, &mut hart), Ok(()), "at {word:08x}");
-        assert_eq!(rt; hart.pc, pc, "at {word:08x}");
-        assert_eq!(rt; hart.registers[1], x1, "at {word:08x}");
-        assert_eq!(rt; hart.last_register_write, last, "at {word:08x}");
-        assert_eq!(rt; hart.registers[0], 77, "at {word:08x}");
+        let answer = step_over(rt.alloc(), word, &mut hart)?;
+        let registers = (hart.registers[0], hart.registers[1]);
+        let left = (answer, hart.pc, registers, hart.last_register_write);
+        assert_eq!(rt; left, (Ok(()), pc, (77, x1), last), "at {word:08x}");
     }
     Ok(())
 }
@@ -232,16 +242,17 @@ fn faults(rt: HostRuntime) -> Result<(), Fail> {
         hart.pc = pc;
         hart.registers[0] = 77;
         hart.last_register_write = Some(9);
-        let mut executor = InstructionExecutor {
-            mem: &mut memory,
-            hart_state: &mut hart,
-        };
-        let want = Err(fault);
-        assert_eq!(rt; executor.step(), want, "at {word:08x}");
-        assert_eq!(rt; executor.step(), want, "again at {word:08x}");
-        assert_eq!(rt; hart.pc, pc);
-        assert_eq!(rt; (hart.registers[0], hart.registers[1]), (77, 3));
-        assert_eq!(rt; hart.last_register_write, None);
+        let first = step_once(&mut memory, &mut hart);
+        let again = step_once(&mut memory, &mut hart);
+        let registers = (hart.registers[0], hart.registers[1]);
+        let left = (
+            (&first, &again),
+            hart.pc,
+            registers,
+            hart.last_register_write,
+        );
+        let want = &Err(fault);
+        assert_eq!(rt; left, ((want, want), pc, (77, 3), None), "at {word:08x}");
     }
     Ok(())
 }
@@ -257,10 +268,14 @@ fn jumps_to_where_no_instruction_can_be(rt: HostRuntime) -> Result<(), Fail> {
     let mut answers = [Ok(()), Ok(()), Ok(())];
     executor.step_each(&mut answers);
     let misaligned = || Err(InstructionException::AlignmentFault(2));
-    assert_eq!(rt; answers, [Ok(()), misaligned(), misaligned()]);
-    assert_eq!(rt; hart.pc, 2);
-    assert_eq!(rt; hart.registers[1], 4);
-    assert_eq!(rt; hart.last_register_write, None);
+    let left = (
+        answers,
+        hart.pc,
+        hart.registers[1],
+        hart.last_register_write,
+    );
+    let want = [Ok(()), misaligned(), misaligned()];
+    assert_eq!(rt; left, (want, 2, 4, None));
     Ok(())
 }
 
@@ -271,9 +286,11 @@ fn branches_to_itself(rt: HostRuntime) -> Result<(), Fail> {
     let mut hart = HartState::new();
     hart.last_register_write = Some(9);
     for _ in 0..2 {
-        assert_eq!(rt; step_once(&mut memory, &mut hart), Ok(()));
-        assert_eq!(rt; hart.pc, 0);
-        assert_eq!(rt; hart.last_register_write, None);
+        let answer = step_once(&mut memory, &mut hart);
+        assert_eq!(rt;
+            (answer, hart.pc, hart.last_register_write),
+            (Ok(()), 0, None)
+        );
     }
     Ok(())
 }
@@ -282,8 +299,8 @@ fn branches_to_itself(rt: HostRuntime) -> Result<(), Fail> {
 fn loads_with_the_sign(rt: HostRuntime) -> Result<(), Fail> {
     let mut memory = memory_of(rt.alloc(), &[0x00601183, 0x80017fff])?;
     let mut hart = HartState::new();
-    assert_eq!(rt; step_once(&mut memory, &mut hart), Ok(()));
-    assert_eq!(rt; hart.registers[3], 0xffff8001);
+    let answer = step_once(&mut memory, &mut hart);
+    assert_eq!(rt; (answer, hart.registers[3]), (Ok(()), 0xffff8001));
     Ok(())
 }
 
@@ -296,21 +313,17 @@ fn executes_what_it_stored(rt: HostRuntime) -> Result<(), Fail> {
     ] {
         let mut memory = memory_of(rt.alloc(), &words)?;
         let mut hart = hart_with(0x00100113, 0);
-        let mut executor = InstructionExecutor {
-            mem: &mut memory,
-            hart_state: &mut hart,
+        let end = run_to(steps, &mut memory, &mut hart);
+        let stored = memory.mem.get(at).copied();
+        let x2 = (hart.registers[2], hart.last_register_write);
+        let want = RunEnd {
+            steps,
+            exception: None,
         };
         assert_eq!(rt;
-            executor.run(steps),
-            RunEnd {
-                steps,
-                exception: None
-            }
+            (end, hart.pc, x2, stored),
+            (want, pc, (1, Some(2)), Some(0x00100113))
         );
-        assert_eq!(rt; hart.pc, pc);
-        assert_eq!(rt; hart.registers[2], 1);
-        assert_eq!(rt; hart.last_register_write, Some(2));
-        assert_eq!(rt; memory.mem.get(at).copied(), Some(0x00100113));
     }
     Ok(())
 }
@@ -326,17 +339,10 @@ fn runs_to_a_limit_or_a_fault(rt: HostRuntime) -> Result<(), Fail> {
         let mut memory = memory_of(rt.alloc(), &[0x1234b137, 0xf387e1b7, 0x003100b3])?;
         let mut hart = HartState::default();
         hart.last_register_write = Some(9);
-        let mut executor = InstructionExecutor {
-            mem: &mut memory,
-            hart_state: &mut hart,
-        };
-        assert_eq!(rt;
-            executor.run(limit),
-            RunEnd { steps, exception },
-            "to {limit}"
-        );
-        assert_eq!(rt; hart.pc, pc, "to {limit}");
-        assert_eq!(rt; hart.last_register_write, last, "to {limit}");
+        let end = run_to(limit, &mut memory, &mut hart);
+        let left = (end, hart.pc, hart.last_register_write);
+        let want = (RunEnd { steps, exception }, pc, last);
+        assert_eq!(rt; left, want, "to {limit}");
     }
     Ok(())
 }
@@ -346,19 +352,13 @@ fn runs_to_a_limit_or_a_fault(rt: HostRuntime) -> Result<(), Fail> {
 fn a_run_ends_at_an_environment_call(rt: HostRuntime) -> Result<(), Fail> {
     let mut memory = memory_of(rt.alloc(), &[0x00500093, 0x00000073])?;
     let mut hart = HartState::new();
-    let mut executor = InstructionExecutor {
-        mem: &mut memory,
-        hart_state: &mut hart,
+    let end = run_to(10, &mut memory, &mut hart);
+    let left = (end, hart.pc, hart.registers[1], hart.last_register_write);
+    let want = RunEnd {
+        steps: 1,
+        exception: Some(InstructionException::EnvironmentCall(4)),
     };
-    assert_eq!(rt;
-        executor.run(10),
-        RunEnd {
-            steps: 1,
-            exception: Some(InstructionException::EnvironmentCall(4))
-        }
-    );
-    assert_eq!(rt; (hart.pc, hart.registers[1]), (4, 5));
-    assert_eq!(rt; hart.last_register_write, None);
+    assert_eq!(rt; left, (want, 4, 5, None));
     Ok(())
 }
 
@@ -379,16 +379,17 @@ fn environment_calls_ignore_their_fields(rt: HostRuntime) -> Result<(), Fail> {
         funct3: 5,
         rd: 1,
     };
-    assert_eq!(rt;
+    let answers = (
         executor.process_ecall(fields()),
-        Err(InstructionException::EnvironmentCall(0x102))
-    );
-    assert_eq!(rt;
         executor.process_ebreak(fields()),
-        Err(InstructionException::Breakpoint(0x102))
     );
-    assert_eq!(rt; (hart.pc, hart.last_register_write), (0x102, Some(9)));
-    assert_eq!(rt; (hart.registers[1], hart.registers[2]), (3, 5));
+    let want = (
+        Err(InstructionException::EnvironmentCall(0x102)),
+        Err(InstructionException::Breakpoint(0x102)),
+    );
+    let registers = (hart.registers[1], hart.registers[2]);
+    let left = (answers, registers, hart.pc, hart.last_register_write);
+    assert_eq!(rt; left, (want, (3, 5), 0x102, Some(9)));
     Ok(())
 }
 
@@ -407,16 +408,25 @@ fn takes_fields_that_no_word_has(rt: HostRuntime) -> Result<(), Fail> {
         funct3: 1,
         rd: 3,
     };
-    assert_eq!(rt; executor.process_slli(shift), Ok(false));
-    assert_eq!(rt; executor.hart_state.registers[3], 2);
-    assert_eq!(rt; executor.hart_state.last_register_write, Some(3));
-    executor.hart_state.pc = 0x100;
-    assert_eq!(rt;
-        process_instruction(&mut executor, 0x12345197),
-        Some(Ok(false))
+    let left = (
+        executor.process_slli(shift),
+        hart.registers[3],
+        hart.last_register_write,
     );
-    assert_eq!(rt; executor.hart_state.registers[3], 0x12345100);
-    assert_eq!(rt; process_instruction(&mut executor, 0x0000100f), None);
-    assert_eq!(rt; hart.pc, 0x100);
+    assert_eq!(rt; left, (Ok(false), 2, Some(3)));
+    Ok(())
+}
+
+// auipc x3, 0x12345000 is processed where it stands, and fence.i is no row.
+#[test]
+fn processes_one_word(rt: HostRuntime) -> Result<(), Fail> {
+    let mut memory = memory_of(rt.alloc(), &[])?;
+    let mut hart = hart_with(1, 0);
+    hart.pc = 0x100;
+    for (word, answer) in [(0x12345197, Some(Ok(false))), (0x0000100f, None)] {
+        let done = process_word(word, &mut memory, &mut hart);
+        let left = (done, hart.registers[3], hart.pc);
+        assert_eq!(rt; left, (answer, 0x12345100, 0x100), "at {word:08x}");
+    }
     Ok(())
 }

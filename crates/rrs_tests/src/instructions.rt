@@ -59,7 +59,6 @@ fn an_instruction_is_processed(rt: HostRuntime) -> Result<(), Fail> {
         alloc,
     };
     let text = instruction.process(&mut outputter)?;
-    assert_eq!(rt; text.as_str(), "beq x1, x2, 0x00000108");
     let mut memory = VecMemory::new(Vec::new(alloc));
     let mut hart = HartState::new();
     hart.pc = 0x100;
@@ -67,7 +66,8 @@ fn an_instruction_is_processed(rt: HostRuntime) -> Result<(), Fail> {
         mem: &mut memory,
         hart_state: &mut hart,
     };
-    assert_eq!(rt; instruction.process(&mut executor), Ok(true));
-    assert_eq!(rt; hart.pc, 0x108);
+    let answer = instruction.process(&mut executor);
+    let left = (text.as_str(), answer, hart.pc);
+    assert_eq!(rt; left, ("beq x1, x2, 0x00000108", Ok(true), 0x108));
     Ok(())
 }

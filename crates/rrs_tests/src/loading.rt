@@ -1,6 +1,7 @@
 //! What `read_to_memory` writes, where it stops, and what it says of a failing reader.
 
-use rrs_lib::memories::{LoadFault, MemorySpace, VecMemory, read_to_memory};
+use crate::space_of;
+use rrs_lib::memories::{LoadFault, VecMemory, read_to_memory};
 use rrs_lib::{MemAccessSize, Memory};
 use std::alloc::{AllocError, Global};
 use std::io::{self, Read};
@@ -36,6 +37,14 @@ fn zeros(alloc: Global, count: usize) -> Result<VecMemory, AllocError> {
     Ok(VecMemory::new(vec![in alloc; 0; count]?))
 }
 
+/// The text of a fault, or `loaded`.
+fn text_of(alloc: Global, answer: Result<(), LoadFault>) -> Result<String, AllocError> {
+    match answer {
+        Err(fault) => format!(in alloc; "{fault}"),
+        Ok(()) => format!(in alloc; "loaded"),
+    }
+}
+
 #[test]
 fn loads_bytes_in_order(rt: HostRuntime) -> Result<(), Fail> {
     let mut memory = zeros(rt.alloc(), 2)?;
@@ -51,13 +60,15 @@ fn stops_at_a_refused_byte(rt: HostRuntime) -> Result<(), Fail> {
     let mut memory = zeros(rt.alloc(), 1)?;
     let mut reader: &[u8] = &[1, 2, 3, 4, 5, 6];
     let answer = read_to_memory(&mut reader, &mut memory, 0);
-    let text = match answer {
-        Err(fault) => format!(in rt.alloc(); "{fault}")?,
-        Ok(()) => format!(in rt.alloc(); "loaded")?,
-    };
-    assert_eq!(rt; text.as_str(), "Could not write byte at address 0x00000004");
-    assert_eq!(rt; memory.mem.as_slice(), [0x04030201].as_slice());
-    assert_eq!(rt; reader, [6].as_slice());
+    let text = text_of(rt.alloc(), answer)?;
+    assert_eq!(rt;
+        (text.as_str(), memory.mem.as_slice(), reader),
+        (
+            "Could not write byte at address 0x00000004",
+            [0x04030201].as_slice(),
+            [6].as_slice()
+        )
+    );
     Ok(())
 }
 
@@ -70,36 +81,46 @@ fn an_empty_reader_loads_anywhere(rt: HostRuntime) -> Result<(), Fail> {
     Ok(())
 }
 
+/// Reads the bytes 1 to 8 with a failure before byte `fails_at`. Returns the text of the answer, how
+/// many bytes were taken, and the memory.
+fn fail_at(
+    alloc: Global,
+    kind: io::ErrorKind,
+    fails_at: usize,
+) -> Result<(String, usize, VecMemory), AllocError> {
+    let mut memory = zeros(alloc, 2)?;
+    let mut reader = Failing {
+        bytes: &[1, 2, 3, 4, 5, 6, 7, 8],
+        given: 0,
+        step: 1,
+        fails_at,
+        kind,
+        has_failed: false,
+    };
+    let answer = read_to_memory(&mut reader, &mut memory, 0);
+    Ok((text_of(alloc, answer)?, reader.given, memory))
+}
+
+// No byte is taken after the failure.
 #[test]
 fn tells_a_failing_read(rt: HostRuntime) -> Result<(), Fail> {
-    let bytes = [1, 2, 3, 4, 5, 6, 7, 8];
+    let read_before = [
+        [0, 0],
+        [0x01, 0],
+        [0x0201, 0],
+        [0x03_0201, 0],
+        [0x0403_0201, 0],
+        [0x0403_0201, 0x05],
+        [0x0403_0201, 0x0605],
+        [0x0403_0201, 0x07_0605],
+        [0x0403_0201, 0x0807_0605],
+    ];
     for kind in [io::ErrorKind::BrokenPipe, io::ErrorKind::Interrupted] {
-        for fails_at in 0..=8 {
-            let mut memory = zeros(rt.alloc(), 2)?;
-            let mut reader = Failing {
-                bytes: &bytes,
-                given: 0,
-                step: 1,
-                fails_at,
-                kind,
-                has_failed: false,
-            };
-            let text = match read_to_memory(&mut reader, &mut memory, 0) {
-                Err(fault) => format!(in rt.alloc(); "{fault}")?,
-                Ok(()) => format!(in rt.alloc(); "loaded")?,
-            };
-            assert_eq!(rt; text.as_str(), "Could not read byte", "at {fails_at}");
-            assert_eq!(rt;
-                reader.given,
-                fails_at,
-                "no byte is taken after the failure"
-            );
-            for (address, byte) in bytes.iter().enumerate() {
-                let want = if address < fails_at { *byte } else { 0 };
-                let word = memory.mem.get(address / 4).copied().unwrap_or(0);
-                let stands = word >> (8 * (address % 4)) & 0xff;
-                assert_eq!(rt; stands, u32::from(want), "at {address} of {fails_at}");
-            }
+        for (fails_at, words) in read_before.iter().enumerate() {
+            let (text, taken, memory) = fail_at(rt.alloc(), kind, fails_at)?;
+            let left = (text.as_str(), taken, memory.mem.as_slice());
+            let expected = ("Could not read byte", fails_at, words.as_slice());
+            assert_eq!(rt; left, expected, "at {fails_at}");
         }
     }
     Ok(())
@@ -126,15 +147,18 @@ fn takes_a_reader_in_any_pieces(rt: HostRuntime) -> Result<(), Fail> {
 
 #[test]
 fn stops_between_regions(rt: HostRuntime) -> Result<(), Fail> {
-    let mut space = MemorySpace::new(rt.alloc());
-    assert_eq!(rt; space.add_memory(0, 4, zeros(rt.alloc(), 1)?), Ok(0));
-    assert_eq!(rt; space.add_memory(8, 4, zeros(rt.alloc(), 1)?), Ok(1));
+    let mut space = space_of(rt.alloc(), &[(0, 4, &[0]), (8, 4, &[0])])?;
     let mut reader: &[u8] = &[1, 2, 3, 4, 5, 6];
     let answer = read_to_memory(&mut reader, &mut space, 0);
-    assert!(rt; matches!(&answer, Err(LoadFault::Refused(4))));
-    assert_eq!(rt; space.read_mem(0, MemAccessSize::Word), Some(0x04030201));
-    assert_eq!(rt; space.read_mem(8, MemAccessSize::Word), Some(0));
-    assert_eq!(rt; reader, [6].as_slice());
+    let has_stopped = matches!(&answer, Err(LoadFault::Refused(4)));
+    let words = [
+        space.read_mem(0, MemAccessSize::Word),
+        space.read_mem(8, MemAccessSize::Word),
+    ];
+    assert_eq!(rt;
+        (has_stopped, words, reader),
+        (true, [Some(0x04030201), Some(0)], [6].as_slice())
+    );
     Ok(())
 }
 
@@ -143,16 +167,15 @@ fn ends_where_the_addresses_end(rt: HostRuntime) -> Result<(), Fail> {
     let alone: &[u8] = &[0xab];
     let two: &[u8] = &[0xab, 0xcd];
     for (bytes, fits) in [(alone, true), (two, false)] {
-        let mut space = MemorySpace::new(rt.alloc());
-        let word = zeros(rt.alloc(), 1)?;
-        assert_eq!(rt; space.add_memory(0xfffffffc, 4, word), Ok(0));
+        let mut space = space_of(rt.alloc(), &[(0xfffffffc, 4, &[0])])?;
         let mut reader = bytes;
         let answer = read_to_memory(&mut reader, &mut space, 0xffffffff);
-        assert_eq!(rt; answer.is_ok(), fits);
-        let ended = matches!(&answer, Err(LoadFault::EndOfAddresses));
-        assert_eq!(rt; ended, !fits);
-        let stands = space.read_mem(0xfffffffc, MemAccessSize::Word);
-        assert_eq!(rt; stands, Some(0xab000000));
+        let has_ended = matches!(&answer, Err(LoadFault::EndOfAddresses));
+        let word = space.read_mem(0xfffffffc, MemAccessSize::Word);
+        assert_eq!(rt;
+            (answer.is_ok(), has_ended, word),
+            (fits, !fits, Some(0xab000000))
+        );
     }
     Ok(())
 }

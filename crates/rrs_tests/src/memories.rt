@@ -7,39 +7,48 @@ use std::test::Fail;
 #[test]
 fn reads(rt: HostRuntime) -> Result<(), Fail> {
     let mut memory = VecMemory::new(vec![in rt.alloc(); 0x4433_2211]?);
-    assert_eq!(rt; memory.read_mem(0, MemAccessSize::Word), Some(0x4433_2211));
-    assert_eq!(rt; memory.read_mem(0, MemAccessSize::HalfWord), Some(0x2211));
-    assert_eq!(rt; memory.read_mem(2, MemAccessSize::HalfWord), Some(0x4433));
-    assert_eq!(rt; memory.read_mem(0, MemAccessSize::Byte), Some(0x11));
-    assert_eq!(rt; memory.read_mem(3, MemAccessSize::Byte), Some(0x44));
-    assert_eq!(rt; memory.read_mem(4, MemAccessSize::Byte), None);
-    assert_eq!(rt; memory.read_mem(4, MemAccessSize::Word), None);
-    assert_eq!(rt; memory.mem.as_slice(), [0x4433_2211].as_slice());
+    let words = [
+        memory.read_mem(0, MemAccessSize::Word),
+        memory.read_mem(4, MemAccessSize::Word),
+    ];
+    let halves = [
+        memory.read_mem(0, MemAccessSize::HalfWord),
+        memory.read_mem(2, MemAccessSize::HalfWord),
+    ];
+    let bytes = [
+        memory.read_mem(0, MemAccessSize::Byte),
+        memory.read_mem(3, MemAccessSize::Byte),
+        memory.read_mem(4, MemAccessSize::Byte),
+    ];
+    assert_eq!(rt;
+        (words, halves, bytes, memory.mem.as_slice()),
+        (
+            [Some(0x4433_2211), None],
+            [Some(0x2211), Some(0x4433)],
+            [Some(0x11), Some(0x44), None],
+            [0x4433_2211].as_slice()
+        )
+    );
     Ok(())
 }
 
 #[test]
 fn writes(rt: HostRuntime) -> Result<(), Fail> {
     let mut memory = VecMemory::new(vec![in rt.alloc(); 0x4433_2211, 0x8877_6655]?);
-    assert!(rt; memory.write_mem(2, MemAccessSize::HalfWord, 0xaaaa_bbcc));
+    let written = memory.write_mem(2, MemAccessSize::HalfWord, 0xaaaa_bbcc);
+    let left = (written, memory.mem.as_slice());
+    assert_eq!(rt; left, (true, [0xbbcc_2211, 0x8877_6655].as_slice()));
+    let written = memory.write_mem(1, MemAccessSize::Byte, 0x1ff);
+    let left = (written, memory.mem.as_slice());
+    assert_eq!(rt; left, (true, [0xbbcc_ff11, 0x8877_6655].as_slice()));
+    let written = [
+        memory.write_mem(4, MemAccessSize::Word, 0x0102_0304),
+        memory.write_mem(8, MemAccessSize::Word, 5),
+    ];
+    let left = (written, memory.mem.as_slice());
     assert_eq!(rt;
-        memory.mem.as_slice(),
-        [0xbbcc_2211, 0x8877_6655].as_slice()
-    );
-    assert!(rt; memory.write_mem(1, MemAccessSize::Byte, 0x1ff));
-    assert_eq!(rt;
-        memory.mem.as_slice(),
-        [0xbbcc_ff11, 0x8877_6655].as_slice()
-    );
-    assert!(rt; memory.write_mem(4, MemAccessSize::Word, 0x0102_0304));
-    assert_eq!(rt;
-        memory.mem.as_slice(),
-        [0xbbcc_ff11, 0x0102_0304].as_slice()
-    );
-    assert!(rt; !memory.write_mem(8, MemAccessSize::Word, 5));
-    assert_eq!(rt;
-        memory.mem.as_slice(),
-        [0xbbcc_ff11, 0x0102_0304].as_slice()
+        left,
+        ([true, false], [0xbbcc_ff11, 0x0102_0304].as_slice())
     );
     Ok(())
 }

@@ -6,10 +6,14 @@ use rrs_lib::{InstructionProcessor, process_instruction};
 use std::alloc::AllocError;
 use std::test::Fail;
 
-/// Each row of the table, and its text at address 0x100.
-#[test]
-fn each_row_has_its_text(rt: HostRuntime) -> Result<(), Fail> {
-    let table = [
+/// The text of a row.
+fn text_of(outputter: &mut InstructionStringOutputter, insn_bits: u32) -> Result<String, Fail> {
+    Ok(process_instruction(outputter, insn_bits).ok_or("no row")??)
+}
+
+/// A word of each row of the table, and its text at address 0x100.
+fn row_texts() -> [(u32, &'static str); 48] {
+    [
         (0x002081b3, "add x3, x1, x2"),
         (0x402081b3, "sub x3, x1, x2"),
         (0x002091b3, "sll x3, x1, x2"),
@@ -58,16 +62,20 @@ fn each_row_has_its_text(rt: HostRuntime) -> Result<(), Fail> {
         (0x0ff0000f, "fence"),
         (0x00000073, "ecall"),
         (0x00100073, "ebreak"),
-    ];
+    ]
+}
+
+#[test]
+fn each_row_has_its_text(rt: HostRuntime) -> Result<(), Fail> {
     let mut outputter = InstructionStringOutputter {
         insn_pc: 0x100,
         alloc: rt.alloc(),
     };
-    for (insn_bits, expected) in table {
-        let text = process_instruction(&mut outputter, insn_bits).ok_or("no row")??;
-        assert_eq!(rt; text.as_str(), expected, "the text of {insn_bits:#010x}");
+    for (insn_bits, expected) in row_texts() {
+        let text = text_of(&mut outputter, insn_bits)?;
+        let left = (text.as_str(), outputter.insn_pc);
+        assert_eq!(rt; left, (expected, 0x100), "the text of {insn_bits:#010x}");
     }
-    assert_eq!(rt; outputter.insn_pc, 0x100);
     Ok(())
 }
 
@@ -102,7 +110,7 @@ fn texts_at_address_zero(rt: HostRuntime) -> Result<(), Fail> {
         alloc: rt.alloc(),
     };
     for (insn_bits, expected) in table {
-        let text = process_instruction(&mut outputter, insn_bits).ok_or("no row")??;
+        let text = text_of(&mut outputter, insn_bits)?;
         assert_eq!(rt; text.as_str(), expected, "the text of {insn_bits:#010x}");
     }
     Ok(())
@@ -144,6 +152,17 @@ fn a_shift_amount_is_printed_in_full(rt: HostRuntime) -> Result<(), Fail> {
     Ok(())
 }
 
+/// The text of a row, which is asked for once more where its memory is refused.
+fn asked_for_twice(
+    outputter: &mut InstructionStringOutputter,
+    insn_bits: u32,
+) -> Result<String, Fail> {
+    match process_instruction(outputter, insn_bits).ok_or("no row")? {
+        Ok(text) => Ok(text),
+        Err(AllocError) => text_of(outputter, insn_bits),
+    }
+}
+
 /// Whichever allocation fails, the answer is an error or the right text, and the next is the text.
 #[test]
 fn a_refused_text_may_be_asked_for_again(rt: HostRuntime) -> Result<(), Fail> {
@@ -163,13 +182,9 @@ fn a_refused_text_may_be_asked_for_again(rt: HostRuntime) -> Result<(), Fail> {
         alloc: rt.alloc(),
     };
     for (insn_bits, expected) in table {
-        let first = process_instruction(&mut outputter, insn_bits).ok_or("no row")?;
-        let text = match first {
-            Ok(text) => text,
-            Err(AllocError) => process_instruction(&mut outputter, insn_bits).ok_or("no row")??,
-        };
-        assert_eq!(rt; text.as_str(), expected, "the text of {insn_bits:#010x}");
-        assert_eq!(rt; outputter.insn_pc, 0x100);
+        let text = asked_for_twice(&mut outputter, insn_bits)?;
+        let left = (text.as_str(), outputter.insn_pc);
+        assert_eq!(rt; left, (expected, 0x100), "the text of {insn_bits:#010x}");
     }
     Ok(())
 }

@@ -13,8 +13,7 @@ fn counts_down_from_five(rt: HostRuntime) -> Result<(), Fail> {
         hart_state: &mut hart,
     };
     let end = count_down(&mut executor);
-    assert_eq!(rt; end.steps, 10);
-    assert_eq!(rt; hart.registers[1], 0);
-    assert_eq!(rt; hart.pc, 8);
+    let left = (end.steps, hart.registers[1], hart.pc);
+    assert_eq!(rt; left, (10, 0, 8));
     Ok(())
 }

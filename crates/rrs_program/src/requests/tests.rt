@@ -13,11 +13,14 @@ fn owned(alloc: Global, words: &[&str]) -> Result<Vec<String>, Fail> {
 
 #[test]
 fn takes_a_path_and_a_limit(rt: HostRuntime) -> Result<(), Fail> {
-    let words = owned(rt.alloc(), &["rrs-run", "program", "10"])?;
-    assert_eq!(rt; request_of(&words), Some(("program", 10)));
-    let words = owned(rt.alloc(), &["", "", "0"])?;
-    assert_eq!(rt; request_of(&words), Some(("", 0)));
-    let words = owned(rt.alloc(), &["rrs-run", "10", "program"])?;
-    assert_eq!(rt; request_of(&words), None);
+    let cases: [([&str; 3], Option<(&str, u64)>); 3] = [
+        (["rrs-run", "program", "10"], Some(("program", 10))),
+        (["", "", "0"], Some(("", 0))),
+        (["rrs-run", "10", "program"], None),
+    ];
+    for (words, want) in cases {
+        let owned_words = owned(rt.alloc(), &words)?;
+        assert_eq!(rt; request_of(&owned_words), want, "of {words:?}");
+    }
     Ok(())
 }

@@ -24,31 +24,47 @@ fn takes_questions(rt: HostRuntime) -> Result<(), Fail> {
     Ok(())
 }
 
+/// The steps that this line asks for.
+fn steps_of(alloc: Global, line: &str) -> Result<Steps, Fail> {
+    match question_of(alloc, line)? {
+        Question::Steps(steps) => Ok(steps),
+        _ => Err(Fail::from("no steps")),
+    }
+}
+
 #[test]
 fn reads_the_parts_of_steps(rt: HostRuntime) -> Result<(), Fail> {
     let line =
-        "steps 12 pc=0x00000010 last=x5 regs=x1=0x00000007,x31=0x80000000 mem=0x00000013,0x0a";
-    assert!(rt; question_of(rt.alloc(), line).is_err());
-    let line =
         "steps 12 pc=0x00000010 last=x5 regs=x1=0x00000007,x31=0x80000000 mem=0x00000013,0xffffffff";
-    let Question::Steps(steps) = question_of(rt.alloc(), line)? else {
-        return Err(Fail::from("no steps"));
-    };
     let Steps {
         count,
         pc,
         last,
         registers,
         memory,
-    } = steps;
-    assert_eq!(rt; count, 12);
-    assert_eq!(rt; pc, 0x10);
-    assert_eq!(rt; last.map(|register| register.index), Some(5));
-    assert_eq!(rt; registers[1], 7);
-    assert_eq!(rt; registers[31], 0x80000000);
-    assert_eq!(rt; registers[0], 0);
-    assert_eq!(rt; memory.as_slice(), [0x13, 0xffffffff].as_slice());
+    } = steps_of(rt.alloc(), line)?;
+    let last = match last {
+        Some(register) => Some(register.index),
+        None => None,
+    };
+    let registers = [registers[0], registers[1], registers[31]];
+    let parts = (count, pc, last, registers, memory.as_slice());
+    let want = (
+        12,
+        0x10,
+        Some(5),
+        [0, 7, 0x80000000],
+        [0x13, 0xffffffff].as_slice(),
+    );
+    assert_eq!(rt; parts, want);
     Ok(())
+}
+
+#[test]
+fn takes_no_short_word_of_memory(rt: HostRuntime) {
+    let line =
+        "steps 12 pc=0x00000010 last=x5 regs=x1=0x00000007,x31=0x80000000 mem=0x00000013,0x0a";
+    assert!(rt; question_of(rt.alloc(), line).is_err());
 }
 
 #[test]

@@ -7,6 +7,9 @@ use std::test::Fail;
 /// lui x2, 0x1234b / lui x3, 0xf387e / add x1, x2, x3
 const THREE_WORDS: [u32; 3] = [0x1234_b137, 0xf387_e1b7, 0x0031_00b3];
 
+/// The same words as bytes, lowest first.
+const THREE_WORDS_BYTES: &[u8] = b"\x37\xb1\x34\x12\xb7\xe1\x87\xf3\xb3\x00\x31\x00";
+
 const THREE_WORDS_ACCOUNT: &str = "\
 0x00000000: lui x2, 0x1234b000
 0x00000004: lui x3, 0xf387e000
@@ -257,50 +260,61 @@ fn begins_with_these_lines(rt: HostRuntime) -> Result<(), Fail> {
     Ok(())
 }
 
-#[test]
-fn takes_as_many_bytes_as_there_are_addresses(rt: HostRuntime) -> Result<(), Fail> {
-    // jal x0, 65532 at the first word, and addi x0, x0, 0 at the last.
-    let mut bytes = bytes_of(rt.alloc(), &[0x7fd0_f06f])?;
+/// As many bytes as there are addresses: jal x0, 65532 at the first word, zeros, and
+/// addi x0, x0, 0 at the last.
+fn bytes_of_all_addresses(alloc: Global) -> Result<Vec<u8>, AllocError> {
+    let mut bytes = bytes_of(alloc, &[0x7fd0_f06f])?;
     for _ in 0..16382 {
         bytes.extend_from_slice(&[0; 4])?;
     }
     bytes.extend_from_slice(&[0x13, 0, 0, 0])?;
+    Ok(bytes)
+}
+
+#[test]
+fn takes_as_many_bytes_as_there_are_addresses(rt: HostRuntime) -> Result<(), Fail> {
+    let bytes = bytes_of_all_addresses(rt.alloc())?;
     let account = account_of_bytes(rt.alloc(), &bytes, 9)?;
     let want =
         "0x00000000: jal x0, 0x0000fffc\n0x0000fffc: addi x0, x0, 0\nend: FetchError pc=0x00010000, steps 2\n";
     assert!(rt; account.starts_with(want.as_bytes()));
-
-    // One byte more is refused, and the next one is not read.
-    bytes.push(0)?;
-    bytes.push(0)?;
-    let mut reader = bytes.as_slice();
-    let mut out = Vec::new(rt.alloc());
-    let result = simulate(rt.alloc(), &mut reader, 9, &mut out);
-    assert_eq!(rt; result, Err(RunFault::Refused(0x10000)));
-    assert_eq!(rt; reader.len(), 1);
-    assert!(rt; out.is_empty());
     Ok(())
 }
 
+/// One byte more is refused, and the next one is not read.
+#[test]
+fn refuses_a_byte_past_the_addresses(rt: HostRuntime) -> Result<(), Fail> {
+    let mut bytes = bytes_of_all_addresses(rt.alloc())?;
+    bytes.extend_from_slice(&[0, 0])?;
+    let mut reader = bytes.as_slice();
+    let mut out = Vec::new(rt.alloc());
+    let result = simulate(rt.alloc(), &mut reader, 9, &mut out);
+    let left = (result, reader.len(), out.len());
+    assert_eq!(rt; left, (Err(RunFault::Refused(0x10000)), 1, 0));
+    Ok(())
+}
+
+/// A reader of zeros that fails at this byte.
+fn reader_that_fails(fails_at: usize, kind: ErrorKind) -> Failing {
+    Failing {
+        given: 0,
+        fails_at,
+        kind,
+        has_failed: false,
+    }
+}
+
+/// No byte is taken after the failure, and nothing is written.
 #[test]
 fn tells_a_reader_that_fails(rt: HostRuntime) {
     for kind in [ErrorKind::Other, ErrorKind::Interrupted] {
         for fails_at in [0, 1, 2, 3, 4, 5, 6, 7, 8, 65535, 65536] {
-            let mut reader = Failing {
-                given: 0,
-                fails_at,
-                kind,
-                has_failed: false,
-            };
+            let mut reader = reader_that_fails(fails_at, kind);
             let mut out = Room { left: 1000 };
             let result = simulate(rt.alloc(), &mut reader, 10, &mut out);
-            assert_eq!(rt; result, Err(RunFault::Reader), "after {fails_at} bytes");
-            assert_eq!(rt;
-                reader.given,
-                fails_at,
-                "no byte is taken after the failure"
-            );
-            assert_eq!(rt; out.left, 1000, "after {fails_at} bytes");
+            let left = (result, reader.given, out.left);
+            let want = (Err(RunFault::Reader), fails_at, 1000);
+            assert_eq!(rt; left, want, "after {fails_at} bytes");
         }
     }
 }
@@ -309,52 +323,71 @@ fn tells_a_reader_that_fails(rt: HostRuntime) {
 fn tells_a_writer_that_fails(rt: HostRuntime) -> Result<(), Fail> {
     let bytes = bytes_of(rt.alloc(), &THREE_WORDS)?;
     let length = THREE_WORDS_ACCOUNT.len();
-    for left in 0..length {
+    for left in 0..=length {
         let result = simulate(rt.alloc(), &mut bytes.as_slice(), 10, &mut Room { left });
-        assert_eq!(rt; result, Err(RunFault::Output), "with room for {left} bytes");
+        let want = if left < length {
+            Err(RunFault::Output)
+        } else {
+            Ok(())
+        };
+        assert_eq!(rt; result, want, "with room for {left} bytes");
     }
-    let mut enough = Room { left: length };
-    assert_eq!(rt;
-        simulate(rt.alloc(), &mut bytes.as_slice(), 10, &mut enough),
-        Ok(())
-    );
+    Ok(())
+}
+
+#[test]
+fn tells_a_flush_that_fails(rt: HostRuntime) -> Result<(), Fail> {
+    let bytes = bytes_of(rt.alloc(), &THREE_WORDS)?;
     let result = simulate(rt.alloc(), &mut bytes.as_slice(), 10, &mut FailsToFlush);
     assert_eq!(rt; result, Err(RunFault::Output));
     Ok(())
 }
 
-#[test]
-fn writes_a_beginning_where_a_write_fails_once(rt: HostRuntime) -> Result<(), Fail> {
-    let bytes = bytes_of(rt.alloc(), &THREE_WORDS)?;
-    let account = THREE_WORDS_ACCOUNT.as_bytes();
-    for fails_at in 0..account.len() {
-        for kind in [ErrorKind::StorageFull, ErrorKind::Interrupted] {
-            let mut out = FailsOnce {
-                written: Vec::new(rt.alloc()),
-                fails_at,
-                kind,
-                has_failed: false,
-            };
-            let result = simulate(rt.alloc(), &mut bytes.as_slice(), 10, &mut out);
-            // A write that was interrupted is made again.
-            if kind == ErrorKind::Interrupted {
-                assert_eq!(rt; result, Ok(()), "at {fails_at}");
-                assert!(rt; out.written.as_slice() == account, "at {fails_at}");
-            } else {
-                assert_eq!(rt; result, Err(RunFault::Output), "at {fails_at}");
-                assert!(rt;
-                    out.written.as_slice() == &account[..fails_at],
-                    "at {fails_at}"
-                );
-            }
-        }
-    }
-    Ok(())
+/// How the run of three words ends where a write fails once, and what is written then.
+fn ending_where_a_write_fails(
+    alloc: Global,
+    fails_at: usize,
+    kind: ErrorKind,
+) -> (Result<(), RunFault>, Vec<u8>) {
+    let mut out = FailsOnce {
+        written: Vec::new(alloc),
+        fails_at,
+        kind,
+        has_failed: false,
+    };
+    let result = simulate(alloc, &mut THREE_WORDS_BYTES, 10, &mut out);
+    (result, out.written)
 }
 
-/// The same words, and how long the account is before each of its steps and at its end.
-const THREE_WORDS_BYTES: &[u8] = b"\x37\xb1\x34\x12\xb7\xe1\x87\xf3\xb3\x00\x31\x00";
+#[test]
+fn writes_a_beginning_where_a_write_fails_once(rt: HostRuntime) {
+    let account = THREE_WORDS_ACCOUNT.as_bytes();
+    for fails_at in 0..account.len() {
+        let (result, written) = ending_where_a_write_fails(
+            rt.alloc(),
+            fails_at,
+            ErrorKind::StorageFull,
+        );
+        let left = (result, written.as_slice() == &account[..fails_at]);
+        assert_eq!(rt; left, (Err(RunFault::Output), true), "at {fails_at}");
+    }
+}
 
+#[test]
+fn writes_again_where_a_write_is_interrupted(rt: HostRuntime) {
+    let account = THREE_WORDS_ACCOUNT.as_bytes();
+    for fails_at in 0..account.len() {
+        let (result, written) = ending_where_a_write_fails(
+            rt.alloc(),
+            fails_at,
+            ErrorKind::Interrupted,
+        );
+        let left = (result, written.as_slice() == account);
+        assert_eq!(rt; left, (Ok(()), true), "at {fails_at}");
+    }
+}
+
+/// How long the account is before each of its steps and at its end.
 const WHOLE_LINES: [usize; 5] = [0, 31, 62, 89, 636];
 
 /// With no allocation that fails this prints the whole account. With one (`docs/RUNNING.md` says
@@ -366,14 +399,13 @@ fn out_of_memory_leaves_whole_lines(rt: HostRuntime) {
     let mut out = room.as_mut_slice();
     let result = simulate(rt.alloc(), &mut THREE_WORDS_BYTES, 10, &mut out);
     let written = 1000usize.saturating_sub(out.len());
-    assert!(rt; WHOLE_LINES.contains(&written), "{written} bytes");
-    assert!(rt; account.starts_with(&room[..written]), "{written} bytes");
-    if result != Err(RunFault::OutOfMemory) {
-        assert_eq!(rt; result, Ok(()));
-        assert_eq!(rt; written, account.len());
+    let are_whole = WHOLE_LINES.contains(&written) && account.starts_with(&room[..written]);
+    let want = if written < account.len() {
+        Err(RunFault::OutOfMemory)
     } else {
-        assert!(rt; written < account.len(), "{written} bytes");
-    }
+        Ok(())
+    };
+    assert_eq!(rt; (result, are_whole), (want, true), "{written} bytes");
 }
 
 #[test]
