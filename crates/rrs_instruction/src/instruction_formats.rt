@@ -104,7 +104,8 @@ impl RType {
     pub fn new(insn: u32) -> RType
         ensures in_range { IsInRange (R result) }
         ensures encodes { insn ≡ encode (insn % 2 ^ 7) (R result) }
-        ensures only { (f : RType) → IsInRange (R f) → insn ≡ encode (insn % 2 ^ 7) (R f) → f ≡ result }
+        ensures only { (f : RType) → IsInRange (R f)
+            → insn ≡ encode (insn % 2 ^ 7) (R f) → f ≡ result }
     {
         RType {
             funct7: bits(insn, 25, 7),
@@ -116,15 +117,15 @@ impl RType {
     }
 }
 
-/// The I format: operations on a register and an immediate, loads, `jalr` and `fence`.
+/// The I format: operations on a register and an immediate, loads, `jalr`, `fence`, `ecall` and
+/// `ebreak`.
 #[derive(Debug, PartialEq, Clone, Copy)]
 pub struct IType {
     /// Bits 31 to 20 are the immediate's bits 11 to 0: it is between -2048 and 2047.
     pub imm: i32,
     /// Bits 19 to 15: the register that is read.
     pub rs1: usize,
-    /// Bits 14 to 12, below 8: which of the instructions with this opcode it is. That of `jalr`
-    /// may be anything.
+    /// Bits 14 to 12, below 8: which of the instructions with this opcode it is.
     pub funct3: u32,
     /// Bits 11 to 7: the register that is written.
     pub rd: usize,
@@ -135,7 +136,8 @@ impl IType {
     pub fn new(insn: u32) -> IType
         ensures in_range { IsInRange (I result) }
         ensures encodes { insn ≡ encode (insn % 2 ^ 7) (I result) }
-        ensures only { (f : IType) → IsInRange (I f) → insn ≡ encode (insn % 2 ^ 7) (I f) → f ≡ result }
+        ensures only { (f : IType) → IsInRange (I f)
+            → insn ≡ encode (insn % 2 ^ 7) (I f) → f ≡ result }
     {
         IType {
             imm: sign_extended(bits(insn, 20, 12), 12),
@@ -150,8 +152,7 @@ impl IType {
 /// `srai`.
 #[derive(Debug, PartialEq, Clone, Copy)]
 pub struct ITypeShamt {
-    /// Bits 31 to 25, below 128: which of the instructions with this opcode and funct3 it is. That
-    /// of `slli` may be anything.
+    /// Bits 31 to 25, below 128: which of the instructions with this opcode and funct3 it is.
     pub funct7: u32,
     /// Bits 24 to 20, below 32: how many bits the value of `rs1` is shifted by.
     pub shamt: u32,
@@ -168,7 +169,8 @@ impl ITypeShamt {
     pub fn new(insn: u32) -> ITypeShamt
         ensures in_range { IsInRange (IShamt result) }
         ensures encodes { insn ≡ encode (insn % 2 ^ 7) (IShamt result) }
-        ensures only { (f : ITypeShamt) → IsInRange (IShamt f) → insn ≡ encode (insn % 2 ^ 7) (IShamt f) → f ≡ result }
+        ensures only { (f : ITypeShamt) → IsInRange (IShamt f)
+            → insn ≡ encode (insn % 2 ^ 7) (IShamt f) → f ≡ result }
     {
         ITypeShamt {
             funct7: bits(insn, 25, 7),
@@ -199,7 +201,8 @@ impl SType {
     pub fn new(insn: u32) -> SType
         ensures in_range { IsInRange (S result) }
         ensures encodes { insn ≡ encode (insn % 2 ^ 7) (S result) }
-        ensures only { (f : SType) → IsInRange (S f) → insn ≡ encode (insn % 2 ^ 7) (S f) → f ≡ result }
+        ensures only { (f : SType) → IsInRange (S f)
+            → insn ≡ encode (insn % 2 ^ 7) (S f) → f ≡ result }
     {
         SType {
             imm: sign_extended((bits(insn, 25, 7) << 5) + bits(insn, 7, 5), 12),
@@ -230,7 +233,8 @@ impl BType {
     pub fn new(insn: u32) -> BType
         ensures in_range { IsInRange (B result) }
         ensures encodes { insn ≡ encode (insn % 2 ^ 7) (B result) }
-        ensures only { (f : BType) → IsInRange (B f) → insn ≡ encode (insn % 2 ^ 7) (B f) → f ≡ result }
+        ensures only { (f : BType) → IsInRange (B f)
+            → insn ≡ encode (insn % 2 ^ 7) (B f) → f ≡ result }
     {
         BType {
             imm: sign_extended(
@@ -262,7 +266,8 @@ impl UType {
     pub fn new(insn: u32) -> UType
         ensures in_range { IsInRange (U result) }
         ensures encodes { insn ≡ encode (insn % 2 ^ 7) (U result) }
-        ensures only { (f : UType) → IsInRange (U f) → insn ≡ encode (insn % 2 ^ 7) (U f) → f ≡ result }
+        ensures only { (f : UType) → IsInRange (U f)
+            → insn ≡ encode (insn % 2 ^ 7) (U f) → f ≡ result }
     {
         UType {
             imm: (bits(insn, 12, 20) << 12).cast_signed(),
@@ -287,7 +292,8 @@ impl JType {
     pub fn new(insn: u32) -> JType
         ensures in_range { IsInRange (J result) }
         ensures encodes { insn ≡ encode (insn % 2 ^ 7) (J result) }
-        ensures only { (f : JType) → IsInRange (J f) → insn ≡ encode (insn % 2 ^ 7) (J f) → f ≡ result }
+        ensures only { (f : JType) → IsInRange (J f)
+            → insn ≡ encode (insn % 2 ^ 7) (J f) → f ≡ result }
     {
         JType {
             imm: sign_extended(

@@ -17,7 +17,7 @@
 //! | loads | `lw x3, -4(x1)`: rd, the offset and the base |
 //! | stores | `sw x2, 8(x1)`: the register that is stored, the offset and the base |
 //! | `jalr` | `jalr x3, 0x014(x1)`: the offset modulo 2^32, in at least 3 digits |
-//! | `fence` | `fence` |
+//! | `fence`, `ecall`, `ebreak` | `fence`: the mnemonic alone |
 
 ghost use Rattle.std.specs.Prelude.{◌≡◌, ◌++◌, codes, IfOk, string_bytes};
 ghost use Rattle.std.specs.Fmt.{decimal, signed_decimal};

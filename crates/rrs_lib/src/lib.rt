@@ -24,7 +24,8 @@ pub use rrs_memory::{MemAccessSize, Memory, memories};
 /// The state of a single RISC-V hart (hardware thread).
 #[derive(Drop)]
 pub struct HartState {
-    /// The registers x1 to x31. What entry 0 holds is never read or changed: x0 is 0.
+    /// The registers x1 to x31. x0 is 0, whatever entry 0 holds, and no call leaves another value
+    /// there than it found.
     pub registers: [u32; 32],
     /// The program counter: the address, in bytes, of the next instruction.
     pub pc: u32,
