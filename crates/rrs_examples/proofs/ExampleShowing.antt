@@ -4,31 +4,31 @@ use Rattle.rrs_lib.specs.Encodings.{Fields}
 use Rattle.rrs_lib.specs.Table.{Row, Decodes}
 use Rattle.rrs_lib.proofs.Examples.{of_R, of_I, of_IShamt, of_S, of_B, of_U, of_J}
 use Rattle.rrs_lib.proofs.Rows.{one_row_at_most}
-use Rattle.rrs_extra.specs.Showing.{shown_by, ShowAlike}
+use Rattle.rrs_extra.specs.Showing.{shown_of, ShowAlike}
 
 -- what a text of each format shows: sub x3, x1, x2; addi x3, x1, -5; srai x3, x1, 7; sw x2, 8(x1); beq x1, x2 by 8; lui x3; jal x3 by 16; fence
-pub shows-R : shown_by Row.Sub (of_R 0x20 2 1 0 3) ≡ pos 3 ∷ pos 1 ∷ pos 2 ∷ []
+pub shows-R : shown_of Row.Sub (of_R 0x20 2 1 0 3) ≡ pos 3 ∷ pos 1 ∷ pos 2 ∷ []
 shows-R = refl
 
-pub shows-I : shown_by Row.Addi (of_I (neg_ℤ (pos 5)) 1 0 3) ≡ pos 3 ∷ pos 1 ∷ neg_ℤ (pos 5) ∷ []
+pub shows-I : shown_of Row.Addi (of_I (neg_ℤ (pos 5)) 1 0 3) ≡ pos 3 ∷ pos 1 ∷ neg_ℤ (pos 5) ∷ []
 shows-I = refl
 
-pub shows-IShamt : shown_by Row.Srai (of_IShamt 0x20 7 1 5 3) ≡ pos 3 ∷ pos 1 ∷ pos 7 ∷ []
+pub shows-IShamt : shown_of Row.Srai (of_IShamt 0x20 7 1 5 3) ≡ pos 3 ∷ pos 1 ∷ pos 7 ∷ []
 shows-IShamt = refl
 
-pub shows-S : shown_by Row.Sw (of_S (pos 8) 2 1 2) ≡ pos 2 ∷ pos 1 ∷ pos 8 ∷ []
+pub shows-S : shown_of Row.Sw (of_S (pos 8) 2 1 2) ≡ pos 2 ∷ pos 1 ∷ pos 8 ∷ []
 shows-S = refl
 
-pub shows-B : shown_by Row.Beq (of_B (pos 8) 2 1 0) ≡ pos 1 ∷ pos 2 ∷ pos 8 ∷ []
+pub shows-B : shown_of Row.Beq (of_B (pos 8) 2 1 0) ≡ pos 1 ∷ pos 2 ∷ pos 8 ∷ []
 shows-B = refl
 
-pub shows-U : shown_by Row.Lui (of_U (pos 0x12345000) 3) ≡ pos 3 ∷ pos 0x12345000 ∷ []
+pub shows-U : shown_of Row.Lui (of_U (pos 0x12345000) 3) ≡ pos 3 ∷ pos 0x12345000 ∷ []
 shows-U = refl
 
-pub shows-J : shown_by Row.Jal (of_J (pos 16) 3) ≡ pos 3 ∷ pos 16 ∷ []
+pub shows-J : shown_of Row.Jal (of_J (pos 16) 3) ≡ pos 3 ∷ pos 16 ∷ []
 shows-J = refl
 
-pub shows-fence : shown_by Row.Fence (of_I (pos 255) 0 0 0) ≡ []
+pub shows-fence : shown_of Row.Fence (of_I (pos 255) 0 0 0) ≡ []
 shows-fence = refl
 
 -- fence with two values of its immediate
@@ -49,16 +49,16 @@ beq_4 : Decodes 0x00000263 Row.Beq (of_B (pos 4) 0 0 0)
 beq_4 = record { format = refl; in_range = (omega arith, omega arith, omega arith, omega arith, omega arith, refl); functs = refl; operands = tt; encoded = refl }
 
 -- what shows alike is the same by the row and the fields that each word is
-alike_at : (v w : ℕ) (row : Row) (f g : Fields) → Decodes v row f → Decodes w row g → ShowAlike v w → shown_by row f ≡ shown_by row g
+alike_at : (v w : ℕ) (row : Row) (f g : Fields) → Decodes v row f → Decodes w row g → ShowAlike v w → shown_of row f ≡ shown_of row g
 alike_at v w row f g is is' alike =
     let one = one_row_at_most v alike.row row alike.first_fields f alike.is_first is in
     let other = one_row_at_most w alike.row row alike.second_fields g alike.is_second is' in
-    let same : shown_by alike.row alike.first_fields ≡ shown_by alike.row alike.second_fields = alike.same in
+    let same : shown_of alike.row alike.first_fields ≡ shown_of alike.row alike.second_fields = alike.same in
     cc (one.0, one.1, other.1)
 
 pub not_alike-beq : ¬ ShowAlike 0x00000463 0x00000263
 not_alike-beq alike =
-    let same : shown_by Row.Beq (of_B (pos 8) 0 0 0) ≡ shown_by Row.Beq (of_B (pos 4) 0 0 0) = alike_at 0x00000463 0x00000263 Row.Beq _ _ beq_8 beq_4 alike in
+    let same : shown_of Row.Beq (of_B (pos 8) 0 0 0) ≡ shown_of Row.Beq (of_B (pos 4) 0 0 0) = alike_at 0x00000463 0x00000263 Row.Beq _ _ beq_8 beq_4 alike in
     cc
 
 -- slli x3, x1, 7 and srli x3, x1, 7

@@ -11,10 +11,11 @@ use Rattle.rrs_lib.specs.declared.instruction_formats.BType.{BType}
 use Rattle.rrs_lib.specs.declared.instruction_formats.UType.{UType}
 use Rattle.rrs_lib.specs.declared.instruction_formats.JType.{JType}
 use Rattle.rrs_lib.specs.Encodings.{Fields, R, I, IShamt, S, B, U, J, IsInRange}
-use Rattle.rrs_lib.specs.Table.{Row, Format, InR, InI, InIShamt, InS, InB, InU, InJ, table, format_of, Decodes, IsRowAnd}
-use Rattle.rrs_lib.specs.Texts.{name_of, text_of}
+use Rattle.rrs_lib.specs.Table.{Row, Format, InR, InI, InIShamt, InS, InB, InU, InJ, table, format_of, Decodes, IsRowAnd, Action, OnRegisters, OnImmediate, OnShamt, LoadUpper, AddUpperToPc, BranchIf, BranchUnless, Load, Store, JumpAndLink, JumpAndLinkRegister, NoEffect, CallEnvironment, Break}
+use Rattle.rrs_lib.specs.Texts.{name_of, text_by, text_of}
+use Rattle.rrs_lib.proofs.Actions.{format_of_action, format_of_row}
 use Rattle.rrs_lib.proofs.Rows.{one_row_at_most}
-use Rattle.rrs_extra.specs.Showing.{shown_by, ShowAlike, Asked, IfBothTexts}
+use Rattle.rrs_extra.specs.Showing.{shown_by, shown_of, ShowAlike, Asked, IfBothTexts}
 use Rattle.rrs_extra.proofs.Names.{first_word, same_row}
 use Rattle.rrs_extra.proofs.Operands.{three-alike, two-alike, shift-alike, lui-alike, auipc-alike, branch-alike, load-alike, store-alike, jal-alike, jalr-alike}
 
@@ -76,17 +77,29 @@ begins_with_name : (row : Row) → ForEach (BeginsWithName row) (table row).form
 begins_with_name Row.Add = λ f p pc. refl
 begins_with_name _ = λ f p pc. refl
 
--- the texts are equal exactly when what they show is
-abbrev ShownAlike : Row → Fields → Fields → Type 0
-ShownAlike row f g = (pc : ℕ) → (text_of row f pc ≡ text_of row g pc) ↔ (shown_by row f ≡ shown_by row g)
+-- the texts of rows that do one thing are equal exactly when what they show is
+abbrev ShownAlike : Action → Row → Fields → Fields → Type 0
+ShownAlike action row f g = (pc : ℕ) → (text_by action row f pc ≡ text_by action row g pc) ↔ (shown_by action f ≡ shown_by action g)
 
 -- rows whose texts show no operands
 no-operands : {A B : Type 0} (x : A) (y : B) → (x ≡ x) ↔ (y ≡ y)
 no-operands x y = (λ _. refl, λ _. refl)
 
-shown_alike : (row : Row) → ForBoth (ShownAlike row) (table row).format
-shown_alike Row.Jalr = λ f g p q pc. jalr-alike f g p q
-shown_alike _ = λ f g p q pc. search (three-alike, two-alike, shift-alike, lui-alike, auipc-alike, branch-alike, load-alike, store-alike, jal-alike, no-operands)
+shown_alike : (action : Action) (row : Row) → ForBoth (ShownAlike action row) (format_of_action action)
+shown_alike (OnRegisters op) row = λ f g p q pc. three-alike row f g p q
+shown_alike (OnImmediate op) row = λ f g p q pc. two-alike row f g p q
+shown_alike (OnShamt op) row = λ f g p q pc. shift-alike row f g p q
+shown_alike LoadUpper row = λ f g p q pc. lui-alike row f g p q
+shown_alike AddUpperToPc row = λ f g p q pc. auipc-alike row pc f g p q
+shown_alike (BranchIf test) row = λ f g p q pc. branch-alike row pc f g p q
+shown_alike (BranchUnless test) row = λ f g p q pc. branch-alike row pc f g p q
+shown_alike (Load n extended) row = λ f g p q pc. load-alike row f g p q
+shown_alike (Store n) row = λ f g p q pc. store-alike row f g p q
+shown_alike JumpAndLink row = λ f g p q pc. jal-alike row pc f g p q
+shown_alike JumpAndLinkRegister row = λ f g p q pc. jalr-alike row f g p q
+shown_alike NoEffect row = λ f g p q pc. no-operands _ _
+shown_alike CallEnvironment row = λ f g p q pc. no-operands _ _
+shown_alike Break row = λ f g p q pc. no-operands _ _
 
 -- ---- two words
 
@@ -98,8 +111,8 @@ text-name w row f pc text is e =
     cc
 
 -- the texts of one row, by the words
-texts_of_row : (v w : ℕ) (row : Row) (f g : Fields) (pc : ℕ) → Decodes v row f → Decodes w row g → (text_of row f pc ≡ text_of row g pc) ↔ (shown_by row f ≡ shown_by row g)
-texts_of_row v w row f g pc is is' = at_both (ShownAlike row) (table row).format f g is.format is'.format (shown_alike row) is.in_range is'.in_range pc
+texts_of_row : (v w : ℕ) (row : Row) (f g : Fields) (pc : ℕ) → Decodes v row f → Decodes w row g → (text_of row f pc ≡ text_of row g pc) ↔ (shown_of row f ≡ shown_of row g)
+texts_of_row v w row f g pc is is' = at_both (ShownAlike (table row).action row) (format_of_action (table row).action) f g (is.format ∙ format_of_row row) (is'.format ∙ format_of_row row) (shown_alike (table row).action row) is.in_range is'.in_range pc
 
 -- equal texts have one row, and it shows the same of both
 from_text : (pc first second : ℕ) (text : List ℕ) (row row' : Row) (f f' : Fields) → Decodes first row f → Decodes second row' f'

@@ -2,9 +2,8 @@
 use Rattle.std.proofs.Common.{◌≡◌, ℕ, List, [], ◌∷◌, Option, Some, ◌==◌, if◌then◌else◌, refl, ap}
 use Rattle.std.specs.List.{find}
 use Rattle.std.specs.Str.{bytes_eq}
-use Rattle.rrs_lib.specs.Table.{Row}
+use Rattle.rrs_lib.specs.Table.{Row, all_rows}
 use Rattle.rrs_lib.specs.Texts.{name_of}
-use Rattle.rrs_lib.proofs.Rows.{all_rows}
 
 -- what stands before the first blank, or the whole text where there is none
 abbrev pub first_word : List ℕ → List ℕ

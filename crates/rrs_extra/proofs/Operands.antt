@@ -229,11 +229,11 @@ jump-read name q q' y z r r' a a' c c' e =
     (register_piece q a) (register_piece q' a') (prefixed_piece 3 y) (prefixed_piece 3 z) e in
     (same_register q q' a a' same.0, same_prefixed 3 y z same.1, same_register r r' c c' same.2)
 
-pub jalr-alike : (f g : IType) → IsInRange (I f) → IsInRange (I g)
-    → (Some (jump_to_place f) ≡ Some (jump_to_place g)) ↔ (shown (I f) ≡ shown (I g))
-jalr-alike f g p q = (
+pub jalr-alike : (row : Row) (f g : IType) → IsInRange (I f) → IsInRange (I g)
+    → (Some (jump_to_place row f) ≡ Some (jump_to_place row g)) ↔ (shown (I f) ≡ shown (I g))
+jalr-alike row f g p q = (
   λ e.
-      let same = jump-read (table Row.Jalr).name f.rd g.rd f.imm g.imm f.rs1 g.rs1 p.0 q.0 p.2 q.2 (same_Some _ _ e) in
+      let same = jump-read (table row).name f.rd g.rd f.imm g.imm f.rs1 g.rs1 p.0 q.0 p.2 q.2 (same_Some _ _ e) in
       cc (same.0, same.2, same_immediate f.imm g.imm (omega (arith, ints)) (omega (arith, ints)) (omega (arith, ints)) (omega (arith, ints)) same.1),
   λ s. (cc),
 )

@@ -4,7 +4,7 @@ use Rattle.rrs_lib.specs.declared.instruction_formats.IType.{IType}
 use Rattle.rrs_lib.specs.Encodings.{Fields, R, I, IShamt, S, B, U, J, encode}
 use Rattle.rrs_lib.specs.Table.{Row, table, format_of, MeetsFuncts, MeetsOperands, Decodes, IsRowAnd}
 use Rattle.rrs_lib.specs.Texts.{text_of}
-use Rattle.rrs_extra.specs.Showing.{shown, shown_by, ShowAlike, AreOneOrFences, Asked, IfBothTexts}
+use Rattle.rrs_extra.specs.Showing.{shown, shown_of, ShowAlike, AreOneOrFences, Asked, IfBothTexts}
 use Rattle.rrs_extra.proofs.Faithful.{ForBoth, at_both, faithful}
 
 -- the funct3 and the funct7 of fields that have them
@@ -71,7 +71,7 @@ abbrev IsAsSaid : Row → Fields → Type 0
 IsAsSaid row f = MeetsFuncts (table row).funct3 (table row).funct7 f × MeetsOperands (table row).operands f
 
 abbrev Determined : Row → Fields → Fields → Type 0
-Determined row f g = IsAsSaid row f → IsAsSaid row g → shown_by row f ≡ shown_by row g → f ≡ g
+Determined row f g = IsAsSaid row f → IsAsSaid row g → shown_of row f ≡ shown_of row g → f ≡ g
 
 -- operands that are fixed are what a text of them would show
 fixed_alike : {imm : ℤ} (f g : IType) → (f.rd ≡ 0) × (f.rs1 ≡ 0) × (f.imm ≡ imm) → (g.rd ≡ 0) × (g.rs1 ≡ 0) × (g.imm ≡ imm) → shown (I f) ≡ shown (I g)
@@ -84,7 +84,7 @@ determined Row.Ebreak strict = λ f g p q a b s. same_fields _ _ refl (fixed_ali
 determined _ strict = λ f g p q a b s. same_fields _ _ refl s (cc)
 
 -- Two words of one row that is not lax are equal if they show the same.
-pub same_words : (v w : ℕ) (row : Row) (f g : Fields) → ¬ IsLax row → Decodes v row f → Decodes w row g → shown_by row f ≡ shown_by row g → v ≡ w
+pub same_words : (v w : ℕ) (row : Row) (f g : Fields) → ¬ IsLax row → Decodes v row f → Decodes w row g → shown_of row f ≡ shown_of row g → v ≡ w
 same_words v w row f g strict is is' s =
     let fields : f ≡ g = at_both (Determined row) (table row).format f g is.format is'.format (determined row strict) is.in_range is'.in_range (is.functs, is.operands) (is'.functs, is'.operands) s in
     is.encoded ∙ ap (encode (table row).opcode) fields ∙ sym is'.encoded

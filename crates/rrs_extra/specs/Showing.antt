@@ -5,7 +5,7 @@ use Rattle.std.specs.Prelude.{◌≡◌, ◌⊎◌, ℕ, List, [], ◌∷◌, �
 use Rattle.std.specs.declared.alloc.AllocError.{AllocError}
 use Rattle.std.specs.declared.alloc.Global.{Global}
 use Rattle.rrs_lib.specs.Encodings.{Fields, R, I, IShamt, S, B, U, J}
-use Rattle.rrs_lib.specs.Table.{Row, Decodes}
+use Rattle.rrs_lib.specs.Table.{Row, table, Action, NoEffect, CallEnvironment, Break, Decodes}
 
 -- the fields of each format that texts show
 abbrev pub shown : Fields → List ℤ
@@ -17,12 +17,16 @@ shown (B f) = pos f.rs1 ∷ pos f.rs2 ∷ f.imm ∷ []
 shown (U f) = pos f.rd ∷ f.imm ∷ []
 shown (J f) = pos f.rd ∷ f.imm ∷ []
 
--- what the texts of a row show
-abbrev pub shown_by : Row → Fields → List ℤ
-shown_by Row.Fence f = []
-shown_by Row.Ecall f = []
-shown_by Row.Ebreak f = []
+-- what the texts of rows that do this show
+abbrev pub shown_by : Action → Fields → List ℤ
+shown_by NoEffect f = []
+shown_by CallEnvironment f = []
+shown_by Break f = []
 shown_by _ f = shown f
+
+-- what the texts of a row show
+abbrev pub shown_of : Row → Fields → List ℤ
+shown_of row f = shown_by (table row).action f
 
 -- two words are of one row, and what its texts show of their fields is equal
 pub record ShowAlike (first second : ℕ) : Type 0 where
@@ -31,7 +35,7 @@ pub record ShowAlike (first second : ℕ) : Type 0 where
   pub second_fields : Fields
   pub is_first : Decodes first row first_fields
   pub is_second : Decodes second row second_fields
-  pub same : shown_by row first_fields ≡ shown_by row second_fields
+  pub same : shown_of row first_fields ≡ shown_of row second_fields
 
 -- a word of the row fence, whatever its other fields
 abbrev pub IsFence : ℕ → Type 0

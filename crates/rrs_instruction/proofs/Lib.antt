@@ -1,3 +1,4 @@
+pub mod Actions
 pub mod Bitwise
 pub mod Decoder
 pub mod Examples

@@ -1,7 +1,7 @@
--- The instruction set: words, encodings, the table of rows, instructions as values, and results.
+-- The instruction set: words, encodings, results, the table of rows, and instructions as values.
 -- docs/READING.md leads through them.
 pub mod Words
 pub mod Encodings
+pub mod Results
 pub mod Table
 pub mod Instructions
-pub mod Results

@@ -1,4 +1,5 @@
 -- Lemmas of the crates below that proofs of programs and of memories cite.
+pub use Rattle.rrs_instruction.proofs.Actions
 pub use Rattle.rrs_instruction.proofs.Decoder
 pub use Rattle.rrs_instruction.proofs.Examples
 pub use Rattle.rrs_instruction.proofs.Fields

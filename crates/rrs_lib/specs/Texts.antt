@@ -10,7 +10,7 @@ use Rattle.rrs_instruction.specs.declared.instruction_formats.ITypeShamt.{ITypeS
 use Rattle.rrs_instruction.specs.declared.instruction_formats.BType.{BType}
 use Rattle.rrs_instruction.specs.Words.{word}
 use Rattle.rrs_instruction.specs.Encodings.{Fields, R, I, IShamt, S, B, U, J}
-use Rattle.rrs_instruction.specs.Table.{Row, table}
+use Rattle.rrs_instruction.specs.Table.{Row, table, Action, OnRegisters, OnImmediate, OnShamt, LoadUpper, AddUpperToPc, BranchIf, BranchUnless, Load, Store, JumpAndLink, JumpAndLinkRegister, NoEffect, CallEnvironment, Break}
 pub use Rattle.rrs_memory.specs.Hexadecimal.{hexadecimal}
 use Rattle.rrs_instruction.specs.Results.{plus_immediate}
 
@@ -60,61 +60,31 @@ register_and_place row r imm base =
     name_of row ++ codes " " ++ register r
     ++ codes ", " ++ signed_decimal imm ++ codes "(" ++ register base ++ codes ")"
 
--- jalr xD, and immediate(xA) in hexadecimal: the immediate modulo 2 ^ 32, in at least 3 digits
-abbrev pub jump_to_place : IType → List ℕ
-jump_to_place f =
-    name_of Row.Jalr ++ codes " " ++ register f.rd
+-- name xD, and immediate(xA) in hexadecimal: the immediate modulo 2 ^ 32, in at least 3 digits
+abbrev pub jump_to_place : Row → IType → List ℕ
+jump_to_place row f =
+    name_of row ++ codes " " ++ register f.rd
     ++ codes ", 0x" ++ hexadecimal 3 (word f.imm) ++ codes "(" ++ register f.rs1 ++ codes ")"
 
--- The text of a row with its fields at an address. There is none where the fields are of another
--- format.
+-- The text of a row that does this with its fields, at an address. There is none where the fields
+-- are of another format than the action's.
+abbrev pub text_by : Action → Row → Fields → ℕ → Option (List ℕ)
+text_by (OnRegisters op) row (R f) pc = Some (three_registers row f)
+text_by (OnImmediate op) row (I f) pc = Some (two_registers row f)
+text_by (OnShamt op) row (IShamt f) pc = Some (shifted_register row f)
+text_by LoadUpper row (U f) pc = Some (register_and_word row f.rd (word f.imm))
+text_by AddUpperToPc row (U f) pc = Some (register_and_word row f.rd (sum_from pc f.imm))
+text_by (BranchIf test) row (B f) pc = Some (branch_to row f pc)
+text_by (BranchUnless test) row (B f) pc = Some (branch_to row f pc)
+text_by (Load n extended) row (I f) pc = Some (register_and_place row f.rd f.imm f.rs1)
+text_by (Store n) row (S f) pc = Some (register_and_place row f.rs2 f.imm f.rs1)
+text_by JumpAndLink row (J f) pc = Some (register_and_word row f.rd (sum_from pc f.imm))
+text_by JumpAndLinkRegister row (I f) pc = Some (jump_to_place row f)
+text_by NoEffect row (I f) pc = Some (name_of row)
+text_by CallEnvironment row (I f) pc = Some (name_of row)
+text_by Break row (I f) pc = Some (name_of row)
+text_by _ row _ pc = None
+
+-- the text of a row with its fields at an address
 abbrev pub text_of : Row → Fields → ℕ → Option (List ℕ)
-text_of Row.Add (R f) pc = Some (three_registers Row.Add f)
-text_of Row.Sub (R f) pc = Some (three_registers Row.Sub f)
-text_of Row.Sll (R f) pc = Some (three_registers Row.Sll f)
-text_of Row.Slt (R f) pc = Some (three_registers Row.Slt f)
-text_of Row.Sltu (R f) pc = Some (three_registers Row.Sltu f)
-text_of Row.Xor (R f) pc = Some (three_registers Row.Xor f)
-text_of Row.Srl (R f) pc = Some (three_registers Row.Srl f)
-text_of Row.Sra (R f) pc = Some (three_registers Row.Sra f)
-text_of Row.Or (R f) pc = Some (three_registers Row.Or f)
-text_of Row.And (R f) pc = Some (three_registers Row.And f)
-text_of Row.Addi (I f) pc = Some (two_registers Row.Addi f)
-text_of Row.Slli (IShamt f) pc = Some (shifted_register Row.Slli f)
-text_of Row.Slti (I f) pc = Some (two_registers Row.Slti f)
-text_of Row.Sltiu (I f) pc = Some (two_registers Row.Sltiu f)
-text_of Row.Xori (I f) pc = Some (two_registers Row.Xori f)
-text_of Row.Srli (IShamt f) pc = Some (shifted_register Row.Srli f)
-text_of Row.Srai (IShamt f) pc = Some (shifted_register Row.Srai f)
-text_of Row.Ori (I f) pc = Some (two_registers Row.Ori f)
-text_of Row.Andi (I f) pc = Some (two_registers Row.Andi f)
-text_of Row.Lui (U f) pc = Some (register_and_word Row.Lui f.rd (word f.imm))
-text_of Row.Auipc (U f) pc = Some (register_and_word Row.Auipc f.rd (sum_from pc f.imm))
-text_of Row.Beq (B f) pc = Some (branch_to Row.Beq f pc)
-text_of Row.Bne (B f) pc = Some (branch_to Row.Bne f pc)
-text_of Row.Blt (B f) pc = Some (branch_to Row.Blt f pc)
-text_of Row.Bltu (B f) pc = Some (branch_to Row.Bltu f pc)
-text_of Row.Bge (B f) pc = Some (branch_to Row.Bge f pc)
-text_of Row.Bgeu (B f) pc = Some (branch_to Row.Bgeu f pc)
-text_of Row.Lb (I f) pc = Some (register_and_place Row.Lb f.rd f.imm f.rs1)
-text_of Row.Lbu (I f) pc = Some (register_and_place Row.Lbu f.rd f.imm f.rs1)
-text_of Row.Lh (I f) pc = Some (register_and_place Row.Lh f.rd f.imm f.rs1)
-text_of Row.Lhu (I f) pc = Some (register_and_place Row.Lhu f.rd f.imm f.rs1)
-text_of Row.Lw (I f) pc = Some (register_and_place Row.Lw f.rd f.imm f.rs1)
-text_of Row.Sb (S f) pc = Some (register_and_place Row.Sb f.rs2 f.imm f.rs1)
-text_of Row.Sh (S f) pc = Some (register_and_place Row.Sh f.rs2 f.imm f.rs1)
-text_of Row.Sw (S f) pc = Some (register_and_place Row.Sw f.rs2 f.imm f.rs1)
-text_of Row.Jal (J f) pc = Some (register_and_word Row.Jal f.rd (sum_from pc f.imm))
-text_of Row.Jalr (I f) pc = Some (jump_to_place f)
-text_of Row.Mul (R f) pc = Some (three_registers Row.Mul f)
-text_of Row.Mulh (R f) pc = Some (three_registers Row.Mulh f)
-text_of Row.Mulhu (R f) pc = Some (three_registers Row.Mulhu f)
-text_of Row.Mulhsu (R f) pc = Some (three_registers Row.Mulhsu f)
-text_of Row.Div (R f) pc = Some (three_registers Row.Div f)
-text_of Row.Divu (R f) pc = Some (three_registers Row.Divu f)
-text_of Row.Rem (R f) pc = Some (three_registers Row.Rem f)
-text_of Row.Remu (R f) pc = Some (three_registers Row.Remu f)
-text_of Row.Fence (I f) pc = Some (name_of Row.Fence)
-text_of Row.Ecall (I f) pc = Some (name_of Row.Ecall)
-text_of Row.Ebreak (I f) pc = Some (name_of Row.Ebreak)
-text_of _ _ pc = None
+text_of row f pc = text_by (table row).action row f pc
