@@ -13,7 +13,7 @@ use Rattle.rrs_lib.proofs.Examples.{of_R, of_I, of_IShamt, of_S, of_B}
 use Rattle.rrs_lib.proofs.Decoder.{decodes}
 use Rattle.rrs_lib.proofs.Programs
 use Rattle.rrs_lib.proofs.Programs.{at, Others, registers_by}
-use Rattle.rrs_lib.proofs.Accesses.{outside_from_none, read-stored, read-kept, store-outside, write-allowed}
+use Rattle.rrs_lib.proofs.ByteLemmas.{outside_from_none, read-stored, read-kept, store-outside, write-allowed}
 use Rattle.rrs_extra.specs.Programs.{HoldsWords, IsMapped, IsWritable, AreApart, CopyWordsStarts, CopiesWords, copy_steps, word_at, copy_words_program}
 use Rattle.rrs_extra.proofs.Words.{word_read, instruction, read_after, holds_after}
 

@@ -15,7 +15,7 @@ use Rattle.rrs_lib.proofs.Examples.{of_I, of_S, of_B, of_J}
 use Rattle.rrs_lib.proofs.Decoder.{decodes}
 use Rattle.rrs_lib.proofs.Programs
 use Rattle.rrs_lib.proofs.Programs.{at, Others, registers_by}
-use Rattle.rrs_lib.proofs.Accesses.{Outside, outside_from_none, store-outside, write-allowed}
+use Rattle.rrs_lib.proofs.ByteLemmas.{Outside, outside_from_none, store-outside, write-allowed}
 use Rattle.rrs_lib.proofs.Making.{AccessesOfRun-unique, accesses_of_illegal}
 use Rattle.rrs_lib.proofs.Rows.{one_row_at_most}
 use Rattle.rrs_lib.proofs.AccessChains

@@ -4,7 +4,7 @@ use Rattle.std.proofs.lemmas.Bool.{eqb-true, and_parts}
 use Rattle.rrs_lib.specs.Encodings.{Fields}
 use Rattle.rrs_lib.specs.Table.{Row, Decodes}
 use Rattle.rrs_lib.specs.Bytes.{ByteMap, little_endian}
-use Rattle.rrs_lib.proofs.Accesses.{Outside, read-mapped, read-kept, outside_from_none}
+use Rattle.rrs_lib.proofs.ByteLemmas.{Outside, read-mapped, read-kept, outside_from_none}
 use Rattle.rrs_lib.proofs.Programs.{Fetches, fetches}
 use Rattle.rrs_extra.specs.Programs.{HoldsWords, IsMapped, AreApart, or_zero, word_at}
 
@@ -60,13 +60,3 @@ each_holds bytes a (w ∷ words) test (suc i) less =
 
 pub holds_by_test : (bytes : ByteMap) (a : ℕ) (words : List ℕ) → holds_test bytes a words ≡ true → HoldsWords bytes a words
 holds_by_test bytes a words test = record { each = each_holds bytes a words test }
-
--- whether the n bytes from a on are mapped
-abbrev pub mapped_test : ByteMap → ℕ → ℕ → Bool
-mapped_test bytes a zero = true
-mapped_test bytes a (suc n) = mapped_test bytes a n && is_some (bytes (a + n))
-
-pub mapped_by_test : (bytes : ByteMap) (a n : ℕ) → mapped_test bytes a n ≡ true → IsMapped bytes a n
-mapped_by_test bytes a zero test i less = absurd (omega (arith, less))
-mapped_by_test bytes a (suc n) test i less =
-    below_more (λ k. IsSome (bytes (a + k))) n (mapped_by_test bytes a n ((and_parts _ _ test).0)) ((and_parts _ _ test).1) i (omega (arith, less))

@@ -1,6 +1,6 @@
 -- For proofs of programs whose accesses count: a step with the accesses that it makes, chains of such steps, and the accesses of the run that a chain
 -- is. docs/PROGRAMS.md shows how.
-use Rattle.std.proofs.Common.{◌≡◌, ℕ, suc, ◌+◌, ◌%◌, ◌==◌, List, [], ◌∷◌, ◌++◌, length, replicate, slice_set, Bool, true, if◌then◌else◌, ℤ, pos, Option, Some, None, Ok, Err, refl, sym, ap, subst, ◌∙◌, append_assoc, append-nil, eq-eqb}
+use Rattle.std.proofs.Common.{◌≡◌, ℕ, suc, ◌+◌, ◌%◌, ◌==◌, List, [], ◌∷◌, ◌++◌, length, slice_set, Bool, true, if◌then◌else◌, ℤ, pos, Option, Some, None, Ok, Err, refl, sym, ap, subst, ◌∙◌, append_assoc, append-nil, eq-eqb}
 use Rattle.std.proofs.lemmas.Bool.{cond-true}
 use Rattle.rrs_memory.specs.declared.MemAccessSize.{MemAccessSize}
 use Rattle.rrs_lib.specs.declared.instruction_executor.InstructionException.{InstructionException}
@@ -84,12 +84,7 @@ joined-append (first ∷ later) each' = ap (λ xs. first ++ xs) (joined-append l
 
 -- ---- the accesses of a run
 
--- a chain is a run that makes its accesses
-pub RunsMaking-accesses : (each : List (List Access)) (s t : State) → RunsMaking s each t → AccessesOfRun s (replicate (length each) (Ok tt)) (joined each)
-RunsMaking-accesses [] s t run = refl
-RunsMaking-accesses (first ∷ later) s t run = (run.0, first, joined later, run.1.step, run.1.makes, RunsMaking-accesses later run.0 t run.2, refl)
-
--- and so is a chain that is followed by one more step, which faults
+-- a chain that is followed by one more step, which faults, is a run that makes its accesses
 pub RunsMaking-fault : (each : List (List Access)) (s m t : State) (e : InstructionException) (last : List Access) → RunsMaking s each m → Step m t (Err e) → AccessesOf m last → AccessesOfRun s (answers_of_run (length each) (Some e)) (joined each ++ last)
 RunsMaking-fault [] s m t e last run fault makes =
     let P : State → Type 0 = λ x. Step x t (Err e) in

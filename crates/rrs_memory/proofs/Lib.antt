@@ -1,4 +1,5 @@
 pub mod Boxes
+pub mod ByteLemmas
 pub mod LoadLemmas
 pub mod RegionFields
 pub mod Regions

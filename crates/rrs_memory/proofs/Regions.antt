@@ -1,5 +1,5 @@
 -- What the regions of an address space say of an address, and what replacing one region's memory changes of that.
-use Rattle.std.proofs.Common.{◌≡◌, ◌⊎◌, ℕ, zero, suc, ◌+◌, ◌-◌, ◌/◌, ◌%◌, ◌^◌, ◌<◌, ◌≤◌, List, [], ◌∷◌, ◌++◌, length, map, get_or, Some, None, Bool, true, false, ◌&&◌, All, Any, nat_lt, nat_le, inl, inr, refl, sym, ap, subst, ◌∙◌, arith}
+use Rattle.std.proofs.Common.{◌≡◌, ◌⊎◌, ℕ, zero, suc, ◌+◌, ◌-◌, ◌/◌, ◌%◌, ◌^◌, ◌<◌, ◌≤◌, List, [], ◌∷◌, ◌++◌, length, map, get_or, Some, None, Bool, true, false, All, Any, inl, inr, refl, sym, ap, subst, ◌∙◌, arith}
 use Rattle.std.specs.List.{AllPairs, slice_get}
 use Rattle.std.proofs.Math.Path.{fun_ext}
 use Rattle.std.proofs.lemmas.Bool.{cases_lt, false≢true}
@@ -11,6 +11,7 @@ use Rattle.std.proofs.lemmas.List.{get_or_default}
 use Rattle.rrs_memory.specs.declared.MemAccessSize.{MemAccessSize}
 use Rattle.rrs_memory.specs.declared.MemAccessSize.TheVariants.{Byte, HalfWord, Word}
 use Rattle.rrs_memory.specs.Bytes.{ByteMap, width, little_endian, all_writable, store, IsLawful, EndsAtLastAddress}
+pub use Rattle.rrs_memory.proofs.ByteLemmas.{little_endian-moved, all_writable-moved, IsLawful-moved, little_endian-unmapped, all_writable-refused, IsLawful-unmapped, store_inside, store_outside}
 use Rattle.rrs_memory.specs.Spaces.{Region, serves, served_by, space_bytes, space_writable, space_layout, Overlaps, bounds, IsWordRegion, IsSpace, with_memory, OthersKept, ServedBecomes}
 
 -- ---- numbers
@@ -248,58 +249,6 @@ module _ {M : Type 0} where
       ap (λ inner. (x.base ∷ x.size ∷ length inner ∷ []) ++ inner ++ space_layout layout regions) same_x
   layout-with_memory layout (x ∷ regions) (suc i) r m stands same =
       ap (λ rest. (x.base ∷ x.size ∷ length (layout x.memory) ∷ []) ++ layout x.memory ++ rest) (layout-with_memory layout regions i r m stands same)
-
--- ---- the bytes of an access in two maps
-
--- equal bytes have one little-endian value
-pub little_endian-moved : (f g : ByteMap) (a b n : ℕ) → ((i : ℕ) → i < n → f (a + i) ≡ g (b + i)) → little_endian f a n ≡ little_endian g b n
-little_endian-moved f g a b zero h = refl
-little_endian-moved f g a b (suc n) h =
-    rw (little_endian-moved f g a b n (λ i below. h i (omega arith)), h n (omega arith)) refl
-
--- addresses that are writable alike are all writable alike
-pub all_writable-moved : (f g : ℕ → Bool) (a b n : ℕ) → ((i : ℕ) → i < n → f (a + i) ≡ g (b + i)) → all_writable f a n ≡ all_writable g b n
-all_writable-moved f g a b zero h = refl
-all_writable-moved f g a b (suc n) h =
-    rw (all_writable-moved f g a b n (λ i below. h i (omega arith)), h n (omega arith)) refl
-
--- what is lawful of an access is lawful of the same bytes elsewhere
-pub IsLawful-moved : (f g : ByteMap) (v w : ℕ → Bool) (a b n : ℕ) → ((i : ℕ) → i < n → f (a + i) ≡ g (b + i)) → ((i : ℕ) → i < n → v (a + i) ≡ w (b + i)) → IsLawful g w b n → IsLawful f v a n
-IsLawful-moved f g v w a b n same_bytes same_writable law = record {
-  values = λ i byte below e. law.values i byte below (sym (same_bytes i below) ∙ e);
-  mapped = λ i below t. rw (same_bytes i below) (law.mapped i below (rw (same_writable i below) at t));
-}
-
--- an access whose first byte is not mapped has no value
-pub little_endian-unmapped : (f : ByteMap) (a n : ℕ) → 0 < n → f (a + 0) ≡ None → little_endian f a n ≡ None
-little_endian-unmapped f a zero p e = absurd (omega (arith, p))
-little_endian-unmapped f a (suc zero) p e = rw e refl
-little_endian-unmapped f a (suc (suc n)) p e = rw (little_endian-unmapped f a (suc n) (omega arith) e) refl
-
--- an access whose first byte is not writable is not writable
-pub all_writable-refused : (f : ℕ → Bool) (a n : ℕ) → 0 < n → f (a + 0) ≡ false → all_writable f a n ≡ false
-all_writable-refused f a zero p e = absurd (omega (arith, p))
-all_writable-refused f a (suc zero) p e = rw e refl
-all_writable-refused f a (suc (suc n)) p e = rw (all_writable-refused f a (suc n) (omega arith) e) refl
-
--- an access of which no byte is mapped or writable is lawful
-pub IsLawful-unmapped : (f : ByteMap) (w : ℕ → Bool) (a n : ℕ) → ((i : ℕ) → i < n → f (a + i) ≡ None) → ((i : ℕ) → i < n → w (a + i) ≡ false) → IsLawful f w a n
-IsLawful-unmapped f w a n no_byte not_writable = record {
-  values = λ i byte below e. absurd (none-some _ (sym (no_byte i below) ∙ e));
-  mapped = λ i below t. absurd (false≢true (sym (not_writable i below) ∙ t));
-}
-
--- an address among those that were stored has its byte of the value
-pub store_inside : (f : ByteMap) (a n v b : ℕ) → a ≤ b → b < a + n → store f a n v b ≡ Some (v / 256 ^ (b - a) % 256)
-store_inside f a n v b p q =
-    let test : (nat_le a b && nat_lt b (a + n)) ≡ true = grind (arith, nat_tests) in
-    rw test refl
-
--- every other address has what it had
-pub store_outside : (f : ByteMap) (a n v b : ℕ) → (a ≤ b → a + n ≤ b) → store f a n v b ≡ f b
-store_outside f a n v b h =
-    let test : (nat_le a b && nat_lt b (a + n)) ≡ false = grind (arith, nat_tests) in
-    rw test refl
 
 module _ {M : Type 0} where
   -- ---- an access that no region serves

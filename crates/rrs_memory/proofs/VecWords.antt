@@ -1,27 +1,18 @@
 -- A memory of words as a map of bytes: what a read of one word gives, and what a write of one word leaves.
-use Rattle.std.proofs.Common.{◌≡◌, ◌≢◌, ℕ, zero, suc, ◌+◌, ◌-◌, ◌*◌, ◌/◌, ◌%◌, ◌^◌, ◌<◌, ◌≤◌, List, length, slice_index, slice_set, Some, None, Bool, true, false, ◌&&◌, nat_lt, nat_le, if◌then◌else◌, inl, inr, refl, sym, ap, ◌∙◌, arith}
+use Rattle.std.proofs.Common.{◌≡◌, ◌≢◌, ℕ, zero, suc, ◌+◌, ◌-◌, ◌*◌, ◌/◌, ◌%◌, ◌^◌, ◌<◌, ◌≤◌, List, length, slice_index, slice_set, Some, None, Bool, true, false, ◌&&◌, nat_lt, if◌then◌else◌, inl, inr, refl, sym, ap, ◌∙◌, arith}
 use Rattle.std.specs.Int.Bits.{bit_and, bit_or, or_zero_r}
-use Rattle.std.proofs.Math.Nat.{pow-suc, pow-succ', div-div-eq-div-mul, add-mul, mul_assoc, add-mul-div_right, add-mul-mod_self_right, mod-one, add-zero}
-use Rattle.std.proofs.Math.Arith.{mod-mul}
+use Rattle.std.proofs.Math.Nat.{pow-succ', div-div-eq-div-mul, add-mul, mul_assoc, add-mul-div_right, add-mul-mod_self_right, mod-one, add-zero}
 use Rattle.std.proofs.lemmas.Nat.{pow-add, and_mask, and-not, or_shifted, or_block, and_comm, pow_pos, shr-shr, shr_split, mod_below, shl_whole, div-mul-add, div-add-mod'}
 use Rattle.std.proofs.lemmas.Nat.Bits.{and_high}
 use Rattle.std.proofs.Math.Pow.{pow_mono}
 use Rattle.std.proofs.Math.Path.{fun_ext}
-use Rattle.std.proofs.lemmas.Bool.{lt-ltb, le-ltb, le-leb, lt-leb, and_from, and_left, and_right, cond-true, cond-false, cases_lt, cases_eq}
+use Rattle.std.proofs.lemmas.Bool.{lt-ltb, le-ltb, and_from, and_left, cond-true, cond-false, cases_lt, cases_eq}
 use Rattle.std.proofs.lemmas.List.{length-set, get_or-set_same, get_or-set_other}
 use Rattle.rrs_memory.specs.declared.MemAccessSize.{MemAccessSize}
 use Rattle.rrs_memory.specs.declared.MemAccessSize.TheVariants.{Byte, HalfWord, Word}
 use Rattle.rrs_memory.specs.Bytes.{ByteMap, width, little_endian, all_writable, store, sum_if_both, at_place}
 use Rattle.rrs_memory.specs.VecBytes.{bytes_of_words, lies_in_words}
-
--- a power of 256 as a power of 2
-pub pow-256 : (k : ℕ) → 256 ^ k ≡ 2 ^ (8 * k)
-pow-256 zero = refl
-pow-256 (suc k) = pow-suc 256 k ∙ ap (λ x. x * 256) (pow-256 k) ∙ sym (pow-add 2 (8 * k) 8) ∙ ap (λ x. 2 ^ x) (omega arith)
-
--- no power of 256 is 0
-pub pow-256_pos : (k : ℕ) → 0 < 256 ^ k
-pow-256_pos k = omega (arith, pow-256 k, pow_pos (8 * k))
+use Rattle.rrs_memory.proofs.ByteLemmas.{pow-256, pow-256_pos, one_more_byte, store_inside, store_below, store_above}
 
 -- a mask of the lowest n bytes
 pub and_low : (x m n : ℕ) → m + 1 ≡ 256 ^ n → bit_and x m ≡ x % 256 ^ n
@@ -172,13 +163,6 @@ byte_on words a j low there within =
     ∙ ap (λ x. Some (slice_index words x / 256 ^ ((a + j) % 4) % 256)) same_word
     ∙ ap (λ x. Some (slice_index words (a / 4) / 256 ^ x % 256)) place
 
--- one more byte of a number
-pub one_more_byte : (x n : ℕ) → x % 256 ^ n + x / 256 ^ n % 256 * 256 ^ n ≡ x % 256 ^ suc n
-one_more_byte x n =
-    let both : x % (256 * 256 ^ n) ≡ (x / 256 ^ n % 256) * 256 ^ n + x % 256 ^ n = mod-mul x {m = 256} {c = 256 ^ n} (omega arith) (pow-256_pos n) in
-    let whole : x % 256 ^ suc n ≡ x % (256 * 256 ^ n) = ap (λ y. x % y) (pow-succ' 256 n) in
-    omega arith
-
 -- the value of n bytes of one word
 pub value_of_bytes : (words : List ℕ) (a n : ℕ) → a < 2 ^ 32 → a / 4 < length words → a % 4 + n ≤ 4
     → little_endian (bytes_of_words words) a n ≡ Some (slice_index words (a / 4) / 256 ^ (a % 4) % 256 ^ n)
@@ -206,18 +190,6 @@ all_lie words a (suc n) low there within = and_from _ _ (all_lie words a n low t
 pub not_all : (writable : ℕ → Bool) (a n : ℕ) → writable a ≡ false → all_writable writable a (suc n) ≡ false
 not_all writable a zero shut = ap writable (add-zero a) ∙ shut
 not_all writable a (suc n) shut = and_left _ _ (not_all writable a n shut)
-
--- a stored byte
-pub store_inside : (bytes : ByteMap) (a n v b : ℕ) → a ≤ b → b < a + n → store bytes a n v b ≡ Some (v / 256 ^ (b - a) % 256)
-store_inside bytes a n v b from to = cond-true (nat_le a b && nat_lt b (a + n)) (Some (v / 256 ^ (b - a) % 256)) (bytes b) (and_from _ _ (le-leb a b from) (lt-ltb b (a + n) to))
-
--- the bytes below those that are stored
-pub store_below : (bytes : ByteMap) (a n v b : ℕ) → b < a → store bytes a n v b ≡ bytes b
-store_below bytes a n v b below = cond-false (nat_le a b && nat_lt b (a + n)) (Some (v / 256 ^ (b - a) % 256)) (bytes b) (and_left _ _ (lt-leb a b below))
-
--- the bytes above those that are stored
-pub store_above : (bytes : ByteMap) (a n v b : ℕ) → a + n ≤ b → store bytes a n v b ≡ bytes b
-store_above bytes a n v b above = cond-false (nat_le a b && nat_lt b (a + n)) (Some (v / 256 ^ (b - a) % 256)) (bytes b) (and_right _ _ (le-ltb b (a + n) above))
 
 -- a byte of another word does not change
 pub byte_of_other : (words : List ℕ) (i x b : ℕ) → b / 4 ≢ i → bytes_of_words (slice_set words i x) b ≡ bytes_of_words words b

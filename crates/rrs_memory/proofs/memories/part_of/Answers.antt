@@ -1,7 +1,8 @@
 -- The mask keeps the lowest bytes of the shifted word.
 use Rattle.std.proofs.Common.{◌%◌, ◌/◌, ◌^◌, ◌*◌, ap, ◌∙◌, sym}
 use Rattle.rrs_memory.specs.Bytes.{width}
-use Rattle.rrs_memory.proofs.VecWords.{pow-256, and_low}
+use Rattle.rrs_memory.proofs.ByteLemmas.{pow-256}
+use Rattle.rrs_memory.proofs.VecWords.{and_low}
 use Rattle.rrs_memory.proofs.memories.part_of.Goals as goal
 
 pub returns : goal.returns
