@@ -8,6 +8,7 @@ pub use Rattle.rrs_instruction.specs.Instructions
 pub use Rattle.rrs_instruction.specs.Results
 -- Memory, of rrs_memory: bytes at addresses, what each memory keeps, and the memories of the kit.
 pub use Rattle.rrs_memory.specs.Bytes
+pub use Rattle.rrs_memory.specs.AccessLists
 pub use Rattle.rrs_memory.specs.VecBytes
 pub use Rattle.rrs_memory.specs.Spaces
 pub use Rattle.rrs_memory.specs.Hexadecimal

@@ -1,10 +1,14 @@
 -- How a load goes on by one byte.
-use Rattle.std.proofs.Common.{◌≡◌, ◌≢◌, ◌⊎◌, ℕ, ◌+◌, ◌^◌, ◌<◌, ◌≤◌, Bool, true, List, [], ◌∷◌, ◌++◌, length, slice_index, Some, is_some, refl, sym, ap, ◌∙◌, arith, inl, inr, below_more}
+use Rattle.std.proofs.Common.{◌≡◌, ◌≢◌, ◌⊎◌, ℕ, ◌+◌, ◌^◌, ◌<◌, ◌≤◌, Bool, true, false, List, [], ◌∷◌, ◌++◌, length, slice_index, Option, Some, is_some, nat_lt, refl, sym, subst, ap, ◌∙◌, arith, inl, inr, below_more}
 use Rattle.std.proofs.lemmas.List.{get_or_append_left}
+use Rattle.std.proofs.lemmas.Bool.{lt-ltb, le-ltb}
 use Rattle.std.proofs.lemmas.Bool.Decides.{nat_tests}
 use Rattle.std.proofs.lemmas.Grind.{common_steps}
+use Rattle.rrs_memory.specs.declared.MemAccessSize.{MemAccessSize}
+use Rattle.rrs_memory.specs.declared.MemAccessSize.TheVariants.{Byte}
 use Rattle.rrs_memory.specs.Bytes.{ByteMap, store, IsLawful}
-use Rattle.rrs_memory.specs.Loading.{Loaded}
+use Rattle.rrs_memory.specs.AccessLists.{Access, Write, Makes}
+use Rattle.rrs_memory.specs.Loading.{Loaded, byte_writes}
 
 -- a byte store, at its place and elsewhere
 store-here : (bytes : ByteMap) (a v : ℕ) → v < 256 → store bytes a 1 v a ≡ Some v
@@ -59,3 +63,41 @@ Loaded-next old mid new writable writable' start byte value addr input so_far pl
 
 pub length-more : (xs : List ℕ) (x start addr : ℕ) → start + length xs ≡ addr → start + length (xs ++ x ∷ []) ≡ addr + 1
 length-more xs x start addr placed = let more : length (xs ++ x ∷ []) ≡ length xs + 1 = grind (arith, common_steps) in omega (arith, more, placed)
+
+-- ---- the writes of a load
+
+-- a byte that is read past the last address is not written
+byte_writes-past : (writable : ℕ → Bool) (a byte : ℕ) (input : List ℕ) → a + length input ≡ 2 ^ 32 → byte_writes writable a (input ++ byte ∷ []) ≡ byte_writes writable a input
+byte_writes-past writable a byte [] past = let high : nat_lt a (2 ^ 32) ≡ false = le-ltb a (2 ^ 32) (omega arith) in rw high refl
+byte_writes-past writable a byte (x ∷ input) past =
+    let low : nat_lt a (2 ^ 32) ≡ true = lt-ltb a (2 ^ 32) (omega arith) in
+    rw low (ap (λ xs. Write a Byte x (writable a) ∷ xs) (byte_writes-past writable (a + 1) byte input (omega arith)))
+
+module _ {M : Type 0} (reads : M → ℕ → MemAccessSize → M → Option ℕ → Type 0) (writes : M → ℕ → MemAccessSize → ℕ → M → Bool → Type 0) (writable : ℕ → Bool) where
+  -- one write more
+  writes-more : (a addr byte : ℕ) (input : List ℕ) (old mid new : M) → Makes reads writes (byte_writes writable a input) old mid → a + length input ≡ addr → addr < 2 ^ 32 → writes mid addr Byte byte new (writable addr) → Makes reads writes (byte_writes writable a (input ++ byte ∷ [])) old new
+  writes-more a addr byte [] old mid new made placed low did =
+      let low_a : nat_lt a (2 ^ 32) ≡ true = lt-ltb a (2 ^ 32) (omega arith) in
+      let here : addr ≡ a = omega arith in
+      let P : M → Type 0 = λ m. writes m a Byte byte new (writable a) in
+      let Q : ℕ → Type 0 = λ b. writes mid b Byte byte new (writable b) in
+      rw low_a (new, subst P made (subst Q here did), refl)
+  writes-more a addr byte (x ∷ input) old mid new made placed low did =
+      let low_a : nat_lt a (2 ^ 32) ≡ true = lt-ltb a (2 ^ 32) (omega arith) in
+      let parts = rw low_a at made in
+      rw low_a (parts.0, parts.1, writes-more (a + 1) addr byte input parts.0 mid new parts.2 (omega arith) low did)
+
+  -- one write more, from what a write says
+  pub writes-next : (a addr byte value : ℕ) (answer : Bool) (writable' : ℕ → Bool) (input : List ℕ) (old mid new : M) → Makes reads writes (byte_writes writable a input) old mid → a + length input ≡ addr → addr < 2 ^ 32 → value ≡ byte → writable' ≡ writable → answer ≡ writable' (addr + 0) → writes mid addr Byte value new answer → Makes reads writes (byte_writes writable a (input ++ byte ∷ [])) old new
+  writes-next a addr byte value answer writable' input old mid new made placed low same kept granted did =
+      let zero_more : addr + 0 ≡ addr = omega arith in
+      let answered : answer ≡ writable addr = granted ∙ ap writable' zero_more ∙ ap (λ w. w addr) kept in
+      let P : ℕ → Type 0 = λ v. writes mid addr Byte v new answer in
+      let Q : Bool → Type 0 = λ b. writes mid addr Byte byte new b in
+      writes-more a addr byte input old mid new made placed low (subst Q answered (subst P same did))
+
+  -- no write more, past the last address
+  pub writes-past : (a byte : ℕ) (input : List ℕ) (old new : M) → Makes reads writes (byte_writes writable a input) old new → a + length input ≡ 2 ^ 32 → Makes reads writes (byte_writes writable a (input ++ byte ∷ [])) old new
+  writes-past a byte input old new made past =
+      let P : List Access → Type 0 = λ xs. Makes reads writes xs old new in
+      subst P (sym (byte_writes-past writable a byte input past)) made

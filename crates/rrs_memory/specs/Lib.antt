@@ -1,6 +1,7 @@
 -- Memory: bytes at addresses, what each memory keeps, and the memories of the kit.
 -- docs/READING.md leads through them.
 pub mod Bytes
+pub mod AccessLists
 pub mod VecBytes
 pub mod Spaces
 pub mod Hexadecimal

@@ -2,7 +2,7 @@
 
 ghost use Rattle.std.specs.Prelude.{◌≡◌, ◌<◌, ◌^◌, [], ◌∷◌, Some, MatchResult, MatchOption};
 ghost use Rattle.std.specs.Io.KnownBytes.{Consumes, IsAtEnd};
-ghost use Rattle.rrs_memory.specs.Loading.{Loads};
+ghost use Rattle.rrs_memory.specs.Loading.{Loads, WritesEachByte};
 
 use crate::{MemAccessSize, Memory};
 use std::fmt;
@@ -39,8 +39,10 @@ impl fmt::Display for LoadFault {
 fn next_byte<R: Read>(reader: &mut R) -> io::Result<Option<u8>>
     ensures { MatchResult result
         (λ next. MatchOption next
-        (Consumes (R.remaining reader.old) (R.remaining reader.new) [] × IsAtEnd (R.remaining reader.new))
-        (λ byte. (byte < 2 ^ 8) × Consumes (R.remaining reader.old) (R.remaining reader.new) (byte ∷ [])))
+        (Consumes (R.remaining reader.old) (R.remaining reader.new) []
+        × IsAtEnd (R.remaining reader.new))
+        (λ byte. (byte < 2 ^ 8)
+        × Consumes (R.remaining reader.old) (R.remaining reader.new) (byte ∷ [])))
         (λ _. Consumes (R.remaining reader.old) (R.remaining reader.new) []) }
 {
     let mut buffer = [0];
@@ -48,11 +50,16 @@ fn next_byte<R: Read>(reader: &mut R) -> io::Result<Option<u8>>
     Ok((count != 0).then_some(buffer[0]))
 }
 
-/// Reads a reader to its end, byte by byte, and writes each byte into a memory, from `start_addr` on.
+/// Reads a reader to its end, byte by byte, and writes each byte into a memory, from `start_addr`
+/// on.
 ///
 /// Over a reader that tells its bytes the clause `loads` says which bytes stand in the memory after
 /// each result, how many were read, and for `Ok`, `Refused` and `EndOfAddresses` exactly why it
-/// ended. That `Reader` comes only where a read failed is shown by tests: any read may fail.
+/// ended. That `Reader` comes only where a read failed is shown by tests: any read may fail. So is
+/// that the reader is not asked again after its end.
+///
+/// Of the memory it asks exactly one write for each byte that was read, in order, a refused one
+/// among them as the last, and no read [`accesses`]. A byte past the last address has no write.
 ///
 /// # Errors
 ///
@@ -76,6 +83,9 @@ pub fn read_to_memory<R: Read, M: Memory>(
 ) -> Result<(), LoadFault>
     ensures loads { Loads (R.remaining reader.old) (R.remaining reader.new)
         (M.bytes memory.old) (M.bytes memory.new) (M.writable memory.old) start_addr result }
+    ensures accesses { WritesEachByte M.reads M.writes
+        (R.remaining reader.old) (R.remaining reader.new)
+        memory.old memory.new (M.writable memory.old) start_addr }
     ensures writable_kept { M.writable memory.new ≡ M.writable memory.old }
     ensures layout_kept { M.layout memory.new ≡ M.layout memory.old }
 {

@@ -1,6 +1,6 @@
 use Rattle.std.proofs.Common.{◌++◌, [], ◌∷◌, ◌∙◌, arith}
 use Rattle.std.proofs.KnownBytes.{Consumes-trans}
-use Rattle.rrs_memory.proofs.LoadLemmas.{Loaded-next, length-more}
+use Rattle.rrs_memory.proofs.LoadLemmas.{Loaded-next, length-more, writes-next, writes-past}
 use Rattle.rrs_memory.proofs.memories.load.read_to_memory.Goals as goal
 
 pub loop-addr-preserved : goal.loop-addr-preserved
@@ -13,6 +13,29 @@ loop-addr-preserved g c =
       placed = length-more so_far.input c.in-Ok-Some.byte _ _ so_far.placed;
       loaded = Loaded-next _ _ _ _ _ _ _ _ _ _ so_far.loaded so_far.placed (omega arith) given.0 c.from.ensures so_far.writable_kept wrote.granted wrote.lawful wrote.written;
       consumed = Consumes-trans _ _ _ _ _ so_far.consumed given.1;
+      made = writes-next _ _ _ _ _ _ _ _ _ so_far.input _ _ _ so_far.made so_far.placed (omega arith) c.from.ensures so_far.writable_kept wrote.granted c.if-not-write_mem.ensures.did;
       writable_kept = wrote.writable_kept ∙ so_far.writable_kept;
       layout_kept = wrote.layout_kept ∙ so_far.layout_kept;
+    }
+
+pub returns-then-not-write_mem-clause-accesses : goal.returns-then-not-write_mem-clause-accesses
+returns-then-not-write_mem-clause-accesses g c =
+    let so_far = c.loop-addr.invariant in
+    let refused = c.if-not-write_mem.ensures in
+    let given = rw c.in-Ok-Some.field-0-is at c.in-Ok-Some.ensures in
+    record {
+      input = so_far.input ++ c.in-Ok-Some.byte ∷ [];
+      consumed = Consumes-trans _ _ _ _ _ so_far.consumed given.1;
+      made = writes-next _ _ _ _ _ _ _ _ _ so_far.input _ _ _ so_far.made so_far.placed (omega arith) c.from.ensures so_far.writable_kept refused.laws.granted refused.did;
+    }
+
+pub returns-in-Ok-Some-next_byte-clause-accesses : goal.returns-in-Ok-Some-next_byte-clause-accesses
+returns-in-Ok-Some-next_byte-clause-accesses g c =
+    let so_far = c.loop-addr.invariant in
+    let past = c.in-Ok-Some-next_byte in
+    let given = rw past.field-0-is at past.ensures in
+    record {
+      input = so_far.input ++ past.field-0-0 ∷ [];
+      consumed = Consumes-trans _ _ _ _ _ so_far.consumed given.1;
+      made = writes-past _ _ _ _ _ so_far.input _ _ so_far.made (omega arith);
     }
