@@ -10,7 +10,7 @@
 
 pub mod memories;
 
-ghost use Rattle.std.specs.Prelude.{◌≡◌, ℕ, ◌%◌, List, Bool, Option};
+ghost use Rattle.std.specs.Prelude.{◌≡◌, ◌↔◌, ℕ, ◌%◌, List, Bool, Option, IsTrue};
 ghost use Rattle.rrs_memory.specs.Bytes.{width, Reads, Writes};
 
 /// The sizes of memory accesses.
@@ -22,6 +22,20 @@ pub enum MemAccessSize {
     HalfWord,
     /// 4 bytes.
     Word,
+}
+
+impl MemAccessSize {
+    /// Whether an address is a multiple of the size: the condition of both calls of a [Memory].
+    #[inline(always)]
+    pub fn is_aligned(self, address: u32) -> bool
+        ensures { IsTrue result ↔ (address % width self ≡ 0) }
+    {
+        match self {
+            MemAccessSize::Byte => true,
+            MemAccessSize::HalfWord => address & 1 == 0,
+            MemAccessSize::Word => address & 3 == 0,
+        }
+    }
 }
 
 /// A memory of bytes, little-endian.
