@@ -176,21 +176,6 @@ value_of_bytes words a (suc n) low there within =
     ∙ ap (λ y. Some (x % 256 ^ n + y % 256 * 256 ^ n)) byte
     ∙ ap Some (one_more_byte x n)
 
--- there is no value where the first byte is not mapped
-pub no_value : (bytes : ByteMap) (a n : ℕ) → bytes a ≡ None → little_endian bytes a (suc n) ≡ None
-no_value bytes a zero none = ap (λ x. sum_if_both (Some 0) (at_place 0 (bytes x))) (add-zero a) ∙ ap (λ o. sum_if_both (Some 0) (at_place 0 o)) none
-no_value bytes a (suc n) none = ap (λ o. sum_if_both o (at_place (suc n) (bytes (a + suc n)))) (no_value bytes a n none)
-
--- n bytes of one word are writable
-pub all_lie : (words : List ℕ) (a n : ℕ) → a < 2 ^ 32 → a / 4 < length words → a % 4 + n ≤ 4 → all_writable (lies_in_words words) a n ≡ true
-all_lie words a zero low there within = refl
-all_lie words a (suc n) low there within = and_from _ _ (all_lie words a n low there (omega arith)) (lies words (a + n) (omega arith) (omega arith))
-
--- not all are writable where the first is not
-pub not_all : (writable : ℕ → Bool) (a n : ℕ) → writable a ≡ false → all_writable writable a (suc n) ≡ false
-not_all writable a zero shut = ap writable (add-zero a) ∙ shut
-not_all writable a (suc n) shut = and_left _ _ (not_all writable a n shut)
-
 -- a byte of another word does not change
 pub byte_of_other : (words : List ℕ) (i x b : ℕ) → b / 4 ≢ i → bytes_of_words (slice_set words i x) b ≡ bytes_of_words words b
 byte_of_other words i x b other =
