@@ -1,6 +1,6 @@
 -- What a VecMemory means: its words one after another from address 0 on, each as four bytes, lowest
 -- first.
-use Rattle.std.specs.Prelude.{◌≡◌, ◌≢◌, ℕ, ◌*◌, ◌/◌, ◌%◌, ◌^◌, Bool, ◌&&◌, nat_lt, if◌then◌else◌, List, length, slice_index, Option, Some, None, [], ◌∷◌, vec_len}
+use Rattle.std.specs.Prelude.{◌≡◌, ◌≢◌, ℕ, ◌*◌, ◌/◌, ◌%◌, ◌^◌, Bool, ◌&&◌, nat_lt, if◌then◌else◌, List, length, slice_index, Option, Some, None, [], ◌∷◌, vec_len, vec_capacity}
 use Rattle.std.specs.Bool.{OnTrue, OnFalse}
 use Rattle.rrs_memory.specs.declared.MemAccessSize.{MemAccessSize}
 use Rattle.rrs_memory.specs.declared.memories.VecMemory.{VecMemory}
@@ -30,11 +30,13 @@ vec_layout m = vec_len m.mem ∷ []
 abbrev pub vec_reads : VecMemory → ℕ → MemAccessSize → VecMemory → Option ℕ → Type 0
 vec_reads old address size new answer = new ≡ old
 
--- a write that is granted stores its bytes, in one word; one that is refused leaves the words
+-- a write that is granted stores its bytes, in one word; one that is refused leaves the words; and
+-- the number of words stays, with the room for them
 pub record VecWrites (old : VecMemory) (address : ℕ) (size : MemAccessSize) (value : ℕ)
     (new : VecMemory) (answer : Bool) : Type 0 where
   pub written : OnTrue answer (vec_bytes new ≡ store (vec_bytes old) address (width size) value)
   pub refused : OnFalse answer (new.mem.items ≡ old.mem.items)
   pub length_kept : length new.mem.items ≡ length old.mem.items
+  pub room_kept : vec_capacity new.mem ≡ vec_capacity old.mem
   pub others_kept : (i : ℕ) → i ≢ address / 4
       → slice_index new.mem.items i ≡ slice_index old.mem.items i

