@@ -6,7 +6,7 @@ use Rattle.rrs_lib.specs.declared.instruction_executor.InstructionException.{Ins
 use Rattle.rrs_lib.specs.declared.instruction_executor.InstructionException.TheVariants.{IllegalInstruction}
 use Rattle.rrs_lib.specs.Words.{word}
 use Rattle.rrs_lib.specs.Table.{Row, Decodes}
-use Rattle.rrs_lib.specs.Bytes.{ByteMap, little_endian, all_writable, store}
+use Rattle.rrs_lib.specs.Bytes.{ByteMap, little_endian, all_writable, store, EndsAtLastAddress}
 use Rattle.rrs_lib.specs.Machine.{State, reg, made_even}
 use Rattle.rrs_lib.specs.Steps.{Step, RunsOk, RunUntil, IsOnlyRunUntil}
 use Rattle.rrs_lib.proofs.Examples.{of_R, of_I, of_IShamt, of_S, of_B}
@@ -14,8 +14,8 @@ use Rattle.rrs_lib.proofs.Decoder.{decodes}
 use Rattle.rrs_lib.proofs.Programs
 use Rattle.rrs_lib.proofs.Programs.{at, Others, registers_by}
 use Rattle.rrs_lib.proofs.ByteLemmas.{outside_from_none, read-stored, read-kept, store-outside, write-allowed}
-use Rattle.rrs_extra.specs.Programs.{HoldsWords, IsMapped, IsWritable, AreApart, CopyWordsStarts, CopiesWords, copy_steps, word_at, copy_words_program}
-use Rattle.rrs_extra.proofs.Words.{word_read, instruction, read_after, holds_after}
+use Rattle.rrs_extra.specs.Programs.{HoldsWords, HasWords, IsMapped, IsWritable, AreApart, CopyWordsStarts, CopiesWords, copy_steps, word_at, copy_words_program}
+use Rattle.rrs_extra.proofs.Words.{word_read, instruction, read_after, holds_after, mapped-ends, writable-ends, words-end}
 
 -- ---- the words
 
@@ -284,31 +284,31 @@ few_steps zero = omega arith
 few_steps (suc n) = omega arith
 
 copies_from : (o : Others) (x1 to from n p x13 x14 x15 : ℕ) (last : Option ℕ) (bytes : ByteMap) (writable : ℕ → Bool)
-    → CopyWordsStarts (at (registers_by o x1 to from n x13 x14 x15) p last bytes writable) → x1 < 2 ^ 32 → Copies (at (registers_by o x1 to from n x13 x14 x15) p last bytes writable)
-copies_from o x1 to from n p x13 x14 x15 last bytes writable starts small =
+    → CopyWordsStarts (at (registers_by o x1 to from n x13 x14 x15) p last bytes writable) → (x1 < 2 ^ 32) × (to < 2 ^ 32) × (from < 2 ^ 32) → EndsAtLastAddress bytes writable → Copies (at (registers_by o x1 to from n x13 x14 x15) p last bytes writable)
+copies_from o x1 to from n p x13 x14 x15 last bytes writable starts small ends =
     let called = starts.called in
     let ready : Ready to from n p bytes writable = record {
       holds = called.program_there;
       aligned = called.aligned;
-      fits = called.in_range;
+      fits = words-end bytes writable p copy_words_program ends called.program_there (omega arith);
       to_aligned = starts.to_aligned;
-      to_fits = starts.to_in_range;
+      to_fits = writable-ends bytes writable to (4 * n) ends starts.to_writable (omega arith);
       to_writable = starts.to_writable;
       from_aligned = starts.from_aligned;
-      from_fits = starts.from_in_range;
+      from_fits = mapped-ends bytes writable from (4 * n) ends starts.from_mapped (omega arith);
       from_mapped = starts.from_mapped;
       apart_source = starts.apart_from_source;
       apart_program = starts.apart_from_program;
     } in
-    let all = calls n o x1 to from x13 x14 x15 p last bytes writable ready called.return_aligned small in
+    let all = calls n o x1 to from x13 x14 x15 p last bytes writable ready called.return_aligned small.0 in
     let read = read_after bytes all.bytes_after to (4 * n) x1 4 x1 4 all.copies.others starts.apart_from_return (omega arith) (omega arith) ∙ word_read bytes x1 called.stops.mapped in
     let fault = Programs.step-illegal {registers = all.registers_after} {pc = x1} {last = None} {bytes = all.bytes_after} {writable = writable} called.return_aligned read called.stops.outside in
     record { after = _; runs = Programs.RunUntil-fault (5 * n + 5) (copy_steps n) _ _ _ _ (few_steps n) all.runs fault; copies = all.copies }
 
-copies : (s : State) → 15 ≤ length s.registers → CopyWordsStarts s → reg s 1 < 2 ^ 32 → Copies s
-copies s long starts small =
+copies : (s : State) → 15 ≤ length s.registers → CopyWordsStarts s → HasWords s → EndsAtLastAddress s.bytes s.writable → Copies s
+copies s long starts small ends =
     let open_s = Programs.opened s long in
-    subst Copies (sym open_s.same) (copies_from open_s.others (reg s 1) (reg s 10) (reg s 11) (reg s 12) s.pc (reg s 13) (reg s 14) (reg s 15) s.last s.bytes s.writable (subst CopyWordsStarts open_s.same starts) small)
+    subst Copies (sym open_s.same) (copies_from open_s.others (reg s 1) (reg s 10) (reg s 11) (reg s 12) s.pc (reg s 13) (reg s 14) (reg s 15) s.last s.bytes s.writable (subst CopyWordsStarts open_s.same starts) small ends)
 
 -- what a call of `run` returned
 pub record Copied (s : State) (steps : ℕ) (e : Option InstructionException) (t : State) : Type 0 where
@@ -316,9 +316,9 @@ pub record Copied (s : State) (steps : ℕ) (e : Option InstructionException) (t
   pub fault : e ≡ Some (IllegalInstruction (reg s 1) (word_at s.bytes (reg s 1)))
   pub copies_words : CopiesWords s.bytes t.bytes (reg s 10) (reg s 11) (reg s 12)
 
-pub copied : (s t : State) (limit steps : ℕ) (e : Option InstructionException) → 15 ≤ length s.registers → CopyWordsStarts s → reg s 1 < 2 ^ 32 → limit ≡ 5 * reg s 12 + 5 → IsOnlyRunUntil limit s steps e t → Copied s steps e t
-copied s t limit steps e long starts small limit_is only =
-    let known = copies s long starts small in
+pub copied : (s t : State) (limit steps : ℕ) (e : Option InstructionException) → 15 ≤ length s.registers → CopyWordsStarts s → HasWords s → EndsAtLastAddress s.bytes s.writable → limit ≡ 5 * reg s 12 + 5 → IsOnlyRunUntil limit s steps e t → Copied s steps e t
+copied s t limit steps e long starts small ends limit_is only =
+    let known = copies s long starts small ends in
     let same = Programs.returned only limit_is known.runs in
     let P : State → Type 0 = λ x. CopiesWords s.bytes x.bytes (reg s 10) (reg s 11) (reg s 12) in
     record { steps_made = same.0; fault = same.1; copies_words = subst P (sym same.2) known.copies }

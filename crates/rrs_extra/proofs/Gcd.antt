@@ -8,7 +8,7 @@ use Rattle.rrs_lib.specs.declared.instruction_executor.InstructionException.{Ins
 use Rattle.rrs_lib.specs.declared.instruction_executor.InstructionException.TheVariants.{IllegalInstruction}
 use Rattle.rrs_lib.specs.Words.{word}
 use Rattle.rrs_lib.specs.Table.{Row, Decodes}
-use Rattle.rrs_lib.specs.Bytes.{ByteMap}
+use Rattle.rrs_lib.specs.Bytes.{ByteMap, EndsAtLastAddress}
 use Rattle.rrs_lib.specs.Results.{remu}
 use Rattle.rrs_lib.specs.Machine.{State, reg, made_even}
 use Rattle.rrs_lib.specs.Steps.{RunsOk, RunUntil, IsOnlyRunUntil}
@@ -17,7 +17,7 @@ use Rattle.rrs_lib.proofs.Decoder.{decodes}
 use Rattle.rrs_lib.proofs.Programs
 use Rattle.rrs_lib.proofs.Programs.{at, Others, registers_by}
 use Rattle.rrs_extra.specs.Programs.{HoldsWords, IsCalled, HasWords, word_at, gcd_program}
-use Rattle.rrs_extra.proofs.Words.{word_read, instruction}
+use Rattle.rrs_extra.proofs.Words.{word_read, instruction, words-end}
 
 -- ---- the words
 
@@ -134,11 +134,12 @@ pub record Divides (s : State) : Type 0 where
   pub bytes_kept : after.bytes ≡ s.bytes
 
 divides_from : (o : Others) (x1 a b p x12 x13 x14 x15 : ℕ) (last : Option ℕ) (bytes : ByteMap) (writable : ℕ → Bool)
-    → IsCalled gcd_program (at (registers_by o x1 a b x12 x13 x14 x15) p last bytes writable) → HasWords (at (registers_by o x1 a b x12 x13 x14 x15) p last bytes writable)
+    → IsCalled gcd_program (at (registers_by o x1 a b x12 x13 x14 x15) p last bytes writable) → HasWords (at (registers_by o x1 a b x12 x13 x14 x15) p last bytes writable) → EndsAtLastAddress bytes writable
     → Divides (at (registers_by o x1 a b x12 x13 x14 x15) p last bytes writable)
-divides_from o x1 a b p x12 x13 x14 x15 last bytes writable called words =
-    let all = rounds b b (omega arith) o x1 a p x12 x13 x14 x15 last bytes writable called.program_there called.aligned called.in_range words.1 words.2 in
-    let out = leaves o x1 all.divisor p x12 x13 x14 all.value all.last_after bytes writable called.program_there called.aligned called.in_range called.return_aligned words.0 in
+divides_from o x1 a b p x12 x13 x14 x15 last bytes writable called words ends =
+    let fits = words-end bytes writable p gcd_program ends called.program_there (omega arith) in
+    let all = rounds b b (omega arith) o x1 a p x12 x13 x14 x15 last bytes writable called.program_there called.aligned fits words.1 words.2 in
+    let out = leaves o x1 all.divisor p x12 x13 x14 all.value all.last_after bytes writable called.program_there called.aligned fits called.return_aligned words.0 in
     let chain = Programs.RunsOk-append (5 * all.count) 2 _ _ _ all.runs out in
     let fault = Programs.step-illegal {registers = registers_by o x1 all.divisor 0 x12 x13 x14 all.value} {pc = x1} {last = None} {bytes = bytes} {writable = writable} called.return_aligned (word_read bytes x1 called.stops.mapped) called.stops.outside in
     record {
@@ -150,10 +151,10 @@ divides_from o x1 a b p x12 x13 x14 x15 last bytes writable called words =
       bytes_kept = refl;
     }
 
-divides : (s : State) → 15 ≤ length s.registers → IsCalled gcd_program s → HasWords s → Divides s
-divides s long called words =
+divides : (s : State) → 15 ≤ length s.registers → IsCalled gcd_program s → HasWords s → EndsAtLastAddress s.bytes s.writable → Divides s
+divides s long called words ends =
     let open_s = Programs.opened s long in
-    subst Divides (sym open_s.same) (divides_from open_s.others (reg s 1) (reg s 10) (reg s 11) s.pc (reg s 12) (reg s 13) (reg s 14) (reg s 15) s.last s.bytes s.writable (subst (IsCalled gcd_program) open_s.same called) words)
+    subst Divides (sym open_s.same) (divides_from open_s.others (reg s 1) (reg s 10) (reg s 11) s.pc (reg s 12) (reg s 13) (reg s 14) (reg s 15) s.last s.bytes s.writable (subst (IsCalled gcd_program) open_s.same called) words ends)
 
 -- what a call of `run` returned
 pub record Divided (s : State) (steps : ℕ) (e : Option InstructionException) (t : State) : Type 0 where
@@ -162,9 +163,9 @@ pub record Divided (s : State) (steps : ℕ) (e : Option InstructionException) (
   pub divisor : IsGcd (reg s 10) (reg s 11) (reg t 10)
   pub bytes_kept : t.bytes ≡ s.bytes
 
-pub divided : (s t : State) (limit steps : ℕ) (e : Option InstructionException) → 15 ≤ length s.registers → IsCalled gcd_program s → HasWords s → limit ≡ 5 * reg s 11 + 3 → IsOnlyRunUntil limit s steps e t → Divided s steps e t
-divided s t limit steps e long called words limit_is only =
-    let known = divides s long called words in
+pub divided : (s t : State) (limit steps : ℕ) (e : Option InstructionException) → 15 ≤ length s.registers → IsCalled gcd_program s → HasWords s → EndsAtLastAddress s.bytes s.writable → limit ≡ 5 * reg s 11 + 3 → IsOnlyRunUntil limit s steps e t → Divided s steps e t
+divided s t limit steps e long called words ends limit_is only =
+    let known = divides s long called words ends in
     let same = Programs.returned only limit_is known.runs in
     let bytes : State → ByteMap = λ x. x.bytes in
     let is_gcd : State → Type 0 = λ x. IsGcd (reg s 10) (reg s 11) (reg x 10) in

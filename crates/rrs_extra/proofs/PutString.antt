@@ -7,7 +7,7 @@ use Rattle.rrs_lib.specs.declared.instruction_executor.InstructionException.{Ins
 use Rattle.rrs_lib.specs.declared.instruction_executor.InstructionException.TheVariants.{IllegalInstruction}
 use Rattle.rrs_lib.specs.Words.{word}
 use Rattle.rrs_lib.specs.Table.{Row, Decodes}
-use Rattle.rrs_lib.specs.Bytes.{ByteMap, little_endian, all_writable, store, sum_if_both, at_place}
+use Rattle.rrs_lib.specs.Bytes.{ByteMap, little_endian, all_writable, store, sum_if_both, at_place, EndsAtLastAddress}
 use Rattle.rrs_lib.specs.Machine.{State, reg, made_even}
 use Rattle.rrs_lib.specs.Steps.{RunUntil, IsOnlyRunUntil}
 use Rattle.rrs_lib.specs.Accesses.{Access, Read, Write, fetch, AccessesOfRun, answers_of_run}
@@ -22,7 +22,7 @@ use Rattle.rrs_lib.proofs.AccessChains
 use Rattle.rrs_lib.proofs.AccessChains.{RunsMaking, joined, making, making-loads, making-stores}
 use Rattle.rrs_extra.specs.Programs.{HoldsWords, AreApart, word_at}
 use Rattle.rrs_extra.specs.Printing.{HoldsString, put_string_program, PutStringStarts, writes_of, writes_to}
-use Rattle.rrs_extra.proofs.Words.{word_read, instruction, read_after, holds_after, is_value, value_is}
+use Rattle.rrs_extra.proofs.Words.{word_read, instruction, read_after, holds_after, value-small, words-end, is_value, value_is}
 
 -- ---- the words
 
@@ -215,16 +215,16 @@ pub record PutsString (text : List ℕ) (s : State) : Type 0 where
   pub others : (b : ℕ) → b ≢ reg s 10 → after.bytes b ≡ s.bytes b
 
 puts_from : (text : List ℕ) (o : Others) (x1 port a x12 x13 x14 x15 p : ℕ) (last : Option ℕ) (bytes : ByteMap) (writable : ℕ → Bool)
-    → PutStringStarts text (at (registers_by o x1 port a x12 x13 x14 x15) p last bytes writable) → x1 < 2 ^ 32 → port < 2 ^ 32
+    → PutStringStarts text (at (registers_by o x1 port a x12 x13 x14 x15) p last bytes writable) → x1 < 2 ^ 32 → port < 2 ^ 32 → EndsAtLastAddress bytes writable
     → PutsString text (at (registers_by o x1 port a x12 x13 x14 x15) p last bytes writable)
-puts_from text o x1 port a x12 x13 x14 x15 p last bytes writable starts small port_small =
+puts_from text o x1 port a x12 x13 x14 x15 p last bytes writable starts small port_small ends =
     let called = starts.called in
     let ready : Ready port a p text bytes writable = record {
       holds = called.program_there;
       aligned = called.aligned;
-      fits = called.in_range;
+      fits = words-end bytes writable p put_string_program ends called.program_there (omega arith);
       string = starts.string;
-      in_range = starts.in_range;
+      in_range = value-small bytes writable (a + length text) 0 ends starts.string.ended;
       port_small = port_small;
       port_writable = starts.port_writable;
       apart_program = starts.apart_from_program;
@@ -247,10 +247,10 @@ puts_from text o x1 port a x12 x13 x14 x15 p last bytes writable starts small po
       others = all.others;
     }
 
-puts : (text : List ℕ) (s : State) → 15 ≤ length s.registers → PutStringStarts text s → reg s 1 < 2 ^ 32 → reg s 10 < 2 ^ 32 → PutsString text s
-puts text s long starts small port_small =
+puts : (text : List ℕ) (s : State) → 15 ≤ length s.registers → PutStringStarts text s → reg s 1 < 2 ^ 32 → reg s 10 < 2 ^ 32 → EndsAtLastAddress s.bytes s.writable → PutsString text s
+puts text s long starts small port_small ends =
     let open_s = Programs.opened s long in
-    subst (PutsString text) (sym open_s.same) (puts_from text open_s.others (reg s 1) (reg s 10) (reg s 11) (reg s 12) (reg s 13) (reg s 14) (reg s 15) s.pc s.last s.bytes s.writable (subst (PutStringStarts text) open_s.same starts) small port_small)
+    subst (PutsString text) (sym open_s.same) (puts_from text open_s.others (reg s 1) (reg s 10) (reg s 11) (reg s 12) (reg s 13) (reg s 14) (reg s 15) s.pc s.last s.bytes s.writable (subst (PutStringStarts text) open_s.same starts) small port_small ends)
 
 -- what a call of `run` returned
 pub record PutAll (text : List ℕ) (s : State) (steps : ℕ) (e : Option InstructionException) (t : State) : Type 0 where
@@ -259,9 +259,9 @@ pub record PutAll (text : List ℕ) (s : State) (steps : ℕ) (e : Option Instru
   pub bytes_kept : (b : ℕ) → b ≢ reg s 10 → t.bytes b ≡ s.bytes b
   pub printed : (accesses : List Access) → AccessesOfRun s (answers_of_run steps e) accesses → writes_of accesses ≡ writes_to (reg s 10) text
 
-pub put_all : (text : List ℕ) (s t : State) (limit steps : ℕ) (e : Option InstructionException) → 15 ≤ length s.registers → PutStringStarts text s → reg s 1 < 2 ^ 32 → reg s 10 < 2 ^ 32 → limit ≡ 5 * length text + 4 → IsOnlyRunUntil limit s steps e t → PutAll text s steps e t
-put_all text s t limit steps e long starts small port_small limit_is only =
-    let known = puts text s long starts small port_small in
+pub put_all : (text : List ℕ) (s t : State) (limit steps : ℕ) (e : Option InstructionException) → 15 ≤ length s.registers → PutStringStarts text s → reg s 1 < 2 ^ 32 → reg s 10 < 2 ^ 32 → EndsAtLastAddress s.bytes s.writable → limit ≡ 5 * length text + 4 → IsOnlyRunUntil limit s steps e t → PutAll text s steps e t
+put_all text s t limit steps e long starts small port_small ends limit_is only =
+    let known = puts text s long starts small port_small ends in
     let same = Programs.returned only limit_is known.runs in
     let P : State → Type 0 = λ x. (b : ℕ) → b ≢ reg s 10 → x.bytes b ≡ s.bytes b in
     let are : answers_of_run (5 * length text + 3) (Some (IllegalInstruction (reg s 1) (word_at s.bytes (reg s 1)))) ≡ answers_of_run steps e = λ i. answers_of_run (sym same.0 i) (sym same.1 i) in

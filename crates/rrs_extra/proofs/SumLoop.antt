@@ -4,7 +4,7 @@ use Rattle.rrs_lib.specs.declared.instruction_executor.InstructionException.{Ins
 use Rattle.rrs_lib.specs.declared.instruction_executor.InstructionException.TheVariants.{IllegalInstruction}
 use Rattle.rrs_lib.specs.Words.{word}
 use Rattle.rrs_lib.specs.Table.{Row, Decodes}
-use Rattle.rrs_lib.specs.Bytes.{ByteMap, little_endian}
+use Rattle.rrs_lib.specs.Bytes.{ByteMap, little_endian, EndsAtLastAddress}
 use Rattle.rrs_lib.specs.Machine.{State, reg}
 use Rattle.rrs_lib.specs.Steps.{RunsOk, RunUntil, IsOnlyRunUntil}
 use Rattle.rrs_lib.proofs.Examples.{of_R, of_I, of_B, of_J}
@@ -12,7 +12,7 @@ use Rattle.rrs_lib.proofs.Decoder.{decodes}
 use Rattle.rrs_lib.proofs.Programs
 use Rattle.rrs_lib.proofs.Programs.{at, Fetches, fetches, Others, registers_by}
 use Rattle.rrs_extra.specs.Programs.{HoldsWords, IsMapped, word_at, sum_of_words, sum_loop_program, SumLoopStarts}
-use Rattle.rrs_extra.proofs.Words.{word_read}
+use Rattle.rrs_extra.proofs.Words.{word_read, mapped-ends}
 
 -- ---- the words
 
@@ -116,20 +116,20 @@ pub record Sums (s : State) : Type 0 where
   pub sum : reg after 12 ≡ sum_of_words s.bytes (reg s 10) (reg s 11) % 2 ^ 32
   pub bytes_kept : after.bytes ≡ s.bytes
 
-sums_from : (o : Others) (x1 a n x12 x13 x14 x15 : ℕ) (last : Option ℕ) (bytes : ByteMap) (writable : ℕ → Bool) → SumLoopStarts (at (registers_by o x1 a n x12 x13 x14 x15) 0 last bytes writable) → Sums (at (registers_by o x1 a n x12 x13 x14 x15) 0 last bytes writable)
-sums_from o x1 a n x12 x13 x14 x15 last bytes writable starts =
-    let all = rounds n o x1 a 0 (sum_of_words bytes a n % 2 ^ 32) x13 x14 x15 (Some 12) bytes writable starts.program starts.aligned starts.in_range starts.mapped (omega arith) (ap (λ y. y % 2 ^ 32) (omega arith)) in
+sums_from : (o : Others) (x1 a n x12 x13 x14 x15 : ℕ) (last : Option ℕ) (bytes : ByteMap) (writable : ℕ → Bool) → SumLoopStarts (at (registers_by o x1 a n x12 x13 x14 x15) 0 last bytes writable) → EndsAtLastAddress bytes writable → a < 2 ^ 32 → Sums (at (registers_by o x1 a n x12 x13 x14 x15) 0 last bytes writable)
+sums_from o x1 a n x12 x13 x14 x15 last bytes writable starts ends small =
+    let all = rounds n o x1 a 0 (sum_of_words bytes a n % 2 ^ 32) x13 x14 x15 (Some 12) bytes writable starts.program starts.aligned (mapped-ends bytes writable a (4 * n) ends starts.mapped (omega arith)) starts.mapped (omega arith) (ap (λ y. y % 2 ^ 32) (omega arith)) in
     let first = Programs.step-writes 4 11 0 (pos 0) {registers = registers_by o x1 a n x12 x13 x14 x15} {pc = 0} {last = last} {bytes = bytes} {writable = writable} (fetches refl (starts.program.each 0 (omega arith)) li_x12) refl refl refl in
     let chain = Programs.RunsOk-as (suc (6 * n + 1)) (6 * n + 2) _ _ (omega arith) (Programs.RunsOk-then (6 * n + 1) _ _ _ first all.runs) in
     let fault = Programs.step-illegal {registers = registers_by o x1 all.end 0 (sum_of_words bytes a n % 2 ^ 32) all.value x14 x15} {pc = 0x1c} {last = None} {bytes = bytes} {writable = writable} refl (word_read bytes 0x1c starts.behind.mapped) starts.behind.outside in
     record { after = _; runs = Programs.RunUntil-fault (6 * n + 3) (6 * n + 2) _ _ _ _ (omega arith) chain fault; sum = refl; bytes_kept = refl }
 
-pub sums : (s : State) → 15 ≤ length s.registers → SumLoopStarts s → Sums s
-sums s long starts =
+pub sums : (s : State) → 15 ≤ length s.registers → SumLoopStarts s → EndsAtLastAddress s.bytes s.writable → reg s 10 < 2 ^ 32 → Sums s
+sums s long starts ends small =
     let open_s = Programs.opened s long in
     let same : s ≡ at (registers_by open_s.others (reg s 1) (reg s 10) (reg s 11) (reg s 12) (reg s 13) (reg s 14) (reg s 15)) 0 s.last s.bytes s.writable =
     open_s.same ∙ Programs.at_pc _ 0 starts.pc in
-    subst Sums (sym same) (sums_from open_s.others (reg s 1) (reg s 10) (reg s 11) (reg s 12) (reg s 13) (reg s 14) (reg s 15) s.last s.bytes s.writable (subst SumLoopStarts same starts))
+    subst Sums (sym same) (sums_from open_s.others (reg s 1) (reg s 10) (reg s 11) (reg s 12) (reg s 13) (reg s 14) (reg s 15) s.last s.bytes s.writable (subst SumLoopStarts same starts) ends small)
 
 -- what a call of `run` returned
 pub record Summed (s : State) (steps : ℕ) (e : Option InstructionException) (t : State) : Type 0 where
@@ -138,9 +138,9 @@ pub record Summed (s : State) (steps : ℕ) (e : Option InstructionException) (t
   pub sum : reg t 12 ≡ sum_of_words s.bytes (reg s 10) (reg s 11) % 2 ^ 32
   pub bytes_kept : t.bytes ≡ s.bytes
 
-pub summed : (s t : State) (limit steps : ℕ) (e : Option InstructionException) → 15 ≤ length s.registers → SumLoopStarts s → limit ≡ 6 * reg s 11 + 3 → IsOnlyRunUntil limit s steps e t → Summed s steps e t
-summed s t limit steps e long starts limit_is only =
-    let known = sums s long starts in
+pub summed : (s t : State) (limit steps : ℕ) (e : Option InstructionException) → 15 ≤ length s.registers → SumLoopStarts s → EndsAtLastAddress s.bytes s.writable → reg s 10 < 2 ^ 32 → limit ≡ 6 * reg s 11 + 3 → IsOnlyRunUntil limit s steps e t → Summed s steps e t
+summed s t limit steps e long starts ends small limit_is only =
+    let known = sums s long starts ends small in
     let same = Programs.returned only limit_is known.runs in
     let x12 : State → ℕ = λ x. reg x 12 in
     let bytes : State → ByteMap = λ x. x.bytes in

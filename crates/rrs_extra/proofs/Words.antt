@@ -1,12 +1,13 @@
 -- Words in a memory.
-use Rattle.std.proofs.Common.{◌≡◌, ℕ, zero, suc, ◌+◌, ◌-◌, ◌*◌, ◌%◌, ◌<◌, ◌≤◌, ◌==◌, ◌&&◌, Bool, true, false, List, [], ◌∷◌, length, slice_index, Option, Some, None, IsSome, is_some, refl, ap, subst, ◌∙◌, arith, below_more}
-use Rattle.std.proofs.lemmas.Bool.{eqb-true, and_parts}
+use Rattle.std.proofs.Common.{◌≡◌, ℕ, zero, suc, ◌+◌, ◌-◌, ◌*◌, ◌%◌, ◌^◌, ◌<◌, ◌≤◌, ◌==◌, ◌&&◌, Bool, true, false, List, [], ◌∷◌, length, slice_index, Option, Some, None, IsSome, is_some, IsTrue, inl, inr, refl, sym, ap, subst, ◌∙◌, arith, below_more}
+use Rattle.std.proofs.lemmas.Bool.{eqb-true, and_parts, cases_lt}
+use Rattle.std.proofs.lemmas.Option.{none-some}
 use Rattle.rrs_lib.specs.Encodings.{Fields}
 use Rattle.rrs_lib.specs.Table.{Row, Decodes}
-use Rattle.rrs_lib.specs.Bytes.{ByteMap, little_endian}
+use Rattle.rrs_lib.specs.Bytes.{ByteMap, little_endian, sum_if_both, at_place, EndsAtLastAddress}
 use Rattle.rrs_lib.proofs.ByteLemmas.{Outside, read-mapped, read-kept, outside_from_none}
 use Rattle.rrs_lib.proofs.Programs.{Fetches, fetches}
-use Rattle.rrs_extra.specs.Programs.{HoldsWords, IsMapped, AreApart, or_zero, word_at}
+use Rattle.rrs_extra.specs.Programs.{HoldsWords, IsMapped, IsWritable, AreApart, or_zero, word_at}
 
 is_its_value : (o : Option ℕ) → IsSome o → o ≡ Some (or_zero o)
 is_its_value None some = cc
@@ -15,6 +16,62 @@ is_its_value (Some x) some = refl
 -- the word at an address is read where its bytes are mapped
 pub word_read : (bytes : ByteMap) (a : ℕ) → IsMapped bytes a 4 → little_endian bytes a 4 ≡ Some (word_at bytes a)
 word_read bytes a mapped = is_its_value (little_endian bytes a 4) (read-mapped bytes a 4 mapped)
+
+-- ---- addresses end at 2 ^ 32
+
+-- what is mapped lies below
+pub value-small : (bytes : ByteMap) (writable : ℕ → Bool) (b x : ℕ) → EndsAtLastAddress bytes writable → bytes b ≡ Some x → b < 2 ^ 32
+value-small bytes writable b x ends is =
+    elim (cases_lt b (2 ^ 32)) as (λ _. b < 2 ^ 32) [
+      | inl less ↦ less
+      | inr past ↦ absurd (none-some x (sym (ends b past).0 ∙ is))
+    ]
+
+not-true : IsTrue false → ⊥
+not-true test = cc
+
+-- what is writable lies below
+writable-small : (bytes : ByteMap) (writable : ℕ → Bool) (b : ℕ) → EndsAtLastAddress bytes writable → IsTrue (writable b) → b < 2 ^ 32
+writable-small bytes writable b ends test =
+    let P : Bool → Type 0 = λ x. IsTrue x in
+    elim (cases_lt b (2 ^ 32)) as (λ _. b < 2 ^ 32) [
+      | inl less ↦ less
+      | inr past ↦ absurd (not-true (subst P (ends b past).1 test))
+    ]
+
+-- n bytes that are mapped end there at the latest
+pub mapped-ends : (bytes : ByteMap) (writable : ℕ → Bool) (a n : ℕ) → EndsAtLastAddress bytes writable → IsMapped bytes a n → a ≤ 2 ^ 32 → a + n ≤ 2 ^ 32
+mapped-ends bytes writable a zero ends mapped small = omega (arith, small)
+mapped-ends bytes writable a (suc n) ends mapped small =
+    let less = value-small bytes writable (a + n) _ ends (is_its_value (bytes (a + n)) (mapped n (omega arith))) in
+    omega (arith, less)
+
+-- so do n bytes that are writable
+pub writable-ends : (bytes : ByteMap) (writable : ℕ → Bool) (a n : ℕ) → EndsAtLastAddress bytes writable → IsWritable writable a n → a ≤ 2 ^ 32 → a + n ≤ 2 ^ 32
+writable-ends bytes writable a zero ends all small = omega (arith, small)
+writable-ends bytes writable a (suc n) ends all small =
+    let less = writable-small bytes writable (a + n) ends (all n (omega arith)) in
+    omega (arith, less)
+
+sum-none : (o : Option ℕ) → sum_if_both o None ≡ None
+sum-none None = refl
+sum-none (Some x) = refl
+
+word-small : (bytes : ByteMap) (writable : ℕ → Bool) (a w : ℕ) → EndsAtLastAddress bytes writable → little_endian bytes a 4 ≡ Some w → a + 3 < 2 ^ 32
+word-small bytes writable a w ends read =
+    let with_last : Option ℕ → Option ℕ = λ o. sum_if_both (little_endian bytes a 3) (at_place 3 o) in
+    elim (cases_lt (a + 3) (2 ^ 32)) as (λ _. a + 3 < 2 ^ 32) [
+      | inl less ↦ less
+      | inr past ↦ absurd (none-some w (sym (ap with_last (ends (a + 3) past).0 ∙ sum-none (little_endian bytes a 3)) ∙ read))
+    ]
+
+-- and words that stand
+pub words-end : (bytes : ByteMap) (writable : ℕ → Bool) (a : ℕ) (words : List ℕ) → EndsAtLastAddress bytes writable → HoldsWords bytes a words → 1 ≤ length words → a + 4 * length words ≤ 2 ^ 32
+words-end bytes writable a words ends holds some =
+    let less = word-small bytes writable (a + 4 * (length words - 1)) _ ends (holds.each (length words - 1) (omega arith)) in
+    omega (arith, less)
+
+-- ---- programs
 
 -- word i of a program is fetched at its address
 pub instruction : {bytes : ByteMap} {a pc : ℕ} {words : List ℕ} {row : Row} {f : Fields}

@@ -1,7 +1,7 @@
 -- What is said of a program that prints: it writes a string to a port, one byte after the other.
 -- Registers go by their numbers: x1 has the address to return to, x10 that of the port, and x11
 -- that of the string, as the C calling convention has it.
-use Rattle.std.specs.Prelude.{◌≡◌, ◌≢◌, ℕ, ◌+◌, ◌^◌, ◌<◌, List, [], ◌∷◌, map, length, slice_index, true, Some, IsTrue}
+use Rattle.std.specs.Prelude.{◌≡◌, ◌≢◌, ℕ, ◌+◌, ◌<◌, List, [], ◌∷◌, map, length, slice_index, true, Some, IsTrue}
 use Rattle.rrs_lib.specs.declared.MemAccessSize.TheVariants.{Byte}
 use Rattle.rrs_lib.specs.Bytes.{ByteMap}
 use Rattle.rrs_lib.specs.Machine.{State, reg}
@@ -35,7 +35,6 @@ put_string_program =
 pub record PutStringStarts (text : List ℕ) (s : State) : Type 0 where
   pub called : IsCalled put_string_program s
   pub string : HoldsString s.bytes (reg s 11) text
-  pub in_range : reg s 11 + length text < 2 ^ 32
   pub port_writable : IsTrue (s.writable (reg s 10))
   pub apart_from_program : AreApart (reg s 10) 1 s.pc 24
   pub apart_from_text : AreApart (reg s 10) 1 (reg s 11) (length text + 1)

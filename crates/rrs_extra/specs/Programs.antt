@@ -49,7 +49,6 @@ HasWords s = (reg s 1 < 2 ^ 32) × (reg s 10 < 2 ^ 32) × (reg s 11 < 2 ^ 32)
 pub record IsCalled (program : List ℕ) (s : State) : Type 0 where
   pub program_there : HoldsWords s.bytes s.pc program
   pub aligned : s.pc % 4 ≡ 0
-  pub in_range : s.pc + 4 * length program ≤ 2 ^ 32
   pub return_aligned : reg s 1 % 4 ≡ 0
   pub stops : HoldsIllegal s.bytes (reg s 1)
 
@@ -81,7 +80,6 @@ pub record SumLoopStarts (s : State) : Type 0 where
   pub aligned : reg s 10 % 4 ≡ 0
   pub past_program : 0x20 ≤ reg s 10
   pub mapped : IsMapped s.bytes (reg s 10) (4 * reg s 11)
-  pub in_range : reg s 10 + 4 * reg s 11 ≤ 2 ^ 32
 
 -- ---- the greatest common divisor, as C calls it
 
@@ -117,10 +115,8 @@ copy_words_program =
 pub record CopyWordsStarts (s : State) : Type 0 where
   pub called : IsCalled copy_words_program s
   pub to_aligned : reg s 10 % 4 ≡ 0
-  pub to_in_range : reg s 10 + 4 * reg s 12 ≤ 2 ^ 32
   pub to_writable : IsWritable s.writable (reg s 10) (4 * reg s 12)
   pub from_aligned : reg s 11 % 4 ≡ 0
-  pub from_in_range : reg s 11 + 4 * reg s 12 ≤ 2 ^ 32
   pub from_mapped : IsMapped s.bytes (reg s 11) (4 * reg s 12)
   pub apart_from_source : AreApart (reg s 10) (4 * reg s 12) (reg s 11) (4 * reg s 12)
   pub apart_from_program : AreApart (reg s 10) (4 * reg s 12) s.pc 36

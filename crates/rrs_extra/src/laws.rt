@@ -1,8 +1,8 @@
 //! Laws over several calls of the kit, and theorems about programs, as calls.
 //!
 //! What each call requires is what has to hold before, and what it ensures is how what its calls
-//! return is related, or what the machine does. No proof looks at how a call of `rrs_lib` is written:
-//! they stand on its contracts, its definitions, and lemmas over these.
+//! return is related, or what the machine does. No proof looks at how a call of `rrs_lib` is
+//! written: they stand on its contracts, its definitions, and lemmas over these.
 
 mod independence;
 mod printing;

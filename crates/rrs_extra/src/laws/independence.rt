@@ -2,6 +2,7 @@
 //! else of it: over two memories that agree in these, the same steps have the same answers.
 
 ghost use Rattle.std.specs.Prelude.{◌≡◌, ◌≤◌, length};
+ghost use Rattle.rrs_lib.specs.Accesses.{AccessesOfRun, answers_of_run, MakesExactly};
 ghost use Rattle.rrs_lib.specs.Executor.{state_in, KeepsTheRest};
 ghost use Rattle.rrs_lib.specs.Steps.{Run, RunUntil};
 ghost use Rattle.rrs_lib.specs.VecBytes.{vec_bytes, vec_writable};
@@ -17,6 +18,7 @@ use rrs_lib::memories::VecMemory;
 ///
 /// The answers are equal, faults among them, and the machines agree again. After at least one step
 /// their last written registers are equal too.
+/// Each memory goes from what it was to what it is by exactly the accesses of its machine's steps.
 pub fn agree_each<A: Memory, B: Memory>(
     first: &mut InstructionExecutor<A>,
     second: &mut InstructionExecutor<B>,
@@ -38,6 +40,12 @@ pub fn agree_each<A: Memory, B: Memory>(
         ≡ second.new.hart_state.now.last_register_write }
     ensures first_rest { KeepsTheRest A.layout first.old first.new }
     ensures second_rest { KeepsTheRest B.layout second.old second.new }
+    ensures first_accesses { MakesExactly A.reads A.writes
+        (AccessesOfRun (state_in A.bytes A.writable first.old) first_answers.new)
+        first.old.mem.now first.new.mem.now }
+    ensures second_accesses { MakesExactly B.reads B.writes
+        (AccessesOfRun (state_in B.bytes B.writable second.old) second_answers.new)
+        second.old.mem.now second.new.mem.now }
 {
     first.step_each(first_answers);
     second.step_each(second_answers);
@@ -47,6 +55,7 @@ pub fn agree_each<A: Memory, B: Memory>(
 ///
 /// They end alike, after as many steps, and the machines agree again. Where the limit is at least 1
 /// their last written registers are equal too.
+/// Each memory goes from what it was to what it is by exactly the accesses of its machine's steps.
 pub fn same_run<A: Memory, B: Memory>(
     first: &mut InstructionExecutor<A>,
     second: &mut InstructionExecutor<B>,
@@ -65,6 +74,14 @@ pub fn same_run<A: Memory, B: Memory>(
         ≡ second.new.hart_state.now.last_register_write }
     ensures first_rest { KeepsTheRest A.layout first.old first.new }
     ensures second_rest { KeepsTheRest B.layout second.old second.new }
+    ensures first_accesses { MakesExactly A.reads A.writes
+        (AccessesOfRun (state_in A.bytes A.writable first.old)
+        (answers_of_run result.0.steps result.0.exception))
+        first.old.mem.now first.new.mem.now }
+    ensures second_accesses { MakesExactly B.reads B.writes
+        (AccessesOfRun (state_in B.bytes B.writable second.old)
+        (answers_of_run result.1.steps result.1.exception))
+        second.old.mem.now second.new.mem.now }
 {
     let first_end = first.run(limit);
     let second_end = second.run(limit);

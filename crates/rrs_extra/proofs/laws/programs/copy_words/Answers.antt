@@ -15,7 +15,8 @@ limit_is g c = ap (λ n. 5 * n + 5) (c.from.ensures ∙ c.read_register-count.en
 known : (g : Given.Over) (c : goal.After-run g) → Copied (state_in g.M.Memory.bytes g.M.Memory.writable c.args.executor.now) c.run.result.steps c.run.result.exception (state_in g.M.Memory.bytes g.M.Memory.writable c.run.new.self)
 known g c =
     let words = c.registers_of_call.ensures.words (g.M.Memory.bytes c.args.executor.now.mem.now) (g.M.Memory.writable c.args.executor.now.mem.now) in
-    copied _ _ _ _ _ (omega (arith, length-drop 1 c.args.executor.now.hart_state.now.registers, c.registers_of_call.ensures.count)) c.requires words.0 (limit_is g c) c.run.ensures.only
+    let ends = c.run.ensures.ends (omega arith) c.requires.called.aligned in
+    copied _ _ _ _ _ (omega (arith, length-drop 1 c.args.executor.now.hart_state.now.registers, c.registers_of_call.ensures.count)) c.requires words ends (limit_is g c) c.run.ensures.only
 
 pub returns-clause-run : goal.returns-clause-run
 returns-clause-run g c =

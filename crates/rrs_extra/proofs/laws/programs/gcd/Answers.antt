@@ -13,7 +13,10 @@ limit_is : (g : Given.Over) (c : goal.After-run g) → 5 * c.from.result + 3 ≡
 limit_is g c = ap (λ n. 5 * n + 3) (c.from.ensures ∙ c.read_register-divisor.ensures (g.M.Memory.bytes c.args.executor.now.mem.now) (g.M.Memory.writable c.args.executor.now.mem.now))
 
 known : (g : Given.Over) (c : goal.After-run g) → Divided (state_in g.M.Memory.bytes g.M.Memory.writable c.args.executor.now) c.run.result.steps c.run.result.exception (state_in g.M.Memory.bytes g.M.Memory.writable c.run.new.self)
-known g c = divided _ _ _ _ _ (omega (arith, length-drop 1 c.args.executor.now.hart_state.now.registers, c.registers_of_call.ensures.count)) c.requires (c.registers_of_call.ensures.words (g.M.Memory.bytes c.args.executor.now.mem.now) (g.M.Memory.writable c.args.executor.now.mem.now)) (limit_is g c) c.run.ensures.only
+known g c =
+    let words = c.registers_of_call.ensures.words (g.M.Memory.bytes c.args.executor.now.mem.now) (g.M.Memory.writable c.args.executor.now.mem.now) in
+    let ends = c.run.ensures.ends (omega arith) c.requires.aligned in
+    divided _ _ _ _ _ (omega (arith, length-drop 1 c.args.executor.now.hart_state.now.registers, c.registers_of_call.ensures.count)) c.requires words ends (limit_is g c) c.run.ensures.only
 
 pub returns-clause-run : goal.returns-clause-run
 returns-clause-run g c =
