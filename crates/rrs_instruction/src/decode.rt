@@ -252,5 +252,5 @@ pub fn process_instruction<T: InstructionProcessor>(
     ensures unique { IsOneRowAtMost insn_bits }
 {
     let instruction = decode(insn_bits)?;
-    Some(instruction.hand_to(processor))
+    Some(instruction.process(processor))
 }

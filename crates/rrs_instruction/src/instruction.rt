@@ -117,23 +117,12 @@ pub enum Instruction {
 impl Instruction {
     ghost use Rattle.rrs_instruction.specs.Instructions.{row_of, fields_of};
 
-    /// Calls the processor's function for this instruction, once, and returns what it returned.
-    ///
-    /// The processor did what it does for the row and the fields that the instruction is.
-    pub fn process<T: InstructionProcessor>(self, processor: &mut T) -> T::InstructionResult
-        requires { HasRegisters (fields_of self) }
-        ensures { T.did (row_of self) (fields_of self) processor.old processor.new result }
-    {
-        self.hand_to(processor)
-    }
-
-    /// Calls the processor's function for this instruction, with its fields, as `process` does, and
-    /// returns what that returns. It reads the instruction where it stands, and of its fields only
-    /// those of its row.
+    /// Calls the processor's function for this instruction, once, and returns what it returned. It
+    /// reads the instruction where it stands, and of its fields only those of its row.
     ///
     /// The processor did what it does for the row and the fields that the instruction is.
     #[inline(always)]
-    pub fn hand_to<T: InstructionProcessor>(&self, processor: &mut T) -> T::InstructionResult
+    pub fn process<T: InstructionProcessor>(&self, processor: &mut T) -> T::InstructionResult
         requires { HasRegisters (fields_of self.now) }
         ensures { T.did (row_of self.now) (fields_of self.now) processor.old processor.new result }
     {

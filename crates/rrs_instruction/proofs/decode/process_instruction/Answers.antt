@@ -6,12 +6,12 @@ use Rattle.rrs_instruction.proofs.decode.process_instruction.Goals as goal
 pub returns-clause-these : goal.returns-clause-these
 returns-clause-these g c = λ row f is.
     let i = c.in_ok-instruction.instruction in
-    these (λ row f. g.T.InstructionProcessor.did row f c.args.processor.now c.hand_to.new.processor c.hand_to.result) c.args.insn_bits row f
+    these (λ row f. g.T.InstructionProcessor.did row f c.args.processor.now c.process.new.processor c.process.result) c.args.insn_bits row f
     record {
       row = row_of i;
       fields = fields_of i;
       is = c.in_ok-instruction.ensures.decoded;
-      holds = c.hand_to.ensures;
+      holds = c.process.ensures;
     }
     is
 
