@@ -4,6 +4,9 @@
 //! one that a word is, and `process` hands it to an [InstructionProcessor].
 //! `process_instruction` is the one after the other.
 
+mod debug_text;
+
+ghost use Rattle.std.specs.Prelude.{◌≡◌, ◌≤◌};
 ghost use Rattle.rrs_instruction.specs.Encodings.{HasRegisters};
 
 use crate::InstructionProcessor;
@@ -14,7 +17,7 @@ use crate::instruction_formats::{BType, IType, ITypeShamt, JType, RType, SType, 
 ///
 /// Which row and which fields a value is, is written in `specs/Instructions.antt`. The fields may be
 /// any, also such as no word has; those of a value that `decode` returned are in their ranges.
-#[derive(Debug, PartialEq, Clone, Copy)]
+#[derive(PartialEq, Clone, Copy)]
 pub enum Instruction {
     /// `add`: the sum.
     Add(RType),
@@ -116,6 +119,122 @@ pub enum Instruction {
 
 impl Instruction {
     ghost use Rattle.rrs_instruction.specs.Instructions.{row_of, fields_of};
+    ghost use Rattle.rrs_instruction.specs.Table.{table};
+
+    /// The number of the instruction's row, 1 to 48, in the order of the table.
+    #[inline]
+    pub fn number(&self) -> usize
+        ensures number { result ≡ (table (row_of self.now)).number }
+        ensures first { 1 ≤ result }
+        ensures last { result ≤ 48 }
+    {
+        match self {
+            Instruction::Add(_) => 1,
+            Instruction::Sub(_) => 2,
+            Instruction::Sll(_) => 3,
+            Instruction::Slt(_) => 4,
+            Instruction::Sltu(_) => 5,
+            Instruction::Xor(_) => 6,
+            Instruction::Srl(_) => 7,
+            Instruction::Sra(_) => 8,
+            Instruction::Or(_) => 9,
+            Instruction::And(_) => 10,
+            Instruction::Addi(_) => 11,
+            Instruction::Slli(_) => 12,
+            Instruction::Slti(_) => 13,
+            Instruction::Sltiu(_) => 14,
+            Instruction::Xori(_) => 15,
+            Instruction::Srli(_) => 16,
+            Instruction::Srai(_) => 17,
+            Instruction::Ori(_) => 18,
+            Instruction::Andi(_) => 19,
+            Instruction::Lui(_) => 20,
+            Instruction::Auipc(_) => 21,
+            Instruction::Beq(_) => 22,
+            Instruction::Bne(_) => 23,
+            Instruction::Blt(_) => 24,
+            Instruction::Bltu(_) => 25,
+            Instruction::Bge(_) => 26,
+            Instruction::Bgeu(_) => 27,
+            Instruction::Lb(_) => 28,
+            Instruction::Lbu(_) => 29,
+            Instruction::Lh(_) => 30,
+            Instruction::Lhu(_) => 31,
+            Instruction::Lw(_) => 32,
+            Instruction::Sb(_) => 33,
+            Instruction::Sh(_) => 34,
+            Instruction::Sw(_) => 35,
+            Instruction::Jal(_) => 36,
+            Instruction::Jalr(_) => 37,
+            Instruction::Mul(_) => 38,
+            Instruction::Mulh(_) => 39,
+            Instruction::Mulhu(_) => 40,
+            Instruction::Mulhsu(_) => 41,
+            Instruction::Div(_) => 42,
+            Instruction::Divu(_) => 43,
+            Instruction::Rem(_) => 44,
+            Instruction::Remu(_) => 45,
+            Instruction::Fence(_) => 46,
+            Instruction::Ecall(_) => 47,
+            Instruction::Ebreak(_) => 48,
+        }
+    }
+
+    /// The name of the instruction's row, as in its text: `add`.
+    pub fn mnemonic(&self) -> &'static str
+        ensures { result.now ≡ (table (row_of self.now)).name }
+    {
+        match self {
+            Instruction::Add(_) => "add",
+            Instruction::Sub(_) => "sub",
+            Instruction::Sll(_) => "sll",
+            Instruction::Slt(_) => "slt",
+            Instruction::Sltu(_) => "sltu",
+            Instruction::Xor(_) => "xor",
+            Instruction::Srl(_) => "srl",
+            Instruction::Sra(_) => "sra",
+            Instruction::Or(_) => "or",
+            Instruction::And(_) => "and",
+            Instruction::Addi(_) => "addi",
+            Instruction::Slli(_) => "slli",
+            Instruction::Slti(_) => "slti",
+            Instruction::Sltiu(_) => "sltiu",
+            Instruction::Xori(_) => "xori",
+            Instruction::Srli(_) => "srli",
+            Instruction::Srai(_) => "srai",
+            Instruction::Ori(_) => "ori",
+            Instruction::Andi(_) => "andi",
+            Instruction::Lui(_) => "lui",
+            Instruction::Auipc(_) => "auipc",
+            Instruction::Beq(_) => "beq",
+            Instruction::Bne(_) => "bne",
+            Instruction::Blt(_) => "blt",
+            Instruction::Bltu(_) => "bltu",
+            Instruction::Bge(_) => "bge",
+            Instruction::Bgeu(_) => "bgeu",
+            Instruction::Lb(_) => "lb",
+            Instruction::Lbu(_) => "lbu",
+            Instruction::Lh(_) => "lh",
+            Instruction::Lhu(_) => "lhu",
+            Instruction::Lw(_) => "lw",
+            Instruction::Sb(_) => "sb",
+            Instruction::Sh(_) => "sh",
+            Instruction::Sw(_) => "sw",
+            Instruction::Jal(_) => "jal",
+            Instruction::Jalr(_) => "jalr",
+            Instruction::Mul(_) => "mul",
+            Instruction::Mulh(_) => "mulh",
+            Instruction::Mulhu(_) => "mulhu",
+            Instruction::Mulhsu(_) => "mulhsu",
+            Instruction::Div(_) => "div",
+            Instruction::Divu(_) => "divu",
+            Instruction::Rem(_) => "rem",
+            Instruction::Remu(_) => "remu",
+            Instruction::Fence(_) => "fence",
+            Instruction::Ecall(_) => "ecall",
+            Instruction::Ebreak(_) => "ebreak",
+        }
+    }
 
     /// Calls the processor's function for this instruction, once, and returns what it returned. It
     /// reads the instruction where it stands, and of its fields only those of its row.

@@ -6,6 +6,8 @@
 #![tactic(auto)]
 
 #[cfg(test)]
+mod debug_texts;
+#[cfg(test)]
 mod edges;
 #[cfg(test)]
 mod executor;
