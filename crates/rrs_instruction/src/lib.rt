@@ -1,9 +1,9 @@
 //! The instructions of RV32I with the M extension: formats, decoding, and results.
 //!
-//! `process_instruction` decodes a word and calls a function of an [InstructionProcessor];
-//! `instruction` has the instructions as values, `instruction_formats` their fields, and
-//! `arithmetic` their results on words. `rrs_lib` passes on all but the results, and a user names
-//! `rrs_lib` alone.
+//! `process_instruction` decodes a word and calls a function of an [InstructionProcessor], which an
+//! [InstructionHandler] is in one function; `instruction` has the instructions as values,
+//! `instruction_formats` their fields, and `arithmetic` their results on words. `rrs_lib` passes on
+//! all but the results, and a user names `rrs_lib` alone.
 //!
 //! What the rows of the table are, which words they are and what their results are is written in
 //! `specs/`, in the terms of the RISC-V unprivileged specification. The contracts of the calls cite
@@ -13,6 +13,7 @@
 
 pub mod arithmetic;
 mod decode;
+mod handler;
 pub mod instruction;
 pub mod instruction_formats;
 
@@ -21,12 +22,15 @@ ghost use Rattle.rrs_instruction.specs.Table.{Row};
 
 use crate::instruction_formats::{BType, IType, ITypeShamt, JType, RType, SType, UType};
 pub use decode::process_instruction;
+pub use handler::InstructionHandler;
 
 /// Something that is done with instructions: executing them, printing them, counting them.
 ///
 /// There is one function for each row of the table, in its order. Each takes the row's decoded
 /// fields, whose register numbers are below 32; immediates, shift amounts, funct3 and funct7 may be
 /// anything. An implementation says what it does by its relation `did`, and each function meets it.
+///
+/// Who has an [InstructionHandler], a processor in one function, has these too.
 pub trait InstructionProcessor {
     /// What each function returns.
     type InstructionResult;

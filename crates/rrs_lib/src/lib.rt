@@ -1,7 +1,8 @@
 //! Building blocks for a RISC-V instruction set simulator: RV32I with the M extension.
 //!
-//! `process_instruction` decodes a word and calls a function of an [InstructionProcessor]. The
-//! processor of `instruction_executor` executes the instruction, over any [Memory]; that of
+//! `process_instruction` decodes a word and calls a function of an [InstructionProcessor], for which
+//! a user writes an [InstructionHandler]: one function over an `Instruction`. The processor of
+//! `instruction_executor` executes the instruction, over any [Memory]; that of
 //! `instruction_string_outputter` gives its text; `memories` has memories and a loader.
 //!
 //! What the rows of the table are, and what they do, is written in `specs/`, in the terms of the
@@ -17,7 +18,7 @@ pub mod instruction_string_outputter;
 ghost use Rattle.std.specs.Prelude.{◌≡◌, ℕ, ◌<◌, slice_index, length, Bool, Option, None, pos, replicate};
 
 pub use rrs_instruction::{
-    InstructionProcessor, instruction, instruction_formats, process_instruction,
+    InstructionHandler, InstructionProcessor, instruction, instruction_formats, process_instruction,
 };
 pub use rrs_memory::{MemAccessSize, Memory, memories};
 
