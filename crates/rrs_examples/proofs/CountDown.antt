@@ -6,7 +6,7 @@ use Rattle.rrs_lib.specs.Table.{Row, Decodes}
 use Rattle.rrs_lib.specs.Bytes.{ByteMap, little_endian}
 use Rattle.rrs_lib.specs.Machine.{State, reg}
 use Rattle.rrs_lib.specs.Steps.{RunsOk, IsOnlyRunUntil}
-use Rattle.rrs_lib.proofs.Examples.{of_I, of_B}
+use Rattle.rrs_lib.proofs.Formats.{of_I, of_B}
 use Rattle.rrs_lib.proofs.Decoder.{decodes}
 use Rattle.rrs_lib.proofs.Programs.{at, at_pc, fetches, step-writes, step-branches, step-stays, RunsOk-join, returned-limit}
 

@@ -2,7 +2,7 @@
 use Rattle.std.proofs.Common.{◌≡◌, ℕ, ◌∷◌, [], pos, neg_ℤ, refl, sym, rules, arith, ◌∙◌}
 use Rattle.rrs_lib.specs.Encodings.{Fields}
 use Rattle.rrs_lib.specs.Table.{Row, Decodes}
-use Rattle.rrs_lib.proofs.Examples.{of_R, of_I, of_IShamt, of_S, of_B, of_U, of_J}
+use Rattle.rrs_lib.proofs.Formats.{of_R, of_I, of_IShamt, of_S, of_B, of_U, of_J}
 use Rattle.rrs_lib.proofs.Rows.{one_row_at_most}
 use Rattle.rrs_extra.specs.Showing.{shown_of, ShowAlike}
 

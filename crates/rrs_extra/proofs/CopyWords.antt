@@ -9,7 +9,7 @@ use Rattle.rrs_lib.specs.Table.{Row, Decodes}
 use Rattle.rrs_lib.specs.Bytes.{ByteMap, little_endian, all_writable, store, EndsAtLastAddress}
 use Rattle.rrs_lib.specs.Machine.{State, reg, made_even}
 use Rattle.rrs_lib.specs.Steps.{Step, RunsOk, RunUntil, IsOnlyRunUntil}
-use Rattle.rrs_lib.proofs.Examples.{of_R, of_I, of_IShamt, of_S, of_B}
+use Rattle.rrs_lib.proofs.Formats.{of_R, of_I, of_IShamt, of_S, of_B}
 use Rattle.rrs_lib.proofs.Decoder.{decodes}
 use Rattle.rrs_lib.proofs.Programs
 use Rattle.rrs_lib.proofs.Programs.{at, Others, registers_by}

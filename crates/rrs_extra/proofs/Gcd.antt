@@ -12,7 +12,7 @@ use Rattle.rrs_lib.specs.Bytes.{ByteMap, EndsAtLastAddress}
 use Rattle.rrs_lib.specs.Results.{remu}
 use Rattle.rrs_lib.specs.Machine.{State, reg, made_even}
 use Rattle.rrs_lib.specs.Steps.{RunsOk, RunUntil, IsOnlyRunUntil}
-use Rattle.rrs_lib.proofs.Examples.{of_R, of_I, of_B, of_J}
+use Rattle.rrs_lib.proofs.Formats.{of_R, of_I, of_B, of_J}
 use Rattle.rrs_lib.proofs.Decoder.{decodes}
 use Rattle.rrs_lib.proofs.Programs
 use Rattle.rrs_lib.proofs.Programs.{at, Others, registers_by}

@@ -17,7 +17,7 @@ use Rattle.rrs_lib.specs.declared.instruction_formats.JType.{JType}
 use Rattle.rrs_lib.specs.Words.{word}
 use Rattle.rrs_lib.specs.Encodings.{R, I, IShamt, S, B, U, J, IsInRange}
 use Rattle.rrs_lib.specs.Table.{Row, table}
-use Rattle.rrs_lib.specs.Machine.{plus_immediate}
+use Rattle.rrs_lib.specs.Machine.{add, plus_immediate}
 use Rattle.rrs_lib.specs.Texts.{register, hexadecimal, three_registers, two_registers, shifted_register, register_and_word, branch_to, register_and_place, jump_to_place}
 use Rattle.rrs_lib.proofs.Fields.{same_from_remainder, floor_mod-lt}
 use Rattle.rrs_extra.specs.Showing.{shown}
@@ -73,7 +73,7 @@ same_summand : (a x y : ℕ) → x < 2 ^ 32 → y < 2 ^ 32 → (a + x) % 2 ^ 32 
 same_summand a x y small small' e = omega arith
 
 -- of sums with one address that are one word, the immediates have one word
-same_offset : (pc : ℕ) (y z : ℤ) → word (plus_immediate pc y) ≡ word (plus_immediate pc z) → word y ≡ word z
+same_offset : (pc : ℕ) (y z : ℤ) → plus_immediate pc y ≡ plus_immediate pc z → word y ≡ word z
 same_offset pc y z e = same_summand pc (word y) (word z) (word-lt y) (word-lt z) e
 
 -- the magnitude of an immediate of 12 bits
@@ -151,19 +151,19 @@ lui-alike row f g p q = (
 )
 
 pub auipc-alike : (row : Row) (pc : ℕ) (f g : UType) → IsInRange (U f) → IsInRange (U g)
-    → (Some (register_and_word row f.rd (word (plus_immediate pc f.imm))) ≡ Some (register_and_word row g.rd (word (plus_immediate pc g.imm)))) ↔ (shown (U f) ≡ shown (U g))
+    → (Some (register_and_word row f.rd (plus_immediate pc f.imm)) ≡ Some (register_and_word row g.rd (plus_immediate pc g.imm))) ↔ (shown (U f) ≡ shown (U g))
 auipc-alike row pc f g p q = (
   λ e.
-      let same = register_and_word-read row f.rd g.rd (plus_immediate pc f.imm) (plus_immediate pc g.imm) p.0 q.0 (same_Some _ _ e) in
+      let same = register_and_word-read row f.rd g.rd (add pc (word f.imm)) (add pc (word g.imm)) p.0 q.0 (same_Some _ _ e) in
       cc (same.0, same_immediate f.imm g.imm p.1 (omega (arith, ints)) q.1 (omega (arith, ints)) (same_offset pc f.imm g.imm same.1)),
   λ s. (cc),
 )
 
 pub jal-alike : (row : Row) (pc : ℕ) (f g : JType) → IsInRange (J f) → IsInRange (J g)
-    → (Some (register_and_word row f.rd (word (plus_immediate pc f.imm))) ≡ Some (register_and_word row g.rd (word (plus_immediate pc g.imm)))) ↔ (shown (J f) ≡ shown (J g))
+    → (Some (register_and_word row f.rd (plus_immediate pc f.imm)) ≡ Some (register_and_word row g.rd (plus_immediate pc g.imm))) ↔ (shown (J f) ≡ shown (J g))
 jal-alike row pc f g p q = (
   λ e.
-      let same = register_and_word-read row f.rd g.rd (plus_immediate pc f.imm) (plus_immediate pc g.imm) p.0 q.0 (same_Some _ _ e) in
+      let same = register_and_word-read row f.rd g.rd (add pc (word f.imm)) (add pc (word g.imm)) p.0 q.0 (same_Some _ _ e) in
       cc (same.0, same_immediate f.imm g.imm (omega (arith, ints)) (omega (arith, ints)) (omega (arith, ints)) (omega (arith, ints)) (same_offset pc f.imm g.imm same.1)),
   λ s. (cc),
 )
@@ -173,8 +173,8 @@ pub branch-alike : (row : Row) (pc : ℕ) (f g : BType) → IsInRange (B f) → 
     → (Some (branch_to row f pc) ≡ Some (branch_to row g pc)) ↔ (shown (B f) ≡ shown (B g))
 branch-alike row pc f g p q = (
   λ e.
-      let y : ℤ = plus_immediate pc f.imm in
-      let z : ℤ = plus_immediate pc g.imm in
+      let y : ℤ = add pc (word f.imm) in
+      let z : ℤ = add pc (word g.imm) in
       let same = three_operands (table row).name (register f.rs1) (register f.rs2) (codes "0x" ++ hexadecimal 8 (word y)) (register g.rs1) (register g.rs2) (codes "0x" ++ hexadecimal 8 (word z))
       (register_piece f.rs1 p.1) (register_piece g.rs1 q.1) (register_piece f.rs2 p.2) (register_piece g.rs2 q.2) (simp append_assoc at (same_Some _ _ e)) in
       let offset = same_offset pc f.imm g.imm (same_prefixed 8 y z same.2) in

@@ -11,7 +11,7 @@ use Rattle.rrs_lib.specs.Bytes.{ByteMap, little_endian, all_writable, store, sum
 use Rattle.rrs_lib.specs.Machine.{State, reg, made_even}
 use Rattle.rrs_lib.specs.Steps.{RunUntil, IsOnlyRunUntil}
 use Rattle.rrs_lib.specs.Accesses.{Access, Read, Write, fetch, AccessesOfRun, answers_of_run}
-use Rattle.rrs_lib.proofs.Examples.{of_I, of_S, of_B, of_J}
+use Rattle.rrs_lib.proofs.Formats.{of_I, of_S, of_B, of_J}
 use Rattle.rrs_lib.proofs.Decoder.{decodes}
 use Rattle.rrs_lib.proofs.Programs
 use Rattle.rrs_lib.proofs.Programs.{at, Others, registers_by}

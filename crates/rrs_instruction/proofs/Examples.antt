@@ -3,30 +3,9 @@
 -- modules below compute the definitions on them. No contract cites these.
 pub mod Ranges
 use Rattle.std.specs.Prelude.{ℕ, List, ℤ, pos, neg_ℤ, codes}
-use Rattle.rrs_instruction.specs.Encodings.{Fields, R, I, IShamt, S, B, U, J}
+use Rattle.rrs_instruction.specs.Encodings.{Fields}
 use Rattle.rrs_instruction.specs.Table.{Row}
-
--- fields by their values, in the order of the structs
-abbrev pub of_R : (funct7 rs2 rs1 funct3 rd : ℕ) → Fields
-of_R funct7 rs2 rs1 funct3 rd = R (record { funct7 = funct7; rs2 = rs2; rs1 = rs1; funct3 = funct3; rd = rd })
-
-abbrev pub of_I : (imm : ℤ) (rs1 funct3 rd : ℕ) → Fields
-of_I imm rs1 funct3 rd = I (record { imm = imm; rs1 = rs1; funct3 = funct3; rd = rd })
-
-abbrev pub of_IShamt : (funct7 shamt rs1 funct3 rd : ℕ) → Fields
-of_IShamt funct7 shamt rs1 funct3 rd = IShamt (record { funct7 = funct7; shamt = shamt; rs1 = rs1; funct3 = funct3; rd = rd })
-
-abbrev pub of_S : (imm : ℤ) (rs2 rs1 funct3 : ℕ) → Fields
-of_S imm rs2 rs1 funct3 = S (record { imm = imm; rs2 = rs2; rs1 = rs1; funct3 = funct3 })
-
-abbrev pub of_B : (imm : ℤ) (rs2 rs1 funct3 : ℕ) → Fields
-of_B imm rs2 rs1 funct3 = B (record { imm = imm; rs2 = rs2; rs1 = rs1; funct3 = funct3 })
-
-abbrev pub of_U : (imm : ℤ) (rd : ℕ) → Fields
-of_U imm rd = U (record { imm = imm; rd = rd })
-
-abbrev pub of_J : (imm : ℤ) (rd : ℕ) → Fields
-of_J imm rd = J (record { imm = imm; rd = rd })
+pub use Rattle.rrs_instruction.proofs.Formats.{of_R, of_I, of_IShamt, of_S, of_B, of_U, of_J}
 
 -- a word, its fields, and its text at address 0x100
 pub record Example : Type 0 where

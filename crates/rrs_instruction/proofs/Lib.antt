@@ -3,6 +3,7 @@ pub mod Bitwise
 pub mod Decoder
 pub mod Examples
 pub mod Fields
+pub mod Formats
 pub mod Masks
 pub mod Places
 pub mod Rows

@@ -189,7 +189,7 @@ pub fn immediate(imm: i32) -> u32
 /// A word plus a signed immediate, modulo 2^32.
 #[inline]
 pub fn plus_immediate(a: u32, imm: i32) -> u32
-    ensures { result ≡ word (sum_with_immediate a imm) }
+    ensures { result ≡ sum_with_immediate a imm }
 {
     a.wrapping_add(immediate(imm))
 }

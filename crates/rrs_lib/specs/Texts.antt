@@ -21,10 +21,6 @@ name_of row = (table row).name
 abbrev pub register : ℕ → List ℕ
 register r = codes "x" ++ decimal r
 
--- what `auipc`, a branch and `jal` show: the address plus the immediate
-abbrev pub sum_from : ℕ → ℤ → ℕ
-sum_from pc imm = word (plus_immediate pc imm)
-
 -- name xD, xA, xB
 abbrev pub three_registers : Row → RType → List ℕ
 three_registers row f =
@@ -52,7 +48,7 @@ register_and_word row rd x =
 abbrev pub branch_to : Row → BType → ℕ → List ℕ
 branch_to row f pc =
     name_of row ++ codes " " ++ register f.rs1 ++ codes ", " ++ register f.rs2
-    ++ codes ", 0x" ++ hexadecimal 8 (sum_from pc f.imm)
+    ++ codes ", 0x" ++ hexadecimal 8 (plus_immediate pc f.imm)
 
 -- name xR, immediate(xA)
 abbrev pub register_and_place : Row → ℕ → ℤ → ℕ → List ℕ
@@ -73,12 +69,12 @@ text_by (OnRegisters op) row (R f) pc = Some (three_registers row f)
 text_by (OnImmediate op) row (I f) pc = Some (two_registers row f)
 text_by (OnShamt op) row (IShamt f) pc = Some (shifted_register row f)
 text_by LoadUpper row (U f) pc = Some (register_and_word row f.rd (word f.imm))
-text_by AddUpperToPc row (U f) pc = Some (register_and_word row f.rd (sum_from pc f.imm))
+text_by AddUpperToPc row (U f) pc = Some (register_and_word row f.rd (plus_immediate pc f.imm))
 text_by (BranchIf test) row (B f) pc = Some (branch_to row f pc)
 text_by (BranchUnless test) row (B f) pc = Some (branch_to row f pc)
 text_by (Load n extended) row (I f) pc = Some (register_and_place row f.rd f.imm f.rs1)
 text_by (Store n) row (S f) pc = Some (register_and_place row f.rs2 f.imm f.rs1)
-text_by JumpAndLink row (J f) pc = Some (register_and_word row f.rd (sum_from pc f.imm))
+text_by JumpAndLink row (J f) pc = Some (register_and_word row f.rd (plus_immediate pc f.imm))
 text_by JumpAndLinkRegister row (I f) pc = Some (jump_to_place row f)
 text_by NoEffect row (I f) pc = Some (name_of row)
 text_by CallEnvironment row (I f) pc = Some (name_of row)

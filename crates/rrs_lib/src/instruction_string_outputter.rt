@@ -99,7 +99,7 @@ impl InstructionStringOutputter {
     fn branch_to(&self, name: &'static str, dec_insn: BType) -> Result<String, AllocError>
         ensures { IfOk result (λ text. string_bytes text ≡ name.now ++ codes " "
             ++ register dec_insn.rs1 ++ codes ", " ++ register dec_insn.rs2
-            ++ codes ", 0x" ++ hexadecimal 8 (word (plus_immediate self.now.insn_pc dec_insn.imm))) }
+            ++ codes ", 0x" ++ hexadecimal 8 (plus_immediate self.now.insn_pc dec_insn.imm)) }
     {
         let BType { rs1, rs2, imm, .. } = dec_insn;
         let target = arithmetic::plus_immediate(self.insn_pc, imm);

@@ -2,7 +2,7 @@
 use Rattle.std.proofs.Common.{pos, neg_ℤ, arith}
 use Rattle.std.proofs.lemmas.Int.{ints}
 use Rattle.rrs_instruction.specs.Encodings.{IsInRange}
-use Rattle.rrs_instruction.proofs.Examples.{of_R, of_I, of_IShamt, of_S, of_B, of_U, of_J}
+use Rattle.rrs_instruction.proofs.Formats.{of_R, of_I, of_IShamt, of_S, of_B, of_U, of_J}
 
 -- one past each end of the immediates, and odd ones where they are even
 pub below_I : ¬ IsInRange (of_I (neg_ℤ (pos 2049)) 0 0 0)
