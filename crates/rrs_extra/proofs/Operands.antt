@@ -17,7 +17,7 @@ use Rattle.rrs_lib.specs.declared.instruction_formats.JType.{JType}
 use Rattle.rrs_lib.specs.Words.{word}
 use Rattle.rrs_lib.specs.Encodings.{R, I, IShamt, S, B, U, J, IsInRange}
 use Rattle.rrs_lib.specs.Table.{Row, table}
-use Rattle.rrs_lib.specs.Machine.{add, plus_immediate}
+use Rattle.rrs_lib.specs.Results.{add, plus_immediate}
 use Rattle.rrs_lib.specs.Texts.{register, hexadecimal, three_registers, two_registers, shifted_register, register_and_word, branch_to, register_and_place, jump_to_place}
 use Rattle.rrs_lib.proofs.Fields.{same_from_remainder, floor_mod-lt}
 use Rattle.rrs_extra.specs.Showing.{shown}

@@ -8,7 +8,7 @@ use Rattle.rrs_instruction.specs.Words.{word}
 use Rattle.rrs_instruction.specs.Encodings.{Fields}
 use Rattle.rrs_instruction.specs.Table.{Row}
 use Rattle.rrs_memory.specs.Bytes.{ByteMap, width, little_endian, all_writable, store}
-use Rattle.rrs_lib.specs.Machine.{State, reg, plus_immediate, execute, loads, stores}
+use Rattle.rrs_lib.specs.Machine.{State, reg, plus_immediate, execute, load_outcome, store_outcome}
 use Rattle.rrs_lib.specs.Steps.{Step, RunsOk}
 use Rattle.rrs_lib.specs.Accesses.{Access, Read, Write, read_in, write_in, read_if_aligned, write_if_aligned, accesses_of_row, fetch, AccessesOf, OfRow, AccessesOfRun, answers_of_run}
 use Rattle.rrs_instruction.proofs.Formats.{of_I, of_S}
@@ -31,7 +31,7 @@ making {s = s} {row = row} {f = f} fetched steps are = record {
 
 -- a load of an address, whose value is y, to a register that is not x0
 pub making-loads : (next : ℕ) (size : MemAccessSize) (extended : ℕ → ℤ) (from y x : ℕ) {row : Row} {imm : ℤ} {rs1 funct3 r : ℕ} {registers : List ℕ} {pc : ℕ} {last : Option ℕ} {bytes : ByteMap} {writable : ℕ → Bool}
-    → Fetches bytes pc row (of_I imm rs1 funct3 (suc r)) → execute row (of_I imm rs1 funct3 (suc r)) (at registers pc None bytes writable) ≡ Some (loads (width size) extended (suc r) (plus_immediate (reg (at registers pc None bytes writable) rs1) imm) (at registers pc None bytes writable))
+    → Fetches bytes pc row (of_I imm rs1 funct3 (suc r)) → execute row (of_I imm rs1 funct3 (suc r)) (at registers pc None bytes writable) ≡ Some (load_outcome (width size) extended (suc r) (plus_immediate (reg (at registers pc None bytes writable) rs1) imm) (at registers pc None bytes writable))
     → accesses_of_row row (of_I imm rs1 funct3 (suc r)) (at registers pc last bytes writable) ≡ read_if_aligned (at registers pc last bytes writable) (plus_immediate (reg (at registers pc last bytes writable) rs1) imm) size
     → plus_immediate (reg (at registers pc None bytes writable) rs1) imm ≡ from → from % width size ≡ 0 → little_endian bytes from (width size) ≡ Some y → word (extended y) ≡ x → word (pos (pc + 4)) ≡ next
     → StepMaking (at registers pc last bytes writable) (at (slice_set registers r x) next (Some (suc r)) bytes writable) (fetch (at registers pc last bytes writable) ∷ Read from size (Some y) ∷ [])
@@ -44,7 +44,7 @@ making-loads next size extended from y x {row = row} {imm = imm} {rs1 = rs1} {fu
 
 -- a store of the low bytes of y, the value of rs2, to an address
 pub making-stores : (next : ℕ) (size : MemAccessSize) (to y : ℕ) {row : Row} {imm : ℤ} {rs2 rs1 funct3 : ℕ} {registers : List ℕ} {pc : ℕ} {last : Option ℕ} {bytes : ByteMap} {writable : ℕ → Bool}
-    → Fetches bytes pc row (of_S imm rs2 rs1 funct3) → execute row (of_S imm rs2 rs1 funct3) (at registers pc None bytes writable) ≡ Some (stores (width size) (reg (at registers pc None bytes writable) rs2) (plus_immediate (reg (at registers pc None bytes writable) rs1) imm) (at registers pc None bytes writable))
+    → Fetches bytes pc row (of_S imm rs2 rs1 funct3) → execute row (of_S imm rs2 rs1 funct3) (at registers pc None bytes writable) ≡ Some (store_outcome (width size) (reg (at registers pc None bytes writable) rs2) (plus_immediate (reg (at registers pc None bytes writable) rs1) imm) (at registers pc None bytes writable))
     → accesses_of_row row (of_S imm rs2 rs1 funct3) (at registers pc last bytes writable) ≡ write_if_aligned (at registers pc last bytes writable) (plus_immediate (reg (at registers pc last bytes writable) rs1) imm) size (reg (at registers pc last bytes writable) rs2)
     → plus_immediate (reg (at registers pc None bytes writable) rs1) imm ≡ to → reg (at registers pc None bytes writable) rs2 ≡ y → to % width size ≡ 0 → all_writable writable to (width size) ≡ true → word (pos (pc + 4)) ≡ next
     → StepMaking (at registers pc last bytes writable) (at registers next None (store bytes to (width size) y) writable) (fetch (at registers pc last bytes writable) ∷ Write to size y true ∷ [])
