@@ -4,6 +4,11 @@
 ghost use Rattle.std.specs.Prelude.{◌≤◌};
 
 use super::*;
+use rrs_questions::answer_lines;
+use std::alloc::Global;
+use std::cell::RefCell;
+use std::fmt::Display;
+use std::io::{BufReader, ErrorKind, Read, Write};
 use std::test::Fail;
 
 /// Three lines, the second of which is no text; the last has no end.
@@ -37,11 +42,13 @@ impl Read for Cut<'_> {
     }
 }
 
-/// A writer of up to 1000 bytes, which fails once before byte `fails_at`.
+/// A writer of up to 1000 bytes, which fails once before byte `fails_at`. It tells how many bytes
+/// were written when it was last flushed.
 #[derive(Drop)]
 struct Page {
     bytes: [u8; 1000],
     used: usize,
+    flushed: usize,
     fails_at: usize,
     has_failed: bool,
     ghost within: { used ≤ 1000 },
@@ -52,6 +59,7 @@ impl Page {
         Page {
             bytes: [0; 1000],
             used: 0,
+            flushed: 0,
             fails_at,
             has_failed: false,
         }
@@ -81,6 +89,7 @@ impl Write for Page {
     }
 
     fn flush(&mut self) -> io::Result<()> {
+        self.flushed = self.used;
         Ok(())
     }
 }
@@ -96,59 +105,53 @@ fn reader_of_lines(fails_at: usize, kind: ErrorKind) -> Cut<'static> {
     }
 }
 
+/// What is answered before a read that fails is flushed by then: the program answers each line
+/// before it waits for the next one.
 #[test]
-fn answers_each_line(rt: HostRuntime) {
-    let mut output = Page::new(1000);
-    let answered = answer_all(rt.alloc(), LINES, &mut output);
-    assert!(rt; answered.is_ok());
-    assert!(rt; output.holds(ANSWERS));
-}
-
-#[test]
-fn answers_the_lines_before_a_read_that_fails(rt: HostRuntime) {
+fn answers_the_lines_before_a_read_that_fails(rt: HostRuntime) -> Result<(), Fail> {
     for fails_at in 0..=LINES.len() {
         let mut output = Page::new(1000);
-        let answered = answer_all(
-            rt.alloc(),
-            reader_of_lines(fails_at, ErrorKind::BrokenPipe),
-            &mut output,
-        );
-        assert!(rt; answered.is_err(), "at {fails_at}");
+        let reader = reader_of_lines(fails_at, ErrorKind::BrokenPipe);
+        let mut input = BufReader::new(rt.alloc(), reader)?;
+        let answered = answer_lines(rt.alloc(), &mut input, &mut output);
         let whole = match fails_at {
             0..=17 => 0,
             18..=26 => 6,
             _ => 35,
         };
-        assert!(rt; output.holds(&ANSWERS[..whole]), "at {fails_at}");
+        let left = (answered, output.flushed, output.holds(&ANSWERS[..whole]));
+        assert_eq!(rt;
+            left,
+            (Err(ReplayFault::Input), whole, true),
+            "at {fails_at}"
+        );
     }
+    Ok(())
 }
 
+/// The last of these readers fails nowhere.
 #[test]
 fn reads_again_after_an_interruption(rt: HostRuntime) {
-    for fails_at in 0..=LINES.len() {
+    for fails_at in 0..=LINES.len() + 1 {
         let mut output = Page::new(1000);
-        let answered = answer_all(
-            rt.alloc(),
-            reader_of_lines(fails_at, ErrorKind::Interrupted),
-            &mut output,
-        );
-        assert!(rt; answered.is_ok(), "at {fails_at}");
-        assert!(rt; output.holds(ANSWERS), "at {fails_at}");
+        let reader = reader_of_lines(fails_at, ErrorKind::Interrupted);
+        let answered = answer_all(rt.alloc(), reader, &mut output);
+        let left = (answered, output.holds(ANSWERS));
+        assert_eq!(rt; left, (Ok(()), true), "at {fails_at}");
     }
 }
 
 /// Without a buffer a beginning of the answers stands there.
 #[test]
-fn tells_a_write_that_fails_once(rt: HostRuntime) {
+fn tells_a_write_that_fails_once(rt: HostRuntime) -> Result<(), Fail> {
     for fails_at in 0..ANSWERS.len() {
         let mut output = Page::new(fails_at);
-        let Ok(mut input) = BufReader::new(rt.alloc(), LINES) else {
-            return;
-        };
+        let mut input = BufReader::new(rt.alloc(), LINES)?;
         let answered = answer_lines(rt.alloc(), &mut input, &mut output);
-        let left = (answered.is_err(), output.holds(&ANSWERS[..fails_at]));
-        assert_eq!(rt; left, (true, true), "at {fails_at}");
+        let left = (answered, output.holds(&ANSWERS[..fails_at]));
+        assert_eq!(rt; left, (Err(ReplayFault::Output), true), "at {fails_at}");
     }
+    Ok(())
 }
 
 /// With a buffer, what it held is written later, and the failure is told all the same.
@@ -158,8 +161,12 @@ fn tells_a_write_of_a_buffer_that_fails_once(rt: HostRuntime) {
         let mut output = Page::new(fails_at);
         let answered = answer_all(rt.alloc(), LINES, &mut output);
         let begins = ANSWERS.starts_with(&output.bytes[..output.used]);
-        let left = (answered.is_err(), begins, output.used >= fails_at);
-        assert_eq!(rt; left, (true, true, true), "at {fails_at}");
+        let left = (answered, begins, output.used >= fails_at);
+        assert_eq!(rt;
+            left,
+            (Err(ReplayFault::Output), true, true),
+            "at {fails_at}"
+        );
     }
 }
 
@@ -172,12 +179,53 @@ const WHOLE_ANSWERS: [usize; 4] = [0, 6, 35, 40];
 fn out_of_memory_leaves_whole_answers(rt: HostRuntime) {
     let mut output = Page::new(1000);
     let answered = answer_all(rt.alloc(), LINES, &mut output);
-    match answered {
-        Ok(()) => assert!(rt; output.holds(ANSWERS)),
-        Err(error) => {
-            assert_eq!(rt; error.kind(), ErrorKind::OutOfMemory);
-            assert!(rt; WHOLE_ANSWERS.contains(&output.used));
-            assert!(rt; ANSWERS.starts_with(&output.bytes[..output.used]));
-        }
+    let whole = WHOLE_ANSWERS.contains(&output.used);
+    let begins = ANSWERS.starts_with(&output.bytes[..output.used]);
+    let want = if output.used == ANSWERS.len() {
+        Ok(())
+    } else {
+        Err(ReplayFault::OutOfMemory)
+    };
+    assert_eq!(rt; (answered, whole, begins), (want, true, true));
+}
+
+/// What is written on standard error.
+#[derive(Drop)]
+struct Errors {
+    alloc: Global,
+    text: RefCell<String>,
+}
+
+impl Eprint for Errors {
+    fn eprint<D: Display + Drop>(&self, _value: D) -> io::Result<()> {
+        Err(io::Error::from(ErrorKind::Unsupported))
     }
+
+    fn eprintln<D: Display + Drop>(&self, value: D) -> io::Result<()> {
+        let Ok(mut text) = self.text.try_borrow_mut() else {
+            return Err(io::Error::from(ErrorKind::Unsupported));
+        };
+        let line = format!(in self.alloc; "{value}\n")?;
+        text.push_str(line.as_str())?;
+        Ok(())
+    }
+}
+
+#[test]
+fn says_why_it_failed(rt: HostRuntime) -> Result<(), Fail> {
+    let cases = [
+        (ReplayFault::Input, "rrs-replay: cannot read input\n"),
+        (ReplayFault::Output, "rrs-replay: cannot write output\n"),
+        (ReplayFault::OutOfMemory, "rrs-replay: out of memory\n"),
+    ];
+    for (fault, want) in cases {
+        let errors = Errors {
+            alloc: rt.alloc(),
+            text: RefCell::new(String::new(rt.alloc())),
+        };
+        let status = report(&errors, fault);
+        let text = errors.text.into_inner();
+        assert_eq!(rt; (status, text.as_str()), (1, want));
+    }
+    Ok(())
 }
