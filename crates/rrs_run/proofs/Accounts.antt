@@ -9,12 +9,12 @@ use Rattle.rrs_lib.specs.Table.{Row, Decodes}
 use Rattle.rrs_lib.specs.Machine.{State}
 use Rattle.rrs_lib.specs.Texts.{text_of}
 use Rattle.rrs_lib.specs.Steps.{Step, next_word}
-use Rattle.rrs_program.specs.declared.fault.RunFault.{RunFault}
-use Rattle.rrs_program.specs.declared.fault.RunFault.TheVariants.{OutOfMemory, Reader, Refused, Output}
-use Rattle.rrs_program.specs.Texts.{instruction_line, end_line, hart_lines}
-use Rattle.rrs_program.specs.Faults.{StopsPrinting}
-use Rattle.rrs_program.specs.Printed.{AppendsLines, IsBeginning, start_of}
-use Rattle.rrs_program.proofs.Printed.{appends_weaker, appends_after, Ready, ready_state, run_printed}
+use Rattle.rrs_runner.specs.declared.fault.RunFault.{RunFault}
+use Rattle.rrs_runner.specs.declared.fault.RunFault.TheVariants.{OutOfMemory, Reader, Refused, Output}
+use Rattle.rrs_runner.specs.Texts.{instruction_line, end_line, hart_lines}
+use Rattle.rrs_runner.specs.Faults.{StopsPrinting}
+use Rattle.rrs_runner.specs.Printed.{AppendsLines, IsBeginning, start_of}
+use Rattle.rrs_runner.proofs.Printed.{appends_weaker, appends_after, Ready, ready_state, run_printed}
 use Rattle.rrs_run.specs.Faults.{StopsRun}
 use Rattle.rrs_run.specs.Account.{LinesOfWord, Inside, LinesOfAny, LinesBefore, PrintsOk, PrintsUntil, PrintsSteps, PrintsToNext, PrintsPart, AccountOf, Account}
 

@@ -7,8 +7,8 @@ use Rattle.rrs_lib.specs.Table.{Row, Decodes, IsIllegal}
 use Rattle.rrs_lib.specs.Machine.{State}
 use Rattle.rrs_lib.specs.Texts.{text_of}
 use Rattle.rrs_lib.specs.Steps.{Step, next_word}
-use Rattle.rrs_program.specs.Texts.{instruction_line, end_line, hart_lines}
-use Rattle.rrs_program.specs.Printed.{PrintsOfRun}
+use Rattle.rrs_runner.specs.Texts.{instruction_line, end_line, hart_lines}
+use Rattle.rrs_runner.specs.Printed.{PrintsOfRun}
 
 -- ---- the lines before the steps
 

@@ -1,10 +1,10 @@
 -- What a fault says of the reader and of the account.
 use Rattle.std.specs.Prelude.{◌⊎◌, ℕ, List, Option}
 use Rattle.std.specs.Io.KnownBytes.{Keeps}
-use Rattle.rrs_program.specs.declared.fault.RunFault.{RunFault}
-use Rattle.rrs_program.specs.declared.fault.RunFault.TheVariants.{OutOfMemory, Reader, Refused, Output}
-use Rattle.rrs_program.specs.Faults.{StopsLoad}
-use Rattle.rrs_program.specs.Printed.{IsBeginning, PrintsOfRun}
+use Rattle.rrs_runner.specs.declared.fault.RunFault.{RunFault}
+use Rattle.rrs_runner.specs.declared.fault.RunFault.TheVariants.{OutOfMemory, Reader, Refused, Output}
+use Rattle.rrs_runner.specs.Faults.{StopsLoad}
+use Rattle.rrs_runner.specs.Printed.{IsBeginning, PrintsOfRun}
 use Rattle.rrs_run.specs.Account.{PrintsSteps, PrintsPart}
 
 -- What stops a run, by the bytes of the reader and of the output before and after it. Where the

@@ -10,8 +10,8 @@
 mod simulation;
 
 use crate::simulation::simulate;
-use rrs_program::command::{NamedFailure, Program, perform};
-use rrs_program::fault::RunFault;
+use rrs_runner::command::{NamedFailure, Program, perform};
+use rrs_runner::fault::RunFault;
 use std::alloc::Global;
 use std::io::{Read, Write};
 use std::process::ExitCode;

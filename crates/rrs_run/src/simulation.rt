@@ -5,15 +5,15 @@ ghost use Rattle.rrs_lib.specs.Executor.{state_in};
 ghost use Rattle.rrs_lib.specs.Steps.{Step};
 ghost use Rattle.rrs_run.specs.Account.{Account, LinesBefore, LinesOfWord, PrintsUntil, PrintsSteps, PrintsToNext};
 ghost use Rattle.rrs_run.specs.Faults.{StopsRun};
-ghost use Rattle.rrs_program.specs.Printed.{AppendsLines};
-ghost use Rattle.rrs_program.specs.Faults.{StopsPrinting};
+ghost use Rattle.rrs_runner.specs.Printed.{AppendsLines};
+ghost use Rattle.rrs_runner.specs.Faults.{StopsPrinting};
 
 use rrs_lib::instruction_executor::{InstructionException, InstructionExecutor, RunEnd};
 use rrs_lib::instruction_string_outputter::InstructionStringOutputter;
 use rrs_lib::{HartState, Memory, process_instruction};
-use rrs_program::fault::RunFault;
-use rrs_program::loading::{empty_memory, load};
-use rrs_program::report;
+use rrs_runner::fault::RunFault;
+use rrs_runner::loading::{empty_memory, load};
+use rrs_runner::report;
 use std::alloc::Global;
 use std::io::{Read, Write};
 

@@ -2,7 +2,7 @@
 //! where they are told to.
 
 use super::*;
-use rrs_program::command::Failure;
+use rrs_runner::command::Failure;
 use std::alloc::{AllocError, Allocator};
 use std::cell::{Cell, RefCell};
 use std::env::FillError;

@@ -6,12 +6,12 @@ use Rattle.rrs_lib.specs.declared.HartState.{HartState}
 use Rattle.rrs_lib.specs.declared.instruction_executor.InstructionException.{InstructionException}
 use Rattle.rrs_lib.specs.Machine.{State}
 use Rattle.rrs_lib.specs.Steps.{RunUntil}
-use Rattle.rrs_program.specs.declared.fault.RunFault.{RunFault}
-use Rattle.rrs_program.specs.declared.fault.RunFault.TheVariants.{OutOfMemory, Reader, Refused, Output}
-use Rattle.rrs_program.specs.Texts.{end_line, hart_lines}
-use Rattle.rrs_program.specs.Faults.{StopsPrinting}
-use Rattle.rrs_program.specs.Printed.{IsBeginning, PrintsOfRun, start_of}
-use Rattle.rrs_program.proofs.Printed.{appends_weaker, Ready, ready_state, run_printed}
+use Rattle.rrs_runner.specs.declared.fault.RunFault.{RunFault}
+use Rattle.rrs_runner.specs.declared.fault.RunFault.TheVariants.{OutOfMemory, Reader, Refused, Output}
+use Rattle.rrs_runner.specs.Texts.{end_line, hart_lines}
+use Rattle.rrs_runner.specs.Faults.{StopsPrinting}
+use Rattle.rrs_runner.specs.Printed.{IsBeginning, PrintsOfRun, start_of}
+use Rattle.rrs_runner.proofs.Printed.{appends_weaker, Ready, ready_state, run_printed}
 use Rattle.rrs_speed.specs.Ending.{EndingOf, StopsEnding}
 
 -- the ending of a run

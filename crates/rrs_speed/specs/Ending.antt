@@ -5,11 +5,11 @@ use Rattle.std.specs.Io.KnownBytes.{Keeps}
 use Rattle.rrs_lib.specs.declared.instruction_executor.InstructionException.{InstructionException}
 use Rattle.rrs_lib.specs.Machine.{State}
 use Rattle.rrs_lib.specs.Steps.{RunUntil}
-use Rattle.rrs_program.specs.declared.fault.RunFault.{RunFault}
-use Rattle.rrs_program.specs.declared.fault.RunFault.TheVariants.{OutOfMemory, Reader, Refused, Output}
-use Rattle.rrs_program.specs.Texts.{end_line, hart_lines}
-use Rattle.rrs_program.specs.Printed.{IsBeginning, PrintsOfRun}
-use Rattle.rrs_program.specs.Faults.{StopsLoad}
+use Rattle.rrs_runner.specs.declared.fault.RunFault.{RunFault}
+use Rattle.rrs_runner.specs.declared.fault.RunFault.TheVariants.{OutOfMemory, Reader, Refused, Output}
+use Rattle.rrs_runner.specs.Texts.{end_line, hart_lines}
+use Rattle.rrs_runner.specs.Printed.{IsBeginning, PrintsOfRun}
+use Rattle.rrs_runner.specs.Faults.{StopsLoad}
 
 -- how a run from s to this limit ended, and the registers that it left
 pub record EndingOf (limit : ℕ) (s : State) (lines : List ℕ) : Type 0 where

@@ -1,14 +1,14 @@
 //! Runs the bytes of a reader as a program.
 
 ghost use Rattle.std.specs.Prelude.{IfErr, OnOk};
-ghost use Rattle.rrs_program.specs.Printed.{PrintsOfRun};
+ghost use Rattle.rrs_runner.specs.Printed.{PrintsOfRun};
 ghost use Rattle.rrs_speed.specs.Ending.{EndingOf, StopsEnding};
 
 use rrs_lib::HartState;
 use rrs_lib::instruction_executor::InstructionExecutor;
-use rrs_program::fault::RunFault;
-use rrs_program::loading::{empty_memory, load};
-use rrs_program::report;
+use rrs_runner::fault::RunFault;
+use rrs_runner::loading::{empty_memory, load};
+use rrs_runner::report;
 use std::alloc::Global;
 use std::io::{Read, Write};
 

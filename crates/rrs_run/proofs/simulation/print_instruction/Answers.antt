@@ -1,7 +1,7 @@
 use Rattle.std.proofs.Common.{◌≡◌, sym, ◌∙◌, subst}
 use Rattle.std.proofs.lemmas.Result.{on_ok_weaker}
 use Rattle.rrs_run.specs.Account.{LinesOfWord}
-use Rattle.rrs_program.proofs.Printed.{if_stops_weaker}
+use Rattle.rrs_runner.proofs.Printed.{if_stops_weaker}
 use Rattle.rrs_run.proofs.Accounts.{row_lines}
 use Rattle.rrs_run.proofs.simulation.print_instruction.Goals as goal
 

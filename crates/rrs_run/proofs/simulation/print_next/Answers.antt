@@ -1,7 +1,7 @@
 use Rattle.std.proofs.Common.{ap}
 use Rattle.std.proofs.lemmas.Result.{on_ok_weaker}
 use Rattle.rrs_lib.specs.Executor.{state_in}
-use Rattle.rrs_program.proofs.Printed.{appends_weaker, if_stops_weaker}
+use Rattle.rrs_runner.proofs.Printed.{appends_weaker, if_stops_weaker}
 use Rattle.rrs_run.proofs.Accounts.{next_lines}
 use Rattle.rrs_run.proofs.simulation.print_next.Goals as goal
 

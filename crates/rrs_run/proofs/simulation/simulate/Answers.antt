@@ -2,7 +2,7 @@ use Rattle.std.proofs.Common.{◌∙◌}
 use Rattle.std.proofs.lemmas.Result.{err_from_is_err_and}
 use Rattle.rrs_lib.specs.VecBytes.{bytes_of_words, lies_in_words}
 use Rattle.rrs_lib.proofs.RegionFields.{OnOk_always}
-use Rattle.rrs_program.proofs.Printed.{Ready}
+use Rattle.rrs_runner.proofs.Printed.{Ready}
 use Rattle.rrs_run.proofs.Accounts.{stopped_in_steps, stopped_before_ending, stopped_in_ending, stopped_in_flush, whole_printed}
 use Rattle.rrs_run.proofs.simulation.simulate.Goals as goal
 

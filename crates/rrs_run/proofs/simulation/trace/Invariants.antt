@@ -1,5 +1,5 @@
 use Rattle.rrs_lib.specs.Executor.{state_in}
-use Rattle.rrs_program.specs.Printed.{AppendsLines}
+use Rattle.rrs_runner.specs.Printed.{AppendsLines}
 use Rattle.rrs_run.specs.Account.{PrintsOk}
 use Rattle.rrs_run.proofs.simulation.trace.Given as goal
 

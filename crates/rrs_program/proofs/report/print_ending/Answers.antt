@@ -1,6 +1,0 @@
-use Rattle.rrs_program.proofs.Printing.{appends_second}
-use Rattle.rrs_program.proofs.report.print_ending.Goals as goal
-
-pub returns : goal.returns
-returns g c = λ bytes writable.
-    appends_second _ _ _ _ _ _ c.in_ok-print_end.ensures (c.print_hart.ensures bytes writable)

@@ -1,0 +1,47 @@
+-- Where a load into 16,384 words at address 0 can end.
+use Rattle.std.proofs.Common.{◌≡◌, ℕ, ◌+◌, ◌<◌, ◌≤◌, true, false, List, [], ◌∷◌, ◌++◌, length, Option, Err, sym, ◌∙◌, arith}
+use Rattle.std.proofs.lemmas.Bool.Decides.{nat_tests}
+use Rattle.std.proofs.lemmas.List.{length-append}
+use Rattle.std.specs.Io.KnownBytes.{Consumes}
+use Rattle.rrs_lib.specs.declared.memories.LoadFault.TheVariants.{Refused}
+use Rattle.rrs_lib.specs.Bytes.{ByteMap}
+use Rattle.rrs_lib.specs.VecBytes.{lies_in_words}
+use Rattle.rrs_lib.specs.Loading.{Loaded, Loads}
+use Rattle.rrs_runner.specs.declared.fault.RunFault.TheVariants as RunFault
+use Rattle.rrs_runner.specs.Faults.{StopsLoad}
+
+-- the addresses of the words, and the first one past them
+lies_inside : (words : List ℕ) (a : ℕ) → length words ≡ 16384 → a < 65536 → lies_in_words words a ≡ true
+lies_inside words a e h = grind (arith, nat_tests)
+
+lies_past : (words : List ℕ) (a : ℕ) → length words ≡ 16384 → 65536 ≤ a → lies_in_words words a ≡ false
+lies_past words a e h = grind (arith, nat_tests)
+
+-- no address past the words was written
+input_fits : (words : List ℕ) (n : ℕ) → length words ≡ 16384 → ((i : ℕ) → i < n → lies_in_words words (0 + i) ≡ true) → 65536 < n → ⊥
+input_fits words n e writable long =
+    let yes = writable 65536 long in
+    let no = lies_past words (0 + 65536) e (omega arith) in
+    let differ : true ≡ false = sym yes ∙ no in
+    cc
+
+not_past_and_not_inside : (a n : ℕ) → a ≡ 0 + n → (65536 < n → ⊥) → (a < 65536 → ⊥) → a ≡ 65536
+not_past_and_not_inside a n e not_past not_inside = omega (arith, e, not_past, not_inside)
+
+-- A refused byte is the one at address 65536, and the one after the first 65,536.
+pub refused_at_end : (before after : Option (List ℕ)) (old new : ByteMap) (words : List ℕ) (a : ℕ) → length words ≡ 16384 → Loads before after old new (lies_in_words words) 0 (Err (Refused a)) → StopsLoad before after (RunFault.Refused a)
+refused_at_end before after old new words a e loads =
+    let at_end = not_past_and_not_inside a (length loads.input) loads.answered.0
+    (λ past. input_fits words (length loads.input) e loads.loaded.writable_there past)
+    (λ inside. let yes = lies_inside words a e inside in let differ : true ≡ false = sym yes ∙ loads.answered.1 in cc) in
+    let byte = loads.answered.2.0 in
+    let count : length (loads.input ++ byte ∷ []) ≡ 65537 = omega (arith, at_end, loads.answered.0, length-append loads.input (byte ∷ [])) in
+    (at_end, (loads.input ++ byte ∷ [], loads.answered.2.1, count))
+
+not_past : (n : ℕ) → (65536 < n → ⊥) → n ≤ 65536
+not_past n h = omega (arith, h)
+
+-- No more than 65,536 bytes were read before a read failed.
+pub fails_in_time : (before after : Option (List ℕ)) (old new : ByteMap) (words input : List ℕ) → length words ≡ 16384 → Loaded old new (lies_in_words words) 0 input → Consumes before after input → StopsLoad before after RunFault.Reader
+fails_in_time before after old new words input e loaded read =
+    (input, read, not_past (length input) (λ past. input_fits words (length input) e loaded.writable_there past))

@@ -1,0 +1,49 @@
+-- Texts that are written one after another.
+use Rattle.std.proofs.Common.{◌≡◌, ℕ, ◌+◌, ◌-◌, ◌≤◌, List, length, length-drop, arith, ◌∙◌, [], ◌++◌, take, drop, Option, sym, ap, subst, Result, Ok, Err, OnOk, append-nil, take-append-drop}
+use Rattle.std.proofs.lemmas.List.{take_rest}
+use Rattle.std.proofs.Math.Seq.{take-add}
+use Rattle.std.specs.Io.KnownBytes.{Appends, Keeps}
+use Rattle.std.proofs.KnownBytes.{Appends-trans, Appends-kept}
+use Rattle.rrs_lib.specs.Machine.{State}
+use Rattle.rrs_runner.specs.Printed.{AppendsLines, IsBeginning}
+use Rattle.rrs_runner.specs.Texts.{register_lines, pc_line, hart_lines}
+
+pub ruleset appending = Appends-trans
+
+-- all registers, and then the program counter
+pub hart_lines-printed : {E : Type 0} (a b c : Option (List ℕ)) (s : State) (n : ℕ) (r : Result (Unit {0}) E) → n ≡ 32 → Appends a b (register_lines s n) → OnOk r (Appends b c (pc_line s.pc)) → OnOk r (Appends a c (hart_lines s))
+hart_lines-printed a b c s n (Ok x) e first second =
+    let P : ℕ → Type 0 = λ k. Appends a b (register_lines s k) in
+    Appends-trans a b c _ _ (subst P e first) second
+hart_lines-printed a b c s n (Err x) e first second = tt
+
+-- a text, and then another where that was printed
+pub appends_second : {E : Type 0} (a b c : Option (List ℕ)) (xs ys : List ℕ) (r : Result (Unit {0}) E) → Appends a b xs → OnOk r (Appends b c ys) → OnOk r (Appends a c (xs ++ ys))
+appends_second a b c xs ys (Ok x) first second = Appends-trans a b c xs ys first second
+appends_second a b c xs ys (Err x) first second = tt
+
+-- a front of a text was written
+pub text_begun : (text : List ℕ) (n : ℕ) (a b : Option (List ℕ)) → Appends a b (take n text) → AppendsLines (IsBeginning (λ lines. lines ≡ text)) a b
+text_begun text n a b written = record { lines = take n text; are_lines = (drop n text, take-append-drop n text); appended = written }
+
+-- no byte more was written
+pub nothing_written : (a b c : Option (List ℕ)) (xs ys : List ℕ) (k : ℕ) → k ≡ 0 → Appends a b xs → Appends b c (take k ys) → Appends a c xs
+nothing_written a b c xs ys k none first second =
+    let last : Appends b c [] = subst (λ n. Appends b c (take n ys)) none second in
+    subst (Appends a c) (append-nil xs) (Appends-trans a b c xs [] first last)
+
+-- one more piece of a text was written
+pub piece_written : (text : List ℕ) (n k m : ℕ) (a b c : Option (List ℕ)) → m ≡ n + k → Appends a b (take n text) → Appends b c (take k (take (length text - n) (drop n text))) → Appends a c (take m text)
+piece_written text n k m a b c e first second =
+    let joined : take n text ++ take k (take (length text - n) (drop n text)) ≡ take m text =
+    ap (λ l. take n text ++ take k l) (take_rest text n) ∙ sym (take-add n k text) ∙ ap (λ i. take i text) (sym e) in
+    subst (Appends a c) joined (Appends-trans a b c _ _ first second)
+
+pub piece_within : (text : List ℕ) (n k m : ℕ) → m ≡ n + k → n ≤ length text → k ≤ length (take (length text - n) (drop n text)) → m ≤ length text
+piece_within text n k m e within more =
+    let shorter : k ≤ length (drop n text) = subst (λ l. k ≤ length l) (take_rest text n) more in
+    omega (arith, length-drop n text)
+
+-- a write was interrupted, and no byte was written
+pub none_written : (text : List ℕ) (n m : ℕ) (a b c : Option (List ℕ)) → m ≡ n → Appends a b (take n text) → Keeps b c → Appends a c (take m text)
+none_written text n m a b c e first kept = subst (λ i. Appends a c (take i text)) (sym e) (Appends-kept a b c _ first kept)
