@@ -9,3 +9,4 @@ pub mod Texts
 pub mod Printed
 pub mod Faults
 pub mod Failures
+pub mod Account

@@ -1,44 +1,49 @@
-//! What a program does around the run of a file's bytes: it takes the words of its command line,
-//! opens the file that they name, runs it, and says why it failed.
+//! What a program does around its work: it takes the words of its command line, opens the file that
+//! they name, and ends with a status and, where it failed, a line on standard error.
 //!
-//! The command line is `NAME FILE LIMIT`, with the program's own name first. A word of it that is
-//! not UTF-8, the program's own name among them, counts as a wrong argument.
+//! A word of the command line that is not UTF-8, the program's own name among them, counts as a
+//! wrong argument.
 
 ghost use Rattle.std.specs.Prelude.{◌≡◌, Some};
-ghost use Rattle.rrs_runner.specs.Failures.{failure_text, status_of};
+ghost use Rattle.std.specs.Process.{exit_status};
+ghost use Rattle.rrs_runner.specs.Failures.{failure_text, status_of, ended_status};
 
 use crate::fault::RunFault;
 use crate::requests::request_of;
+use crate::simulation::{Shown, simulate};
 use std::alloc::Global;
 use std::error::Error;
-use std::io::{BufReader, BufWriter, ErrorKind, Read, Write};
+use std::io::{BufReader, BufWriter, ErrorKind};
+use std::process::ExitCode;
 use std::rt::{Env, Files};
 use std::{fmt, fs, io};
 
-/// What a program does with the bytes of its file.
-pub trait Program {
-    /// Runs the reader's bytes for at most `limit` steps, and prints what the program prints of it.
-    ///
-    /// # Errors
-    ///
-    /// Any `RunFault`: the bytes can't be loaded, out of memory, or a write or the flush fails.
-    fn simulate<R: Read, W: Write>(
-        &self,
-        alloc: Global,
-        reader: &mut R,
-        limit: u64,
-        out: &mut W,
-    ) -> Result<(), RunFault>;
+/// How a program is called, as its line on standard error gives it.
+#[derive(Clone, Copy, Debug)]
+pub struct Command {
+    /// The program's name, such as `rrs-run`.
+    pub name: &'static str,
+    /// The words after the name, each after a space, such as ` FILE LIMIT`.
+    pub words: &'static str,
+}
+
+/// A program that runs the bytes of a file: `NAME FILE LIMIT`.
+#[derive(Clone, Copy, Debug)]
+pub struct Program {
+    /// How it is called.
+    pub command: Command,
+    /// What it prints of a run while the run is made.
+    pub shown: Shown,
 }
 
 /// Why a program ends with another status than 0.
 #[derive(Debug, Drop)]
 pub enum Failure {
-    /// The arguments are not a file and a limit.
+    /// The arguments are not those that the program takes.
     Usage,
     /// The file can't be opened.
     CannotOpen,
-    /// The run failed.
+    /// The run failed, or what else the program does.
     Run(RunFault),
 }
 
@@ -54,29 +59,55 @@ impl Failure {
     }
 }
 
-/// A failure and the name of the program that failed, as its line on standard error gives them.
+/// A failure and the program that failed, as its line on standard error gives them.
 #[derive(Debug, Drop)]
 pub struct NamedFailure {
-    /// The program's name, such as `rrs-run`.
-    pub program: &'static str,
+    /// How the program is called.
+    pub program: Command,
     /// Why it ends.
     pub failure: Failure,
 }
 
 impl fmt::Display for NamedFailure {
-    ghost output = { λ named. Some (failure_text named.program.now named.failure) };
+    ghost output = { λ named. Some (failure_text
+        named.program.name.now named.program.words.now named.failure) };
 
     fn fmt<W: fmt::Write>(&self, f: &mut fmt::Formatter<W>) -> fmt::Result {
-        let program = self.program;
+        let Command { name, words } = self.program;
         match &self.failure {
-            Failure::Usage => write!(f, "usage: {program} FILE LIMIT"),
-            Failure::CannotOpen => write!(f, "{program}: cannot open file"),
-            Failure::Run(fault) => write!(f, "{program}: {fault}"),
+            Failure::Usage => write!(f, "usage: {name}{words}"),
+            Failure::CannotOpen => write!(f, "{name}: cannot open file"),
+            Failure::Run(fault) => write!(f, "{name}: {fault}"),
         }
     }
 }
 
 impl Error for NamedFailure {}
+
+/// Ends a program: where it failed, prints why as a line on standard error. Gives its status.
+///
+/// Where that line can't be printed the status is the same.
+pub fn conclude<R: Eprint>(rt: &R, program: Command, outcome: Result<(), Failure>) -> ExitCode
+    ensures { exit_status result ≡ ended_status outcome }
+{
+    match outcome {
+        Ok(()) => ExitCode::SUCCESS,
+        Err(failure) => {
+            let status = failure.status();
+            let _ = rt.eprintln(NamedFailure { program, failure });
+            ExitCode::from(status)
+        }
+    }
+}
+
+/// All that a program does that runs the bytes of a file: it runs the file that its arguments name,
+/// and ends as `conclude` says.
+pub fn run_program<R: Env + Files + Print + Eprint + AllocGlobal>(
+    rt: &R,
+    program: &Program,
+) -> ExitCode {
+    conclude(rt, program.command, perform(rt, program))
+}
 
 /// Runs the file that the arguments name, as `program` does.
 ///
@@ -85,15 +116,28 @@ impl Error for NamedFailure {}
 /// `Failure::Usage` where the arguments are not a file and a limit, `Failure::CannotOpen` where the
 /// file can't be opened, and `Failure::Run` for what goes wrong later, and out of memory for the
 /// arguments or a buffer.
-pub fn perform<R: Env + Files + Print + AllocGlobal, P: Program>(
+pub fn perform<R: Env + Files + Print + AllocGlobal>(
     rt: &R,
-    program: &P,
+    program: &Program,
 ) -> Result<(), Failure> {
     let words = arguments(rt)?;
     let Some((path, limit)) = request_of(&words) else {
         return Err(Failure::Usage);
     };
-    run_file(rt, program, path, limit)
+    run_file(rt, program.shown, path, limit)
+}
+
+/// Takes no arguments, for a program that has none.
+///
+/// # Errors
+///
+/// `Failure::Usage` where there is an argument, or a word of the command line is not UTF-8, be it
+/// the program's own name; and out of memory as a failure of the run.
+pub fn take_no_arguments<R: Env + AllocGlobal>(rt: &R) -> Result<(), Failure> {
+    match arguments(rt)?.as_slice() {
+        [] | [_] => Ok(()),
+        _ => Err(Failure::Usage),
+    }
 }
 
 /// The words of the command line, the program's own name first.
@@ -117,9 +161,9 @@ fn arguments<R: Env + AllocGlobal>(rt: &R) -> Result<Vec<String>, Failure> {
 /// # Errors
 ///
 /// `Failure::CannotOpen` where the file can't be opened, and else `Failure::Run`.
-fn run_file<R: Files + Print + AllocGlobal, P: Program>(
+fn run_file<R: Files + Print + AllocGlobal>(
     rt: &R,
-    program: &P,
+    shown: Shown,
     path: &str,
     limit: u64,
 ) -> Result<(), Failure> {
@@ -132,7 +176,5 @@ fn run_file<R: Files + Print + AllocGlobal, P: Program>(
     let Ok(mut out) = BufWriter::new(rt.alloc(), io::writer(rt)) else {
         return Err(Failure::Run(RunFault::OutOfMemory));
     };
-    program
-        .simulate(rt.alloc(), &mut reader, limit, &mut out)
-        .map_err(Failure::Run)
+    simulate(rt.alloc(), shown, &mut reader, limit, &mut out).map_err(Failure::Run)
 }

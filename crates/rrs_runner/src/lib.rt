@@ -1,5 +1,5 @@
-//! What the programs share that run the bytes of a file: the words of their command line, what they
-//! do around a run, the load, what is printed of the end of a run, and what can go wrong.
+//! What runs the bytes of a file, behind the programs that do so: the words of their command line,
+//! the load, the run with its account, what can go wrong, and how a program ends.
 
 #![tactic(auto)]
 
@@ -7,5 +7,7 @@ pub mod command;
 pub mod fault;
 pub mod limits;
 pub mod loading;
+pub mod programs;
 pub mod report;
 pub mod requests;
+pub mod simulation;

@@ -23,6 +23,3 @@ pub fn limit_of(word: &str) -> Option<u64>
     }
     Some(limit)
 }
-
-#[cfg(test)]
-mod tests;

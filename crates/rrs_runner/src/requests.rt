@@ -17,6 +17,3 @@ pub fn request_of(words: &[String]) -> Option<(&str, u64)>
     let limit = limit_of(limit.as_str())?;
     Some((path.as_str(), limit))
 }
-
-#[cfg(test)]
-mod tests;

@@ -7,41 +7,10 @@
 
 #![tactic(auto)]
 
-mod simulation;
-
-use crate::simulation::simulate;
-use rrs_runner::command::{NamedFailure, Program, perform};
-use rrs_runner::fault::RunFault;
-use std::alloc::Global;
-use std::io::{Read, Write};
+use rrs_runner::command::run_program;
+use rrs_runner::programs::RRS_SPEED;
 use std::process::ExitCode;
 
-/// The program's name, as its line on standard error gives it.
-const NAME: &str = "rrs-speed";
-
-/// Prints how the run ended, and the registers.
-struct Running;
-
-impl Program for Running {
-    fn simulate<R: Read, W: Write>(
-        &self,
-        alloc: Global,
-        reader: &mut R,
-        limit: u64,
-        out: &mut W,
-    ) -> Result<(), RunFault> {
-        simulate(alloc, reader, limit, out)
-    }
-}
-
 fn main(rt: HostRuntime) -> ExitCode {
-    match perform(&rt, &Running) {
-        Ok(()) => ExitCode::SUCCESS,
-        Err(failure) => {
-            let status = failure.status();
-            let program = NAME;
-            let _ = rt.eprintln(NamedFailure { program, failure });
-            ExitCode::from(status)
-        }
-    }
+    run_program(&rt, &RRS_SPEED)
 }

@@ -1,0 +1,192 @@
+//! The account of a run: what is printed while it is made, how it ended, and the registers.
+
+ghost use Rattle.std.specs.Prelude.{◌≡◌, [], IfOk, OnOk, IfErr};
+ghost use Rattle.rrs_lib.specs.Executor.{state_in};
+ghost use Rattle.rrs_lib.specs.Steps.{Step};
+ghost use Rattle.rrs_runner.specs.Account.{Account, AccountOf, PartOfAccount, Shows, ShowsSteps, ShowsToNext, StopsRun, LinesBefore, LinesOfWord, PrintsUntil};
+ghost use Rattle.rrs_runner.specs.Printed.{AppendsLines};
+ghost use Rattle.rrs_runner.specs.Faults.{StopsPrinting};
+
+use crate::fault::RunFault;
+use crate::loading::{empty_memory, load};
+use crate::report;
+use rrs_lib::instruction_executor::{InstructionException, InstructionExecutor, RunEnd};
+use rrs_lib::instruction_string_outputter::InstructionStringOutputter;
+use rrs_lib::{HartState, Memory, process_instruction};
+use std::alloc::Global;
+use std::io::{Read, Write};
+
+/// What is printed of a run while it is made.
+#[derive(Clone, Copy, Debug, PartialEq)]
+pub enum Shown {
+    /// The line of each instruction, before its step.
+    Instructions,
+    /// Nothing. The run is one call of `InstructionExecutor::run`, which long runs are fast by.
+    Nothing,
+}
+
+/// Runs the reader's bytes as a program, for `limit` steps or up to the first fault, and prints
+/// its account: what is shown while it is made, how it ended, and the registers.
+///
+/// # Errors
+///
+/// `RunFault::Reader` and `RunFault::Refused` where the bytes can't be loaded: nothing is printed
+/// then. `RunFault::OutOfMemory` before anything is read or printed, or after the whole reader was
+/// read: then what is shown of the steps so far is printed, and nothing else. `RunFault::Output`
+/// where a write or the flush fails: a beginning of the account is printed then, up to all of it.
+pub fn simulate<R: Read, W: Write>(
+    alloc: Global,
+    shown: Shown,
+    reader: &mut R,
+    limit: u64,
+    out: &mut W,
+) -> Result<(), RunFault>
+    ensures account { OnOk result (Account shown limit
+        (R.remaining reader.old) (R.remaining reader.new)
+        (W.contents out.old) (W.contents out.new)) }
+    ensures fault { IfErr result (StopsRun shown limit
+        (R.remaining reader.old) (R.remaining reader.new)
+        (W.contents out.old) (W.contents out.new)) }
+{
+    let mut memory = empty_memory(alloc)?;
+    load(reader, &mut memory)?;
+    let mut hart = HartState::new();
+    let mut executor = InstructionExecutor {
+        mem: &mut memory,
+        hart_state: &mut hart,
+    };
+    print_account(&mut executor, alloc, shown, limit, out)
+}
+
+/// Makes steps up to the limit or the first fault, and prints the account of them.
+fn print_account<M: Memory, W: Write>(
+    executor: &mut InstructionExecutor<M>,
+    alloc: Global,
+    shown: Shown,
+    limit: u64,
+    out: &mut W,
+) -> Result<(), RunFault>
+    ensures account { OnOk result (AppendsLines
+        (AccountOf shown limit (state_in M.bytes M.writable executor.old))
+        (W.contents out.old) (W.contents out.new)) }
+    ensures fault { IfErr result (StopsPrinting
+        (ShowsSteps shown limit (state_in M.bytes M.writable executor.old))
+        (PartOfAccount shown limit (state_in M.bytes M.writable executor.old))
+        (W.contents out.old) (W.contents out.new)) }
+{
+    let end = make_steps(executor, alloc, shown, limit, out)?;
+    let ending = report::ending_of(alloc, &end, executor.hart_state)?;
+    report::write_text(out, &ending)?;
+    report::flush(out)
+}
+
+/// Makes steps as `InstructionExecutor::run` does, and prints what is shown meanwhile.
+fn make_steps<M: Memory, W: Write>(
+    executor: &mut InstructionExecutor<M>,
+    alloc: Global,
+    shown: Shown,
+    limit: u64,
+    out: &mut W,
+) -> Result<RunEnd, RunFault>
+    ensures shows { IfOk result (λ end. AppendsLines
+        (Shows shown limit (state_in M.bytes M.writable executor.old)
+        end.steps end.exception (state_in M.bytes M.writable executor.new))
+        (W.contents out.old) (W.contents out.new)) }
+    ensures fault { IfErr result (StopsPrinting
+        (ShowsSteps shown limit (state_in M.bytes M.writable executor.old))
+        (ShowsToNext shown limit (state_in M.bytes M.writable executor.old))
+        (W.contents out.old) (W.contents out.new)) }
+{
+    match shown {
+        Shown::Instructions => trace(executor, alloc, limit, out),
+        Shown::Nothing => Ok(executor.run(limit)),
+    }
+}
+
+/// Makes steps as `InstructionExecutor::run` does, and prints each instruction before its step.
+///
+/// The word at the pc is so read twice: here, to print its text from the bytes that stand before
+/// the step, and again by the step, which may write over them.
+fn trace<M: Memory, W: Write>(
+    executor: &mut InstructionExecutor<M>,
+    alloc: Global,
+    limit: u64,
+    out: &mut W,
+) -> Result<RunEnd, RunFault>
+    ensures printed { IfOk result (λ end. AppendsLines
+        (PrintsUntil limit (state_in M.bytes M.writable executor.old)
+        end.steps end.exception (state_in M.bytes M.writable executor.new))
+        (W.contents out.old) (W.contents out.new)) }
+    ensures fault { IfErr result (StopsPrinting
+        (ShowsSteps Shown.Instructions limit (state_in M.bytes M.writable executor.old))
+        (ShowsToNext Shown.Instructions limit (state_in M.bytes M.writable executor.old))
+        (W.contents out.old) (W.contents out.new)) }
+{
+    for steps in 0..limit {
+        print_next(executor, alloc, out)?;
+        if let Err(exception) = step(executor) {
+            let exception = Some(exception);
+            return Ok(RunEnd { steps, exception });
+        }
+    }
+    Ok(RunEnd {
+        steps: limit,
+        exception: None,
+    })
+}
+
+/// Prints the text of the word at the program counter, if it is one of the table.
+fn print_next<M: Memory, W: Write>(
+    executor: &mut InstructionExecutor<M>,
+    alloc: Global,
+    out: &mut W,
+) -> Result<(), RunFault>
+    ensures printed { OnOk result (AppendsLines
+        (LinesBefore (state_in M.bytes M.writable executor.old))
+        (W.contents out.old) (W.contents out.new)) }
+    ensures kept { state_in M.bytes M.writable executor.new
+        ≡ state_in M.bytes M.writable executor.old }
+    ensures fault { IfErr result (StopsPrinting (λ lines. lines ≡ [])
+        (LinesBefore (state_in M.bytes M.writable executor.old))
+        (W.contents out.old) (W.contents out.new)) }
+{
+    match executor.word_at_pc() {
+        Some(word) => print_instruction(executor.hart_state.pc, word, alloc, out),
+        None => Ok(()),
+    }
+}
+
+/// Prints the text of a word at a pc, if it is one of the table.
+fn print_instruction<W: Write>(
+    pc: u32,
+    word: u32,
+    alloc: Global,
+    out: &mut W,
+) -> Result<(), RunFault>
+    ensures printed { OnOk result (AppendsLines (LinesOfWord pc word)
+        (W.contents out.old) (W.contents out.new)) }
+    ensures fault { IfErr result (StopsPrinting (λ lines. lines ≡ []) (LinesOfWord pc word)
+        (W.contents out.old) (W.contents out.new)) }
+{
+    let mut outputter = InstructionStringOutputter { insn_pc: pc, alloc };
+    match process_instruction(&mut outputter, word) {
+        None => Ok(()),
+        Some(Ok(text)) => {
+            let line = report::line_of(alloc, pc, text.as_str())?;
+            report::write_text(out, line.as_bytes())
+        }
+        Some(Err(_)) => Err(RunFault::OutOfMemory),
+    }
+}
+
+/// Makes one step: a slice of one, since what the library claims as a whole is the contract of
+/// `step_each`, and the program stands on that call.
+fn step<M: Memory>(executor: &mut InstructionExecutor<M>) -> Result<(), InstructionException>
+    ensures { Step (state_in M.bytes M.writable executor.old)
+        (state_in M.bytes M.writable executor.new) result }
+{
+    let mut answers = [Ok(())];
+    executor.step_each(&mut answers);
+    let [answer] = answers;
+    answer
+}

@@ -1,0 +1,290 @@
+//! The programs that run a file's bytes, over a runtime of their own, and how each program ends.
+
+use crate::THREE_WORDS;
+use crate::machine::{Contents, Machine};
+use rrs_runner::command::{Command, Failure, Program, conclude, run_program, take_no_arguments};
+use rrs_runner::fault::RunFault;
+use rrs_runner::programs::{RRS_HELLO, RRS_REPLAY, RRS_RUN, RRS_SPEED};
+use std::alloc::{AllocError, Global};
+use std::process::ExitCode;
+use std::test::Fail;
+
+/// The program's status, what it says on standard error, and what it printed.
+fn run(
+    alloc: Global,
+    program: &Program,
+    words: &[&[u8]],
+    files: &[Contents<'_>],
+    room: usize,
+) -> (ExitCode, Vec<u8>, Vec<u8>) {
+    let machine = Machine::new(alloc, words, files, room);
+    let status = run_program(&machine, program);
+    let (said, printed) = machine.into_outputs();
+    (status, said, printed)
+}
+
+/// Files of a program, and of jal x0, 0, which jumps to itself.
+const FILES: [Contents<'static>; 2] = [
+    Contents {
+        name: "program",
+        bytes: THREE_WORDS,
+        fails: false,
+    },
+    Contents {
+        name: "loop",
+        bytes: b"\x6f\x00\x00\x00",
+        fails: false,
+    },
+];
+
+/// Whether both programs print nothing, and end with this status and their line of this text.
+fn both_say(
+    alloc: Global,
+    words: &[&[u8]],
+    files: &[Contents<'_>],
+    status: u8,
+    lines: (&str, &str),
+) -> bool {
+    let first = run(alloc, &RRS_RUN, words, files, 10_000);
+    let second = run(alloc, &RRS_SPEED, words, files, 10_000);
+    says(&first, status, lines.0) && says(&second, status, lines.1)
+}
+
+/// Whether a program printed nothing, and ended with this status and this line.
+fn says(left: &(ExitCode, Vec<u8>, Vec<u8>), status: u8, line: &str) -> bool {
+    left.0 == ExitCode::from(status) && left.1.as_slice() == line.as_bytes() && left.2.is_empty()
+}
+
+#[test]
+fn refuses_other_words(rt: HostRuntime) {
+    let cases: [&[&[u8]]; 9] = [
+        &[],
+        &[b"rrs-run"],
+        &[b"rrs-run", b"program"],
+        &[b"rrs-run", b"program", b"10", b"10"],
+        &[b"rrs-run", b"program", b"1a"],
+        &[b"rrs-run", b"10", b"program"],
+        &[b"rrs-run", b"program", b"\xff"],
+        &[b"rrs-run", b"\xff", b"10"],
+        &[b"\xff", b"program", b"10"],
+    ];
+    let lines = (
+        "usage: rrs-run FILE LIMIT\n",
+        "usage: rrs-speed FILE LIMIT\n",
+    );
+    for (index, words) in cases.iter().enumerate() {
+        assert!(rt; both_say(rt.alloc(), words, &FILES, 2, lines), "at {index}");
+    }
+}
+
+/// A file of these bytes.
+fn file<'a>(name: &'a str, bytes: &'a [u8], fails: bool) -> Contents<'a> {
+    Contents { name, bytes, fails }
+}
+
+#[test]
+fn says_why_a_file_is_not_run(rt: HostRuntime) -> Result<(), Fail> {
+    let too_long = vec![in rt.alloc(); 0; 65537]?;
+    let files = [
+        file("directory", b"", true),
+        file("cut off", THREE_WORDS, true),
+        file("full and cut off", &too_long[..65536], true),
+        file("too long", &too_long, false),
+    ];
+    let open = (
+        "rrs-run: cannot open file\n",
+        "rrs-speed: cannot open file\n",
+    );
+    let read = (
+        "rrs-run: Could not read byte\n",
+        "rrs-speed: Could not read byte\n",
+    );
+    let write = (
+        "rrs-run: Could not write byte at address 0x00010000\n",
+        "rrs-speed: Could not write byte at address 0x00010000\n",
+    );
+    let cases: [(&[u8], (&str, &str)); 5] = [
+        (b"missing", open),
+        (b"directory", read),
+        (b"cut off", read),
+        (b"full and cut off", read),
+        (b"too long", write),
+    ];
+    for (path, lines) in cases {
+        let words: [&[u8]; 3] = [b"rrs-run", path, b"10"];
+        assert!(rt; both_say(rt.alloc(), &words, &files, 1, lines), "{path:?}");
+    }
+    Ok(())
+}
+
+/// What is printed of a file that is run, where there is room for all of it.
+fn whole_account(
+    alloc: Global,
+    program: &Program,
+    path: &[u8],
+    limit: &[u8],
+) -> Result<Vec<u8>, Fail> {
+    let words: [&[u8]; 3] = [b"rrs-run", path, limit];
+    let (status, said, printed) = run(alloc, program, &words, &FILES, 100_000);
+    if status != ExitCode::SUCCESS || !said.is_empty() {
+        return Err(Fail::from("the run with room for all failed"));
+    }
+    Ok(printed)
+}
+
+/// Whether these bytes are `beginning`, and then 33 lines, the first of which is that of x0.
+fn is_account(printed: &[u8], beginning: &[u8]) -> bool {
+    match printed.strip_prefix(beginning) {
+        Some(rest) => rest.starts_with(b"x0 0x00000000\n") && lines_in(rest) == 33,
+        None => false,
+    }
+}
+
+/// How many of these bytes end a line.
+fn lines_in(bytes: &[u8]) -> usize {
+    bytes.iter().filter(|byte| **byte == b'\n').count()
+}
+
+#[test]
+fn runs_the_file_that_is_named_up_to_the_limit_that_is_named(rt: HostRuntime) -> Result<(), Fail> {
+    let cases: [(&Program, &[u8], &[u8], &str); 8] = [
+        (
+            &RRS_RUN,
+            b"program",
+            b"002",
+            "0x00000000: lui x2, 0x1234b000\n0x00000004: lui x3, 0xf387e000\nend: limit, steps 2\n",
+        ),
+        (
+            &RRS_RUN,
+            b"program",
+            b"999999999",
+            "0x00000000: lui x2, 0x1234b000\n0x00000004: lui x3, 0xf387e000\n0x00000008: add x1, x2, x3\nend: IllegalInstruction pc=0x0000000c word=0x00000000, steps 3\n",
+        ),
+        (
+            &RRS_RUN,
+            b"loop",
+            b"1",
+            "0x00000000: jal x0, 0x00000000\nend: limit, steps 1\n",
+        ),
+        (&RRS_RUN, b"loop", b"0", "end: limit, steps 0\n"),
+        (&RRS_SPEED, b"loop", b"0", "end: limit, steps 0\n"),
+        (&RRS_SPEED, b"loop", b"1", "end: limit, steps 1\n"),
+        (&RRS_SPEED, b"loop", b"100000", "end: limit, steps 100000\n"),
+        (
+            &RRS_SPEED,
+            b"program",
+            b"999999999",
+            "end: IllegalInstruction pc=0x0000000c word=0x00000000, steps 3\n",
+        ),
+    ];
+    for (program, path, limit, want) in cases {
+        let printed = whole_account(rt.alloc(), program, path, limit)?;
+        assert!(rt; is_account(&printed, want.as_bytes()), "{want}");
+    }
+    Ok(())
+}
+
+/// Whether an account of this length is tried with this room: near both ends, and at times between.
+fn is_tried(room: usize, length: usize) -> bool {
+    room < 10 || room % 97 == 0 || room.saturating_add(10) > length
+}
+
+/// Whether a program printed these bytes, and then ended well, or since no more could be written.
+fn ends_with_room(left: &(ExitCode, Vec<u8>, Vec<u8>), printed: &[u8], fails: bool) -> bool {
+    let line = if fails {
+        b"rrs-run: cannot write output\n".as_slice()
+    } else {
+        b""
+    };
+    left.0 == ExitCode::from(u8::from(fails))
+        && left.1.as_slice() == line
+        && left.2.as_slice() == printed
+}
+
+#[test]
+fn tells_an_output_that_fails(rt: HostRuntime) -> Result<(), Fail> {
+    // The first account is shorter than the buffer, so that the flush fails; the second is longer.
+    for (path, limit) in [(b"program".as_slice(), b"10".as_slice()), (b"loop", b"400")] {
+        let words: [&[u8]; 3] = [b"rrs-run", path, limit];
+        let whole = whole_account(rt.alloc(), &RRS_RUN, path, limit)?;
+        for room in 0..=whole.len() {
+            if is_tried(room, whole.len()) {
+                let left = run(rt.alloc(), &RRS_RUN, &words, &FILES, room);
+                let ends_so = ends_with_room(&left, &whole[..room], room < whole.len());
+                assert!(rt; ends_so, "with room for {room}");
+            }
+        }
+    }
+    Ok(())
+}
+
+/// The status of a program that ends so, and what it says on standard error.
+fn ended(alloc: Global, program: Command, outcome: Result<(), Failure>) -> (ExitCode, Vec<u8>) {
+    let machine = Machine::new(alloc, &[], &[], 1000);
+    let status = conclude(&machine, program, outcome);
+    let (said, _printed) = machine.into_outputs();
+    (status, said)
+}
+
+#[test]
+fn ends_by_its_name(rt: HostRuntime) {
+    let run = |fault| Err(Failure::Run(fault));
+    for (program, outcome, status, line) in [
+        (RRS_HELLO, Ok(()), 0, ""),
+        (RRS_HELLO, Err(Failure::Usage), 2, "usage: rrs-hello\n"),
+        (
+            RRS_HELLO,
+            run(RunFault::OutOfMemory),
+            1,
+            "rrs-hello: out of memory\n",
+        ),
+        (
+            RRS_HELLO,
+            run(RunFault::Output),
+            1,
+            "rrs-hello: cannot write output\n",
+        ),
+        (RRS_REPLAY, Err(Failure::Usage), 2, "usage: rrs-replay\n"),
+        (
+            RRS_REPLAY,
+            run(RunFault::Output),
+            1,
+            "rrs-replay: cannot write output\n",
+        ),
+        (
+            RRS_SPEED.command,
+            run(RunFault::Output),
+            1,
+            "rrs-speed: cannot write output\n",
+        ),
+        (
+            RRS_RUN.command,
+            Err(Failure::CannotOpen),
+            1,
+            "rrs-run: cannot open file\n",
+        ),
+    ] {
+        let (ends, said) = ended(rt.alloc(), program, outcome);
+        let is_so = ends == ExitCode::from(status) && said.as_slice() == line.as_bytes();
+        assert!(rt; is_so, "{line}");
+    }
+}
+
+/// Whether a program that takes no arguments is refused as one that is called wrongly.
+fn is_refused(alloc: Global, words: &[&[u8]]) -> bool {
+    let machine = Machine::new(alloc, words, &[], 1000);
+    matches!(take_no_arguments(&machine), Err(Failure::Usage))
+}
+
+#[test]
+fn refuses_an_argument(rt: HostRuntime) {
+    let cases: [(&[&[u8]], bool); 4] = [
+        (&[], false),
+        (&[b"rrs-hello"], false),
+        (&[b"rrs-hello", b""], true),
+        (&[b"rrs-hello", b"\xff"], true),
+    ];
+    for (words, want) in cases {
+        assert_eq!(rt; is_refused(rt.alloc(), words), want, "{words:?}");
+    }
+}
