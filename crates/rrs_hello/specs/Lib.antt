@@ -1,5 +1,6 @@
--- What the definitions of rrs_extra are passed on for, since contracts here cite them.
+-- What the definitions of rrs_extra and rrs_runner are passed on for, since contracts here cite them.
 pub use Rattle.rrs_extra.specs.Ports
 pub use Rattle.rrs_extra.specs.Printing
 pub use Rattle.rrs_extra.specs.Programs
+pub use Rattle.rrs_runner.specs.Faults
 pub mod Greeting

@@ -1,10 +1,11 @@
 //! The machine whose program prints the greeting, its run, and the log that is left.
 
-ghost use Rattle.std.specs.Prelude.{◌≡◌, IfOk, IsTrue, OnOk};
+ghost use Rattle.std.specs.Prelude.{◌≡◌, [], IfErr, IfOk, IsOkUnless, IsTrue, OnOk};
 ghost use Rattle.std.specs.Io.KnownBytes.{Appends};
 ghost use Rattle.rrs_extra.specs.Ports.{parts_bytes, parts_writable};
 ghost use Rattle.rrs_extra.specs.Printing.{HoldsString, put_string_program};
 ghost use Rattle.rrs_extra.specs.Programs.{HoldsWords, HoldsIllegal};
+ghost use Rattle.rrs_runner.specs.Faults.{StopsPrinting};
 ghost use Rattle.rrs_hello.specs.Greeting.{greeting, port_address, words_to_run, machine_regions, HasLog, HasRoom};
 
 use rrs_extra::laws::print_string;
@@ -12,9 +13,10 @@ use rrs_extra::{PrintPort, RamOrPort};
 use rrs_lib::HartState;
 use rrs_lib::instruction_executor::InstructionExecutor;
 use rrs_lib::memories::{MemorySpace, VecMemory};
-use std::alloc::{AllocError, Global};
-use std::io;
-use std::io::{ErrorKind, Write};
+use rrs_runner::fault::RunFault;
+use rrs_runner::report::write_text;
+use std::alloc::Global;
+use std::io::Write;
 
 /// The address of the port.
 const PORT: u32 = 0x1000_0000;
@@ -42,12 +44,17 @@ const WORDS: [u32; 11] = [
 ///
 /// # Errors
 ///
-/// Out of memory, before anything is written; or the error of the write.
-pub fn print_greeting<W: Write>(alloc: Global, out: &mut W) -> io::Result<()>
-    ensures { OnOk result (Appends (W.contents out.old) (W.contents out.new) greeting) }
+/// `RunFault::OutOfMemory`: nothing is written then. `RunFault::Output` where a write fails: a
+/// beginning of the text is written then.
+pub fn print_greeting<W: Write>(alloc: Global, out: &mut W) -> Result<(), RunFault>
+    ensures greeting { OnOk result (Appends (W.contents out.old) (W.contents out.new) greeting) }
+    ensures fault { IfErr result (StopsPrinting (λ lines. lines ≡ []) (λ lines. lines ≡ greeting)
+        (W.contents out.old) (W.contents out.new)) }
 {
     let ram = words(alloc)?;
-    let port = PrintPort::new(alloc, b"Hello, RISC-V!\n".len())?;
+    let Ok(port) = PrintPort::new(alloc, b"Hello, RISC-V!\n".len()) else {
+        return Err(RunFault::OutOfMemory);
+    };
     let mut space = machine(alloc, ram, port)?;
     run(&mut space, out)
 }
@@ -56,27 +63,36 @@ pub fn print_greeting<W: Write>(alloc: Global, out: &mut W) -> io::Result<()>
 ///
 /// # Errors
 ///
-/// Out of memory.
-fn words(alloc: Global) -> Result<VecMemory, AllocError>
-    ensures { IfOk result (λ memory. memory.mem.items ≡ words_to_run) }
+/// `RunFault::OutOfMemory`, out of memory for the words.
+fn words(alloc: Global) -> Result<VecMemory, RunFault>
+    ensures words { IfOk result (λ memory. memory.mem.items ≡ words_to_run) }
+    ensures fault { IsOkUnless result RunFault.OutOfMemory }
 {
-    Ok(VecMemory::new(WORDS.to_vec(alloc)?))
+    match WORDS.to_vec(alloc) {
+        Ok(words) => Ok(VecMemory::new(words)),
+        Err(_) => Err(RunFault::OutOfMemory),
+    }
 }
 
 /// A space with the words at 0 and the port at its address.
 ///
 /// # Errors
 ///
-/// Out of memory for the regions.
-fn machine(alloc: Global, ram: VecMemory, port: PrintPort) -> io::Result<MemorySpace<RamOrPort>>
-    ensures { IfOk result (λ space. space.regions ≡ machine_regions ram port) }
+/// `RunFault::OutOfMemory`, out of memory for the regions.
+fn machine(
+    alloc: Global,
+    ram: VecMemory,
+    port: PrintPort,
+) -> Result<MemorySpace<RamOrPort>, RunFault>
+    ensures regions { IfOk result (λ space. space.regions ≡ machine_regions ram port) }
+    ensures fault { IsOkUnless result RunFault.OutOfMemory }
 {
     let mut space = MemorySpace::new(alloc);
     if space.add_memory(0, 44, RamOrPort::Ram(ram)).is_err() {
-        return Err(io::Error::from(ErrorKind::OutOfMemory));
+        return Err(RunFault::OutOfMemory);
     }
     if space.add_memory(PORT, 4, RamOrPort::Port(port)).is_err() {
-        return Err(io::Error::from(ErrorKind::OutOfMemory));
+        return Err(RunFault::OutOfMemory);
     }
     Ok(space)
 }
@@ -85,14 +101,16 @@ fn machine(alloc: Global, ram: VecMemory, port: PrintPort) -> io::Result<MemoryS
 ///
 /// # Errors
 ///
-/// The error of the write.
-fn run<W: Write>(space: &mut MemorySpace<RamOrPort>, out: &mut W) -> io::Result<()>
+/// `RunFault::Output` where a write fails.
+fn run<W: Write>(space: &mut MemorySpace<RamOrPort>, out: &mut W) -> Result<(), RunFault>
     requires program { HoldsWords (parts_bytes space.old) 0 put_string_program }
     requires stops { HoldsIllegal (parts_bytes space.old) 24 }
     requires string { HoldsString (parts_bytes space.old) 28 greeting }
     requires writable { IsTrue (parts_writable space.old port_address) }
     requires room { HasRoom space.old.regions }
-    ensures { OnOk result (Appends (W.contents out.old) (W.contents out.new) greeting) }
+    ensures greeting { OnOk result (Appends (W.contents out.old) (W.contents out.new) greeting) }
+    ensures fault { IfErr result (StopsPrinting (λ _. ⊥) (λ lines. lines ≡ greeting)
+        (W.contents out.old) (W.contents out.new)) }
 {
     let mut hart = HartState::new();
     hart.registers[1] = 24;
@@ -110,16 +128,15 @@ fn run<W: Write>(space: &mut MemorySpace<RamOrPort>, out: &mut W) -> io::Result<
 ///
 /// # Errors
 ///
-/// The error of the write.
-fn write_log<W: Write>(space: &MemorySpace<RamOrPort>, out: &mut W) -> io::Result<()>
+/// `RunFault::Output` where a write fails.
+fn write_log<W: Write>(space: &MemorySpace<RamOrPort>, out: &mut W) -> Result<(), RunFault>
     requires { HasLog space.now.regions greeting }
-    ensures { OnOk result (Appends (W.contents out.old) (W.contents out.new) greeting) }
+    ensures greeting { OnOk result (Appends (W.contents out.old) (W.contents out.new) greeting) }
+    ensures fault { IfErr result (StopsPrinting (λ _. ⊥) (λ lines. lines ≡ greeting)
+        (W.contents out.old) (W.contents out.new)) }
 {
     match space.get_memory_ref(1) {
-        Some(RamOrPort::Port(port)) => out.write_all(port.log.as_slice()),
+        Some(RamOrPort::Port(port)) => write_text(out, port.log.as_slice()),
         _ => unreachable!(),
     }
 }
-
-#[cfg(test)]
-mod tests;

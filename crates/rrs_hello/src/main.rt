@@ -9,8 +9,23 @@
 mod greeting;
 
 use crate::greeting::print_greeting;
+use rrs_runner::command::{Failure, conclude, take_no_arguments};
+use rrs_runner::programs::RRS_HELLO;
 use std::io;
+use std::process::ExitCode;
+use std::rt::Env;
 
-fn main(rt: HostRuntime) -> io::Result<()> {
-    print_greeting(rt.alloc(), &mut io::writer(&rt))
+fn main(rt: HostRuntime) -> ExitCode {
+    conclude(&rt, RRS_HELLO, greet(&rt))
+}
+
+/// Prints the greeting on standard output.
+///
+/// # Errors
+///
+/// `Failure::Usage` where there is an argument, and `Failure::Run` for out of memory and for a write
+/// that fails.
+fn greet<R: Env + Print + AllocGlobal>(rt: &R) -> Result<(), Failure> {
+    take_no_arguments(rt)?;
+    print_greeting(rt.alloc(), &mut io::writer(rt)).map_err(Failure::Run)
 }

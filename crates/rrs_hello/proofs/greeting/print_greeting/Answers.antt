@@ -3,10 +3,10 @@ use Rattle.rrs_hello.proofs.Machines.{holds_program, holds_greeting, has_room}
 use Rattle.rrs_hello.proofs.greeting.print_greeting.Goals as goal
 
 pub run-requires-clause-program : goal.run-requires-clause-program
-run-requires-clause-program g c = holds_program _ _ _ c.in_ok-space.ensures c.in_ok-ram.ensures
+run-requires-clause-program g c = holds_program _ _ _ c.in_ok-space.ensures.regions c.in_ok-ram.ensures.words
 
 pub run-requires-clause-string : goal.run-requires-clause-string
-run-requires-clause-string g c = holds_greeting _ _ _ c.in_ok-space.ensures c.in_ok-ram.ensures
+run-requires-clause-string g c = holds_greeting _ _ _ c.in_ok-space.ensures.regions c.in_ok-ram.ensures.words
 
 pub run-requires-clause-room : goal.run-requires-clause-room
-run-requires-clause-room g c = has_room _ _ _ c.in_ok-space.ensures c.in_ok-port.ensures.log (omega (arith, c.in_ok-port.ensures.room))
+run-requires-clause-room g c = has_room _ _ _ c.in_ok-space.ensures.regions c.in-Ok.ensures.log (omega (arith, c.in-Ok.ensures.room))
