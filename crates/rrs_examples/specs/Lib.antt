@@ -1,5 +1,4 @@
--- What the examples and the tests state. What the definitions of rrs_lib and rrs_extra are cited for
--- stands there.
--- Counting the calls of rows, and the memories of the tests of programs.
+-- What the examples and the tests state. What the definitions of rrs_lib and rrs_extra are cited
+-- for stands there. Counting the calls of rows, and the memories of the tests of programs.
 pub mod Counting
 pub mod ProgramExamples

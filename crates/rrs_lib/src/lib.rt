@@ -56,7 +56,8 @@ impl HartState {
     pub fn write_register(&mut self, reg_index: usize, value: u32)
         requires { reg_index < 32 }
         ensures written { (bytes : ℕ → Option ℕ) (writable : ℕ → Bool)
-            → state_of self.new bytes writable ≡ put (state_of self.old bytes writable) reg_index (pos value) }
+            → state_of self.new bytes writable
+            ≡ put (state_of self.old bytes writable) reg_index (pos value) }
         ensures zero_kept { slice_index self.new.registers 0 ≡ slice_index self.old.registers 0 }
     {
         if reg_index == 0 {
