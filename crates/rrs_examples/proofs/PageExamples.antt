@@ -1,10 +1,10 @@
 -- The definitions of a memory of pages, by page, word and byte, and on known answers.
 use Rattle.std.proofs.Common.{◌≡◌, ℕ, ◌+◌, ◌*◌, ◌/◌, ◌%◌, ◌^◌, ◌<◌, List, [], ◌∷◌, length, slice_index, slice_index_or, Some, None, true, false, not, refl, ap, ◌∙◌, arith}
-use Rattle.rrs_extra.specs.Pages.{Page, page, page_at, paged_bytes, paged_writable, inserted}
+use Rattle.rrs_extra.specs.Pages.{Contents, Page, page, page_at, paged_bytes, paged_writable, inserted}
 use Rattle.rrs_extra.proofs.PageLists.{writable_in_page}
 
 -- byte j of word i of page p
-pub byte_by_place : (pages : List Page) (q : Page) (p i j : ℕ) → i < 1024 → j < 4 → page_at pages p ≡ Some q → paged_bytes pages (4096 * p + 4 * i + j) ≡ Some (slice_index q.words i / 256 ^ j % 256)
+pub byte_by_place : (pages : List Page) (q : Contents) (p i j : ℕ) → i < 1024 → j < 4 → page_at pages p ≡ Some q → paged_bytes pages (4096 * p + 4 * i + j) ≡ Some (slice_index q.words i / 256 ^ j % 256)
 byte_by_place pages q p i j word byte found =
     let number : (4096 * p + 4 * i + j) / 4096 ≡ p = omega arith in
     let place : (4096 * p + 4 * i + j) % 4096 / 4 ≡ i = omega arith in
@@ -12,7 +12,7 @@ byte_by_place pages q p i j word byte found =
     rw (number, found, place, which) refl
 
 -- is writable exactly where the word is not marked
-pub writable_by_place : (pages : List Page) (q : Page) (p i j : ℕ) → i < 1024 → j < 4 → length q.read_only ≡ 1024 → page_at pages p ≡ Some q → paged_writable pages (4096 * p + 4 * i + j) ≡ not (slice_index_or q.read_only i true)
+pub writable_by_place : (pages : List Page) (q : Contents) (p i j : ℕ) → i < 1024 → j < 4 → length q.read_only ≡ 1024 → page_at pages p ≡ Some q → paged_writable pages (4096 * p + 4 * i + j) ≡ not (slice_index_or q.read_only i true)
 writable_by_place pages q p i j word byte long found =
     let number : (4096 * p + 4 * i + j) / 4096 ≡ p = omega arith in
     let place : (4096 * p + 4 * i + j) % 4096 / 4 ≡ i = omega arith in

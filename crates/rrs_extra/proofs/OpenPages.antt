@@ -1,6 +1,7 @@
 -- Pages without a gap and with no read-only word: their words one after another.
 use Rattle.std.proofs.Common.{◌≡◌, ℕ, zero, suc, ◌+◌, ◌*◌, ◌/◌, ◌%◌, ◌^◌, ◌<◌, ◌≤◌, List, [], ◌∷◌, ◌++◌, length, All, slice_get, slice_index, slice_index_or, replicate, Option, Some, None, option_map, is_some, Bool, true, false, not, if◌then◌else◌, inl, inr, refl, sym, subst, ap, ◌∙◌, arith, length-append}
 use Rattle.std.specs.List.{range_with_len}
+use Rattle.std.specs.Map.{values_of}
 use Rattle.std.proofs.Math.Path.{fun_ext}
 use Rattle.std.proofs.lemmas.Bool.{cases_eq, cases_lt, and_right, le-ltb, cond-false}
 use Rattle.std.proofs.lemmas.List.{get_or_append_left}
@@ -8,9 +9,9 @@ use Rattle.std.proofs.lemmas.List.Elements.{All-head, All-tail, All-cons, All-ni
 use Rattle.std.proofs.lemmas.Option.{none-some, same_Some, slice_get-get_or, slice_get_past}
 use Rattle.rrs_lib.specs.VecBytes.{bytes_of_words, lies_in_words}
 use Rattle.rrs_lib.proofs.VecWords.{byte_at, byte_past}
-use Rattle.rrs_extra.specs.Pages.{Page, page, page_at, paged_bytes, paged_writable, paged_layout, IsPage, ArePages}
+use Rattle.rrs_extra.specs.Pages.{Contents, contents, Page, page, page_at, paged_bytes, paged_writable, paged_layout, IsFull, ArePages}
 use Rattle.rrs_extra.specs.Agreement.{AreOpenPages, words_of}
-use Rattle.rrs_extra.proofs.PageLists.{page_first, page_later, page_at_is, byte_nowhere, writable_in_page, writable_nowhere, pages_end}
+use Rattle.rrs_extra.proofs.PageLists.{page_first, page_later, holds_at, byte_nowhere, writable_in_page, writable_nowhere, pages_end}
 
 -- ---- an element of two lists, one after another
 
@@ -39,23 +40,23 @@ empty_not_more : (y : ℕ) (xs ys : List ℕ) → y ∷ ys ≡ [] → ⊥
 empty_not_more y xs ys e = cc
 
 -- word i of page n + d, of pages from n on without a gap, is word 1024 d + i of all
-word_of_page : (pages : List Page) (n k d i : ℕ) → All IsPage pages → paged_layout pages ≡ range_with_len n k → i < 1024 → option_map (λ p. slice_index p.words i) (page_at pages (n + d)) ≡ slice_get (words_of pages) (1024 * d + i)
+word_of_page : (pages : List Page) (n k d i : ℕ) → All IsFull (values_of pages) → paged_layout pages ≡ range_with_len n k → i < 1024 → option_map (λ p. slice_index p.words i) (page_at pages (n + d)) ≡ slice_get (words_of pages) (1024 * d + i)
 word_of_page [] n k d i full numbers within = refl
 word_of_page (p ∷ pages) n zero d i full numbers within = absurd (empty_not_more _ [] _ numbers)
 word_of_page (p ∷ pages) n (suc k) zero i full numbers within =
-    let is = All-head IsPage p pages full in
+    let is = All-head IsFull p.1 (values_of pages) full in
     let number = first_same _ _ _ _ numbers in
     let start : 1024 * 0 + i ≡ i = omega arith in
-    let word_here : slice_get (words_of (p ∷ pages)) (1024 * 0 + i) ≡ Some (slice_index p.words i) = ap (slice_get (words_of (p ∷ pages))) start ∙ get_left p.words (words_of pages) i (omega (arith, is.words_long, within)) in
+    let word_here : slice_get (words_of (p ∷ pages)) (1024 * 0 + i) ≡ Some (slice_index p.1.words i) = ap (slice_get (words_of (p ∷ pages))) start ∙ get_left p.1.words (words_of pages) i (omega (arith, is.words_long, within)) in
     ap (option_map (λ p. slice_index p.words i)) (page_first p pages (n + 0) (omega (arith, number))) ∙ sym word_here
 word_of_page (p ∷ pages) n (suc k) (suc d) i full numbers within =
-    let is = All-head IsPage p pages full in
+    let is = All-head IsFull p.1 (values_of pages) full in
     let number = first_same _ _ _ _ numbers in
-    let place : 1024 * suc d + i ≡ length p.words + (1024 * d + i) = omega (arith, is.words_long) in
+    let place : 1024 * suc d + i ≡ length p.1.words + (1024 * d + i) = omega (arith, is.words_long) in
     let next : n + suc d ≡ n + 1 + d = omega arith in
     ap (option_map (λ p. slice_index p.words i)) (page_later p pages (n + suc d) (λ same. omega (arith, number, same)) ∙ ap (page_at pages) next)
-    ∙ word_of_page pages (n + 1) k d i (All-tail IsPage p pages full) (rest_same _ _ _ _ numbers) within
-    ∙ sym (ap (slice_get (words_of (p ∷ pages))) place ∙ get_right p.words (words_of pages) (1024 * d + i))
+    ∙ word_of_page pages (n + 1) k d i (All-tail IsFull p.1 (values_of pages) full) (rest_same _ _ _ _ numbers) within
+    ∙ sym (ap (slice_get (words_of (p ∷ pages))) place ∙ get_right p.1.words (words_of pages) (1024 * d + i))
 
 -- a byte of words, by the word
 pub byte_of_word : (words : List ℕ) (a : ℕ) → a < 2 ^ 32 → bytes_of_words words a ≡ option_map (λ word. word / 256 ^ (a % 4) % 256) (slice_get words (a / 4))
@@ -78,11 +79,11 @@ same_byte pages k a are whole =
           let place : 1024 * (a / 4096) + a % 4096 / 4 ≡ a / 4 = omega arith in
           let zero_on : a / 4096 ≡ 0 + a / 4096 = omega arith in
           ap (option_map (λ word. word / 256 ^ (a % 4) % 256))
-          (ap (λ m. option_map (λ (p : Page). slice_index p.words (a % 4096 / 4)) (page_at pages m)) zero_on
+          (ap (λ m. option_map (λ (p : Contents). slice_index p.words (a % 4096 / 4)) (page_at pages m)) zero_on
           ∙ word_of_page pages 0 k (a / 4096) (a % 4096 / 4) are.full whole.numbers (omega arith)
           ∙ ap (slice_get (words_of pages)) place)
           ∙ sym (byte_of_word (words_of pages) a low)
-      | inr high ↦ (pages_end pages are.full a high).0 ∙ sym (past_words (words_of pages) a high)
+      | inr high ↦ (pages_end pages are.numbers_fit a high).0 ∙ sym (past_words (words_of pages) a high)
     ]
 
 -- the bytes are equal
@@ -91,21 +92,12 @@ same_pages_bytes pages k are whole = fun_ext (λ a. same_byte pages k a are whol
 
 -- ---- what is writable
 
--- what holds of each page holds of one that is found
-holds_at : (P : Page → Type 0) (pages : List Page) (n : ℕ) (p : Page) → All P pages → page_at pages n ≡ Some p → P p
-holds_at P [] n p all found = absurd (none-some _ found)
-holds_at P (q ∷ pages) n p all found =
-    elim (cases_eq q.number n) [
-      | inl same ↦ subst P (same_Some _ _ (sym (page_first q pages n same) ∙ found)) (All-head P q pages all)
-      | inr apart ↦ holds_at P pages n p (All-tail P q pages all) (sym (page_later q pages n apart) ∙ found)
-    ]
-
 -- with no word that is read-only an address is writable where it has a byte
-writable_where_mapped : (pages : List Page) (k a : ℕ) (o : Option Page) → page_at pages (a / 4096) ≡ o → ArePages pages → AreOpenPages k pages → paged_writable pages a ≡ is_some (paged_bytes pages a)
+writable_where_mapped : (pages : List Page) (k a : ℕ) (o : Option Contents) → page_at pages (a / 4096) ≡ o → ArePages pages → AreOpenPages k pages → paged_writable pages a ≡ is_some (paged_bytes pages a)
 writable_where_mapped pages k a None found are whole =
     writable_nowhere pages a found ∙ sym (ap is_some (byte_nowhere pages a found))
 writable_where_mapped pages k a (Some p) found are whole =
-    let is = (page_at_is pages (a / 4096) p are.full found).0 in
+    let is = holds_at IsFull pages (a / 4096) p are.full found in
     let marks = holds_at (λ p. All (λ mark. mark ≡ false) p.read_only) pages (a / 4096) p whole.open_words found in
     let mark : slice_index_or p.read_only (a % 4096 / 4) true ≡ false = All-get_or (λ mark. mark ≡ false) p.read_only (a % 4096 / 4) true (omega (arith, is.marks_long)) marks in
     let yes_byte : is_some (paged_bytes pages a) ≡ true = rw found refl in
@@ -131,8 +123,8 @@ same_pages_writable pages k are whole =
 pub one_open_page : (pages : List Page) (words : List ℕ) (marks : List Bool) (n : ℕ) → pages ≡ page 0 words marks ∷ [] → marks ≡ replicate n false → AreOpenPages 1 pages
 one_open_page pages words marks n is unmarked =
     let shut : All (λ mark. mark ≡ false) marks = All-same (λ mark. mark ≡ false) marks (replicate n false) unmarked (All-replicate (λ mark. mark ≡ false) n false refl) in
-    let P : Page → Type 0 = λ p. All (λ mark. mark ≡ false) p.read_only in
+    let P : Contents → Type 0 = λ c. All (λ mark. mark ≡ false) c.read_only in
     record {
       numbers = ap paged_layout is;
-      open_words = All-same P pages (page 0 words marks ∷ []) is (All-cons P (page 0 words marks) [] shut (All-nil P));
+      open_words = All-same P (values_of pages) (contents words marks ∷ []) (ap values_of is) (All-cons P (contents words marks) [] shut (All-nil P));
     }

@@ -2,6 +2,7 @@
 -- list of words does.
 use Rattle.std.specs.Prelude.{◌≡◌, ℕ, false, List, All}
 use Rattle.std.specs.List.{flat_map, range_with_len}
+use Rattle.std.specs.Map.{values_of}
 use Rattle.rrs_lib.specs.Machine.{State}
 use Rattle.rrs_extra.specs.Pages.{Page, paged_layout}
 
@@ -16,8 +17,8 @@ pub record Agree (s t : State) : Type 0 where
 -- the pages 0 to k - 1 and no other, with no word that is read-only
 pub record AreOpenPages (k : ℕ) (pages : List Page) : Type 0 where
   pub numbers : paged_layout pages ≡ range_with_len 0 k
-  pub open_words : All (λ p. All (λ mark. mark ≡ false) p.read_only) pages
+  pub open_words : All (λ c. All (λ mark. mark ≡ false) c.read_only) (values_of pages)
 
 -- the words of the pages, one after another
 abbrev pub words_of : List Page → List ℕ
-words_of pages = flat_map (λ p. p.words) pages
+words_of pages = flat_map (λ c. c.words) (values_of pages)

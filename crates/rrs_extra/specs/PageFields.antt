@@ -1,8 +1,11 @@
 -- The pages of a PagedMemory as contracts see them.
 use Rattle.std.specs.Prelude.{ℕ}
 use Rattle.rrs_extra.specs.declared.paged.PageContents.{PageContents}
-use Rattle.rrs_extra.specs.Pages.{Page, page}
+use Rattle.rrs_extra.specs.Pages.{Contents, contents, Page}
 
--- an entry of the code's map, a number with what its page holds, as a contract sees it
+-- what a page of the code holds, and an entry of the code's map, as a contract sees them
+abbrev pub contents_of : PageContents → Contents
+contents_of c = contents c.words.mem.items c.read_only.items
+
 abbrev pub page_of : ℕ × PageContents → Page
-page_of e = page e.0 e.1.words.mem.items e.1.read_only.items
+page_of e = (e.0, contents_of e.1)

@@ -1,37 +1,47 @@
 -- What a memory of pages means. Page p holds 1,024 words, of which word i lies at 4096 p + 4 i, as
 -- four bytes, lowest first; a word is writable unless it is marked read-only.
-use Rattle.std.specs.Prelude.{◌≡◌, ◌≢◌, ℕ, ◌/◌, ◌%◌, ◌^◌, ◌<◌, ◌==◌, nat_lt, Bool, false, not, if◌then◌else◌, List, [], ◌∷◌, length, map, All, slice_get, slice_index, Option, Some, None, option_map, option_and_then, unwrap_or, refl}
+use Rattle.std.specs.Prelude.{◌≡◌, ◌≢◌, ℕ, ◌/◌, ◌%◌, ◌^◌, ◌<◌, Bool, false, not, List, length, map, All, slice_get, slice_index, Option, option_map, option_and_then, unwrap_or, refl}
 use Rattle.std.specs.List.Sorted.{IsStrictlyIncreasing}
 use Rattle.std.specs.Coded.{Coded, code_by, coded×, coded_ℕ, coded_bool, coded_list}
 use Rattle.std.specs.Bool.{OnTrue, OnFalse}
+use Rattle.std.specs.Ordering.{nat_cmp}
+use Rattle.std.specs.Map.{lookup, keys_of, values_of}
+use Rattle.std.specs.BTreeMap.{is_at, insert_entry}
 use Rattle.rrs_lib.specs.declared.MemAccessSize.{MemAccessSize}
 use Rattle.rrs_lib.specs.Bytes.{ByteMap, width, store}
 
--- a page: its number, its words, and for each word whether it is read-only
-pub record Page : Type 0 where
-  pub number : ℕ
+-- what a page holds: its words, and for each word whether it is read-only
+pub record Contents : Type 0 where
   pub words : List ℕ
   pub read_only : List Bool
 
-abbrev pub page : ℕ → List ℕ → List Bool → Page
-page number words read_only = record { number = number; words = words; read_only = read_only }
+abbrev pub contents : List ℕ → List Bool → Contents
+contents words read_only = record { words = words; read_only = read_only }
 
--- a page is stored as the tuple of its fields
+-- a page: its number, and what it holds
+abbrev pub Page : Type 0
+Page = ℕ × Contents
+
+abbrev pub page : ℕ → List ℕ → List Bool → Page
+page number words read_only = (number, contents words read_only)
+
+-- contents are stored as the pair of their fields
 abbrev pub page_code : Coded Page
 page_code =
-    code_by
-    (ℕ × (List ℕ × List Bool))
-    (coded× coded_ℕ (coded× (coded_list coded_ℕ) (coded_list coded_bool)))
-    (λ p. (p.number, (p.words, p.read_only)))
-    (λ p. page p.0 p.1.0 p.1.1)
-    (λ _. refl)
+    coded×
+    coded_ℕ
+    (code_by
+    (List ℕ × List Bool)
+    (coded× (coded_list coded_ℕ) (coded_list coded_bool))
+    (λ c. (c.words, c.read_only))
+    (λ p. contents p.0 p.1)
+    (λ _. refl))
 
 -- ---- the meaning
 
--- the first page of a number
-abbrev pub page_at : List Page → ℕ → Option Page
-page_at [] number = None
-page_at (p ∷ pages) number = if p.number == number then Some p else page_at pages number
+-- what the page of a number holds: pages are entries of a map, by their numbers
+abbrev pub page_at : List Page → ℕ → Option Contents
+page_at pages number = lookup (is_at (nat_cmp number)) pages
 
 -- where in its page the word lies to which address a belongs
 abbrev pub place_of : ℕ → ℕ
@@ -56,32 +66,31 @@ paged_writable pages a = unwrap_or (option_map not (read_only_at pages a)) false
 
 -- the layout is the page numbers, in order
 abbrev pub paged_layout : List Page → List ℕ
-paged_layout pages = map (λ p. p.number) pages
+paged_layout pages = keys_of pages
 
--- the read-only marks of each page, in order
-abbrev pub marks : List Page → List (List Bool)
-marks pages = map (λ p. p.read_only) pages
+-- the read-only marks of each page, in order, with its number
+abbrev pub marks : List Page → List (ℕ × List Bool)
+marks pages = map (λ p. (p.0, p.1.read_only)) pages
 
 -- ---- what every memory of pages keeps
 
--- its addresses are below 2 ^ 32, and it has 1,024 words, with a mark for each
-pub record IsPage (p : Page) : Type 0 where
-  pub number_fits : p.number < 2 ^ 20
-  pub words_long : length p.words ≡ 1024
-  pub marks_long : length p.read_only ≡ 1024
+-- a page has 1,024 words, with a mark for each
+pub record IsFull (c : Contents) : Type 0 where
+  pub words_long : length c.words ≡ 1024
+  pub marks_long : length c.read_only ≡ 1024
 
--- the pages stand in the order of their numbers, of which each is there once
+-- addresses are below 2 ^ 32, and the pages stand in the order of their numbers, of which each is
+-- there once
 pub record ArePages (pages : List Page) : Type 0 where
-  pub full : All IsPage pages
-  pub rising : IsStrictlyIncreasing (paged_layout pages)
+  pub full : All IsFull (values_of pages)
+  pub numbers_fit : All (λ number. number < 2 ^ 20) (keys_of pages)
+  pub rising : IsStrictlyIncreasing (keys_of pages)
 
 -- ---- what calls leave
 
--- the pages with one more, before the first of a higher number
+-- the pages with one more, in the place of its number
 abbrev pub inserted : Page → List Page → List Page
-inserted new [] = new ∷ []
-inserted new (p ∷ pages) =
-    if nat_lt new.number p.number then new ∷ p ∷ pages else p ∷ inserted new pages
+inserted new pages = insert_entry nat_cmp pages new.0 new.1
 
 -- a read leaves the pages
 abbrev pub paged_reads : List Page → ℕ → MemAccessSize → List Page → Option ℕ → Type 0

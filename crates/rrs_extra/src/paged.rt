@@ -6,7 +6,7 @@ ghost use Rattle.std.specs.Prelude.{slice_index, slice_index_or, vec_len};
 ghost use Rattle.std.specs.Bool.{OnTrue, OnFalse};
 ghost use Rattle.rrs_lib.specs.Bytes.{width, little_endian, store, Reads, Writes};
 ghost use Rattle.rrs_lib.specs.VecBytes.{bytes_of_words};
-ghost use Rattle.rrs_extra.specs.Pages.{page, page_at, word_at, ArePages, inserted, marks};
+ghost use Rattle.rrs_extra.specs.Pages.{contents, page, page_at, ArePages, inserted};
 ghost use Rattle.rrs_extra.specs.Pages.{paged_bytes, paged_writable, paged_layout};
 ghost use Rattle.rrs_extra.specs.Pages.{paged_reads, PagedWrites};
 
@@ -28,7 +28,8 @@ pub enum PageError {
 /// A memory of pages of 1,024 words, with a mark for each word that is read-only.
 ///
 /// Word `i` of page `p` lies at the address `4096 * p + 4 * i`. All of it can be read; its four
-/// bytes are writable exactly where the word is not marked. No access allocates.
+/// bytes are writable exactly where the word is not marked. No access allocates: that is seen in
+/// the code, and no clause says it.
 #[derive(Drop)]
 pub struct PagedMemory {
     pages: BTreeMap<u32, PageContents>,
@@ -63,8 +64,7 @@ impl PageContents {
         requires { place % width size ≡ 0 }
         ensures value { result
             ≡ little_endian (bytes_of_words self.old.words.mem.items) place (width size) }
-        ensures words_kept { self.new.words.mem.items ≡ self.old.words.mem.items }
-        ensures marks_kept { self.new.read_only ≡ self.old.read_only }
+        ensures kept { self.new ≡ self.old }
     {
         self.words.read_mem(place, size)
     }
@@ -140,7 +140,7 @@ impl PagedMemory {
         ensures ok { OnOk result
             (self.new ≡ inserted (page number words.items read_only.items) self.old) }
         ensures added { OnOk result
-            (page_at self.new number ≡ Some (page number words.items read_only.items)) }
+            (page_at self.new number ≡ Some (contents words.items read_only.items)) }
         ensures others_kept { OnOk result ((other : ℕ) → other ≢ number
             → page_at self.new other ≡ page_at self.old other) }
         ensures err { OnErr result (self.new ≡ self.old) }
@@ -176,7 +176,6 @@ impl Memory for PagedMemory {
         ensures laws { Reads paged_bytes paged_writable paged_layout
             self.old self.new addr (width size) result }
         ensures did { paged_reads self.old addr size self.new result }
-        ensures pages_kept { self.new ≡ self.old }
     {
         match self.pages.get_mut(&(addr >> 12)) {
             Some(page) => page.read(addr & 0xfff, size),
@@ -189,10 +188,6 @@ impl Memory for PagedMemory {
         ensures laws { Writes paged_bytes paged_writable paged_layout
             self.old self.new addr (width size) store_data result }
         ensures did { PagedWrites self.old addr size store_data self.new result }
-        ensures refused { OnFalse result (self.new ≡ self.old) }
-        ensures marks_kept { marks self.new ≡ marks self.old }
-        ensures others_kept { (a : ℕ) → a / 4 ≢ addr / 4
-            → word_at self.new a ≡ word_at self.old a }
         ensures pages { ArePages self.new }
     {
         match self.pages.get_mut(&(addr >> 12)) {

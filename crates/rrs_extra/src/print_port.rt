@@ -12,7 +12,7 @@ use std::alloc::{AllocError, Global};
 /// A port of one byte at address 0, which logs the bytes that are written to it.
 ///
 /// What was written last reads back. The log has room for as many bytes as [PrintPort::new] was
-/// asked for, and no access allocates. A byte that finds no room is counted, and not logged: what
+/// asked for, and no access changes that. A byte that finds no room is counted, and not logged: what
 /// is writable never changes by an access, so the write can't be refused.
 #[derive(Drop)]
 pub struct PrintPort {

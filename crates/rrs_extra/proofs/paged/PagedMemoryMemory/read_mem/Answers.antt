@@ -1,27 +1,29 @@
 -- The page that was lent is read and seen as it was; where there is none there is nothing to read.
 use Rattle.std.proofs.Common.{◌≡◌, ◌+◌, ◌/◌, List, map, Some, None, refl, sym, subst, ap, ◌∙◌}
 use Rattle.std.specs.Option.{option_copied_mut}
+use Rattle.std.specs.Ordering.{nat_cmp}
+use Rattle.std.specs.BTreeMap.{is_at}
 use Rattle.std.proofs.lemmas.Nat.{and_mask}
+use Rattle.std.proofs.lemmas.Map.Steps.{set_value_same}
 use Rattle.rrs_lib.specs.Bytes.{width, little_endian}
 use Rattle.rrs_lib.specs.VecBytes.{bytes_of_words}
 use Rattle.rrs_lib.proofs.VecWords.{aligned_in_word}
 use Rattle.rrs_lib.proofs.Regions.{little_endian-unmapped, width_pos}
-use Rattle.rrs_extra.specs.Pages.{Page, ArePages, page_at, paged_bytes, paged_writable, paged_layout}
-use Rattle.rrs_extra.specs.PageFields.{page_of}
-use Rattle.rrs_extra.proofs.PageLists.{page_at_is, value_in_page, byte_nowhere, found_on, lawful_pages, pages_end}
-use Rattle.rrs_extra.proofs.PageMaps.{page_at_lookup, set_unseen}
+use Rattle.rrs_extra.specs.Pages.{Page, IsFull, ArePages, page_at, paged_bytes, paged_writable, paged_layout}
+use Rattle.rrs_extra.specs.PageFields.{contents_of, page_of}
+use Rattle.rrs_extra.proofs.PageLists.{holds_at, value_in_page, byte_nowhere, found_on, lawful_pages, pages_end}
+use Rattle.rrs_extra.proofs.PageMaps.{page_at_lookup}
 use Rattle.rrs_extra.proofs.paged.PagedMemoryMemory.read_mem.Goals.{in-Some, in-None}
 use Rattle.rrs_extra.proofs.paged.PagedMemoryMemory.read_mem.Goals as goal
 
-pub returns-clause-pages_kept : goal.returns-clause-pages_kept
-returns-clause-pages_kept c =
+pub returns-clause-did : goal.returns-clause-did
+returns-clause-did c =
     let es = c.self.inside.pages.entries in
     elim c.match-get_mut.branch [
       | in-Some w ↦
           let found = sym c.get_mut.ensures.value ∙ ap option_copied_mut w.in-Some.is in
           ap (λ s. map page_of s.pages.entries) w.self-inside-is
-          ∙ ap (map page_of) (c.get_mut.follows.holds w.read.new.self).0
-          ∙ set_unseen es (c.args.addr / 4096) w.in-Some.page.now w.read.new.self found w.read.ensures.words_kept (ap (λ v. v.items) w.read.ensures.marks_kept)
+          ∙ ap (map page_of) ((c.get_mut.follows.holds w.read.new.self).0 ∙ set_value_same (is_at (nat_cmp (c.args.addr / 4096))) es w.read.new.self (found ∙ ap Some (sym w.read.ensures.kept)))
           ∙ c.self.view_is
       | in-None w ↦
           ap (λ s. map page_of s.pages.entries) w.self-inside-is
@@ -31,11 +33,11 @@ returns-clause-pages_kept c =
 
 pub invariant_of-self : goal.invariant_of-self
 invariant_of-self c =
-    subst ArePages (sym (returns-clause-pages_kept c)) (subst ArePages c.self.view_is c.self.invariant)
+    subst ArePages (sym (returns-clause-did c)) (subst ArePages c.self.view_is c.self.invariant)
 
 pub returns-clause-laws : goal.returns-clause-laws
 returns-clause-laws c =
-    let kept = returns-clause-pages_kept c in
+    let kept = returns-clause-did c in
     let old = c.args.self.now in
     let a = c.args.addr in
     let n = width c.args.size in
@@ -46,12 +48,12 @@ returns-clause-laws c =
     let within = aligned_in_word a c.args.size c.requires in
     let value : c.match-get_mut.result ≡ little_endian (paged_bytes old) a n = elim c.match-get_mut.branch [
       | in-Some w ↦
-          let p = page_of (a / 4096, w.in-Some.page.now) in
+          let p = contents_of w.in-Some.page.now in
           let found = sym c.get_mut.ensures.value ∙ ap option_copied_mut w.in-Some.is in
           let at : page_at old (a / 4096) ≡ Some p = seen ∙ page_at_lookup es (a / 4096) ∙ rw found refl in
           w.result-is ∙ w.read.ensures.value
           ∙ ap (λ x. little_endian (bytes_of_words p.words) x n) (and_mask a 12)
-          ∙ sym (value_in_page old p a n at (page_at_is old (a / 4096) p pages.full at).0.words_long within)
+          ∙ sym (value_in_page old p a n at (holds_at IsFull old (a / 4096) p pages.full at).words_long within)
       | in-None w ↦
           let none = sym c.get_mut.ensures.value ∙ ap option_copied_mut w.in-None.is in
           let at : page_at old (a / 4096) ≡ None = seen ∙ page_at_lookup es (a / 4096) ∙ rw none refl in
@@ -64,8 +66,5 @@ returns-clause-laws c =
       writable_kept = ap paged_writable kept;
       layout_kept = ap paged_layout kept;
       lawful = lawful_pages old a n;
-      ends = pages_end old pages.full;
+      ends = pages_end old pages.numbers_fit;
     }
-
-pub returns-clause-did : goal.returns-clause-did
-returns-clause-did c = returns-clause-pages_kept c
