@@ -33,6 +33,21 @@ impl Read for Failing<'_> {
     }
 }
 
+// A reader that counts its calls. The second tells the end, and each later one gives a byte more.
+#[derive(Drop)]
+struct Resuming {
+    calls: u8,
+}
+
+impl Read for Resuming {
+    fn read(&mut self, buf: &mut [u8]) -> io::Result<usize> {
+        self.calls = self.calls.saturating_add(1);
+        let count = if self.calls == 2 { 0 } else { buf.len().min(1) };
+        buf[..count].copy_from_slice(&[self.calls][..count]);
+        Ok(count)
+    }
+}
+
 fn zeros(alloc: Global, count: usize) -> Result<VecMemory, AllocError> {
     Ok(VecMemory::new(vec![in alloc; 0; count]?))
 }
@@ -142,6 +157,18 @@ fn takes_a_reader_in_any_pieces(rt: HostRuntime) -> Result<(), Fail> {
         assert!(rt; answer.is_ok());
         assert_eq!(rt; memory.mem.as_slice(), [0x04030201, 0x08070605].as_slice());
     }
+    Ok(())
+}
+
+#[test]
+fn is_not_asked_after_the_end(rt: HostRuntime) -> Result<(), Fail> {
+    let mut memory = zeros(rt.alloc(), 1)?;
+    let mut reader = Resuming { calls: 0 };
+    let answer = read_to_memory(&mut reader, &mut memory, 0);
+    assert_eq!(rt;
+        (answer.is_ok(), reader.calls, memory.mem.as_slice()),
+        (true, 2, [0x01].as_slice())
+    );
     Ok(())
 }
 
