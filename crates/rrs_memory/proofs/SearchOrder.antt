@@ -1,7 +1,7 @@
 -- How the regions of a space are found in the order of their bases, and what one more region leaves of that order.
-use Rattle.std.proofs.Common.{◌≡◌, ◌⊎◌, ℕ, zero, suc, ◌+◌, ◌-◌, ◌/◌, ◌^◌, ◌<◌, ◌≤◌, min, List, [], ◌∷◌, ◌++◌, length, map, get_or, set, Some, false, All, Any, inl, inr, refl, sym, ap, ◌∙◌, arith}
+use Rattle.std.proofs.Common.{◌≡◌, ◌⊎◌, ℕ, zero, suc, ◌+◌, ◌-◌, ◌*◌, ◌/◌, ◌^◌, ◌<◌, ◌≤◌, min, add-one, List, [], ◌∷◌, ◌++◌, length, map, get_or, set, Some, false, All, Any, inl, inr, refl, sym, ap, ◌∙◌, arith}
 use Rattle.std.specs.List.{slice_get, insert}
-use Rattle.std.proofs.Math.Nat.{pow-succ'}
+use Rattle.std.proofs.Math.Nat.{pow-succ', mul_assoc, mul-le-mul_right}
 use Rattle.std.proofs.lemmas.Nat.{pow_pos}
 use Rattle.std.proofs.lemmas.Bool.{cases_lt, cases_eq}
 use Rattle.std.proofs.lemmas.Bool.Decides.{nat_tests}
@@ -44,6 +44,18 @@ pub digits_room : (len n : ℕ) → len ≤ n → len - 0 < 2 ^ (binary_digits n
 digits_room len n few =
     let all : binary_digits n - 0 ≡ binary_digits n = omega arith in
     rw all (omega (arith, below_digits n, few))
+
+-- before the first round nothing is ruled out
+pub none_ruled_out : (len : ℕ) → len + 2 ≤ (len - 0 + 2) * 2 ^ 0
+none_ruled_out len = omega arith
+
+-- a round rules out one and the smaller half of the others at most
+pub one_round : (len n rest c : ℕ) → n ≤ 2 * rest + 2 → len + 2 ≤ (n + 2) * 2 ^ c → len + 2 ≤ (rest + 2) * 2 ^ (c + 1)
+one_round len n rest c half before =
+    let two : 2 ^ (c + 1) ≡ 2 * 2 ^ c = rw add-one (omega (arith, pow-succ' 2 c)) in
+    let scaled : (n + 2) * 2 ^ c ≤ ((rest + 2) * 2) * 2 ^ c = mul-le-mul_right (2 ^ c) (omega arith) in
+    let joined : ((rest + 2) * 2) * 2 ^ c ≡ (rest + 2) * 2 ^ (c + 1) = mul_assoc (rest + 2) 2 (2 ^ c) ∙ ap (λ x. (rest + 2) * x) (sym two) in
+    omega (arith, before, scaled, joined)
 
 -- ---- the order
 

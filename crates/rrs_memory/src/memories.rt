@@ -1,7 +1,7 @@
 //! Memories for a simulator.
 
 ghost use Rattle.std.specs.Prelude.{◌≡◌, ◌≢◌, ℕ, ◌+◌, ◌*◌, ◌/◌, ◌%◌, ◌^◌, ◌≤◌, length};
-ghost use Rattle.std.specs.Prelude.{slice_index, vec_len};
+ghost use Rattle.std.specs.Prelude.{slice_index};
 ghost use Rattle.std.specs.Bool.{OnTrue, OnFalse};
 ghost use Rattle.rrs_memory.specs.Bytes.{width, little_endian, all_writable, store, Reads, Writes};
 ghost use Rattle.rrs_memory.specs.VecBytes.{bytes_of_words, lies_in_words};

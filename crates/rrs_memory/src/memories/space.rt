@@ -2,13 +2,13 @@
 
 ghost use Rattle.std.specs.Prelude.{◌≡◌, ◌↔◌, ℕ, ◌+◌, ◌-◌, ◌%◌, ◌^◌, ◌<◌, ◌≤◌, false};
 ghost use Rattle.std.specs.Prelude.{[], ◌∷◌, ◌++◌, length, slice_index, map, All, Any, IsTrue, Err, IfOk, OnOk, OnErr};
-ghost use Rattle.std.specs.Prelude.{MatchOption, option_copied};
+ghost use Rattle.std.specs.Prelude.{◌*◌, None, MatchOption, option_copied};
 ghost use Rattle.std.specs.Option.{option_copied_mut};
 ghost use Rattle.std.specs.Borrow.{sem};
 ghost use Rattle.rrs_memory.specs.Bytes.{width, Reads, Writes};
 ghost use Rattle.rrs_memory.specs.Spaces.{space_bytes, space_writable, space_layout, bounds, serves};
 ghost use Rattle.rrs_memory.specs.Spaces.{Overlaps, AreAligned, IsWordRegion, IsSpace, IsServedAt};
-ghost use Rattle.rrs_memory.specs.Spaces.{memory_at, OthersKept, ServedBecomes, CountsCompared, SpaceAccess};
+ghost use Rattle.rrs_memory.specs.Spaces.{memory_at, ServedBecomes, CountsCompared, SpaceAccess};
 ghost use Rattle.rrs_memory.specs.Spaces.{binary_digits};
 ghost use Rattle.rrs_memory.specs.SpaceFields.{region_of, base_at, IsSearchOrder};
 
@@ -148,6 +148,7 @@ fn count_of<M>(regions: &[MemoryRegion<M>], index: usize) -> u64
 }
 
 /// The index of the region that serves an address, and how many regions were compared to find it.
+/// Where none serves it, so many were compared that halving rules out each other one.
 #[inline]
 fn find<M: Memory>(
     regions: &[MemoryRegion<M>],
@@ -161,6 +162,7 @@ fn find<M: Memory>(
     ensures few { result.1 ≤ binary_digits (length regions.now) }
     ensures fewer { result.1 ≤ length by_base.now }
     ensures some { 0 < length by_base.now → 0 < result.1 }
+    ensures ruled_out { result.0 ≡ None → length by_base.now + 2 ≤ 2 * 2 ^ result.1 }
 {
     let mut low = 0;
     let mut high = by_base.len();

@@ -2,7 +2,7 @@ use Rattle.std.proofs.Common.{◌≡◌, ◌+◌, ◌-◌, ◌/◌, ◌<◌, len
 use Rattle.rrs_memory.specs.Spaces.{bounds, binary_digits}
 use Rattle.rrs_memory.specs.SpaceFields.{region_of}
 use Rattle.rrs_memory.proofs.RegionFields.{refuted}
-use Rattle.rrs_memory.proofs.SearchOrder.{digits_room, halved, order_few, begins_later, ends_earlier, field_base, field_found, field_ended, none_left}
+use Rattle.rrs_memory.proofs.SearchOrder.{digits_room, halved, none_ruled_out, one_round, order_few, begins_later, ends_earlier, field_base, field_found, field_ended, none_left}
 use Rattle.rrs_memory.proofs.memories.space.find.Goals as goal
 
 pub loop-low-init : goal.loop-low-init
@@ -13,6 +13,7 @@ loop-low-init g c = record {
   digits = omega arith;
   left = digits_room (length c.args.by_base.now) (length c.args.regions.now) (order_few c.args.regions.now c.args.by_base.now c.requires);
   fewer = omega arith;
+  ruled_out = none_ruled_out (length c.args.by_base.now);
   some = λ none. omega arith;
 }
 
@@ -50,6 +51,7 @@ loop-low-preserved-then-region-addr g c =
       after = old.after;
       digits = omega (arith, half.0, old.digits);
       left = rw fewer_left (half.1);
+      ruled_out = one_round (length order) (high - low) _ c.loop-low.compared (omega arith) old.ruled_out;
       fewer = omega (arith, old.fewer, c.loop-low-test.true);
       some = λ none. absurd (omega arith);
     }
@@ -74,6 +76,7 @@ loop-low-preserved g c =
       after = λ j late below. begins_later spans order middle j c.args.addr x.base c.requires late below base c.if-region-addr.false;
       digits = omega (arith, half.0, old.digits);
       left = rw fewer_left (half.1);
+      ruled_out = one_round (length order) (high - low) _ c.loop-low.compared (omega arith) old.ruled_out;
       fewer = omega (arith, old.fewer, c.loop-low-test.true);
       some = λ none. absurd (omega arith);
     }
@@ -81,3 +84,8 @@ loop-low-preserved g c =
 pub returns-clause-region : goal.returns-clause-region
 returns-clause-region g c =
     none_left c.args.regions.now c.args.by_base.now c.loop-low.low c.loop-low.high c.args.addr c.requires c.loop-low-test.false c.loop-low.invariant.before c.loop-low.invariant.after
+
+pub returns-clause-ruled_out : goal.returns-clause-ruled_out
+returns-clause-ruled_out g c = λ none.
+    let ended : c.loop-low.high - c.loop-low.low ≡ 0 = omega (arith, c.loop-low-test.false) in
+    rw ended at c.loop-low.invariant.ruled_out

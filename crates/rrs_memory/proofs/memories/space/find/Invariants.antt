@@ -1,4 +1,4 @@
-use Rattle.std.proofs.Common.{◌≡◌, ℕ, ◌+◌, ◌-◌, ◌^◌, ◌<◌, ◌≤◌, length, map, get_or}
+use Rattle.std.proofs.Common.{◌≡◌, ℕ, ◌+◌, ◌-◌, ◌*◌, ◌^◌, ◌<◌, ◌≤◌, length, map, get_or}
 use Rattle.rrs_memory.specs.Spaces.{bounds, binary_digits}
 use Rattle.rrs_memory.specs.SpaceFields.{region_of, base_at, size_at}
 use Rattle.rrs_memory.proofs.memories.space.find.Given as goal
@@ -11,6 +11,7 @@ invariant-loop-low g l = record {
   digits : l.compared ≤ binary_digits (length l.regions);
   left : l.high - l.low < 2 ^ (binary_digits (length l.regions) - l.compared);
   fewer : l.compared + (l.high - l.low) ≤ length l.by_base;
+  ruled_out : length l.by_base + 2 ≤ (l.high - l.low + 2) * 2 ^ l.compared;
   some : l.compared ≡ 0 → l.high - l.low ≡ length l.by_base;
 }
 
