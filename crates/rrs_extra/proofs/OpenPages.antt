@@ -1,12 +1,12 @@
 -- Pages without a gap and with no read-only word: their words one after another.
-use Rattle.std.proofs.Common.{◌≡◌, ℕ, zero, suc, ◌+◌, ◌*◌, ◌/◌, ◌%◌, ◌^◌, ◌<◌, ◌≤◌, List, [], ◌∷◌, ◌++◌, length, All, slice_get, slice_index, slice_index_or, replicate, Option, Some, None, option_map, is_some, Bool, true, false, not, if◌then◌else◌, inl, inr, refl, sym, subst, ap, ◌∙◌, arith, length-append}
+use Rattle.std.proofs.Common.{◌≡◌, ℕ, zero, suc, ◌+◌, ◌*◌, ◌/◌, ◌%◌, ◌^◌, ◌<◌, ◌≤◌, List, [], ◌∷◌, ◌++◌, length, All, slice_get, slice_index, slice_index_or, replicate, Option, Some, None, option_map, is_some, Bool, true, false, not, if◌then◌else◌, inl, inr, refl, sym, ap, ◌∙◌, arith, length-append}
 use Rattle.std.specs.List.{range_with_len}
 use Rattle.std.specs.Map.{values_of}
 use Rattle.std.proofs.Math.Path.{fun_ext}
-use Rattle.std.proofs.lemmas.Bool.{cases_eq, cases_lt, and_right, le-ltb, cond-false}
+use Rattle.std.proofs.lemmas.Bool.{cases_lt, and_right, le-ltb, cond-false}
 use Rattle.std.proofs.lemmas.List.{get_or_append_left}
 use Rattle.std.proofs.lemmas.List.Elements.{All-head, All-tail, All-cons, All-nil, All-same, All-replicate, All-get_or}
-use Rattle.std.proofs.lemmas.Option.{none-some, same_Some, slice_get-get_or, slice_get_past}
+use Rattle.std.proofs.lemmas.Option.{slice_get-get_or, slice_get_past}
 use Rattle.rrs_lib.specs.VecBytes.{bytes_of_words, lies_in_words}
 use Rattle.rrs_lib.proofs.VecWords.{byte_at, byte_past}
 use Rattle.rrs_extra.specs.Pages.{Contents, contents, Page, page, page_at, paged_bytes, paged_writable, paged_layout, IsFull, ArePages}

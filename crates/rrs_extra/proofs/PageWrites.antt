@@ -1,9 +1,9 @@
 -- What a write leaves of a memory of pages: it goes into one page, or there is none for it.
-use Rattle.std.proofs.Common.{◌≡◌, ℕ, ◌/◌, ◌%◌, ◌+◌, ◌^◌, ◌<◌, ◌≤◌, List, length, slice_index, slice_index_or, All, Option, Some, None, option_map, Bool, true, false, not, refl, sym, subst, ap, ◌∙◌}
+use Rattle.std.proofs.Common.{◌≡◌, ℕ, ◌/◌, ◌%◌, ◌+◌, ◌^◌, ◌<◌, ◌≤◌, List, length, slice_index, slice_index_or, All, Some, None, option_map, Bool, true, false, not, refl, sym, subst, ap, ◌∙◌}
 use Rattle.std.specs.Bool.{OnTrue, OnFalse}
 use Rattle.std.specs.List.Sorted.{IsStrictlyIncreasing}
 use Rattle.std.specs.Ordering.{nat_cmp}
-use Rattle.std.specs.Map.{set_value, keys_of, values_of}
+use Rattle.std.specs.Map.{set_value, values_of}
 use Rattle.std.specs.BTreeMap.{is_at}
 use Rattle.std.proofs.lemmas.Bool.{true≢false, OnTrue_at, OnFalse_at, OnTrue_from, OnFalse_from}
 use Rattle.std.proofs.lemmas.Map.{keys-set_value}

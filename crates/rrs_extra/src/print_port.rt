@@ -12,8 +12,8 @@ use std::alloc::{AllocError, Global};
 /// A port of one byte at address 0, which logs the bytes that are written to it.
 ///
 /// What was written last reads back. The log has room for as many bytes as [PrintPort::new] was
-/// asked for, and no access changes that. A byte that finds no room is counted, and not logged: what
-/// is writable never changes by an access, so the write can't be refused.
+/// asked for, and no access changes that. A byte that finds no room is counted, and not logged:
+/// what is writable never changes by an access, so the write can't be refused.
 #[derive(Drop)]
 pub struct PrintPort {
     /// The byte that was written last, and 0 before the first.
