@@ -47,11 +47,24 @@ module _ (bytes : ByteMap) (writable : ℕ → Bool) (first : little_endian byte
   counts_down (suc n ∷ rest) last some small = (rest, rounds n rest last small)
   counts_down _ last some small = absurd (omega (arith, some))
 
--- what a call of `run` returned
+-- what a call of `run` returned and left
+pub record CountsDown (s t : State) (steps : ℕ) (e : Option InstructionException) : Type 0 where
+  pub steps_made : steps ≡ 2 * reg s 1
+  pub no_fault : e ≡ None
+  pub x1 : reg t 1 ≡ 0
+  pub pc : t.pc ≡ 8
+  pub bytes_kept : t.bytes ≡ s.bytes
+
 pub counted : (s t : State) (limit steps : ℕ) (e : Option InstructionException) → s.pc ≡ 0 → 0 < reg s 1 → reg s 1 < 2 ^ 32
-    → little_endian s.bytes 0 4 ≡ Some 0xfff08093 → little_endian s.bytes 4 4 ≡ Some 0xfe009ee3 → limit ≡ 2 * reg s 1 → IsOnlyRunUntil limit s steps e t → (reg t 1 ≡ 0) × (t.pc ≡ 8)
+    → little_endian s.bytes 0 4 ≡ Some 0xfff08093 → little_endian s.bytes 4 4 ≡ Some 0xfe009ee3 → limit ≡ 2 * reg s 1 → IsOnlyRunUntil limit s steps e t → CountsDown s t steps e
 counted s t limit steps e start some small first second limit_is only =
     let run = counts_down s.bytes s.writable first second s.registers s.last some small in
     let only_from : State → Type 0 = λ x. IsOnlyRunUntil limit x steps e t in
     let same = returned-limit (2 * reg s 1) (at (0 ∷ run.0) 8 None s.bytes s.writable) (subst only_from (at_pc s 0 start) only) limit_is run.1 in
-    (ap (λ (x : State). reg x 1) same.2, ap (λ (x : State). x.pc) same.2)
+    record {
+      steps_made = same.0;
+      no_fault = same.1;
+      x1 = ap (λ (x : State). reg x 1) same.2;
+      pc = ap (λ (x : State). x.pc) same.2;
+      bytes_kept = ap (λ (x : State). x.bytes) same.2;
+    }

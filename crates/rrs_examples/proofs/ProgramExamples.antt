@@ -1,13 +1,12 @@
 -- The memories of the tests hold the programs.
 use Rattle.std.specs.Prelude.{codes}
-use Rattle.std.proofs.Common.{◌≡◌, ℕ, ◌∷◌, ◌++◌, ◌-◌, take, length, replicate, Bool, true, false, List, [], refl, sym, ap, subst, ◌∙◌}
+use Rattle.std.proofs.Common.{◌≡◌, ℕ, ◌∷◌, true, List, [], refl, sym, subst}
 use Rattle.rrs_lib.specs.declared.memories.VecMemory.{VecMemory}
 use Rattle.rrs_lib.specs.Bytes.{ByteMap}
 use Rattle.rrs_lib.specs.VecBytes.{bytes_of_words}
 use Rattle.rrs_lib.specs.Spaces.{Region, space_bytes}
-use Rattle.rrs_extra.specs.Pages.{Page, page, inserted, paged_bytes}
 use Rattle.rrs_extra.specs.Programs.{HoldsWords, sum_loop_program, gcd_program, copy_words_program}
-use Rattle.rrs_examples.specs.ProgramExamples.{words_to_add, words_of_program, three_words, two_regions, pages_to_add, words_of_gcd, words_to_copy, words_to_print}
+use Rattle.rrs_examples.specs.ProgramExamples.{words_to_add, words_of_program, three_words, two_regions, words_of_gcd, words_to_copy, words_to_print}
 use Rattle.rrs_extra.specs.Printing.{HoldsString, put_string_program}
 use Rattle.rrs_extra.proofs.PutString.{string_by_test}
 use Rattle.rrs_extra.proofs.Words.{holds_test, holds_by_test}
@@ -26,22 +25,6 @@ holds_gcd words are = held words_of_gcd gcd_program words refl are
 
 pub holds_copy_words : (words : List ℕ) → words ≡ words_to_copy → HoldsWords (bytes_of_words words) 0 copy_words_program
 holds_copy_words words are = held words_to_copy copy_words_program words refl are
-
--- one page, added to none
-pub one_page : (pages old : List Page) (words : List ℕ) (marks : List Bool) → pages ≡ inserted (page 0 words marks) old → old ≡ [] → words ≡ words_to_add ++ replicate 1013 0 → marks ≡ replicate 1024 false → pages ≡ pages_to_add
-one_page pages old words marks is empty words_are marks_are = is ∙ (λ i. inserted (page 0 (words_are i) (marks_are i)) (empty i))
-
--- the words to add, made as long as a page
-pub made_long : (new words : List ℕ) (len : ℕ) → new ≡ take 1024 words ++ replicate (1024 - len) 0 → words ≡ words_to_add → len ≡ length words → new ≡ words_to_add ++ replicate 1013 0
-made_long new words len is words_are len_is =
-    let eleven : len ≡ 11 = len_is ∙ ap length words_are in
-    is ∙ (λ i. take 1024 (words_are i) ++ replicate (1024 - eleven i) 0)
-
--- the pages hold the program, the word behind it, and the words to add
-pub pages_hold_sum_loop : (pages : List Page) → pages ≡ pages_to_add → HoldsWords (paged_bytes pages) 0 sum_loop_program
-pages_hold_sum_loop pages is =
-    let P : List Page → Type 0 = λ p. HoldsWords (paged_bytes p) 0 sum_loop_program in
-    subst P (sym is) (holds_by_test (paged_bytes pages_to_add) 0 sum_loop_program refl)
 
 -- the bytes of two regions of words
 abbrev in_regions : List ℕ → List ℕ → ByteMap

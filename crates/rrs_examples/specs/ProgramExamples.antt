@@ -1,8 +1,7 @@
 -- Memories of the tests of programs.
-use Rattle.std.specs.Prelude.{ℕ, List, [], ◌∷◌, ◌++◌, replicate, false}
+use Rattle.std.specs.Prelude.{ℕ, List, [], ◌∷◌, ◌++◌}
 use Rattle.rrs_lib.specs.declared.memories.VecMemory.{VecMemory}
 use Rattle.rrs_lib.specs.Spaces.{Region}
-use Rattle.rrs_extra.specs.Pages.{Page, page}
 use Rattle.rrs_extra.specs.Programs.{sum_loop_program, gcd_program, copy_words_program}
 use Rattle.rrs_extra.specs.Printing.{put_string_program}
 
@@ -15,10 +14,6 @@ three_words = 5 ∷ 7 ∷ 0xffffffff ∷ []
 
 abbrev pub words_to_add : List ℕ
 words_to_add = words_of_program ++ three_words
-
--- page 0, writable, which begins with the program and the words to add
-abbrev pub pages_to_add : List Page
-pages_to_add = page 0 (words_to_add ++ replicate 1013 0) (replicate 1024 false) ∷ []
 
 -- eight words at 0, and three at 0x20
 abbrev pub two_regions : VecMemory → VecMemory → List (Region VecMemory)

@@ -3,12 +3,14 @@
 ghost use Rattle.std.specs.Prelude.{◌≡◌, ◌∷◌, [], IfOk, vec_len, replicate, false};
 ghost use Rattle.rrs_extra.specs.Pages.{page};
 
+use crate::machines::{end_at, faulted, hart_of, run_over};
 use rrs_extra::PagedMemory;
 use rrs_extra::laws::{agree_each, same_bytes, same_run};
 use rrs_lib::instruction_executor::{InstructionException, InstructionExecutor, RunEnd};
 use rrs_lib::memories::{BoxedMemory, MemorySpace, VecMemory};
-use rrs_lib::{HartState, Memory};
+use rrs_lib::{HartState, MemAccessSize, Memory};
 use std::alloc::{AllocError, Global};
+use std::process::Abort;
 use std::test::Fail;
 
 /// A memory of page 0 alone.
@@ -22,46 +24,6 @@ fn one_page(alloc: Global, words: Vec<u32>, read_only: Vec<bool>) -> Result<Page
         Ok(()) => Ok(pages),
         Err(_) => Err(AllocError),
     }
-}
-
-#[test]
-fn a_page_and_its_words_answer_alike(rt: HostRuntime) -> Result<(), Fail> {
-    let alloc = rt.alloc();
-    let mut words = [0; 1024];
-    words[0] = 0x1234_b137;
-    words[1] = 0xf387_e1b7;
-    words[2] = 0x0031_00b3;
-    let unmarked = Vec::from_slice(alloc, &[false; 1024])?;
-    let mut pages = one_page(alloc, words.to_vec(alloc)?, unmarked)?;
-    let mut memory = VecMemory::new(words.to_vec(alloc)?);
-    same_bytes(&pages, &memory, 1);
-    let mut first_hart = HartState::new();
-    let mut second_hart = HartState::new();
-    let mut first = InstructionExecutor {
-        mem: &mut pages,
-        hart_state: &mut first_hart,
-    };
-    let mut second = InstructionExecutor {
-        mem: &mut memory,
-        hart_state: &mut second_hart,
-    };
-    let mut first_answers = [Ok(()), Ok(()), Ok(()), Ok(())];
-    let mut second_answers = [Ok(()), Ok(()), Ok(()), Ok(())];
-    agree_each(
-        &mut first,
-        &mut second,
-        &mut first_answers,
-        &mut second_answers,
-    );
-    let expected = [
-        Ok(()),
-        Ok(()),
-        Ok(()),
-        Err(InstructionException::IllegalInstruction(0xc, 0)),
-    ];
-    let answers = (first_answers.as_slice(), second_answers.as_slice());
-    assert_eq!(rt; answers, (expected.as_slice(), expected.as_slice()));
-    Ok(())
 }
 
 /// A program that loads the word at 8, stores it at 12, and loads that again twice.
@@ -96,27 +58,30 @@ fn five_steps<A: Memory, B: Memory>(first: &mut A, second: &mut B) -> (FiveAnswe
     (first_answers, second_answers)
 }
 
-/// The answers of the program, over memories of its four words.
-const PROGRAM_ANSWERS: FiveAnswers = [
-    Ok(()),
-    Ok(()),
-    Ok(()),
-    Ok(()),
-    Err(InstructionException::FetchError(16)),
-];
+/// Asserts that the program gave its answers on both machines: four steps are `Ok`, and the fifth
+/// has this fault.
+fn same_answers(
+    rt: &impl Abort,
+    seen: &(FiveAnswers, FiveAnswers),
+    fault: &Result<(), InstructionException>,
+) {
+    for answers in [&seen.0, &seen.1] {
+        assert!(rt; answers[..4] == [Ok(()), Ok(()), Ok(()), Ok(())] && answers[4] == *fault);
+    }
+}
 
 #[test]
-fn a_box_answers_as_what_it_holds(rt: HostRuntime) -> Result<(), Fail> {
+fn a_page_and_its_words_answer_alike(rt: HostRuntime) -> Result<(), Fail> {
     let alloc = rt.alloc();
-    let held = VecMemory::new(PROGRAM.to_vec(alloc)?);
-    let mut boxed = BoxedMemory {
-        memory: Box::new(alloc, held)?,
-    };
-    let mut memory = VecMemory::new(PROGRAM.to_vec(alloc)?);
-    let (first, second) = five_steps(&mut boxed, &mut memory);
-    let answers = (first.as_slice(), second.as_slice());
-    let expected = PROGRAM_ANSWERS.as_slice();
-    assert_eq!(rt; answers, (expected, expected));
+    let mut words = [0; 1024];
+    words[..4].copy_from_slice(&PROGRAM);
+    let unmarked = Vec::from_slice(alloc, &[false; 1024])?;
+    let mut pages = one_page(alloc, words.to_vec(alloc)?, unmarked)?;
+    let mut memory = VecMemory::new(words.to_vec(alloc)?);
+    same_bytes(&pages, &memory, 1);
+    let answers = five_steps(&mut pages, &mut memory);
+    let illegal = Err(InstructionException::IllegalInstruction(16, 0));
+    same_answers(&rt, &answers, &illegal);
     Ok(())
 }
 
@@ -159,10 +124,9 @@ fn two_regions_answer_as_all_their_words(rt: HostRuntime) -> Result<(), Fail> {
     let second = VecMemory::new(Vec::from_slice(alloc, &PROGRAM[2..])?);
     let mut space = two_regions(alloc, first, second)?;
     let mut memory = VecMemory::new(Vec::from_slice(alloc, &PROGRAM)?);
-    let (first, second) = five_steps(&mut space, &mut memory);
-    let answers = (first.as_slice(), second.as_slice());
-    let expected = PROGRAM_ANSWERS.as_slice();
-    assert_eq!(rt; answers, (expected, expected));
+    let answers = five_steps(&mut space, &mut memory);
+    let unmapped = Err(InstructionException::FetchError(16));
+    same_answers(&rt, &answers, &unmapped);
     Ok(())
 }
 
@@ -173,25 +137,14 @@ fn a_space_in_a_space_answers_as_its_words(rt: HostRuntime) -> Result<(), Fail> 
     let inner = space_around(alloc, 16, words)?;
     let mut space = space_around(alloc, 16, inner)?;
     let mut memory = VecMemory::new(Vec::from_slice(alloc, &PROGRAM)?);
-    let (first, second) = five_steps(&mut space, &mut memory);
-    let answers = (first.as_slice(), second.as_slice());
-    let expected = PROGRAM_ANSWERS.as_slice();
-    assert_eq!(rt; answers, (expected, expected));
+    let answers = five_steps(&mut space, &mut memory);
+    let unmapped = Err(InstructionException::FetchError(16));
+    same_answers(&rt, &answers, &unmapped);
     Ok(())
 }
 
-/// A step from address 0: its answer, and the pc after it.
-fn one_step<M: Memory>(mem: &mut M) -> (Result<(), InstructionException>, u32) {
-    let mut hart = HartState::new();
-    let mut executor = InstructionExecutor {
-        mem,
-        hart_state: &mut hart,
-    };
-    let answer = executor.step();
-    (answer, hart.pc)
-}
-
-// A word that is read-only is no part of a memory of the same words: there the store is made.
+// A store to a word that is read-only, sw x0, 4(x0): over a memory of the same words it is made.
+// The fault comes again.
 #[test]
 fn what_is_writable_tells_memories_apart(rt: HostRuntime) -> Result<(), Fail> {
     let alloc = rt.alloc();
@@ -200,12 +153,16 @@ fn what_is_writable_tells_memories_apart(rt: HostRuntime) -> Result<(), Fail> {
     words[1] = 5;
     let mut marks = [false; 1024];
     marks[1] = true;
-    let marks = Vec::from_slice(alloc, &marks)?;
-    let mut pages = one_page(alloc, Vec::from_slice(alloc, &words)?, marks)?;
-    let mut memory = VecMemory::new(Vec::from_slice(alloc, &words)?);
-    let steps = (one_step(&mut pages), one_step(&mut memory));
-    let fault = Err(InstructionException::StoreAccessFault(4));
-    assert_eq!(rt; steps, ((fault, 0), (Ok(()), 4)));
+    let mut pages = one_page(alloc, words.to_vec(alloc)?, marks.to_vec(alloc)?)?;
+    let mut memory = VecMemory::new(words.to_vec(alloc)?);
+    let ends = [
+        run_over(&mut pages, &mut hart_of(0, &[]), 10),
+        run_over(&mut pages, &mut hart_of(0, &[]), 10),
+        run_over(&mut memory, &mut hart_of(0, &[]), 10),
+    ];
+    let refused = || faulted(0, InstructionException::StoreAccessFault(4));
+    let read = pages.read_mem(4, MemAccessSize::Word);
+    assert!(rt; ends == [refused(), refused(), end_at(1, 4)] && read == Some(5));
     Ok(())
 }
 
@@ -232,21 +189,16 @@ fn both_runs<A: Memory, B: Memory>(first: &mut A, second: &mut B, limit: u64) ->
 #[test]
 fn runs_to_one_limit_end_alike(rt: HostRuntime) -> Result<(), Fail> {
     let alloc = rt.alloc();
-    for (limit, steps, exception) in [
-        (0, 0, None),
-        (3, 3, None),
-        (4, 4, None),
-        (10, 4, Some(InstructionException::FetchError(16))),
-    ] {
+    let unmapped = || Some(InstructionException::FetchError(16));
+    for (limit, steps, exception) in [(0, 0, None), (3, 3, None), (10, 4, unmapped())] {
         let mut memory = VecMemory::new(PROGRAM.to_vec(alloc)?);
         let held = VecMemory::new(PROGRAM.to_vec(alloc)?);
         let mut boxed = BoxedMemory {
             memory: Box::new(alloc, held)?,
         };
-        let ends = both_runs(&mut memory, &mut boxed, limit);
+        let (end, other) = both_runs(&mut memory, &mut boxed, limit);
         let expected = RunEnd { steps, exception };
-        let both = (&ends.0, &ends.1);
-        assert_eq!(rt; both, (&expected, &expected), "limit {limit}");
+        assert!(rt; end == expected && other == expected, "limit {limit}");
     }
     Ok(())
 }

@@ -2,8 +2,8 @@
 //!
 //! They are written as a user's crate would be: over what `rrs_lib` and `rrs_extra` offer to every
 //! crate. The processor `call_counter` and its use in `coverage` are those of `docs/PROCESSORS.md`,
-//! the device `output_port` that of `docs/MEMORIES.md`, and `count_down` the program that
-//! `docs/PROGRAMS.md` proves step by step. All of it is built with the tests.
+//! and `count_down` is the program that `docs/PROGRAMS.md` proves step by step. All of it is built
+//! with the tests.
 
 #![tactic(auto)]
 
@@ -16,7 +16,7 @@ mod coverage;
 #[cfg(test)]
 mod independence;
 #[cfg(test)]
-mod output_port;
+mod machines;
 #[cfg(test)]
 mod pages;
 #[cfg(test)]

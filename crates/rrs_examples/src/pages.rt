@@ -1,10 +1,9 @@
-//! What memories of pages answer at chosen addresses, and what programs do over them.
+//! What memories of pages answer at chosen addresses.
 
-ghost use Rattle.std.specs.Prelude.{◌≡◌, ◌<◌, IfOk, vec_len};
+ghost use Rattle.std.specs.Prelude.{◌≡◌, ◌^◌, ◌<◌, IfOk, vec_len};
 
 use rrs_extra::{PageError, PagedMemory};
-use rrs_lib::instruction_executor::{InstructionException, InstructionExecutor};
-use rrs_lib::{HartState, MemAccessSize, Memory};
+use rrs_lib::{MemAccessSize, Memory};
 use std::alloc::{AllocError, Global};
 use std::test::Fail;
 
@@ -37,24 +36,21 @@ fn a_page_is_read_and_written_but_for_its_read_only_word(rt: HostRuntime) -> Res
     let mut memory = PagedMemory::new(alloc);
     let words = words_of(alloc, &[0, 0xdead_beef])?;
     let added = memory.add_page(0, words, one_read_only(alloc, 1)?);
-    let others = words_of(alloc, &[1, 2, 3])?;
-    let again = memory.add_page(0, others, one_read_only(alloc, 2)?);
-    let pages = (added, again, memory.page_count());
-    assert_eq!(rt; pages, (Ok(()), Err(PageError::PageTaken), 1));
-    let before = memory.read_mem(7, MemAccessSize::Byte);
-    let byte = memory.write_mem(7, MemAccessSize::Byte, 0);
-    let word = memory.write_mem(4, MemAccessSize::Word, 0);
-    let after = memory.read_mem(4, MemAccessSize::Word);
-    let read_only = (before, byte, word, after);
-    assert_eq!(rt; read_only, (Some(0xde), false, false, Some(0xdead_beef)));
-    let written = memory.write_mem(8, MemAccessSize::Word, 5);
-    let word = (written, memory.read_mem(8, MemAccessSize::Word));
-    let written = memory.write_mem(4092, MemAccessSize::HalfWord, 0x1_2345);
-    let last = (written, memory.read_mem(4092, MemAccessSize::Word));
-    assert_eq!(rt; (word, last), ((true, Some(5)), (true, Some(0x2345))));
-    let read = memory.read_mem(4096, MemAccessSize::Word);
-    let outside = (read, memory.write_mem(4096, MemAccessSize::Byte, 1));
-    assert_eq!(rt; outside, (None, false));
+    let written = [
+        memory.write_mem(7, MemAccessSize::Byte, 0),
+        memory.write_mem(4, MemAccessSize::Word, 0),
+        memory.write_mem(8, MemAccessSize::Word, 5),
+        memory.write_mem(4092, MemAccessSize::HalfWord, 0x1_2345),
+        memory.write_mem(4096, MemAccessSize::Byte, 1),
+    ];
+    let read = [
+        memory.read_mem(7, MemAccessSize::Byte),
+        memory.read_mem(8, MemAccessSize::Word),
+        memory.read_mem(4092, MemAccessSize::Word),
+        memory.read_mem(4096, MemAccessSize::Word),
+    ];
+    let expected = [Some(0xde), Some(5), Some(0x2345), None];
+    assert!(rt; added.is_ok() && written == [false, false, true, true, false] && read == expected);
     Ok(())
 }
 
@@ -77,97 +73,45 @@ fn some_page(alloc: Global, word: u32) -> Result<(Vec<u32>, Vec<bool>), AllocErr
     }
 }
 
+/// Adds a page of a word, and again where there was no memory: what the calls answered, and how
+/// many pages there were after the first of two.
+fn added_at_last(
+    memory: &mut PagedMemory,
+    alloc: Global,
+    number: u32,
+    word: u32,
+) -> Result<(Result<(), PageError>, Option<usize>), AllocError>
+    requires { number < 2 ^ 20 }
+{
+    let (words, marks) = some_page(alloc, word)?;
+    let added = memory.add_page(number, words, marks);
+    if added == Err(PageError::OutOfMemory) {
+        let count = memory.page_count();
+        let (words, marks) = some_page(alloc, word)?;
+        return Ok((memory.add_page(number, words, marks), Some(count)));
+    }
+    Ok((added, None))
+}
+
 /// Whichever allocation fails, the pages are as before, and the same call then adds the page. A
-/// number that is taken is refused for that, whatever memory there is.
+/// number that is taken is refused for that, whatever memory there is. The words are those of the
+/// page that was added, in whatever order the numbers came.
 #[test]
 fn a_refused_page_may_be_added_again(rt: HostRuntime) -> Result<(), Fail> {
     let alloc = rt.alloc();
     let mut memory = PagedMemory::new(alloc);
     for count in 0..13 {
-        let number = (count * 5 + 7) % 13;
-        let (words, marks) = some_page(alloc, number + 100)?;
-        let mut added = memory.add_page(number, words, marks);
-        if added == Err(PageError::OutOfMemory) {
-            let left = (memory.page_count(), memory.has_page(number));
-            assert_eq!(rt; left, (count as usize, false));
-            let (words, marks) = some_page(alloc, number + 100)?;
-            added = memory.add_page(number, words, marks);
-        }
+        let number = (count as u32 * 5 + 7) % 13;
+        let (added, pages) = added_at_last(&mut memory, alloc, number, number + 100)?;
         let (words, marks) = some_page(alloc, 0)?;
         let again = memory.add_page(number, words, marks);
-        assert_eq!(rt; (added, again), (Ok(()), Err(PageError::PageTaken)));
+        assert!(rt;
+            added == Ok(()) && pages.unwrap_or(count) == count && again == Err(PageError::PageTaken)
+        );
     }
     for number in 0..13 {
         let first = memory.read_mem(number * 4096, MemAccessSize::Word);
-        assert_eq!(rt; first, Some(number + 100));
+        assert!(rt; first == Some(number + 100) && memory.has_page(number));
     }
-    Ok(())
-}
-
-#[test]
-fn pages_are_added_in_any_order(rt: HostRuntime) -> Result<(), Fail> {
-    let alloc = rt.alloc();
-    let mut memory = PagedMemory::new(alloc);
-    for number in [7, 0xfffff, 0, 3] {
-        let words = words_of(alloc, &[number + 1])?;
-        assert_eq!(rt;
-            memory.add_page(number, words, one_read_only(alloc, 9)?),
-            Ok(())
-        );
-    }
-    for number in [0, 3, 7, 0xfffff] {
-        let read = memory.read_mem(number << 12, MemAccessSize::Word);
-        assert_eq!(rt; read, Some(number + 1), "page {number:#x}");
-    }
-    let left = (
-        memory.page_count(),
-        memory.read_mem(0x1000, MemAccessSize::Word),
-    );
-    assert_eq!(rt; left, (4, None));
-    Ok(())
-}
-
-#[test]
-fn a_program_runs_off_the_last_page(rt: HostRuntime) -> Result<(), Fail> {
-    let alloc = rt.alloc();
-    let mut memory = PagedMemory::new(alloc);
-    let mut words = words_of(alloc, &[])?;
-    words[1023] = 0x0000_0013;
-    let added = memory.add_page(0xfffff, words, one_read_only(alloc, 1023)?);
-    let mut hart = HartState::new();
-    hart.pc = 0xffff_fffc;
-    let mut executor = InstructionExecutor {
-        mem: &mut memory,
-        hart_state: &mut hart,
-    };
-    let first = executor.step();
-    let pc = executor.hart_state.pc;
-    let left = (added, first, pc, executor.step());
-    let fault = Err(InstructionException::FetchError(0));
-    assert_eq!(rt; left, (Ok(()), Ok(()), 0, fault));
-    Ok(())
-}
-
-#[test]
-fn a_store_to_a_read_only_word_faults(rt: HostRuntime) -> Result<(), Fail> {
-    let alloc = rt.alloc();
-    let mut memory = PagedMemory::new(alloc);
-    let words = words_of(alloc, &[0x0000_2223, 5])?;
-    let added = memory.add_page(0, words, one_read_only(alloc, 1)?);
-    let mut hart = HartState::new();
-    let mut executor = InstructionExecutor {
-        mem: &mut memory,
-        hart_state: &mut hart,
-    };
-    let mut answers = [Ok(()), Ok(())];
-    executor.step_each(&mut answers);
-    let fault = [
-        Err(InstructionException::StoreAccessFault(4)),
-        Err(InstructionException::StoreAccessFault(4)),
-    ];
-    let pc = executor.hart_state.pc;
-    let read = memory.read_mem(4, MemAccessSize::Word);
-    let left = (added, answers.as_slice(), pc, read);
-    assert_eq!(rt; left, (Ok(()), fault.as_slice(), 0, Some(5)));
     Ok(())
 }

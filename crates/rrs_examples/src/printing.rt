@@ -1,10 +1,11 @@
-//! The program that prints on chosen strings: called with its premises proved, and run.
+//! The program that prints: called with its premises proved, and run on chosen strings.
 
 ghost use Rattle.std.specs.Prelude.{◌≡◌, ◌+◌, ◌*◌, ◌<◌, ◌≤◌, length, IfOk, IsTrue};
 ghost use Rattle.rrs_extra.specs.Printing.{HoldsString, put_string_program};
 ghost use Rattle.rrs_examples.specs.ProgramExamples.{words_to_print};
 ghost use Rattle.rrs_extra.specs.Programs.{HoldsWords, HoldsIllegal};
 
+use crate::machines::{end_at, faulted, hart_of, run_over};
 use rrs_extra::laws::put_string;
 use rrs_extra::{PrintPort, RamOrPort};
 use rrs_lib::instruction_executor::{InstructionException, InstructionExecutor, RunEnd};
@@ -49,42 +50,13 @@ fn print<M: Memory>(
     put_string(&mut executor, text)
 }
 
-/// How the program ends after so many steps.
-fn end_after(steps: u64) -> RunEnd {
-    RunEnd {
-        steps,
-        exception: Some(InstructionException::IllegalInstruction(24, 0)),
-    }
-}
-
 #[test]
 fn prints_a_string(rt: HostRuntime) -> Result<(), Fail> {
     let mut memory = words_to_print(rt.alloc())?;
     let mut hart = HartState::new();
     let end = print(&mut memory, &mut hart, 28, 46, b"Hello, RISC-V!");
-    let registers = (hart.pc, hart.registers[11], hart.registers[15]);
-    let left = (end, registers, memory.mem.get(11).copied());
-    assert_eq!(rt; left, (end_after(73), (24, 42, 0), Some(0x55215555)));
-    Ok(())
-}
-
-#[test]
-fn prints_one_byte(rt: HostRuntime) -> Result<(), Fail> {
-    let mut memory = words_to_print(rt.alloc())?;
-    let mut hart = HartState::new();
-    let end = print(&mut memory, &mut hart, 41, 44, b"!");
-    let left = (end, memory.mem.get(11).copied());
-    assert_eq!(rt; left, (end_after(8), Some(0x55555521)));
-    Ok(())
-}
-
-#[test]
-fn prints_nothing(rt: HostRuntime) -> Result<(), Fail> {
-    let mut memory = words_to_print(rt.alloc())?;
-    let mut hart = HartState::new();
-    let end = print(&mut memory, &mut hart, 42, 44, b"");
-    let left = (end, memory.mem.get(11).copied());
-    assert_eq!(rt; left, (end_after(3), Some(0x55555555)));
+    let left = (end, hart.pc, memory.mem.get(11).copied());
+    assert!(rt; left == (end_at(73, 24), 24, Some(0x55215555)));
     Ok(())
 }
 
@@ -93,56 +65,41 @@ fn machine(alloc: Global, room: usize) -> Result<MemorySpace<RamOrPort>, Fail> {
     let mut space = MemorySpace::new(alloc);
     let words = RamOrPort::Ram(words_to_print(alloc)?);
     let port = RamOrPort::Port(PrintPort::new(alloc, room)?);
-    if space.add_memory(0, 48, words) != Ok(0) {
-        return Err(Fail::from("the words are not region 0"));
-    }
-    if space.add_memory(0x1000_0000, 4, port) != Ok(1) {
-        return Err(Fail::from("the port is not region 1"));
-    }
+    space.add_memory(0, 48, words)?;
+    space.add_memory(0x1000_0000, 4, port)?;
     Ok(space)
 }
 
 /// Runs the program at 0 on the string at an address, over a port at another.
 fn run_from(space: &mut MemorySpace<RamOrPort>, from: u32, port: u32) -> RunEnd {
-    let mut hart = HartState::new();
-    hart.registers[1] = 24;
-    hart.registers[10] = port;
-    hart.registers[11] = from;
-    let mut executor = InstructionExecutor {
-        mem: space,
-        hart_state: &mut hart,
-    };
-    executor.run(100)
+    let mut hart = hart_of(0, &[(1, 24), (10, port), (11, from)]);
+    run_over(space, &mut hart, 100)
 }
 
-// One string after the other, of which the last finds no room for its end.
+// One string after the other, of which the last finds no room for its end. The first is empty.
+// Behind the byte of the port there is nothing to write to, though its region has four addresses.
 #[test]
 fn a_port_logs_what_is_printed(rt: HostRuntime) -> Result<(), Fail> {
     let mut space = machine(rt.alloc(), 20)?;
-    for (from, steps) in [(42, 3), (28, 73), (41, 8), (35, 38)] {
-        let end = run_from(&mut space, from, 0x1000_0000);
-        assert_eq!(rt; end, end_after(steps), "of the string at {from}");
-    }
+    let ends = [
+        run_from(&mut space, 42, 0x1000_0000),
+        run_from(&mut space, 28, 0x1000_0000),
+        run_from(&mut space, 28, 0x1000_0001),
+        run_from(&mut space, 41, 0x1000_0000),
+        run_from(&mut space, 35, 0x1000_0000),
+    ];
+    let refused = faulted(3, InstructionException::StoreAccessFault(0x1000_0001));
+    let expected = [
+        end_at(3, 24),
+        end_at(73, 24),
+        refused,
+        end_at(8, 24),
+        end_at(38, 24),
+    ];
     let Some(RamOrPort::Port(port)) = space.get_memory_ref(1) else {
         return Err(Fail::from("region 1 is not the port"));
     };
-    let left = (port.log.as_slice(), port.last, port.lost);
-    assert_eq!(rt; left, (b"Hello, RISC-V!!RISC-".as_slice(), 0x21, 2));
-    Ok(())
-}
-
-// Behind the byte of the port there is nothing to write to, though its region has four addresses.
-#[test]
-fn the_port_is_one_byte(rt: HostRuntime) -> Result<(), Fail> {
-    let mut space = machine(rt.alloc(), 20)?;
-    let end = run_from(&mut space, 28, 0x1000_0001);
-    let Some(RamOrPort::Port(port)) = space.get_memory_ref(1) else {
-        return Err(Fail::from("region 1 is not the port"));
-    };
-    let expected = RunEnd {
-        steps: 3,
-        exception: Some(InstructionException::StoreAccessFault(0x1000_0001)),
-    };
-    assert_eq!(rt; (end, port.log.len()), (expected, 0));
+    let is_logged = port.log.as_slice() == b"Hello, RISC-V!!RISC-".as_slice();
+    assert!(rt; ends == expected && is_logged && port.last == 0x21 && port.lost == 2);
     Ok(())
 }
