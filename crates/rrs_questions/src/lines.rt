@@ -60,9 +60,9 @@ pub fn answer_all<R: Read + Drop, W: Write + Drop>(
 ///
 /// # Errors
 ///
-/// `ReplayFault::Input` where a read fails, `ReplayFault::Output` where a write or a flush fails, and
-/// `ReplayFault::OutOfMemory`. The lines before are answered; a line that was cut off is not, and
-/// out of memory writes nothing of the answer.
+/// `ReplayFault::Input` where a read fails, `ReplayFault::Output` where a write or a flush fails,
+/// and `ReplayFault::OutOfMemory`. The lines before are answered; a line that was cut off is not,
+/// and out of memory writes nothing of the answer.
 pub fn answer_lines<R: Read, W: Write>(
     alloc: Global,
     input: &mut BufReader<R>,

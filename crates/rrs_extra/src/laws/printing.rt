@@ -25,7 +25,8 @@ use rrs_lib::memories::MemorySpace;
 ///
 /// The program stands where the pc is, and `text` is the string without the 0 at its end. The
 /// answer is after how many steps it faulted, at the address in x1 to which it returns. Then the
-/// run has written the bytes of the string to the port, in their order, and has made no other write.
+/// run has written the bytes of the string to the port, in their order, and has made no other
+/// write.
 pub fn put_string<M: Memory>(executor: &mut InstructionExecutor<M>, text: &[u8]) -> RunEnd
     requires { PutStringStarts text.now (state_in M.bytes M.writable executor.old) }
     ensures run { RunUntil (5 * length text.now + 4) (state_in M.bytes M.writable executor.old)
