@@ -1,4 +1,5 @@
--- What the definitions of rrs_extra and rrs_runner are passed on for, since contracts here cite them.
+-- What the definitions of rrs_extra and rrs_runner are passed on for, since contracts here cite
+-- them.
 pub use Rattle.rrs_extra.specs.Ports
 pub use Rattle.rrs_extra.specs.Printing
 pub use Rattle.rrs_extra.specs.Programs

@@ -23,8 +23,8 @@ fn main(rt: HostRuntime) -> ExitCode {
 ///
 /// # Errors
 ///
-/// `Failure::Usage` where there is an argument, and `Failure::Run` for out of memory and for a write
-/// that fails.
+/// `Failure::Usage` where there is an argument, and `Failure::Run` for out of memory and for a
+/// write that fails.
 fn greet<R: Env + Print + AllocGlobal>(rt: &R) -> Result<(), Failure> {
     take_no_arguments(rt)?;
     print_greeting(rt.alloc(), &mut io::writer(rt)).map_err(Failure::Run)

@@ -15,8 +15,8 @@ use crate::instruction_formats::{
 
 /// The instruction that a word is, or `None` where it is none of the table.
 ///
-/// A word whose funct3 or funct7 is not the row's is outside the table. `ecall` and `ebreak` are one
-/// word each.
+/// A word whose funct3 or funct7 is not the row's is outside the table. `ecall` and `ebreak` are
+/// one word each.
 ///
 /// The clauses: at `Some` the word is that instruction (`decoded`), and at `None` it is no row
 /// (`outside`); whichever row and fields the word is known to be, they are those of the instruction
@@ -225,11 +225,11 @@ fn decode_system(word: u32) -> Option<Instruction>
 ///
 /// The clauses: at `Some` the word is some row with some fields, and the processor did that
 /// (`decoded`); whichever row and fields the word is known to be, it did these (`these`); at `None`
-/// the word is no row (`outside`) and the processor is what it was (`unchanged`); no word is two rows
-/// or has two tuples of fields (`unique`).
+/// the word is no row (`outside`) and the processor is what it was (`unchanged`); no word is two
+/// rows or has two tuples of fields (`unique`).
 ///
-/// A word whose funct3 or funct7 is not the row's is outside the table. `ecall` and `ebreak` are one
-/// word each.
+/// A word whose funct3 or funct7 is not the row's is outside the table. `ecall` and `ebreak` are
+/// one word each.
 ///
 /// # Examples
 ///

@@ -1,7 +1,7 @@
 //! A processor in one function.
 //!
-//! A type that is an [InstructionHandler] is an [InstructionProcessor] too: each of the 48 functions
-//! hands its instruction to the one.
+//! A type that is an [InstructionHandler] is an [InstructionProcessor] too: each of the 48
+//! functions hands its instruction to the one.
 
 ghost use Rattle.rrs_instruction.specs.Encodings.{Fields, HasRegisters};
 ghost use Rattle.rrs_instruction.specs.Table.{Row};
@@ -13,9 +13,9 @@ use crate::instruction_formats::{BType, IType, ITypeShamt, JType, RType, SType, 
 
 /// Something that is done with instructions, in one function: executing them, or counting them.
 ///
-/// A type that implements it is an [InstructionProcessor] with the same relation, whose 48 functions
-/// each call `handle`. So `process_instruction` and `Instruction::process` take it, and each row's
-/// function can be called by its name.
+/// A type that implements it is an [InstructionProcessor] with the same relation, whose 48
+/// functions each call `handle`. So `process_instruction` and `Instruction::process` take it, and
+/// each row's function can be called by its name.
 pub trait InstructionHandler {
     /// What the function returns.
     type Answer;
@@ -31,7 +31,8 @@ pub trait InstructionHandler {
     /// that the instruction is.
     fn handle(&mut self, instruction: &Instruction) -> Self::Answer
         requires { HasRegisters (fields_of instruction.now) }
-        ensures { did (row_of instruction.now) (fields_of instruction.now) self.old self.new result };
+        ensures { did (row_of instruction.now) (fields_of instruction.now)
+            self.old self.new result };
 }
 
 impl<T: InstructionHandler> InstructionProcessor for T {

@@ -15,8 +15,8 @@ use crate::instruction_formats::{BType, IType, ITypeShamt, JType, RType, SType, 
 
 /// An instruction: a variant for each row of the table, in its order, that holds the row's fields.
 ///
-/// Which row and which fields a value is, is written in `specs/Instructions.antt`. The fields may be
-/// any, also such as no word has; those of a value that `decode` returned are in their ranges.
+/// Which row and which fields a value is, is written in `specs/Instructions.antt`. The fields may
+/// be any, also such as no word has; those of a value that `decode` returned are in their ranges.
 #[derive(PartialEq, Clone, Copy)]
 pub enum Instruction {
     /// `add`: the sum.

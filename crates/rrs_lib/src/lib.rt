@@ -1,8 +1,8 @@
 //! Building blocks for a RISC-V instruction set simulator: RV32I with the M extension.
 //!
-//! `process_instruction` decodes a word and calls a function of an [InstructionProcessor], for which
-//! a user writes an [InstructionHandler]: one function over an `Instruction`. The processor of
-//! `instruction_executor` executes the instruction, over any [Memory]; that of
+//! `process_instruction` decodes a word and calls a function of an [InstructionProcessor], for
+//! which a user writes an [InstructionHandler]: one function over an `Instruction`. The processor
+//! of `instruction_executor` executes the instruction, over any [Memory]; that of
 //! `instruction_string_outputter` gives its text; `memories` has memories and a loader.
 //!
 //! What the rows of the table are, and what they do, is written in `specs/`, in the terms of the
@@ -50,8 +50,8 @@ impl HartState {
         }
     }
 
-    /// Writes a register, 0 to 31; a write to x0 changes nothing. Any other register becomes the one
-    /// written last, also where its value stays equal.
+    /// Writes a register, 0 to 31; a write to x0 changes nothing. Any other register becomes the
+    /// one written last, also where its value stays equal.
     #[inline]
     pub fn write_register(&mut self, reg_index: usize, value: u32)
         requires { reg_index < 32 }

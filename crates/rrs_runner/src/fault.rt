@@ -24,7 +24,8 @@ pub enum RunFault {
 impl fmt::Display for RunFault {
     ghost output = { λ fault. Some (fault_text fault) };
 
-    // The loader's texts are printed by its fault: that of a failed read is the same for every error.
+    // The loader's texts are printed by its fault: that of a failed read is the same for every
+    // error.
     fn fmt<W: fmt::Write>(&self, f: &mut fmt::Formatter<W>) -> fmt::Result {
         match self {
             RunFault::OutOfMemory => write!(f, "out of memory"),

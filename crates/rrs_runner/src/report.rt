@@ -42,7 +42,8 @@ pub fn line_of(alloc: Global, pc: u32, text: &str) -> Result<String, RunFault>
 pub fn ending_of(alloc: Global, end: &RunEnd, hart: &HartState) -> Result<Vec<u8>, RunFault>
     ensures text { (bytes : ℕ → Option ℕ) (writable : ℕ → Bool)
         → IfOk result (λ text. text.items
-        ≡ end_line end.now.steps end.now.exception ++ hart_lines (state_of hart.now bytes writable)) }
+        ≡ end_line end.now.steps end.now.exception
+        ++ hart_lines (state_of hart.now bytes writable)) }
     ensures fault { IsOkUnless result RunFault.OutOfMemory }
 {
     let mut text = Vec::new(alloc);
@@ -56,7 +57,8 @@ pub fn ending_of(alloc: Global, end: &RunEnd, hart: &HartState) -> Result<Vec<u8
 fn print_ending<W: Write>(out: &mut W, end: &RunEnd, hart: &HartState) -> io::Result<()>
     ensures { (bytes : ℕ → Option ℕ) (writable : ℕ → Bool)
         → OnOk result (Appends (W.contents out.old) (W.contents out.new)
-        (end_line end.now.steps end.now.exception ++ hart_lines (state_of hart.now bytes writable))) }
+        (end_line end.now.steps end.now.exception
+        ++ hart_lines (state_of hart.now bytes writable))) }
 {
     print_end(out, end)?;
     print_hart(out, hart)

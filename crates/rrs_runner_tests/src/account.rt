@@ -99,8 +99,8 @@ fn prints_the_whole_run(rt: HostRuntime) -> Result<(), Fail> {
     Ok(())
 }
 
-/// The words of a program, the limit of its run, the lines of its instructions, and the beginning of
-/// what is printed after them.
+/// The words of a program, the limit of its run, the lines of its instructions, and the beginning
+/// of what is printed after them.
 type Case = (&'static [u32], u64, &'static str, &'static str);
 
 const CASES: [Case; 16] = [

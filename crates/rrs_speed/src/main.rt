@@ -2,8 +2,8 @@
 //!
 //! `rrs-speed FILE LIMIT` puts the bytes of FILE at address 0 on, starts a hart there, and makes at
 //! most LIMIT steps, by one call of `run`. It prints how the run ended, and then the registers, and
-//! nothing of the single steps. A word of the command line that is not UTF-8, the program's own name
-//! among them, counts as a wrong argument.
+//! nothing of the single steps. A word of the command line that is not UTF-8, the program's own
+//! name among them, counts as a wrong argument.
 
 #![tactic(auto)]
 

@@ -261,8 +261,8 @@ fn a_region_that_served_is_compared_first(rt: HostRuntime) -> Result<(), Fail> {
     Ok(())
 }
 
-/// A thousand regions of 16 bytes, of which region 0 is at 101 * 32, and each at 367 * 32 behind the one
-/// before it, modulo 32,000. The words of each are its index and 1000, 2000 and 3000 more.
+/// A thousand regions of 16 bytes, of which region 0 is at 101 * 32, and each at 367 * 32 behind
+/// the one before it, modulo 32,000. The words of each are its index and 1000, 2000 and 3000 more.
 fn thousand_regions(alloc: Global) -> Result<MemorySpace<VecMemory>, Fail> {
     let mut space = MemorySpace::new(alloc);
     for index in 0..1000 {
@@ -276,7 +276,8 @@ fn thousand_regions(alloc: Global) -> Result<MemorySpace<VecMemory>, Fail> {
     Ok(space)
 }
 
-/// The word that stands at an address in `thousand_regions`. 703 undoes 367: the product is 258,001.
+/// The word that stands at an address in `thousand_regions`. 703 undoes 367: the product is
+/// 258,001.
 fn word_by(addr: u32) -> Option<u32> {
     let place = addr / 32;
     if place >= 1000 || addr % 32 >= 16 {
