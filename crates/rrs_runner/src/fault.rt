@@ -1,4 +1,4 @@
-//! What can go wrong in a run, beside the program that is run.
+//! What can go wrong in a run or in the writing of a text, beside the program that is run.
 
 ghost use Rattle.std.specs.Prelude.{Some};
 ghost use Rattle.rrs_runner.specs.Faults.{fault_text};
@@ -8,7 +8,7 @@ use std::error::Error;
 use std::io::ErrorKind;
 use std::{fmt, io};
 
-/// Why a run can't be made, or its account not be written.
+/// Why a run can't be made, or a text not be written.
 #[derive(Debug, PartialEq, Drop)]
 pub enum RunFault {
     /// Out of memory for the words of the memory, for a text or for a buffer.
@@ -17,7 +17,7 @@ pub enum RunFault {
     Reader,
     /// The program has a byte for this address, which is not writable.
     Refused(u32),
-    /// A write or a flush of the account failed.
+    /// A write or a flush of the output failed.
     Output,
 }
 

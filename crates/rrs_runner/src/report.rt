@@ -41,8 +41,7 @@ pub fn line_of(alloc: Global, pc: u32, text: &str) -> Result<String, RunFault>
 /// `RunFault::OutOfMemory`, out of memory for the text.
 pub fn ending_of(alloc: Global, end: &RunEnd, hart: &HartState) -> Result<Vec<u8>, RunFault>
     ensures text { (bytes : ℕ → Option ℕ) (writable : ℕ → Bool)
-        → IfOk result (λ text. text.items
-        ≡ end_line end.now.steps end.now.exception
+        → IfOk result (λ text. text.items ≡ end_line end.now.steps end.now.exception
         ++ hart_lines (state_of hart.now bytes writable)) }
     ensures fault { IsOkUnless result RunFault.OutOfMemory }
 {

@@ -21,7 +21,8 @@ use std::io::{Read, Write};
 pub enum Shown {
     /// The line of each instruction, before its step.
     Instructions,
-    /// Nothing. The run is one call of `InstructionExecutor::run`, which long runs are fast by.
+    /// Nothing. The run is one call of `InstructionExecutor::run`, by whose table long runs are
+    /// fast.
     Nothing,
 }
 

@@ -197,7 +197,8 @@ const CASES: [Case; 16] = [
     (
         &[0x0130_0093, 0x0010_2223, 0xffdf_f06f],
         4,
-        "0x00000000: addi x1, x0, 19\n0x00000004: sw x1, 4(x0)\n0x00000008: jal x0, 0x00000004\n0x00000004: addi x0, x0, 0\n",
+        "0x00000000: addi x1, x0, 19\n0x00000004: sw x1, 4(x0)\n\
+        0x00000008: jal x0, 0x00000004\n0x00000004: addi x0, x0, 0\n",
         "end: limit, steps 4\nx0 0x00000000\nx1 0x00000013\n",
     ),
     // addi x0, x0, 5: x0 stays 0

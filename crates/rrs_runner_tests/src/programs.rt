@@ -158,7 +158,9 @@ fn runs_the_file_that_is_named_up_to_the_limit_that_is_named(rt: HostRuntime) ->
             &RRS_RUN,
             b"program",
             b"999999999",
-            "0x00000000: lui x2, 0x1234b000\n0x00000004: lui x3, 0xf387e000\n0x00000008: add x1, x2, x3\nend: IllegalInstruction pc=0x0000000c word=0x00000000, steps 3\n",
+            "0x00000000: lui x2, 0x1234b000\n0x00000004: lui x3, 0xf387e000\n\
+            0x00000008: add x1, x2, x3\n\
+            end: IllegalInstruction pc=0x0000000c word=0x00000000, steps 3\n",
         ),
         (
             &RRS_RUN,

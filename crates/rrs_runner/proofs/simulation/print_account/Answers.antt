@@ -21,16 +21,9 @@ returns-in_err-write_text-clause-fault g c =
     let p = err_from_is_err_and c.from_residual-in_err-write_text.result c.from_residual-in_err-write_text.ensures.1 in
     rw (p.1, p.2) (stopped_in_ending _ _ _ _ _ _ _ _ _ _ _ made c.in_ok-end.ensures.shows c.in_err-write_text.ensures.fault)
 
-pub returns-clause-account : goal.returns-clause-account
-returns-clause-account g c =
+pub returns : goal.returns
+returns g c =
     let left = c.make_steps.new.executor.mem.now in
     let made = c.deref.ensures.value ∙ c.in_ok-ending.ensures.text (g.M.Memory.bytes left) (g.M.Memory.writable left) in
-    OnOk_always c.flush.result
-    (whole_printed _ _ _ _ _ _ _ _ _ _ _ made c.in_ok-end.ensures.shows c.in_ok-write_text.ensures.ok c.flush.ensures.kept)
-
-pub returns-clause-fault : goal.returns-clause-fault
-returns-clause-fault g c =
-    let left = c.make_steps.new.executor.mem.now in
-    let made = c.deref.ensures.value ∙ c.in_ok-ending.ensures.text (g.M.Memory.bytes left) (g.M.Memory.writable left) in
-    stopped_in_flush _ _ _ _ _ c.flush.result c.flush.ensures.fault
-    (whole_printed _ _ _ _ _ _ _ _ _ _ _ made c.in_ok-end.ensures.shows c.in_ok-write_text.ensures.ok c.flush.ensures.kept)
+    let whole = whole_printed _ _ _ _ _ _ _ _ _ _ _ made c.in_ok-end.ensures.shows c.in_ok-write_text.ensures.ok c.flush.ensures.kept in
+    record { account = OnOk_always c.flush.result whole; fault = stopped_in_flush _ _ _ _ _ c.flush.result c.flush.ensures.fault whole }
