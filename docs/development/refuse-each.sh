@@ -14,7 +14,7 @@
 all='
 rrs_tests ::a_refused_ 12
 rrs_examples ::a_refused_ 12
-rrs_runner_tests out_of_memory_ 32
+rrs_runner_tests out_of_memory_ 40
 rrs_replay out_of_memory_ 24
 '
 
