@@ -1,57 +1,70 @@
 #!/bin/sh
 # Refuses each allocation of a test in turn, and says how the test ended.
 #
-# usage: refuse-each.sh [CRATE TEST COUNT]
+# usage: refuse-each.sh [CRATE TEST]
 #
-# For N from 1 to COUNT it runs `rt try --test --fail-alloc N -- TEST` in crates/CRATE, where TEST is
-# a test's name or a part of the names of several, and prints the crate, N and the result line. With
-# no arguments it does so for the tests below, which are written to hold whichever allocation is
-# refused. As many runs go side by side as there are processors. It proves nothing. The status is 0
-# where each run passed, and not 0 where one did not, or ran no test, or for wrong arguments.
-# docs/PROVED.md says what each of these tests holds to; past its last allocation a test runs as it
-# always does.
+# It runs the built tests of a crate, those that `rt ci` leaves, or `rt test` in the crate's folder,
+# with refuse.c preloaded, which the C compiler `cc` makes: the first allocation is refused, then the
+# second alone, and so on up to the last that the test makes. With no arguments it does so for the
+# tests below, which are written to hold whichever allocation is refused; docs/PROVED.md says what
+# each holds to. The status is 0 where each run passed, 1 where one did not, and 2 where there is no
+# such test, or for wrong arguments.
 
-# A crate, its tests, and how many allocations the longest of them makes, as seen, and a few more.
-all='rrs_tests ::a_refused_ 12
-rrs_examples ::a_refused_ 12
-rrs_runner_tests out_of_memory_ 40
-rrs_replay out_of_memory_ 24'
+all='rrs_tests texts::a_refused_text_may_be_asked_for_again
+rrs_tests spaces::a_refused_region_may_be_added_again
+rrs_examples pages::a_refused_page_may_be_added_again
+rrs_runner_tests account::out_of_memory_leaves_whole_lines
+rrs_replay tests::out_of_memory_leaves_whole_answers'
 
-usage() {
-    echo "usage: $0 [CRATE TEST COUNT]" >&2
+case $# in
+0) ;;
+2) all="$1 $2" ;;
+*)
+    echo "usage: $0 [CRATE TEST]" >&2
     exit 2
-}
-
-# Runs a test with its N-th allocation refused: CRATE TEST N.
-refuse_one() {
-    cd "$(dirname "$0")/../../crates/$1" || exit 2
-    said=$(rt try --test --fail-alloc "$3" -- "$2" 2>&1)
-    status=$?
-    result=$(printf '%s\n' "$said" | grep '^test result' | tail -n 1)
-    printf '%s %s %s\n' "$1" "$3" "${result:-$(printf '%s\n' "$said" | tail -n 1)}"
-    case $status:$result in
-    *' 0 passed'*) exit 1 ;;
-    0:'test result: ok'*) exit 0 ;;
-    *) exit 1 ;;
-    esac
-}
-
-case $#:$1 in
-0:) ;;
-4:--one) refuse_one "$2" "$3" "$4" ;;
-3:*)
-    case $3 in
-    '' | *[!0-9]*) usage ;;
-    esac
-    all="$1 $2 $3"
     ;;
-*) usage ;;
 esac
 
-printf '%s\n' "$all" | while read -r crate test count; do
+here=$(cd "$(dirname "$0")" && pwd) || exit 2
+room=$(mktemp -d) || exit 2
+trap 'rm -rf "$room"' EXIT
+if ! ${CC:-cc} -std=c99 -O2 -shared -fPIC -o "$room/refuse.so" "$here/refuse.c"; then
+    echo "$0: refuse.c needs a C compiler, Debian's package gcc" >&2
+    exit 2
+fi
+
+# Runs a test with its N-th allocation refused: BINARY TEST N. Makes a file where it came so far.
+run() {
+    rm -f "$room/refused"
+    timeout 60 env LD_PRELOAD="$room/refuse.so" REFUSE="$3" REFUSED="$room/refused" "$1" "$2"
+}
+
+# refuse CRATE TEST
+refuse() {
+    tests=$here/../../crates/$1/out/$1_tests
+    if [ ! -x "$tests" ] || ! "$tests" --list | grep -q "^$2: test"; then
+        echo "$1 $2: no such test is built: \`rt ci\`, or \`rt test\` in crates/$1, builds it" >&2
+        return 2
+    fi
     n=1
-    while [ "$n" -le "$count" ]; do
-        echo "--one $crate $test $n"
+    while run "$tests" "$2" "$n" >"$room/said" 2>&1; do
+        if [ ! -e "$room/refused" ]; then
+            echo "$1 $2: $((n - 1)) allocations, each refused"
+            return 0
+        fi
         n=$((n + 1))
     done
-done | xargs -P "$(nproc)" -n 4 "$0"
+    echo "$1 $2: fails where allocation $n is refused"
+    cat "$room/said"
+    return 1
+}
+
+printf '%s\n' "$all" | {
+    worst=0
+    while read -r crate test; do
+        refuse "$crate" "$test"
+        status=$?
+        [ "$status" -le "$worst" ] || worst=$status
+    done
+    exit "$worst"
+}
