@@ -3,7 +3,7 @@
 
 ghost use Rattle.std.specs.Prelude.{◌≡◌, IfSome, IfNone};
 ghost use Rattle.rrs_lib.specs.Encodings.{Fields};
-ghost use Rattle.rrs_lib.specs.Table.{Row, Decodes};
+ghost use Rattle.rrs_lib.specs.Table.{Row, Decodes, IsIllegal};
 ghost use Rattle.rrs_lib.specs.Executor.{state_in};
 ghost use Rattle.rrs_lib.specs.Steps.{Step, next_word};
 ghost use Rattle.rrs_examples.specs.Counting.{CountsOnce};
@@ -15,7 +15,8 @@ use rrs_lib::memories::VecMemory;
 use rrs_lib::{HartState, Memory, process_instruction};
 use std::test::Fail;
 
-/// Counts the row of the instruction at the pc, where there is one, and makes a step.
+/// Counts the row of the instruction at the pc, where there is one, and makes a step. A word outside
+/// the table leaves the counts.
 fn counted_step<M: Memory>(
     executor: &mut InstructionExecutor<M>,
     counter: &mut CallCounter,
@@ -25,6 +26,8 @@ fn counted_step<M: Memory>(
     ensures counted { IfSome (next_word (state_in M.bytes M.writable executor.old)) (λ word.
         (row : Row) (f : Fields) → Decodes word row f
         → CountsOnce row counter.old.counts counter.new.counts) }
+    ensures outside { IfSome (next_word (state_in M.bytes M.writable executor.old)) (λ word.
+        IsIllegal word → counter.new ≡ counter.old) }
     ensures unmapped { IfNone (next_word (state_in M.bytes M.writable executor.old))
         (counter.new ≡ counter.old) }
 {

@@ -1,27 +1,40 @@
 //! Answers questions about RISC-V instructions, one a line, from standard input.
 //!
-//! `rrs_questions` has the questions, and `docs/RUNNING.md` their forms. Each line is answered
-//! before the program waits for the next one. Where a read or a write fails, or out of memory, it
-//! says so on standard error and ends with status 1; what it answered before stands on standard
-//! output, and a line that was cut off is not answered.
+//! `rrs_questions` has the questions, and `docs/RUNNING.md` their forms. Each line is answered before
+//! the program waits for the next one. It takes no arguments. Where a read or a write fails, or out
+//! of memory, it says so on standard error and ends with status 1; what it answered before stands on
+//! standard output, and a line that was cut off is not answered.
 
 #![tactic(auto)]
 
 use rrs_questions::{ReplayFault, answer_all};
+use rrs_runner::command::{Failure, conclude, take_no_arguments};
+use rrs_runner::fault::RunFault;
+use rrs_runner::programs::RRS_REPLAY;
 use std::io;
 use std::process::ExitCode;
 
 fn main(rt: HostRuntime) -> ExitCode {
-    match answer_all(rt.alloc(), rt.reader(), io::writer(&rt)) {
-        Ok(()) => ExitCode::SUCCESS,
-        Err(fault) => ExitCode::from(report(&rt, fault)),
-    }
+    conclude(&rt, RRS_REPLAY, replay(&rt))
 }
 
-/// Says on standard error why the program failed, and returns its status.
-fn report<R: Eprint>(rt: &R, fault: ReplayFault) -> u8 {
-    let _ = eprintln!(rt; "rrs-replay: {fault}");
-    1
+/// Answers the lines of standard input on standard output.
+///
+/// # Errors
+///
+/// `Failure::Usage` where there is an argument, and what `failure_of` makes of a fault.
+fn replay(rt: &HostRuntime) -> Result<(), Failure> {
+    take_no_arguments(rt)?;
+    answer_all(rt.alloc(), rt.reader(), io::writer(rt)).map_err(failure_of)
+}
+
+/// Why the program ends where its answers stop.
+fn failure_of(fault: ReplayFault) -> Failure {
+    match fault {
+        ReplayFault::Input => Failure::CannotReadInput,
+        ReplayFault::Output => Failure::Run(RunFault::Output),
+        ReplayFault::OutOfMemory => Failure::Run(RunFault::OutOfMemory),
+    }
 }
 
 #[cfg(test)]

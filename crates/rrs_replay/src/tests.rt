@@ -5,9 +5,7 @@ ghost use Rattle.std.specs.Prelude.{◌≤◌};
 
 use super::*;
 use rrs_questions::answer_lines;
-use std::alloc::Global;
-use std::cell::RefCell;
-use std::fmt::Display;
+use rrs_runner::command::NamedFailure;
 use std::io::{BufReader, ErrorKind, Read, Write};
 use std::test::Fail;
 
@@ -189,42 +187,17 @@ fn out_of_memory_leaves_whole_answers(rt: HostRuntime) {
     assert_eq!(rt; (answered, whole, begins), (want, true, true));
 }
 
-/// What is written on standard error.
-#[derive(Drop)]
-struct Errors {
-    alloc: Global,
-    text: RefCell<String>,
-}
-
-impl Eprint for Errors {
-    fn eprint<D: Display + Drop>(&self, _value: D) -> io::Result<()> {
-        Err(io::Error::from(ErrorKind::Unsupported))
-    }
-
-    fn eprintln<D: Display + Drop>(&self, value: D) -> io::Result<()> {
-        let Ok(mut text) = self.text.try_borrow_mut() else {
-            return Err(io::Error::from(ErrorKind::Unsupported));
-        };
-        let line = format!(in self.alloc; "{value}\n")?;
-        text.push_str(line.as_str())?;
-        Ok(())
-    }
-}
-
 #[test]
 fn says_why_it_failed(rt: HostRuntime) -> Result<(), Fail> {
-    let cases = [
-        (ReplayFault::Input, "rrs-replay: cannot read input\n"),
-        (ReplayFault::Output, "rrs-replay: cannot write output\n"),
-        (ReplayFault::OutOfMemory, "rrs-replay: out of memory\n"),
-    ];
-    for (fault, want) in cases {
-        let errors = Errors {
-            alloc: rt.alloc(),
-            text: RefCell::new(String::new(rt.alloc())),
-        };
-        let status = report(&errors, fault);
-        let text = errors.text.into_inner();
+    for (fault, want) in [
+        (ReplayFault::Input, "rrs-replay: cannot read input"),
+        (ReplayFault::Output, "rrs-replay: cannot write output"),
+        (ReplayFault::OutOfMemory, "rrs-replay: out of memory"),
+    ] {
+        let program = RRS_REPLAY;
+        let failure = failure_of(fault);
+        let status = failure.status();
+        let text = format!(in rt.alloc(); "{}", NamedFailure { program, failure })?;
         assert_eq!(rt; (status, text.as_str()), (1, want));
     }
     Ok(())

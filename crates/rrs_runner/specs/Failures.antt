@@ -1,7 +1,7 @@
 -- What a program says where it ends with another status than 0, and that status.
 use Rattle.std.specs.Prelude.{ℕ, List, ◌++◌, codes, Result, Ok, Err}
 use Rattle.rrs_runner.specs.declared.command.Failure.{Failure}
-use Rattle.rrs_runner.specs.declared.command.Failure.TheVariants.{Usage, CannotOpen, Run}
+use Rattle.rrs_runner.specs.declared.command.Failure.TheVariants.{Usage, CannotOpen, CannotReadInput, Run}
 use Rattle.rrs_runner.specs.Faults.{fault_text}
 
 -- the line on standard error of the program with this name, which takes these words, each of them
@@ -9,11 +9,13 @@ use Rattle.rrs_runner.specs.Faults.{fault_text}
 abbrev pub failure_text : List ℕ → List ℕ → Failure → List ℕ
 failure_text name words Usage = codes "usage: " ++ name ++ words
 failure_text name words CannotOpen = name ++ codes ": cannot open file"
+failure_text name words CannotReadInput = name ++ codes ": cannot read input"
 failure_text name words (Run fault) = name ++ codes ": " ++ fault_text fault
 
 abbrev pub status_of : Failure → ℕ
 status_of Usage = 2
 status_of CannotOpen = 1
+status_of CannotReadInput = 1
 status_of (Run fault) = 1
 
 -- the status of a program that came to its end, or failed

@@ -43,6 +43,8 @@ pub enum Failure {
     Usage,
     /// The file can't be opened.
     CannotOpen,
+    /// Standard input can't be read.
+    CannotReadInput,
     /// The run failed, or what else the program does.
     Run(RunFault),
 }
@@ -54,7 +56,7 @@ impl Failure {
     {
         match self {
             Failure::Usage => 2,
-            Failure::CannotOpen | Failure::Run(_) => 1,
+            Failure::CannotOpen | Failure::CannotReadInput | Failure::Run(_) => 1,
         }
     }
 }
@@ -77,6 +79,7 @@ impl fmt::Display for NamedFailure {
         match &self.failure {
             Failure::Usage => write!(f, "usage: {name}{words}"),
             Failure::CannotOpen => write!(f, "{name}: cannot open file"),
+            Failure::CannotReadInput => write!(f, "{name}: cannot read input"),
             Failure::Run(fault) => write!(f, "{name}: {fault}"),
         }
     }
