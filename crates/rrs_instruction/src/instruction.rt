@@ -4,14 +4,13 @@
 //! one that a word is, and `process` hands it to an [InstructionProcessor].
 //! `process_instruction` is the one after the other.
 
-mod debug_text;
-
 ghost use Rattle.std.specs.Prelude.{◌≡◌, ◌≤◌};
 ghost use Rattle.rrs_instruction.specs.Encodings.{HasRegisters};
 
 use crate::InstructionProcessor;
 pub use crate::decode::decode;
 use crate::instruction_formats::{BType, IType, ITypeShamt, JType, RType, SType, UType};
+use std::fmt;
 
 /// An instruction: a variant for each row of the table, in its order, that holds the row's fields.
 ///
@@ -117,8 +116,30 @@ pub enum Instruction {
     Ebreak(IType),
 }
 
+/// The fields of an instruction, whatever its row: one variant for each format.
+///
+/// Who does the same with all rows of a format matches on this, and needs no line for each row.
+#[derive(PartialEq, Clone, Copy)]
+pub enum InstructionFields {
+    /// Of an operation on two registers.
+    R(RType),
+    /// Of an operation on a register and an immediate, a load, `jalr`, `fence`, `ecall` and
+    /// `ebreak`.
+    I(IType),
+    /// Of a shift by an amount.
+    IShamt(ITypeShamt),
+    /// Of a store.
+    S(SType),
+    /// Of a branch.
+    B(BType),
+    /// Of `lui` and `auipc`.
+    U(UType),
+    /// Of `jal`.
+    J(JType),
+}
+
 impl Instruction {
-    ghost use Rattle.rrs_instruction.specs.Instructions.{row_of, fields_of};
+    ghost use Rattle.rrs_instruction.specs.Instructions.{row_of, fields_of, as_fields};
     ghost use Rattle.rrs_instruction.specs.Table.{table};
 
     /// The number of the instruction's row, 1 to 48, in the order of the table.
@@ -128,111 +149,128 @@ impl Instruction {
         ensures first { 1 ≤ result }
         ensures last { result ≤ 48 }
     {
-        match self {
-            Instruction::Add(_) => 1,
-            Instruction::Sub(_) => 2,
-            Instruction::Sll(_) => 3,
-            Instruction::Slt(_) => 4,
-            Instruction::Sltu(_) => 5,
-            Instruction::Xor(_) => 6,
-            Instruction::Srl(_) => 7,
-            Instruction::Sra(_) => 8,
-            Instruction::Or(_) => 9,
-            Instruction::And(_) => 10,
-            Instruction::Addi(_) => 11,
-            Instruction::Slli(_) => 12,
-            Instruction::Slti(_) => 13,
-            Instruction::Sltiu(_) => 14,
-            Instruction::Xori(_) => 15,
-            Instruction::Srli(_) => 16,
-            Instruction::Srai(_) => 17,
-            Instruction::Ori(_) => 18,
-            Instruction::Andi(_) => 19,
-            Instruction::Lui(_) => 20,
-            Instruction::Auipc(_) => 21,
-            Instruction::Beq(_) => 22,
-            Instruction::Bne(_) => 23,
-            Instruction::Blt(_) => 24,
-            Instruction::Bltu(_) => 25,
-            Instruction::Bge(_) => 26,
-            Instruction::Bgeu(_) => 27,
-            Instruction::Lb(_) => 28,
-            Instruction::Lbu(_) => 29,
-            Instruction::Lh(_) => 30,
-            Instruction::Lhu(_) => 31,
-            Instruction::Lw(_) => 32,
-            Instruction::Sb(_) => 33,
-            Instruction::Sh(_) => 34,
-            Instruction::Sw(_) => 35,
-            Instruction::Jal(_) => 36,
-            Instruction::Jalr(_) => 37,
-            Instruction::Mul(_) => 38,
-            Instruction::Mulh(_) => 39,
-            Instruction::Mulhu(_) => 40,
-            Instruction::Mulhsu(_) => 41,
-            Instruction::Div(_) => 42,
-            Instruction::Divu(_) => 43,
-            Instruction::Rem(_) => 44,
-            Instruction::Remu(_) => 45,
-            Instruction::Fence(_) => 46,
-            Instruction::Ecall(_) => 47,
-            Instruction::Ebreak(_) => 48,
-        }
+        self.row().0
     }
 
     /// The name of the instruction's row, as in its text: `add`.
+    #[inline]
     pub fn mnemonic(&self) -> &'static str
         ensures { result.now ≡ (table (row_of self.now)).name }
     {
+        self.row().1
+    }
+
+    /// The number of the instruction's row and its name, and the name of the variant.
+    #[inline]
+    fn row(&self) -> (usize, &'static str, &'static str)
+        ensures number { result.0 ≡ (table (row_of self.now)).number }
+        ensures first { 1 ≤ result.0 }
+        ensures last { result.0 ≤ 48 }
+        ensures name { result.1.now ≡ (table (row_of self.now)).name }
+    {
         match self {
-            Instruction::Add(_) => "add",
-            Instruction::Sub(_) => "sub",
-            Instruction::Sll(_) => "sll",
-            Instruction::Slt(_) => "slt",
-            Instruction::Sltu(_) => "sltu",
-            Instruction::Xor(_) => "xor",
-            Instruction::Srl(_) => "srl",
-            Instruction::Sra(_) => "sra",
-            Instruction::Or(_) => "or",
-            Instruction::And(_) => "and",
-            Instruction::Addi(_) => "addi",
-            Instruction::Slli(_) => "slli",
-            Instruction::Slti(_) => "slti",
-            Instruction::Sltiu(_) => "sltiu",
-            Instruction::Xori(_) => "xori",
-            Instruction::Srli(_) => "srli",
-            Instruction::Srai(_) => "srai",
-            Instruction::Ori(_) => "ori",
-            Instruction::Andi(_) => "andi",
-            Instruction::Lui(_) => "lui",
-            Instruction::Auipc(_) => "auipc",
-            Instruction::Beq(_) => "beq",
-            Instruction::Bne(_) => "bne",
-            Instruction::Blt(_) => "blt",
-            Instruction::Bltu(_) => "bltu",
-            Instruction::Bge(_) => "bge",
-            Instruction::Bgeu(_) => "bgeu",
-            Instruction::Lb(_) => "lb",
-            Instruction::Lbu(_) => "lbu",
-            Instruction::Lh(_) => "lh",
-            Instruction::Lhu(_) => "lhu",
-            Instruction::Lw(_) => "lw",
-            Instruction::Sb(_) => "sb",
-            Instruction::Sh(_) => "sh",
-            Instruction::Sw(_) => "sw",
-            Instruction::Jal(_) => "jal",
-            Instruction::Jalr(_) => "jalr",
-            Instruction::Mul(_) => "mul",
-            Instruction::Mulh(_) => "mulh",
-            Instruction::Mulhu(_) => "mulhu",
-            Instruction::Mulhsu(_) => "mulhsu",
-            Instruction::Div(_) => "div",
-            Instruction::Divu(_) => "divu",
-            Instruction::Rem(_) => "rem",
-            Instruction::Remu(_) => "remu",
-            Instruction::Fence(_) => "fence",
-            Instruction::Ecall(_) => "ecall",
-            Instruction::Ebreak(_) => "ebreak",
+            Instruction::Add(_) => (1, "add", "Add"),
+            Instruction::Sub(_) => (2, "sub", "Sub"),
+            Instruction::Sll(_) => (3, "sll", "Sll"),
+            Instruction::Slt(_) => (4, "slt", "Slt"),
+            Instruction::Sltu(_) => (5, "sltu", "Sltu"),
+            Instruction::Xor(_) => (6, "xor", "Xor"),
+            Instruction::Srl(_) => (7, "srl", "Srl"),
+            Instruction::Sra(_) => (8, "sra", "Sra"),
+            Instruction::Or(_) => (9, "or", "Or"),
+            Instruction::And(_) => (10, "and", "And"),
+            Instruction::Addi(_) => (11, "addi", "Addi"),
+            Instruction::Slli(_) => (12, "slli", "Slli"),
+            Instruction::Slti(_) => (13, "slti", "Slti"),
+            Instruction::Sltiu(_) => (14, "sltiu", "Sltiu"),
+            Instruction::Xori(_) => (15, "xori", "Xori"),
+            Instruction::Srli(_) => (16, "srli", "Srli"),
+            Instruction::Srai(_) => (17, "srai", "Srai"),
+            Instruction::Ori(_) => (18, "ori", "Ori"),
+            Instruction::Andi(_) => (19, "andi", "Andi"),
+            Instruction::Lui(_) => (20, "lui", "Lui"),
+            Instruction::Auipc(_) => (21, "auipc", "Auipc"),
+            Instruction::Beq(_) => (22, "beq", "Beq"),
+            Instruction::Bne(_) => (23, "bne", "Bne"),
+            Instruction::Blt(_) => (24, "blt", "Blt"),
+            Instruction::Bltu(_) => (25, "bltu", "Bltu"),
+            Instruction::Bge(_) => (26, "bge", "Bge"),
+            Instruction::Bgeu(_) => (27, "bgeu", "Bgeu"),
+            Instruction::Lb(_) => (28, "lb", "Lb"),
+            Instruction::Lbu(_) => (29, "lbu", "Lbu"),
+            Instruction::Lh(_) => (30, "lh", "Lh"),
+            Instruction::Lhu(_) => (31, "lhu", "Lhu"),
+            Instruction::Lw(_) => (32, "lw", "Lw"),
+            Instruction::Sb(_) => (33, "sb", "Sb"),
+            Instruction::Sh(_) => (34, "sh", "Sh"),
+            Instruction::Sw(_) => (35, "sw", "Sw"),
+            Instruction::Jal(_) => (36, "jal", "Jal"),
+            Instruction::Jalr(_) => (37, "jalr", "Jalr"),
+            Instruction::Mul(_) => (38, "mul", "Mul"),
+            Instruction::Mulh(_) => (39, "mulh", "Mulh"),
+            Instruction::Mulhu(_) => (40, "mulhu", "Mulhu"),
+            Instruction::Mulhsu(_) => (41, "mulhsu", "Mulhsu"),
+            Instruction::Div(_) => (42, "div", "Div"),
+            Instruction::Divu(_) => (43, "divu", "Divu"),
+            Instruction::Rem(_) => (44, "rem", "Rem"),
+            Instruction::Remu(_) => (45, "remu", "Remu"),
+            Instruction::Fence(_) => (46, "fence", "Fence"),
+            Instruction::Ecall(_) => (47, "ecall", "Ecall"),
+            Instruction::Ebreak(_) => (48, "ebreak", "Ebreak"),
+        }
+    }
+
+    /// The fields of the instruction, by their format.
+    #[inline]
+    pub fn fields(&self) -> InstructionFields
+        ensures { as_fields result ≡ fields_of self.now }
+    {
+        match self {
+            Instruction::Add(fields)
+            | Instruction::Sub(fields)
+            | Instruction::Sll(fields)
+            | Instruction::Slt(fields)
+            | Instruction::Sltu(fields)
+            | Instruction::Xor(fields)
+            | Instruction::Srl(fields)
+            | Instruction::Sra(fields)
+            | Instruction::Or(fields)
+            | Instruction::And(fields)
+            | Instruction::Mul(fields)
+            | Instruction::Mulh(fields)
+            | Instruction::Mulhu(fields)
+            | Instruction::Mulhsu(fields)
+            | Instruction::Div(fields)
+            | Instruction::Divu(fields)
+            | Instruction::Rem(fields)
+            | Instruction::Remu(fields) => InstructionFields::R(*fields),
+            Instruction::Addi(fields)
+            | Instruction::Slti(fields)
+            | Instruction::Sltiu(fields)
+            | Instruction::Xori(fields)
+            | Instruction::Ori(fields)
+            | Instruction::Andi(fields)
+            | Instruction::Lb(fields)
+            | Instruction::Lbu(fields)
+            | Instruction::Lh(fields)
+            | Instruction::Lhu(fields)
+            | Instruction::Lw(fields)
+            | Instruction::Jalr(fields)
+            | Instruction::Fence(fields)
+            | Instruction::Ecall(fields)
+            | Instruction::Ebreak(fields) => InstructionFields::I(*fields),
+            Instruction::Slli(fields) | Instruction::Srli(fields) | Instruction::Srai(fields) =>
+                InstructionFields::IShamt(*fields),
+            Instruction::Sb(fields) | Instruction::Sh(fields) | Instruction::Sw(fields) =>
+                InstructionFields::S(*fields),
+            Instruction::Beq(fields)
+            | Instruction::Bne(fields)
+            | Instruction::Blt(fields)
+            | Instruction::Bltu(fields)
+            | Instruction::Bge(fields)
+            | Instruction::Bgeu(fields) => InstructionFields::B(*fields),
+            Instruction::Lui(fields) | Instruction::Auipc(fields) => InstructionFields::U(*fields),
+            Instruction::Jal(fields) => InstructionFields::J(*fields),
         }
     }
 
@@ -294,6 +332,28 @@ impl Instruction {
             Instruction::Fence(dec_insn) => T::process_fence(processor, dec_insn),
             Instruction::Ecall(dec_insn) => T::process_ecall(processor, dec_insn),
             Instruction::Ebreak(dec_insn) => T::process_ebreak(processor, dec_insn),
+        }
+    }
+}
+
+/// The text for programmers, `{:?}`, as a derive would write it.
+impl fmt::Debug for Instruction {
+    fn fmt<W: fmt::Write>(&self, f: &mut fmt::Formatter<W>) -> fmt::Result {
+        f.debug_tuple(self.row().2).field(&self.fields()).finish()
+    }
+}
+
+/// The text for programmers of the fields themselves, with no name of the format beside it.
+impl fmt::Debug for InstructionFields {
+    fn fmt<W: fmt::Write>(&self, f: &mut fmt::Formatter<W>) -> fmt::Result {
+        match self {
+            InstructionFields::R(fields) => fields.fmt(f),
+            InstructionFields::I(fields) => fields.fmt(f),
+            InstructionFields::IShamt(fields) => fields.fmt(f),
+            InstructionFields::S(fields) => fields.fmt(f),
+            InstructionFields::B(fields) => fields.fmt(f),
+            InstructionFields::U(fields) => fields.fmt(f),
+            InstructionFields::J(fields) => fields.fmt(f),
         }
     }
 }

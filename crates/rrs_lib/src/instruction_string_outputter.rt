@@ -1,4 +1,4 @@
-//! An [InstructionProcessor] that gives the text of each instruction, in assembly syntax.
+//! An [InstructionHandler] that gives the text of each instruction, in assembly syntax.
 //!
 //! The texts follow the assembly syntax of the RISC-V unprivileged specification: the mnemonic of
 //! the table's row, and then its operands. A register is `x` and its number. Where the instruction
@@ -22,10 +22,12 @@
 ghost use Rattle.std.specs.Prelude.{◌≡◌, ◌++◌, codes, IfOk, string_bytes};
 ghost use Rattle.std.specs.Fmt.{decimal, signed_decimal};
 ghost use Rattle.rrs_instruction.specs.Words.{word};
+ghost use Rattle.rrs_instruction.specs.Instructions.{row_of, fields_of};
 ghost use Rattle.rrs_instruction.specs.Results.{plus_immediate};
 ghost use Rattle.rrs_lib.specs.Texts.{hexadecimal, register};
 
-use crate::InstructionProcessor;
+use crate::InstructionHandler;
+use crate::instruction::{Instruction, InstructionFields};
 use crate::instruction_formats::{BType, IType, ITypeShamt, JType, RType, SType, UType};
 use rrs_instruction::arithmetic;
 use std::alloc::{AllocError, Global};
@@ -48,6 +50,8 @@ pub struct InstructionStringOutputter {
 }
 
 impl InstructionStringOutputter {
+    ghost use Rattle.rrs_lib.specs.Outputter.{usual_text};
+
     /// The text of an operation on two registers, such as `add x3, x1, x2`.
     fn three_registers(&self, name: &'static str, dec_insn: RType) -> Result<String, AllocError>
         ensures { IfOk result (λ text. string_bytes text ≡ name.now ++ codes " "
@@ -131,207 +135,58 @@ impl InstructionStringOutputter {
         let imm = arithmetic::immediate(imm);
         format!(in self.alloc; "{name} x{rd}, 0x{imm:03x}(x{rs1})")
     }
+
+    /// The text of an instruction that is written as most of its format are.
+    fn usual(&self, instruction: &Instruction) -> Result<String, AllocError>
+        ensures { IfOk result (λ text. string_bytes text
+            ≡ usual_text (row_of instruction.now) (fields_of instruction.now) self.now.insn_pc) }
+    {
+        let name = instruction.mnemonic();
+        match instruction.fields() {
+            InstructionFields::R(dec_insn) => self.three_registers(name, dec_insn),
+            InstructionFields::I(dec_insn) => self.two_registers(name, dec_insn),
+            InstructionFields::IShamt(dec_insn) => self.shifted_register(name, dec_insn),
+            InstructionFields::S(SType { rs2, rs1, imm, .. }) => {
+                self.register_and_place(name, rs2, imm, rs1)
+            }
+            InstructionFields::B(dec_insn) => self.branch_to(name, dec_insn),
+            InstructionFields::U(UType { rd, imm }) => {
+                self.register_and_word(name, rd, arithmetic::immediate(imm))
+            }
+            InstructionFields::J(JType { rd, imm }) => {
+                let target = arithmetic::plus_immediate(self.insn_pc, imm);
+                self.register_and_word(name, rd, target)
+            }
+        }
+    }
 }
 
-impl InstructionProcessor for InstructionStringOutputter {
+impl InstructionHandler for InstructionStringOutputter {
     ghost use Rattle.rrs_lib.specs.Outputter.{Prints};
 
-    type InstructionResult = Result<String, AllocError>;
+    type Answer = Result<String, AllocError>;
 
     ghost did = { λ row f before after answer. Prints row f before after answer };
 
-    fn process_add(&mut self, dec_insn: RType) -> Self::InstructionResult {
-        self.three_registers("add", dec_insn)
-    }
-
-    fn process_sub(&mut self, dec_insn: RType) -> Self::InstructionResult {
-        self.three_registers("sub", dec_insn)
-    }
-
-    fn process_sll(&mut self, dec_insn: RType) -> Self::InstructionResult {
-        self.three_registers("sll", dec_insn)
-    }
-
-    fn process_slt(&mut self, dec_insn: RType) -> Self::InstructionResult {
-        self.three_registers("slt", dec_insn)
-    }
-
-    fn process_sltu(&mut self, dec_insn: RType) -> Self::InstructionResult {
-        self.three_registers("sltu", dec_insn)
-    }
-
-    fn process_xor(&mut self, dec_insn: RType) -> Self::InstructionResult {
-        self.three_registers("xor", dec_insn)
-    }
-
-    fn process_srl(&mut self, dec_insn: RType) -> Self::InstructionResult {
-        self.three_registers("srl", dec_insn)
-    }
-
-    fn process_sra(&mut self, dec_insn: RType) -> Self::InstructionResult {
-        self.three_registers("sra", dec_insn)
-    }
-
-    fn process_or(&mut self, dec_insn: RType) -> Self::InstructionResult {
-        self.three_registers("or", dec_insn)
-    }
-
-    fn process_and(&mut self, dec_insn: RType) -> Self::InstructionResult {
-        self.three_registers("and", dec_insn)
-    }
-
-    fn process_addi(&mut self, dec_insn: IType) -> Self::InstructionResult {
-        self.two_registers("addi", dec_insn)
-    }
-
-    fn process_slli(&mut self, dec_insn: ITypeShamt) -> Self::InstructionResult {
-        self.shifted_register("slli", dec_insn)
-    }
-
-    fn process_slti(&mut self, dec_insn: IType) -> Self::InstructionResult {
-        self.two_registers("slti", dec_insn)
-    }
-
-    fn process_sltui(&mut self, dec_insn: IType) -> Self::InstructionResult {
-        self.two_registers("sltiu", dec_insn)
-    }
-
-    fn process_xori(&mut self, dec_insn: IType) -> Self::InstructionResult {
-        self.two_registers("xori", dec_insn)
-    }
-
-    fn process_srli(&mut self, dec_insn: ITypeShamt) -> Self::InstructionResult {
-        self.shifted_register("srli", dec_insn)
-    }
-
-    fn process_srai(&mut self, dec_insn: ITypeShamt) -> Self::InstructionResult {
-        self.shifted_register("srai", dec_insn)
-    }
-
-    fn process_ori(&mut self, dec_insn: IType) -> Self::InstructionResult {
-        self.two_registers("ori", dec_insn)
-    }
-
-    fn process_andi(&mut self, dec_insn: IType) -> Self::InstructionResult {
-        self.two_registers("andi", dec_insn)
-    }
-
-    fn process_lui(&mut self, dec_insn: UType) -> Self::InstructionResult {
-        let value = arithmetic::immediate(dec_insn.imm);
-        self.register_and_word("lui", dec_insn.rd, value)
-    }
-
-    fn process_auipc(&mut self, dec_insn: UType) -> Self::InstructionResult {
-        let sum = arithmetic::plus_immediate(self.insn_pc, dec_insn.imm);
-        self.register_and_word("auipc", dec_insn.rd, sum)
-    }
-
-    fn process_beq(&mut self, dec_insn: BType) -> Self::InstructionResult {
-        self.branch_to("beq", dec_insn)
-    }
-
-    fn process_bne(&mut self, dec_insn: BType) -> Self::InstructionResult {
-        self.branch_to("bne", dec_insn)
-    }
-
-    fn process_blt(&mut self, dec_insn: BType) -> Self::InstructionResult {
-        self.branch_to("blt", dec_insn)
-    }
-
-    fn process_bltu(&mut self, dec_insn: BType) -> Self::InstructionResult {
-        self.branch_to("bltu", dec_insn)
-    }
-
-    fn process_bge(&mut self, dec_insn: BType) -> Self::InstructionResult {
-        self.branch_to("bge", dec_insn)
-    }
-
-    fn process_bgeu(&mut self, dec_insn: BType) -> Self::InstructionResult {
-        self.branch_to("bgeu", dec_insn)
-    }
-
-    fn process_lb(&mut self, dec_insn: IType) -> Self::InstructionResult {
-        self.register_and_place("lb", dec_insn.rd, dec_insn.imm, dec_insn.rs1)
-    }
-
-    fn process_lbu(&mut self, dec_insn: IType) -> Self::InstructionResult {
-        self.register_and_place("lbu", dec_insn.rd, dec_insn.imm, dec_insn.rs1)
-    }
-
-    fn process_lh(&mut self, dec_insn: IType) -> Self::InstructionResult {
-        self.register_and_place("lh", dec_insn.rd, dec_insn.imm, dec_insn.rs1)
-    }
-
-    fn process_lhu(&mut self, dec_insn: IType) -> Self::InstructionResult {
-        self.register_and_place("lhu", dec_insn.rd, dec_insn.imm, dec_insn.rs1)
-    }
-
-    fn process_lw(&mut self, dec_insn: IType) -> Self::InstructionResult {
-        self.register_and_place("lw", dec_insn.rd, dec_insn.imm, dec_insn.rs1)
-    }
-
-    fn process_sb(&mut self, dec_insn: SType) -> Self::InstructionResult {
-        self.register_and_place("sb", dec_insn.rs2, dec_insn.imm, dec_insn.rs1)
-    }
-
-    fn process_sh(&mut self, dec_insn: SType) -> Self::InstructionResult {
-        self.register_and_place("sh", dec_insn.rs2, dec_insn.imm, dec_insn.rs1)
-    }
-
-    fn process_sw(&mut self, dec_insn: SType) -> Self::InstructionResult {
-        self.register_and_place("sw", dec_insn.rs2, dec_insn.imm, dec_insn.rs1)
-    }
-
-    fn process_jal(&mut self, dec_insn: JType) -> Self::InstructionResult {
-        let target = arithmetic::plus_immediate(self.insn_pc, dec_insn.imm);
-        self.register_and_word("jal", dec_insn.rd, target)
-    }
-
-    fn process_jalr(&mut self, dec_insn: IType) -> Self::InstructionResult {
-        self.jump("jalr", dec_insn)
-    }
-
-    fn process_mul(&mut self, dec_insn: RType) -> Self::InstructionResult {
-        self.three_registers("mul", dec_insn)
-    }
-
-    fn process_mulh(&mut self, dec_insn: RType) -> Self::InstructionResult {
-        self.three_registers("mulh", dec_insn)
-    }
-
-    fn process_mulhu(&mut self, dec_insn: RType) -> Self::InstructionResult {
-        self.three_registers("mulhu", dec_insn)
-    }
-
-    fn process_mulhsu(&mut self, dec_insn: RType) -> Self::InstructionResult {
-        self.three_registers("mulhsu", dec_insn)
-    }
-
-    fn process_div(&mut self, dec_insn: RType) -> Self::InstructionResult {
-        self.three_registers("div", dec_insn)
-    }
-
-    fn process_divu(&mut self, dec_insn: RType) -> Self::InstructionResult {
-        self.three_registers("divu", dec_insn)
-    }
-
-    fn process_rem(&mut self, dec_insn: RType) -> Self::InstructionResult {
-        self.three_registers("rem", dec_insn)
-    }
-
-    fn process_remu(&mut self, dec_insn: RType) -> Self::InstructionResult {
-        self.three_registers("remu", dec_insn)
-    }
-
-    fn process_fence(&mut self, _dec_insn: IType) -> Self::InstructionResult {
-        format!(in self.alloc; "fence")
-    }
-
-    fn process_ecall(&mut self, _dec_insn: IType) -> Self::InstructionResult {
-        format!(in self.alloc; "ecall")
-    }
-
-    fn process_ebreak(&mut self, _dec_insn: IType) -> Self::InstructionResult {
-        format!(in self.alloc; "ebreak")
+    fn handle(&mut self, instruction: &Instruction) -> Self::Answer {
+        let name = instruction.mnemonic();
+        match *instruction {
+            Instruction::Auipc(UType { rd, imm }) => {
+                let sum = arithmetic::plus_immediate(self.insn_pc, imm);
+                self.register_and_word(name, rd, sum)
+            }
+            Instruction::Lb(dec_insn)
+            | Instruction::Lbu(dec_insn)
+            | Instruction::Lh(dec_insn)
+            | Instruction::Lhu(dec_insn)
+            | Instruction::Lw(dec_insn) => {
+                self.register_and_place(name, dec_insn.rd, dec_insn.imm, dec_insn.rs1)
+            }
+            Instruction::Jalr(dec_insn) => self.jump(name, dec_insn),
+            Instruction::Fence(_) | Instruction::Ecall(_) | Instruction::Ebreak(_) => {
+                format!(in self.alloc; "{name}")
+            }
+            _ => self.usual(instruction),
+        }
     }
 }
