@@ -19,7 +19,7 @@ use rrs_lib::InstructionHandler;
 use rrs_lib::instruction::Instruction;
 
 /// The number of rows of the table.
-pub const ROW_COUNT: usize = 48;
+pub const ROW_COUNT: usize = rrs_lib::instruction::ROW_COUNT;
 
 /// Returns the number of the row of an instruction, 1 to [ROW_COUNT], in the order of the table.
 ///

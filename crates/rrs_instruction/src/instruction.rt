@@ -6,11 +6,15 @@
 
 ghost use Rattle.std.specs.Prelude.{◌≡◌, ◌≤◌};
 ghost use Rattle.rrs_instruction.specs.Encodings.{HasRegisters};
+ghost use Rattle.rrs_instruction.specs.declared.instruction.TheConstants.{ROW_COUNT};
 
 use crate::InstructionProcessor;
 pub use crate::decode::decode;
 use crate::instruction_formats::{BType, IType, ITypeShamt, JType, RType, SType, UType};
 use std::fmt;
+
+/// The number of rows of the table.
+pub const ROW_COUNT: usize = 48;
 
 /// An instruction: a variant for each row of the table, in its order, that holds the row's fields.
 ///
@@ -142,14 +146,14 @@ impl Instruction {
     ghost use Rattle.rrs_instruction.specs.Instructions.{row_of, fields_of, as_fields};
     ghost use Rattle.rrs_instruction.specs.Table.{table};
 
-    /// The number of the instruction's row, 1 to 48, in the order of the table.
+    /// The number of the instruction's row, 1 to [ROW_COUNT], in the order of the table.
     #[inline]
     pub fn number(&self) -> usize
         ensures number { result ≡ (table (row_of self.now)).number }
         ensures first { 1 ≤ result }
-        ensures last { result ≤ 48 }
+        ensures last { result ≤ ROW_COUNT }
     {
-        self.row().0
+        self.line().0
     }
 
     /// The name of the instruction's row, as in its text: `add`.
@@ -157,67 +161,7 @@ impl Instruction {
     pub fn mnemonic(&self) -> &'static str
         ensures { result.now ≡ (table (row_of self.now)).name }
     {
-        self.row().1
-    }
-
-    /// The number of the instruction's row and its name, and the name of the variant.
-    #[inline]
-    fn row(&self) -> (usize, &'static str, &'static str)
-        ensures number { result.0 ≡ (table (row_of self.now)).number }
-        ensures first { 1 ≤ result.0 }
-        ensures last { result.0 ≤ 48 }
-        ensures name { result.1.now ≡ (table (row_of self.now)).name }
-    {
-        match self {
-            Instruction::Add(_) => (1, "add", "Add"),
-            Instruction::Sub(_) => (2, "sub", "Sub"),
-            Instruction::Sll(_) => (3, "sll", "Sll"),
-            Instruction::Slt(_) => (4, "slt", "Slt"),
-            Instruction::Sltu(_) => (5, "sltu", "Sltu"),
-            Instruction::Xor(_) => (6, "xor", "Xor"),
-            Instruction::Srl(_) => (7, "srl", "Srl"),
-            Instruction::Sra(_) => (8, "sra", "Sra"),
-            Instruction::Or(_) => (9, "or", "Or"),
-            Instruction::And(_) => (10, "and", "And"),
-            Instruction::Addi(_) => (11, "addi", "Addi"),
-            Instruction::Slli(_) => (12, "slli", "Slli"),
-            Instruction::Slti(_) => (13, "slti", "Slti"),
-            Instruction::Sltiu(_) => (14, "sltiu", "Sltiu"),
-            Instruction::Xori(_) => (15, "xori", "Xori"),
-            Instruction::Srli(_) => (16, "srli", "Srli"),
-            Instruction::Srai(_) => (17, "srai", "Srai"),
-            Instruction::Ori(_) => (18, "ori", "Ori"),
-            Instruction::Andi(_) => (19, "andi", "Andi"),
-            Instruction::Lui(_) => (20, "lui", "Lui"),
-            Instruction::Auipc(_) => (21, "auipc", "Auipc"),
-            Instruction::Beq(_) => (22, "beq", "Beq"),
-            Instruction::Bne(_) => (23, "bne", "Bne"),
-            Instruction::Blt(_) => (24, "blt", "Blt"),
-            Instruction::Bltu(_) => (25, "bltu", "Bltu"),
-            Instruction::Bge(_) => (26, "bge", "Bge"),
-            Instruction::Bgeu(_) => (27, "bgeu", "Bgeu"),
-            Instruction::Lb(_) => (28, "lb", "Lb"),
-            Instruction::Lbu(_) => (29, "lbu", "Lbu"),
-            Instruction::Lh(_) => (30, "lh", "Lh"),
-            Instruction::Lhu(_) => (31, "lhu", "Lhu"),
-            Instruction::Lw(_) => (32, "lw", "Lw"),
-            Instruction::Sb(_) => (33, "sb", "Sb"),
-            Instruction::Sh(_) => (34, "sh", "Sh"),
-            Instruction::Sw(_) => (35, "sw", "Sw"),
-            Instruction::Jal(_) => (36, "jal", "Jal"),
-            Instruction::Jalr(_) => (37, "jalr", "Jalr"),
-            Instruction::Mul(_) => (38, "mul", "Mul"),
-            Instruction::Mulh(_) => (39, "mulh", "Mulh"),
-            Instruction::Mulhu(_) => (40, "mulhu", "Mulhu"),
-            Instruction::Mulhsu(_) => (41, "mulhsu", "Mulhsu"),
-            Instruction::Div(_) => (42, "div", "Div"),
-            Instruction::Divu(_) => (43, "divu", "Divu"),
-            Instruction::Rem(_) => (44, "rem", "Rem"),
-            Instruction::Remu(_) => (45, "remu", "Remu"),
-            Instruction::Fence(_) => (46, "fence", "Fence"),
-            Instruction::Ecall(_) => (47, "ecall", "Ecall"),
-            Instruction::Ebreak(_) => (48, "ebreak", "Ebreak"),
-        }
+        self.line().1
     }
 
     /// The fields of the instruction, by their format.
@@ -225,52 +169,68 @@ impl Instruction {
     pub fn fields(&self) -> InstructionFields
         ensures { as_fields result ≡ fields_of self.now }
     {
-        match self {
-            Instruction::Add(fields)
-            | Instruction::Sub(fields)
-            | Instruction::Sll(fields)
-            | Instruction::Slt(fields)
-            | Instruction::Sltu(fields)
-            | Instruction::Xor(fields)
-            | Instruction::Srl(fields)
-            | Instruction::Sra(fields)
-            | Instruction::Or(fields)
-            | Instruction::And(fields)
-            | Instruction::Mul(fields)
-            | Instruction::Mulh(fields)
-            | Instruction::Mulhu(fields)
-            | Instruction::Mulhsu(fields)
-            | Instruction::Div(fields)
-            | Instruction::Divu(fields)
-            | Instruction::Rem(fields)
-            | Instruction::Remu(fields) => InstructionFields::R(*fields),
-            Instruction::Addi(fields)
-            | Instruction::Slti(fields)
-            | Instruction::Sltiu(fields)
-            | Instruction::Xori(fields)
-            | Instruction::Ori(fields)
-            | Instruction::Andi(fields)
-            | Instruction::Lb(fields)
-            | Instruction::Lbu(fields)
-            | Instruction::Lh(fields)
-            | Instruction::Lhu(fields)
-            | Instruction::Lw(fields)
-            | Instruction::Jalr(fields)
-            | Instruction::Fence(fields)
-            | Instruction::Ecall(fields)
-            | Instruction::Ebreak(fields) => InstructionFields::I(*fields),
-            Instruction::Slli(fields) | Instruction::Srli(fields) | Instruction::Srai(fields) =>
-                InstructionFields::IShamt(*fields),
-            Instruction::Sb(fields) | Instruction::Sh(fields) | Instruction::Sw(fields) =>
-                InstructionFields::S(*fields),
-            Instruction::Beq(fields)
-            | Instruction::Bne(fields)
-            | Instruction::Blt(fields)
-            | Instruction::Bltu(fields)
-            | Instruction::Bge(fields)
-            | Instruction::Bgeu(fields) => InstructionFields::B(*fields),
-            Instruction::Lui(fields) | Instruction::Auipc(fields) => InstructionFields::U(*fields),
-            Instruction::Jal(fields) => InstructionFields::J(*fields),
+        self.line().3
+    }
+
+    /// What is the row's own: its number, its name, the name of the variant, and the fields by
+    /// their format.
+    #[inline]
+    fn line(&self) -> (usize, &'static str, &'static str, InstructionFields)
+        ensures number { result.0 ≡ (table (row_of self.now)).number }
+        ensures first { 1 ≤ result.0 }
+        ensures last { result.0 ≤ ROW_COUNT }
+        ensures name { result.1.now ≡ (table (row_of self.now)).name }
+        ensures fields { as_fields result.3 ≡ fields_of self.now }
+    {
+        match *self {
+            Instruction::Add(fields) => (1, "add", "Add", InstructionFields::R(fields)),
+            Instruction::Sub(fields) => (2, "sub", "Sub", InstructionFields::R(fields)),
+            Instruction::Sll(fields) => (3, "sll", "Sll", InstructionFields::R(fields)),
+            Instruction::Slt(fields) => (4, "slt", "Slt", InstructionFields::R(fields)),
+            Instruction::Sltu(fields) => (5, "sltu", "Sltu", InstructionFields::R(fields)),
+            Instruction::Xor(fields) => (6, "xor", "Xor", InstructionFields::R(fields)),
+            Instruction::Srl(fields) => (7, "srl", "Srl", InstructionFields::R(fields)),
+            Instruction::Sra(fields) => (8, "sra", "Sra", InstructionFields::R(fields)),
+            Instruction::Or(fields) => (9, "or", "Or", InstructionFields::R(fields)),
+            Instruction::And(fields) => (10, "and", "And", InstructionFields::R(fields)),
+            Instruction::Addi(fields) => (11, "addi", "Addi", InstructionFields::I(fields)),
+            Instruction::Slli(fields) => (12, "slli", "Slli", InstructionFields::IShamt(fields)),
+            Instruction::Slti(fields) => (13, "slti", "Slti", InstructionFields::I(fields)),
+            Instruction::Sltiu(fields) => (14, "sltiu", "Sltiu", InstructionFields::I(fields)),
+            Instruction::Xori(fields) => (15, "xori", "Xori", InstructionFields::I(fields)),
+            Instruction::Srli(fields) => (16, "srli", "Srli", InstructionFields::IShamt(fields)),
+            Instruction::Srai(fields) => (17, "srai", "Srai", InstructionFields::IShamt(fields)),
+            Instruction::Ori(fields) => (18, "ori", "Ori", InstructionFields::I(fields)),
+            Instruction::Andi(fields) => (19, "andi", "Andi", InstructionFields::I(fields)),
+            Instruction::Lui(fields) => (20, "lui", "Lui", InstructionFields::U(fields)),
+            Instruction::Auipc(fields) => (21, "auipc", "Auipc", InstructionFields::U(fields)),
+            Instruction::Beq(fields) => (22, "beq", "Beq", InstructionFields::B(fields)),
+            Instruction::Bne(fields) => (23, "bne", "Bne", InstructionFields::B(fields)),
+            Instruction::Blt(fields) => (24, "blt", "Blt", InstructionFields::B(fields)),
+            Instruction::Bltu(fields) => (25, "bltu", "Bltu", InstructionFields::B(fields)),
+            Instruction::Bge(fields) => (26, "bge", "Bge", InstructionFields::B(fields)),
+            Instruction::Bgeu(fields) => (27, "bgeu", "Bgeu", InstructionFields::B(fields)),
+            Instruction::Lb(fields) => (28, "lb", "Lb", InstructionFields::I(fields)),
+            Instruction::Lbu(fields) => (29, "lbu", "Lbu", InstructionFields::I(fields)),
+            Instruction::Lh(fields) => (30, "lh", "Lh", InstructionFields::I(fields)),
+            Instruction::Lhu(fields) => (31, "lhu", "Lhu", InstructionFields::I(fields)),
+            Instruction::Lw(fields) => (32, "lw", "Lw", InstructionFields::I(fields)),
+            Instruction::Sb(fields) => (33, "sb", "Sb", InstructionFields::S(fields)),
+            Instruction::Sh(fields) => (34, "sh", "Sh", InstructionFields::S(fields)),
+            Instruction::Sw(fields) => (35, "sw", "Sw", InstructionFields::S(fields)),
+            Instruction::Jal(fields) => (36, "jal", "Jal", InstructionFields::J(fields)),
+            Instruction::Jalr(fields) => (37, "jalr", "Jalr", InstructionFields::I(fields)),
+            Instruction::Mul(fields) => (38, "mul", "Mul", InstructionFields::R(fields)),
+            Instruction::Mulh(fields) => (39, "mulh", "Mulh", InstructionFields::R(fields)),
+            Instruction::Mulhu(fields) => (40, "mulhu", "Mulhu", InstructionFields::R(fields)),
+            Instruction::Mulhsu(fields) => (41, "mulhsu", "Mulhsu", InstructionFields::R(fields)),
+            Instruction::Div(fields) => (42, "div", "Div", InstructionFields::R(fields)),
+            Instruction::Divu(fields) => (43, "divu", "Divu", InstructionFields::R(fields)),
+            Instruction::Rem(fields) => (44, "rem", "Rem", InstructionFields::R(fields)),
+            Instruction::Remu(fields) => (45, "remu", "Remu", InstructionFields::R(fields)),
+            Instruction::Fence(fields) => (46, "fence", "Fence", InstructionFields::I(fields)),
+            Instruction::Ecall(fields) => (47, "ecall", "Ecall", InstructionFields::I(fields)),
+            Instruction::Ebreak(fields) => (48, "ebreak", "Ebreak", InstructionFields::I(fields)),
         }
     }
 
@@ -339,7 +299,7 @@ impl Instruction {
 /// The text for programmers, `{:?}`, as a derive would write it.
 impl fmt::Debug for Instruction {
     fn fmt<W: fmt::Write>(&self, f: &mut fmt::Formatter<W>) -> fmt::Result {
-        f.debug_tuple(self.row().2).field(&self.fields()).finish()
+        f.debug_tuple(self.line().2).field(&self.fields()).finish()
     }
 }
 
