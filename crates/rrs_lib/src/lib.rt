@@ -15,7 +15,7 @@
 pub mod instruction_executor;
 pub mod instruction_string_outputter;
 
-ghost use Rattle.std.specs.Prelude.{◌≡◌, ℕ, ◌<◌, slice_index, length, Bool, Option, None, pos, replicate};
+ghost use Rattle.std.specs.Prelude.{◌≡◌, ℕ, ◌<◌, ◌≤◌, slice_index, length, Bool, Option, Some, None, IfSome, IfNone, pos, replicate};
 
 pub use rrs_instruction::{
     InstructionHandler, InstructionProcessor, instruction, instruction_formats, process_instruction,
@@ -36,6 +36,7 @@ pub struct HartState {
 
 impl HartState {
     ghost use Rattle.rrs_lib.specs.Machine.{state_of, reg, put};
+    ghost use Rattle.rrs_lib.specs.Steps.{LastIsRegister};
 
     /// A hart with all registers 0, at address 0, that has written no register.
     pub fn new() -> Self
@@ -78,6 +79,28 @@ impl HartState {
             0
         } else {
             self.registers[reg_index]
+        }
+    }
+
+    /// The register that the latest instruction wrote, 1 to 31, and its value; `None` if it wrote
+    /// none. So it is also where `last_register_write` holds another number, which no call leaves
+    /// there.
+    #[inline]
+    pub fn last_written(&self) -> Option<(usize, u32)>
+        ensures register { IfSome result (λ written.
+            self.now.last_register_write ≡ Some written.0) }
+        ensures within { IfSome result (λ written. (1 ≤ written.0) × (written.0 ≤ 31)) }
+        ensures value { (bytes : ℕ → Option ℕ) (writable : ℕ → Bool)
+            → IfSome result (λ written.
+            written.1 ≡ reg (state_of self.now bytes writable) written.0) }
+        ensures none { LastIsRegister self.now.last_register_write
+            → IfNone result (self.now.last_register_write ≡ None) }
+    {
+        match self.last_register_write {
+            Some(register) if 1 <= register && register < 32 => {
+                Some((register, self.read_register(register)))
+            }
+            _ => None,
         }
     }
 

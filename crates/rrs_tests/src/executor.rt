@@ -242,6 +242,34 @@ fn writes_and_reads_registers(rt: HostRuntime) {
     assert!(rt; read == (0, 8) && last == (Some(31), 32));
 }
 
+// The register that a step wrote, by its number, and with its value. Neither needs a check.
+fn written_by_step<M: Memory>(
+    mem: &mut M,
+    hart: &mut HartState,
+) -> (Option<u32>, Option<(usize, u32)>) {
+    let mut executor = InstructionExecutor {
+        mem,
+        hart_state: hart,
+    };
+    let _answer = executor.step();
+    let value = match executor.hart_state.last_register_write {
+        Some(register) => Some(executor.hart_state.read_register(register)),
+        None => None,
+    };
+    (value, executor.hart_state.last_written())
+}
+
+// After the fault of a word outside the table no register is the one written last.
+#[test]
+fn tells_what_was_written_last(rt: HostRuntime) -> Result<(), Fail> {
+    let mut memory = memory_of(rt.alloc(), &[0x00500093, 0])?;
+    let mut hart = hart_of(0, &[]);
+    let written = written_by_step(&mut memory, &mut hart);
+    let faulted = written_by_step(&mut memory, &mut hart);
+    assert!(rt; written == (Some(5), Some((1, 5))) && faulted == (None, None));
+    Ok(())
+}
+
 // Whatever fields are handed in, an environment call is its fault, and a shift takes the amount
 // modulo 32.
 #[test]

@@ -5,6 +5,7 @@ use Rattle.rrs_lib.specs.Steps.{StepAnswer, Run}
 use Rattle.rrs_lib.specs.Accesses.{AccessesOfRun, MakesExactly}
 use Rattle.rrs_lib.proofs.Making.{exactly-more}
 use Rattle.rrs_lib.proofs.Stepping.{Run-more, Run-unique, KeepsTheRest-trans}
+use Rattle.rrs_lib.proofs.Keeping.{Run-last}
 use Rattle.rrs_instruction.proofs.Rows.{one_row_at_most}
 use Rattle.rrs_lib.proofs.instruction_executor.InstructionExecutor.step_each.Goals as goal
 
@@ -33,3 +34,6 @@ returns-clause-accesses g c =
     let Q : List StepAnswer → Type 0 = λ answers. MakesExactly g.M.Memory.reads g.M.Memory.writes (AccessesOfRun (state c.args.self.now) answers) c.args.self.now.mem.now c.loop-answer.self.mem.now in
     let whole : length c.loop-answer.answers ≤ c.loop-answer.answer-index = omega arith in
     subst Q (take_all _ _ whole) c.loop-answer.invariant.accesses
+
+pub returns-clause-last : goal.returns-clause-last
+returns-clause-last g c = Run-last _ _ _ c.loop-answer.invariant.run
