@@ -1,0 +1,3 @@
+-- Lemmas of the steps that are told.
+mod TracedAccesses
+mod LastWritten
