@@ -1,3 +1,4 @@
--- Lemmas of the steps that are told.
+-- Lemmas of the steps that are told, and of the runs that stop.
 mod TracedAccesses
 mod LastWritten
+mod Stopping

@@ -1,9 +1,9 @@
 -- What a traced memory has after the accesses of a step: the memory that is lent did them, what the fetch read, and the access after it.
-use Rattle.std.proofs.Common.{◌≡◌, ◌≢◌, ℕ, ◌==◌, ◌%◌, List, [], ◌∷◌, Bool, true, false, Option, Some, None, if◌then◌else◌, refl, sym, subst, ap, ◌∙◌, eq-eqb}
+use Rattle.std.proofs.Common.{◌≡◌, ℕ, ◌==◌, ◌%◌, List, [], ◌∷◌, Bool, true, false, Option, None, if◌then◌else◌, sym, subst, ap, ◌∙◌, eq-eqb}
 use Rattle.std.proofs.lemmas.Bool.{cond-true, cond-false, ne_eqb}
 use Rattle.rrs_lib.specs.declared.MemAccessSize.{MemAccessSize}
 use Rattle.rrs_lib.specs.Encodings.{Fields, I, S}
-use Rattle.rrs_lib.specs.Table.{Row, table, Action, Load, Store}
+use Rattle.rrs_lib.specs.Table.{table, Action, Load, Store}
 use Rattle.rrs_lib.specs.Machine.{State}
 use Rattle.rrs_lib.specs.Steps.{next_word}
 use Rattle.rrs_lib.specs.Accesses.{Access, Read, Write, Does, Makes, AccessesOf, OfNone, OfFetch, OfRow, MakesExactly, fetch, accesses_by, accesses_of_row}
@@ -49,17 +49,19 @@ module _ {M : Type 0} (reads : M → ℕ → MemAccessSize → M → Option ℕ 
   one_kept : (access : Access) (old new : TracedMemory M) → old.is_fetch ≡ true → Makes (traced_reads reads) (traced_writes writes) (access ∷ []) old new → (new.insn ≡ read_by access) × (new.access ≡ old.access)
   one_kept access old new armed made =
       let first = does access [] old new made in
-      let last = none_kept first.0 new first.2 in
-      (last.0 ∙ first.1.1.insn ∙ ap (λ b. if b then read_by access else old.insn) armed,
-       last.1 ∙ first.1.1.latest ∙ ap (λ b. if b then old.access else log_of access) armed)
+      let last = none_kept first.0 new first.2 in (
+        last.0 ∙ first.1.1.insn ∙ ap (λ b. if b then read_by access else old.insn) armed,
+        last.1 ∙ first.1.1.latest ∙ ap (λ b. if b then old.access else log_of access) armed,
+      )
 
   two_kept : (access next : Access) (old new : TracedMemory M) → old.is_fetch ≡ true → Makes (traced_reads reads) (traced_writes writes) (access ∷ next ∷ []) old new → (new.insn ≡ read_by access) × (new.access ≡ log_of next)
   two_kept access next old new armed made =
       let first = does access (next ∷ []) old new made in
       let second = does next [] first.0 new first.2 in
-      let last = none_kept second.0 new second.2 in
-      (last.0 ∙ second.1.1.insn ∙ ap (λ b. if b then read_by next else first.0.insn) first.1.1.past_fetch ∙ first.1.1.insn ∙ ap (λ b. if b then read_by access else old.insn) armed,
-       last.1 ∙ second.1.1.latest ∙ ap (λ b. if b then first.0.access else log_of next) first.1.1.past_fetch)
+      let last = none_kept second.0 new second.2 in (
+        last.0 ∙ second.1.1.insn ∙ ap (λ b. if b then read_by next else first.0.insn) first.1.1.past_fetch ∙ first.1.1.insn ∙ ap (λ b. if b then read_by access else old.insn) armed,
+        last.1 ∙ second.1.1.latest ∙ ap (λ b. if b then first.0.access else log_of next) first.1.1.past_fetch,
+      )
 
 -- one access at most
 abbrev IsFew : List Access → Type 0

@@ -2,14 +2,17 @@
 //!
 //! [step_retired] makes a step and tells what it retired, in the shape of RVFI, the RISC-V Formal
 //! Interface. [TracedMemory] is the memory under it, which keeps the latest access that is no
-//! fetch.
+//! fetch. [run_until] makes steps until the pc is one of some addresses.
 //!
-//! What a step retires is written in `specs/Retired.antt`.
+//! What a step retires is written in `specs/Retired.antt`, and what a run that stops is in
+//! `specs/Stops.antt`.
 
 #![tactic(auto)]
 
 mod retired;
+mod stops;
 mod traced;
 
 pub use retired::{Retired, step_retired};
+pub use stops::{StopEnd, StopReason, run_until};
 pub use traced::{MemoryAccess, TracedMemory};

@@ -88,10 +88,12 @@ fn sources_of(instruction: &Instruction) -> (usize, usize)
         | Instruction::Fence(fields)
         | Instruction::Ecall(fields)
         | Instruction::Ebreak(fields) => (fields.rs1, 0),
-        Instruction::Slli(fields) | Instruction::Srli(fields) | Instruction::Srai(fields) =>
-            (fields.rs1, 0),
-        Instruction::Sb(fields) | Instruction::Sh(fields) | Instruction::Sw(fields) =>
-            (fields.rs1, fields.rs2),
+        Instruction::Slli(fields) | Instruction::Srli(fields) | Instruction::Srai(fields) => (
+            fields.rs1, 0,
+        ),
+        Instruction::Sb(fields) | Instruction::Sh(fields) | Instruction::Sw(fields) => (
+            fields.rs1, fields.rs2,
+        ),
         Instruction::Beq(fields)
         | Instruction::Bne(fields)
         | Instruction::Blt(fields)
