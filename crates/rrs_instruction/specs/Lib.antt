@@ -5,3 +5,4 @@ pub mod Encodings
 pub mod Results
 pub mod Table
 pub mod Instructions
+pub mod Operands

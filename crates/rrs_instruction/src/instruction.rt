@@ -4,12 +4,15 @@
 //! one that a word is, and `process` hands it to an [InstructionProcessor].
 //! `process_instruction` is the one after the other.
 
+mod operands;
+
 ghost use Rattle.std.specs.Prelude.{◌≡◌, ◌≤◌};
 ghost use Rattle.rrs_instruction.specs.Encodings.{HasRegisters};
 ghost use Rattle.rrs_instruction.specs.declared.instruction.TheConstants.{ROW_COUNT};
 
 use crate::InstructionProcessor;
 pub use crate::decode::decode;
+pub use crate::instruction::operands::DataAccess;
 use crate::instruction_formats::{BType, IType, ITypeShamt, JType, RType, SType, UType};
 use std::fmt;
 

@@ -5,6 +5,7 @@ pub use Rattle.rrs_instruction.specs.Words
 pub use Rattle.rrs_instruction.specs.Encodings
 pub use Rattle.rrs_instruction.specs.Table
 pub use Rattle.rrs_instruction.specs.Instructions
+pub use Rattle.rrs_instruction.specs.Operands
 pub use Rattle.rrs_instruction.specs.Results
 -- Memory, of rrs_memory: bytes at addresses, what each memory keeps, and the memories of the kit.
 pub use Rattle.rrs_memory.specs.Bytes

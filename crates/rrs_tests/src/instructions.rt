@@ -1,6 +1,6 @@
 //! Instructions as values: what words are, and what is done with them.
 
-use rrs_lib::instruction::{Instruction, decode};
+use rrs_lib::instruction::{DataAccess, Instruction, decode};
 use rrs_lib::instruction_formats::{BType, IType};
 use rrs_lib::instruction_string_outputter::InstructionStringOutputter;
 use std::test::Fail;
@@ -52,6 +52,42 @@ fn words_are_these_instructions(rt: HostRuntime) {
         decode(0xffff_ffff),
     ];
     assert!(rt; decoded == [Some(branch), Some(system), None]);
+}
+
+/// The operands of an instruction: rd, rs1 and rs2, the immediate, and the shift amount.
+type Operands = ([Option<usize>; 3], Option<i32>, Option<u32>);
+
+/// The operands of the instruction that a word is, and what it accesses.
+fn operands_of(word: u32) -> Option<(Operands, Option<DataAccess>)> {
+    let instruction = decode(word)?;
+    let registers = [instruction.rd(), instruction.rs1(), instruction.rs2()];
+    let operands = (
+        registers,
+        instruction.immediate(),
+        instruction.shift_amount(),
+    );
+    Some((operands, instruction.access()))
+}
+
+// sw x1, 4(x0); lh x3, -4(x1); srai x3, x1, 7; no row
+#[test]
+fn operands_are_told(rt: HostRuntime) {
+    let told = [
+        operands_of(0x0010_2223),
+        operands_of(0xffc0_9183),
+        operands_of(0x4070_d193),
+        operands_of(0xffff_ffff),
+    ];
+    let store = ([None, Some(0), Some(1)], Some(4), None);
+    let load = ([Some(3), Some(1), None], Some(-4), None);
+    let shift = ([Some(3), Some(1), None], None, Some(7));
+    let expected = [
+        Some((store, Some(DataAccess::Store(4)))),
+        Some((load, Some(DataAccess::Load(2)))),
+        Some((shift, None)),
+        None,
+    ];
+    assert!(rt; told == expected);
 }
 
 #[test]
