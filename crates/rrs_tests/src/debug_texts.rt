@@ -18,8 +18,9 @@ fn shows_its_name(alloc: Global, instruction: Instruction) -> Result<bool, Alloc
     Ok(is_name && text.as_bytes().get(name.len()) == Some(&b'('))
 }
 
-/// Words of all rows: 18 of two registers, 21 of a register and an immediate, 3 times 24 of `lui`,
-/// `auipc` and `jal`, 18 branches, 15 loads, 9 stores, 3 of `jalr` and of `fence`, and two.
+/// Words of all rows of RV32I and M: 18 of two registers, 21 of a register and an immediate, 3 times
+/// 24 of `lui`, `auipc` and `jal`, 18 branches, 15 loads, 9 stores, 3 of `jalr` and of `fence`, and
+/// two. A row beside these may have words too.
 #[test]
 fn names_are_shown(rt: HostRuntime) -> Result<(), Fail> {
     let mut rows = 0u32;
@@ -40,7 +41,7 @@ fn names_are_shown(rt: HostRuntime) -> Result<(), Fail> {
             }
         }
     }
-    assert!(rt; rows == 161 && shown == 161);
+    assert!(rt; shown == rows && rows >= 161);
     Ok(())
 }
 
