@@ -1,9 +1,9 @@
-//! The examples of the pages under `docs/`, and the tests of `rrs_extra`.
+//! The examples of the pages under `docs/`, and the tests of `rrs_extra` and `rrs_debug`.
 //!
-//! They are written as a user's crate would be: over what `rrs_lib` and `rrs_extra` offer to every
-//! crate. The processor `call_counter` and its use in `coverage` are those of `docs/PROCESSORS.md`,
-//! and `count_down` is the program that `docs/PROGRAMS.md` proves step by step. All of it is built
-//! with the tests.
+//! They are written as a user's crate would be: over what `rrs_lib`, `rrs_extra` and `rrs_debug`
+//! offer to every crate. The processor `call_counter` and its use in `coverage` are those of
+//! `docs/PROCESSORS.md`, `count_down` is the program that `docs/PROGRAMS.md` proves step by step,
+//! and `tracing` has the examples of `docs/HOSTS.md`. All of it is built with the tests.
 
 #![tactic(auto)]
 
@@ -29,3 +29,5 @@ mod programs;
 mod rows;
 #[cfg(test)]
 mod texts;
+#[cfg(test)]
+mod tracing;
