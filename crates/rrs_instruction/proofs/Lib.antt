@@ -4,6 +4,7 @@ pub mod Decoder
 pub mod Examples
 pub mod Fields
 pub mod Formats
+pub mod Instructions
 pub mod Masks
 pub mod Places
 pub mod Rows

@@ -4,6 +4,7 @@ pub use Rattle.rrs_instruction.proofs.Decoder
 pub use Rattle.rrs_instruction.proofs.Examples
 pub use Rattle.rrs_instruction.proofs.Fields
 pub use Rattle.rrs_instruction.proofs.Formats
+pub use Rattle.rrs_instruction.proofs.Instructions
 pub use Rattle.rrs_instruction.proofs.Rows
 pub use Rattle.rrs_memory.proofs.ByteLemmas
 pub use Rattle.rrs_memory.proofs.RegionFields
