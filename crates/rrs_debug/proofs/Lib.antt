@@ -1,4 +1,3 @@
 -- Lemmas of the steps that are told, and of the runs that stop.
 mod TracedAccesses
-mod LastWritten
 mod Stopping

@@ -1,7 +1,7 @@
 -- What a step retires, in the shape of RVFI, the RISC-V Formal Interface: the word, the pc before
 -- and after, the source registers with what they had, the register that was written with what it
 -- has, and the load or the store.
-use Rattle.std.specs.Prelude.{◌≡◌, ℕ, zero, suc, ◌-◌, ◌%◌, ◌^◌, ◌<◌, List, [], ◌∷◌, Bool, true, false, Option, Some, None, Ok, Err, IfSome}
+use Rattle.std.specs.Prelude.{◌≡◌, ℕ, zero, suc, ◌-◌, ◌%◌, ◌^◌, List, [], ◌∷◌, Bool, true, false, Option, Some, None, Ok, Err, IfSome}
 use Rattle.rrs_lib.specs.declared.MemAccessSize.{MemAccessSize}
 use Rattle.rrs_lib.specs.Encodings.{Fields, R, I, IShamt, S, B, U, J}
 use Rattle.rrs_lib.specs.Table.{Row, Decodes, IsIllegal}
@@ -63,11 +63,6 @@ pub record HasSources (word : Option ℕ) (rs1 rs2 : ℕ) : Type 0 where
 abbrev pub last_of : ℕ → Option ℕ
 last_of zero = None
 last_of (suc r) = Some (suc r)
-
--- a register that a step can have written, or none
-abbrev pub IsWritten : Option ℕ → Type 0
-IsWritten None = Unit {0}
-IsWritten (Some r) = (0 < r) × (r < 32)
 
 -- ---- the step
 

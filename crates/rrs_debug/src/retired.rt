@@ -6,12 +6,12 @@ ghost use Rattle.rrs_lib.specs.Instructions.{fields_of};
 ghost use Rattle.rrs_lib.specs.Machine.{State, reg, state_of};
 ghost use Rattle.rrs_lib.specs.Executor.{state_in, KeepsTheRest};
 ghost use Rattle.rrs_lib.specs.Accesses.{Access, AccessesOf, MakesExactly};
-ghost use Rattle.rrs_lib.specs.Steps.{Step, IsOnlyStep, next_word};
+ghost use Rattle.rrs_lib.specs.Steps.{Step, IsOnlyStep, next_word, LastIsRegister};
 ghost use Rattle.rrs_debug.specs.Traced.{traced_state};
-ghost use Rattle.rrs_debug.specs.Retired.{no_access, after_fetch, first_source, second_source, HasSources, last_of, IsWritten, Retires};
+ghost use Rattle.rrs_debug.specs.Retired.{no_access, after_fetch, first_source, second_source, HasSources, last_of, Retires};
 
 use crate::traced::{MemoryAccess, TracedMemory};
-use rrs_lib::instruction::{Instruction, decode};
+use rrs_lib::instruction::{Instruction, InstructionFields, decode};
 use rrs_lib::instruction_executor::{InstructionException, InstructionExecutor};
 use rrs_lib::{HartState, Memory};
 
@@ -54,53 +54,13 @@ fn sources_of(instruction: &Instruction) -> (usize, usize)
     ensures first_low { result.0 < 32 }
     ensures second_low { result.1 < 32 }
 {
-    match instruction {
-        Instruction::Add(fields)
-        | Instruction::Sub(fields)
-        | Instruction::Sll(fields)
-        | Instruction::Slt(fields)
-        | Instruction::Sltu(fields)
-        | Instruction::Xor(fields)
-        | Instruction::Srl(fields)
-        | Instruction::Sra(fields)
-        | Instruction::Or(fields)
-        | Instruction::And(fields)
-        | Instruction::Mul(fields)
-        | Instruction::Mulh(fields)
-        | Instruction::Mulhu(fields)
-        | Instruction::Mulhsu(fields)
-        | Instruction::Div(fields)
-        | Instruction::Divu(fields)
-        | Instruction::Rem(fields)
-        | Instruction::Remu(fields) => (fields.rs1, fields.rs2),
-        Instruction::Addi(fields)
-        | Instruction::Slti(fields)
-        | Instruction::Sltiu(fields)
-        | Instruction::Xori(fields)
-        | Instruction::Ori(fields)
-        | Instruction::Andi(fields)
-        | Instruction::Lb(fields)
-        | Instruction::Lbu(fields)
-        | Instruction::Lh(fields)
-        | Instruction::Lhu(fields)
-        | Instruction::Lw(fields)
-        | Instruction::Jalr(fields)
-        | Instruction::Fence(fields)
-        | Instruction::Ecall(fields)
-        | Instruction::Ebreak(fields) => (fields.rs1, 0),
-        Instruction::Slli(fields) | Instruction::Srli(fields) | Instruction::Srai(fields) => (
-            fields.rs1, 0,
-        ),
-        Instruction::Sb(fields) | Instruction::Sh(fields) | Instruction::Sw(fields) => (
-            fields.rs1, fields.rs2,
-        ),
-        Instruction::Beq(fields)
-        | Instruction::Bne(fields)
-        | Instruction::Blt(fields)
-        | Instruction::Bltu(fields)
-        | Instruction::Bge(fields)
-        | Instruction::Bgeu(fields) => (fields.rs1, fields.rs2),
-        Instruction::Lui(_) | Instruction::Auipc(_) | Instruction::Jal(_) => (0, 0),
+    match instruction.fields() {
+        InstructionFields::R(fields) => (fields.rs1, fields.rs2),
+        InstructionFields::I(fields) => (fields.rs1, 0),
+        InstructionFields::IShamt(fields) => (fields.rs1, 0),
+        InstructionFields::S(fields) => (fields.rs1, fields.rs2),
+        InstructionFields::B(fields) => (fields.rs1, fields.rs2),
+        InstructionFields::U(_) | InstructionFields::J(_) => (0, 0),
     }
 }
 
@@ -177,7 +137,7 @@ fn see_step<M: Memory>(mem: &mut M, hart_state: &mut HartState) -> SeenStep
     ensures layout_kept { M.layout mem.new ≡ M.layout mem.old }
     ensures entry_zero { slice_index hart_state.new.registers 0
         ≡ slice_index hart_state.old.registers 0 }
-    ensures last { IsWritten hart_state.new.last_register_write }
+    ensures last { LastIsRegister hart_state.new.last_register_write }
 {
     let mut traced = TracedMemory {
         memory: mem,
@@ -208,7 +168,7 @@ fn copy_of(hart: &HartState) -> HartState
 /// The number of the register that was written last, or 0.
 #[inline]
 fn number_of(last: Option<usize>) -> usize
-    requires { IsWritten last }
+    requires { LastIsRegister last }
     ensures number { last ≡ last_of result }
     ensures low { result < 32 }
 {
