@@ -22,6 +22,7 @@ pub mod Machine
 pub mod Steps
 pub mod Accesses
 pub mod Texts
+pub mod FaultTexts
 -- The code as seen by these: what a processor, the executor and the outputter say of themselves.
 pub mod Executor
 pub mod Engines

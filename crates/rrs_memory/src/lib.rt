@@ -14,7 +14,7 @@ ghost use Rattle.std.specs.Prelude.{◌≡◌, ◌↔◌, ℕ, ◌%◌, List, Bo
 ghost use Rattle.rrs_memory.specs.Bytes.{width, Reads, Writes};
 
 /// The sizes of memory accesses.
-#[derive(Clone, Copy)]
+#[derive(Debug, PartialEq, Clone, Copy)]
 pub enum MemAccessSize {
     /// 1 byte.
     Byte,

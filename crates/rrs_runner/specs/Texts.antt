@@ -2,30 +2,18 @@
 use Rattle.std.specs.Prelude.{ℕ, zero, suc, List, [], ◌∷◌, ◌++◌, codes, Option, Some, None}
 use Rattle.std.specs.Fmt.{decimal}
 use Rattle.rrs_lib.specs.declared.instruction_executor.InstructionException.{InstructionException}
-use Rattle.rrs_lib.specs.declared.instruction_executor.InstructionException.TheVariants.{IllegalInstruction, FetchError, LoadAccessFault, StoreAccessFault, AlignmentFault, EnvironmentCall, Breakpoint}
 use Rattle.rrs_lib.specs.Machine.{State, reg}
 use Rattle.rrs_lib.specs.Texts.{hexadecimal}
+use Rattle.rrs_lib.specs.FaultTexts.{exception_text}
 
 -- the line of an instruction, with its address
 abbrev pub instruction_line : ℕ → List ℕ → List ℕ
 instruction_line pc text = codes "0x" ++ (hexadecimal 8 pc ++ (codes ": " ++ (text ++ 10 ∷ [])))
 
--- the fault that ended a run
-abbrev pub exception_text : InstructionException → List ℕ
-exception_text (IllegalInstruction pc word) =
-    (codes "end: IllegalInstruction pc=0x" ++ hexadecimal 8 pc)
-    ++ (codes " word=0x" ++ hexadecimal 8 word)
-exception_text (FetchError pc) = codes "end: FetchError pc=0x" ++ hexadecimal 8 pc
-exception_text (LoadAccessFault addr) = codes "end: LoadAccessFault addr=0x" ++ hexadecimal 8 addr
-exception_text (StoreAccessFault addr) = codes "end: StoreAccessFault addr=0x" ++ hexadecimal 8 addr
-exception_text (AlignmentFault addr) = codes "end: AlignmentFault addr=0x" ++ hexadecimal 8 addr
-exception_text (EnvironmentCall pc) = codes "end: EnvironmentCall pc=0x" ++ hexadecimal 8 pc
-exception_text (Breakpoint pc) = codes "end: Breakpoint pc=0x" ++ hexadecimal 8 pc
-
 -- why a run ended: its limit, or a fault
 abbrev pub reason_text : Option InstructionException → List ℕ
 reason_text None = codes "end: limit"
-reason_text (Some exception) = exception_text exception
+reason_text (Some exception) = codes "end: " ++ exception_text exception
 
 -- how many steps were Ok, at the end of a line
 abbrev pub steps_text : ℕ → List ℕ

@@ -7,9 +7,8 @@
 ghost use Rattle.std.specs.Prelude.{◌≡◌, ◌<◌, ◌++◌, ℕ, Bool, Option, IfOk, OnOk, IfErr, IsOkUnless, string_bytes};
 ghost use Rattle.std.specs.Io.KnownBytes.{Appends, Keeps};
 ghost use Rattle.rrs_lib.specs.Machine.{state_of};
-ghost use Rattle.rrs_lib.specs.Texts.{hexadecimal};
 ghost use Rattle.rrs_runner.specs.Faults.{StopsPrinting};
-ghost use Rattle.rrs_runner.specs.Texts.{instruction_line, exception_text, reason_text, steps_text, end_line, register_line, pc_line, hart_lines};
+ghost use Rattle.rrs_runner.specs.Texts.{instruction_line, reason_text, steps_text, end_line, register_line, pc_line, hart_lines};
 
 use crate::fault::RunFault;
 use rrs_lib::HartState;
@@ -128,51 +127,8 @@ fn print_reason<W: Write>(out: &mut W, exception: &Option<InstructionException>)
 {
     match exception {
         None => write!(out, "end: limit"),
-        Some(exception) => print_exception(out, exception),
+        Some(exception) => write!(out, "end: {exception}"),
     }
-}
-
-/// Prints the fault that ended a run.
-fn print_exception<W: Write>(out: &mut W, exception: &InstructionException) -> io::Result<()>
-    ensures { OnOk result
-        (Appends (W.contents out.old) (W.contents out.new) (exception_text exception.now)) }
-{
-    match exception {
-        InstructionException::IllegalInstruction(pc, word) => print_illegal(out, *pc, *word),
-        InstructionException::FetchError(pc) => print_word(out, "end: FetchError pc=0x", *pc),
-        InstructionException::LoadAccessFault(addr) => {
-            print_word(out, "end: LoadAccessFault addr=0x", *addr)
-        }
-        InstructionException::StoreAccessFault(addr) => {
-            print_word(out, "end: StoreAccessFault addr=0x", *addr)
-        }
-        InstructionException::AlignmentFault(addr) => {
-            print_word(out, "end: AlignmentFault addr=0x", *addr)
-        }
-        InstructionException::EnvironmentCall(pc) => {
-            print_word(out, "end: EnvironmentCall pc=0x", *pc)
-        }
-        InstructionException::Breakpoint(pc) => print_word(out, "end: Breakpoint pc=0x", *pc),
-    }
-}
-
-/// Prints that a word is outside the table.
-#[tactic(auto, using(crate::proofs::Printing::appending))]
-fn print_illegal<W: Write>(out: &mut W, pc: u32, word: u32) -> io::Result<()>
-    ensures { OnOk result (Appends (W.contents out.old) (W.contents out.new)
-        (exception_text (InstructionException.IllegalInstruction pc word))) }
-{
-    print_word(out, "end: IllegalInstruction pc=0x", pc)?;
-    print_word(out, " word=0x", word)
-}
-
-/// Prints a text and the eight digits of a word.
-#[tactic(auto, using(crate::proofs::Digits::padded_eight))]
-fn print_word<W: Write>(out: &mut W, text: &str, word: u32) -> io::Result<()>
-    ensures { OnOk result (Appends (W.contents out.old) (W.contents out.new)
-        (text.now ++ hexadecimal 8 word)) }
-{
-    write!(out, "{text}{word:08x}")
 }
 
 /// Prints the registers and the program counter.

@@ -3,7 +3,7 @@
 use crate::machines::{Seen, ended, hart_of, left, memory_of, run_over, same_at, step_over};
 use rrs_lib::instruction_executor::{InstructionException, InstructionExecutor};
 use rrs_lib::instruction_formats::{IType, ITypeShamt};
-use rrs_lib::{HartState, InstructionProcessor, Memory, process_instruction};
+use rrs_lib::{HartState, InstructionProcessor, MemAccessSize, Memory, process_instruction};
 use std::alloc::{AllocError, Global};
 use std::test::Fail;
 
@@ -267,6 +267,22 @@ fn tells_what_was_written_last(rt: HostRuntime) -> Result<(), Fail> {
     let written = written_by_step(&mut memory, &mut hart);
     let faulted = written_by_step(&mut memory, &mut hart);
     assert!(rt; written == (Some(5), Some((1, 5))) && faulted == (None, None));
+    Ok(())
+}
+
+// A hart that was kept stays as it was, and what a step told is printed.
+#[test]
+fn harts_and_faults_are_kept_and_printed(rt: HostRuntime) -> Result<(), Fail> {
+    let mut hart = hart_of(8, &[(1, 2)]);
+    let kept = hart.clone()?;
+    hart.write_register(1, 3);
+    let fault = InstructionException::IllegalInstruction(0xc, 0xffff_ffff);
+    let size = MemAccessSize::Word;
+    let text = format!(in rt.alloc(); "{fault}, {size:?}, {kept:?}")?;
+    let shown =
+        "IllegalInstruction pc=0x0000000c word=0xffffffff, Word, HartState { registers: [77, 2, ";
+    let is_kept = kept != hart && kept == hart_of(8, &[(1, 2)]);
+    assert!(rt; is_kept && text.as_str().starts_with(shown));
     Ok(())
 }
 
