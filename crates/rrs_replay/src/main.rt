@@ -1,9 +1,9 @@
 //! Answers questions about RISC-V instructions, one a line, from standard input.
 //!
-//! `rrs_questions` has the questions, and `docs/RUNNING.md` their forms. Each line is answered before
-//! the program waits for the next one. It takes no arguments. Where a read or a write fails, or out
-//! of memory, it says so on standard error and ends with status 1; what it answered before stands on
-//! standard output, and a line that was cut off is not answered.
+//! `rrs_questions` has the questions, and `docs/RUNNING.md` their forms. Each line is answered
+//! before the program waits for the next one. It takes no arguments. Where a read or a write fails,
+//! or out of memory, it says so on standard error and ends with status 1; what it answered before
+//! stands on standard output, and a line that was cut off is not answered.
 
 #![tactic(auto)]
 

@@ -18,9 +18,9 @@ fn shows_its_name(alloc: Global, instruction: Instruction) -> Result<bool, Alloc
     Ok(is_name && text.as_bytes().get(name.len()) == Some(&b'('))
 }
 
-/// Words of all rows of RV32I and M: 18 of two registers, 21 of a register and an immediate, 3 times
-/// 24 of `lui`, `auipc` and `jal`, 18 branches, 15 loads, 9 stores, 3 of `jalr` and of `fence`, and
-/// two. A row beside these may have words too.
+/// Words of all rows of RV32I and M: 18 of two registers, 21 of a register and an immediate, 3
+/// times 24 of `lui`, `auipc` and `jal`, 18 branches, 15 loads, 9 stores, 3 of `jalr` and of
+/// `fence`, and two. A row beside these may have words too.
 #[test]
 fn names_are_shown(rt: HostRuntime) -> Result<(), Fail> {
     let mut rows = 0u32;

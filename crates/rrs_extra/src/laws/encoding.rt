@@ -8,8 +8,8 @@ use rrs_lib::instruction::{Instruction, decode};
 
 /// What the word of an instruction is decoded to.
 ///
-/// The answer is `None` exactly where no word is the instruction. Else it is `Some` of what `decode`
-/// returned for its word, and that is the instruction again.
+/// The answer is `None` exactly where no word is the instruction. Else it is `Some` of what
+/// `decode` returned for its word, and that is the instruction again.
 pub fn decode_of_encode(instruction: &Instruction) -> Option<Option<Instruction>>
     ensures same { IfSome result (λ again. again ≡ Some instruction.now) }
     ensures no_word { IfNone result ((w : ℕ) → ¬ IsInstruction w instruction.now) }

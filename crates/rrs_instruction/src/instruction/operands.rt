@@ -63,8 +63,8 @@ impl Instruction {
     }
 
     /// The immediate, by the instruction's format: of a branch and of `jal` the offset in bytes, of
-    /// `lui` and `auipc` a multiple of 4096. `None` of operations on two registers, and of shifts by
-    /// an amount, which `shift_amount` gives.
+    /// `lui` and `auipc` a multiple of 4096. `None` of operations on two registers, and of shifts
+    /// by an amount, which `shift_amount` gives.
     pub fn immediate(&self) -> Option<i32>
         ensures { result ≡ immediate_of (fields_of self.now) }
     {
