@@ -183,6 +183,11 @@ fn number_of(last: Option<usize>) -> usize
 /// The step is that of `step`, with its answer and its accesses and no others: the word and the
 /// load or store are seen as they are made. For the values of the source registers before it, the
 /// hart is copied, which are 33 words and more. The bytes of memory are not.
+///
+/// # Errors
+///
+/// The first of the two is the answer of `step`, with its faults; what each leaves is as there.
+/// The second is told after a fault too, with `trap`.
 pub fn step_retired<M: Memory>(
     executor: &mut InstructionExecutor<M>,
     order: u64,
