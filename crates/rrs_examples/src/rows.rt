@@ -5,6 +5,7 @@ ghost use Rattle.rrs_lib.specs.Table.{IsRowAnd, IsIllegal, table};
 
 use crate::call_counter::{CallCounter, count_word};
 use rrs_extra::{ROW_COUNT, RowNumberer};
+use rrs_lib::instruction::decode;
 use rrs_lib::instruction_formats::{
     OPCODE_AUIPC, OPCODE_JAL, OPCODE_LUI, OPCODE_OP, OPCODE_OP_IMM, OPCODE_SYSTEM,
 };
@@ -98,6 +99,11 @@ fn each_row_has_its_text(rt: HostRuntime) -> Result<(), Fail> {
     Ok(())
 }
 
+/// The word of the instruction that a word is.
+fn word_again(word: u32) -> Option<u32> {
+    decode(word)?.encode()
+}
+
 /// The number of the row of a word, through the decoder.
 fn number_of(word: u32) -> Option<u32>
     ensures number { IfSome result (λ number. IsRowAnd word
@@ -112,7 +118,8 @@ fn numbers_each_row(rt: HostRuntime) {
     let mut number = 0u32;
     for (word, name) in rows() {
         number = number.saturating_add(1);
-        assert!(rt; number_of(word) == Some(number), "{name}");
+        let seen = (number_of(word), word_again(word));
+        assert!(rt; seen == (Some(number), Some(word)), "{name}");
     }
     for word in WORDS_OUTSIDE {
         assert!(rt; number_of(word).is_none(), "at {word:#x}");
