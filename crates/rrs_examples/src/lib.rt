@@ -1,14 +1,18 @@
-//! The examples of the pages under `docs/`, and the tests of `rrs_extra` and `rrs_debug`.
+//! The examples of the pages under `docs/`, and the tests of `rrs_extra`, `rrs_debug`
+//! and `rrs_served`.
 //!
-//! They are written as a user's crate would be: over what `rrs_lib`, `rrs_extra` and `rrs_debug`
-//! offer to every crate. The processor `call_counter` and its use in `coverage` are those of
-//! `docs/PROCESSORS.md`, `count_down` is the program that `docs/PROGRAMS.md` proves step by step,
-//! and `tracing` has the examples of `docs/HOSTS.md`. All of it is built with the tests.
+//! They are written as a user's crate would be: over what `rrs_lib`, `rrs_extra`, `rrs_debug` and
+//! `rrs_served` offer to every crate. The processor `call_counter` and its use in `coverage` are
+//! those of `docs/PROCESSORS.md`, `count_down` is the program that `docs/PROGRAMS.md` proves step
+//! by step, and `tracing` and `console` have the examples of `docs/HOSTS.md`. All of it is built
+//! with the tests.
 
 #![tactic(auto)]
 
 #[cfg(test)]
 mod call_counter;
+#[cfg(test)]
+mod console;
 #[cfg(test)]
 mod count_down;
 #[cfg(test)]
