@@ -1,6 +1,6 @@
 -- An instruction is determined by its row and its fields, and by its word.
 use Rattle.std.proofs.Common.{◌≡◌, ℕ, Option, Some, None, IfSome, IfNone, refl, sym, ap, ◌∙◌}
-use Rattle.std.proofs.lemmas.Option.{none-some, same_Some}
+use Rattle.std.proofs.lemmas.Option.{same_Some}
 use Rattle.rrs_instruction.specs.declared.instruction.Instruction.{Instruction}
 use Rattle.rrs_instruction.specs.Encodings.{Fields, R, I, IShamt, S, B, U, J}
 use Rattle.rrs_instruction.specs.Table.{Row, Decodes, IsIllegal}
