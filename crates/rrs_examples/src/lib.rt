@@ -1,5 +1,5 @@
-//! The examples of the pages under `docs/`, and the tests of `rrs_extra`, `rrs_debug`
-//! and `rrs_served`.
+//! The examples of the pages under `docs/`, and the tests of `rrs_extra`, `rrs_debug` and
+//! `rrs_served`.
 //!
 //! They are written as a user's crate would be: over what `rrs_lib`, `rrs_extra`, `rrs_debug` and
 //! `rrs_served` offer to every crate. The processor `call_counter` and its use in `coverage` are
