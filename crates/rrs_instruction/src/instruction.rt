@@ -124,6 +124,58 @@ pub enum Instruction {
     Ebreak(IType),
 }
 
+/// The name of each row, as in its text, and that of its variant, in the order of the table.
+const NAMES: [(&str, &str); ROW_COUNT] = [
+    ("add", "Add"),
+    ("sub", "Sub"),
+    ("sll", "Sll"),
+    ("slt", "Slt"),
+    ("sltu", "Sltu"),
+    ("xor", "Xor"),
+    ("srl", "Srl"),
+    ("sra", "Sra"),
+    ("or", "Or"),
+    ("and", "And"),
+    ("addi", "Addi"),
+    ("slli", "Slli"),
+    ("slti", "Slti"),
+    ("sltiu", "Sltiu"),
+    ("xori", "Xori"),
+    ("srli", "Srli"),
+    ("srai", "Srai"),
+    ("ori", "Ori"),
+    ("andi", "Andi"),
+    ("lui", "Lui"),
+    ("auipc", "Auipc"),
+    ("beq", "Beq"),
+    ("bne", "Bne"),
+    ("blt", "Blt"),
+    ("bltu", "Bltu"),
+    ("bge", "Bge"),
+    ("bgeu", "Bgeu"),
+    ("lb", "Lb"),
+    ("lbu", "Lbu"),
+    ("lh", "Lh"),
+    ("lhu", "Lhu"),
+    ("lw", "Lw"),
+    ("sb", "Sb"),
+    ("sh", "Sh"),
+    ("sw", "Sw"),
+    ("jal", "Jal"),
+    ("jalr", "Jalr"),
+    ("mul", "Mul"),
+    ("mulh", "Mulh"),
+    ("mulhu", "Mulhu"),
+    ("mulhsu", "Mulhsu"),
+    ("div", "Div"),
+    ("divu", "Divu"),
+    ("rem", "Rem"),
+    ("remu", "Remu"),
+    ("fence", "Fence"),
+    ("ecall", "Ecall"),
+    ("ebreak", "Ebreak"),
+];
+
 /// The fields of an instruction, whatever its row: one variant for each format.
 ///
 /// Who does the same with all rows of a format matches on this, and needs no line for each row.
@@ -157,7 +209,56 @@ impl Instruction {
         ensures first { 1 ≤ result }
         ensures last { result ≤ ROW_COUNT }
     {
-        self.line().0
+        match self {
+            Instruction::Add(_) => 1,
+            Instruction::Sub(_) => 2,
+            Instruction::Sll(_) => 3,
+            Instruction::Slt(_) => 4,
+            Instruction::Sltu(_) => 5,
+            Instruction::Xor(_) => 6,
+            Instruction::Srl(_) => 7,
+            Instruction::Sra(_) => 8,
+            Instruction::Or(_) => 9,
+            Instruction::And(_) => 10,
+            Instruction::Addi(_) => 11,
+            Instruction::Slli(_) => 12,
+            Instruction::Slti(_) => 13,
+            Instruction::Sltiu(_) => 14,
+            Instruction::Xori(_) => 15,
+            Instruction::Srli(_) => 16,
+            Instruction::Srai(_) => 17,
+            Instruction::Ori(_) => 18,
+            Instruction::Andi(_) => 19,
+            Instruction::Lui(_) => 20,
+            Instruction::Auipc(_) => 21,
+            Instruction::Beq(_) => 22,
+            Instruction::Bne(_) => 23,
+            Instruction::Blt(_) => 24,
+            Instruction::Bltu(_) => 25,
+            Instruction::Bge(_) => 26,
+            Instruction::Bgeu(_) => 27,
+            Instruction::Lb(_) => 28,
+            Instruction::Lbu(_) => 29,
+            Instruction::Lh(_) => 30,
+            Instruction::Lhu(_) => 31,
+            Instruction::Lw(_) => 32,
+            Instruction::Sb(_) => 33,
+            Instruction::Sh(_) => 34,
+            Instruction::Sw(_) => 35,
+            Instruction::Jal(_) => 36,
+            Instruction::Jalr(_) => 37,
+            Instruction::Mul(_) => 38,
+            Instruction::Mulh(_) => 39,
+            Instruction::Mulhu(_) => 40,
+            Instruction::Mulhsu(_) => 41,
+            Instruction::Div(_) => 42,
+            Instruction::Divu(_) => 43,
+            Instruction::Rem(_) => 44,
+            Instruction::Remu(_) => 45,
+            Instruction::Fence(_) => 46,
+            Instruction::Ecall(_) => 47,
+            Instruction::Ebreak(_) => 48,
+        }
     }
 
     /// The name of the instruction's row, as in its text: `add`.
@@ -165,7 +266,12 @@ impl Instruction {
     pub fn mnemonic(&self) -> &'static str
         ensures { result.now ≡ (table (row_of self.now)).name }
     {
-        self.line().1
+        NAMES[self.number() - 1].0
+    }
+
+    /// The name of the variant: `Add`.
+    fn variant_name(&self) -> &'static str {
+        NAMES[self.number() - 1].1
     }
 
     /// The fields of the instruction, by their format.
@@ -173,68 +279,52 @@ impl Instruction {
     pub fn fields(&self) -> InstructionFields
         ensures { as_fields result ≡ fields_of self.now }
     {
-        self.line().3
-    }
-
-    /// What is the row's own: its number, its name, the name of the variant, and the fields by
-    /// their format.
-    #[inline]
-    fn line(&self) -> (usize, &'static str, &'static str, InstructionFields)
-        ensures number { result.0 ≡ (table (row_of self.now)).number }
-        ensures first { 1 ≤ result.0 }
-        ensures last { result.0 ≤ ROW_COUNT }
-        ensures name { result.1.now ≡ (table (row_of self.now)).name }
-        ensures fields { as_fields result.3 ≡ fields_of self.now }
-    {
-        match *self {
-            Instruction::Add(fields) => (1, "add", "Add", InstructionFields::R(fields)),
-            Instruction::Sub(fields) => (2, "sub", "Sub", InstructionFields::R(fields)),
-            Instruction::Sll(fields) => (3, "sll", "Sll", InstructionFields::R(fields)),
-            Instruction::Slt(fields) => (4, "slt", "Slt", InstructionFields::R(fields)),
-            Instruction::Sltu(fields) => (5, "sltu", "Sltu", InstructionFields::R(fields)),
-            Instruction::Xor(fields) => (6, "xor", "Xor", InstructionFields::R(fields)),
-            Instruction::Srl(fields) => (7, "srl", "Srl", InstructionFields::R(fields)),
-            Instruction::Sra(fields) => (8, "sra", "Sra", InstructionFields::R(fields)),
-            Instruction::Or(fields) => (9, "or", "Or", InstructionFields::R(fields)),
-            Instruction::And(fields) => (10, "and", "And", InstructionFields::R(fields)),
-            Instruction::Addi(fields) => (11, "addi", "Addi", InstructionFields::I(fields)),
-            Instruction::Slli(fields) => (12, "slli", "Slli", InstructionFields::IShamt(fields)),
-            Instruction::Slti(fields) => (13, "slti", "Slti", InstructionFields::I(fields)),
-            Instruction::Sltiu(fields) => (14, "sltiu", "Sltiu", InstructionFields::I(fields)),
-            Instruction::Xori(fields) => (15, "xori", "Xori", InstructionFields::I(fields)),
-            Instruction::Srli(fields) => (16, "srli", "Srli", InstructionFields::IShamt(fields)),
-            Instruction::Srai(fields) => (17, "srai", "Srai", InstructionFields::IShamt(fields)),
-            Instruction::Ori(fields) => (18, "ori", "Ori", InstructionFields::I(fields)),
-            Instruction::Andi(fields) => (19, "andi", "Andi", InstructionFields::I(fields)),
-            Instruction::Lui(fields) => (20, "lui", "Lui", InstructionFields::U(fields)),
-            Instruction::Auipc(fields) => (21, "auipc", "Auipc", InstructionFields::U(fields)),
-            Instruction::Beq(fields) => (22, "beq", "Beq", InstructionFields::B(fields)),
-            Instruction::Bne(fields) => (23, "bne", "Bne", InstructionFields::B(fields)),
-            Instruction::Blt(fields) => (24, "blt", "Blt", InstructionFields::B(fields)),
-            Instruction::Bltu(fields) => (25, "bltu", "Bltu", InstructionFields::B(fields)),
-            Instruction::Bge(fields) => (26, "bge", "Bge", InstructionFields::B(fields)),
-            Instruction::Bgeu(fields) => (27, "bgeu", "Bgeu", InstructionFields::B(fields)),
-            Instruction::Lb(fields) => (28, "lb", "Lb", InstructionFields::I(fields)),
-            Instruction::Lbu(fields) => (29, "lbu", "Lbu", InstructionFields::I(fields)),
-            Instruction::Lh(fields) => (30, "lh", "Lh", InstructionFields::I(fields)),
-            Instruction::Lhu(fields) => (31, "lhu", "Lhu", InstructionFields::I(fields)),
-            Instruction::Lw(fields) => (32, "lw", "Lw", InstructionFields::I(fields)),
-            Instruction::Sb(fields) => (33, "sb", "Sb", InstructionFields::S(fields)),
-            Instruction::Sh(fields) => (34, "sh", "Sh", InstructionFields::S(fields)),
-            Instruction::Sw(fields) => (35, "sw", "Sw", InstructionFields::S(fields)),
-            Instruction::Jal(fields) => (36, "jal", "Jal", InstructionFields::J(fields)),
-            Instruction::Jalr(fields) => (37, "jalr", "Jalr", InstructionFields::I(fields)),
-            Instruction::Mul(fields) => (38, "mul", "Mul", InstructionFields::R(fields)),
-            Instruction::Mulh(fields) => (39, "mulh", "Mulh", InstructionFields::R(fields)),
-            Instruction::Mulhu(fields) => (40, "mulhu", "Mulhu", InstructionFields::R(fields)),
-            Instruction::Mulhsu(fields) => (41, "mulhsu", "Mulhsu", InstructionFields::R(fields)),
-            Instruction::Div(fields) => (42, "div", "Div", InstructionFields::R(fields)),
-            Instruction::Divu(fields) => (43, "divu", "Divu", InstructionFields::R(fields)),
-            Instruction::Rem(fields) => (44, "rem", "Rem", InstructionFields::R(fields)),
-            Instruction::Remu(fields) => (45, "remu", "Remu", InstructionFields::R(fields)),
-            Instruction::Fence(fields) => (46, "fence", "Fence", InstructionFields::I(fields)),
-            Instruction::Ecall(fields) => (47, "ecall", "Ecall", InstructionFields::I(fields)),
-            Instruction::Ebreak(fields) => (48, "ebreak", "Ebreak", InstructionFields::I(fields)),
+        match self {
+            Instruction::Add(fields)
+            | Instruction::Sub(fields)
+            | Instruction::Sll(fields)
+            | Instruction::Slt(fields)
+            | Instruction::Sltu(fields)
+            | Instruction::Xor(fields)
+            | Instruction::Srl(fields)
+            | Instruction::Sra(fields)
+            | Instruction::Or(fields)
+            | Instruction::And(fields)
+            | Instruction::Mul(fields)
+            | Instruction::Mulh(fields)
+            | Instruction::Mulhu(fields)
+            | Instruction::Mulhsu(fields)
+            | Instruction::Div(fields)
+            | Instruction::Divu(fields)
+            | Instruction::Rem(fields)
+            | Instruction::Remu(fields) => InstructionFields::R(*fields),
+            Instruction::Addi(fields)
+            | Instruction::Slti(fields)
+            | Instruction::Sltiu(fields)
+            | Instruction::Xori(fields)
+            | Instruction::Ori(fields)
+            | Instruction::Andi(fields)
+            | Instruction::Lb(fields)
+            | Instruction::Lbu(fields)
+            | Instruction::Lh(fields)
+            | Instruction::Lhu(fields)
+            | Instruction::Lw(fields)
+            | Instruction::Jalr(fields)
+            | Instruction::Fence(fields)
+            | Instruction::Ecall(fields)
+            | Instruction::Ebreak(fields) => InstructionFields::I(*fields),
+            Instruction::Slli(fields) | Instruction::Srli(fields) | Instruction::Srai(fields) =>
+                InstructionFields::IShamt(*fields),
+            Instruction::Lui(fields) | Instruction::Auipc(fields) => InstructionFields::U(*fields),
+            Instruction::Beq(fields)
+            | Instruction::Bne(fields)
+            | Instruction::Blt(fields)
+            | Instruction::Bltu(fields)
+            | Instruction::Bge(fields)
+            | Instruction::Bgeu(fields) => InstructionFields::B(*fields),
+            Instruction::Sb(fields) | Instruction::Sh(fields) | Instruction::Sw(fields) =>
+                InstructionFields::S(*fields),
+            Instruction::Jal(fields) => InstructionFields::J(*fields),
         }
     }
 
@@ -303,7 +393,9 @@ impl Instruction {
 /// The text for programmers, `{:?}`, as a derive would write it.
 impl fmt::Debug for Instruction {
     fn fmt<W: fmt::Write>(&self, f: &mut fmt::Formatter<W>) -> fmt::Result {
-        f.debug_tuple(self.line().2).field(&self.fields()).finish()
+        f.debug_tuple(self.variant_name())
+            .field(&self.fields())
+            .finish()
     }
 }
 
