@@ -63,9 +63,33 @@ fn bytes_of(alloc: Global, words: &[u32]) -> Result<Vec<u8>, AllocError> {
     Ok(bytes)
 }
 
+/// What `simulate` answers, whose contract is so paid in this function alone.
+fn simulated<R: Read, W: Write>(
+    alloc: Global,
+    shown: Shown,
+    reader: &mut R,
+    limit: u64,
+    out: &mut W,
+) -> Result<(), RunFault> {
+    simulate(alloc, shown, reader, limit, out)
+}
+
 /// How the run of three words ends, up to limit 10, with a line for each instruction.
 fn run_three_words<W: Write>(alloc: Global, out: &mut W) -> Result<(), RunFault> {
-    simulate(alloc, Shown::Instructions, &mut THREE_WORDS, 10, out)
+    simulated(alloc, Shown::Instructions, &mut THREE_WORDS, 10, out)
+}
+
+/// The account of these bytes.
+fn account_of(alloc: Global, shown: Shown, bytes: &[u8], limit: u64) -> Result<Vec<u8>, RunFault> {
+    let mut account = Vec::new(alloc);
+    let mut reader = bytes;
+    simulated(alloc, shown, &mut reader, limit, &mut account)?;
+    Ok(account)
+}
+
+/// Whether an account is these lines and then the one in which nothing is shown, which begins so.
+fn is_after(traced: &[u8], lines: &str, quiet: &[u8], ending: &str) -> bool {
+    traced.strip_prefix(lines.as_bytes()) == Some(quiet) && quiet.starts_with(ending.as_bytes())
 }
 
 /// Whether the account of these bytes begins so with a line for each instruction, and so without
@@ -77,18 +101,9 @@ fn begins(
     lines: &str,
     ending: &str,
 ) -> Result<bool, RunFault> {
-    let mut traced = Vec::new(alloc);
-    simulate(
-        alloc,
-        Shown::Instructions,
-        &mut &bytes[..],
-        limit,
-        &mut traced,
-    )?;
-    let mut quiet = Vec::new(alloc);
-    simulate(alloc, Shown::Nothing, &mut &bytes[..], limit, &mut quiet)?;
-    let rest = traced.strip_prefix(lines.as_bytes());
-    Ok(rest == Some(quiet.as_slice()) && quiet.starts_with(ending.as_bytes()))
+    let traced = account_of(alloc, Shown::Instructions, bytes, limit)?;
+    let quiet = account_of(alloc, Shown::Nothing, bytes, limit)?;
+    Ok(is_after(&traced, lines, &quiet, ending))
 }
 
 #[test]
@@ -210,12 +225,18 @@ const CASES: [Case; 16] = [
     ),
 ];
 
+/// Whether the account of a case begins as it says.
+fn case_begins(alloc: Global, case: &Case) -> Result<bool, Fail> {
+    let bytes = bytes_of(alloc, case.0)?;
+    let begins_so = begins(alloc, &bytes, case.1, case.2, case.3)?;
+    Ok(begins_so)
+}
+
 #[test]
 fn prints_the_lines_of_the_steps_or_none(rt: HostRuntime) -> Result<(), Fail> {
-    for (words, limit, lines, ending) in CASES {
-        let bytes = bytes_of(rt.alloc(), words)?;
-        let begins_so = begins(rt.alloc(), &bytes, limit, lines, ending)?;
-        assert!(rt; begins_so, "{lines}{ending}");
+    for case in &CASES {
+        let begins_so = case_begins(rt.alloc(), case)?;
+        assert!(rt; begins_so, "{case:?}");
     }
     Ok(())
 }
@@ -241,7 +262,7 @@ fn refuses_a_byte_past_the_addresses(rt: HostRuntime) -> Result<(), Fail> {
     bytes.extend_from_slice(&[0, 0])?;
     let mut reader = bytes.as_slice();
     let mut out = Vec::new(rt.alloc());
-    let result = simulate(rt.alloc(), Shown::Nothing, &mut reader, 9, &mut out);
+    let result = simulated(rt.alloc(), Shown::Nothing, &mut reader, 9, &mut out);
     let left = (begins_so, result, reader.len(), out.len());
     assert_eq!(rt; left, (true, Err(RunFault::Refused(0x10000)), 1, 0));
     Ok(())
@@ -264,7 +285,7 @@ fn run_where_a_read_fails(
         most: 1000,
         taken: 0,
     };
-    let result = simulate(alloc, shown, &mut reader, 10, &mut out);
+    let result = simulated(alloc, shown, &mut reader, 10, &mut out);
     (result, reader.given, out.taken)
 }
 

@@ -82,37 +82,57 @@ fn file<'a>(name: &'a str, bytes: &'a [u8], fails: bool) -> Contents<'a> {
     Contents { name, bytes, fails }
 }
 
-#[test]
-fn says_why_a_file_is_not_run(rt: HostRuntime) -> Result<(), Fail> {
-    let too_long = vec![in rt.alloc(); 0; 65537]?;
+/// Whether both programs say this of a file, where there are these four: a directory, one that is
+/// cut off, one that is full and cut off, and one that is too long.
+fn both_say_of(alloc: Global, too_long: &[u8], path: &[u8], lines: (&str, &str)) -> bool {
     let files = [
         file("directory", b"", true),
         file("cut off", THREE_WORDS, true),
-        file("full and cut off", &too_long[..65536], true),
-        file("too long", &too_long, false),
+        file(
+            "full and cut off",
+            too_long.get(..65536).unwrap_or_default(),
+            true,
+        ),
+        file("too long", too_long, false),
     ];
-    let open = (
-        "rrs-run: cannot open file\n",
-        "rrs-speed: cannot open file\n",
-    );
-    let read = (
-        "rrs-run: Could not read byte\n",
-        "rrs-speed: Could not read byte\n",
-    );
-    let write = (
-        "rrs-run: Could not write byte at address 0x00010000\n",
-        "rrs-speed: Could not write byte at address 0x00010000\n",
-    );
-    let cases: [(&[u8], (&str, &str)); 5] = [
-        (b"missing", open),
-        (b"directory", read),
-        (b"cut off", read),
-        (b"full and cut off", read),
-        (b"too long", write),
-    ];
-    for (path, lines) in cases {
-        let words: [&[u8]; 3] = [b"rrs-run", path, b"10"];
-        assert!(rt; both_say(rt.alloc(), &words, &files, 1, lines), "{path:?}");
+    both_say(alloc, &[b"rrs-run", path, b"10"], &files, 1, lines)
+}
+
+/// What is said of a file that can't be opened.
+const CANNOT_OPEN: (&str, &str) = (
+    "rrs-run: cannot open file\n",
+    "rrs-speed: cannot open file\n",
+);
+
+/// What is said of a file that can't be read to its end.
+const CANNOT_READ: (&str, &str) = (
+    "rrs-run: Could not read byte\n",
+    "rrs-speed: Could not read byte\n",
+);
+
+/// What is said of a file with a byte too much.
+const CANNOT_WRITE: (&str, &str) = (
+    "rrs-run: Could not write byte at address 0x00010000\n",
+    "rrs-speed: Could not write byte at address 0x00010000\n",
+);
+
+/// The name of each file that is not run, and what is said of it.
+static NOT_RUN: [(&[u8], (&str, &str)); 5] = [
+    (b"missing", CANNOT_OPEN),
+    (b"directory", CANNOT_READ),
+    (b"cut off", CANNOT_READ),
+    (b"full and cut off", CANNOT_READ),
+    (b"too long", CANNOT_WRITE),
+];
+
+#[test]
+fn says_why_a_file_is_not_run(rt: HostRuntime) -> Result<(), Fail> {
+    let too_long = vec![in rt.alloc(); 0; 65537]?;
+    for (index, (path, lines)) in NOT_RUN.iter().enumerate() {
+        assert!(rt;
+            both_say_of(rt.alloc(), &too_long, path, *lines),
+            "at {index}"
+        );
     }
     Ok(())
 }

@@ -7,15 +7,14 @@ use std::test::Fail;
 /// Whether `{:?}` begins with the instruction's name and a parenthesis, the first letter capital.
 fn shows_its_name(alloc: Global, instruction: Instruction) -> Result<bool, AllocError> {
     let text = format!(in alloc; "{instruction:?}")?;
-    let name = instruction.mnemonic();
-    let is_name = text.bytes().zip(name.bytes()).enumerate().all(|(index, (shown, letter))| {
-        if index == 0 {
-            shown == letter.to_ascii_uppercase()
-        } else {
-            shown == letter
+    match (text.as_bytes(), instruction.mnemonic().as_bytes()) {
+        ([first, shown @ ..], [letter, letters @ ..]) => {
+            let is_capital = *first == letter.to_ascii_uppercase();
+            let is_followed = shown.get(letters.len()) == Some(&b'(');
+            Ok(is_capital && shown.starts_with(letters) && is_followed)
         }
-    });
-    Ok(is_name && text.as_bytes().get(name.len()) == Some(&b'('))
+        _ => Ok(false),
+    }
 }
 
 /// Words of all rows of RV32I and M: 18 of two registers, 21 of a register and an immediate, 3
