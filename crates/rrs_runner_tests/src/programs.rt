@@ -165,41 +165,45 @@ fn lines_in(bytes: &[u8]) -> usize {
     bytes.iter().filter(|byte| **byte == b'\n').count()
 }
 
+/// A program, the file that it is to run and the limit, and the beginning of its account.
+type Case = (&'static Program, &'static [u8], &'static [u8], &'static str);
+
+static CASES: [Case; 8] = [
+    (
+        &RRS_RUN,
+        b"program",
+        b"002",
+        "0x00000000: lui x2, 0x1234b000\n0x00000004: lui x3, 0xf387e000\nend: limit, steps 2\n",
+    ),
+    (
+        &RRS_RUN,
+        b"program",
+        b"999999999",
+        "0x00000000: lui x2, 0x1234b000\n0x00000004: lui x3, 0xf387e000\n\
+        0x00000008: add x1, x2, x3\n\
+        end: IllegalInstruction pc=0x0000000c word=0x00000000, steps 3\n",
+    ),
+    (
+        &RRS_RUN,
+        b"loop",
+        b"1",
+        "0x00000000: jal x0, 0x00000000\nend: limit, steps 1\n",
+    ),
+    (&RRS_RUN, b"loop", b"0", "end: limit, steps 0\n"),
+    (&RRS_SPEED, b"loop", b"0", "end: limit, steps 0\n"),
+    (&RRS_SPEED, b"loop", b"1", "end: limit, steps 1\n"),
+    (&RRS_SPEED, b"loop", b"100000", "end: limit, steps 100000\n"),
+    (
+        &RRS_SPEED,
+        b"program",
+        b"999999999",
+        "end: IllegalInstruction pc=0x0000000c word=0x00000000, steps 3\n",
+    ),
+];
+
 #[test]
 fn runs_the_file_that_is_named_up_to_the_limit_that_is_named(rt: HostRuntime) -> Result<(), Fail> {
-    let cases: [(&Program, &[u8], &[u8], &str); 8] = [
-        (
-            &RRS_RUN,
-            b"program",
-            b"002",
-            "0x00000000: lui x2, 0x1234b000\n0x00000004: lui x3, 0xf387e000\nend: limit, steps 2\n",
-        ),
-        (
-            &RRS_RUN,
-            b"program",
-            b"999999999",
-            "0x00000000: lui x2, 0x1234b000\n0x00000004: lui x3, 0xf387e000\n\
-            0x00000008: add x1, x2, x3\n\
-            end: IllegalInstruction pc=0x0000000c word=0x00000000, steps 3\n",
-        ),
-        (
-            &RRS_RUN,
-            b"loop",
-            b"1",
-            "0x00000000: jal x0, 0x00000000\nend: limit, steps 1\n",
-        ),
-        (&RRS_RUN, b"loop", b"0", "end: limit, steps 0\n"),
-        (&RRS_SPEED, b"loop", b"0", "end: limit, steps 0\n"),
-        (&RRS_SPEED, b"loop", b"1", "end: limit, steps 1\n"),
-        (&RRS_SPEED, b"loop", b"100000", "end: limit, steps 100000\n"),
-        (
-            &RRS_SPEED,
-            b"program",
-            b"999999999",
-            "end: IllegalInstruction pc=0x0000000c word=0x00000000, steps 3\n",
-        ),
-    ];
-    for (program, path, limit, want) in cases {
+    for (program, path, limit, want) in &CASES {
         let printed = whole_account(rt.alloc(), program, path, limit)?;
         assert!(rt; is_account(&printed, want.as_bytes()), "{want}");
     }
@@ -240,56 +244,65 @@ fn tells_an_output_that_fails(rt: HostRuntime) -> Result<(), Fail> {
     Ok(())
 }
 
-/// The status of a program that ends so, and what it says on standard error.
-fn ended(alloc: Global, program: Command, outcome: Result<(), Failure>) -> (ExitCode, Vec<u8>) {
+/// Whether a program that ends so has this status, and says this on standard error.
+fn ends(
+    alloc: Global,
+    program: Command,
+    outcome: Result<(), Failure>,
+    status: u8,
+    line: &str,
+) -> bool {
     let machine = Machine::new(alloc, &[], &[], 1000);
-    let status = conclude(&machine, program, outcome);
+    let ended = conclude(&machine, program, outcome);
     let (said, _printed) = machine.into_outputs();
-    (status, said)
+    ended == ExitCode::from(status) && said.as_slice() == line.as_bytes()
+}
+
+/// Whether a program whose run fails so has status 1, and says this on standard error.
+fn fails(alloc: Global, program: Command, fault: RunFault, line: &str) -> bool {
+    ends(alloc, program, Err(Failure::Run(fault)), 1, line)
 }
 
 #[test]
 fn ends_by_its_name(rt: HostRuntime) {
-    let run = |fault| Err(Failure::Run(fault));
-    for (program, outcome, status, line) in [
-        (RRS_HELLO, Ok(()), 0, ""),
-        (RRS_HELLO, Err(Failure::Usage), 2, "usage: rrs-hello\n"),
-        (
-            RRS_HELLO,
-            run(RunFault::OutOfMemory),
-            1,
-            "rrs-hello: out of memory\n",
-        ),
-        (
-            RRS_HELLO,
-            run(RunFault::Output),
-            1,
-            "rrs-hello: cannot write output\n",
-        ),
-        (RRS_REPLAY, Err(Failure::Usage), 2, "usage: rrs-replay\n"),
-        (
-            RRS_REPLAY,
-            run(RunFault::Output),
-            1,
-            "rrs-replay: cannot write output\n",
-        ),
-        (
-            RRS_SPEED.command,
-            run(RunFault::Output),
-            1,
-            "rrs-speed: cannot write output\n",
-        ),
-        (
+    let alloc = rt.alloc();
+    let cannot_open = Err(Failure::CannotOpen);
+    let (hello, replay) = (RRS_HELLO, RRS_REPLAY);
+    let ended = [
+        ends(alloc, hello, Ok(()), 0, ""),
+        ends(alloc, hello, Err(Failure::Usage), 2, "usage: rrs-hello\n"),
+        ends(alloc, replay, Err(Failure::Usage), 2, "usage: rrs-replay\n"),
+        ends(
+            alloc,
             RRS_RUN.command,
-            Err(Failure::CannotOpen),
+            cannot_open,
             1,
             "rrs-run: cannot open file\n",
         ),
-    ] {
-        let (ends, said) = ended(rt.alloc(), program, outcome);
-        let is_so = ends == ExitCode::from(status) && said.as_slice() == line.as_bytes();
-        assert!(rt; is_so, "{line}");
-    }
+    ];
+    let no_memory = RunFault::OutOfMemory;
+    let failed = [
+        fails(alloc, hello, no_memory, "rrs-hello: out of memory\n"),
+        fails(
+            alloc,
+            hello,
+            RunFault::Output,
+            "rrs-hello: cannot write output\n",
+        ),
+        fails(
+            alloc,
+            replay,
+            RunFault::Output,
+            "rrs-replay: cannot write output\n",
+        ),
+        fails(
+            alloc,
+            RRS_SPEED.command,
+            RunFault::Output,
+            "rrs-speed: cannot write output\n",
+        ),
+    ];
+    assert_eq!(rt; (ended, failed), ([true; 4], [true; 4]));
 }
 
 /// Whether a program that takes no arguments is refused as one that is called wrongly.
