@@ -21,3 +21,4 @@ pub mod Keeping
 pub mod Making
 pub mod Programs
 pub mod Stepping
+pub mod TextLengths

@@ -12,6 +12,7 @@
 
 #![tactic(auto)]
 
+pub mod disassembly;
 pub mod instruction_executor;
 pub mod instruction_string_outputter;
 
