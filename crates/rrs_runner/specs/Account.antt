@@ -1,7 +1,7 @@
 -- What is printed of a run: while it is made a line for each instruction before its step, or
 -- nothing; then how the run ended, and then the registers. And what a fault says of the reader and
 -- of the output.
-use Rattle.std.specs.Prelude.{◌≡◌, ◌⊎◌, ℕ, zero, suc, ◌<◌, ◌≤◌, List, [], ◌++◌, Option, Some, None, Ok, Err}
+use Rattle.std.specs.Prelude.{◌≡◌, ◌⊎◌, ℕ, zero, suc, ◌<◌, List, [], ◌++◌, Option, Some, None, Ok, Err}
 use Rattle.std.specs.Io.KnownBytes.{Keeps}
 use Rattle.rrs_lib.specs.declared.instruction_executor.InstructionException.{InstructionException}
 use Rattle.rrs_lib.specs.Encodings.{Fields}
@@ -59,11 +59,10 @@ abbrev pub Shows : Shown → ℕ → State → ℕ → Option InstructionExcepti
 Shows Instructions limit s steps e t lines = PrintsUntil limit s steps e t lines
 Shows Nothing limit s steps e t lines = RunUntil limit s steps e t × (lines ≡ [])
 
--- what is printed while a run from s is made that ends at this limit or at a lower one
-abbrev pub ShowsSteps : Shown → ℕ → State → List ℕ → Type 0
-ShowsSteps shown limit s lines =
-    (n steps : ℕ) × (e : Option InstructionException) × (t : State)
-    × (n ≤ limit) × Shows shown n s steps e t lines
+-- what is printed while a run from s is made, up to its end
+abbrev pub ShowsRun : Shown → ℕ → State → List ℕ → Type 0
+ShowsRun shown limit s lines =
+    (steps : ℕ) × (e : Option InstructionException) × (t : State) × Shows shown limit s steps e t lines
 
 -- what is printed while the first steps of a run from s are made, which are Ok, and before the step
 -- after them
@@ -98,13 +97,14 @@ Account shown limit input rest before after =
 
 -- What stops a run, by the bytes of the reader and of the output before and after it. Where the
 -- memory can't be made, nothing is read or printed, and where the load was stopped nothing is
--- printed. Otherwise the reader was read to its end: out of memory then, just what is printed while
--- the steps so far are made stands there, and after a write that failed a beginning of the account.
+-- printed. Otherwise the reader was read to its end: out of memory then, for the text of how the run
+-- ended, just what is printed while the run is made stands there, and after a write that failed a
+-- beginning of the account.
 abbrev pub StopsRun : Shown → ℕ → Option (List ℕ) → Option (List ℕ)
     → Option (List ℕ) → Option (List ℕ) → RunFault → Type 0
 StopsRun shown limit input rest before after OutOfMemory =
     (Keeps input rest × Keeps before after)
-    ⊎ PrintsOfRun (ShowsSteps shown limit) input rest before after
+    ⊎ PrintsOfRun (ShowsRun shown limit) input rest before after
 StopsRun shown limit input rest before after Reader =
     StopsLoad input rest Reader × Keeps before after
 StopsRun shown limit input rest before after (Refused a) =

@@ -2,16 +2,19 @@
 //!
 //! Each text is made in memory first and then written, so that what stands in the output is known
 //! after a failure too: nothing of a text that could not be made, and a beginning of one that could
-//! not be written.
+//! not be written. The line of an instruction is made in a buffer that it always fits, so that no
+//! step allocates.
 
-ghost use Rattle.std.specs.Prelude.{◌≡◌, ◌<◌, ◌++◌, ℕ, Bool, Option, IfOk, OnOk, IfErr, IsOkUnless, string_bytes};
+ghost use Rattle.std.specs.Prelude.{◌≡◌, ◌<◌, ◌≤◌, ◌++◌, ℕ, Bool, Option, length, IfOk, OnOk, IfErr, IsOkUnless};
 ghost use Rattle.std.specs.Io.KnownBytes.{Appends, Keeps};
 ghost use Rattle.rrs_lib.specs.Machine.{state_of};
 ghost use Rattle.rrs_runner.specs.Faults.{StopsPrinting};
 ghost use Rattle.rrs_runner.specs.Texts.{instruction_line, reason_text, steps_text, end_line, register_line, pc_line, hart_lines};
 
 use crate::fault::RunFault;
+use arrayvec::ArrayString;
 use rrs_lib::HartState;
+use rrs_lib::disassembly::{TEXT_CAPACITY, hexadecimal_digits};
 use rrs_lib::instruction_executor::{InstructionException, RunEnd};
 use std::alloc::Global;
 use std::io;
@@ -20,17 +23,22 @@ use std::io::{ErrorKind, Write};
 /// The number of registers.
 const REGISTERS: usize = 32;
 
+/// The number of bytes of the longest line of an instruction: its address, a text of
+/// [TEXT_CAPACITY] bytes, and 5 around them.
+const LINE_CAPACITY: usize = 87;
+
 /// The line of an instruction's text and its address.
-///
-/// # Errors
-///
-/// `RunFault::OutOfMemory`, out of memory for the line.
-#[tactic(auto, using(crate::proofs::Digits::padded_eight))]
-pub fn line_of(alloc: Global, pc: u32, text: &str) -> Result<String, RunFault>
-    ensures line { IfOk result (λ line. string_bytes line ≡ instruction_line pc text.now) }
-    ensures fault { IsOkUnless result RunFault.OutOfMemory }
+pub fn line_of(pc: u32, text: &str) -> ArrayString<LINE_CAPACITY>
+    requires { length text.now ≤ TEXT_CAPACITY }
+    ensures { result.bytes ≡ instruction_line pc text.now }
 {
-    format!(in alloc; "0x{pc:08x}: {text}\n").map_err(|_| RunFault::OutOfMemory)
+    let mut line = ArrayString::new();
+    line.push_str("0x");
+    line.push_str(hexadecimal_digits(8, pc).as_str());
+    line.push_str(": ");
+    line.push_str(text);
+    line.push_str("\n");
+    line
 }
 
 /// The text of how a run ended, and of the registers that it left.

@@ -1,18 +1,19 @@
 //! The account of a run: what is printed while it is made, how it ended, and the registers.
 
-ghost use Rattle.std.specs.Prelude.{◌≡◌, [], IfOk, OnOk, IfErr};
+ghost use Rattle.std.specs.Prelude.{◌≡◌, IfOk, OnOk, IfErr};
 ghost use Rattle.rrs_lib.specs.Executor.{state_in};
 ghost use Rattle.rrs_lib.specs.Steps.{Step};
-ghost use Rattle.rrs_runner.specs.Account.{Account, AccountOf, PartOfAccount, Shows, ShowsSteps, ShowsToNext, StopsRun, LinesBefore, LinesOfWord, PrintsUntil};
+ghost use Rattle.rrs_runner.specs.Account.{Account, AccountOf, PartOfAccount, Shows, ShowsRun, ShowsToNext, StopsRun, LinesBefore, LinesOfWord, PrintsUntil};
 ghost use Rattle.rrs_runner.specs.Printed.{AppendsLines};
 ghost use Rattle.rrs_runner.specs.Faults.{StopsPrinting};
 
 use crate::fault::RunFault;
 use crate::loading::{empty_memory, load};
 use crate::report;
+use rrs_lib::disassembly::Disassembled;
+use rrs_lib::instruction::decode;
 use rrs_lib::instruction_executor::{InstructionException, InstructionExecutor, RunEnd};
-use rrs_lib::instruction_string_outputter::InstructionStringOutputter;
-use rrs_lib::{HartState, Memory, process_instruction};
+use rrs_lib::{HartState, Memory};
 use std::alloc::Global;
 use std::io::{Read, Write};
 
@@ -32,9 +33,9 @@ pub enum Shown {
 /// # Errors
 ///
 /// `RunFault::Reader` and `RunFault::Refused` where the bytes can't be loaded: nothing is printed
-/// then. `RunFault::OutOfMemory` before anything is read or printed, or after the whole reader was
-/// read: then what is shown of the steps so far is printed, and nothing else. `RunFault::Output`
-/// where a write or the flush fails: a beginning of the account is printed then, up to all of it.
+/// then. `RunFault::OutOfMemory` before anything is read or printed, or at the end of the run: then
+/// all that is shown of its steps is printed, and nothing else. `RunFault::Output` where a write or
+/// the flush fails: a beginning of the account is printed then, up to all of it.
 pub fn simulate<R: Read, W: Write>(
     alloc: Global,
     shown: Shown,
@@ -71,11 +72,11 @@ fn print_account<M: Memory, W: Write>(
         (AccountOf shown limit (state_in M.bytes M.writable executor.old))
         (W.contents out.old) (W.contents out.new)) }
     ensures fault { IfErr result (StopsPrinting
-        (ShowsSteps shown limit (state_in M.bytes M.writable executor.old))
+        (ShowsRun shown limit (state_in M.bytes M.writable executor.old))
         (PartOfAccount shown limit (state_in M.bytes M.writable executor.old))
         (W.contents out.old) (W.contents out.new)) }
 {
-    let end = make_steps(executor, alloc, shown, limit, out)?;
+    let end = make_steps(executor, shown, limit, out)?;
     let ending = report::ending_of(alloc, &end, executor.hart_state)?;
     report::write_text(out, &ending)?;
     report::flush(out)
@@ -84,7 +85,6 @@ fn print_account<M: Memory, W: Write>(
 /// Makes steps as `InstructionExecutor::run` does, and prints what is shown meanwhile.
 fn make_steps<M: Memory, W: Write>(
     executor: &mut InstructionExecutor<M>,
-    alloc: Global,
     shown: Shown,
     limit: u64,
     out: &mut W,
@@ -93,13 +93,12 @@ fn make_steps<M: Memory, W: Write>(
         (Shows shown limit (state_in M.bytes M.writable executor.old)
         end.steps end.exception (state_in M.bytes M.writable executor.new))
         (W.contents out.old) (W.contents out.new)) }
-    ensures fault { IfErr result (StopsPrinting
-        (ShowsSteps shown limit (state_in M.bytes M.writable executor.old))
+    ensures fault { IfErr result (StopsPrinting (λ _. ⊥)
         (ShowsToNext shown limit (state_in M.bytes M.writable executor.old))
         (W.contents out.old) (W.contents out.new)) }
 {
     match shown {
-        Shown::Instructions => trace(executor, alloc, limit, out),
+        Shown::Instructions => trace(executor, limit, out),
         Shown::Nothing => Ok(executor.run(limit)),
     }
 }
@@ -110,7 +109,6 @@ fn make_steps<M: Memory, W: Write>(
 /// the step, and again by the step, which may write over them.
 fn trace<M: Memory, W: Write>(
     executor: &mut InstructionExecutor<M>,
-    alloc: Global,
     limit: u64,
     out: &mut W,
 ) -> Result<RunEnd, RunFault>
@@ -118,13 +116,12 @@ fn trace<M: Memory, W: Write>(
         (PrintsUntil limit (state_in M.bytes M.writable executor.old)
         end.steps end.exception (state_in M.bytes M.writable executor.new))
         (W.contents out.old) (W.contents out.new)) }
-    ensures fault { IfErr result (StopsPrinting
-        (ShowsSteps Shown.Instructions limit (state_in M.bytes M.writable executor.old))
+    ensures fault { IfErr result (StopsPrinting (λ _. ⊥)
         (ShowsToNext Shown.Instructions limit (state_in M.bytes M.writable executor.old))
         (W.contents out.old) (W.contents out.new)) }
 {
     for steps in 0..limit {
-        print_next(executor, alloc, out)?;
+        print_next(executor, out)?;
         if let Err(exception) = step(executor) {
             let exception = Some(exception);
             return Ok(RunEnd { steps, exception });
@@ -139,7 +136,6 @@ fn trace<M: Memory, W: Write>(
 /// Prints the text of the word at the program counter, if it is one of the table.
 fn print_next<M: Memory, W: Write>(
     executor: &mut InstructionExecutor<M>,
-    alloc: Global,
     out: &mut W,
 ) -> Result<(), RunFault>
     ensures printed { OnOk result (AppendsLines
@@ -147,36 +143,30 @@ fn print_next<M: Memory, W: Write>(
         (W.contents out.old) (W.contents out.new)) }
     ensures kept { state_in M.bytes M.writable executor.new
         ≡ state_in M.bytes M.writable executor.old }
-    ensures fault { IfErr result (StopsPrinting (λ lines. lines ≡ [])
+    ensures fault { IfErr result (StopsPrinting (λ _. ⊥)
         (LinesBefore (state_in M.bytes M.writable executor.old))
         (W.contents out.old) (W.contents out.new)) }
 {
     match executor.word_at_pc() {
-        Some(word) => print_instruction(executor.hart_state.pc, word, alloc, out),
+        Some(word) => print_instruction(executor.hart_state.pc, word, out),
         None => Ok(()),
     }
 }
 
 /// Prints the text of a word at a pc, if it is one of the table.
-fn print_instruction<W: Write>(
-    pc: u32,
-    word: u32,
-    alloc: Global,
-    out: &mut W,
-) -> Result<(), RunFault>
+fn print_instruction<W: Write>(pc: u32, word: u32, out: &mut W) -> Result<(), RunFault>
     ensures printed { OnOk result (AppendsLines (LinesOfWord pc word)
         (W.contents out.old) (W.contents out.new)) }
-    ensures fault { IfErr result (StopsPrinting (λ lines. lines ≡ []) (LinesOfWord pc word)
+    ensures fault { IfErr result (StopsPrinting (λ _. ⊥) (LinesOfWord pc word)
         (W.contents out.old) (W.contents out.new)) }
 {
-    let mut outputter = InstructionStringOutputter { insn_pc: pc, alloc };
-    match process_instruction(&mut outputter, word) {
+    match decode(word) {
         None => Ok(()),
-        Some(Ok(text)) => {
-            let line = report::line_of(alloc, pc, text.as_str())?;
-            report::write_text(out, line.as_bytes())
+        Some(instruction) => {
+            let text = Disassembled { instruction, pc }.text();
+            let line = report::line_of(pc, text.as_str());
+            report::write_text(out, line.as_str().as_bytes())
         }
-        Some(Err(_)) => Err(RunFault::OutOfMemory),
     }
 }
 
