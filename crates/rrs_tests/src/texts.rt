@@ -2,10 +2,18 @@
 //! of a word of each row are in `rrs_examples`, with the rows' numbers.
 
 use crate::machines::same_text_at;
+use rrs_lib::disassembly::{Disassembled, InstructionText, LONGEST_TEXT};
+use rrs_lib::instruction::decode;
 use rrs_lib::instruction_string_outputter::InstructionStringOutputter;
 use rrs_lib::process_instruction;
-use std::alloc::{AllocError, Global};
+use std::alloc::AllocError;
 use std::test::Fail;
+
+/// The text of a word at an address, or `None` for a word outside the table.
+fn text_at(pc: u32, word: u32) -> Option<InstructionText> {
+    let instruction = decode(word)?;
+    Some(Disassembled { instruction, pc }.text())
+}
 
 /// The text of a word, or out of memory.
 fn text_by(
@@ -15,16 +23,10 @@ fn text_by(
     process_instruction(outputter, word)
 }
 
-/// The same at an address.
-fn text_at(alloc: Global, insn_pc: u32, word: u32) -> Option<Result<String, AllocError>> {
-    text_by(&mut InstructionStringOutputter { insn_pc, alloc }, word)
-}
-
-/// The first is the example of `process_instruction`. The others are at 0: targets below 0, and
-/// negative immediates.
+/// The first is at 0x100. The others are at 0: targets below 0, and negative immediates.
 #[test]
 fn words_have_these_texts(rt: HostRuntime) -> Result<(), Fail> {
-    for (insn_pc, word, expected) in [
+    for (pc, word, expected) in [
         (0x100, 0x00208463, "beq x1, x2, 0x00000108"),
         (0, 0x07b60893, "addi x17, x12, 123"),
         (0, 0x1234b137, "lui x2, 0x1234b000"),
@@ -34,9 +36,22 @@ fn words_have_these_texts(rt: HostRuntime) -> Result<(), Fail> {
         (0, 0x00008067, "jalr x0, 0x000(x1)"),
         (0, 0x00100073, "ebreak"),
     ] {
-        let text = text_at(rt.alloc(), insn_pc, word).ok_or("no row")??;
+        let text = text_at(pc, word).ok_or("no row")?;
         same_text_at(&rt, word, text.as_str(), expected);
     }
+    Ok(())
+}
+
+/// `bgeu x10, x11, 8` at 0x100, of whose length no text of a word is longer, in columns of 27.
+#[test]
+fn a_text_is_shown_in_columns(rt: HostRuntime) -> Result<(), Fail> {
+    let instruction = decode(0x00b5_7463).ok_or("no row")?;
+    let pc = 0x100;
+    let longest = Disassembled { instruction, pc };
+    let shown = format!(in rt.alloc(); "{longest}|{longest:<27}|{longest:>27}")?;
+    let text = "bgeu x10, x11, 0x00000108";
+    let expected = format!(in rt.alloc(); "{text}|{text}  |  {text}")?;
+    assert!(rt; shown.as_str() == expected.as_str() && text.len() == LONGEST_TEXT);
     Ok(())
 }
 
@@ -44,11 +59,13 @@ fn words_have_these_texts(rt: HostRuntime) -> Result<(), Fail> {
 /// funct3, and the words of all ones and of all zeros are no row.
 #[test]
 fn words_outside_the_table_have_no_text(rt: HostRuntime) {
+    let alloc = rt.alloc();
+    let mut outputter = InstructionStringOutputter { insn_pc: 0, alloc };
     for word in [
         0x00200073, 0x000000f3, 0x00008073, 0x00001073, 0x0000100f, 0xfe109093, 0x00009067,
         0xffffffff, 0x00000000,
     ] {
-        assert!(rt; text_at(rt.alloc(), 0, word).is_none(), "of {word:#010x}");
+        assert!(rt; text_by(&mut outputter, word).is_none(), "of {word:#010x}");
     }
 }
 
