@@ -26,9 +26,14 @@ name_length : (row : Row) → length (name_of row) ≤ name_room (table row).act
 name_length Row.Add = omega arith
 name_length _ = omega arith
 
+most_room : (a : Action) → name_room a ≤ 6
+most_room (BranchIf test) = omega arith
+most_room (BranchUnless test) = omega arith
+most_room JumpAndLinkRegister = omega arith
+most_room _ = omega arith
+
 pub short_name : (row : Row) → length (name_of row) ≤ 6
-short_name Row.Add = omega arith
-short_name _ = omega arith
+short_name row = omega (arith, name_length row, most_room (table row).action)
 
 -- ---- numbers
 
@@ -42,6 +47,7 @@ immediate_length : (z : ℤ) → neg_ℤ (pos 2048) ≤ℤ z → z ≤ℤ pos 20
 immediate_length (pos n) low high = let d = length-decimal-le 4 n (omega arith) (omega (arith, ints)) (omega (arith, ints)) in omega (arith, d)
 immediate_length (negsuc n) low high = let d = length-decimal-le 4 (suc n) (omega arith) (omega (arith, ints)) (omega (arith, ints)) in omega (arith, d)
 
+-- a number below 16 ^ (k + 1) adds at most k + 1 digits to those that stand
 onto_length : (k j n : ℕ) (acc : List ℕ) → n < 16 ^ suc k → length (digits_onto j 16 false n acc) ≤ suc k + length acc
 onto_length k zero n acc small = omega arith
 onto_length zero (suc j) n acc small = either (n / 16 == 0) refl
