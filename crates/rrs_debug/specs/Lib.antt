@@ -12,3 +12,5 @@ pub mod Retired
 pub mod Traced
 -- Runs that stop at addresses.
 pub mod Stops
+-- An access that is made outside of the machine.
+pub mod Outside

@@ -1,0 +1,323 @@
+//! Accesses that are made outside of the machine.
+//!
+//! A clock, an input port, or a memory that the caller keeps elsewhere is no [Memory]: its reads
+//! change, or it isn't there to lend. [request] tells which load or store an instruction makes, and
+//! [complete] executes it with what was answered; both work on a hart alone.
+
+ghost use Rattle.std.specs.Prelude.{◌≡◌, ◌≢◌, ◌%◌, ◌^◌, ◌<◌, ℕ, List, [], Bool, true, false, Option, None, Some, Ok, slice_index, ℤ};
+ghost use Rattle.std.specs.Bool.{OnTrue, OnFalse};
+ghost use Rattle.rrs_lib.specs.Bytes.{ByteMap, width};
+ghost use Rattle.rrs_lib.specs.Encodings.{HasRegisters};
+ghost use Rattle.rrs_lib.specs.Table.{table};
+ghost use Rattle.rrs_lib.specs.Instructions.{row_of, fields_of};
+ghost use Rattle.rrs_lib.specs.Machine.{State, state_of, reg, plus_immediate, put, Executes};
+ghost use Rattle.rrs_lib.specs.Words.{word};
+ghost use Rattle.rrs_lib.specs.Executor.{state_in, KeepsTheRest};
+ghost use Rattle.rrs_lib.specs.Steps.{advanced};
+ghost use Rattle.rrs_lib.specs.Accesses.{read_if_aligned, Makes};
+ghost use Rattle.rrs_debug.specs.Outside.{requested, AccessesAfterFetch, Foretells, WithEachMemory, Completes, LoadsGiven, StoresElsewhere, request_by, call_fault, address_of, size_asked, Asks, Loads, Advances, StepsAlone, Performs};
+
+use rrs_instruction::arithmetic;
+use rrs_lib::instruction::{Instruction, decode};
+use rrs_lib::instruction_executor::{InstructionException, InstructionExecutor};
+use rrs_lib::instruction_formats::{IType, SType};
+use rrs_lib::{HartState, InstructionHandler, MemAccessSize, Memory};
+
+/// The load or the store that an instruction makes. The address is a multiple of the size.
+#[derive(Debug, PartialEq, Clone, Copy)]
+pub enum DataRequest {
+    /// A load: the address and the size.
+    Load(u32, MemAccessSize),
+    /// A store: the address, the size, and the value of the register whose low bytes are stored.
+    Store(u32, MemAccessSize, u32),
+}
+
+impl DataRequest {
+    /// The address of the first byte.
+    #[inline]
+    fn address(self) -> u32
+        ensures { result ≡ address_of self }
+    {
+        match self {
+            DataRequest::Load(address, _) => address,
+            DataRequest::Store(address, _, _) => address,
+        }
+    }
+
+    /// The size of the access.
+    #[inline]
+    fn size(self) -> MemAccessSize
+        ensures { result ≡ size_asked self }
+    {
+        match self {
+            DataRequest::Load(_, size) => size,
+            DataRequest::Store(_, size, _) => size,
+        }
+    }
+}
+
+/// The access that the instruction `word` makes on a hart, beside the fetch of the word; `None`
+/// where it makes none.
+///
+/// No memory is looked at, and nothing changes. The word is the one at the pc, as the caller's
+/// memory has it; at a pc that is no multiple of 4 it may be any. A word that the caller can't read
+/// is no word: then the step is `FetchError(pc)`, and no call here tells that.
+///
+/// The clauses, for the hart with each memory that has this word at the pc: the accesses of the step
+/// are the fetch and then this one (`access`); at `Ok(None)` the step is `Ok`, and at an error it is
+/// that fault (`foretold`).
+///
+/// # Errors
+///
+/// The fault that comes before any access of the instruction: `AlignmentFault(pc)` where the pc is
+/// no multiple of 4; `IllegalInstruction(pc, word)`; `AlignmentFault(address)` where the address of
+/// a load or a store is no multiple of its size; `EnvironmentCall(pc)` and `Breakpoint(pc)`.
+pub fn request(hart: &HartState, word: u32) -> Result<Option<DataRequest>, InstructionException>
+    ensures access { WithEachMemory hart.now word (λ s.
+        AccessesAfterFetch s (requested s result)) }
+    ensures foretold { WithEachMemory hart.now word (λ s. Foretells s result) }
+{
+    if !MemAccessSize::Word.is_aligned(hart.pc) {
+        return Err(InstructionException::AlignmentFault(hart.pc));
+    }
+    match decode(word) {
+        Some(instruction) => request_of(hart, &instruction),
+        None => Err(InstructionException::IllegalInstruction(hart.pc, word)),
+    }
+}
+
+/// Executes the instruction `word` on a hart, with what the caller's memory or device answered to
+/// its access.
+///
+/// `given` is that answer. Of a load it is the value that was read, little-endian, of which the low
+/// bytes count, and which is extended here; or `None` where the load is refused. Of a store that was
+/// carried out it is any value, or `None` where the store is refused. Of an instruction that
+/// accesses nothing, and of one that faults before its access, it is not looked at. The word is as
+/// in [request].
+///
+/// The clause: with each memory that has this word at the pc, and that answers the access so, this
+/// is the step: its answer, and the hart that it leaves. The bytes are as before, but that those of a
+/// store that was granted are stored. The caller stores them, before the call or after it.
+///
+/// # Errors
+///
+/// Those of [request], and `LoadAccessFault(address)` or `StoreAccessFault(address)` where nothing
+/// is given to a load or a store. After each the registers and the pc are as before, and no register
+/// is the one written last.
+pub fn complete(
+    hart: &mut HartState,
+    word: u32,
+    given: Option<u32>,
+) -> Result<(), InstructionException>
+    ensures step { Completes hart.old hart.new word given result }
+    ensures entry_zero { slice_index hart.new.registers 0 ≡ slice_index hart.old.registers 0 }
+{
+    hart.last_register_write = None;
+    if !MemAccessSize::Word.is_aligned(hart.pc) {
+        return Err(InstructionException::AlignmentFault(hart.pc));
+    }
+    match decode(word) {
+        Some(instruction) => perform(hart, &instruction, given),
+        None => Err(InstructionException::IllegalInstruction(hart.pc, word)),
+    }
+}
+
+/// The request of a load.
+#[inline]
+fn load_request(hart: &HartState, fields: IType, size: MemAccessSize) -> DataRequest
+    requires { fields.rs1 < 32 }
+    ensures { (bytes : ByteMap) (writable : ℕ → Bool) → result
+        ≡ DataRequest.Load (plus_immediate (reg (state_of hart.now bytes writable) fields.rs1) fields.imm) size }
+{
+    let base = hart.read_register(fields.rs1);
+    DataRequest::Load(arithmetic::plus_immediate(base, fields.imm), size)
+}
+
+/// The request of a store.
+#[inline]
+fn store_request(hart: &HartState, fields: SType, size: MemAccessSize) -> DataRequest
+    requires first { fields.rs1 < 32 }
+    requires second { fields.rs2 < 32 }
+    ensures { (bytes : ByteMap) (writable : ℕ → Bool) → result
+        ≡ DataRequest.Store (plus_immediate (reg (state_of hart.now bytes writable) fields.rs1) fields.imm)
+        size (reg (state_of hart.now bytes writable) fields.rs2) }
+{
+    let base = hart.read_register(fields.rs1);
+    let value = hart.read_register(fields.rs2);
+    DataRequest::Store(arithmetic::plus_immediate(base, fields.imm), size, value)
+}
+
+/// What an instruction asks of the memory, whether or not the address is aligned.
+#[inline]
+fn access_of(hart: &HartState, instruction: &Instruction) -> Option<DataRequest>
+    requires { HasRegisters (fields_of instruction.now) }
+    ensures { (bytes : ByteMap) (writable : ℕ → Bool) → result
+        ≡ request_by (table (row_of instruction.now)).action (fields_of instruction.now)
+        (state_of hart.now bytes writable) }
+{
+    match *instruction {
+        Instruction::Lb(fields) | Instruction::Lbu(fields) => {
+            Some(load_request(hart, fields, MemAccessSize::Byte))
+        }
+        Instruction::Lh(fields) | Instruction::Lhu(fields) => {
+            Some(load_request(hart, fields, MemAccessSize::HalfWord))
+        }
+        Instruction::Lw(fields) => Some(load_request(hart, fields, MemAccessSize::Word)),
+        Instruction::Sb(fields) => Some(store_request(hart, fields, MemAccessSize::Byte)),
+        Instruction::Sh(fields) => Some(store_request(hart, fields, MemAccessSize::HalfWord)),
+        Instruction::Sw(fields) => Some(store_request(hart, fields, MemAccessSize::Word)),
+        _ => None,
+    }
+}
+
+/// The fault of `ecall` and `ebreak`.
+#[inline]
+fn fault_of_call(pc: u32, instruction: &Instruction) -> Option<InstructionException>
+    ensures { result ≡ call_fault (table (row_of instruction.now)).action pc }
+{
+    match instruction {
+        Instruction::Ecall(_) => Some(InstructionException::EnvironmentCall(pc)),
+        Instruction::Ebreak(_) => Some(InstructionException::Breakpoint(pc)),
+        _ => None,
+    }
+}
+
+/// The access that an instruction makes, or the fault before any.
+fn request_of(
+    hart: &HartState,
+    instruction: &Instruction,
+) -> Result<Option<DataRequest>, InstructionException>
+    requires { HasRegisters (fields_of instruction.now) }
+    ensures { Asks (row_of instruction.now) (fields_of instruction.now) hart.now result }
+{
+    let Some(request) = access_of(hart, instruction) else {
+        return match fault_of_call(hart.pc, instruction) {
+            Some(fault) => Err(fault),
+            None => Ok(None),
+        };
+    };
+    let address = request.address();
+    if request.size().is_aligned(address) {
+        Ok(Some(request))
+    } else {
+        Err(InstructionException::AlignmentFault(address))
+    }
+}
+
+/// A memory where nothing is mapped, for an instruction that accesses nothing.
+#[derive(Drop)]
+struct Unmapped;
+
+impl Memory for Unmapped {
+    ghost bytes = { λ m a. None };
+
+    ghost writable = { λ m a. false };
+
+    ghost layout = { λ m. [] };
+
+    ghost reads = { λ old address size new answer. Unit {0} };
+
+    ghost writes = { λ old address size value new answer. Unit {0} };
+
+    fn read_mem(&mut self, _addr: u32, _size: MemAccessSize) -> Option<u32> {
+        None
+    }
+
+    fn write_mem(&mut self, _addr: u32, _size: MemAccessSize, _store_data: u32) -> bool {
+        false
+    }
+}
+
+/// Goes on to the next instruction.
+#[inline]
+fn advance(hart: &mut HartState)
+    ensures advances { Advances hart.old hart.new }
+    ensures registers_kept { hart.new.registers ≡ hart.old.registers }
+{
+    hart.pc = hart.pc.wrapping_add(4);
+}
+
+/// Executes an instruction that accesses nothing, and goes on to the next one.
+fn step_alone(hart: &mut HartState, instruction: &Instruction) -> Result<(), InstructionException>
+    requires { HasRegisters (fields_of instruction.now) }
+    ensures steps { StepsAlone (row_of instruction.now) (fields_of instruction.now)
+        (state_of hart.old (λ a. None) (λ a. false))
+        (state_of hart.new (λ a. None) (λ a. false)) result }
+    ensures entry_zero { slice_index hart.new.registers 0 ≡ slice_index hart.old.registers 0 }
+{
+    let mut executor = InstructionExecutor {
+        mem: &mut Unmapped,
+        hart_state: hart,
+    };
+    if !executor.handle(instruction)? {
+        advance(hart);
+    }
+    Ok(())
+}
+
+/// Writes a register with a whole number modulo 2^32.
+#[inline]
+fn write(hart: &mut HartState, rd: usize, value: u32)
+    requires { rd < 32 }
+    ensures written { (bytes : ByteMap) (writable : ℕ → Bool) (z : ℤ) → value ≡ word z
+        → state_of hart.new bytes writable ≡ put (state_of hart.old bytes writable) rd z }
+    ensures entry_zero { slice_index hart.new.registers 0 ≡ slice_index hart.old.registers 0 }
+{
+    hart.write_register(rd, value);
+}
+
+/// Gives the register of a load a value that was read, extended as the load says.
+fn load_given(hart: &mut HartState, instruction: &Instruction, value: u32)
+    requires { HasRegisters (fields_of instruction.now) }
+    ensures loads { Loads (row_of instruction.now) (fields_of instruction.now) value
+        hart.old hart.new }
+    ensures entry_zero { slice_index hart.new.registers 0 ≡ slice_index hart.old.registers 0 }
+{
+    let byte = value & 0xff;
+    let half_word = value & 0xffff;
+    match *instruction {
+        Instruction::Lb(fields) => write(hart, fields.rd, arithmetic::sign_extended_byte(byte)),
+        Instruction::Lbu(fields) => write(hart, fields.rd, byte),
+        Instruction::Lh(fields) => {
+            write(
+                hart,
+                fields.rd,
+                arithmetic::sign_extended_half_word(half_word),
+            );
+        }
+        Instruction::Lhu(fields) => write(hart, fields.rd, half_word),
+        Instruction::Lw(fields) => write(hart, fields.rd, value),
+        _ => {}
+    }
+}
+
+/// Executes an instruction with the answer to its access, on a hart that has written no register.
+fn perform(
+    hart: &mut HartState,
+    instruction: &Instruction,
+    given: Option<u32>,
+) -> Result<(), InstructionException>
+    requires { HasRegisters (fields_of instruction.now) }
+    ensures performs { Performs (row_of instruction.now) (fields_of instruction.now) given
+        hart.old hart.new result }
+    ensures entry_zero { slice_index hart.new.registers 0 ≡ slice_index hart.old.registers 0 }
+{
+    match (request_of(hart, instruction)?, given) {
+        (None, _) => step_alone(hart, instruction),
+        (Some(DataRequest::Load(address, _size)), None) => {
+            Err(InstructionException::LoadAccessFault(address))
+        }
+        (Some(DataRequest::Load(_address, _size)), Some(value)) => {
+            load_given(hart, instruction, value);
+            advance(hart);
+            Ok(())
+        }
+        (Some(DataRequest::Store(address, _size, _value)), None) => {
+            Err(InstructionException::StoreAccessFault(address))
+        }
+        (Some(DataRequest::Store(_address, _size, _value)), Some(_)) => {
+            advance(hart);
+            Ok(())
+        }
+    }
+}
