@@ -1,7 +1,7 @@
 -- An access that is made outside of the machine: what an action does where the memory answers so, and the step that it is.
-use Rattle.std.proofs.Common.{◌≡◌, ◌≢◌, ℕ, zero, suc, ◌+◌, ◌%◌, ◌^◌, ◌==◌, ℤ, pos, List, [], ◌∷◌, ◌++◌, Bool, true, false, if◌then◌else◌, Option, Some, None, not, option_map, Ok, Err, refl, sym, ap, subst, ◌∙◌, eq-eqb}
+use Rattle.std.proofs.Common.{◌≡◌, ℕ, zero, suc, ◌+◌, ◌%◌, ◌^◌, ◌==◌, ℤ, pos, List, [], ◌∷◌, ◌++◌, Bool, true, false, if◌then◌else◌, Option, Some, None, not, option_map, Ok, Err, refl, sym, ap, subst, ◌∙◌, eq-eqb, IfSome, IsSomeAnd}
 use Rattle.std.proofs.lemmas.Option.{none-some, same_Some}
-use Rattle.std.proofs.lemmas.Bool.{cond-true, cond-false, ne_eqb}
+use Rattle.std.proofs.lemmas.Bool.{cond-true, eqb-true}
 use Rattle.rrs_lib.specs.declared.MemAccessSize.{MemAccessSize}
 use Rattle.rrs_lib.specs.declared.MemAccessSize.TheVariants.{Word}
 use Rattle.rrs_lib.specs.declared.HartState.{HartState}
@@ -10,18 +10,20 @@ use Rattle.rrs_lib.specs.declared.instruction_executor.InstructionException.TheV
 use Rattle.rrs_instruction.specs.Words.{word}
 use Rattle.rrs_instruction.specs.declared.instruction_formats.IType.{IType}
 use Rattle.rrs_instruction.specs.declared.instruction_formats.SType.{SType}
+use Rattle.rrs_lib.specs.declared.instruction.Instruction.{Instruction}
+use Rattle.rrs_lib.specs.Instructions.{row_of, fields_of}
 use Rattle.rrs_lib.specs.Encodings.{Fields, R, I, IShamt, S, B, U, J}
 use Rattle.rrs_lib.specs.Table.{Row, table, Decodes, IsIllegal, Action, OnRegisters, OnImmediate, OnShamt, LoadUpper, AddUpperToPc, BranchIf, BranchUnless, Load, Store, JumpAndLink, JumpAndLinkRegister, NoEffect, CallEnvironment, Break}
 use Rattle.rrs_lib.specs.Bytes.{ByteMap, width, little_endian, all_writable}
 use Rattle.rrs_lib.specs.Machine.{State, state_of, reg, put, with_pc, plus_immediate, made_even, Answer, Outcome, outcome, result_outcome, branch_outcome, jump_outcome, fault_outcome, load_outcome, read_outcome, store_outcome, granted_outcome, outcome_by, Executes}
 use Rattle.rrs_lib.specs.Steps.{Step, StepAnswer, Misaligned, Unmapped, Illegal, Legal, cleared, advanced, answered}
-use Rattle.rrs_lib.specs.Accesses.{Access, Read, Write, AccessesOf, OfNone, OfRow, fetch, read_if_aligned, accesses_by, accesses_of_row, size_of}
+use Rattle.rrs_lib.specs.Accesses.{Access, Read, Write, AccessesOf, OfRow, fetch, read_if_aligned, accesses_by, accesses_of_row, size_of}
 use Rattle.rrs_lib.proofs.Rows.{one_row_at_most}
 use Rattle.rrs_lib.proofs.ComputedSteps.{step_of-is_step}
 use Rattle.rrs_lib.proofs.Keeping.{same_reg, address-cleared}
 use Rattle.rrs_lib.proofs.Making.{AccessesOf-unique, accesses_of_legal, accesses_of_illegal}
 use Rattle.rrs_debug.specs.declared.outside.DataRequest.{DataRequest}
-use Rattle.rrs_debug.specs.Outside.{RequestAnswer, requested, Foretells, WithEachMemory, AccessesAfterFetch, Completes, AnsweredBy, bytes_after, request_by, call_fault, answer_to, answer_by, loaded, Asks, Loads, Advances, Performs, StepsAlone}
+use Rattle.rrs_debug.specs.Outside.{RequestAnswer, requested, Foretells, WithEachMemory, AccessesAfterFetch, Completes, AnsweredBy, bytes_after, request_by, call_fault, answer_to, answer_by, loaded, LoadsGiven, StoresElsewhere, FindsAccess, Asks, Loads, Advances, Performs, StepsAlone}
 
 -- ---- an action that accesses nothing, over another memory
 
@@ -277,18 +279,11 @@ legal s w row f aligned read decodes = legal_by s _ _ w row f (step_of-is_step s
 fetch_aligned : (s : State) (accesses : List Access) → s.pc % 4 ≡ 0 → read_if_aligned s s.pc Word ++ accesses ≡ fetch s ∷ accesses
 fetch_aligned s accesses aligned = ap (λ xs. xs ++ accesses) (cond-true (s.pc % 4 == 0) (fetch s ∷ []) [] (eq-eqb _ _ aligned))
 
-fetch_odd : (s : State) (accesses : List Access) → s.pc % 4 ≢ 0 → read_if_aligned s s.pc Word ++ accesses ≡ accesses
-fetch_odd s accesses odd = ap (λ xs. xs ++ accesses) (cond-false (s.pc % 4 == 0) (fetch s ∷ []) [] (ne_eqb _ _ odd))
-
 abbrev rest_of : List Access → List Access
 rest_of [] = []
 rest_of (access ∷ accesses) = accesses
 
 -- what is accessed after the fetch
-after_none : (s : State) (accesses : List Access) → s.pc % 4 ≢ 0 → AccessesAfterFetch s accesses → accesses ≡ []
-after_none s accesses odd are =
-    sym (fetch_odd s accesses odd) ∙ AccessesOf-unique one_row_at_most s _ [] are (OfNone odd refl)
-
 after_fetch : (s : State) (accesses later : List Access) → s.pc % 4 ≡ 0 → AccessesAfterFetch s accesses → AccessesOf s (fetch s ∷ later) → accesses ≡ later
 after_fetch s accesses later aligned are known =
     ap rest_of (sym (fetch_aligned s accesses aligned) ∙ AccessesOf-unique one_row_at_most s _ _ are known)
@@ -298,16 +293,6 @@ after_fetch s accesses later aligned are known =
 -- a hart that has written no register
 abbrev pub without_last : HartState → HartState
 without_last hart = record hart { last_register_write = None }
-
-abbrev CompletesAt : HartState → ℕ → Option ℕ → StepAnswer → ByteMap → (ℕ → Bool) → State → Type 0
-CompletesAt new w given answer bytes writable s =
-    (accesses : List Access) → AccessesAfterFetch s accesses → AnsweredBy given accesses
-    → Step s (state_of new (bytes_after accesses bytes) writable) answer
-
-pub completes_odd : (old : HartState) (w : ℕ) (given : Option ℕ) → old.pc % 4 ≢ 0 → Completes old (without_last old) w given (Err (AlignmentFault old.pc))
-completes_odd old w given odd = λ bytes writable has accesses are answers.
-    let s = state_of old bytes writable in
-    Misaligned odd (ap (λ xs. state_of (without_last old) (bytes_after xs bytes) writable) (after_none s accesses odd are)) refl
 
 pub completes_illegal : (old : HartState) (w : ℕ) (given : Option ℕ) → old.pc % 4 ≡ 0 → IsIllegal w → Completes old (without_last old) w given (Err (IllegalInstruction old.pc w))
 completes_illegal old w given aligned outside = λ bytes writable has accesses are answers.
@@ -413,3 +398,137 @@ foretells_row hart w row f r aligned decodes asks = λ bytes writable has.
 
 pub foretells_illegal : (hart : HartState) (w : ℕ) → hart.pc % 4 ≡ 0 → IsIllegal w → WithEachMemory hart w (λ s. Foretells s (Err (IllegalInstruction hart.pc w)))
 foretells_illegal hart w aligned outside = λ bytes writable has. Illegal w aligned (has aligned) outside refl refl
+
+-- ---- a load or a store that was found
+
+-- a choice that is a request was aligned
+chosen : (size : MemAccessSize) (address : ℕ) (q r : DataRequest) (e : InstructionException) → (if address % width size == 0 then Ok (Some q) else Err e) ≡ Ok (Some r) → (address % width size ≡ 0) × (q ≡ r)
+chosen size address q r e same = by_test (address % width size == 0) refl same
+  where
+    by_test : (b : Bool) → (address % width size == 0) ≡ b → (if b then Ok (Some q) else Err e) ≡ Ok (Some r) → (address % width size ≡ 0) × (q ≡ r)
+    by_test true even h = (eqb-true _ _ even, cc)
+    by_test false odd h = cc
+
+-- what a load that was found is
+record FoundLoad (action : Action) (f : Fields) (s : State) : Type 0 where
+  fields : IType
+  n : ℕ
+  extended : ℕ → ℤ
+  is_load : action ≡ Load n extended
+  of_format : f ≡ I fields
+  aligned : plus_immediate (reg s fields.rs1) fields.imm % n ≡ 0
+
+record FoundStore (action : Action) (f : Fields) (s : State) : Type 0 where
+  fields : SType
+  n : ℕ
+  is_store : action ≡ Store n
+  of_format : f ≡ S fields
+  aligned : plus_immediate (reg s fields.rs1) fields.imm % n ≡ 0
+
+found_load : (action : Action) (f : Fields) (s : State) (address : ℕ) (size : MemAccessSize) → SizeKnown action → answer_by action f s ≡ Ok (Some (DataRequest.Load address size)) → FoundLoad action f s
+found_load (Load n extended) (I f) s address size known same =
+    let there = plus_immediate (reg s f.rs1) f.imm in
+    let P : ℕ → Type 0 = λ m. there % m ≡ 0 in
+    record { fields = f; n = n; extended = extended; is_load = refl; of_format = refl; aligned = subst P known (chosen (size_of n) there _ _ _ same).0 }
+found_load (Store n) (S f) s address size known same =
+    let other = (chosen (size_of n) (plus_immediate (reg s f.rs1) f.imm) _ _ _ same).1 in cc
+found_load CallEnvironment _ s address size known same = cc
+found_load Break _ s address size known same = cc
+found_load _ _ s address size known same = cc
+
+found_store : (action : Action) (f : Fields) (s : State) (address value : ℕ) (size : MemAccessSize) → SizeKnown action → answer_by action f s ≡ Ok (Some (DataRequest.Store address size value)) → FoundStore action f s
+found_store (Store n) (S f) s address value size known same =
+    let there = plus_immediate (reg s f.rs1) f.imm in
+    let P : ℕ → Type 0 = λ m. there % m ≡ 0 in
+    record { fields = f; n = n; is_store = refl; of_format = refl; aligned = subst P known (chosen (size_of n) there _ _ _ same).0 }
+found_store (Load n extended) (I f) s address value size known same =
+    let other = (chosen (size_of n) (plus_immediate (reg s f.rs1) f.imm) _ _ _ same).1 in cc
+found_store CallEnvironment _ s address value size known same = cc
+found_store Break _ s address value size known same = cc
+found_store _ _ s address value size known same = cc
+
+-- a value that is known to be there
+some_and : {T : Type 0} (o : Option T) (P : T → Type 0) → IsSomeAnd o P → (x : T) × (o ≡ Some x) × P x
+some_and None P holds = absurd holds
+some_and (Some x) P holds = (x, refl, holds)
+
+at_some : {T : Type 0} (o : Option T) (x : T) (P : T → Type 0) → o ≡ Some x → IfSome o P → P x
+at_some {T = T} o x P is holds =
+    let Q : Option T → Type 0 = λ y. IfSome y P in
+    let there : IfSome (Some x) P = subst Q is holds in
+    there
+
+pub loads_given : (v : ℕ) (s t : State) (found : Option (Instruction × DataRequest)) (i : Instruction) (address : ℕ) (size : MemAccessSize) → FindsAccess s found → found ≡ Some (i, DataRequest.Load address size) → t ≡ advanced (loaded (table (row_of i)).action (fields_of i) v (cleared s)) (Ok false) → LoadsGiven v s t
+loads_given v s t found i address size finds is after =
+    let row = row_of i in
+    let at = some_and _ _ (at_some found _ _ is finds.stands) in
+    let load = found_load (table row).action (fields_of i) s address size (row_size row) (at_some found _ _ is finds.asks) in
+    let D : Fields → Type 0 = λ f. Decodes at.0 row f in
+    record {
+      w = at.0;
+      row = row;
+      fields = load.fields;
+      n = load.n;
+      extended = load.extended;
+      fetched = at.1;
+      decoded = subst D load.of_format at.2;
+      is_load = load.is_load;
+      aligned = load.aligned;
+      after = after ∙ ap (λ a. advanced (loaded a (fields_of i) v (cleared s)) (Ok false)) load.is_load ∙ ap (λ f. advanced (loaded (Load load.n load.extended) f v (cleared s)) (Ok false)) load.of_format;
+    }
+
+pub stores_elsewhere : (s t : State) (found : Option (Instruction × DataRequest)) (i : Instruction) (address value : ℕ) (size : MemAccessSize) → FindsAccess s found → found ≡ Some (i, DataRequest.Store address size value) → t ≡ advanced (cleared s) (Ok false) → StoresElsewhere s t
+stores_elsewhere s t found i address value size finds is after =
+    let row = row_of i in
+    let at = some_and _ _ (at_some found _ _ is finds.stands) in
+    let stored = found_store (table row).action (fields_of i) s address value size (row_size row) (at_some found _ _ is finds.asks) in
+    let D : Fields → Type 0 = λ f. Decodes at.0 row f in
+    record {
+      w = at.0;
+      row = row;
+      fields = stored.fields;
+      n = stored.n;
+      fetched = at.1;
+      decoded = subst D stored.of_format at.2;
+      is_store = stored.is_store;
+      aligned = stored.aligned;
+      after = after;
+    }
+
+-- what is left of a hart that was given a value, or went on
+pub loaded_state : (row : Row) (f : Fields) (v : ℕ) (s : State) (old mid new : HartState) (bytes : ByteMap) (writable : ℕ → Bool) → state_of old bytes writable ≡ s → Loads row f v (without_last old) mid → Advances mid new → state_of new bytes writable ≡ advanced (loaded (table row).action f v (cleared s)) (Ok false)
+loaded_state row f v s old mid new bytes writable same loads goes =
+    goes.advances bytes writable ∙ ap (λ x. advanced x (Ok false)) (loads.loads bytes writable) ∙ ap (λ x. advanced (loaded (table row).action f v (cleared x)) (Ok false)) same
+
+pub advanced_state : (s : State) (old new : HartState) (bytes : ByteMap) (writable : ℕ → Bool) → state_of old bytes writable ≡ s → Advances (without_last old) new → state_of new bytes writable ≡ advanced (cleared s) (Ok false)
+advanced_state s old new bytes writable same goes =
+    goes.advances bytes writable ∙ ap (λ x. advanced (cleared x) (Ok false)) same
+
+-- what a load or a store asks, so that it is found
+load_asks : (v : ℕ) (s t : State) (given : LoadsGiven v s t) → answer_by (table given.row).action (I given.fields) s ≡ Ok (Some (DataRequest.Load (plus_immediate (reg s given.fields.rs1) given.fields.imm) (size_of given.n)))
+load_asks v s t given =
+    let known : width (size_of given.n) ≡ given.n = subst SizeKnown given.is_load (row_size given.row) in
+    let there = plus_immediate (reg s given.fields.rs1) given.fields.imm in
+    let P : ℕ → Type 0 = λ m. there % m ≡ 0 in
+    ap (λ a. answer_by a (I given.fields) s) given.is_load ∙ cond-true (there % width (size_of given.n) == 0) _ _ (eq-eqb _ _ (subst P (sym known) given.aligned))
+
+store_asks : (s t : State) (given : StoresElsewhere s t) → answer_by (table given.row).action (S given.fields) s ≡ Ok (Some (DataRequest.Store (plus_immediate (reg s given.fields.rs1) given.fields.imm) (size_of given.n) (reg s given.fields.rs2)))
+store_asks s t given =
+    let known : width (size_of given.n) ≡ given.n = subst SizeKnown given.is_store (row_size given.row) in
+    let there = plus_immediate (reg s given.fields.rs1) given.fields.imm in
+    let P : ℕ → Type 0 = λ m. there % m ≡ 0 in
+    ap (λ a. answer_by a (S given.fields) s) given.is_store ∙ cond-true (there % width (size_of given.n) == 0) _ _ (eq-eqb _ _ (subst P (sym known) given.aligned))
+
+none_found : (found : Option (Instruction × DataRequest)) (q : DataRequest) → IsSomeAnd found (λ y. y.1 ≡ q) → found ≡ None → ⊥
+none_found found q holds is =
+    let Q : Option (Instruction × DataRequest) → Type 0 = λ o. IsSomeAnd o (λ y. y.1 ≡ q) in
+    let none : ⊥ = subst Q is holds in
+    none
+
+pub no_load_in_none : (v : ℕ) (s : State) (found : Option (Instruction × DataRequest)) → FindsAccess s found → found ≡ None → (t : State) → ¬ LoadsGiven v s t
+no_load_in_none v s found finds is t given =
+    none_found found _ (finds.only given.w given.row (I given.fields) _ given.fetched given.decoded (load_asks v s t given)) is
+
+pub no_store_in_none : (s : State) (found : Option (Instruction × DataRequest)) → FindsAccess s found → found ≡ None → (t : State) → ¬ StoresElsewhere s t
+no_store_in_none s found finds is t given =
+    none_found found _ (finds.only given.w given.row (S given.fields) _ given.fetched given.decoded (store_asks s t given)) is

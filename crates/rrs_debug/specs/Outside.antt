@@ -1,7 +1,7 @@
 -- An access that is made outside of the machine: what the instruction at the program counter asks
 -- of a memory, and what a hart is left as once the answer is known (RISC-V unprivileged
 -- specification, RV32I, "Load and Store Instructions").
-use Rattle.std.specs.Prelude.{◌≡◌, ℕ, ◌%◌, ◌^◌, List, [], ◌∷◌, ◌++◌, ℤ, ◌==◌, Bool, true, false, if◌then◌else◌, Option, Some, None, is_some, option_map, Result, Ok, Err}
+use Rattle.std.specs.Prelude.{◌≡◌, ℕ, ◌%◌, ◌^◌, List, [], ◌∷◌, ◌++◌, ℤ, ◌==◌, Bool, true, false, if◌then◌else◌, Option, Some, None, is_some, option_map, IfSome, IsSomeAnd, Result, Ok, Err}
 use Rattle.rrs_lib.specs.declared.MemAccessSize.{MemAccessSize}
 use Rattle.rrs_lib.specs.declared.MemAccessSize.TheVariants.{Word}
 use Rattle.rrs_lib.specs.declared.HartState.{HartState}
@@ -9,7 +9,9 @@ use Rattle.rrs_lib.specs.declared.instruction_executor.InstructionException.{Ins
 use Rattle.rrs_lib.specs.declared.instruction_executor.InstructionException.TheVariants.{AlignmentFault, EnvironmentCall, Breakpoint}
 use Rattle.rrs_instruction.specs.declared.instruction_formats.IType.{IType}
 use Rattle.rrs_instruction.specs.declared.instruction_formats.SType.{SType}
+use Rattle.rrs_lib.specs.declared.instruction.Instruction.{Instruction}
 use Rattle.rrs_lib.specs.Encodings.{Fields, I, S}
+use Rattle.rrs_lib.specs.Instructions.{row_of, fields_of, IsInstruction}
 use Rattle.rrs_lib.specs.Table.{Row, table, Action, Load, Store, CallEnvironment, Break, Decodes}
 use Rattle.rrs_lib.specs.Bytes.{ByteMap, width, little_endian, store}
 use Rattle.rrs_lib.specs.Machine.{State, reg, put, state_of, plus_immediate, Answer, Executes}
@@ -146,6 +148,16 @@ pub record StepsAlone (row : Row) (f : Fields) (s t : State) (answer : StepAnswe
   pub executes : Executes row f s after set
   pub goes : t ≡ advanced after set
   pub answers : answer ≡ answered set
+
+-- what an instruction at the program counter asks: the one that was found, with its request, or none
+pub record FindsAccess (s : State) (found : Option (Instruction × DataRequest)) : Type 0 where
+  pub stands : IfSome found (λ x. IsSomeAnd (next_word s) (λ w. IsInstruction w x.0))
+  pub asks : IfSome found (λ x.
+      answer_by (table (row_of x.0)).action (fields_of x.0) s ≡ Ok (Some x.1))
+  pub only : (w : ℕ) (row : Row) (f : Fields) (request : DataRequest)
+      → next_word s ≡ Some w → Decodes w row f
+      → answer_by (table row).action f s ≡ Ok (Some request)
+      → IsSomeAnd found (λ x. x.1 ≡ request)
 
 -- of a row with its fields a hart asks this, whatever the memory
 pub record Asks (row : Row) (f : Fields) (hart : HartState) (answer : RequestAnswer) : Type 0 where

@@ -3,7 +3,8 @@
 //! [step_retired] makes a step and tells what it retired, in the shape of RVFI, the RISC-V Formal
 //! Interface. [TracedMemory] is the memory under it, which keeps the latest access that is no
 //! fetch. [run_until] makes steps until the pc is one of some addresses. [request] and [complete]
-//! execute an instruction whose load or store the caller makes, outside of the machine.
+//! execute an instruction whose load or store the caller makes, outside of the machine, and
+//! [complete_load] and [complete_store] the one at which a run faulted.
 //!
 //! What a step retires is written in `specs/Retired.antt`, what a run that stops is in
 //! `specs/Stops.antt`, and what is asked and completed in `specs/Outside.antt`.
@@ -15,7 +16,7 @@ mod retired;
 mod stops;
 mod traced;
 
-pub use outside::{DataRequest, complete, request};
+pub use outside::{DataRequest, complete, complete_load, complete_store, request};
 pub use retired::{Retired, step_retired};
 pub use stops::{StopEnd, StopReason, run_until};
 pub use traced::{MemoryAccess, TracedMemory};

@@ -2,20 +2,20 @@
 //!
 //! A clock, an input port, or a memory that the caller keeps elsewhere is no [Memory]: its reads
 //! change, or it isn't there to lend. [request] tells which load or store an instruction makes, and
-//! [complete] executes it with what was answered; both work on a hart alone.
+//! [complete] executes it with what was answered; both work on a hart alone. [complete_load] and
+//! [complete_store] do the same for the load or the store at which a run faulted.
 
-ghost use Rattle.std.specs.Prelude.{◌≡◌, ◌≢◌, ◌%◌, ◌^◌, ◌<◌, ℕ, List, [], Bool, true, false, Option, None, Some, Ok, slice_index, ℤ};
+ghost use Rattle.std.specs.Prelude.{◌≡◌, ◌<◌, ℕ, [], Bool, true, false, Option, None, Some, Ok, IfSome, slice_index, ℤ};
 ghost use Rattle.std.specs.Bool.{OnTrue, OnFalse};
-ghost use Rattle.rrs_lib.specs.Bytes.{ByteMap, width};
+ghost use Rattle.rrs_lib.specs.Bytes.{ByteMap};
 ghost use Rattle.rrs_lib.specs.Encodings.{HasRegisters};
 ghost use Rattle.rrs_lib.specs.Table.{table};
 ghost use Rattle.rrs_lib.specs.Instructions.{row_of, fields_of};
-ghost use Rattle.rrs_lib.specs.Machine.{State, state_of, reg, plus_immediate, put, Executes};
+ghost use Rattle.rrs_lib.specs.Machine.{State, state_of, reg, plus_immediate, put};
 ghost use Rattle.rrs_lib.specs.Words.{word};
 ghost use Rattle.rrs_lib.specs.Executor.{state_in, KeepsTheRest};
-ghost use Rattle.rrs_lib.specs.Steps.{advanced};
 ghost use Rattle.rrs_lib.specs.Accesses.{read_if_aligned, Makes};
-ghost use Rattle.rrs_debug.specs.Outside.{requested, AccessesAfterFetch, Foretells, WithEachMemory, Completes, LoadsGiven, StoresElsewhere, request_by, call_fault, address_of, size_asked, Asks, Loads, Advances, StepsAlone, Performs};
+ghost use Rattle.rrs_debug.specs.Outside.{requested, AccessesAfterFetch, Foretells, WithEachMemory, Completes, LoadsGiven, StoresElsewhere, request_by, call_fault, address_of, size_asked, FindsAccess, Asks, Loads, Advances, StepsAlone, Performs};
 
 use rrs_instruction::arithmetic;
 use rrs_lib::instruction::{Instruction, decode};
@@ -119,6 +119,93 @@ pub fn complete(
     match decode(word) {
         Some(instruction) => perform(hart, &instruction, given),
         None => Err(InstructionException::IllegalInstruction(hart.pc, word)),
+    }
+}
+
+/// The load or the store at the pc, with its instruction; `None` where there is none, or its address
+/// is not aligned. The word is read as a fetch is.
+fn access_at_pc<M: Memory>(
+    executor: &mut InstructionExecutor<M>,
+) -> Option<(Instruction, DataRequest)>
+    ensures finds { FindsAccess (state_in M.bytes M.writable executor.old) result }
+    ensures within { IfSome result (λ found. HasRegisters (fields_of found.0)) }
+    ensures kept { state_in M.bytes M.writable executor.new
+        ≡ state_in M.bytes M.writable executor.old }
+    ensures rest { KeepsTheRest M.layout executor.old executor.new }
+    ensures makes { Makes M.reads M.writes
+        (read_if_aligned (state_in M.bytes M.writable executor.old)
+        executor.old.hart_state.now.pc MemAccessSize.Word)
+        executor.old.mem.now executor.new.mem.now }
+{
+    let word = executor.word_at_pc()?;
+    let instruction = decode(word)?;
+    match request_of(executor.hart_state, &instruction) {
+        Ok(Some(request)) => Some((instruction, request)),
+        _ => None,
+    }
+}
+
+/// Executes the load at the pc with a value that the caller's device gave, as if the memory had
+/// given it, and returns whether there is one.
+///
+/// The low bytes of the value are extended as the load says and go to its register, and the pc goes
+/// on by 4. So a run that ended with `LoadAccessFault(address)` goes on behind the load. The word at
+/// the pc is read from the memory, as a fetch is, and nothing else is accessed. The answer is
+/// `false`, and the hart is as before, where there is no word at the pc, it is no load, or the
+/// address of the load is no multiple of its size.
+pub fn complete_load<M: Memory>(executor: &mut InstructionExecutor<M>, value: u32) -> bool
+    ensures loaded { OnTrue result (LoadsGiven value
+        (state_in M.bytes M.writable executor.old) (state_in M.bytes M.writable executor.new)) }
+    ensures none { OnFalse result ((t : State)
+        → ¬ LoadsGiven value (state_in M.bytes M.writable executor.old) t) }
+    ensures kept { OnFalse result (state_in M.bytes M.writable executor.new
+        ≡ state_in M.bytes M.writable executor.old) }
+    ensures rest { KeepsTheRest M.layout executor.old executor.new }
+    ensures makes { Makes M.reads M.writes
+        (read_if_aligned (state_in M.bytes M.writable executor.old)
+        executor.old.hart_state.now.pc MemAccessSize.Word)
+        executor.old.mem.now executor.new.mem.now }
+{
+    match access_at_pc(executor) {
+        Some((instruction, DataRequest::Load(_address, _size))) => {
+            executor.hart_state.last_register_write = None;
+            load_given(executor.hart_state, &instruction, value);
+            advance(executor.hart_state);
+            true
+        }
+        Some((_instruction, DataRequest::Store(_address, _size, _value))) => false,
+        None => false,
+    }
+}
+
+/// Goes on behind the store at the pc, which the caller carried out, and returns whether there is
+/// one.
+///
+/// Where and what it stores is told by [request], for the word at the pc. Nothing is stored in the
+/// memory; the word at the pc is read from it, as a fetch is. The answer is `false`, and the hart is
+/// as before, where there is no word at the pc, it is no store, or the address of the store is no
+/// multiple of its size.
+pub fn complete_store<M: Memory>(executor: &mut InstructionExecutor<M>) -> bool
+    ensures stored { OnTrue result (StoresElsewhere
+        (state_in M.bytes M.writable executor.old) (state_in M.bytes M.writable executor.new)) }
+    ensures none { OnFalse result ((t : State)
+        → ¬ StoresElsewhere (state_in M.bytes M.writable executor.old) t) }
+    ensures kept { OnFalse result (state_in M.bytes M.writable executor.new
+        ≡ state_in M.bytes M.writable executor.old) }
+    ensures rest { KeepsTheRest M.layout executor.old executor.new }
+    ensures makes { Makes M.reads M.writes
+        (read_if_aligned (state_in M.bytes M.writable executor.old)
+        executor.old.hart_state.now.pc MemAccessSize.Word)
+        executor.old.mem.now executor.new.mem.now }
+{
+    match access_at_pc(executor) {
+        Some((_instruction, DataRequest::Store(_address, _size, _value))) => {
+            executor.hart_state.last_register_write = None;
+            advance(executor.hart_state);
+            true
+        }
+        Some((_instruction, DataRequest::Load(_address, _size))) => false,
+        None => false,
     }
 }
 
