@@ -9,6 +9,7 @@ pub use Rattle.rrs_instruction.proofs.Rows
 pub use Rattle.rrs_memory.proofs.ByteLemmas
 pub use Rattle.rrs_memory.proofs.RegionFields
 pub use Rattle.rrs_memory.proofs.Regions
+pub use Rattle.rrs_memory.proofs.SliceLent
 pub use Rattle.rrs_memory.proofs.TextLemmas
 pub use Rattle.rrs_memory.proofs.VecWords
 -- Lemmas of this crate.

@@ -11,6 +11,7 @@ pub use Rattle.rrs_instruction.specs.Results
 pub use Rattle.rrs_memory.specs.Bytes
 pub use Rattle.rrs_memory.specs.AccessLists
 pub use Rattle.rrs_memory.specs.VecBytes
+pub use Rattle.rrs_memory.specs.SliceBytes
 pub use Rattle.rrs_memory.specs.Spaces
 pub use Rattle.rrs_memory.specs.Hexadecimal
 pub use Rattle.rrs_memory.specs.Loading

@@ -4,5 +4,7 @@ pub mod LoadLemmas
 pub mod RegionFields
 pub mod Regions
 pub mod SearchOrder
+pub mod SliceLent
+pub mod SliceWords
 pub mod TextLemmas
 pub mod VecWords

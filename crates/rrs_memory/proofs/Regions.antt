@@ -23,7 +23,7 @@ aligned_from base a i HalfWord b al below past = omega arith
 aligned_from base a i Word b al below past = omega arith
 
 -- an aligned access that begins below a multiple of 4 ends below it
-aligned_below : (end a i : ℕ) (n : MemAccessSize) → end % 4 ≡ 0 → a % width n ≡ 0 → i < width n → a < end → a + i < end
+pub aligned_below : (end a i : ℕ) (n : MemAccessSize) → end % 4 ≡ 0 → a % width n ≡ 0 → i < width n → a < end → a + i < end
 aligned_below end a i Byte e al below before = omega arith
 aligned_below end a i HalfWord e al below before = omega arith
 aligned_below end a i Word e al below before = omega arith

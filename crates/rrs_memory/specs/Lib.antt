@@ -3,6 +3,7 @@
 pub mod Bytes
 pub mod AccessLists
 pub mod VecBytes
+pub mod SliceBytes
 pub mod Spaces
 pub mod Hexadecimal
 pub mod Loading

@@ -8,11 +8,13 @@ ghost use Rattle.rrs_memory.specs.VecBytes.{bytes_of_words, lies_in_words};
 
 mod boxed;
 mod load;
+mod slice;
 mod space;
 
 use crate::{MemAccessSize, Memory};
 pub use boxed::BoxedMemory;
 pub use load::{LoadFault, read_to_memory};
+pub use slice::SliceMemory;
 pub use space::{MemorySpace, MemorySpaceError};
 
 /// A memory of words, all of them writable.

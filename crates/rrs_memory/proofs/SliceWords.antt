@@ -1,0 +1,143 @@
+-- The bytes of words from a base on are those of the words from 0 on, moved.
+use Rattle.std.proofs.Common.{◌≡◌, ℕ, ◌+◌, ◌-◌, ◌*◌, ◌/◌, ◌%◌, ◌^◌, ◌<◌, ◌≤◌, List, length, Bool, true, false, ◌&&◌, nat_lt, Some, None, IsTrue, IsSome, if◌then◌else◌, inl, inr, refl, sym, ap, ◌∙◌, arith}
+use Rattle.std.specs.Bool.{OnTrue, OnFalse}
+use Rattle.std.proofs.Math.Path.{fun_ext}
+use Rattle.std.proofs.lemmas.Bool.{cases_lt, cond-true, cond-false}
+use Rattle.std.proofs.lemmas.Bool.Decides.{nat_tests}
+use Rattle.std.proofs.lemmas.Option.{none-some, same_Some}
+use Rattle.rrs_memory.specs.declared.MemAccessSize.{MemAccessSize}
+use Rattle.rrs_memory.specs.Bytes.{width, little_endian, all_writable, store, IsLawful, EndsAtLastAddress}
+use Rattle.rrs_memory.specs.VecBytes.{bytes_of_words, lies_in_words}
+use Rattle.rrs_memory.specs.SliceBytes.{word_start, is_from, bytes_from, lies_from}
+use Rattle.rrs_memory.proofs.ByteLemmas.{little_endian-moved, all_writable-moved, little_endian-unmapped, all_writable-refused, store_inside, store_outside}
+use Rattle.rrs_memory.proofs.Regions.{aligned_below, aligned_offset, width_pos}
+
+-- where the words begin, and past it
+is_from_true : (base a : ℕ) → word_start base ≤ a → a < 2 ^ 32 → is_from base a ≡ true
+is_from_true base a from low = grind (arith, nat_tests)
+
+-- below it, and from the end of all addresses on
+is_from_below : (base a : ℕ) → a < word_start base → is_from base a ≡ false
+is_from_below base a below = grind (arith, nat_tests)
+
+is_from_end : (base a : ℕ) → 2 ^ 32 ≤ a → is_from base a ≡ false
+is_from_end base a past = grind (arith, nat_tests)
+
+word_start-aligned : (base : ℕ) → word_start base % 4 ≡ 0
+word_start-aligned base = omega arith
+
+-- the offset of an aligned access is aligned
+pub offset_aligned : (base a : ℕ) (size : MemAccessSize) → a % width size ≡ 0 → word_start base ≤ a → (a - word_start base) % width size ≡ 0
+offset_aligned base a size aligned from = aligned_offset (word_start base) a size (word_start-aligned base) aligned from
+
+module _ (base a : ℕ) (size : MemAccessSize) (aligned : a % width size ≡ 0) (low : a < 2 ^ 32) where
+  -- the bytes of an access from the base on
+  module _ (words : List ℕ) (from : word_start base ≤ a) where
+    inside : (i : ℕ) → i < width size → is_from base (a + i) ≡ true
+    inside i below = is_from_true base (a + i) (omega (arith, from)) (aligned_below (2 ^ 32) a i size (omega arith) aligned below low)
+
+    byte_moved : (i : ℕ) → i < width size → bytes_from base words (a + i) ≡ bytes_of_words words (a - word_start base + i)
+    byte_moved i below =
+        cond-true (is_from base (a + i)) (bytes_of_words words (a + i - word_start base)) None (inside i below)
+        ∙ ap (λ x. bytes_of_words words x) (omega (arith, from))
+
+    lies_moved : (i : ℕ) → i < width size → lies_from base words (a + i) ≡ lies_in_words words (a - word_start base + i)
+    lies_moved i below =
+        cond-true (is_from base (a + i)) (lies_in_words words (a + i - word_start base)) false (inside i below)
+        ∙ ap (λ x. lies_in_words words x) (omega (arith, from))
+
+    pub value_from : little_endian (bytes_from base words) a (width size) ≡ little_endian (bytes_of_words words) (a - word_start base) (width size)
+    value_from = little_endian-moved (bytes_from base words) (bytes_of_words words) a (a - word_start base) (width size) byte_moved
+
+    pub writable_from : all_writable (lies_from base words) a (width size) ≡ all_writable (lies_in_words words) (a - word_start base) (width size)
+    writable_from = all_writable-moved (lies_from base words) (lies_in_words words) a (a - word_start base) (width size) lies_moved
+
+  -- an access below the base
+  module _ (words : List ℕ) (below : a < word_start base) where
+    outside : is_from base (a + 0) ≡ false
+    outside = is_from_below base (a + 0) (omega (arith, below))
+
+    pub value_below : little_endian (bytes_from base words) a (width size) ≡ None
+    value_below = little_endian-unmapped (bytes_from base words) a (width size) (width_pos size) (cond-false (is_from base (a + 0)) (bytes_of_words words (a + 0 - word_start base)) None outside)
+
+    pub writable_below : all_writable (lies_from base words) a (width size) ≡ false
+    writable_below = all_writable-refused (lies_from base words) a (width size) (width_pos size) (cond-false (is_from base (a + 0)) (lies_in_words words (a + 0 - word_start base)) false outside)
+
+  -- a write of words from 0 on is one of words from the base on
+  module _ (words words' : List ℕ) (value : ℕ) (from : word_start base ≤ a)
+      (wrote : bytes_of_words words' ≡ store (bytes_of_words words) (a - word_start base) (width size) value) where
+    end_low : a + width size ≤ 2 ^ 32
+    end_low = omega (arith, aligned_below (2 ^ 32) a (width size - 1) size (omega arith) aligned (omega (arith, width_pos size)) low, width_pos size)
+
+    byte_stored : (b : ℕ) → a ≤ b → b < a + width size → bytes_from base words' b ≡ store (bytes_from base words) a (width size) value b
+    byte_stored b p q =
+        cond-true (is_from base b) (bytes_of_words words' (b - word_start base)) None (is_from_true base b (omega (arith, from)) (omega (arith, end_low)))
+        ∙ ap (λ f. f (b - word_start base)) wrote
+        ∙ store_inside (bytes_of_words words) (a - word_start base) (width size) value (b - word_start base) (omega arith) (omega (arith, from))
+        ∙ ap (λ x. Some (value / 256 ^ x % 256)) (omega (arith, from))
+        ∙ sym (store_inside (bytes_from base words) a (width size) value b p q)
+
+    byte_kept : (b : ℕ) → (a ≤ b → a + width size ≤ b) → bytes_from base words' b ≡ store (bytes_from base words) a (width size) value b
+    byte_kept b apart = kept ∙ sym (store_outside (bytes_from base words) a (width size) value b apart)
+      where
+        other : word_start base ≤ b → bytes_of_words words' (b - word_start base) ≡ bytes_of_words words (b - word_start base)
+        other past =
+            ap (λ f. f (b - word_start base)) wrote
+            ∙ store_outside (bytes_of_words words) (a - word_start base) (width size) value (b - word_start base) (λ p. omega (arith, apart, from, past, p))
+
+        kept : bytes_from base words' b ≡ bytes_from base words b
+        kept = elim (cases_lt b (word_start base)) [
+          | inl before ↦
+              cond-false (is_from base b) (bytes_of_words words' (b - word_start base)) None (is_from_below base b before)
+              ∙ sym (cond-false (is_from base b) (bytes_of_words words (b - word_start base)) None (is_from_below base b before))
+          | inr past ↦ rw (other past) refl
+        ]
+
+    each : (b : ℕ) → bytes_from base words' b ≡ store (bytes_from base words) a (width size) value b
+    each b = elim (cases_lt b a) [
+      | inl before ↦ byte_kept b (λ p. absurd (omega (arith, before, p)))
+      | inr past ↦ elim (cases_lt b (a + width size)) [
+        | inl within ↦ byte_stored b past within
+        | inr after ↦ byte_kept b (λ p. after)
+      ]
+    ]
+
+    pub store_from : bytes_from base words' ≡ store (bytes_from base words) a (width size) value
+    store_from = fun_ext each
+
+-- the bytes are lawful everywhere, since all of them are
+pub lawful_from : (base : ℕ) (words : List ℕ) (a n : ℕ) → IsLawful (bytes_from base words) (lies_from base words) a n
+lawful_from base words a n = record {
+  values = λ i byte below e. byte_below (is_from base (a + i)) (lies_in_words words (a + i - word_start base)) _ byte e;
+  mapped = λ i below t. is_mapped (is_from base (a + i)) (lies_in_words words (a + i - word_start base)) _ t;
+}
+  where
+    byte_below : (first second : Bool) (x byte : ℕ) → (if first then (if second then Some (x % 256) else None) else None) ≡ Some byte → byte < 256
+    byte_below true true x byte e = omega (arith, same_Some _ _ e)
+    byte_below true false x byte e = absurd (none-some _ e)
+    byte_below false second x byte e = absurd (none-some _ e)
+
+    is_mapped : (first second : Bool) (x : ℕ) → IsTrue (if first then second else false) → IsSome (if first then (if second then Some x else None) else None)
+    is_mapped true true x t = refl
+    is_mapped true false x t = t
+    is_mapped false second x t = t
+
+pub ends_from : (base : ℕ) (words : List ℕ) → EndsAtLastAddress (bytes_from base words) (lies_from base words)
+ends_from base words a past = (
+  cond-false (is_from base a) (bytes_of_words words (a - word_start base)) None (is_from_end base a past),
+  cond-false (is_from base a) (lies_in_words words (a - word_start base)) false (is_from_end base a past),
+)
+
+-- what holds in one outcome, from what holds in it
+pub on_true : {P Q : Type 0} (b : Bool) → (P → Q) → OnTrue b P → OnTrue b Q
+on_true true f p = f p
+on_true false f p = p
+
+pub on_false : {P Q : Type 0} (b : Bool) → (P → Q) → OnFalse b P → OnFalse b Q
+on_false true f p = p
+on_false false f p = f p
+
+-- as many words lie at the same addresses
+pub lies_same : (base : ℕ) (words words' : List ℕ) → length words' ≡ length words → lies_from base words' ≡ lies_from base words
+lies_same base words words' same =
+    ap (λ n a. if is_from base a then nat_lt (a - word_start base) (4 * n) && nat_lt (a - word_start base) (2 ^ 32) else false) same
