@@ -1,7 +1,7 @@
 -- What a step retires, in the shape of RVFI, the RISC-V Formal Interface: the word, the pc before
 -- and after, the source registers with what they had, the register that was written with what it
 -- has, and the load or the store.
-use Rattle.std.specs.Prelude.{◌≡◌, ℕ, zero, suc, ◌-◌, ◌%◌, ◌^◌, List, [], ◌∷◌, Bool, true, false, Option, Some, None, Ok, Err, IfSome}
+use Rattle.std.specs.Prelude.{◌≡◌, ℕ, zero, suc, ◌-◌, ◌%◌, ◌^◌, ◌<◌, List, [], ◌∷◌, Bool, true, false, Option, Some, None, Ok, Err, IfSome}
 use Rattle.rrs_lib.specs.declared.MemAccessSize.{MemAccessSize}
 use Rattle.rrs_lib.specs.Encodings.{Fields, R, I, IShamt, S, B, U, J}
 use Rattle.rrs_lib.specs.Table.{Row, Decodes, IsIllegal}
@@ -69,6 +69,10 @@ last_of (suc r) = Some (suc r)
 abbrev pub is_fault : StepAnswer → Bool
 is_fault (Ok u) = false
 is_fault (Err e) = true
+
+-- the register numbers are those of registers
+abbrev pub HasRegisterNumbers : Retired → Type 0
+HasRegisterNumbers r = (r.rs1_addr < 32) × (r.rs2_addr < 32) × (r.rd_addr < 32)
 
 -- what a step from s to t with this answer retires
 pub record Retires (order : ℕ) (s t : State) (answer : StepAnswer) (r : Retired) : Type 0 where

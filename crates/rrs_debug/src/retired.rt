@@ -8,7 +8,7 @@ ghost use Rattle.rrs_lib.specs.Executor.{state_in, KeepsTheRest};
 ghost use Rattle.rrs_lib.specs.Accesses.{Access, AccessesOf, MakesExactly};
 ghost use Rattle.rrs_lib.specs.Steps.{Step, IsOnlyStep, next_word, LastIsRegister};
 ghost use Rattle.rrs_debug.specs.Traced.{traced_state};
-ghost use Rattle.rrs_debug.specs.Retired.{no_access, after_fetch, first_source, second_source, HasSources, last_of, Retires};
+ghost use Rattle.rrs_debug.specs.Retired.{no_access, after_fetch, first_source, second_source, HasSources, last_of, HasRegisterNumbers, Retires};
 
 use crate::traced::{MemoryAccess, TracedMemory};
 use rrs_lib::instruction::{Instruction, InstructionFields, decode};
@@ -198,6 +198,8 @@ pub fn step_retired<M: Memory>(
         (state_in M.bytes M.writable executor.new) result.0 }
     ensures retires { Retires order (state_in M.bytes M.writable executor.old)
         (state_in M.bytes M.writable executor.new) result.0 result.1 }
+    ensures numbers { HasRegisterNumbers result.1 }
+    ensures last { LastIsRegister executor.new.hart_state.now.last_register_write }
     ensures rest { KeepsTheRest M.layout executor.old executor.new }
     ensures accesses { MakesExactly M.reads M.writes
         (AccessesOf (state_in M.bytes M.writable executor.old))
