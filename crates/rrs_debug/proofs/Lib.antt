@@ -1,5 +1,5 @@
 -- Lemmas of the steps that are told, and of the runs that stop.
 mod TracedAccesses
-mod Stopping
+pub mod Stopping
 -- An access that is made outside of the machine.
 mod OutsideSteps

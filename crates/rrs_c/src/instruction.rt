@@ -1,0 +1,58 @@
+//! The row and the fields of a word, as C has them.
+
+ghost use Rattle.std.specs.Prelude.{◌≡◌, ◌<◌, pos};
+ghost use Rattle.rrs_lib.specs.Encodings.{HasRegisters};
+ghost use Rattle.rrs_lib.specs.Instructions.{row_of, fields_of};
+ghost use Rattle.rrs_c.specs.Listing.{Lists, no_instruction};
+
+use rrs_lib::instruction::Instruction;
+
+/// An instruction: the number of its row, 1 to 48, and its fields. A field that its format does not
+/// have is 0.
+#[repr(C)]
+#[derive(Clone, Copy)]
+pub struct RrsInstruction {
+    /// The number of the row, or 0 for a word outside the table.
+    pub row: u32,
+    /// The destination register.
+    pub rd: u32,
+    /// The first source register.
+    pub rs1: u32,
+    /// The second source register.
+    pub rs2: u32,
+    /// The shift amount.
+    pub shamt: u32,
+    /// The immediate.
+    pub imm: i32,
+}
+
+/// What a word outside the table is.
+#[inline]
+pub(crate) fn nothing() -> RrsInstruction
+    ensures { result ≡ no_instruction }
+{
+    RrsInstruction {
+        row: 0,
+        rd: 0,
+        rs1: 0,
+        rs2: 0,
+        shamt: 0,
+        imm: 0,
+    }
+}
+
+/// The row and the fields of an instruction.
+#[inline]
+pub(crate) fn listed(instruction: &Instruction) -> RrsInstruction
+    requires { HasRegisters (fields_of instruction.now) }
+    ensures { Lists (row_of instruction.now) (fields_of instruction.now) result }
+{
+    RrsInstruction {
+        row: instruction.number() as u32,
+        rd: instruction.rd().unwrap_or(0) as u32,
+        rs1: instruction.rs1().unwrap_or(0) as u32,
+        rs2: instruction.rs2().unwrap_or(0) as u32,
+        shamt: instruction.shift_amount().unwrap_or(0),
+        imm: instruction.immediate().unwrap_or(0),
+    }
+}

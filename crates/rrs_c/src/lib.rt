@@ -1,0 +1,151 @@
+//! The kit for C: functions over a hart and words of memory that the caller owns.
+//!
+//! `include/rrs.h` declares them as a C programmer reads them, and `docs/C.md` says how to take
+//! them. Each function is total: it asks nothing but that its pointers are to values that the
+//! caller owns and that do not overlap. None allocates, keeps anything between two calls, or calls
+//! back.
+//!
+//! The contracts are those of the kit's own calls, over `state_in_c`: the hart, and the words from
+//! the base on, all writable.
+
+#![tactic(auto)]
+
+mod hart;
+mod instruction;
+mod lent;
+mod retired;
+
+ghost use Rattle.std.specs.Prelude.{◌≡◌, ◌<◌, ℕ, List, length, slice_index, OnErr};
+ghost use Rattle.rrs_lib.specs.Encodings.{Fields};
+ghost use Rattle.rrs_lib.specs.Table.{Row, Decodes, IsIllegal};
+ghost use Rattle.rrs_lib.specs.Steps.{Step, IsOnlyStep, ChangesLittle, RunUntil, IsOnlyRunUntil, cleared};
+ghost use Rattle.rrs_debug.specs.Retired.{Retires};
+ghost use Rattle.rrs_debug.specs.Stops.{RunsToStop, IsOnlyRunToStop};
+ghost use Rattle.rrs_c.specs.Harts.{state_in_c, exception_of, answer_of, reason_of};
+ghost use Rattle.rrs_c.specs.Listing.{Lists, no_instruction};
+ghost use Rattle.rrs_c.specs.Records.{retired_in};
+
+use hart::{RrsEnd, RrsFault, RrsHart, close, end_of_run, end_of_stop, fault_of_answer, opened};
+use instruction::{RrsInstruction, listed, nothing};
+use lent::{run_lent, run_until_lent, step_lent, step_retired_lent};
+use retired::{RrsRetired, written_out};
+use rrs_lib::instruction::decode;
+use rrs_lib::memories::SliceMemory;
+
+/// The version of this interface, 65536 times the major number plus 256 times the minor one plus
+/// the patch: 0.1.0.
+const VERSION: u32 = 256;
+
+/// The version of this interface.
+#[unsafe(no_mangle)]
+pub extern "C" fn rrs_version() -> u32
+    ensures { result ≡ 256 }
+{
+    VERSION
+}
+
+/// Executes the instruction at the pc, and returns its fault, kind 0 where there is none.
+#[unsafe(no_mangle)]
+pub extern "C" fn rrs_step(hart: &mut RrsHart, words: &mut [u32], base: u32) -> RrsFault
+    ensures step { Step (state_in_c hart.old base words.old)
+        (state_in_c hart.new base words.new) (answer_of result) }
+    ensures only { IsOnlyStep (state_in_c hart.old base words.old)
+        (state_in_c hart.new base words.new) (answer_of result) }
+    ensures fault { OnErr (answer_of result) (state_in_c hart.new base words.new
+        ≡ cleared (state_in_c hart.old base words.old)) }
+    ensures little { ChangesLittle (state_in_c hart.old base words.old)
+        (state_in_c hart.new base words.new) }
+    ensures kind { result.kind < 8 }
+    ensures last { hart.new.last < 32 }
+    ensures entry_zero { slice_index hart.new.x 0 ≡ slice_index hart.old.x 0 }
+{
+    let mut state = opened(hart);
+    let mut memory = SliceMemory { words, base };
+    let answer = step_lent(&mut memory, &mut state);
+    close(&state, hart);
+    fault_of_answer(answer)
+}
+
+/// Makes steps until as many as `limit` were made, or one faults.
+#[unsafe(no_mangle)]
+pub extern "C" fn rrs_run(hart: &mut RrsHart, words: &mut [u32], base: u32, limit: u64) -> RrsEnd
+    ensures run { RunUntil limit (state_in_c hart.old base words.old)
+        result.steps (exception_of result.fault) (state_in_c hart.new base words.new) }
+    ensures only { IsOnlyRunUntil limit (state_in_c hart.old base words.old)
+        result.steps (exception_of result.fault) (state_in_c hart.new base words.new) }
+    ensures kind { result.fault.kind < 8 }
+    ensures no_stop { result.at_stop ≡ 0 }
+    ensures last { hart.new.last < 32 }
+    ensures entry_zero { slice_index hart.new.x 0 ≡ slice_index hart.old.x 0 }
+{
+    let mut state = opened(hart);
+    let mut memory = SliceMemory { words, base };
+    let end = run_lent(&mut memory, &mut state, limit);
+    close(&state, hart);
+    end_of_run(end)
+}
+
+/// Makes steps until the pc is a stop, as many as `limit` were made, or one faults.
+#[unsafe(no_mangle)]
+pub extern "C" fn rrs_run_until(
+    hart: &mut RrsHart,
+    words: &mut [u32],
+    base: u32,
+    limit: u64,
+    stops: &[u32],
+) -> RrsEnd
+    ensures run { RunsToStop stops.now limit (state_in_c hart.old base words.old)
+        result.steps (reason_of result) (state_in_c hart.new base words.new) }
+    ensures only { IsOnlyRunToStop stops.now limit (state_in_c hart.old base words.old)
+        result.steps (reason_of result) (state_in_c hart.new base words.new) }
+    ensures kind { result.fault.kind < 8 }
+    ensures at_stop { result.at_stop < 2 }
+    ensures last { hart.new.last < 32 }
+    ensures entry_zero { slice_index hart.new.x 0 ≡ slice_index hart.old.x 0 }
+{
+    let mut state = opened(hart);
+    let mut memory = SliceMemory { words, base };
+    let end = run_until_lent(&mut memory, &mut state, limit, stops);
+    close(&state, hart);
+    end_of_stop(end)
+}
+
+/// Makes a step, and tells what it retired, under this number.
+#[unsafe(no_mangle)]
+pub extern "C" fn rrs_step_rvfi(
+    hart: &mut RrsHart,
+    words: &mut [u32],
+    base: u32,
+    order: u64,
+    retired: &mut RrsRetired,
+) -> RrsFault
+    ensures step { Step (state_in_c hart.old base words.old)
+        (state_in_c hart.new base words.new) (answer_of result) }
+    ensures only { IsOnlyStep (state_in_c hart.old base words.old)
+        (state_in_c hart.new base words.new) (answer_of result) }
+    ensures retires { Retires order (state_in_c hart.old base words.old)
+        (state_in_c hart.new base words.new) (answer_of result) (retired_in retired.new) }
+    ensures kind { result.kind < 8 }
+    ensures last { hart.new.last < 32 }
+    ensures entry_zero { slice_index hart.new.x 0 ≡ slice_index hart.old.x 0 }
+{
+    let mut state = opened(hart);
+    let mut memory = SliceMemory { words, base };
+    let (answer, seen) = step_retired_lent(&mut memory, &mut state, order);
+    close(&state, hart);
+    *retired = written_out(&seen);
+    fault_of_answer(answer)
+}
+
+/// The instruction that a word is: the number of its row and its fields, and row 0 for a word
+/// outside the table.
+#[unsafe(no_mangle)]
+pub extern "C" fn rrs_decode(word: u32) -> RrsInstruction
+    ensures listed { (row : Row) (f : Fields) → Decodes word row f → Lists row f result }
+    ensures outside { IsIllegal word → result ≡ no_instruction }
+{
+    match decode(word) {
+        Some(instruction) => listed(&instruction),
+        None => nothing(),
+    }
+}
