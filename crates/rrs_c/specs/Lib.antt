@@ -3,9 +3,11 @@ pub use Rattle.rrs_lib.specs.Encodings
 pub use Rattle.rrs_lib.specs.Table
 pub use Rattle.rrs_lib.specs.Machine
 pub use Rattle.rrs_lib.specs.Steps
+pub use Rattle.rrs_lib.specs.Texts
 pub use Rattle.rrs_debug.specs.Retired
 pub use Rattle.rrs_debug.specs.Stops
 -- What C has, as the kit has it.
 pub mod Harts
 pub mod Listing
 pub mod Records
+pub mod Buffers

@@ -14,6 +14,7 @@ mod hart;
 mod instruction;
 mod lent;
 mod retired;
+mod text;
 
 ghost use Rattle.std.specs.Prelude.{◌≡◌, ◌<◌, ℕ, List, length, slice_index, OnErr};
 ghost use Rattle.rrs_lib.specs.Encodings.{Fields};
@@ -24,13 +25,16 @@ ghost use Rattle.rrs_debug.specs.Stops.{RunsToStop, IsOnlyRunToStop};
 ghost use Rattle.rrs_c.specs.Harts.{state_in_c, exception_of, answer_of, reason_of};
 ghost use Rattle.rrs_c.specs.Listing.{Lists, no_instruction};
 ghost use Rattle.rrs_c.specs.Records.{retired_in};
+ghost use Rattle.rrs_c.specs.Buffers.{Disassembles};
 
 use hart::{RrsEnd, RrsFault, RrsHart, close, end_of_run, end_of_stop, fault_of_answer, opened};
 use instruction::{RrsInstruction, listed, nothing};
 use lent::{run_lent, run_until_lent, step_lent, step_retired_lent};
 use retired::{RrsRetired, written_out};
+use rrs_lib::disassembly::Disassembled;
 use rrs_lib::instruction::decode;
 use rrs_lib::memories::SliceMemory;
+use text::put_text;
 
 /// The version of this interface, 65536 times the major number plus 256 times the minor one plus
 /// the patch: 0.1.0.
@@ -148,4 +152,19 @@ pub extern "C" fn rrs_decode(word: u32) -> RrsInstruction
         Some(instruction) => listed(&instruction),
         None => nothing(),
     }
+}
+
+/// Writes the text of the instruction that a word is at an address, and a 0 after it, where the
+/// buffer has room for both. Returns the length of the text without the 0, at most 25, whether it
+/// had room or not, and 0 for a word outside the table.
+#[unsafe(no_mangle)]
+pub extern "C" fn rrs_disassemble(word: u32, pc: u32, buffer: &mut [u8]) -> usize
+    ensures { Disassembles word pc buffer.old buffer.new result }
+{
+    let Some(instruction) = decode(word) else {
+        return 0;
+    };
+    let text = Disassembled { instruction, pc }.text();
+    put_text(text.as_str().as_bytes(), buffer);
+    text.len()
 }

@@ -1,0 +1,174 @@
+/* rrs.h: a RISC-V simulator kit, RV32I with multiply and divide, proved against its table.
+ *
+ * Link librrs_c.a, which `rt lib` in crates/rrs_c of the kit builds, for x86-64. It needs memset,
+ * memcpy and memmove of the C library and nothing else. docs/C.md of the kit says how to take it,
+ * and what is proved of each function.
+ *
+ * What holds of all functions:
+ *
+ * - Ownership. The caller owns every value, and no function keeps a pointer after it returns. None
+ *   allocates, prints, calls back, or ends the process.
+ * - Pointers. None may be NULL, also not one to an array of length 0. What two of them point to must
+ *   not overlap. Nothing else is asked: every hart, every word and every address has an answer.
+ * - Threads. There is no state but the caller's, so calls on different values may run at the same
+ *   time. Two calls on the same hart or the same words must not.
+ *
+ * Memory is `count` words, which lie one after another from the address `base` on, each as four
+ * bytes, lowest first. All of them can be read and written. `base` is a multiple of 4; its two
+ * lowest bits are not looked at. Addresses end at 0xffffffff: words that would lie past it have none.
+ * On a machine that stores the lowest byte first, as x86-64 does, the words are the bytes of a
+ * program as its file has them.
+ */
+#ifndef RRS_H
+#define RRS_H
+
+#include <stddef.h>
+#include <stdint.h>
+
+#ifdef __cplusplus
+extern "C" {
+#endif
+
+/* The version of this interface. rrs_version() gives that of the library that is linked: the two
+ * are equal where the header belongs to it. */
+#define RRS_VERSION_MAJOR 0
+#define RRS_VERSION_MINOR 1
+#define RRS_VERSION_PATCH 0
+#define RRS_VERSION (65536u * RRS_VERSION_MAJOR + 256u * RRS_VERSION_MINOR + RRS_VERSION_PATCH)
+
+uint32_t rrs_version(void);
+
+/* A hart. {0} is one with all registers 0, at address 0. */
+typedef struct rrs_hart {
+    uint32_t x[32]; /* x1 to x31. x[0] is never read or changed: register x0 is 0. */
+    uint32_t pc;    /* The address of the next instruction, in bytes. */
+    uint32_t last;  /* The register that the latest step wrote, 1 to 31, and 0 where it wrote none. As
+                     * input any other number says none too. */
+} rrs_hart;
+
+/* Why a step, or a run, ended. */
+enum rrs_fault_kind {
+    RRS_OK = 0,                  /* No fault. */
+    RRS_ILLEGAL_INSTRUCTION = 1, /* The word at the pc is outside the table. */
+    RRS_FETCH_FAULT = 2,         /* The pc is past the words. */
+    RRS_LOAD_FAULT = 3,          /* A load's bytes are past the words. */
+    RRS_STORE_FAULT = 4,         /* A store's bytes are past the words. */
+    RRS_MISALIGNED = 5,          /* The pc is no multiple of 4, or a data address none of the size. */
+    RRS_ECALL = 6,               /* The instruction is ecall: the caller serves it, and sets the pc. */
+    RRS_EBREAK = 7               /* The instruction is ebreak. */
+};
+
+/* After a fault the registers, the pc and memory are as before the step, and `last` is 0. */
+typedef struct rrs_fault {
+    uint32_t kind;    /* One of enum rrs_fault_kind. */
+    uint32_t address; /* The pc, or of a load or a store the data address. 0 where there is no fault. */
+    uint32_t word;    /* The word of RRS_ILLEGAL_INSTRUCTION, else 0. */
+} rrs_fault;
+
+/* How a run ended. Where fault.kind and at_stop are 0, it made as many steps as its limit. */
+typedef struct rrs_end {
+    uint64_t steps;   /* How many steps were made. The one that faulted is not counted. */
+    rrs_fault fault;  /* The fault that ended the run, if one did. */
+    uint32_t at_stop; /* 1 where the run ended at a stop, else 0. rrs_run always gives 0. */
+} rrs_end;
+
+/* Executes the instruction at the pc, and returns its fault, or kind RRS_OK. */
+rrs_fault rrs_step(rrs_hart *hart, uint32_t *words, size_t count, uint32_t base);
+
+/* Makes steps until `limit` were made, or one faults. A run of 2,000 steps or more keeps a table of
+ * 28 KiB on the stack. */
+rrs_end rrs_run(rrs_hart *hart, uint32_t *words, size_t count, uint32_t base, uint64_t limit);
+
+/* Makes steps until the pc is one of the `stop_count` addresses at `stops`, `limit` steps were made,
+ * or one faults. It ends before the instruction at a stop. The first step is made wherever the pc
+ * is, so a run that ended at a stop goes on by the same call. */
+rrs_end rrs_run_until(rrs_hart *hart, uint32_t *words, size_t count, uint32_t base, uint64_t limit,
+                      const uint32_t *stops, size_t stop_count);
+
+/* What a step retired, in the shape of RVFI, the RISC-V Formal Interface (NRET 1, ILEN and XLEN 32).
+ * A step that faulted has a record too, with trap 1. The interface's halt, intr, mode and ixl are
+ * the same in each step of this machine: 0, 0, 3 and 1. docs/C.md says what else differs. */
+typedef struct rrs_retired {
+    uint64_t order;     /* The number that the caller gave. */
+    uint32_t insn;      /* The word at the pc, or 0 where none was fetched. */
+    uint32_t fetched;   /* 1 where a word was fetched, else 0. */
+    uint32_t trap;      /* 1 where the step faulted, else 0. */
+    uint32_t pc_rdata;  /* The pc before. */
+    uint32_t pc_wdata;  /* The pc after. */
+    uint32_t rs1_addr;  /* The first source register, 0 where the word's format has none. */
+    uint32_t rs1_rdata; /* Its value before. */
+    uint32_t rs2_addr;  /* The second source register, 0 where the word's format has none. */
+    uint32_t rs2_rdata; /* Its value before. */
+    uint32_t rd_addr;   /* The register that was written, 0 where none was. */
+    uint32_t rd_wdata;  /* Its value after, 0 where none was written. */
+    uint32_t mem_addr;  /* The address of the first byte that was loaded or stored, or 0. */
+    uint32_t mem_rmask; /* Bit i: the byte at mem_addr + i was loaded. 0, 1, 3 or 15. */
+    uint32_t mem_wmask; /* Bit i: the byte at mem_addr + i was stored. 0, 1, 3 or 15. */
+    uint32_t mem_rdata; /* The value that was loaded, not extended. */
+    uint32_t mem_wdata; /* The value that was stored, the bytes of the mask alone. */
+} rrs_retired;
+
+/* Does what rrs_step does, and says in *retired what it retired, under the number `order`. */
+rrs_fault rrs_step_rvfi(rrs_hart *hart, uint32_t *words, size_t count, uint32_t base,
+                        uint64_t order, rrs_retired *retired);
+
+/* An instruction. A field that its format does not have is 0. */
+typedef struct rrs_instruction {
+    uint32_t row;   /* The number of its row in the table, 1 (add) to 48 (ebreak), or 0 for a word
+                     * outside the table. */
+    uint32_t rd;    /* The register that is written, by the format. */
+    uint32_t rs1;   /* The first register that is read. */
+    uint32_t rs2;   /* The second register that is read. */
+    uint32_t shamt; /* The amount of slli, srli and srai. */
+    int32_t imm;    /* The immediate: of branches and jal in bytes, of lui and auipc with its 12 low
+                     * bits 0. */
+} rrs_instruction;
+
+/* The instruction that a word is. */
+rrs_instruction rrs_decode(uint32_t word);
+
+/* Room for the text of every word, with the 0 that ends it. */
+#define RRS_TEXT_SIZE 26
+
+/* Writes the text of the instruction that a word is at the address `pc`, and a 0 after it, as
+ * "addi x1, x2, -3", where the `size` bytes at `text` have room for both, and else nothing. Returns
+ * the length of the text without the 0, whether it had room or not: at most RRS_TEXT_SIZE - 1, and 0
+ * for a word outside the table. What follows the 0 in the buffer is left as it was. */
+size_t rrs_disassemble(uint32_t word, uint32_t pc, char *text, size_t size);
+
+/* The layout that the library has been built with. */
+#if defined(__cplusplus) && __cplusplus >= 201103L
+#define RRS_ASSERT(name, condition) static_assert(condition, #name)
+#elif defined(__STDC_VERSION__) && __STDC_VERSION__ >= 201112L
+#define RRS_ASSERT(name, condition) _Static_assert(condition, #name)
+#else
+#define RRS_ASSERT(name, condition) typedef char rrs_assert_##name[(condition) ? 1 : -1]
+#endif
+
+RRS_ASSERT(hart_size, sizeof(rrs_hart) == 136);
+RRS_ASSERT(hart_pc, offsetof(rrs_hart, pc) == 128);
+RRS_ASSERT(hart_last, offsetof(rrs_hart, last) == 132);
+RRS_ASSERT(fault_size, sizeof(rrs_fault) == 12);
+RRS_ASSERT(fault_address, offsetof(rrs_fault, address) == 4);
+RRS_ASSERT(fault_word, offsetof(rrs_fault, word) == 8);
+RRS_ASSERT(end_size, sizeof(rrs_end) == 24);
+RRS_ASSERT(end_fault, offsetof(rrs_end, fault) == 8);
+RRS_ASSERT(end_at_stop, offsetof(rrs_end, at_stop) == 20);
+RRS_ASSERT(retired_size, sizeof(rrs_retired) == 72);
+RRS_ASSERT(retired_insn, offsetof(rrs_retired, insn) == 8);
+RRS_ASSERT(retired_trap, offsetof(rrs_retired, trap) == 16);
+RRS_ASSERT(retired_rs1, offsetof(rrs_retired, rs1_addr) == 28);
+RRS_ASSERT(retired_rd, offsetof(rrs_retired, rd_addr) == 44);
+RRS_ASSERT(retired_mem, offsetof(rrs_retired, mem_addr) == 52);
+RRS_ASSERT(retired_wdata, offsetof(rrs_retired, mem_wdata) == 68);
+RRS_ASSERT(instruction_size, sizeof(rrs_instruction) == 24);
+RRS_ASSERT(instruction_shamt, offsetof(rrs_instruction, shamt) == 16);
+RRS_ASSERT(instruction_imm, offsetof(rrs_instruction, imm) == 20);
+
+#undef RRS_ASSERT
+
+#ifdef __cplusplus
+}
+#endif
+
+#endif

@@ -1,0 +1,20 @@
+-- The text of an instruction, as C has it.
+use Rattle.std.specs.Prelude.{◌≡◌, ℕ, ◌+◌, ◌≤◌, nat_lt, if◌then◌else◌, List, ◌∷◌, ◌++◌, length, drop, IsSomeAnd}
+use Rattle.rrs_lib.specs.Encodings.{Fields}
+use Rattle.rrs_lib.specs.Table.{Row, Decodes, IsIllegal}
+use Rattle.rrs_lib.specs.Texts.{text_of}
+
+-- a buffer after a text was put at its front, and a 0 after it; where there is no room for both it
+-- stays
+abbrev pub with_text : List ℕ → List ℕ → List ℕ
+with_text text buffer =
+    if nat_lt (length text) (length buffer)
+    then text ++ 0 ∷ drop (length text + 1) buffer else buffer
+
+-- The text of the word at a pc is put into a buffer, and its length is told. A word outside the
+-- table has none: length 0. No text has more than 25 bytes.
+pub record Disassembles (word pc : ℕ) (old new : List ℕ) (told : ℕ) : Type 0 where
+  pub of_row : (row : Row) (f : Fields) → Decodes word row f
+      → IsSomeAnd (text_of row f pc) (λ text. (told ≡ length text) × (new ≡ with_text text old))
+  pub outside : IsIllegal word → (told ≡ 0) × (new ≡ old)
+  pub bound : told ≤ 25
