@@ -136,6 +136,33 @@ rrs_instruction rrs_decode(uint32_t word);
  * for a word outside the table. What follows the 0 in the buffer is left as it was. */
 size_t rrs_disassemble(uint32_t word, uint32_t pc, char *text, size_t size);
 
+/* Memory and devices that the caller keeps, in place of words: C reads the word at the pc, asks which
+ * access its instruction makes, makes it, and completes the step with what came of it. No call back
+ * is made. A word that C can't read is a fetch fault, which C tells itself. */
+enum rrs_access_kind {
+    RRS_NO_ACCESS = 0,
+    RRS_LOAD = 1,
+    RRS_STORE = 2
+};
+
+typedef struct rrs_access {
+    rrs_fault fault;  /* The fault before any access, or kind RRS_OK. rrs_complete gives the same. */
+    uint32_t kind;    /* One of enum rrs_access_kind. */
+    uint32_t address; /* The address of the first byte, a multiple of the size. */
+    uint32_t size;    /* 1, 2 or 4 bytes, and 0 where there is no access. */
+    uint32_t value;   /* Of a store: the register's value, whose `size` low bytes are stored. Else 0. */
+} rrs_access;
+
+/* The access that `word` makes, which is the word at the pc. Nothing changes. */
+rrs_access rrs_request(const rrs_hart *hart, uint32_t word);
+
+/* Executes `word`, the word at the pc, and returns its fault, or kind RRS_OK. `granted` is 0 where
+ * the access is refused, which is a load or a store fault, and any other number where it was made.
+ * `value` is what a load read, lowest byte first: its `size` low bytes count, and they are extended
+ * here. Of a store, and where there is no access, `value` is not looked at; where there is none
+ * `granted` isn't either. */
+rrs_fault rrs_complete(rrs_hart *hart, uint32_t word, uint32_t granted, uint32_t value);
+
 /* The layout that the library has been built with. */
 #if defined(__cplusplus) && __cplusplus >= 201103L
 #define RRS_ASSERT(name, condition) static_assert(condition, #name)
@@ -164,6 +191,9 @@ RRS_ASSERT(retired_wdata, offsetof(rrs_retired, mem_wdata) == 68);
 RRS_ASSERT(instruction_size, sizeof(rrs_instruction) == 24);
 RRS_ASSERT(instruction_shamt, offsetof(rrs_instruction, shamt) == 16);
 RRS_ASSERT(instruction_imm, offsetof(rrs_instruction, imm) == 20);
+RRS_ASSERT(access_size, sizeof(rrs_access) == 28);
+RRS_ASSERT(access_kind, offsetof(rrs_access, kind) == 12);
+RRS_ASSERT(access_value, offsetof(rrs_access, value) == 24);
 
 #undef RRS_ASSERT
 

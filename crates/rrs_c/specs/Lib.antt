@@ -6,8 +6,10 @@ pub use Rattle.rrs_lib.specs.Steps
 pub use Rattle.rrs_lib.specs.Texts
 pub use Rattle.rrs_debug.specs.Retired
 pub use Rattle.rrs_debug.specs.Stops
+pub use Rattle.rrs_debug.specs.Outside
 -- What C has, as the kit has it.
 pub mod Harts
 pub mod Listing
 pub mod Records
 pub mod Buffers
+pub mod Asking

@@ -66,21 +66,20 @@ pub(crate) fn opened(hart: &RrsHart) -> HartState
 /// The number of the register that was written last, or 0.
 #[inline]
 fn number_of(last: Option<usize>) -> u32
-    requires { LastIsRegister last }
-    ensures register { register_in result ≡ last }
+    ensures register { LastIsRegister last → register_in result ≡ last }
     ensures low { result < 32 }
 {
     match last {
-        Some(register) => register as u32,
-        None => 0,
+        Some(register) if register < 32 => register as u32,
+        _ => 0,
     }
 }
 
-/// Makes a C hart the one that a hart of the kit is.
+/// Makes a C hart the one that a hart of the kit is, whose last written register is one, or none.
 #[inline]
 pub(crate) fn close(state: &HartState, hart: &mut RrsHart)
-    requires { LastIsRegister state.now.last_register_write }
-    ensures same { hart_in hart.new ≡ state.now }
+    ensures same { LastIsRegister state.now.last_register_write → hart_in hart.new ≡ state.now }
+    ensures registers { hart.new.x ≡ state.now.registers }
     ensures last { hart.new.last < 32 }
 {
     hart.x = state.registers;

@@ -10,27 +10,34 @@
 
 #![tactic(auto)]
 
+mod access;
 mod hart;
 mod instruction;
 mod lent;
 mod retired;
 mod text;
 
-ghost use Rattle.std.specs.Prelude.{◌≡◌, ◌<◌, ℕ, List, length, slice_index, OnErr};
+ghost use Rattle.std.specs.Prelude.{◌≡◌, ◌≢◌, ◌<◌, ℕ, List, length, slice_index, OnErr};
 ghost use Rattle.rrs_lib.specs.Encodings.{Fields};
 ghost use Rattle.rrs_lib.specs.Table.{Row, Decodes, IsIllegal};
 ghost use Rattle.rrs_lib.specs.Steps.{Step, IsOnlyStep, ChangesLittle, RunUntil, IsOnlyRunUntil, cleared};
 ghost use Rattle.rrs_debug.specs.Retired.{Retires};
 ghost use Rattle.rrs_debug.specs.Stops.{RunsToStop, IsOnlyRunToStop};
-ghost use Rattle.rrs_c.specs.Harts.{state_in_c, exception_of, answer_of, reason_of};
+ghost use Rattle.rrs_c.specs.Harts.{hart_in, state_in_c, exception_of, answer_of, reason_of};
 ghost use Rattle.rrs_c.specs.Listing.{Lists, no_instruction};
 ghost use Rattle.rrs_c.specs.Records.{retired_in};
 ghost use Rattle.rrs_c.specs.Buffers.{Disassembles};
+ghost use Rattle.rrs_lib.specs.Bytes.{width};
+ghost use Rattle.rrs_lib.specs.Accesses.{size_of};
+ghost use Rattle.rrs_debug.specs.Outside.{WithEachMemory, AccessesAfterFetch, requested, Foretells, Completes};
+ghost use Rattle.rrs_c.specs.Asking.{request_of, given};
 
+use access::{RrsAccess, access_or_fault, given_by};
 use hart::{RrsEnd, RrsFault, RrsHart, close, end_of_run, end_of_stop, fault_of_answer, opened};
 use instruction::{RrsInstruction, listed, nothing};
 use lent::{run_lent, run_until_lent, step_lent, step_retired_lent};
 use retired::{RrsRetired, written_out};
+use rrs_debug::{complete, request};
 use rrs_lib::disassembly::Disassembled;
 use rrs_lib::instruction::decode;
 use rrs_lib::memories::SliceMemory;
@@ -167,4 +174,36 @@ pub extern "C" fn rrs_disassemble(word: u32, pc: u32, buffer: &mut [u8]) -> usiz
     let text = Disassembled { instruction, pc }.text();
     put_text(text.as_str().as_bytes(), buffer);
     text.len()
+}
+
+/// The load or the store that the instruction `word` asks for, the word at the pc, or the fault
+/// before it asks. Nothing changes.
+#[unsafe(no_mangle)]
+pub extern "C" fn rrs_request(hart: &RrsHart, word: u32) -> RrsAccess
+    ensures access { WithEachMemory (hart_in hart.now) word (λ s.
+        AccessesAfterFetch s (requested s (request_of result))) }
+    ensures foretold { WithEachMemory (hart_in hart.now) word (λ s.
+        Foretells s (request_of result)) }
+    ensures kind { result.kind < 3 }
+    ensures size { result.kind ≢ 0 → width (size_of result.size) ≡ result.size }
+    ensures fault { result.fault.kind < 8 }
+{
+    access_or_fault(request(&opened(hart), word))
+}
+
+/// Executes the instruction `word`, the word at the pc, with what C's memory or device answered to
+/// its access, and returns its fault. `granted` is 0 where the access is refused; `value` is that
+/// of a load, of which the low bytes count.
+#[unsafe(no_mangle)]
+pub extern "C" fn rrs_complete(hart: &mut RrsHart, word: u32, granted: u32, value: u32) -> RrsFault
+    ensures step { Completes (hart_in hart.old) (hart_in hart.new) word (given granted value)
+        (answer_of result) }
+    ensures kind { result.kind < 8 }
+    ensures last { hart.new.last < 32 }
+    ensures entry_zero { slice_index hart.new.x 0 ≡ slice_index hart.old.x 0 }
+{
+    let mut state = opened(hart);
+    let answer = complete(&mut state, word, given_by(granted, value));
+    close(&state, hart);
+    fault_of_answer(answer)
 }

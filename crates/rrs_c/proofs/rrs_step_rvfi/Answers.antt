@@ -12,7 +12,7 @@ returns-clause-step c =
     carried Step c.opened-state.result c.step_retired_lent-answer.new.hart_state c.args.hart.now c.close.new.hart
     c.args.base c.step_retired_lent-answer.new.mem.base c.args.words.now c.step_retired_lent-answer.new.mem.words.now _
     c.step_retired_lent-answer.result.0 (answer_of c.fault_of_answer.result)
-    c.opened-state.ensures.same c.close.ensures.same c.step_retired_lent-answer.ensures.lent.same_base (search rules)
+    c.opened-state.ensures.same (c.close.ensures.same c.step_retired_lent-answer.ensures.last) c.step_retired_lent-answer.ensures.lent.same_base (search rules)
     c.fault_of_answer.ensures.same c.step_retired_lent-answer.ensures.step
 
 pub returns-clause-only : goal.returns-clause-only
