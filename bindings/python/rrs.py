@@ -1,0 +1,250 @@
+"""A RISC-V simulator kit, RV32I with multiply and divide, whose steps are proved to be those of its
+table: a face of ``librrs.so`` by ctypes.
+
+>>> machine = Machine([0x1234b137, 0xf387e1b7, 0x003100b3])
+>>> machine.run(10)
+End(steps=3, fault=Fault('FETCH_FAULT', address=0x0000000c), at_stop=False)
+>>> hex(machine.registers[1])
+'0x5bc9000'
+>>> disassemble(0x003100b3)
+'add x1, x2, x3'
+
+The library is the file that the environment's RRS_LIBRARY names, or ``crates/rrs_c/out/librrs.so``
+of the repository that this module stands in.
+"""
+
+import ctypes
+import enum
+import os
+from collections import namedtuple
+from pathlib import Path
+
+__all__ = ["Machine", "Fault", "FaultKind", "End", "Retired", "Instruction", "decode", "disassemble"]
+
+_u32, _u64, _size = ctypes.c_uint32, ctypes.c_uint64, ctypes.c_size_t
+_words = ctypes.POINTER(_u32)
+
+
+class _Hart(ctypes.Structure):
+    _fields_ = [("x", _u32 * 32), ("pc", _u32), ("last", _u32)]
+
+
+class _Fault(ctypes.Structure):
+    _fields_ = [("kind", _u32), ("address", _u32), ("word", _u32)]
+
+
+class _End(ctypes.Structure):
+    _fields_ = [("steps", _u64), ("fault", _Fault), ("at_stop", _u32)]
+
+
+class _Retired(ctypes.Structure):
+    _fields_ = [("order", _u64)] + [
+        (name, _u32)
+        for name in (
+            "insn fetched trap pc_rdata pc_wdata rs1_addr rs1_rdata rs2_addr rs2_rdata rd_addr "
+            "rd_wdata mem_addr mem_rmask mem_wmask mem_rdata mem_wdata"
+        ).split()
+    ]
+
+
+class _Instruction(ctypes.Structure):
+    _fields_ = [(name, _u32) for name in "row rd rs1 rs2 shamt".split()] + [("imm", ctypes.c_int32)]
+
+
+def _library():
+    here = Path(__file__).resolve().parent
+    default = here / "../../crates/rrs_c/out/librrs.so"
+    return ctypes.CDLL(os.environ.get("RRS_LIBRARY") or str(default.resolve()))
+
+
+_lib = _library()
+
+
+def _function(name, result, *arguments):
+    function = getattr(_lib, name)
+    function.restype, function.argtypes = result, arguments
+    return function
+
+
+_memory = (ctypes.POINTER(_Hart), _words, _size, _u32)
+_version = _function("rrs_version", _u32)
+_step = _function("rrs_step", _Fault, *_memory)
+_run = _function("rrs_run", _End, *_memory, _u64)
+_run_until = _function("rrs_run_until", _End, *_memory, _u64, _words, _size)
+_step_rvfi = _function("rrs_step_rvfi", _Fault, *_memory, _u64, ctypes.POINTER(_Retired))
+_decode = _function("rrs_decode", _Instruction, _u32)
+_disassemble = _function("rrs_disassemble", _size, _u32, _u32, ctypes.c_char_p, _size)
+
+_TEXT_SIZE = 26
+if _version() != 256:
+    raise ImportError("rrs.py and librrs.so are of two versions")
+
+
+class FaultKind(enum.IntEnum):
+    """Why a step could not be made."""
+
+    ILLEGAL_INSTRUCTION = 1
+    FETCH_FAULT = 2
+    LOAD_FAULT = 3
+    STORE_FAULT = 4
+    MISALIGNED = 5
+    ECALL = 6
+    EBREAK = 7
+
+
+class Fault(namedtuple("Fault", "kind address word")):
+    """A fault: its FaultKind, the pc or the data address, and the word of ILLEGAL_INSTRUCTION, else 0.
+
+    It leaves the registers, the pc and memory as they were.
+    """
+
+    __slots__ = ()
+
+    def __repr__(self):
+        word = f", word=0x{self.word:08x}" if self.kind == FaultKind.ILLEGAL_INSTRUCTION else ""
+        return f"Fault({self.kind.name!r}, address=0x{self.address:08x}{word})"
+
+
+End = namedtuple("End", "steps fault at_stop")
+End.__doc__ = """How a run ended: the number of steps, the Fault or None, and whether it is at a stop."""
+
+Retired = namedtuple("Retired", [name for name, _ in _Retired._fields_])
+Retired.__doc__ = """What a step retired, under the names of RVFI; rrs.h says what each field means."""
+
+Instruction = namedtuple("Instruction", [name for name, _ in _Instruction._fields_])
+Instruction.__doc__ = """The number of a row, 1 to 48, and its fields; 0 where its format has none."""
+
+
+def _fault_of(fault):
+    return Fault(FaultKind(fault.kind), fault.address, fault.word) if fault.kind else None
+
+
+def _end_of(end):
+    return End(end.steps, _fault_of(end.fault), bool(end.at_stop))
+
+
+def _word_of(value):
+    """A number of 32 bits; negative ones are meant in two's complement."""
+    if not -(2**31) <= value < 2**32:
+        raise ValueError(f"{value} is no number of 32 bits")
+    return value % 2**32
+
+
+def _limit_of(limit):
+    if not 0 <= limit < 2**64:
+        raise ValueError(f"a limit of {limit} steps")
+    return limit
+
+
+class _Registers:
+    """The registers x0 to x31 of a machine, as a sequence. x0 is 0, and a write to it is none."""
+
+    def __init__(self, hart):
+        self._hart = hart
+
+    def __len__(self):
+        return 32
+
+    def __getitem__(self, index):
+        if isinstance(index, slice):
+            return [self[i] for i in range(*index.indices(32))]
+        if not -32 <= index < 32:
+            raise IndexError(index)
+        return self._hart.x[index % 32] if index % 32 else 0
+
+    def __setitem__(self, index, value):
+        if not -32 <= index < 32:
+            raise IndexError(index)
+        if index % 32:
+            self._hart.x[index % 32] = _word_of(value)
+
+    def __repr__(self):
+        return repr(self[:])
+
+
+class Machine:
+    """A hart, and words of memory from the address ``base`` on.
+
+    ``program`` is bytes, or a sequence of words. ``size`` is the number of words of memory, at least
+    those of the program; the others are 0. The pc begins at ``base``, a multiple of 4.
+    """
+
+    def __init__(self, program, base=0, size=None):
+        if _word_of(base) % 4:
+            raise ValueError("base is no multiple of 4")
+        if isinstance(program, (bytes, bytearray, memoryview)):
+            data = bytes(program)
+            data += bytes(-len(data) % 4)
+            program = [int.from_bytes(data[i : i + 4], "little") for i in range(0, len(data), 4)]
+        count = len(program) if size is None else size
+        if count < len(program):
+            raise ValueError(f"a program of {len(program)} words in {count} words of memory")
+        #: The words of memory, which may be read and written.
+        self.memory = (_u32 * count)(*map(_word_of, program))
+        #: The address of the first word.
+        self.base = _word_of(base)
+        self._hart = _Hart(pc=self.base)
+        self._arguments = (
+            ctypes.byref(self._hart),
+            ctypes.cast(self.memory, _words),
+            count,
+            self.base,
+        )
+
+    @property
+    def registers(self):
+        """The registers x0 to x31."""
+        return _Registers(self._hart)
+
+    @property
+    def pc(self):
+        """The address of the next instruction."""
+        return self._hart.pc
+
+    @pc.setter
+    def pc(self, value):
+        self._hart.pc = _word_of(value)
+
+    @property
+    def last(self):
+        """The number of the register that the latest step wrote, or None."""
+        return self._hart.last if 0 < self._hart.last < 32 else None
+
+    def step(self):
+        """Executes the instruction at the pc. Returns the Fault, or None."""
+        return _fault_of(_step(*self._arguments))
+
+    def step_rvfi(self, order=0):
+        """Executes the instruction at the pc. Returns the Fault or None, and what it Retired."""
+        record = _Retired()
+        fault = _step_rvfi(*self._arguments, _u64(order), ctypes.byref(record))
+        return _fault_of(fault), Retired(*(getattr(record, name) for name in Retired._fields))
+
+    def run(self, limit):
+        """Makes steps until ``limit`` were made, or one faults. Returns the End."""
+        return _end_of(_run(*self._arguments, _limit_of(limit)))
+
+    def run_until(self, stops, limit):
+        """Makes steps until the pc is one of the addresses ``stops``, ``limit`` were made, or one
+        faults. The first step is made wherever the pc is. Returns the End."""
+        addresses = (_u32 * len(stops))(*map(_word_of, stops))
+        return _end_of(_run_until(*self._arguments, _limit_of(limit), addresses, len(stops)))
+
+    def __repr__(self):
+        return f"Machine(pc=0x{self.pc:08x}, {len(self.memory)} words from 0x{self.base:08x})"
+
+
+def decode(word):
+    """The Instruction that a word is, and None for a word outside the table."""
+    instruction = _decode(_word_of(word))
+    if not instruction.row:
+        return None
+    return Instruction(*(getattr(instruction, name) for name in Instruction._fields))
+
+
+def disassemble(word, pc=0):
+    """The text of the instruction that a word is at the address ``pc``, and None for a word outside
+    the table."""
+    text = ctypes.create_string_buffer(_TEXT_SIZE)
+    length = _disassemble(_word_of(word), _word_of(pc), text, _TEXT_SIZE)
+    return text.raw[:length].decode("ascii") if length else None

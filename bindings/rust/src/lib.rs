@@ -1,0 +1,340 @@
+//! A RISC-V simulator kit, RV32I with multiply and divide, whose steps are proved to be those of its
+//! table. This crate is a safe face of `librrs_c.a`; it allocates nothing and needs no `std`.
+//!
+//! ```
+//! use rrs::{Fault, Hart, Memory};
+//!
+//! let mut words = [0x1234_b137, 0xf387_e1b7, 0x0031_00b3];
+//! let mut hart = Hart::default();
+//! let end = hart.run(&mut Memory::new(&mut words, 0), 10);
+//! assert_eq!((end.steps, end.fault), (3, Some(Fault::Fetch(12))));
+//! assert_eq!(hart.x[1], 0x05bc_9000);
+//! ```
+
+#![no_std]
+
+mod sys;
+
+use core::{fmt, str};
+
+/// A hart.
+#[repr(C)]
+#[derive(Clone, Copy, Debug, Default, PartialEq, Eq)]
+pub struct Hart {
+    /// The registers x1 to x31. Entry 0 is never read or changed.
+    pub x: [u32; 32],
+    /// The program counter.
+    pub pc: u32,
+    /// The register that the latest step wrote, 1 to 31, or 0.
+    pub last: u32,
+}
+
+/// Words, which lie one after another from a base address on, each as four bytes, lowest first.
+#[derive(Debug)]
+pub struct Memory<'a> {
+    words: &'a mut [u32],
+    base: u32,
+}
+
+impl<'a> Memory<'a> {
+    /// A memory of these words. The base is a multiple of 4: its two lowest bits are not looked at.
+    pub fn new(words: &'a mut [u32], base: u32) -> Memory<'a> {
+        Memory { words, base }
+    }
+}
+
+/// Why a step could not be made. It leaves the hart as it was, but that `last` is 0.
+#[derive(Clone, Copy, Debug, PartialEq, Eq)]
+pub enum Fault {
+    /// The word at the pc is outside the table: the pc and the word.
+    IllegalInstruction(u32, u32),
+    /// The pc is past the words.
+    Fetch(u32),
+    /// A load's bytes are past the words: the data address.
+    LoadAccess(u32),
+    /// A store's bytes are past the words: the data address.
+    StoreAccess(u32),
+    /// The pc is no multiple of 4, or a data address none of the size.
+    Alignment(u32),
+    /// The instruction is `ecall`: the pc.
+    EnvironmentCall(u32),
+    /// The instruction is `ebreak`: the pc.
+    Breakpoint(u32),
+}
+
+impl Fault {
+    fn of(fault: sys::Fault) -> Option<Fault> {
+        let address = fault.address;
+        match fault.kind {
+            1 => Some(Fault::IllegalInstruction(address, fault.word)),
+            2 => Some(Fault::Fetch(address)),
+            3 => Some(Fault::LoadAccess(address)),
+            4 => Some(Fault::StoreAccess(address)),
+            5 => Some(Fault::Alignment(address)),
+            6 => Some(Fault::EnvironmentCall(address)),
+            7 => Some(Fault::Breakpoint(address)),
+            _ => None,
+        }
+    }
+}
+
+impl fmt::Display for Fault {
+    fn fmt(&self, f: &mut fmt::Formatter<'_>) -> fmt::Result {
+        match self {
+            Fault::IllegalInstruction(pc, word) => {
+                write!(f, "illegal instruction 0x{word:08x} at 0x{pc:08x}")
+            }
+            Fault::Fetch(pc) => write!(f, "no instruction at 0x{pc:08x}"),
+            Fault::LoadAccess(address) => write!(f, "no load from 0x{address:08x}"),
+            Fault::StoreAccess(address) => write!(f, "no store to 0x{address:08x}"),
+            Fault::Alignment(address) => write!(f, "address 0x{address:08x} is not aligned"),
+            Fault::EnvironmentCall(pc) => write!(f, "ecall at 0x{pc:08x}"),
+            Fault::Breakpoint(pc) => write!(f, "ebreak at 0x{pc:08x}"),
+        }
+    }
+}
+
+impl core::error::Error for Fault {}
+
+/// The answer of a step.
+fn answer_of(fault: sys::Fault) -> Result<(), Fault> {
+    Fault::of(fault).map_or(Ok(()), Err)
+}
+
+/// How a run ended: at a stop, by a fault, or else at its limit.
+#[derive(Clone, Copy, Debug, PartialEq, Eq)]
+pub struct End {
+    /// How many steps were made. The one that faulted is not counted.
+    pub steps: u64,
+    /// The fault that ended the run, if one did.
+    pub fault: Option<Fault>,
+    /// Whether the run ended at a stop.
+    pub at_stop: bool,
+}
+
+impl End {
+    fn of(end: sys::End) -> End {
+        End { steps: end.steps, fault: Fault::of(end.fault), at_stop: end.at_stop == 1 }
+    }
+}
+
+/// A load or a store that was granted. All fields are 0 where there was none.
+#[derive(Clone, Copy, Debug, Default, PartialEq, Eq)]
+pub struct MemoryAccess {
+    /// The address of the first byte.
+    pub addr: u32,
+    /// A bit for each byte that was loaded.
+    pub rmask: u32,
+    /// A bit for each byte that was stored.
+    pub wmask: u32,
+    /// The value that was loaded, not extended.
+    pub rdata: u32,
+    /// The value that was stored.
+    pub wdata: u32,
+}
+
+/// What a step retired, under the names of RVFI. A register number is 0 where there is none.
+#[derive(Clone, Copy, Debug, Default, PartialEq, Eq)]
+pub struct Retired {
+    /// The number that the caller gave.
+    pub order: u64,
+    /// The word at the pc, or `None` where none was fetched.
+    pub insn: Option<u32>,
+    /// Whether the step faulted.
+    pub trap: bool,
+    /// The pc before.
+    pub pc_rdata: u32,
+    /// The pc after.
+    pub pc_wdata: u32,
+    /// The first source register.
+    pub rs1_addr: u32,
+    /// Its value before.
+    pub rs1_rdata: u32,
+    /// The second source register.
+    pub rs2_addr: u32,
+    /// Its value before.
+    pub rs2_rdata: u32,
+    /// The register that was written.
+    pub rd_addr: u32,
+    /// Its value after.
+    pub rd_wdata: u32,
+    /// The load or the store.
+    pub mem: MemoryAccess,
+}
+
+impl Retired {
+    fn of(record: sys::Retired) -> Retired {
+        Retired {
+            order: record.order,
+            insn: (record.fetched == 1).then_some(record.insn),
+            trap: record.trap == 1,
+            pc_rdata: record.pc_rdata,
+            pc_wdata: record.pc_wdata,
+            rs1_addr: record.rs1_addr,
+            rs1_rdata: record.rs1_rdata,
+            rs2_addr: record.rs2_addr,
+            rs2_rdata: record.rs2_rdata,
+            rd_addr: record.rd_addr,
+            rd_wdata: record.rd_wdata,
+            mem: MemoryAccess {
+                addr: record.mem_addr,
+                rmask: record.mem_rmask,
+                wmask: record.mem_wmask,
+                rdata: record.mem_rdata,
+                wdata: record.mem_wdata,
+            },
+        }
+    }
+}
+
+/// An instruction. A field that its format does not have is 0.
+#[repr(C)]
+#[derive(Clone, Copy, Debug, PartialEq, Eq)]
+pub struct Instruction {
+    /// The number of its row in the table, 1 to 48.
+    pub row: u32,
+    /// The register that is written.
+    pub rd: u32,
+    /// The first register that is read.
+    pub rs1: u32,
+    /// The second register that is read.
+    pub rs2: u32,
+    /// The shift amount.
+    pub shamt: u32,
+    /// The immediate.
+    pub imm: i32,
+}
+
+/// A load or a store that an instruction asks for. The address is a multiple of the size, which is
+/// 1, 2 or 4 bytes.
+#[derive(Clone, Copy, Debug, PartialEq, Eq)]
+pub enum Access {
+    /// A load: the address and the size.
+    Load(u32, u32),
+    /// A store: the address, the size, and the register's value, whose low bytes are stored.
+    Store(u32, u32, u32),
+}
+
+/// The text of an instruction.
+#[derive(Clone, Copy)]
+pub struct Text {
+    bytes: [u8; Text::SIZE],
+    length: usize,
+}
+
+impl Text {
+    /// Room for the text of every word, with the 0 that the library writes after it.
+    const SIZE: usize = 26;
+
+    /// The text.
+    pub fn as_str(&self) -> &str {
+        str::from_utf8(&self.bytes[..self.length]).unwrap_or_default()
+    }
+}
+
+impl fmt::Display for Text {
+    fn fmt(&self, f: &mut fmt::Formatter<'_>) -> fmt::Result {
+        f.pad(self.as_str())
+    }
+}
+
+impl fmt::Debug for Text {
+    fn fmt(&self, f: &mut fmt::Formatter<'_>) -> fmt::Result {
+        fmt::Debug::fmt(self.as_str(), f)
+    }
+}
+
+// In each block below the pointers are to values that are borrowed for the call, which do not
+// overlap, and the lengths are those of the slices. The library asks for nothing else.
+impl Hart {
+    /// Executes the instruction at the pc.
+    ///
+    /// # Errors
+    ///
+    /// The fault of the step.
+    pub fn step(&mut self, memory: &mut Memory<'_>) -> Result<(), Fault> {
+        let Memory { words, base } = memory;
+        answer_of(unsafe { sys::rrs_step(self, words.as_mut_ptr(), words.len(), *base) })
+    }
+
+    /// Makes steps until `limit` were made, or one faults.
+    pub fn run(&mut self, memory: &mut Memory<'_>, limit: u64) -> End {
+        let Memory { words, base } = memory;
+        End::of(unsafe { sys::rrs_run(self, words.as_mut_ptr(), words.len(), *base, limit) })
+    }
+
+    /// Makes steps until the pc is one of the stops, `limit` were made, or one faults. The first
+    /// step is made wherever the pc is.
+    pub fn run_until(&mut self, memory: &mut Memory<'_>, limit: u64, stops: &[u32]) -> End {
+        let Memory { words, base } = memory;
+        End::of(unsafe {
+            sys::rrs_run_until(
+                self,
+                words.as_mut_ptr(),
+                words.len(),
+                *base,
+                limit,
+                stops.as_ptr(),
+                stops.len(),
+            )
+        })
+    }
+
+    /// Makes a step, and tells what it retired, under this number.
+    pub fn step_rvfi(&mut self, memory: &mut Memory<'_>, order: u64) -> (Result<(), Fault>, Retired) {
+        let Memory { words, base } = memory;
+        let mut record = sys::Retired::default();
+        let fault = unsafe {
+            sys::rrs_step_rvfi(self, words.as_mut_ptr(), words.len(), *base, order, &mut record)
+        };
+        (answer_of(fault), Retired::of(record))
+    }
+
+    /// The load or the store that `word`, the word at the pc, asks for, and `None` where it asks
+    /// for none.
+    ///
+    /// # Errors
+    ///
+    /// The fault before any access.
+    pub fn request(&self, word: u32) -> Result<Option<Access>, Fault> {
+        let access = unsafe { sys::rrs_request(self, word) };
+        answer_of(access.fault)?;
+        Ok(match access.kind {
+            1 => Some(Access::Load(access.address, access.size)),
+            2 => Some(Access::Store(access.address, access.size, access.value)),
+            _ => None,
+        })
+    }
+
+    /// Executes `word`, the word at the pc, with what the caller's memory or device answered to its
+    /// access: of a load the value that was read, of a store any value, and `None` where the access
+    /// is refused.
+    ///
+    /// # Errors
+    ///
+    /// The fault of the step.
+    pub fn complete(&mut self, word: u32, given: Option<u32>) -> Result<(), Fault> {
+        let (granted, value) = given.map_or((0, 0), |value| (1, value));
+        answer_of(unsafe { sys::rrs_complete(self, word, granted, value) })
+    }
+}
+
+/// The instruction that a word is, and `None` for a word outside the table.
+pub fn decode(word: u32) -> Option<Instruction> {
+    let instruction = unsafe { sys::rrs_decode(word) };
+    (instruction.row != 0).then_some(instruction)
+}
+
+/// The text of the instruction that a word is at an address, and `None` for a word outside the
+/// table.
+pub fn disassemble(word: u32, pc: u32) -> Option<Text> {
+    let mut bytes = [0; Text::SIZE];
+    let length = unsafe { sys::rrs_disassemble(word, pc, bytes.as_mut_ptr(), bytes.len()) };
+    (length != 0).then_some(Text { bytes, length })
+}
+
+/// The version of the library: 65536 times the major number, plus 256 times the minor one, plus the
+/// patch.
+pub fn version() -> u32 {
+    unsafe { sys::rrs_version() }
+}

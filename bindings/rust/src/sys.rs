@@ -1,0 +1,75 @@
+//! The functions of librrs_c.a, as `rrs.h` declares them.
+
+use crate::Hart;
+
+#[repr(C)]
+pub struct Fault {
+    pub kind: u32,
+    pub address: u32,
+    pub word: u32,
+}
+
+#[repr(C)]
+pub struct End {
+    pub steps: u64,
+    pub fault: Fault,
+    pub at_stop: u32,
+}
+
+#[repr(C)]
+#[derive(Default)]
+pub struct Retired {
+    pub order: u64,
+    pub insn: u32,
+    pub fetched: u32,
+    pub trap: u32,
+    pub pc_rdata: u32,
+    pub pc_wdata: u32,
+    pub rs1_addr: u32,
+    pub rs1_rdata: u32,
+    pub rs2_addr: u32,
+    pub rs2_rdata: u32,
+    pub rd_addr: u32,
+    pub rd_wdata: u32,
+    pub mem_addr: u32,
+    pub mem_rmask: u32,
+    pub mem_wmask: u32,
+    pub mem_rdata: u32,
+    pub mem_wdata: u32,
+}
+
+#[repr(C)]
+pub struct Access {
+    pub fault: Fault,
+    pub kind: u32,
+    pub address: u32,
+    pub size: u32,
+    pub value: u32,
+}
+
+extern "C" {
+    pub fn rrs_version() -> u32;
+    pub fn rrs_step(hart: *mut Hart, words: *mut u32, count: usize, base: u32) -> Fault;
+    pub fn rrs_run(hart: *mut Hart, words: *mut u32, count: usize, base: u32, limit: u64) -> End;
+    pub fn rrs_run_until(
+        hart: *mut Hart,
+        words: *mut u32,
+        count: usize,
+        base: u32,
+        limit: u64,
+        stops: *const u32,
+        stop_count: usize,
+    ) -> End;
+    pub fn rrs_step_rvfi(
+        hart: *mut Hart,
+        words: *mut u32,
+        count: usize,
+        base: u32,
+        order: u64,
+        retired: *mut Retired,
+    ) -> Fault;
+    pub fn rrs_decode(word: u32) -> crate::Instruction;
+    pub fn rrs_disassemble(word: u32, pc: u32, text: *mut u8, size: usize) -> usize;
+    pub fn rrs_request(hart: *const Hart, word: u32) -> Access;
+    pub fn rrs_complete(hart: *mut Hart, word: u32, granted: u32, value: u32) -> Fault;
+}
