@@ -1,0 +1,47 @@
+-- Which system calls there are (the Linux system call convention of RISC-V, syscall(2): a7 has the
+-- number, a0 to a5 the arguments, and a0 takes the answer; the numbers are those of
+-- asm-generic/unistd.h). Registers go by their numbers: a0 is x10, and a7 is x17.
+--
+-- Three choices are made here. Only the descriptors 0, 1 and 2 are open, 0 to read and the others
+-- to write. close answers that it was done, and they stay open. Each other call, fstat (80) among
+-- them, is one that there is not; a C library goes on without it.
+use Rattle.std.specs.Prelude.{◌≡◌, ◌≢◌, ◌⊎◌, ℕ, ◌-◌, ◌%◌, ◌^◌, ◌<◌, ◌≤◌}
+use Rattle.rrs_linux.specs.declared.requests.Request.{Request}
+use Rattle.rrs_linux.specs.declared.requests.Request.TheVariants.{Exit, Answer, SetBreak, Read, WriteOutput, WriteErrors}
+use Rattle.rrs_lib.specs.Machine.{State, reg}
+
+-- the word that answers error n: -n
+abbrev pub error : ℕ → ℕ
+error n = 2 ^ 32 - n
+
+-- a descriptor that is not open for what this call does with it
+abbrev pub HasBadDescriptor : ℕ → ℕ → Type 0
+HasBadDescriptor call fd =
+    ((call ≡ 57) × (2 < fd)) ⊎ ((call ≡ 63) × (fd ≢ 0)) ⊎ ((call ≡ 64) × (fd ≢ 1) × (fd ≢ 2))
+
+-- none of the calls that there are
+abbrev pub IsNoCall : ℕ → Type 0
+IsNoCall call =
+    (call ≢ 57) × (call ≢ 63) × (call ≢ 64) × (call ≢ 93) × (call ≢ 94) × (call ≢ 214)
+
+-- what a call with this number and these arguments asks for
+pub data AsksBy (call a0 a1 a2 : ℕ) (request : Request) : Type 0 where
+  -- exit and exit_group: the low eight bits are the status
+  ToExit : (call ≡ 93) ⊎ (call ≡ 94) → request ≡ Exit (a0 % 256) → AsksBy call a0 a1 a2 request
+  -- read, of standard input
+  ToRead : call ≡ 63 → a0 ≡ 0 → request ≡ Read a1 a2 → AsksBy call a0 a1 a2 request
+  -- write, to standard output and to standard error
+  ToWriteOutput : call ≡ 64 → a0 ≡ 1 → request ≡ WriteOutput a1 a2 → AsksBy call a0 a1 a2 request
+  ToWriteErrors : call ≡ 64 → a0 ≡ 2 → request ≡ WriteErrors a1 a2 → AsksBy call a0 a1 a2 request
+  -- brk
+  ToSetBreak : call ≡ 214 → request ≡ SetBreak a0 → AsksBy call a0 a1 a2 request
+  -- close
+  ToClose : call ≡ 57 → a0 ≤ 2 → request ≡ Answer 0 → AsksBy call a0 a1 a2 request
+  -- EBADF is 9
+  OfNoFile : HasBadDescriptor call a0 → request ≡ Answer (error 9) → AsksBy call a0 a1 a2 request
+  -- ENOSYS is 38
+  OfNoCall : IsNoCall call → request ≡ Answer (error 38) → AsksBy call a0 a1 a2 request
+
+-- what the call of a machine at an ecall asks for
+abbrev pub Asks : State → Request → Type 0
+Asks s request = AsksBy (reg s 17) (reg s 10) (reg s 11) (reg s 12) request

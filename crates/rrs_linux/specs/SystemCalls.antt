@@ -1,0 +1,63 @@
+-- What a system call does to the environment and to the machine, and whether it ends the program.
+use Rattle.std.specs.Prelude.{◌≡◌, ℕ, ◌&&◌, nat_le, if◌then◌else◌, List, [], Option, Some, None, pos}
+use Rattle.std.specs.Io.KnownBytes.{prepend_known}
+use Rattle.rrs_lib.specs.Bytes.{ByteMap}
+use Rattle.rrs_lib.specs.AccessLists.{Access}
+use Rattle.rrs_lib.specs.Machine.{State, put}
+use Rattle.rrs_linux.specs.declared.Heap.{Heap}
+use Rattle.rrs_linux.specs.declared.Linux.{Linux}
+use Rattle.rrs_linux.specs.declared.held.Held.{Held}
+use Rattle.rrs_linux.specs.declared.requests.Request.{Request}
+use Rattle.rrs_linux.specs.declared.requests.Request.TheVariants.{Exit, Answer, SetBreak, Read, WriteOutput, WriteErrors}
+use Rattle.rrs_linux.specs.Requests.{Asks}
+use Rattle.rrs_linux.specs.HeldBytes.{held_bytes}
+use Rattle.rrs_linux.specs.Transfers.{WritesText, ReadsText}
+
+-- the break at an address, if it may lie there, and else as it was (brk(2), as the kernel answers)
+abbrev pub moved : Heap → ℕ → Heap
+moved heap address =
+    if nat_le heap.start address && nat_le address heap.end
+    then record heap { top = address } else heap
+
+-- the answer in a0
+abbrev pub answered : State → ℕ → State
+answered s answer = put s 10 (pos answer)
+
+-- By the bytes that a reader has left, and those that each writer holds, where these are known:
+module _ {R W E : Type 0} (remaining : R → Option (List ℕ))
+    (contents : W → Option (List ℕ)) (errors_of : E → Option (List ℕ)) where
+  -- the input that a program has not got yet
+  abbrev pub left_of : R → Held → Option (List ℕ)
+  left_of input held = prepend_known (held_bytes held) (remaining input)
+
+  -- what is asked for takes the environment and the machine from the first to the second
+  abbrev pub Does : Request → Linux R W E → State → Linux R W E → State
+      → List Access → Option ℕ → Type 0
+  Does (Exit status) old s new t accesses end =
+      (end ≡ Some status) × (new ≡ old) × (t ≡ s) × (accesses ≡ [])
+  Does (Answer word) old s new t accesses end =
+      (end ≡ None) × (new ≡ old) × (t ≡ answered s word) × (accesses ≡ [])
+  Does (SetBreak address) old s new t accesses end =
+      (end ≡ None) × (new ≡ record old { heap = moved old.heap address })
+      × (t ≡ answered s (moved old.heap address).top) × (accesses ≡ [])
+  Does (Read a count) old s new t accesses end =
+      (end ≡ None) × (input : R) × (held : Held) × (bytes : ByteMap) × (answer : ℕ)
+      × ReadsText s.writable s.bytes bytes a count
+      (left_of old.input old.held) (left_of input held) answer accesses
+      × (new ≡ record old { input = input; held = held })
+      × (t ≡ answered (record s { bytes = bytes }) answer)
+  Does (WriteOutput a count) old s new t accesses end =
+      (end ≡ None) × (output : W) × (answer : ℕ)
+      × WritesText s.bytes a count (contents old.output) (contents output) answer accesses
+      × (new ≡ record old { output = output }) × (t ≡ answered s answer)
+  Does (WriteErrors a count) old s new t accesses end =
+      (end ≡ None) × (errors : E) × (answer : ℕ)
+      × WritesText s.bytes a count (errors_of old.errors) (errors_of errors) answer accesses
+      × (new ≡ record old { errors = errors }) × (t ≡ answered s answer)
+
+  -- What a call does: it asks for something, and that is done.
+  pub record Serves (old : Linux R W E) (s : State) (new : Linux R W E) (t : State)
+      (accesses : List Access) (end : Option ℕ) : Type 0 where
+    pub request : Request
+    pub asks : Asks s request
+    pub does : Does request old s new t accesses end

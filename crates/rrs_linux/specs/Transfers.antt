@@ -1,0 +1,101 @@
+-- What write and read transfer (write(2) and read(2)): which bytes, by which accesses of the
+-- memory, and what the call answers. A stream's bytes are given where they are known.
+use Rattle.std.specs.Prelude.{◌≡◌, ◌⊎◌, ℕ, zero, suc, ◌+◌, ◌^◌, ◌<◌, ◌≤◌, min, Bool, false, List, [], ◌∷◌, ◌++◌, length, slice_index, Option, Some, None}
+use Rattle.std.specs.Io.KnownBytes.{Appends, Consumes, IsAtEnd}
+use Rattle.rrs_lib.specs.declared.MemAccessSize.TheVariants.{Byte}
+use Rattle.rrs_lib.specs.Bytes.{ByteMap}
+use Rattle.rrs_lib.specs.AccessLists.{Access, Read}
+use Rattle.rrs_lib.specs.Loading.{Loaded, byte_writes}
+use Rattle.rrs_linux.specs.Requests.{error}
+
+-- the most bytes that one call transfers
+abbrev pub most_bytes : ℕ
+most_bytes = 0x7ffff000
+
+-- how many bytes were transferred, or the error that was met before the first
+abbrev pub counted : ℕ → ℕ → ℕ
+counted zero e = e
+counted (suc n) e = suc n
+
+-- ---- write
+
+-- the text stands from a on
+abbrev pub Stands : ByteMap → ℕ → List ℕ → Type 0
+Stands bytes a text = (i : ℕ) → i < length text → bytes (a + i) ≡ Some (slice_index text i)
+
+-- a read of each of the n bytes from a on, in order
+abbrev pub byte_reads : ByteMap → ℕ → ℕ → List Access
+byte_reads bytes a zero = []
+byte_reads bytes a (suc n) = byte_reads bytes a n ++ Read (a + n) Byte (bytes (a + n)) ∷ []
+
+-- How the write of a buffer at a, of a text that stands at its beginning, ended: how many bytes of
+-- the memory were read, and the answer.
+pub data WriteEnds (bytes : ByteMap) (a count : ℕ) (text : List ℕ) (reads answer : ℕ) : Type 0 where
+  -- the whole buffer is written, or as much of it as one call writes
+  Whole :
+      a + count ≤ 2 ^ 32 → length text ≡ min count most_bytes
+      → reads ≡ length text → answer ≡ length text
+      → WriteEnds bytes a count text reads answer
+  -- the next byte is not mapped (EFAULT is 14)
+  IsUnmapped :
+      a + count ≤ 2 ^ 32 → length text < min count most_bytes → bytes (a + length text) ≡ None
+      → reads ≡ length text + 1 → answer ≡ counted (length text) (error 14)
+      → WriteEnds bytes a count text reads answer
+  -- the stream took no more, though more was read of the buffer (EIO is 5)
+  IsShort :
+      a + count ≤ 2 ^ 32 → length text < reads → reads ≤ min count most_bytes
+      → answer ≡ counted (length text) (error 5)
+      → WriteEnds bytes a count text reads answer
+  -- the buffer passes the last address
+  PassesEnd :
+      2 ^ 32 < a + count → text ≡ [] → reads ≡ 0 → answer ≡ error 14
+      → WriteEnds bytes a count text reads answer
+
+-- the bytes of a buffer are appended to a stream, in order, from its first on
+pub record WritesText (bytes : ByteMap) (a count : ℕ) (before after : Option (List ℕ))
+    (answer : ℕ) (accesses : List Access) : Type 0 where
+  pub text : List ℕ
+  pub stands : Stands bytes a text
+  pub appended : Appends before after text
+  pub reads : ℕ
+  pub ended : WriteEnds bytes a count text reads answer
+  pub accessed : accesses ≡ byte_reads bytes a reads
+
+-- ---- read
+
+-- How the read to a buffer at a, of a text that was given, ended: what is left of the input, the
+-- accesses, and the answer.
+pub data ReadEnds (writable : ℕ → Bool) (a count : ℕ) (text : List ℕ) (left : Option (List ℕ))
+    (accesses : List Access) (answer : ℕ) : Type 0 where
+  -- there were bytes, and as many as there were at once are given, up to the count
+  IsGiven :
+      0 < length text → length text ≤ min count most_bytes
+      → accesses ≡ byte_writes writable a text → answer ≡ length text
+      → ReadEnds writable a count text left accesses answer
+  -- there are no more, or none were asked for
+  IsNone :
+      text ≡ [] → IsAtEnd left ⊎ (count ≡ 0) → accesses ≡ [] → answer ≡ 0
+      → ReadEnds writable a count text left accesses answer
+  -- the next address is not writable: its byte is the next of the input still
+  IsRefused : (byte : ℕ)
+      → length text < min count most_bytes → writable (a + length text) ≡ false
+      → accesses ≡ byte_writes writable a (text ++ byte ∷ [])
+      → answer ≡ counted (length text) (error 14)
+      → ReadEnds writable a count text left accesses answer
+  -- a read of the input failed
+  HasFailed :
+      text ≡ [] → accesses ≡ [] → answer ≡ error 5
+      → ReadEnds writable a count text left accesses answer
+  -- the buffer passes the last address
+  PassesEnd :
+      2 ^ 32 < a + count → text ≡ [] → accesses ≡ [] → answer ≡ error 14
+      → ReadEnds writable a count text left accesses answer
+
+-- The next bytes of the input are given to a buffer, in order, from its first on, and all others
+-- are left.
+pub record ReadsText (writable : ℕ → Bool) (bytes bytes' : ByteMap) (a count : ℕ)
+    (left left' : Option (List ℕ)) (answer : ℕ) (accesses : List Access) : Type 0 where
+  pub text : List ℕ
+  pub loaded : Loaded bytes bytes' writable a text
+  pub consumed : Consumes left left' text
+  pub ended : ReadEnds writable a count text left' accesses answer

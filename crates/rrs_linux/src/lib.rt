@@ -1,0 +1,138 @@
+//! System calls of Linux, served for a program: those that a C library makes to print, to read and
+//! to end.
+//!
+//! [Linux] is an [Environment] of `run_served`, over a reader that is the program's standard input,
+//! and two writers that are its standard output and its standard error. What each call does is
+//! written in `specs/SystemCalls.antt`. No call allocates.
+
+#![tactic(auto)]
+
+mod held;
+mod requests;
+mod streams;
+
+ghost use Rattle.std.specs.Prelude.{◌≡◌, ℕ, Bool, Option, None, slice_index};
+ghost use Rattle.rrs_lib.specs.Machine.{state_of};
+ghost use Rattle.rrs_linux.specs.SystemCalls.{Serves, moved, answered};
+
+use crate::requests::request_of;
+use crate::streams::{read_bytes, write_bytes};
+pub use held::Held;
+pub use requests::Request;
+use rrs_lib::instruction_executor::InstructionExecutor;
+use rrs_lib::{HartState, Memory};
+use rrs_served::Environment;
+use std::io::{Read, Write};
+
+/// Where a program's heap lies, and where it ends at present.
+#[derive(Clone, Copy, Debug, PartialEq)]
+pub struct Heap {
+    /// The lowest break.
+    pub start: u32,
+    /// The highest break.
+    pub end: u32,
+    /// The break: the first address behind the heap.
+    pub top: u32,
+}
+
+impl Heap {
+    /// An empty heap, which may grow from `start` to `end`.
+    pub fn new(start: u32, end: u32) -> Heap
+        ensures { result ≡ record { start = start; end = end; top = start } }
+    {
+        Heap {
+            start,
+            end,
+            top: start,
+        }
+    }
+
+    /// Moves the break to an address, if it may lie there, and gives the break.
+    fn set_break(&mut self, address: u32) -> u32
+        ensures moved { self.new ≡ moved self.old address }
+        ensures answer { result ≡ (moved self.old address).top }
+    {
+        if self.start <= address && address <= self.end {
+            self.top = address;
+        }
+        self.top
+    }
+}
+
+/// The environment of a program that makes system calls of Linux.
+#[derive(Drop)]
+pub struct Linux<R, W, E> {
+    /// Standard input, descriptor 0.
+    pub input: R,
+    /// Standard output, descriptor 1.
+    pub output: W,
+    /// Standard error, descriptor 2.
+    pub errors: E,
+    /// The program's heap.
+    pub heap: Heap,
+    /// What was read of standard input and not given to the program yet.
+    pub held: Held,
+}
+
+impl<R, W, E> Linux<R, W, E> {
+    /// An environment with these streams and this heap, which holds nothing of the input yet.
+    pub fn new(input: R, output: W, errors: E, heap: Heap) -> Self
+        ensures input { result.input ≡ input }
+        ensures output { result.output ≡ output }
+        ensures errors { result.errors ≡ errors }
+        ensures heap { result.heap ≡ heap }
+    {
+        Linux {
+            input,
+            output,
+            errors,
+            heap,
+            held: Held::new(),
+        }
+    }
+}
+
+impl<R: Read, W: Write, E: Write> Environment for Linux<R, W, E> {
+    ghost serves = { Serves R.remaining W.contents E.contents };
+
+    /// Serves a system call: the number is in a7, the arguments in a0 to a2, the answer in a0.
+    fn serve<M: Memory>(&mut self, executor: &mut InstructionExecutor<M>) -> Option<u32> {
+        match request_of(executor.hart_state) {
+            Request::Exit(status) => Some(status),
+            Request::Answer(answer) => go_on(executor.hart_state, answer),
+            Request::SetBreak(address) => {
+                let answer = self.heap.set_break(address);
+                go_on(executor.hart_state, answer)
+            }
+            Request::Read(address, count) => {
+                let answer = read_bytes(
+                    &mut self.input,
+                    &mut self.held,
+                    executor.mem,
+                    address,
+                    count,
+                );
+                go_on(executor.hart_state, answer)
+            }
+            Request::WriteOutput(address, count) => {
+                let answer = write_bytes(&mut self.output, executor.mem, address, count);
+                go_on(executor.hart_state, answer)
+            }
+            Request::WriteErrors(address, count) => {
+                let answer = write_bytes(&mut self.errors, executor.mem, address, count);
+                go_on(executor.hart_state, answer)
+            }
+        }
+    }
+}
+
+/// Puts the answer of a call into a0. The program goes on.
+fn go_on(hart: &mut HartState, answer: u32) -> Option<u32>
+    ensures goes_on { result ≡ None }
+    ensures answered { (bytes : ℕ → Option ℕ) (writable : ℕ → Bool)
+        → state_of hart.new bytes writable ≡ answered (state_of hart.old bytes writable) answer }
+    ensures zero_kept { slice_index hart.new.registers 0 ≡ slice_index hart.old.registers 0 }
+{
+    hart.write_register(10, answer);
+    None
+}

@@ -1,0 +1,70 @@
+//! What a call asks for, by its number and its arguments.
+
+ghost use Rattle.std.specs.Prelude.{◌≡◌, ℕ, Bool, Option};
+ghost use Rattle.rrs_lib.specs.Machine.{state_of};
+ghost use Rattle.rrs_linux.specs.Requests.{Asks, AsksBy};
+
+use rrs_lib::HartState;
+
+/// `close`.
+const CLOSE: u32 = 57;
+/// `read`.
+const READ: u32 = 63;
+/// `write`.
+const WRITE: u32 = 64;
+/// `exit`.
+const EXIT: u32 = 93;
+/// `exit_group`.
+const EXIT_GROUP: u32 = 94;
+/// `brk`.
+const BRK: u32 = 214;
+
+/// The answer where a descriptor is not open for this: -9, `EBADF`.
+const BAD_DESCRIPTOR: u32 = 0xffff_fff7;
+/// The answer to a call that there is not: -38, `ENOSYS`.
+const NO_SUCH_CALL: u32 = 0xffff_ffda;
+
+/// What a call asks for.
+#[derive(Clone, Copy, Debug, PartialEq)]
+pub enum Request {
+    /// To end with a status, 0 to 255.
+    Exit(u32),
+    /// Nothing but this answer.
+    Answer(u32),
+    /// To move the break to an address.
+    SetBreak(u32),
+    /// To read from standard input, to an address, so many bytes at most.
+    Read(u32, u32),
+    /// To write to standard output, from an address, so many bytes at most.
+    WriteOutput(u32, u32),
+    /// To write to standard error, from an address, so many bytes at most.
+    WriteErrors(u32, u32),
+}
+
+/// What the call of a hart at an `ecall` asks for.
+pub fn request_of(hart: &HartState) -> Request
+    ensures { (bytes : ℕ → Option ℕ) (writable : ℕ → Bool)
+        → Asks (state_of hart.now bytes writable) result }
+{
+    let call = hart.read_register(17);
+    let first = hart.read_register(10);
+    let second = hart.read_register(11);
+    let third = hart.read_register(12);
+    request_by(call, first, second, third)
+}
+
+/// What a call with this number and these arguments asks for.
+fn request_by(call: u32, first: u32, second: u32, third: u32) -> Request
+    ensures { AsksBy call first second third result }
+{
+    match call {
+        EXIT | EXIT_GROUP => Request::Exit(first % 256),
+        BRK => Request::SetBreak(first),
+        CLOSE if first <= 2 => Request::Answer(0),
+        READ if first == 0 => Request::Read(second, third),
+        WRITE if first == 1 => Request::WriteOutput(second, third),
+        WRITE if first == 2 => Request::WriteErrors(second, third),
+        CLOSE | READ | WRITE => Request::Answer(BAD_DESCRIPTOR),
+        _ => Request::Answer(NO_SUCH_CALL),
+    }
+}
