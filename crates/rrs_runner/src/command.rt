@@ -149,7 +149,7 @@ pub fn take_no_arguments<R: Env + AllocGlobal>(rt: &R) -> Result<(), Failure> {
 ///
 /// `Failure::Usage` where one of them is not UTF-8, be it the program's own name, and out of memory
 /// as a failure of the run.
-fn arguments<R: Env + AllocGlobal>(rt: &R) -> Result<Vec<String>, Failure> {
+pub fn arguments<R: Env + AllocGlobal>(rt: &R) -> Result<Vec<String>, Failure> {
     match std::env::args(rt) {
         Ok(words) => words
             .collect(rt.alloc())

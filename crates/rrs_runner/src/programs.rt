@@ -33,3 +33,9 @@ pub const RRS_HELLO: Command = Command {
     name: "rrs-hello",
     words: "",
 };
+
+/// `rrs-exec`, which runs a program that makes system calls of Linux.
+pub const RRS_EXEC: Command = Command {
+    name: "rrs-exec",
+    words: " FILE LIMIT",
+};
