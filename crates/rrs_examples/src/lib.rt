@@ -1,8 +1,8 @@
-//! The examples of the pages under `docs/`, and the tests of `rrs_extra`, `rrs_debug` and
-//! `rrs_served`.
+//! The examples of the pages under `docs/`, and the tests of `rrs_extra`, `rrs_debug`, `rrs_served`
+//! and `rrs_linux`.
 //!
-//! They are written as a user's crate would be: over what `rrs_lib`, `rrs_extra`, `rrs_debug` and
-//! `rrs_served` offer to every crate. The processor `call_counter` and its use in `coverage` are
+//! They are written as a user's crate would be: over what `rrs_lib`, `rrs_extra`, `rrs_debug`,
+//! `rrs_served` and `rrs_linux` offer to every crate. The processor `call_counter` and its use in `coverage` are
 //! those of `docs/PROCESSORS.md`, `count_down` is the program that `docs/PROGRAMS.md` proves step
 //! by step, and `tracing` and `console` have the examples of `docs/HOSTS.md`. All of it is built
 //! with the tests.
@@ -31,6 +31,8 @@ mod printing;
 mod programs;
 #[cfg(test)]
 mod rows;
+#[cfg(test)]
+mod system_calls;
 #[cfg(test)]
 mod texts;
 #[cfg(test)]

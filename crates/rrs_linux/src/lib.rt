@@ -11,8 +11,9 @@ mod held;
 mod requests;
 mod streams;
 
-ghost use Rattle.std.specs.Prelude.{◌≡◌, ℕ, Bool, Option, None, slice_index};
+ghost use Rattle.std.specs.Prelude.{◌≡◌, ℕ, Bool, Option, None, slice_index, []};
 ghost use Rattle.rrs_lib.specs.Machine.{state_of};
+ghost use Rattle.rrs_linux.specs.HeldBytes.{held_bytes};
 ghost use Rattle.rrs_linux.specs.SystemCalls.{Serves, moved, answered};
 
 use crate::requests::request_of;
@@ -81,6 +82,7 @@ impl<R, W, E> Linux<R, W, E> {
         ensures output { result.output ≡ output }
         ensures errors { result.errors ≡ errors }
         ensures heap { result.heap ≡ heap }
+        ensures held { held_bytes result.held ≡ [] }
     {
         Linux {
             input,

@@ -1,0 +1,250 @@
+//! System calls on chosen buffers, over streams that are short, fail, or are interrupted, and then
+//! go on.
+
+use rrs_lib::HartState;
+use rrs_lib::instruction_executor::InstructionExecutor;
+use rrs_lib::memories::VecMemory;
+use rrs_linux::{Heap, Linux};
+use rrs_served::Environment;
+use std::alloc::{AllocError, Global};
+use std::io;
+use std::io::{ErrorKind, Read, Write};
+use std::test::Fail;
+
+/// The numbers of `read`, `write` and `brk`.
+const READ: u32 = 63;
+
+const WRITE: u32 = 64;
+
+const BRK: u32 = 214;
+
+/// The answers -5, -9, -14 and -38.
+const EIO: u32 = 0xffff_fffb;
+
+const EBADF: u32 = 0xffff_fff7;
+
+const EFAULT: u32 = 0xffff_fff2;
+
+const ENOSYS: u32 = 0xffff_ffda;
+
+/// What a read or a write of a stream comes to: so many bytes at most, or an error.
+#[derive(Clone, Copy, Drop)]
+enum Turn {
+    Takes(usize),
+    Fails(ErrorKind),
+}
+
+/// A stream that does what its turns say, one call after the other, and then takes all. As a reader
+/// it gives 0, 1, 2 and so on, up to 99.
+#[derive(Drop)]
+struct Stream<'a> {
+    turns: &'a [Turn],
+    written: Vec<u8>,
+    next: u8,
+}
+
+impl<'a> Stream<'a> {
+    fn new(alloc: Global, turns: &'a [Turn]) -> Self {
+        Stream {
+            turns,
+            written: Vec::new(alloc),
+            next: 0,
+        }
+    }
+
+    /// How many of so many bytes this call may take.
+    fn turn(&mut self, most: usize) -> io::Result<usize> {
+        let Some((turn, later)) = self.turns.split_first() else {
+            return Ok(most);
+        };
+        self.turns = later;
+        match turn {
+            Turn::Takes(count) => Ok(most.min(*count)),
+            Turn::Fails(kind) => Err(io::Error::from(*kind)),
+        }
+    }
+}
+
+impl Write for Stream<'_> {
+    fn write(&mut self, buf: &[u8]) -> io::Result<usize> {
+        let count = self.turn(buf.len())?.min(buf.len());
+        self.written.write(&buf[..count])
+    }
+
+    fn flush(&mut self) -> io::Result<()> {
+        Ok(())
+    }
+}
+
+impl Read for Stream<'_> {
+    fn read(&mut self, buf: &mut [u8]) -> io::Result<usize> {
+        let most = self.turn(buf.len())?;
+        let mut count = 0;
+        for byte in buf.iter_mut().take(most) {
+            if self.next < 100 {
+                *byte = self.next;
+                self.next += 1;
+                count += 1;
+            }
+        }
+        Ok(count)
+    }
+}
+
+/// 75 words: the bytes at 0 to 299, of which the byte at `a` is `a` modulo 256.
+fn numbered(alloc: Global) -> Result<VecMemory, AllocError> {
+    let mut words = Vec::new(alloc);
+    let mut word = 0x0302_0100u32;
+    for _ in 0..75 {
+        words.push(word)?;
+        word = word.wrapping_add(0x0404_0404);
+    }
+    Ok(VecMemory::new(words))
+}
+
+/// Serves a call with its number and three arguments: how it ended, and what it answered.
+fn call<R: Read, W: Write, E: Write>(
+    environment: &mut Linux<R, W, E>,
+    mem: &mut VecMemory,
+    request: (u32, u32, u32, u32),
+) -> (Option<u32>, u32) {
+    let mut hart = HartState::new();
+    hart.registers[17] = request.0;
+    hart.registers[10] = request.1;
+    hart.registers[11] = request.2;
+    hart.registers[12] = request.3;
+    let mut executor = InstructionExecutor {
+        mem,
+        hart_state: &mut hart,
+    };
+    let end = environment.serve(&mut executor);
+    (end, hart.registers[10])
+}
+
+/// Whether bytes are numbers that follow one another, from this one on, modulo 256.
+fn counts_from(bytes: &[u8], first: u8) -> bool {
+    let mut expected = first;
+    for byte in bytes {
+        if *byte != expected {
+            return false;
+        }
+        expected = expected.wrapping_add(1);
+    }
+    true
+}
+
+/// Streams with these turns of the input and of the output, and a heap.
+fn environment<'a>(
+    alloc: Global,
+    reads: &'a [Turn],
+    writes: &'a [Turn],
+) -> Linux<Stream<'a>, Stream<'a>, Stream<'a>> {
+    let input = Stream::new(alloc, reads);
+    let output = Stream::new(alloc, writes);
+    Linux::new(input, output, Stream::new(alloc, &[]), Heap::new(64, 96))
+}
+
+// Each call with its answer, and how much standard output and standard error hold after it.
+#[test]
+fn calls_answer(rt: HostRuntime) -> Result<(), Fail> {
+    let mut memory = numbered(rt.alloc())?;
+    let mut linux = environment(rt.alloc(), &[], &[]);
+    for (request, end, answer, written) in [
+        ((WRITE, 1, 0, 300), None, 300, (300, 0)),
+        ((WRITE, 1, 290, 20), None, 10, (310, 0)),
+        ((WRITE, 2, 44, 3), None, 3, (310, 3)),
+        ((WRITE, 1, 300, 1), None, EFAULT, (310, 3)),
+        ((WRITE, 1, 0xffff_fff0, 17), None, EFAULT, (310, 3)),
+        ((WRITE, 1, 0, 0), None, 0, (310, 3)),
+        ((WRITE, 0, 0, 4), None, EBADF, (310, 3)),
+        ((READ, 1, 0, 4), None, EBADF, (310, 3)),
+        ((READ, 0, 0xffff_fff0, 17), None, EFAULT, (310, 3)),
+        ((BRK, 0, 0, 0), None, 64, (310, 3)),
+        ((BRK, 96, 0, 0), None, 96, (310, 3)),
+        ((BRK, 97, 0, 0), None, 96, (310, 3)),
+        ((BRK, 63, 0, 0), None, 96, (310, 3)),
+        ((57, 2, 0, 0), None, 0, (310, 3)),
+        ((57, 3, 0, 0), None, EBADF, (310, 3)),
+        ((80, 1, 0, 0), None, ENOSYS, (310, 3)),
+        ((93, 0x107, 0, 0), Some(7), 0x107, (310, 3)),
+        ((94, 255, 0, 0), Some(255), 255, (310, 3)),
+    ] {
+        let seen = call(&mut linux, &mut memory, request);
+        let lengths = (linux.output.written.len(), linux.errors.written.len());
+        assert!(rt; seen == (end, answer) && lengths == written, "{request:?}");
+    }
+    let output = linux.output.written.as_slice();
+    assert!(rt; counts_from(linux.errors.written.as_slice(), 44));
+    assert!(rt; output.len() == 310 && counts_from(&output[..300], 0));
+    Ok(())
+}
+
+// What a call answers that writes the bytes at 0 to 299, and how many are written then: the stream
+// takes 256 of them at first, and then the others. The bytes that are written are the first ones.
+#[test]
+fn writes_that_are_short_or_fail(rt: HostRuntime) -> Result<(), Fail> {
+    let fails = Turn::Fails(ErrorKind::StorageFull);
+    let waits = Turn::Fails(ErrorKind::Interrupted);
+    let cases: [(&[Turn], u32, usize); 7] = [
+        (&[], 300, 300),
+        (&[fails], EIO, 0),
+        (&[Turn::Takes(0)], EIO, 0),
+        (&[Turn::Takes(7), fails], 7, 7),
+        (&[Turn::Takes(256), fails], 256, 256),
+        (&[Turn::Takes(256), Turn::Takes(1)], 257, 257),
+        (&[waits, Turn::Takes(256), waits], 300, 300),
+    ];
+    for (turns, answer, written) in cases {
+        let mut memory = numbered(rt.alloc())?;
+        let mut linux = environment(rt.alloc(), &[], turns);
+        let seen = call(&mut linux, &mut memory, (WRITE, 1, 0, 300));
+        let output = linux.output.written.as_slice();
+        let is_right = output.len() == written && counts_from(output, 0);
+        assert!(rt; seen == (None, answer) && is_right, "to answer {answer}");
+    }
+    Ok(())
+}
+
+// Reads one after the other, with what each answers: of an input that is short, interrupted and
+// fails, into buffers of which some are not writable. No byte is lost, and the input is read to its
+// end.
+#[test]
+fn no_byte_of_the_input_is_lost(rt: HostRuntime) -> Result<(), Fail> {
+    let turns = [
+        Turn::Takes(5),
+        Turn::Fails(ErrorKind::Interrupted),
+        Turn::Takes(20),
+        Turn::Fails(ErrorKind::StorageFull),
+    ];
+    let mut memory = numbered(rt.alloc())?;
+    let mut linux = environment(rt.alloc(), &turns, &[]);
+    let mut address = 0;
+    for (at_end, count, answer) in [
+        (false, 0, 0),
+        (false, 10, 5),
+        (true, 40, 8),
+        (true, 40, 8),
+        (false, 1, 1),
+        (false, 40, 3),
+        (false, 40, EIO),
+        (false, 40, 40),
+        (false, 300, 35),
+        (false, 300, 0),
+    ] {
+        let to = if at_end { 292 } else { address };
+        let seen = call(&mut linux, &mut memory, (READ, 0, to, count));
+        assert!(rt; seen == (None, answer), "{count} bytes at {to}");
+        if !at_end && answer != EIO {
+            address += answer;
+        }
+    }
+    let written = call(&mut linux, &mut memory, (WRITE, 1, 0, 84));
+    let output = linux.output.written.as_slice();
+    let is_right = output.len() == 84
+        && counts_from(&output[..5], 0)
+        && counts_from(&output[5..], 21);
+    assert!(rt; written == (None, 84) && is_right);
+    let refused = call(&mut linux, &mut memory, (READ, 0, 300, 1));
+    assert!(rt; refused == (None, 0));
+    Ok(())
+}
