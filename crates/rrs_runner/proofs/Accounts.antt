@@ -4,26 +4,19 @@ use Rattle.std.specs.Io.KnownBytes.{Appends, Keeps}
 use Rattle.std.proofs.KnownBytes.{Appends-trans, Appends-kept}
 use Rattle.rrs_lib.specs.declared.HartState.{HartState}
 use Rattle.rrs_lib.specs.declared.instruction_executor.InstructionException.{InstructionException}
-use Rattle.rrs_lib.specs.Encodings.{Fields}
-use Rattle.rrs_lib.specs.Table.{Row, Decodes}
 use Rattle.rrs_lib.specs.Machine.{State}
-use Rattle.rrs_lib.specs.Texts.{text_of}
 use Rattle.rrs_lib.specs.Steps.{Step, next_word}
 use Rattle.rrs_runner.specs.declared.fault.RunFault.{RunFault}
 use Rattle.rrs_runner.specs.declared.fault.RunFault.TheVariants.{OutOfMemory, Reader, Refused, Output}
-use Rattle.rrs_runner.specs.Texts.{instruction_line, end_line, hart_lines}
+use Rattle.rrs_runner.specs.Texts.{end_line, hart_lines}
 use Rattle.rrs_runner.specs.Faults.{StopsPrinting}
 use Rattle.rrs_runner.specs.Printed.{AppendsLines, IsBeginning}
 use Rattle.rrs_runner.specs.declared.simulation.Shown.{Shown}
 use Rattle.rrs_runner.specs.declared.simulation.Shown.TheVariants.{Instructions}
-use Rattle.rrs_runner.specs.Account.{LinesOfWord, Inside, LinesOfAny, LinesBefore, PrintsOk, PrintsUntil, Shows, ShowsRun, ShowsToNext, PartOfAccount, AccountOf, StopsRun}
+use Rattle.rrs_runner.specs.Account.{LinesOfWord, LinesOfAny, LinesBefore, PrintsOk, PrintsUntil, Shows, ShowsRun, ShowsToNext, PartOfAccount, AccountOf, StopsRun}
 use Rattle.rrs_runner.proofs.Printed.{appends_weaker, appends_after, stops_weaker, Ready, ready_state, run_printed}
 
 -- ---- the lines before a step
-
--- the line of a row's text
-pub row_lines : (w pc : ℕ) (row : Row) (f : Fields) (text printed line : List ℕ) → Decodes w row f → text_of row f pc ≡ Some text → printed ≡ text → line ≡ instruction_line pc printed → LinesOfWord pc w line
-row_lines w pc row f text printed line is e same made = Inside row f text is e (made ∙ ap (instruction_line pc) same)
 
 -- what is printed of the next word is what is printed before the step
 pub next_lines : (s : State) (pc w : ℕ) (lines : List ℕ) → pc ≡ s.pc → Some w ≡ next_word s → LinesOfWord pc w lines → LinesBefore s lines

@@ -62,7 +62,8 @@ Shows Nothing limit s steps e t lines = RunUntil limit s steps e t × (lines ≡
 -- what is printed while a run from s is made, up to its end
 abbrev pub ShowsRun : Shown → ℕ → State → List ℕ → Type 0
 ShowsRun shown limit s lines =
-    (steps : ℕ) × (e : Option InstructionException) × (t : State) × Shows shown limit s steps e t lines
+    (steps : ℕ) × (e : Option InstructionException) × (t : State)
+    × Shows shown limit s steps e t lines
 
 -- what is printed while the first steps of a run from s are made, which are Ok, and before the step
 -- after them
@@ -97,9 +98,9 @@ Account shown limit input rest before after =
 
 -- What stops a run, by the bytes of the reader and of the output before and after it. Where the
 -- memory can't be made, nothing is read or printed, and where the load was stopped nothing is
--- printed. Otherwise the reader was read to its end: out of memory then, for the text of how the run
--- ended, just what is printed while the run is made stands there, and after a write that failed a
--- beginning of the account.
+-- printed. Otherwise the reader was read to its end: out of memory then, for the text of how the
+-- run ended, just what is printed while the run is made stands there, and after a write that failed
+-- a beginning of the account.
 abbrev pub StopsRun : Shown → ℕ → Option (List ℕ) → Option (List ℕ)
     → Option (List ℕ) → Option (List ℕ) → RunFault → Type 0
 StopsRun shown limit input rest before after OutOfMemory =

@@ -5,7 +5,7 @@
 //! not be written. The line of an instruction is made in a buffer that it always fits, so that no
 //! step allocates.
 
-ghost use Rattle.std.specs.Prelude.{◌≡◌, ◌<◌, ◌≤◌, ◌++◌, ℕ, Bool, Option, length, IfOk, OnOk, IfErr, IsOkUnless};
+ghost use Rattle.std.specs.Prelude.{◌≡◌, ◌<◌, ◌++◌, ℕ, Bool, Option, IfOk, OnOk, IfErr, IsOkUnless};
 ghost use Rattle.std.specs.Io.KnownBytes.{Appends, Keeps};
 ghost use Rattle.rrs_lib.specs.Machine.{state_of};
 ghost use Rattle.rrs_runner.specs.Faults.{StopsPrinting};
@@ -14,7 +14,7 @@ ghost use Rattle.rrs_runner.specs.Texts.{instruction_line, reason_text, steps_te
 use crate::fault::RunFault;
 use arrayvec::ArrayString;
 use rrs_lib::HartState;
-use rrs_lib::disassembly::{TEXT_CAPACITY, hexadecimal_digits};
+use rrs_lib::disassembly::{InstructionText, hexadecimal_digits};
 use rrs_lib::instruction_executor::{InstructionException, RunEnd};
 use std::alloc::Global;
 use std::io;
@@ -23,20 +23,19 @@ use std::io::{ErrorKind, Write};
 /// The number of registers.
 const REGISTERS: usize = 32;
 
-/// The number of bytes of the longest line of an instruction: its address, a text of
-/// [TEXT_CAPACITY] bytes, and 5 around them.
+/// The number of bytes of the longest line of an instruction: 8 digits of its address, 74 bytes of
+/// its text, and 5 around them.
 const LINE_CAPACITY: usize = 87;
 
 /// The line of an instruction's text and its address.
-pub fn line_of(pc: u32, text: &str) -> ArrayString<LINE_CAPACITY>
-    requires { length text.now ≤ TEXT_CAPACITY }
-    ensures { result.bytes ≡ instruction_line pc text.now }
+pub fn line_of(pc: u32, text: &InstructionText) -> ArrayString<LINE_CAPACITY>
+    ensures { result.bytes ≡ instruction_line pc text.now.bytes }
 {
     let mut line = ArrayString::new();
     line.push_str("0x");
     line.push_str(hexadecimal_digits(8, pc).as_str());
     line.push_str(": ");
-    line.push_str(text);
+    line.push_str(text.as_str());
     line.push_str("\n");
     line
 }

@@ -164,7 +164,7 @@ fn print_instruction<W: Write>(pc: u32, word: u32, out: &mut W) -> Result<(), Ru
         None => Ok(()),
         Some(instruction) => {
             let text = Disassembled { instruction, pc }.text();
-            let line = report::line_of(pc, text.as_str());
+            let line = report::line_of(pc, &text);
             report::write_text(out, line.as_str().as_bytes())
         }
     }
