@@ -1,0 +1,82 @@
+//! A loop around `run` that serves the calls of a program: `write` of a buffer, and `exit`.
+//! `docs/HOSTS.md` shows it.
+
+use rrs_lib::instruction_executor::{InstructionException, InstructionExecutor};
+use rrs_lib::memories::VecMemory;
+use rrs_lib::{HartState, MemAccessSize, Memory};
+use std::test::Fail;
+
+/// What a call returns in x10 where it did nothing: less than 0, as Linux has it.
+const BAD_ADDRESS: u32 = 0xffff_fff2;
+
+const NO_SUCH_CALL: u32 = 0xffff_ffda;
+
+/// Appends the bytes of a buffer of the program, and returns whether all of them are mapped.
+fn read_buffer<M: Memory>(
+    mem: &mut M,
+    address: u32,
+    length: u32,
+    bytes: &mut Vec<u8>,
+) -> Result<bool, Fail> {
+    for offset in 0..length {
+        match mem.read_mem(address.wrapping_add(offset), MemAccessSize::Byte) {
+            Some(byte) => bytes.push((byte & 0xff) as u8)?,
+            None => return Ok(false),
+        }
+    }
+    Ok(true)
+}
+
+/// Runs a program up to its `exit`, and returns the status, or `None` where a fault or the limit
+/// ended it. What it writes is appended.
+fn run_calls<M: Memory>(
+    executor: &mut InstructionExecutor<M>,
+    limit: u64,
+    written: &mut Vec<u8>,
+) -> Result<Option<u32>, Fail> {
+    for _ in 0..limit {
+        let Some(InstructionException::EnvironmentCall(pc)) = executor.run(limit).exception else {
+            return Ok(None);
+        };
+        let call = executor.hart_state.read_register(17);
+        if call == 93 {
+            return Ok(Some(executor.hart_state.read_register(10)));
+        }
+        let mut answer = NO_SUCH_CALL;
+        if call == 64 {
+            let address = executor.hart_state.read_register(11);
+            let length = executor.hart_state.read_register(12);
+            let whole = read_buffer(executor.mem, address, length, written)?;
+            answer = if whole { length } else { BAD_ADDRESS };
+        }
+        executor.hart_state.write_register(10, answer);
+        executor.hart_state.pc = pc.wrapping_add(4);
+    }
+    Ok(None)
+}
+
+// The program writes a text of three bytes, and exits with 7.
+#[test]
+fn a_buffer_is_read(rt: HostRuntime) -> Result<(), Fail> {
+    let words = [
+        0x0400_0893, // addi x17, x0, 64
+        0x0200_0593, // addi x11, x0, 32
+        0x0030_0613, // addi x12, x0, 3
+        0x0000_0073, // ecall
+        0x05d0_0893, // addi x17, x0, 93
+        0x0070_0513, // addi x10, x0, 7
+        0x0000_0073, // ecall
+        0,
+        0x000a_6b6f, // "ok\n"
+    ];
+    let mut memory = VecMemory::new(words.to_vec(rt.alloc())?);
+    let mut hart = HartState::new();
+    let mut executor = InstructionExecutor {
+        mem: &mut memory,
+        hart_state: &mut hart,
+    };
+    let mut written = Vec::new(rt.alloc());
+    let status = run_calls(&mut executor, 100, &mut written)?;
+    assert!(rt; status == Some(7) && written.as_slice() == b"ok\n".as_slice());
+    Ok(())
+}
