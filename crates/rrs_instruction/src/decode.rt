@@ -3,15 +3,15 @@
 ghost use Rattle.std.specs.Prelude.{◌≡◌, ◌%◌, IfSome, IfNone};
 ghost use Rattle.rrs_instruction.specs.Encodings.{Fields};
 ghost use Rattle.rrs_instruction.specs.Table.{Row, Decodes, IsIllegal, IsRowAnd, IsOneRowAtMost};
-ghost use Rattle.rrs_instruction.specs.Instructions.{row_of, fields_of, IsInstruction, IsDecoded};
+ghost use Rattle.rrs_instruction.specs.Instructions.{row_of, fields_of, IsInstruction, IsHanded};
 
-use crate::InstructionProcessor;
 use crate::instruction::Instruction;
 use crate::instruction_formats::{
     BType, IType, ITypeShamt, JType, OPCODE_AUIPC, OPCODE_BRANCH, OPCODE_JAL, OPCODE_JALR,
     OPCODE_LOAD, OPCODE_LUI, OPCODE_MISC_MEM, OPCODE_OP, OPCODE_OP_IMM, OPCODE_STORE,
     OPCODE_SYSTEM, RType, SType, UType,
 };
+use crate::{InstructionHandler, InstructionProcessor};
 
 /// The instruction that a word is, or `None` where it is none of the table.
 ///
@@ -38,180 +38,22 @@ pub fn decode(word: u32) -> Option<Instruction>
     ensures only { IfSome result (λ instruction. (row : Row) (f : Fields) → Decodes word row f
         → (row ≡ row_of instruction) × (f ≡ fields_of instruction)) }
 {
-    decode_opcode(word)
+    process_instruction(&mut Decoder, word)
 }
 
-/// The instruction that a word is, by its opcode.
-#[inline(always)]
-fn decode_opcode(word: u32) -> Option<Instruction>
-    ensures { IsDecoded word result }
-{
-    match word & 0x7f {
-        OPCODE_OP => decode_op(word),
-        OPCODE_OP_IMM => decode_op_imm(word),
-        OPCODE_LUI => Some(Instruction::Lui(UType::new(word))),
-        OPCODE_AUIPC => Some(Instruction::Auipc(UType::new(word))),
-        OPCODE_BRANCH => decode_branch(word),
-        OPCODE_LOAD => decode_load(word),
-        OPCODE_STORE => decode_store(word),
-        OPCODE_JAL => Some(Instruction::Jal(JType::new(word))),
-        OPCODE_JALR => decode_jalr(word),
-        OPCODE_MISC_MEM => decode_misc_mem(word),
-        OPCODE_SYSTEM => decode_system(word),
-        _ => None,
-    }
-}
+/// A handler that answers with the instruction.
+#[derive(Drop)]
+struct Decoder;
 
-/// The operation on two registers that a word is, or `None` where it is none.
-#[inline(always)]
-fn decode_op(word: u32) -> Option<Instruction>
-    requires { word % 128 ≡ 0x33 }
-    ensures { IsDecoded word result }
-{
-    let dec_insn = RType::new(word);
-    match (dec_insn.funct7, dec_insn.funct3) {
-        (0, 0) => Some(Instruction::Add(dec_insn)),
-        (0, 1) => Some(Instruction::Sll(dec_insn)),
-        (0, 2) => Some(Instruction::Slt(dec_insn)),
-        (0, 3) => Some(Instruction::Sltu(dec_insn)),
-        (0, 4) => Some(Instruction::Xor(dec_insn)),
-        (0, 5) => Some(Instruction::Srl(dec_insn)),
-        (0, 6) => Some(Instruction::Or(dec_insn)),
-        (0, 7) => Some(Instruction::And(dec_insn)),
-        (0x20, 0) => Some(Instruction::Sub(dec_insn)),
-        (0x20, 5) => Some(Instruction::Sra(dec_insn)),
-        (1, 0) => Some(Instruction::Mul(dec_insn)),
-        (1, 1) => Some(Instruction::Mulh(dec_insn)),
-        (1, 2) => Some(Instruction::Mulhsu(dec_insn)),
-        (1, 3) => Some(Instruction::Mulhu(dec_insn)),
-        (1, 4) => Some(Instruction::Div(dec_insn)),
-        (1, 5) => Some(Instruction::Divu(dec_insn)),
-        (1, 6) => Some(Instruction::Rem(dec_insn)),
-        (1, 7) => Some(Instruction::Remu(dec_insn)),
-        _ => None,
-    }
-}
+impl InstructionHandler for Decoder {
+    type Answer = Instruction;
 
-/// The operation on a register and an immediate that a word is, or `None` where it is none.
-#[inline(always)]
-fn decode_op_imm(word: u32) -> Option<Instruction>
-    requires { word % 128 ≡ 0x13 }
-    ensures { IsDecoded word result }
-{
-    let dec_insn = IType::new(word);
-    match dec_insn.funct3 {
-        0 => Some(Instruction::Addi(dec_insn)),
-        1 => {
-            let dec_insn = ITypeShamt::new(word);
-            match dec_insn.funct7 {
-                0 => Some(Instruction::Slli(dec_insn)),
-                _ => None,
-            }
-        }
-        2 => Some(Instruction::Slti(dec_insn)),
-        3 => Some(Instruction::Sltiu(dec_insn)),
-        4 => Some(Instruction::Xori(dec_insn)),
-        5 => {
-            let dec_insn = ITypeShamt::new(word);
-            match dec_insn.funct7 {
-                0 => Some(Instruction::Srli(dec_insn)),
-                0x20 => Some(Instruction::Srai(dec_insn)),
-                _ => None,
-            }
-        }
-        6 => Some(Instruction::Ori(dec_insn)),
-        7 => Some(Instruction::Andi(dec_insn)),
-        _ => None,
-    }
-}
+    ghost did = { λ row f old new instruction.
+        (row ≡ row_of instruction) × (f ≡ fields_of instruction) };
 
-/// The branch that a word is, or `None` where it is none.
-#[inline(always)]
-fn decode_branch(word: u32) -> Option<Instruction>
-    requires { word % 128 ≡ 0x63 }
-    ensures { IsDecoded word result }
-{
-    let dec_insn = BType::new(word);
-    match dec_insn.funct3 {
-        0 => Some(Instruction::Beq(dec_insn)),
-        1 => Some(Instruction::Bne(dec_insn)),
-        4 => Some(Instruction::Blt(dec_insn)),
-        5 => Some(Instruction::Bge(dec_insn)),
-        6 => Some(Instruction::Bltu(dec_insn)),
-        7 => Some(Instruction::Bgeu(dec_insn)),
-        _ => None,
-    }
-}
-
-/// The load that a word is, or `None` where it is none.
-#[inline(always)]
-fn decode_load(word: u32) -> Option<Instruction>
-    requires { word % 128 ≡ 0x03 }
-    ensures { IsDecoded word result }
-{
-    let dec_insn = IType::new(word);
-    match dec_insn.funct3 {
-        0 => Some(Instruction::Lb(dec_insn)),
-        1 => Some(Instruction::Lh(dec_insn)),
-        2 => Some(Instruction::Lw(dec_insn)),
-        4 => Some(Instruction::Lbu(dec_insn)),
-        5 => Some(Instruction::Lhu(dec_insn)),
-        _ => None,
-    }
-}
-
-/// The store that a word is, or `None` where it is none.
-#[inline(always)]
-fn decode_store(word: u32) -> Option<Instruction>
-    requires { word % 128 ≡ 0x23 }
-    ensures { IsDecoded word result }
-{
-    let dec_insn = SType::new(word);
-    match dec_insn.funct3 {
-        0 => Some(Instruction::Sb(dec_insn)),
-        1 => Some(Instruction::Sh(dec_insn)),
-        2 => Some(Instruction::Sw(dec_insn)),
-        _ => None,
-    }
-}
-
-/// The `jalr` that a word is, or `None` for another funct3.
-#[inline(always)]
-fn decode_jalr(word: u32) -> Option<Instruction>
-    requires { word % 128 ≡ 0x67 }
-    ensures { IsDecoded word result }
-{
-    let dec_insn = IType::new(word);
-    match dec_insn.funct3 {
-        0 => Some(Instruction::Jalr(dec_insn)),
-        _ => None,
-    }
-}
-
-/// The `fence` that a word is, or `None` for another funct3.
-#[inline(always)]
-fn decode_misc_mem(word: u32) -> Option<Instruction>
-    requires { word % 128 ≡ 0x0f }
-    ensures { IsDecoded word result }
-{
-    let dec_insn = IType::new(word);
-    match dec_insn.funct3 {
-        0 => Some(Instruction::Fence(dec_insn)),
-        _ => None,
-    }
-}
-
-/// The `ecall` or `ebreak` that a word is, or `None` for any other SYSTEM word.
-#[inline(always)]
-fn decode_system(word: u32) -> Option<Instruction>
-    requires { word % 128 ≡ 0x73 }
-    ensures { IsDecoded word result }
-{
-    let dec_insn = IType::new(word);
-    match (dec_insn.rd, dec_insn.funct3, dec_insn.rs1, dec_insn.imm) {
-        (0, 0, 0, 0) => Some(Instruction::Ecall(dec_insn)),
-        (0, 0, 0, 1) => Some(Instruction::Ebreak(dec_insn)),
-        _ => None,
+    #[inline(always)]
+    fn handle(&mut self, instruction: &Instruction) -> Instruction {
+        *instruction
     }
 }
 
@@ -239,6 +81,7 @@ fn decode_system(word: u32) -> Option<Instruction>
 /// assert_eq!(rt; text.as_str(), "beq x1, x2, 0x00000108");
 /// assert!(rt; process_instruction(&mut outputter, 0xffff_ffff).is_none());
 /// ```
+#[inline(always)]
 pub fn process_instruction<T: InstructionProcessor>(
     processor: &mut T,
     insn_bits: u32,
@@ -251,6 +94,193 @@ pub fn process_instruction<T: InstructionProcessor>(
     ensures unchanged { IfNone result (processor.new ≡ processor.old) }
     ensures unique { IsOneRowAtMost insn_bits }
 {
-    let instruction = decode(insn_bits)?;
-    Some(instruction.process(processor))
+    hand_opcode(processor, insn_bits)
+}
+/// Hands a word to the function of its row, by its opcode.
+#[inline(always)]
+fn hand_opcode<T: InstructionProcessor>(
+    processor: &mut T,
+    word: u32,
+) -> Option<T::InstructionResult>
+    ensures { IsHanded T.did word processor.old processor.new result }
+{
+    match word & 0x7f {
+        OPCODE_OP => hand_op(processor, word),
+        OPCODE_OP_IMM => hand_op_imm(processor, word),
+        OPCODE_LUI => Some(processor.process_lui(UType::new(word))),
+        OPCODE_AUIPC => Some(processor.process_auipc(UType::new(word))),
+        OPCODE_BRANCH => hand_branch(processor, word),
+        OPCODE_LOAD => hand_load(processor, word),
+        OPCODE_STORE => hand_store(processor, word),
+        OPCODE_JAL => Some(processor.process_jal(JType::new(word))),
+        OPCODE_JALR => hand_jalr(processor, word),
+        OPCODE_MISC_MEM => hand_misc_mem(processor, word),
+        OPCODE_SYSTEM => hand_system(processor, word),
+        _ => None,
+    }
+}
+
+/// Hands the operation on two registers that a word is to its function, or gives `None` where it is none.
+#[inline(always)]
+fn hand_op<T: InstructionProcessor>(processor: &mut T, word: u32) -> Option<T::InstructionResult>
+    requires { word % 128 ≡ 0x33 }
+    ensures { IsHanded T.did word processor.old processor.new result }
+{
+    let dec_insn = RType::new(word);
+    match (dec_insn.funct7, dec_insn.funct3) {
+        (0, 0) => Some(processor.process_add(dec_insn)),
+        (0, 1) => Some(processor.process_sll(dec_insn)),
+        (0, 2) => Some(processor.process_slt(dec_insn)),
+        (0, 3) => Some(processor.process_sltu(dec_insn)),
+        (0, 4) => Some(processor.process_xor(dec_insn)),
+        (0, 5) => Some(processor.process_srl(dec_insn)),
+        (0, 6) => Some(processor.process_or(dec_insn)),
+        (0, 7) => Some(processor.process_and(dec_insn)),
+        (0x20, 0) => Some(processor.process_sub(dec_insn)),
+        (0x20, 5) => Some(processor.process_sra(dec_insn)),
+        (1, 0) => Some(processor.process_mul(dec_insn)),
+        (1, 1) => Some(processor.process_mulh(dec_insn)),
+        (1, 2) => Some(processor.process_mulhsu(dec_insn)),
+        (1, 3) => Some(processor.process_mulhu(dec_insn)),
+        (1, 4) => Some(processor.process_div(dec_insn)),
+        (1, 5) => Some(processor.process_divu(dec_insn)),
+        (1, 6) => Some(processor.process_rem(dec_insn)),
+        (1, 7) => Some(processor.process_remu(dec_insn)),
+        _ => None,
+    }
+}
+
+/// Hands the operation on a register and an immediate that a word is to its function, or gives `None` where it is none.
+#[inline(always)]
+fn hand_op_imm<T: InstructionProcessor>(
+    processor: &mut T,
+    word: u32,
+) -> Option<T::InstructionResult>
+    requires { word % 128 ≡ 0x13 }
+    ensures { IsHanded T.did word processor.old processor.new result }
+{
+    let dec_insn = IType::new(word);
+    match dec_insn.funct3 {
+        0 => Some(processor.process_addi(dec_insn)),
+        1 => {
+            let dec_insn = ITypeShamt::new(word);
+            match dec_insn.funct7 {
+                0 => Some(processor.process_slli(dec_insn)),
+                _ => None,
+            }
+        }
+        2 => Some(processor.process_slti(dec_insn)),
+        3 => Some(processor.process_sltui(dec_insn)),
+        4 => Some(processor.process_xori(dec_insn)),
+        5 => {
+            let dec_insn = ITypeShamt::new(word);
+            match dec_insn.funct7 {
+                0 => Some(processor.process_srli(dec_insn)),
+                0x20 => Some(processor.process_srai(dec_insn)),
+                _ => None,
+            }
+        }
+        6 => Some(processor.process_ori(dec_insn)),
+        7 => Some(processor.process_andi(dec_insn)),
+        _ => None,
+    }
+}
+
+/// Hands the branch that a word is to its function, or gives `None` where it is none.
+#[inline(always)]
+fn hand_branch<T: InstructionProcessor>(
+    processor: &mut T,
+    word: u32,
+) -> Option<T::InstructionResult>
+    requires { word % 128 ≡ 0x63 }
+    ensures { IsHanded T.did word processor.old processor.new result }
+{
+    let dec_insn = BType::new(word);
+    match dec_insn.funct3 {
+        0 => Some(processor.process_beq(dec_insn)),
+        1 => Some(processor.process_bne(dec_insn)),
+        4 => Some(processor.process_blt(dec_insn)),
+        5 => Some(processor.process_bge(dec_insn)),
+        6 => Some(processor.process_bltu(dec_insn)),
+        7 => Some(processor.process_bgeu(dec_insn)),
+        _ => None,
+    }
+}
+
+/// Hands the load that a word is to its function, or gives `None` where it is none.
+#[inline(always)]
+fn hand_load<T: InstructionProcessor>(processor: &mut T, word: u32) -> Option<T::InstructionResult>
+    requires { word % 128 ≡ 0x03 }
+    ensures { IsHanded T.did word processor.old processor.new result }
+{
+    let dec_insn = IType::new(word);
+    match dec_insn.funct3 {
+        0 => Some(processor.process_lb(dec_insn)),
+        1 => Some(processor.process_lh(dec_insn)),
+        2 => Some(processor.process_lw(dec_insn)),
+        4 => Some(processor.process_lbu(dec_insn)),
+        5 => Some(processor.process_lhu(dec_insn)),
+        _ => None,
+    }
+}
+
+/// Hands the store that a word is to its function, or gives `None` where it is none.
+#[inline(always)]
+fn hand_store<T: InstructionProcessor>(processor: &mut T, word: u32) -> Option<T::InstructionResult>
+    requires { word % 128 ≡ 0x23 }
+    ensures { IsHanded T.did word processor.old processor.new result }
+{
+    let dec_insn = SType::new(word);
+    match dec_insn.funct3 {
+        0 => Some(processor.process_sb(dec_insn)),
+        1 => Some(processor.process_sh(dec_insn)),
+        2 => Some(processor.process_sw(dec_insn)),
+        _ => None,
+    }
+}
+
+/// Hands the `jalr` that a word is to its function, or gives `None` for another funct3.
+#[inline(always)]
+fn hand_jalr<T: InstructionProcessor>(processor: &mut T, word: u32) -> Option<T::InstructionResult>
+    requires { word % 128 ≡ 0x67 }
+    ensures { IsHanded T.did word processor.old processor.new result }
+{
+    let dec_insn = IType::new(word);
+    match dec_insn.funct3 {
+        0 => Some(processor.process_jalr(dec_insn)),
+        _ => None,
+    }
+}
+
+/// Hands the `fence` that a word is to its function, or gives `None` for another funct3.
+#[inline(always)]
+fn hand_misc_mem<T: InstructionProcessor>(
+    processor: &mut T,
+    word: u32,
+) -> Option<T::InstructionResult>
+    requires { word % 128 ≡ 0x0f }
+    ensures { IsHanded T.did word processor.old processor.new result }
+{
+    let dec_insn = IType::new(word);
+    match dec_insn.funct3 {
+        0 => Some(processor.process_fence(dec_insn)),
+        _ => None,
+    }
+}
+
+/// Hands the `ecall` or `ebreak` that a word is to its function, or gives `None` for any other SYSTEM word.
+#[inline(always)]
+fn hand_system<T: InstructionProcessor>(
+    processor: &mut T,
+    word: u32,
+) -> Option<T::InstructionResult>
+    requires { word % 128 ≡ 0x73 }
+    ensures { IsHanded T.did word processor.old processor.new result }
+{
+    let dec_insn = IType::new(word);
+    match (dec_insn.rd, dec_insn.funct3, dec_insn.rs1, dec_insn.imm) {
+        (0, 0, 0, 0) => Some(processor.process_ecall(dec_insn)),
+        (0, 0, 0, 1) => Some(processor.process_ebreak(dec_insn)),
+        _ => None,
+    }
 }
