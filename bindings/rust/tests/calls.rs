@@ -50,3 +50,14 @@ fn words_have_fields_and_texts() {
     assert!(decode(0xffff_ffff).is_none() && disassemble(0xffff_ffff, 0).is_none());
     assert_eq!(version(), 256);
 }
+
+#[test]
+fn words_end_with_the_addresses_and_begin_at_a_multiple_of_4() {
+    let mut words = [0x0000_0013; 4]; // addi x0, x0, 0
+    let mut hart = hart_at(0xffff_fff8);
+    let end = hart.run(&mut Memory::new(&mut words, 0xffff_fffb), 9);
+    assert_eq!((end.steps, end.fault, hart.pc), (2, Some(Fault::Fetch(0)), 0));
+    let before = hart_at(0xffff_fff4).step(&mut Memory::new(&mut words, 0xffff_fff8));
+    assert_eq!(before, Err(Fault::Fetch(0xffff_fff4)));
+    assert_eq!(hart_at(0).step(&mut Memory::new(&mut [], 0)), Err(Fault::Fetch(0)));
+}

@@ -1,5 +1,5 @@
 -- What a step retired, as C has it.
-use Rattle.std.specs.Prelude.{◌==◌, if◌then◌else◌, Some, None}
+use Rattle.std.specs.Prelude.{◌≡◌, ◌<◌, ◌==◌, if◌then◌else◌, Some, None}
 use Rattle.rrs_debug.specs.declared.traced.MemoryAccess.{MemoryAccess}
 use Rattle.rrs_debug.specs.declared.retired.Retired.{Retired}
 use Rattle.rrs_c.specs.declared.retired.RrsRetired.{RrsRetired}
@@ -13,6 +13,12 @@ access_in r = record {
   rdata = r.mem_rdata;
   wdata = r.mem_wdata;
 }
+
+-- How a record is written: two flags of 0 or 1, and no word where none was fetched.
+pub record IsRecord (r : RrsRetired) : Type 0 where
+  pub fetched : r.fetched < 2
+  pub trap : r.trap < 2
+  pub insn : r.fetched ≡ 0 → r.insn ≡ 0
 
 -- the kit's record that a record of C is
 abbrev pub retired_in : RrsRetired → Retired

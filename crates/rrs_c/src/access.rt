@@ -1,9 +1,8 @@
 //! The load or the store that an instruction asks for, as C has it.
 
-ghost use Rattle.std.specs.Prelude.{◌≡◌, ◌≢◌, ◌<◌, Ok};
+ghost use Rattle.std.specs.Prelude.{◌≡◌, Ok};
 ghost use Rattle.rrs_lib.specs.Bytes.{width};
-ghost use Rattle.rrs_lib.specs.Accesses.{size_of};
-ghost use Rattle.rrs_c.specs.Asking.{request_of, given};
+ghost use Rattle.rrs_c.specs.Asking.{request_of, IsAccess, given};
 
 use crate::hart::{RrsFault, fault_of};
 use rrs_debug::DataRequest;
@@ -42,9 +41,7 @@ fn bytes_of(size: MemAccessSize) -> u32
 #[inline]
 fn access_of(request: Option<DataRequest>) -> RrsAccess
     ensures same { request_of result ≡ Ok request }
-    ensures kind { result.kind < 3 }
-    ensures size { result.kind ≢ 0 → width (size_of result.size) ≡ result.size }
-    ensures fault { result.fault.kind ≡ 0 }
+    ensures told { IsAccess result }
 {
     let (kind, address, size, value) = match request {
         None => (0, 0, 0, 0),
@@ -66,9 +63,7 @@ pub(crate) fn access_or_fault(
     answer: Result<Option<DataRequest>, InstructionException>,
 ) -> RrsAccess
     ensures same { request_of result ≡ answer }
-    ensures kind { result.kind < 3 }
-    ensures size { result.kind ≢ 0 → width (size_of result.size) ≡ result.size }
-    ensures fault { result.fault.kind < 8 }
+    ensures told { IsAccess result }
 {
     match answer {
         Ok(request) => access_of(request),

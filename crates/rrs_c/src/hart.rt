@@ -2,7 +2,7 @@
 
 ghost use Rattle.std.specs.Prelude.{◌≡◌, ◌<◌, slice_index};
 ghost use Rattle.rrs_lib.specs.Steps.{LastIsRegister};
-ghost use Rattle.rrs_c.specs.Harts.{register_in, hart_in, exception_of, answer_of, reason_of};
+ghost use Rattle.rrs_c.specs.Harts.{register_in, hart_in, exception_of, IsFault, IsEnd, answer_of, reason_of};
 
 use rrs_debug::{StopEnd, StopReason};
 use rrs_lib::HartState;
@@ -91,7 +91,7 @@ pub(crate) fn close(state: &HartState, hart: &mut RrsHart)
 #[inline]
 pub(crate) fn fault_of(exception: Option<InstructionException>) -> RrsFault
     ensures same { exception_of result ≡ exception }
-    ensures kind { result.kind < 8 }
+    ensures told { IsFault result }
 {
     let (kind, address, word) = match exception {
         None => (0, 0, 0),
@@ -114,7 +114,7 @@ pub(crate) fn fault_of(exception: Option<InstructionException>) -> RrsFault
 #[inline]
 pub(crate) fn fault_of_answer(answer: Result<(), InstructionException>) -> RrsFault
     ensures same { answer_of result ≡ answer }
-    ensures kind { result.kind < 8 }
+    ensures told { IsFault result }
 {
     match answer {
         Ok(()) => fault_of(None),
@@ -127,7 +127,7 @@ pub(crate) fn fault_of_answer(answer: Result<(), InstructionException>) -> RrsFa
 pub(crate) fn end_of_run(end: RunEnd) -> RrsEnd
     ensures steps { result.steps ≡ end.steps }
     ensures fault { exception_of result.fault ≡ end.exception }
-    ensures kind { result.fault.kind < 8 }
+    ensures told { IsEnd result }
     ensures no_stop { result.at_stop ≡ 0 }
 {
     let RunEnd { steps, exception } = end;
@@ -143,8 +143,7 @@ pub(crate) fn end_of_run(end: RunEnd) -> RrsEnd
 pub(crate) fn end_of_stop(end: StopEnd) -> RrsEnd
     ensures steps { result.steps ≡ end.steps }
     ensures reason { reason_of result ≡ end.reason }
-    ensures kind { result.fault.kind < 8 }
-    ensures at_stop { result.at_stop < 2 }
+    ensures told { IsEnd result }
 {
     let StopEnd { steps, reason } = end;
     let (exception, at_stop) = match reason {

@@ -17,20 +17,18 @@ mod lent;
 mod retired;
 mod text;
 
-ghost use Rattle.std.specs.Prelude.{◌≡◌, ◌≢◌, ◌<◌, ℕ, List, length, slice_index, OnErr};
+ghost use Rattle.std.specs.Prelude.{◌≡◌, ◌<◌, List, length, slice_index, OnErr};
 ghost use Rattle.rrs_lib.specs.Encodings.{Fields};
 ghost use Rattle.rrs_lib.specs.Table.{Row, Decodes, IsIllegal};
 ghost use Rattle.rrs_lib.specs.Steps.{Step, IsOnlyStep, ChangesLittle, RunUntil, IsOnlyRunUntil, cleared};
 ghost use Rattle.rrs_debug.specs.Retired.{Retires};
 ghost use Rattle.rrs_debug.specs.Stops.{RunsToStop, IsOnlyRunToStop};
-ghost use Rattle.rrs_c.specs.Harts.{hart_in, state_in_c, exception_of, answer_of, reason_of};
+ghost use Rattle.rrs_c.specs.Harts.{hart_in, state_in_c, exception_of, IsFault, IsEnd, answer_of, reason_of};
 ghost use Rattle.rrs_c.specs.Listing.{Lists, no_instruction};
-ghost use Rattle.rrs_c.specs.Records.{retired_in};
+ghost use Rattle.rrs_c.specs.Records.{retired_in, IsRecord};
 ghost use Rattle.rrs_c.specs.Buffers.{Disassembles};
-ghost use Rattle.rrs_lib.specs.Bytes.{width};
-ghost use Rattle.rrs_lib.specs.Accesses.{size_of};
 ghost use Rattle.rrs_debug.specs.Outside.{WithEachMemory, AccessesAfterFetch, requested, Foretells, Completes};
-ghost use Rattle.rrs_c.specs.Asking.{request_of, given};
+ghost use Rattle.rrs_c.specs.Asking.{request_of, IsAccess, given};
 
 use access::{RrsAccess, access_or_fault, given_by};
 use hart::{RrsEnd, RrsFault, RrsHart, close, end_of_run, end_of_stop, fault_of_answer, opened};
@@ -66,7 +64,7 @@ pub extern "C" fn rrs_step(hart: &mut RrsHart, words: &mut [u32], base: u32) -> 
         ≡ cleared (state_in_c hart.old base words.old)) }
     ensures little { ChangesLittle (state_in_c hart.old base words.old)
         (state_in_c hart.new base words.new) }
-    ensures kind { result.kind < 8 }
+    ensures told { IsFault result }
     ensures last { hart.new.last < 32 }
     ensures entry_zero { slice_index hart.new.x 0 ≡ slice_index hart.old.x 0 }
 {
@@ -84,7 +82,7 @@ pub extern "C" fn rrs_run(hart: &mut RrsHart, words: &mut [u32], base: u32, limi
         result.steps (exception_of result.fault) (state_in_c hart.new base words.new) }
     ensures only { IsOnlyRunUntil limit (state_in_c hart.old base words.old)
         result.steps (exception_of result.fault) (state_in_c hart.new base words.new) }
-    ensures kind { result.fault.kind < 8 }
+    ensures told { IsEnd result }
     ensures no_stop { result.at_stop ≡ 0 }
     ensures last { hart.new.last < 32 }
     ensures entry_zero { slice_index hart.new.x 0 ≡ slice_index hart.old.x 0 }
@@ -109,8 +107,7 @@ pub extern "C" fn rrs_run_until(
         result.steps (reason_of result) (state_in_c hart.new base words.new) }
     ensures only { IsOnlyRunToStop stops.now limit (state_in_c hart.old base words.old)
         result.steps (reason_of result) (state_in_c hart.new base words.new) }
-    ensures kind { result.fault.kind < 8 }
-    ensures at_stop { result.at_stop < 2 }
+    ensures told { IsEnd result }
     ensures last { hart.new.last < 32 }
     ensures entry_zero { slice_index hart.new.x 0 ≡ slice_index hart.old.x 0 }
 {
@@ -136,7 +133,8 @@ pub extern "C" fn rrs_step_rvfi(
         (state_in_c hart.new base words.new) (answer_of result) }
     ensures retires { Retires order (state_in_c hart.old base words.old)
         (state_in_c hart.new base words.new) (answer_of result) (retired_in retired.new) }
-    ensures kind { result.kind < 8 }
+    ensures record { IsRecord retired.new }
+    ensures told { IsFault result }
     ensures last { hart.new.last < 32 }
     ensures entry_zero { slice_index hart.new.x 0 ≡ slice_index hart.old.x 0 }
 {
@@ -184,9 +182,7 @@ pub extern "C" fn rrs_request(hart: &RrsHart, word: u32) -> RrsAccess
         AccessesAfterFetch s (requested s (request_of result))) }
     ensures foretold { WithEachMemory (hart_in hart.now) word (λ s.
         Foretells s (request_of result)) }
-    ensures kind { result.kind < 3 }
-    ensures size { result.kind ≢ 0 → width (size_of result.size) ≡ result.size }
-    ensures fault { result.fault.kind < 8 }
+    ensures told { IsAccess result }
 {
     access_or_fault(request(&opened(hart), word))
 }
@@ -198,7 +194,7 @@ pub extern "C" fn rrs_request(hart: &RrsHart, word: u32) -> RrsAccess
 pub extern "C" fn rrs_complete(hart: &mut RrsHart, word: u32, granted: u32, value: u32) -> RrsFault
     ensures step { Completes (hart_in hart.old) (hart_in hart.new) word (given granted value)
         (answer_of result) }
-    ensures kind { result.kind < 8 }
+    ensures told { IsFault result }
     ensures last { hart.new.last < 32 }
     ensures entry_zero { slice_index hart.new.x 0 ≡ slice_index hart.old.x 0 }
 {

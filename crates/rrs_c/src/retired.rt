@@ -2,7 +2,7 @@
 
 ghost use Rattle.std.specs.Prelude.{◌≡◌, ◌<◌, ◌==◌, Some, None, if◌then◌else◌};
 ghost use Rattle.rrs_debug.specs.Retired.{HasRegisterNumbers};
-ghost use Rattle.rrs_c.specs.Records.{retired_in};
+ghost use Rattle.rrs_c.specs.Records.{retired_in, IsRecord};
 
 use rrs_debug::Retired;
 
@@ -50,6 +50,8 @@ pub struct RrsRetired {
 #[inline]
 fn word_and_flag(word: Option<u32>) -> (u32, u32)
     ensures same { (if result.1 == 1 then Some result.0 else None) ≡ word }
+    ensures flag { result.1 < 2 }
+    ensures none { result.1 ≡ 0 → result.0 ≡ 0 }
 {
     match word {
         Some(word) => (word, 1),
@@ -60,7 +62,8 @@ fn word_and_flag(word: Option<u32>) -> (u32, u32)
 /// 1 where it is true, else 0.
 #[inline]
 fn flag(value: bool) -> u32
-    ensures { (result == 1) ≡ value }
+    ensures same { (result == 1) ≡ value }
+    ensures flag { result < 2 }
 {
     if value { 1 } else { 0 }
 }
@@ -69,7 +72,8 @@ fn flag(value: bool) -> u32
 #[inline]
 pub(crate) fn written_out(retired: &Retired) -> RrsRetired
     requires { HasRegisterNumbers retired.now }
-    ensures { retired_in result ≡ retired.now }
+    ensures same { retired_in result ≡ retired.now }
+    ensures told { IsRecord result }
 {
     let (insn, fetched) = word_and_flag(retired.insn);
     RrsRetired {
