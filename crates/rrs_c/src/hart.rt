@@ -24,8 +24,8 @@ pub struct RrsHart {
 #[repr(C)]
 #[derive(Clone, Copy)]
 pub struct RrsFault {
-    /// 0: no fault, 1: illegal instruction, 2: fetch, 3: load access, 4: store access, 5: alignment,
-    /// 6: environment call, 7: breakpoint.
+    /// 0: no fault, 1: illegal instruction, 2: fetch, 3: load access, 4: store access, 5:
+    /// alignment, 6: environment call, 7: breakpoint.
     pub kind: u32,
     /// The pc, or of a load or a store the data address.
     pub address: u32,

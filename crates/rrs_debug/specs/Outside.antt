@@ -149,7 +149,8 @@ pub record StepsAlone (row : Row) (f : Fields) (s t : State) (answer : StepAnswe
   pub goes : t ≡ advanced after set
   pub answers : answer ≡ answered set
 
--- what an instruction at the program counter asks: the one that was found, with its request, or none
+-- what an instruction at the program counter asks: the one that was found, with its request, or
+-- none
 pub record FindsAccess (s : State) (found : Option (Instruction × DataRequest)) : Type 0 where
   pub stands : IfSome found (λ x. IsSomeAnd (next_word s) (λ w. IsInstruction w x.0))
   pub asks : IfSome found (λ x.

@@ -63,9 +63,9 @@ impl DataRequest {
 /// memory has it; at a pc that is no multiple of 4 it may be any. A word that the caller can't read
 /// is no word: then the step is `FetchError(pc)`, and no call here tells that.
 ///
-/// The clauses, for the hart with each memory that has this word at the pc: the accesses of the step
-/// are the fetch and then this one (`access`); at `Ok(None)` the step is `Ok`, and at an error it is
-/// that fault (`foretold`).
+/// The clauses, for the hart with each memory that has this word at the pc: the accesses of the
+/// step are the fetch and then this one (`access`); at `Ok(None)` the step is `Ok`, and at an error
+/// it is that fault (`foretold`).
 ///
 /// # Errors
 ///
@@ -90,20 +90,20 @@ pub fn request(hart: &HartState, word: u32) -> Result<Option<DataRequest>, Instr
 /// its access.
 ///
 /// `given` is that answer. Of a load it is the value that was read, little-endian, of which the low
-/// bytes count, and which is extended here; or `None` where the load is refused. Of a store that was
-/// carried out it is any value, or `None` where the store is refused. Of an instruction that
+/// bytes count, and which is extended here; or `None` where the load is refused. Of a store that
+/// was carried out it is any value, or `None` where the store is refused. Of an instruction that
 /// accesses nothing, and of one that faults before its access, it is not looked at. The word is as
 /// in [request].
 ///
 /// The clause: with each memory that has this word at the pc, and that answers the access so, this
-/// is the step: its answer, and the hart that it leaves. The bytes are as before, but that those of a
-/// store that was granted are stored. The caller stores them, before the call or after it.
+/// is the step: its answer, and the hart that it leaves. The bytes are as before, but that those of
+/// a store that was granted are stored. The caller stores them, before the call or after it.
 ///
 /// # Errors
 ///
 /// Those of [request], and `LoadAccessFault(address)` or `StoreAccessFault(address)` where nothing
-/// is given to a load or a store. After each the registers and the pc are as before, and no register
-/// is the one written last.
+/// is given to a load or a store. After each the registers and the pc are as before, and no
+/// register is the one written last.
 pub fn complete(
     hart: &mut HartState,
     word: u32,
@@ -122,8 +122,8 @@ pub fn complete(
     }
 }
 
-/// The load or the store at the pc, with its instruction; `None` where there is none, or its address
-/// is not aligned. The word is read as a fetch is.
+/// The load or the store at the pc, with its instruction; `None` where there is none, or its
+/// address is not aligned. The word is read as a fetch is.
 fn access_at_pc<M: Memory>(
     executor: &mut InstructionExecutor<M>,
 ) -> Option<(Instruction, DataRequest)>
@@ -149,8 +149,8 @@ fn access_at_pc<M: Memory>(
 /// given it, and returns whether there is one.
 ///
 /// The low bytes of the value are extended as the load says and go to its register, and the pc goes
-/// on by 4. So a run that ended with `LoadAccessFault(address)` goes on behind the load. The word at
-/// the pc is read from the memory, as a fetch is, and nothing else is accessed. The answer is
+/// on by 4. So a run that ended with `LoadAccessFault(address)` goes on behind the load. The word
+/// at the pc is read from the memory, as a fetch is, and nothing else is accessed. The answer is
 /// `false`, and the hart is as before, where there is no word at the pc, it is no load, or the
 /// address of the load is no multiple of its size.
 pub fn complete_load<M: Memory>(executor: &mut InstructionExecutor<M>, value: u32) -> bool
@@ -182,9 +182,9 @@ pub fn complete_load<M: Memory>(executor: &mut InstructionExecutor<M>, value: u3
 /// one.
 ///
 /// Where and what it stores is told by [request], for the word at the pc. Nothing is stored in the
-/// memory; the word at the pc is read from it, as a fetch is. The answer is `false`, and the hart is
-/// as before, where there is no word at the pc, it is no store, or the address of the store is no
-/// multiple of its size.
+/// memory; the word at the pc is read from it, as a fetch is. The answer is `false`, and the hart
+/// is as before, where there is no word at the pc, it is no store, or the address of the store is
+/// no multiple of its size.
 pub fn complete_store<M: Memory>(executor: &mut InstructionExecutor<M>) -> bool
     ensures stored { OnTrue result (StoresElsewhere
         (state_in M.bytes M.writable executor.old) (state_in M.bytes M.writable executor.new)) }
@@ -214,7 +214,8 @@ pub fn complete_store<M: Memory>(executor: &mut InstructionExecutor<M>) -> bool
 fn load_request(hart: &HartState, fields: IType, size: MemAccessSize) -> DataRequest
     requires { fields.rs1 < 32 }
     ensures { (bytes : ByteMap) (writable : ℕ → Bool) → result
-        ≡ DataRequest.Load (plus_immediate (reg (state_of hart.now bytes writable) fields.rs1) fields.imm) size }
+        ≡ DataRequest.Load
+        (plus_immediate (reg (state_of hart.now bytes writable) fields.rs1) fields.imm) size }
 {
     let base = hart.read_register(fields.rs1);
     DataRequest::Load(arithmetic::plus_immediate(base, fields.imm), size)
@@ -226,7 +227,8 @@ fn store_request(hart: &HartState, fields: SType, size: MemAccessSize) -> DataRe
     requires first { fields.rs1 < 32 }
     requires second { fields.rs2 < 32 }
     ensures { (bytes : ByteMap) (writable : ℕ → Bool) → result
-        ≡ DataRequest.Store (plus_immediate (reg (state_of hart.now bytes writable) fields.rs1) fields.imm)
+        ≡ DataRequest.Store
+        (plus_immediate (reg (state_of hart.now bytes writable) fields.rs1) fields.imm)
         size (reg (state_of hart.now bytes writable) fields.rs2) }
 {
     let base = hart.read_register(fields.rs1);

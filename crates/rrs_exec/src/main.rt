@@ -1,9 +1,9 @@
 //! Runs a file's bytes as a program that makes system calls of Linux.
 //!
 //! `rrs-exec FILE LIMIT` puts the bytes of FILE at address 0 of a memory of 1 MiB on, starts a hart
-//! there, with sp (x2) at the end of the memory, and makes at most LIMIT steps, of which each system
-//! call is one. The program reads standard input, and writes standard output and standard error,
-//! and its status is that of `rrs-exec`. A word of the command line that is not UTF-8, the
+//! there, with sp (x2) at the end of the memory, and makes at most LIMIT steps, of which each
+//! system call is one. The program reads standard input, and writes standard output and standard
+//! error, and its status is that of `rrs-exec`. A word of the command line that is not UTF-8, the
 //! program's own name among them, counts as a wrong argument.
 
 #![tactic(auto)]

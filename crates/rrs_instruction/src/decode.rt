@@ -120,7 +120,8 @@ fn hand_opcode<T: InstructionProcessor>(
     }
 }
 
-/// Hands the operation on two registers that a word is to its function, or gives `None` where it is none.
+/// Hands the operation on two registers that a word is to its function, or gives `None` where it is
+/// none.
 #[inline(always)]
 fn hand_op<T: InstructionProcessor>(processor: &mut T, word: u32) -> Option<T::InstructionResult>
     requires { word % 128 ≡ 0x33 }
@@ -150,7 +151,8 @@ fn hand_op<T: InstructionProcessor>(processor: &mut T, word: u32) -> Option<T::I
     }
 }
 
-/// Hands the operation on a register and an immediate that a word is to its function, or gives `None` where it is none.
+/// Hands the operation on a register and an immediate that a word is to its function, or gives
+/// `None` where it is none.
 #[inline(always)]
 fn hand_op_imm<T: InstructionProcessor>(
     processor: &mut T,
@@ -268,7 +270,8 @@ fn hand_misc_mem<T: InstructionProcessor>(
     }
 }
 
-/// Hands the `ecall` or `ebreak` that a word is to its function, or gives `None` for any other SYSTEM word.
+/// Hands the `ecall` or `ebreak` that a word is to its function, or gives `None` for any other
+/// SYSTEM word.
 #[inline(always)]
 fn hand_system<T: InstructionProcessor>(
     processor: &mut T,
