@@ -9,7 +9,7 @@ use Rattle.rrs_lib.specs.AccessLists.{Makes}
 use Rattle.rrs_lib.specs.Loading.{Loaded, byte_writes, WritesEachByte}
 use Rattle.rrs_served.specs.Serving.{MakesSome}
 use Rattle.rrs_linux.specs.Requests.{error}
-use Rattle.rrs_linux.specs.Transfers.{ReadEnds, IsGiven, IsRefused, HasFailed, ReadsText, counted, most_bytes}
+use Rattle.rrs_linux.specs.Transfers.{ReadEnds, IsGiven, IsRefused, HasFailed, ReadsText, IsNext, counted, most_bytes}
 
 -- ---- lists
 
@@ -34,6 +34,18 @@ range_skipped xs s e n within =
 pub no_length : (xs : List ℕ) → length xs ≡ 0 → xs ≡ []
 no_length [] e = refl
 no_length (x ∷ xs) e = absurd (omega (arith, e))
+
+next_of : (byte : ℕ) (rest : List ℕ) (left : Option (List ℕ)) → IsNext byte (prepend_known (byte ∷ rest) left)
+next_of byte rest None = tt
+next_of byte rest (Some xs) = refl
+
+-- the byte behind what a list begins with is the next
+pub is_next : (all text rest : List ℕ) (byte n m : ℕ) (left : Option (List ℕ)) → take n all ≡ (text ++ byte ∷ []) ++ rest → m ≡ length text → IsNext byte (prepend_known (drop m all) left)
+is_next all text rest byte n m left is long =
+    let parts : all ≡ text ++ ((byte ∷ rest) ++ drop n all) = sym (take-append-drop n all) ∙ ap (λ l. l ++ drop n all) (is ∙ append_assoc text (byte ∷ []) rest) ∙ append_assoc text (byte ∷ rest) (drop n all) in
+    let behind : drop m all ≡ (byte ∷ rest) ++ drop n all = ap (drop m) parts ∙ drop_at text ((byte ∷ rest) ++ drop n all) m (sym long) in
+    let P : List ℕ → Type 0 = λ l. IsNext byte (prepend_known l left) in
+    subst P (sym behind) (next_of byte (rest ++ drop n all) left)
 
 -- ---- what is left of the input
 
@@ -87,13 +99,13 @@ one_more_held most text rest whole held byte same is =
     omega (arith, long, short)
 
 -- bytes were given, or the first of them could not be read
-passed_ends : (writable : ℕ → Bool) (a asked : ℕ) (left : Option (List ℕ)) (text : List ℕ) (n : ℕ) → n ≡ length text → length text ≤ min asked most_bytes → ReadEnds writable a asked text left (byte_writes writable a text) (counted n (error 5))
-passed_ends writable a asked left [] n long within =
+passed_ends : (writable : ℕ → Bool) (a asked : ℕ) (left : Option (List ℕ)) (text : List ℕ) (n : ℕ) → n ≡ length text → length text ≤ min asked most_bytes → a + asked ≤ 2 ^ 32 → ReadEnds writable a asked text left (byte_writes writable a text) (counted n (error 5))
+passed_ends writable a asked left [] n long within fits =
     let P : ℕ → Type 0 = λ k. ReadEnds writable a asked [] left [] (counted k (error 5)) in
-    subst P (sym long) (HasFailed refl refl refl)
-passed_ends writable a asked left (x ∷ text) n long within =
+    subst P (sym long) (HasFailed fits refl refl refl)
+passed_ends writable a asked left (x ∷ text) n long within fits =
     let P : ℕ → Type 0 = λ k. ReadEnds writable a asked (x ∷ text) left (byte_writes writable a (x ∷ text)) (counted k (error 5)) in
-    subst P (sym long) (IsGiven (omega arith) within refl refl)
+    subst P (sym long) (IsGiven fits (omega arith) within refl refl)
 
 module _ {M : Type 0} (reads : M → ℕ → MemAccessSize → M → Option ℕ → Type 0) (writes : M → ℕ → MemAccessSize → ℕ → M → Bool → Type 0) where
   -- nothing was placed
@@ -105,10 +117,10 @@ module _ {M : Type 0} (reads : M → ℕ → MemAccessSize → M → Option ℕ 
   }
 
   -- all of a part of what is held was placed, or less where it could not be read
-  pub all_placed : (writable : ℕ → Bool) (bytes bytes' : ByteMap) (a asked count most n : ℕ) (held rest : List ℕ) (left : Option (List ℕ)) (old new : M) → count ≡ min asked most_bytes → most ≤ count → most ≤ length held → n ≡ most - length rest
+  pub all_placed : (writable : ℕ → Bool) (bytes bytes' : ByteMap) (a asked count most n : ℕ) (held rest : List ℕ) (left : Option (List ℕ)) (old new : M) → count ≡ min asked most_bytes → most ≤ count → most ≤ length held → n ≡ most - length rest → a + asked ≤ 2 ^ 32
       → (text : List ℕ) → Loaded bytes bytes' writable a text → take most held ≡ text ++ rest → WritesEachByte reads writes (Some (take most held)) (Some rest) old new writable a
       → MakesSome reads writes (ReadsText writable bytes bytes' a asked (prepend_known held left) (prepend_known (drop n held) left) (counted n (error 5))) old new
-  all_placed writable bytes bytes' a asked count most n held rest left old new bound below enough passed text loaded is wrote =
+  all_placed writable bytes bytes' a asked count most n held rest left old new bound below enough passed fits text loaded is wrote =
       let same : wrote.input ≡ text = append_cancel_right wrote.input text rest (sym wrote.consumed ∙ is) in
       let P : List ℕ → Type 0 = λ l. Makes reads writes (byte_writes writable a l) old new in
       let whole : length (take most held) ≡ most = length-take-le most held enough in
@@ -120,16 +132,16 @@ module _ {M : Type 0} (reads : M → ℕ → MemAccessSize → M → Option ℕ 
           text = text;
           loaded = loaded;
           consumed = held_given held (drop n held) text left (left_behind held text rest most n is long);
-          ended = passed_ends writable a asked (prepend_known (drop n held) left) text n long (omega (arith, bound, below, parts));
+          ended = passed_ends writable a asked (prepend_known (drop n held) left) text n long (omega (arith, bound, below, parts)) fits;
         };
         made = subst P same wrote.made;
       }
 
   -- the byte behind those that were placed was refused
-  pub some_placed : (writable : ℕ → Bool) (bytes bytes' : ByteMap) (a asked count most n refused byte : ℕ) (held rest : List ℕ) (left : Option (List ℕ)) (old new : M) → count ≡ min asked most_bytes → most ≤ count → most ≤ length held → n ≡ refused - a
+  pub some_placed : (writable : ℕ → Bool) (bytes bytes' : ByteMap) (a asked count most n refused byte : ℕ) (held rest : List ℕ) (left : Option (List ℕ)) (old new : M) → count ≡ min asked most_bytes → most ≤ count → most ≤ length held → n ≡ refused - a → a + asked ≤ 2 ^ 32
       → (text : List ℕ) → Loaded bytes bytes' writable a text → refused ≡ a + length text → writable refused ≡ false → take most held ≡ (text ++ byte ∷ []) ++ rest → WritesEachByte reads writes (Some (take most held)) (Some rest) old new writable a
       → MakesSome reads writes (ReadsText writable bytes bytes' a asked (prepend_known held left) (prepend_known (drop n held) left) (counted n (error 14))) old new
-  some_placed writable bytes bytes' a asked count most n refused byte held rest left old new bound below enough passed text loaded there not_writable is wrote =
+  some_placed writable bytes bytes' a asked count most n refused byte held rest left old new bound below enough passed fits text loaded there not_writable is wrote =
       let same : wrote.input ≡ text ++ byte ∷ [] = append_cancel_right wrote.input (text ++ byte ∷ []) rest (sym wrote.consumed ∙ is) in
       let P : List ℕ → Type 0 = λ l. Makes reads writes (byte_writes writable a l) old new in
       let whole : length (take most held) ≡ most = length-take-le most held enough in
@@ -142,7 +154,7 @@ module _ {M : Type 0} (reads : M → ℕ → MemAccessSize → M → Option ℕ 
           text = text;
           loaded = loaded;
           consumed = held_given held (drop n held) text left (left_behind held text (byte ∷ rest) most n (is ∙ append_assoc text (byte ∷ []) rest) long);
-          ended = IsRefused byte (omega (arith, bound, below, parts)) (ap writable (sym there) ∙ not_writable) refl (ap (λ k. counted k (error 14)) long);
+          ended = IsRefused byte fits (omega (arith, bound, below, parts)) (ap writable (sym there) ∙ not_writable) (is_next held text rest byte most n left is long) refl (ap (λ k. counted k (error 14)) long);
         };
         made = subst P same wrote.made;
       }

@@ -63,28 +63,35 @@ pub record WritesText (bytes : ByteMap) (a count : ℕ) (before after : Option (
 
 -- ---- read
 
+-- a byte is the next that the input has, where that is known
+abbrev pub IsNext : ℕ → Option (List ℕ) → Type 0
+IsNext byte None = Unit {0}
+IsNext byte (Some []) = ⊥
+IsNext byte (Some (x ∷ left)) = x ≡ byte
+
 -- How the read to a buffer at a, of a text that was given, ended: what is left of the input, the
 -- accesses, and the answer.
 pub data ReadEnds (writable : ℕ → Bool) (a count : ℕ) (text : List ℕ) (left : Option (List ℕ))
     (accesses : List Access) (answer : ℕ) : Type 0 where
   -- there were bytes, and as many as there were at once are given, up to the count
   IsGiven :
-      0 < length text → length text ≤ min count most_bytes
+      a + count ≤ 2 ^ 32 → 0 < length text → length text ≤ min count most_bytes
       → accesses ≡ byte_writes writable a text → answer ≡ length text
       → ReadEnds writable a count text left accesses answer
   -- there are no more, or none were asked for
   IsNone :
-      text ≡ [] → IsAtEnd left ⊎ (count ≡ 0) → accesses ≡ [] → answer ≡ 0
+      a + count ≤ 2 ^ 32 → text ≡ [] → IsAtEnd left ⊎ (count ≡ 0) → accesses ≡ [] → answer ≡ 0
       → ReadEnds writable a count text left accesses answer
-  -- the next address is not writable: its byte is the next of the input still
+  -- the next address is not writable: the byte for it is the next of the input still
   IsRefused : (byte : ℕ)
-      → length text < min count most_bytes → writable (a + length text) ≡ false
+      → a + count ≤ 2 ^ 32 → length text < min count most_bytes
+      → writable (a + length text) ≡ false → IsNext byte left
       → accesses ≡ byte_writes writable a (text ++ byte ∷ [])
       → answer ≡ counted (length text) (error 14)
       → ReadEnds writable a count text left accesses answer
   -- a read of the input failed
   HasFailed :
-      text ≡ [] → accesses ≡ [] → answer ≡ error 5
+      a + count ≤ 2 ^ 32 → text ≡ [] → accesses ≡ [] → answer ≡ error 5
       → ReadEnds writable a count text left accesses answer
   -- the buffer passes the last address
   PassesEnd :

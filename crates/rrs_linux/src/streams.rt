@@ -161,7 +161,8 @@ fn give<M: Memory>(held: &mut Held, memory: &mut M, address: u32, count: u32) ->
     requires in_range { address + count ≤ 2 ^ 32 }
     requires some { 0 < count }
     requires held { 0 < length (held_bytes held.old) }
-    ensures given { (asked : ℕ) (left : Option (List ℕ)) → count ≡ min asked most_bytes
+    ensures given { (asked : ℕ) (left : Option (List ℕ))
+        → address + asked ≤ 2 ^ 32 → count ≡ min asked most_bytes
         → MakesSome M.reads M.writes
         (ReadsText (M.writable memory.old) (M.bytes memory.old) (M.bytes memory.new) address asked
         (prepend_known (held_bytes held.old) left) (prepend_known (held_bytes held.new) left)

@@ -18,7 +18,7 @@ skip-requires-in-Err-Refused g c =
     omega (arith, more, same, loads.answered.0)
 
 pub returns-in-Err-Refused-clause-given : goal.returns-in-Err-Refused-clause-given
-returns-in-Err-Refused-clause-given g c = λ asked left bound.
+returns-in-Err-Refused-clause-given g c = λ asked left fits bound.
     let memory = g.M.Memory in
     let old = c.args.memory.now in
     let new = c.read_to_memory.new.memory in
@@ -31,11 +31,11 @@ returns-in-Err-Refused-clause-given g c = λ asked left bound.
     let enough : most ≤ length held = omega (arith, c.min-most.ensures, ap length (c.as_slice.ensures ∙ sym c.as_slice-2.ensures)) in
     let given = refused - c.args.address in
     as_held memory.reads memory.writes (memory.writable old) (memory.bytes old) (memory.bytes new) c.args.address asked given (counted given (error 14)) _ held _ _ left old new c.as_slice-2.ensures c.skip-in-Err-Refused.ensures c.answer_of-in-Err-Refused.ensures
-    (some_placed memory.reads memory.writes (memory.writable old) (memory.bytes old) (memory.bytes new) c.args.address asked c.args.count most given refused answered.2.0 held rest left old new bound (omega (arith, c.min-most.ensures)) enough refl
+    (some_placed memory.reads memory.writes (memory.writable old) (memory.bytes old) (memory.bytes new) c.args.address asked c.args.count most given refused answered.2.0 held rest left old new bound (omega (arith, c.min-most.ensures)) enough refl fits
     ensures.loads.input ensures.loads.loaded answered.0 answered.1 answered.2.1 ensures.accesses)
 
 pub returns-in-Err-Reader-clause-given : goal.returns-in-Err-Reader-clause-given
-returns-in-Err-Reader-clause-given g c = λ asked left bound.
+returns-in-Err-Reader-clause-given g c = λ asked left fits bound.
     let memory = g.M.Memory in
     let old = c.args.memory.now in
     let new = c.read_to_memory.new.memory in
@@ -46,11 +46,11 @@ returns-in-Err-Reader-clause-given g c = λ asked left bound.
     let enough : most ≤ length held = omega (arith, c.min-most.ensures, ap length (c.as_slice.ensures ∙ sym c.as_slice-2.ensures)) in
     let given = most - length rest in
     as_held memory.reads memory.writes (memory.writable old) (memory.bytes old) (memory.bytes new) c.args.address asked given (counted given (error 5)) _ held _ _ left old new c.as_slice-2.ensures c.skip-in-Err-Reader.ensures c.answer_of.ensures
-    (all_placed memory.reads memory.writes (memory.writable old) (memory.bytes old) (memory.bytes new) c.args.address asked c.args.count most given held rest left old new bound (omega (arith, c.min-most.ensures)) enough refl
+    (all_placed memory.reads memory.writes (memory.writable old) (memory.bytes old) (memory.bytes new) c.args.address asked c.args.count most given held rest left old new bound (omega (arith, c.min-most.ensures)) enough refl fits
     ensures.loads.input ensures.loads.loaded ensures.loads.answered ensures.accesses)
 
 pub returns-in-Ok-clause-given : goal.returns-in-Ok-clause-given
-returns-in-Ok-clause-given g c = λ asked left bound.
+returns-in-Ok-clause-given g c = λ asked left fits bound.
     let memory = g.M.Memory in
     let old = c.args.memory.now in
     let new = c.read_to_memory.new.memory in
@@ -65,5 +65,5 @@ returns-in-Ok-clause-given g c = λ asked left bound.
     let none : length rest ≡ 0 = ap length ensures.loads.answered.1 in
     let all : most ≡ most - length rest = omega (arith, none) in
     as_held memory.reads memory.writes (memory.writable old) (memory.bytes old) (memory.bytes new) c.args.address asked most (counted most (error 5)) _ held _ _ left old new c.as_slice-2.ensures c.skip.ensures (counted_some most (error 5) some)
-    (all_placed memory.reads memory.writes (memory.writable old) (memory.bytes old) (memory.bytes new) c.args.address asked c.args.count most most held rest left old new bound (omega (arith, c.min-most.ensures)) enough all
+    (all_placed memory.reads memory.writes (memory.writable old) (memory.bytes old) (memory.bytes new) c.args.address asked c.args.count most most held rest left old new bound (omega (arith, c.min-most.ensures)) enough all fits
     ensures.loads.input ensures.loads.loaded ensures.loads.answered.0 ensures.accesses)

@@ -16,7 +16,7 @@ returns-then-count-eq0-clause-read g c =
     let memory = g.M.Memory in
     let none : c.args.count ≡ 0 = omega (arith, c.in-Some.ensures.1, c.if-count-eq0.true) in
     nothing_placed memory.reads memory.writes _ _ c.args.address c.args.count _ _ _ c.args.memory.now (omega (arith, c.ranges.address)) (Consumes-nil _)
-    (IsNone refl (inr none) refl refl)
+    (IsNone c.in-Some.ensures.0 refl (inr none) refl refl)
 
 pub returns-in-Some-eq0-clause-read : goal.returns-in-Some-eq0-clause-read
 returns-in-Some-eq0-clause-read g c =
@@ -25,19 +25,19 @@ returns-in-Some-eq0-clause-read g c =
     let empty = c.if-is_empty.ensures.0 refl in
     let none : held_bytes c.fill.new.self ≡ [] = no_length _ (sym filled.count ∙ c.in-Some-eq0.field-0-test) in
     nothing_placed memory.reads memory.writes _ _ c.args.address c.args.count _ _ _ c.args.memory.now (omega (arith, c.ranges.address)) (held_filled _ _ _ empty filled.kept)
-    (IsNone refl (inl (end_behind _ _ none (filled.end c.in-Some-eq0.field-0-test))) refl refl)
+    (IsNone c.in-Some.ensures.0 refl (inl (end_behind _ _ none (filled.end c.in-Some-eq0.field-0-test))) refl refl)
 
 pub returns-in-None-clause-read : goal.returns-in-None-clause-read
 returns-in-None-clause-read g c =
     let memory = g.M.Memory in
     nothing_placed memory.reads memory.writes _ _ c.args.address c.args.count _ _ _ c.args.memory.now (omega (arith, c.ranges.address)) (held_filled _ _ _ (c.if-is_empty.ensures.0 refl) c.in-None.ensures.kept)
-    (HasFailed refl refl refl)
+    (HasFailed c.in-Some.ensures.0 refl refl refl)
 
 pub returns-in-Some-fill-clause-read : goal.returns-in-Some-fill-clause-read
 returns-in-Some-fill-clause-read g c =
     let memory = g.M.Memory in
     once_filled memory.reads memory.writes _ _ _ c.args.address c.args.count _ _ _ _ c.args.memory.now _ (held_filled _ _ _ (c.if-is_empty.ensures.0 refl) c.in-Some-fill.ensures.kept)
-    (c.give.ensures.given c.args.count (g.R.Read.remaining c.fill.new.input) c.in-Some.ensures.1)
+    (c.give.ensures.given c.args.count (g.R.Read.remaining c.fill.new.input) c.in-Some.ensures.0 c.in-Some.ensures.1)
 
 pub returns-clause-read : goal.returns-clause-read
-returns-clause-read g c = c.give-2.ensures.given c.args.count (g.R.Read.remaining c.args.input.now) c.in-Some.ensures.1
+returns-clause-read g c = c.give-2.ensures.given c.args.count (g.R.Read.remaining c.args.input.now) c.in-Some.ensures.0 c.in-Some.ensures.1
