@@ -175,28 +175,31 @@ fn calls_answer(rt: HostRuntime) -> Result<(), Fail> {
     Ok(())
 }
 
-// What a call answers that writes the bytes at 0 to 299, and how many are written then: the stream
-// takes 256 of them at first, and then the others. The bytes that are written are the first ones.
+// What a program is answered that writes the bytes at 0 to 299, and then each time those that are
+// not written yet: the stream is handed 256 of them at first, and then the others. In the end all
+// are written once, in order, unless it still fails.
 #[test]
 fn writes_that_are_short_or_fail(rt: HostRuntime) -> Result<(), Fail> {
     let fails = Turn::Fails(ErrorKind::StorageFull);
     let waits = Turn::Fails(ErrorKind::Interrupted);
-    let cases: [(&[Turn], u32, usize); 7] = [
-        (&[], 300, 300),
-        (&[fails], EIO, 0),
-        (&[Turn::Takes(0)], EIO, 0),
-        (&[Turn::Takes(7), fails], 7, 7),
-        (&[Turn::Takes(256), fails], 256, 256),
-        (&[Turn::Takes(256), Turn::Takes(1)], 257, 257),
-        (&[waits, Turn::Takes(256), waits], 300, 300),
+    let cases: [(&[Turn], [u32; 3]); 7] = [
+        (&[], [300, 0, 0]),
+        (&[fails], [EIO, 300, 0]),
+        (&[fails, fails, fails], [EIO, EIO, EIO]),
+        (&[Turn::Takes(0), Turn::Takes(7), fails], [EIO, 7, EIO]),
+        (&[Turn::Takes(256), fails], [256, 44, 0]),
+        (&[Turn::Takes(256), Turn::Takes(1)], [257, 43, 0]),
+        (&[waits, Turn::Takes(256), waits], [300, 0, 0]),
     ];
-    for (turns, answer, written) in cases {
+    for (index, (turns, answers)) in cases.iter().enumerate() {
         let mut memory = numbered(rt.alloc())?;
         let mut linux = environment(rt.alloc(), &[], turns);
-        let seen = call(&mut linux, &mut memory, (WRITE, 1, 0, 300));
-        let output = &linux.output.written;
-        let is_right = output.len() == written && counts_from(output, 0);
-        assert!(rt; seen == (None, answer) && is_right, "to answer {answer}");
+        for answer in answers {
+            let done = linux.output.written.len().min(300) as u32;
+            let seen = call(&mut linux, &mut memory, (WRITE, 1, done, 300 - done));
+            let is_right = seen == (None, *answer) && counts_from(&linux.output.written, 0);
+            assert!(rt; is_right, "at {index}");
+        }
     }
     Ok(())
 }
@@ -211,6 +214,7 @@ fn no_byte_of_the_input_is_lost(rt: HostRuntime) -> Result<(), Fail> {
         Turn::Fails(ErrorKind::Interrupted),
         Turn::Takes(20),
         Turn::Fails(ErrorKind::StorageFull),
+        Turn::Fails(ErrorKind::StorageFull),
     ];
     let mut memory = numbered(rt.alloc())?;
     let mut linux = environment(rt.alloc(), &turns, &[]);
@@ -221,6 +225,7 @@ fn no_byte_of_the_input_is_lost(rt: HostRuntime) -> Result<(), Fail> {
         (292, 40, 8),
         (5, 1, 1),
         (6, 40, 3),
+        (9, 40, EIO),
         (9, 40, EIO),
         (9, 40, 40),
         (49, 300, 35),

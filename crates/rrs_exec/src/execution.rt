@@ -18,9 +18,9 @@ use std::io::{Read, Write};
 const WORDS: usize = 262_144;
 /// The address behind the memory, where sp starts.
 const MEMORY_END: u32 = 0x0010_0000;
-/// Where a program's break starts, and where its heap ends at most.
+/// Where a program's break starts.
 pub const HEAP_START: u32 = 0x0008_0000;
-/// The highest break of a program.
+/// The highest break of a program. What lies above is for its stack.
 pub const HEAP_END: u32 = 0x000c_0000;
 
 /// Runs a reader's bytes as a program, and serves its system calls, for `limit` steps or until it
