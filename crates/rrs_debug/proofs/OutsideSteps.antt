@@ -11,12 +11,12 @@ use Rattle.rrs_instruction.specs.Words.{word}
 use Rattle.rrs_instruction.specs.declared.instruction_formats.IType.{IType}
 use Rattle.rrs_instruction.specs.declared.instruction_formats.SType.{SType}
 use Rattle.rrs_lib.specs.declared.instruction.Instruction.{Instruction}
-use Rattle.rrs_lib.specs.Instructions.{row_of, fields_of}
+use Rattle.rrs_lib.specs.Instructions.{row_of, fields_of, IsInstruction}
 use Rattle.rrs_lib.specs.Encodings.{Fields, R, I, IShamt, S, B, U, J}
 use Rattle.rrs_lib.specs.Table.{Row, table, Decodes, IsIllegal, Action, OnRegisters, OnImmediate, OnShamt, LoadUpper, AddUpperToPc, BranchIf, BranchUnless, Load, Store, JumpAndLink, JumpAndLinkRegister, NoEffect, CallEnvironment, Break}
 use Rattle.rrs_lib.specs.Bytes.{ByteMap, width, little_endian, all_writable}
 use Rattle.rrs_lib.specs.Machine.{State, state_of, reg, put, with_pc, plus_immediate, made_even, Answer, Outcome, outcome, result_outcome, branch_outcome, jump_outcome, fault_outcome, load_outcome, read_outcome, store_outcome, granted_outcome, outcome_by, Executes}
-use Rattle.rrs_lib.specs.Steps.{Step, StepAnswer, Misaligned, Unmapped, Illegal, Legal, cleared, advanced, answered}
+use Rattle.rrs_lib.specs.Steps.{Step, StepAnswer, next_word, Misaligned, Unmapped, Illegal, Legal, cleared, advanced, answered}
 use Rattle.rrs_lib.specs.Accesses.{Access, Read, Write, AccessesOf, OfRow, fetch, read_if_aligned, accesses_by, accesses_of_row, size_of}
 use Rattle.rrs_lib.proofs.Rows.{one_row_at_most}
 use Rattle.rrs_lib.proofs.ComputedSteps.{step_of-is_step}
@@ -532,3 +532,48 @@ no_load_in_none v s found finds is t given =
 pub no_store_in_none : (s : State) (found : Option (Instruction × DataRequest)) → FindsAccess s found → found ≡ None → (t : State) → ¬ StoresElsewhere s t
 no_store_in_none s found finds is t given =
     none_found found _ (finds.only given.w given.row (S given.fields) _ given.fetched given.decoded (store_asks s t given)) is
+
+-- a request that was found is the one that the word at the program counter makes
+found_is : (found : Option (Instruction × DataRequest)) (x : Instruction × DataRequest) (q : DataRequest) → IsSomeAnd found (λ y. y.1 ≡ q) → found ≡ Some x → x.1 ≡ q
+found_is found x q holds is =
+    let Q : Option (Instruction × DataRequest) → Type 0 = λ o. IsSomeAnd o (λ y. y.1 ≡ q) in
+    let there : x.1 ≡ q = subst Q is holds in
+    there
+
+load_and_store : (address address' value : ℕ) (size size' : MemAccessSize) → DataRequest.Store address size value ≡ DataRequest.Load address' size' → ⊥
+load_and_store address address' value size size' h = cc
+
+pub no_load_in_store : (v : ℕ) (s : State) (found : Option (Instruction × DataRequest)) (i : Instruction) (address value : ℕ) (size : MemAccessSize) → FindsAccess s found → found ≡ Some (i, DataRequest.Store address size value) → (t : State) → ¬ LoadsGiven v s t
+no_load_in_store v s found i address value size finds is t given =
+    load_and_store _ _ _ _ _ (found_is found _ _ (finds.only given.w given.row (I given.fields) _ given.fetched given.decoded (load_asks v s t given)) is)
+
+pub no_store_in_load : (s : State) (found : Option (Instruction × DataRequest)) (i : Instruction) (address : ℕ) (size : MemAccessSize) → FindsAccess s found → found ≡ Some (i, DataRequest.Load address size) → (t : State) → ¬ StoresElsewhere s t
+no_store_in_load s found i address size finds is t given =
+    load_and_store _ _ _ _ _ (sym (found_is found _ _ (finds.only given.w given.row (S given.fields) _ given.fetched given.decoded (store_asks s t given)) is))
+
+-- ---- what is found
+
+same_request : (x y : DataRequest) (r : RequestAnswer) → r ≡ Ok (Some x) → r ≡ Ok (Some y) → x ≡ y
+same_request x y r h h' = cc
+
+-- what the word at the program counter asks, whichever row it is taken for
+asks_alone : (s : State) (hart : HartState) (bytes : ByteMap) (writable : ℕ → Bool) (o : Option ℕ) (w : ℕ) (i : Instruction) (r : RequestAnswer)
+    → o ≡ next_word s → o ≡ Some w → ((row : Row) (f : Fields) → Decodes w row f → (row ≡ row_of i) × (f ≡ fields_of i)) → Asks (row_of i) (fields_of i) hart r → state_of hart bytes writable ≡ s
+    → (w' : ℕ) (row : Row) (f : Fields) (request : DataRequest) → next_word s ≡ Some w' → Decodes w' row f → answer_by (table row).action f s ≡ Ok (Some request) → r ≡ Ok (Some request)
+asks_alone s hart bytes writable o w i r read there only asks same w' row f request stands decodes answers =
+    let P : ℕ → Type 0 = λ x. Decodes x row f in
+    let known = only row f (subst P (same_Some _ _ (sym stands ∙ sym read ∙ there)) decodes) in
+    let by : Row → Fields → RequestAnswer = λ x y. answer_by (table x).action y s in
+    asks.asks bytes writable ∙ ap (answer_by (table (row_of i)).action (fields_of i)) same ∙ sym (ap (λ y. by (row_of i) y) known.1) ∙ sym (ap (λ x. by x f) known.0) ∙ answers
+
+pub finds_some : (s : State) (hart : HartState) (bytes : ByteMap) (writable : ℕ → Bool) (o : Option ℕ) (w : ℕ) (i : Instruction) (r : RequestAnswer) (q : DataRequest)
+    → o ≡ next_word s → o ≡ Some w → IsInstruction w i → ((row : Row) (f : Fields) → Decodes w row f → (row ≡ row_of i) × (f ≡ fields_of i)) → Asks (row_of i) (fields_of i) hart r → state_of hart bytes writable ≡ s → r ≡ Ok (Some q)
+    → FindsAccess s (Some (i, q))
+finds_some s hart bytes writable o w i r q read there is only asks same answer =
+    let P : Option ℕ → Type 0 = λ x. IsSomeAnd x (λ y. IsInstruction y i) in
+    record {
+      stands = subst P (sym there ∙ read) is;
+      asks = sym (ap (answer_by (table (row_of i)).action (fields_of i)) same) ∙ sym (asks.asks bytes writable) ∙ answer;
+      only = λ w' row f request stands decodes answers.
+          same_request q request r answer (asks_alone s hart bytes writable o w i r read there only asks same w' row f request stands decodes answers);
+    }

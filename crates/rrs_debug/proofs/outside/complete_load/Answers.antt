@@ -1,6 +1,6 @@
 -- The load that was found, and that there is none where none was.
 use Rattle.std.proofs.Common.{rules}
-use Rattle.rrs_debug.proofs.OutsideSteps.{loads_given, loaded_state, no_load_in_none}
+use Rattle.rrs_debug.proofs.OutsideSteps.{loads_given, loaded_state, no_load_in_none, no_load_in_store}
 use Rattle.rrs_debug.proofs.outside.complete_load.Goals as goal
 
 pub returns-in-Some-default-Load-clause-loaded : goal.returns-in-Some-default-Load-clause-loaded
@@ -11,3 +11,7 @@ returns-in-Some-default-Load-clause-loaded g c =
 pub returns-in-None-clause-none : goal.returns-in-None-clause-none
 returns-in-None-clause-none g c =
     no_load_in_none c.args.value _ _ c.access_at_pc.ensures.finds c.in-None.is
+
+pub returns-in-Some-default-Store-clause-none : goal.returns-in-Some-default-Store-clause-none
+returns-in-Some-default-Store-clause-none g c =
+    no_load_in_store c.args.value _ _ c.in-Some-default-Store._instruction c.in-Some-default-Store._address c.in-Some-default-Store._value c.in-Some-default-Store._size c.access_at_pc.ensures.finds (search rules)
