@@ -18,6 +18,7 @@ pub mod Accesses
 pub mod ComputedSteps
 pub mod Engines
 pub mod ExampleRows
+pub mod Forgetting
 pub mod Keeping
 pub mod Making
 pub mod Programs
