@@ -1,0 +1,10 @@
+pub mod Lengths
+pub mod Pieces
+pub mod Decimals
+pub mod Digits
+pub mod Offsets
+pub mod OperandTexts
+pub mod Openings
+pub mod Forms
+pub mod RowTexts
+pub mod Whole

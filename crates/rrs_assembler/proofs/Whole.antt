@@ -1,0 +1,101 @@
+-- Where a whole text goes wrong, by where its opening or its operands do.
+use Rattle.std.proofs.Common.{◌≡◌, ◌≢◌, ◌⊎◌, inl, inr, ℕ, ◌+◌, ◌-◌, ◌<◌, ◌≤◌, pos, List, [], ◌++◌, length, refl, sym, ap, subst, ◌∙◌, arith}
+use Rattle.std.proofs.lemmas.Int.{ints}
+use Rattle.std.proofs.lemmas.Bool.{ltb-true}
+use Rattle.std.proofs.lemmas.List.{append_cancel_left, length-append}
+use Rattle.rrs_lib.specs.Encodings.{R, I, IShamt, S, B, U, J}
+use Rattle.rrs_lib.specs.Table.{Row, table}
+use Rattle.rrs_assembler.specs.declared.rows.Shape.{Shape}
+use Rattle.rrs_assembler.specs.declared.rows.Shape.TheVariants.{ThreeRegisters, Immediate, Shamt, Upper, UpperToPc, Branch, LoadFrom, StoreTo, Jump, JumpTo, Alone}
+use Rattle.rrs_assembler.specs.Assembling.{common_length, IsFurthest}
+use Rattle.rrs_assembler.specs.Readers.{Fails}
+use Rattle.rrs_assembler.specs.Shapes.{Form, all_forms, opening_of, shape_of, last_of, funct_of, IsOperands, FailsOpenings, IsTextOfSome}
+use Rattle.rrs_assembler.proofs.Lengths.{common-append}
+use Rattle.rrs_assembler.proofs.Forms.{row_of_form, each_form, rows_apart, differ-common, three_small, last_small}
+use Rattle.rrs_assembler.proofs.Openings.{IsOtherThan}
+use Rattle.rrs_assembler.proofs.RowTexts.{LastFits, not_alone, alone_fits, has_text, parts_of_text}
+
+-- each shape has operands
+some_operands : (shape : Shape) (funct3 last pc : ℕ) → funct3 < 8 → LastFits shape last → (x : List ℕ) × IsOperands shape funct3 last pc x
+some_operands ThreeRegisters funct3 last pc three seven = (_, (R (record { funct7 = last; rs2 = 0; rs1 = 0; funct3 = funct3; rd = 0 }), ((omega arith, three, omega arith, omega arith, not_alone ThreeRegisters last (λ x. (cc)) seven), refl, refl, refl)))
+some_operands Immediate funct3 last pc three seven = (_, (I (record { imm = pos 0; rs1 = 0; funct3 = funct3; rd = 0 }), ((omega arith, three, omega arith, omega (arith, ints), omega (arith, ints)), refl, refl)))
+some_operands Shamt funct3 last pc three seven = (_, (IShamt (record { funct7 = last; shamt = 0; rs1 = 0; funct3 = funct3; rd = 0 }), ((omega arith, three, omega arith, omega arith, not_alone Shamt last (λ x. (cc)) seven), refl, refl, refl)))
+some_operands Upper funct3 last pc three seven = (_, (U (record { imm = pos 0; rd = 0 }), ((omega arith, omega (arith, ints), omega (arith, ints), refl), refl)))
+some_operands UpperToPc funct3 last pc three seven = (_, (U (record { imm = pos 0; rd = 0 }), ((omega arith, omega (arith, ints), omega (arith, ints), refl), refl)))
+some_operands Branch funct3 last pc three seven = (_, (B (record { imm = pos 0; rs2 = 0; rs1 = 0; funct3 = funct3 }), ((three, omega arith, omega arith, omega (arith, ints), omega (arith, ints), refl), refl, refl)))
+some_operands LoadFrom funct3 last pc three seven = (_, (I (record { imm = pos 0; rs1 = 0; funct3 = funct3; rd = 0 }), ((omega arith, three, omega arith, omega (arith, ints), omega (arith, ints)), refl, refl)))
+some_operands StoreTo funct3 last pc three seven = (_, (S (record { imm = pos 0; rs2 = 0; rs1 = 0; funct3 = funct3 }), ((three, omega arith, omega arith, omega (arith, ints), omega (arith, ints)), refl, refl)))
+some_operands Jump funct3 last pc three seven = (_, (J (record { imm = pos 0; rd = 0 }), ((omega arith, omega (arith, ints), omega (arith, ints), refl), refl)))
+some_operands JumpTo funct3 last pc three seven = (_, (I (record { imm = pos 0; rs1 = 0; funct3 = funct3; rd = 0 }), ((omega arith, three, omega arith, omega (arith, ints), omega (arith, ints)), refl, refl)))
+some_operands Alone funct3 last pc three seven =
+    let less = alone_fits Alone last seven in
+    ([], (I (record { imm = pos last; rs1 = 0; funct3 = funct3; rd = 0 }), ((omega arith, three, omega arith, omega (arith, ints), omega (arith, ints, less)), refl, refl, refl, refl, refl)))
+
+-- operands of a row's shape make a text of the row
+abbrev pub IsRest : Row → ℕ → List ℕ → Type 0
+IsRest row pc x = IsOperands (shape_of row) (funct_of (table row).funct3) (last_of row) pc x
+
+text_of_rest : (row : Row) (pc : ℕ) (x : List ℕ) → IsRest row pc x → IsTextOfSome pc (opening_of row ++ x)
+text_of_rest row pc x is = (_, has_text row pc x is.0 is.1)
+
+-- the text begins with no opening
+pub no_opening : (pc : ℕ) (text : List ℕ) (left : ℕ) → FailsOpenings all_forms text left → Fails (IsTextOfSome pc) text left
+no_opening pc text left fails =
+    let other : (row : Row) (x : List ℕ) → (common_length text (opening_of row ++ x) + left ≤ length text) × (text ≢ opening_of row ++ x) =
+    λ row. each_form (IsOtherThan text left) row fails.over in
+    let reached = row_of_form fails.reached.0 fails.reached.1 in
+    let row : Row = reached.0 in
+    let some = some_operands (shape_of row) (funct_of (table row).funct3) (last_of row) pc (ltb-true _ _ (three_small row)) (last_small row) in
+    let opening : fails.reached.0.0 ≡ opening_of row = ap (λ (f : Form). f.0) reached.1 in
+    record {
+      over = λ t h.
+          let made = parts_of_text h.0 pc t h.1 in
+          subst (λ (l : List ℕ). common_length text l + left ≤ length text) (sym made.2) (other made.0 made.1).0;
+      reached = (opening_of row ++ some.0, text_of_rest row pc some.0 some.1, subst (λ (l : List ℕ). common_length text (l ++ some.0) + left ≡ length text) opening (fails.reached.2 some.0));
+      none = λ t h e. let made = parts_of_text h.0 pc t h.1 in (other made.0 made.1).1 (e ∙ made.2);
+    }
+
+-- it begins with the opening of this row, and its operands go wrong
+pub no_operands : (row : Row) (pc : ℕ) (text rest : List ℕ) (left : ℕ) → text ≡ opening_of row ++ rest → Fails (IsRest row pc) rest left → Fails (IsTextOfSome pc) text left
+no_operands row pc text rest left e fails =
+    let whole : length text ≡ length (opening_of row) + length rest = ap length e ∙ length-append (opening_of row) rest in
+    let few : left ≤ length rest = let there = fails.reached.2 in omega (arith, there) in
+    let behind : (x : List ℕ) → common_length text (opening_of row ++ x) ≡ length (opening_of row) + common_length rest x =
+    λ x. ap (λ (l : List ℕ). common_length l (opening_of row ++ x)) e ∙ common-append (opening_of row) rest x in
+    let split : (other : Row) (x : List ℕ) → (other ≡ row) ⊎ ((common_length text (opening_of other ++ x) ≤ length (opening_of row)) × (text ≢ opening_of other ++ x)) =
+    λ other x. elim (rows_apart row other) [
+      | inl same ↦ inl same
+      | inr apart ↦ inr (subst (λ (l : List ℕ). (common_length l (opening_of other ++ x) ≤ length (opening_of row)) × (l ≢ opening_of other ++ x)) (sym e) (differ-common (opening_of row) (opening_of other) rest x apart))
+    ] in
+    record {
+      over = λ t h.
+          let made = parts_of_text h.0 pc t h.1 in
+          subst (λ (l : List ℕ). common_length text l + left ≤ length text) (sym made.2) (elim (split made.0 made.1) [
+            | inl same ↦
+                let at_row : IsRest row pc made.1 = subst (λ r. IsRest r pc made.1) same made.3 in
+                let there = fails.over made.1 at_row in
+                let shown : common_length text (opening_of made.0 ++ made.1) ≡ length (opening_of row) + common_length rest made.1 = ap (λ r. common_length text (opening_of r ++ made.1)) same ∙ behind made.1 in
+                omega (arith, there, shown, whole)
+            | inr less ↦ let low = less.0 in omega (arith, low, few, whole)
+          ]);
+      reached = (opening_of row ++ fails.reached.0, text_of_rest row pc fails.reached.0 fails.reached.1, (let there = fails.reached.2 in let here = behind fails.reached.0 in omega (arith, there, here, whole)));
+      none = λ t h same_text.
+          let made = parts_of_text h.0 pc t h.1 in
+          elim (split made.0 made.1) [
+            | inl same ↦
+                let at_row : IsRest row pc made.1 = subst (λ r. IsRest r pc made.1) same made.3 in
+                let shown : opening_of row ++ rest ≡ opening_of row ++ made.1 = sym e ∙ same_text ∙ made.2 ∙ ap (λ r. opening_of r ++ made.1) same in
+                fails.none made.1 at_row (append_cancel_left (opening_of row) rest made.1 shown)
+            | inr less ↦ less.1 (same_text ∙ made.2)
+          ];
+    }
+
+-- the place as a byte
+pub furthest : (pc : ℕ) (text : List ℕ) (left : ℕ) → Fails (IsTextOfSome pc) text left → IsFurthest pc text (length text - left)
+furthest pc text left fails =
+    let there = fails.reached.2 in
+    let few : left ≤ length text = omega (arith, there) in
+    record {
+      over = λ w other h. let here = fails.over other (w, h) in omega (arith, here, few);
+      reached = (fails.reached.1.0, fails.reached.0, fails.reached.1.1, omega (arith, there, few));
+    }

@@ -1,0 +1,18 @@
+use Rattle.std.proofs.Common.{◌≡◌, inl, inr, arith, sym, ◌∙◌, subst}
+use Rattle.rrs_assembler.specs.declared.rows.Shape.TheVariants.{ThreeRegisters, Shamt, Alone}
+use Rattle.rrs_assembler.specs.Shapes.{ReadsOperands}
+use Rattle.rrs_assembler.proofs.OperandTexts.{upper_reads}
+use Rattle.rrs_assembler.proofs.operands.fields_of.Goals as goal
+
+pub three_registers-requires-clause-funct7 : goal.three_registers-requires-clause-funct7
+three_registers-requires-clause-funct7 c = elim c.requires.last [ inl small ↦ small | inr other ↦ let no_such : ThreeRegisters ≡ Alone = sym c.in-ThreeRegisters.is ∙ other.0 in (cc) ]
+
+pub shift-requires-clause-funct7 : goal.shift-requires-clause-funct7
+shift-requires-clause-funct7 c = elim c.requires.last [ inl small ↦ small | inr other ↦ let no_such : Shamt ≡ Alone = sym c.in-Shamt.is ∙ other.0 in (cc) ]
+
+pub alone-requires-clause-imm : goal.alone-requires-clause-imm
+alone-requires-clause-imm c = elim c.requires.last [ inl small ↦ omega (arith, small) | inr other ↦ other.1 ]
+
+pub returns-in-Upper : goal.returns-in-Upper
+returns-in-Upper c =
+    subst (λ s. ReadsOperands s c.args.funct3 c.args.last c.args.pc c.args.text.now c.upper.result) (sym c.in-Upper.is) (upper_reads c.args.funct3 c.args.last c.args.pc c.args.text.now c.upper.result c.upper.ensures)

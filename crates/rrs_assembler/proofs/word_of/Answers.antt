@@ -1,0 +1,61 @@
+use Rattle.std.proofs.Common.{◌≡◌, ◌<◌, ℕ, List, ◌++◌, rules, subst, sym, ap, ◌∙◌}
+use Rattle.std.proofs.lemmas.Bool.{ltb-true}
+use Rattle.rrs_lib.specs.Encodings.{encode}
+use Rattle.rrs_lib.specs.Instructions.{as_fields}
+use Rattle.rrs_lib.specs.Table.{Row, table}
+use Rattle.rrs_lib.proofs.Rows.{small_opcode}
+use Rattle.rrs_assembler.specs.Assembling.{HasText}
+use Rattle.rrs_assembler.specs.Readers.{Fails}
+use Rattle.rrs_assembler.specs.Shapes.{Form, form_of, form_of_row, IsTextOfSome, IsOperands, Shows, opening_of}
+use Rattle.rrs_assembler.proofs.Forms.{row_of_form, three_small, last_small}
+use Rattle.rrs_assembler.proofs.RowTexts.{LastFits, has_text, fields_in_range}
+use Rattle.rrs_assembler.proofs.Whole.{IsRest, no_opening, no_operands}
+use Rattle.rrs_assembler.proofs.word_of.Goals as goal
+
+pub returns-in_err-row : goal.returns-in_err-row
+returns-in_err-row c =
+    let h : Fails (IsTextOfSome c.args.pc) c.args.text.now c.in_err-row.field-0.0.left = no_opening c.args.pc _ _ c.in_err-row.ensures in
+    search rules
+
+pub fields_of-requires-clause-funct3 : goal.fields_of-requires-clause-funct3
+fields_of-requires-clause-funct3 c =
+    let found = row_of_form _ c.in_ok-row.ensures.0 in
+    subst (λ n. n < 8) (sym (ap (λ (f : Form). f.3) found.1)) (ltb-true _ _ (three_small found.0))
+
+pub fields_of-requires-clause-last : goal.fields_of-requires-clause-last
+fields_of-requires-clause-last c =
+    let found = row_of_form _ c.in_ok-row.ensures.0 in
+    subst (λ (f : Form). LastFits f.1 f.4) (sym found.1) (last_small found.0)
+
+-- the text as the row's opening and what follows
+begins : (form : Form) (row : Row) (text rest : List ℕ) → form ≡ form_of_row row → text ≡ form.0 ++ rest → text ≡ opening_of row ++ rest
+begins form row text rest same e = e ∙ ap (λ (f : Form). f.0 ++ rest) same
+
+pub returns-in_err-fields : goal.returns-in_err-fields
+returns-in_err-fields c =
+    let found = row_of_form _ c.in_ok-row.ensures.0 in
+    let rest : Fails (IsRest found.0 c.args.pc) c.in_ok-row.rest.now c.in_err-fields.field-0.0.left =
+    subst (λ (f : Form). Fails (IsOperands f.1 f.3 f.4 c.args.pc) c.in_ok-row.rest.now c.in_err-fields.field-0.0.left) found.1 c.in_err-fields.ensures in
+    let h : Fails (IsTextOfSome c.args.pc) c.args.text.now c.in_err-fields.field-0.0.left =
+    no_operands found.0 c.args.pc c.args.text.now c.in_ok-row.rest.now _ (begins (form_of c.in_ok-row.row) found.0 _ _ found.1 c.in_ok-row.ensures.1) rest in
+    search rules
+
+pub encode-requires-clause-opcode : goal.encode-requires-clause-opcode
+encode-requires-clause-opcode c =
+    let found = row_of_form _ c.in_ok-row.ensures.0 in
+    subst (λ n. n < 128) (sym (ap (λ (f : Form). f.2) found.1)) (small_opcode found.0)
+
+pub encode-requires-clause-fields : goal.encode-requires-clause-fields
+encode-requires-clause-fields c =
+    let found = row_of_form _ c.in_ok-row.ensures.0 in
+    let shows = subst (λ (f : Form). Shows f.1 f.3 f.4 c.args.pc c.in_ok-row.rest.now (as_fields c.in_ok-fields.fields)) found.1 c.in_ok-fields.ensures in
+    fields_in_range found.0 c.args.pc c.in_ok-row.rest.now (as_fields c.in_ok-fields.fields) shows
+
+pub returns : goal.returns
+returns c =
+    let found = row_of_form _ c.in_ok-row.ensures.0 in
+    let fields = as_fields c.in_ok-fields.fields in
+    let shows = subst (λ (f : Form). Shows f.1 f.3 f.4 c.args.pc c.in_ok-row.rest.now fields) found.1 c.in_ok-fields.ensures in
+    let text = begins (form_of c.in_ok-row.row) found.0 _ _ found.1 c.in_ok-row.ensures.1 in
+    let word : c.encode.result ≡ encode (table found.0).opcode fields = c.encode.ensures ∙ ap (λ (f : Form). encode f.2 fields) found.1 in
+    subst (λ w. HasText c.args.pc w c.args.text.now) (sym word) (subst (λ (l : List ℕ). HasText c.args.pc (encode (table found.0).opcode fields) l) (sym text) (has_text found.0 c.args.pc c.in_ok-row.rest.now fields shows))

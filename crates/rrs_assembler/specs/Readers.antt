@@ -1,0 +1,129 @@
+-- What the readers of a text's parts say: where a text stops to be one of a set of texts. A place
+-- is given by the number of bytes that are left there, which stays as it is where the same text is
+-- seen with more in front.
+use Rattle.std.specs.Prelude.{◌≡◌, ◌≢◌, ◌⊎◌, ℕ, zero, suc, ◌+◌, ◌-◌, ◌/◌, ◌%◌, ◌^◌, ◌<◌, ◌≤◌, false, List, [], ◌∷◌, ◌++◌, length, ℤ, pos, neg_ℤ, ◌≤ℤ◌, ◌<ℤ◌}
+use Rattle.std.specs.Fmt.{decimal, signed_decimal, digit_glyph}
+use Rattle.rrs_lib.specs.Words.{word, floor_mod}
+use Rattle.rrs_lib.specs.Results.{plus_immediate}
+use Rattle.rrs_lib.specs.Texts.{register, hexadecimal}
+use Rattle.rrs_assembler.specs.Assembling.{common_length}
+
+-- No text of the set is this one, none has more in common with it than what stands before the
+-- bytes that are left, and one has that.
+pub record Fails (Texts : List ℕ → Type 0) (text : List ℕ) (left : ℕ) : Type 0 where
+  pub over : (t : List ℕ) → Texts t → common_length text t + left ≤ length text
+  pub reached : (t : List ℕ) × Texts t × (common_length text t + left ≡ length text)
+  pub none : (t : List ℕ) → Texts t → text ≢ t
+
+-- nothing, or a separator: a blank, a comma or a parenthesis, all below the bytes of operands
+abbrev pub IsPastPiece : List ℕ → Type 0
+IsPastPiece [] = Unit {0}
+IsPastPiece (c ∷ cs) = c < 45
+
+-- the same of a piece of a text, whatever follows past it
+pub record FailsPiece (Piece : List ℕ → Type 0) (text : List ℕ) (left : ℕ) : Type 0 where
+  pub over : (p x : List ℕ) → Piece p → IsPastPiece x → common_length text (p ++ x) + left ≤ length text
+  pub reached : (p : List ℕ) × Piece p × ((x : List ℕ) → IsPastPiece x → common_length text (p ++ x) + left ≡ length text)
+  pub none : (p x : List ℕ) → Piece p → IsPastPiece x → text ≢ p ++ x
+
+-- the same of one text, whatever follows it
+pub record FailsLiteral (literal text : List ℕ) (left : ℕ) : Type 0 where
+  pub reached : (x : List ℕ) → common_length text (literal ++ x) + left ≡ length text
+  pub none : (x : List ℕ) → text ≢ literal ++ x
+
+-- the same of a piece and a separator, whatever follows
+pub record FailsBefore (Piece : List ℕ → Type 0) (separator text : List ℕ) (left : ℕ) : Type 0 where
+  pub over : (p x : List ℕ) → Piece p → common_length text (p ++ (separator ++ x)) + left ≤ length text
+  pub reached : (p : List ℕ) × Piece p × ((x : List ℕ) → common_length text (p ++ (separator ++ x)) + left ≡ length text)
+  pub none : (p x : List ℕ) → Piece p → text ≢ p ++ (separator ++ x)
+
+-- the text is this piece and the rest, and no other piece reaches into the rest
+pub record IsRead (Piece : List ℕ → Type 0) (p text rest : List ℕ) : Type 0 where
+  pub piece : Piece p
+  pub whole : text ≡ p ++ rest
+  pub settled : (q x : List ℕ) → Piece q → IsPastPiece x
+      → (q ≡ p) ⊎ ((common_length text (q ++ x) ≤ length p) × (text ≢ q ++ x))
+
+-- a piece, a separator, and a text of another set
+abbrev pub Then : (List ℕ → Type 0) → List ℕ → (List ℕ → Type 0) → List ℕ → Type 0
+Then Piece separator Texts t =
+    (p : List ℕ) × (x : List ℕ) × Piece p × Texts x × (t ≡ p ++ (separator ++ x))
+
+abbrev pub IsEnd : List ℕ → Type 0
+IsEnd t = t ≡ []
+
+-- ---- pieces
+
+abbrev pub IsDecimal : ℕ → ℕ → List ℕ → Type 0
+IsDecimal least limit p = (n : ℕ) × (least ≤ n) × (n ≤ limit) × (p ≡ decimal n)
+
+abbrev pub IsRegister : List ℕ → Type 0
+IsRegister p = (r : ℕ) × (r < 2 ^ 5) × (p ≡ register r)
+
+-- an immediate of 12 bits
+abbrev pub IsImmediate : List ℕ → Type 0
+IsImmediate p =
+    (imm : ℤ) × (neg_ℤ (pos 2048) ≤ℤ imm) × (imm ≤ℤ pos 2047) × (p ≡ signed_decimal imm)
+
+abbrev pub IsShamt : List ℕ → Type 0
+IsShamt p = (n : ℕ) × (n < 2 ^ 5) × (p ≡ decimal n)
+
+-- an immediate of 12 bits, as jalr shows it
+abbrev pub IsJumpOffset : List ℕ → Type 0
+IsJumpOffset p =
+    (imm : ℤ) × (neg_ℤ (pos 2048) ≤ℤ imm) × (imm ≤ℤ pos 2047) × (p ≡ hexadecimal 3 (word imm))
+
+-- a multiple of the step, from -reach to below reach
+abbrev pub IsOffset : ℕ → ℕ → ℤ → Type 0
+IsOffset reach step imm =
+    (neg_ℤ (pos reach) ≤ℤ imm) × (imm <ℤ pos reach) × (floor_mod imm step ≡ 0)
+
+-- the sum of such an immediate with an address
+abbrev pub IsTarget : ℕ → ℕ → ℕ → List ℕ → Type 0
+IsTarget base reach step p =
+    (imm : ℤ) × IsOffset reach step imm × (p ≡ hexadecimal 8 (plus_immediate base imm))
+
+-- ---- hexadecimal digits
+
+-- the n hexadecimal digits of a number below 16 ^ n
+unfoldable pub digits_of : ℕ → ℕ → List ℕ
+digits_of zero z = []
+digits_of (suc n) z = digit_glyph false (z / 16 ^ n) ∷ digits_of n (z % 16 ^ n)
+
+-- a word that lies so far behind the first that it is one of the steps below a total
+abbrev pub IsAmong : ℕ → ℕ → ℕ → ℕ → Type 0
+IsAmong first total step y =
+    ((y + (2 ^ 32 - first)) % 2 ^ 32 < total) × ((y + (2 ^ 32 - first)) % 2 ^ 32 % step ≡ 0)
+
+-- such a word among the `size` words from `low` on
+pub record IsWithin (first total step low size y : ℕ) : Type 0 where
+  pub least : low ≤ y
+  pub most : y < low + size
+  pub among : IsAmong first total step y
+
+-- the last n digits of such a word
+abbrev pub IsDigits : ℕ → ℕ → ℕ → ℕ → ℕ → List ℕ → Type 0
+IsDigits first total step n low p =
+    (y : ℕ) × IsWithin first total step low (16 ^ n) y × (p ≡ digits_of n (y - low))
+
+-- ---- what the readers ask
+
+abbrev pub BeginsWithDigit : List ℕ → Type 0
+BeginsWithDigit [] = ⊥
+BeginsWithDigit (c ∷ cs) = (48 ≤ c) × (c ≤ 57)
+
+-- a separator
+abbrev pub CanFollow : List ℕ → Type 0
+CanFollow [] = ⊥
+CanFollow (c ∷ cs) = c < 45
+
+-- another byte is there, or none
+abbrev pub BeginsOtherwise : ℕ → List ℕ → Type 0
+BeginsOtherwise c [] = Unit {0}
+BeginsOtherwise c (d ∷ ds) = d ≢ c
+
+-- how far targets reach, and in which steps: of branches and jal, and of lui and auipc
+abbrev pub IsReach : ℕ → ℕ → Type 0
+IsReach reach step =
+    (0 < reach) × (reach ≤ 2 ^ 31)
+    × (((step ≡ 2) × (reach % 2 ≡ 0)) ⊎ ((step ≡ 4096) × (reach % 4096 ≡ 0)))

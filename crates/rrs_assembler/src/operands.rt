@@ -1,0 +1,191 @@
+//! Readers of operands, one for each way in which rows are written.
+
+ghost use Rattle.std.specs.Prelude.{◌≡◌, ◌⊎◌, ◌<◌, ◌^◌};
+ghost use Rattle.rrs_assembler.specs.Shapes.{ReadsOperands};
+
+use crate::Stop;
+use crate::hexadecimal::{jump_offset_before, last_target};
+use crate::readers::{
+    end, immediate_before, last_immediate, last_register, last_shift_amount, register_before,
+};
+use crate::rows::Shape;
+use rrs_lib::instruction::InstructionFields;
+use rrs_lib::instruction_formats::{BType, IType, ITypeShamt, JType, RType, SType, UType};
+
+/// How far a branch reaches, `jal`, and `lui` and `auipc`, in bytes forward and backward.
+const BRANCH_REACH: u32 = 0x1000;
+
+const JUMP_REACH: u32 = 0x10_0000;
+
+const UPPER_REACH: u32 = 0x8000_0000;
+
+/// The fields that a text shows as operands of this shape, with funct3 and the last as given.
+pub fn fields_of(
+    shape: Shape,
+    funct3: u32,
+    last: u32,
+    text: &[u8],
+    pc: u32,
+) -> Result<InstructionFields, Stop>
+    requires funct3 { funct3 < 2 ^ 3 }
+    requires last { (last < 2 ^ 7) ⊎ ((shape ≡ Shape.Alone) × (last < 2 ^ 8)) }
+    ensures { ReadsOperands shape funct3 last pc text.now result }
+{
+    match shape {
+        Shape::ThreeRegisters => three_registers(text, funct3, last),
+        Shape::Immediate => register_and_immediate(text, funct3),
+        Shape::Shamt => shift(text, funct3, last),
+        Shape::Upper => upper(text, 0),
+        Shape::UpperToPc => upper(text, pc),
+        Shape::Branch => branch(text, funct3, pc),
+        Shape::LoadFrom => load(text, funct3),
+        Shape::StoreTo => store(text, funct3),
+        Shape::Jump => jump(text, pc),
+        Shape::JumpTo => jump_to(text, funct3),
+        Shape::Alone => alone(text, funct3, last),
+    }
+}
+
+fn three_registers(text: &[u8], funct3: u32, funct7: u32) -> Result<InstructionFields, Stop>
+    requires funct3 { funct3 < 2 ^ 3 }
+    requires funct7 { funct7 < 2 ^ 7 }
+    ensures { ReadsOperands Shape.ThreeRegisters funct3 funct7 0 text.now result }
+{
+    let (rd, rest) = register_before(text, b", ")?;
+    let (rs1, rest) = register_before(rest, b", ")?;
+    let rs2 = last_register(rest)?;
+    Ok(InstructionFields::R(RType {
+        funct7,
+        rs2,
+        rs1,
+        funct3,
+        rd,
+    }))
+}
+
+fn register_and_immediate(text: &[u8], funct3: u32) -> Result<InstructionFields, Stop>
+    requires { funct3 < 2 ^ 3 }
+    ensures { ReadsOperands Shape.Immediate funct3 0 0 text.now result }
+{
+    let (rd, rest) = register_before(text, b", ")?;
+    let (rs1, rest) = register_before(rest, b", ")?;
+    let imm = last_immediate(rest)?;
+    Ok(InstructionFields::I(IType {
+        imm,
+        rs1,
+        funct3,
+        rd,
+    }))
+}
+
+fn shift(text: &[u8], funct3: u32, funct7: u32) -> Result<InstructionFields, Stop>
+    requires funct3 { funct3 < 2 ^ 3 }
+    requires funct7 { funct7 < 2 ^ 7 }
+    ensures { ReadsOperands Shape.Shamt funct3 funct7 0 text.now result }
+{
+    let (rd, rest) = register_before(text, b", ")?;
+    let (rs1, rest) = register_before(rest, b", ")?;
+    let shamt = last_shift_amount(rest)?;
+    Ok(InstructionFields::IShamt(ITypeShamt {
+        funct7,
+        shamt,
+        rs1,
+        funct3,
+        rd,
+    }))
+}
+
+/// A register and the sum of an upper immediate with a base.
+fn upper(text: &[u8], base: u32) -> Result<InstructionFields, Stop>
+    ensures { ReadsOperands Shape.UpperToPc 0 0 base text.now result }
+{
+    let (rd, rest) = register_before(text, b", 0x")?;
+    let imm = last_target(rest, base, UPPER_REACH, 4096)?;
+    Ok(InstructionFields::U(UType { imm, rd }))
+}
+
+fn branch(text: &[u8], funct3: u32, pc: u32) -> Result<InstructionFields, Stop>
+    requires { funct3 < 2 ^ 3 }
+    ensures { ReadsOperands Shape.Branch funct3 0 pc text.now result }
+{
+    let (rs1, rest) = register_before(text, b", ")?;
+    let (rs2, rest) = register_before(rest, b", 0x")?;
+    let imm = last_target(rest, pc, BRANCH_REACH, 2)?;
+    Ok(InstructionFields::B(BType {
+        imm,
+        rs2,
+        rs1,
+        funct3,
+    }))
+}
+
+fn load(text: &[u8], funct3: u32) -> Result<InstructionFields, Stop>
+    requires { funct3 < 2 ^ 3 }
+    ensures { ReadsOperands Shape.LoadFrom funct3 0 0 text.now result }
+{
+    let (rd, rest) = register_before(text, b", ")?;
+    let (imm, rest) = immediate_before(rest, b"(")?;
+    let (rs1, rest) = register_before(rest, b")")?;
+    end(rest)?;
+    Ok(InstructionFields::I(IType {
+        imm,
+        rs1,
+        funct3,
+        rd,
+    }))
+}
+
+fn store(text: &[u8], funct3: u32) -> Result<InstructionFields, Stop>
+    requires { funct3 < 2 ^ 3 }
+    ensures { ReadsOperands Shape.StoreTo funct3 0 0 text.now result }
+{
+    let (rs2, rest) = register_before(text, b", ")?;
+    let (imm, rest) = immediate_before(rest, b"(")?;
+    let (rs1, rest) = register_before(rest, b")")?;
+    end(rest)?;
+    Ok(InstructionFields::S(SType {
+        imm,
+        rs2,
+        rs1,
+        funct3,
+    }))
+}
+
+fn jump(text: &[u8], pc: u32) -> Result<InstructionFields, Stop>
+    ensures { ReadsOperands Shape.Jump 0 0 pc text.now result }
+{
+    let (rd, rest) = register_before(text, b", 0x")?;
+    let imm = last_target(rest, pc, JUMP_REACH, 2)?;
+    Ok(InstructionFields::J(JType { imm, rd }))
+}
+
+fn jump_to(text: &[u8], funct3: u32) -> Result<InstructionFields, Stop>
+    requires { funct3 < 2 ^ 3 }
+    ensures { ReadsOperands Shape.JumpTo funct3 0 0 text.now result }
+{
+    let (rd, rest) = register_before(text, b", 0x")?;
+    let (imm, rest) = jump_offset_before(rest, b"(")?;
+    let (rs1, rest) = register_before(rest, b")")?;
+    end(rest)?;
+    Ok(InstructionFields::I(IType {
+        imm,
+        rs1,
+        funct3,
+        rd,
+    }))
+}
+
+/// No operands: the immediate is given.
+fn alone(text: &[u8], funct3: u32, imm: u32) -> Result<InstructionFields, Stop>
+    requires funct3 { funct3 < 2 ^ 3 }
+    requires imm { imm < 2 ^ 8 }
+    ensures { ReadsOperands Shape.Alone funct3 imm 0 text.now result }
+{
+    end(text)?;
+    Ok(InstructionFields::I(IType {
+        imm: imm as i32,
+        rs1: 0,
+        funct3,
+        rd: 0,
+    }))
+}
