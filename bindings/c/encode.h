@@ -16,7 +16,8 @@ static inline uint32_t i_type(uint32_t opcode, uint32_t funct3, unsigned rd, uns
 
 static inline uint32_t s_type(uint32_t funct3, unsigned rs1, unsigned rs2, int32_t imm) {
     uint32_t bits = (uint32_t)imm;
-    return (bits >> 5 & 0x7f) << 25 | rs2 << 20 | rs1 << 15 | funct3 << 12 | (bits & 31) << 7 | 0x23;
+    return (bits >> 5 & 0x7f) << 25 | rs2 << 20 | rs1 << 15 | funct3 << 12 | (bits & 31) << 7 |
+           0x23;
 }
 
 static inline uint32_t b_type(uint32_t funct3, unsigned rs1, unsigned rs2, int32_t imm) {

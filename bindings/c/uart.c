@@ -1,6 +1,6 @@
-/* A UART and a memory that C owns: the program in the simulated machine prints a line, and then what
- * it receives. The device changes on its own and by reads, which no memory of the kit may: so C
- * answers each load and store itself, by rrs_request and rrs_complete. */
+/* A UART and a memory that C owns: the program in the simulated machine prints a line, and then
+ * what it receives. The device changes on its own and by reads, which no memory of the kit may: so
+ * C answers each load and store itself, by rrs_request and rrs_complete. */
 #include <stdio.h>
 #include <string.h>
 
@@ -57,11 +57,13 @@ static uint32_t ram_read(const struct machine *machine, uint32_t address, uint32
 
 /* Makes an access that the instruction at the pc asks for. Returns 0 where it is refused. */
 static int make_access(struct machine *machine, rrs_access access, uint32_t *value) {
-    int at_uart = access.size == 1 && (access.address == UART + DATA || access.address == UART + STATUS);
+    int at_uart = access.size == 1 &&
+                  (access.address == UART + DATA || access.address == UART + STATUS);
     uint32_t i;
     if (access.kind == RRS_LOAD) {
         if (at_uart) *value = uart_read(&machine->uart, access.address - UART);
-        else if (is_ram(access.address, access.size)) *value = ram_read(machine, access.address, access.size);
+        else if (is_ram(access.address, access.size))
+            *value = ram_read(machine, access.address, access.size);
         else return 0;
         return 1;
     }
@@ -133,7 +135,7 @@ int main(void) {
         fault = step(&machine);
         steps++;
     } while (fault.kind == RRS_OK && steps < 100000);
-    printf("steps %u, fault kind %u at 0x%08x, bytes refused %u\n", steps - 1, fault.kind, fault.address,
-           machine.uart.refused);
+    printf("steps %u, fault kind %u at 0x%08x, bytes refused %u\n", steps - 1, fault.kind,
+           fault.address, machine.uart.refused);
     return fault.kind != RRS_EBREAK || machine.uart.refused != 0;
 }

@@ -19,7 +19,16 @@ import os
 from collections import namedtuple
 from pathlib import Path
 
-__all__ = ["Machine", "Fault", "FaultKind", "End", "Retired", "Instruction", "decode", "disassemble"]
+__all__ = [
+    "Machine",
+    "Fault",
+    "FaultKind",
+    "End",
+    "Retired",
+    "Instruction",
+    "decode",
+    "disassemble",
+]
 
 _u32, _u64, _size = ctypes.c_uint32, ctypes.c_uint64, ctypes.c_size_t
 _words = ctypes.POINTER(_u32)
@@ -93,7 +102,7 @@ class FaultKind(enum.IntEnum):
 
 
 class Fault(namedtuple("Fault", "kind address word")):
-    """A fault: its FaultKind, the pc or the data address, and the word of ILLEGAL_INSTRUCTION, else 0.
+    """A fault: its FaultKind, the pc or the data address, and the word of ILLEGAL_INSTRUCTION.
 
     It leaves the registers, the pc and memory as they were.
     """
@@ -106,13 +115,13 @@ class Fault(namedtuple("Fault", "kind address word")):
 
 
 End = namedtuple("End", "steps fault at_stop")
-End.__doc__ = """How a run ended: the number of steps, the Fault or None, and whether it is at a stop."""
+End.__doc__ = """How a run ended: the steps, the Fault or None, and whether it is at a stop."""
 
 Retired = namedtuple("Retired", [name for name, _ in _Retired._fields_])
-Retired.__doc__ = """What a step retired, under the names of RVFI; rrs.h says what each field means."""
+Retired.__doc__ = """What a step retired, under the names of RVFI: rrs.h says of each what it is."""
 
 Instruction = namedtuple("Instruction", [name for name, _ in _Instruction._fields_])
-Instruction.__doc__ = """The number of a row, 1 to 48, and its fields; 0 where its format has none."""
+Instruction.__doc__ = """The number of a row, 1 to 48, and its fields, 0 where it has none."""
 
 
 def _fault_of(fault):
@@ -165,8 +174,8 @@ class _Registers:
 class Machine:
     """A hart, and words of memory from the address ``base`` on.
 
-    ``program`` is bytes, or a sequence of words. ``size`` is the number of words of memory, at least
-    those of the program; the others are 0. The pc begins at ``base``, a multiple of 4.
+    ``program`` is bytes, or a sequence of words. ``size`` is the number of words of memory, at
+    least those of the program; the others are 0. The pc begins at ``base``, a multiple of 4.
     """
 
     def __init__(self, program, base=0, size=None):

@@ -71,7 +71,8 @@ static int is_taken(uint32_t funct3, uint32_t a, uint32_t b) {
 /* Where `width` bytes at an address lie, or NULL where they are not all there, or not aligned. */
 static uint8_t *place(struct design *design, uint32_t address, uint32_t width) {
     uint32_t offset = address - design->base;
-    if (address % width != 0 || offset >= design->size || design->size - offset < width) return NULL;
+    if (address % width != 0 || offset >= design->size || design->size - offset < width)
+        return NULL;
     return design->bytes + offset;
 }
 

@@ -1,5 +1,5 @@
-/* Checks a design against the kit, step by step, on generated programs: once as it is, and once with
- * each fault that can be planted in it. Prints the first record that differs. */
+/* Checks a design against the kit, step by step, on generated programs: once as it is, and once
+ * with each fault that can be planted in it. Prints the first record that differs. */
 #include <stdio.h>
 #include <string.h>
 
@@ -61,8 +61,8 @@ static uint32_t random_word(void) {
     }
 }
 
-/* A program, and data behind it. Now and then x2 gets the pc, and jalr goes on from there, to an odd
- * target whose bit 0 the specification clears. */
+/* A program, and data behind it. Now and then x2 gets the pc, and jalr goes on from there, to an
+ * odd target whose bit 0 the specification clears. */
 static void make_program(uint32_t *words) {
     unsigned i = 0;
     while (i + 5 < CODE) {
@@ -80,14 +80,16 @@ static void make_program(uint32_t *words) {
 /* Prints the fields of two records that differ. */
 static void print_difference(const rrs_retired *wanted, const rrs_retired *got) {
     static const char *const names[] = {
-        "insn",     "fetched",   "trap",     "pc_rdata", "pc_wdata",  "rs1_addr",  "rs1_rdata", "rs2_addr",
-        "rs2_rdata", "rd_addr",  "rd_wdata", "mem_addr", "mem_rmask", "mem_wmask", "mem_rdata", "mem_wdata"};
+        "insn",      "fetched",   "trap",      "pc_rdata", "pc_wdata", "rs1_addr",
+        "rs1_rdata", "rs2_addr",  "rs2_rdata", "rd_addr",  "rd_wdata", "mem_addr",
+        "mem_rmask", "mem_wmask", "mem_rdata", "mem_wdata"};
     uint32_t a[16], b[16];
     int i;
     memcpy(a, &wanted->insn, sizeof a);
     memcpy(b, &got->insn, sizeof b);
     for (i = 0; i < 16; i++)
-        if (a[i] != b[i]) printf("    %s: 0x%08x, and the design has 0x%08x\n", names[i], a[i], b[i]);
+        if (a[i] != b[i])
+            printf("    %s: 0x%08x, and the design has 0x%08x\n", names[i], a[i], b[i]);
 }
 
 /* Runs one program on both, until they differ or the kit faults. Returns whether they differ. */

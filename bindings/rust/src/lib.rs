@@ -1,5 +1,5 @@
-//! A RISC-V simulator kit, RV32I with multiply and divide, whose steps are proved to be those of its
-//! table. This crate is a safe face of `librrs_c.a`; it allocates nothing and needs no `std`.
+//! A RISC-V simulator kit, RV32I with multiply and divide, whose steps are proved to be those of
+//! its table. This crate is a safe face of `librrs_c.a`; it allocates nothing and needs no `std`.
 //!
 //! ```
 //! use rrs::{Fault, Hart, Memory};
@@ -281,7 +281,11 @@ impl Hart {
     }
 
     /// Makes a step, and tells what it retired, under this number.
-    pub fn step_rvfi(&mut self, memory: &mut Memory<'_>, order: u64) -> (Result<(), Fault>, Retired) {
+    pub fn step_rvfi(
+        &mut self,
+        memory: &mut Memory<'_>,
+        order: u64,
+    ) -> (Result<(), Fault>, Retired) {
         let Memory { words, base } = memory;
         let mut record = sys::Retired::default();
         let fault = unsafe {

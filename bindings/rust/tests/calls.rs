@@ -15,7 +15,8 @@ fn a_store_is_told_and_changes_the_words() {
     let (answer, retired) = hart.step_rvfi(&mut Memory::new(&mut words, 0x8000_0000), 5);
     assert_eq!((answer, retired.order, retired.insn), (Ok(()), 5, Some(0x0020_a223)));
     assert_eq!((retired.rs1_addr, retired.rs2_rdata), (1, 0x1234_5678));
-    assert_eq!((retired.mem.addr, retired.mem.wmask, retired.mem.wdata), (0x8000_0008, 15, 0x1234_5678));
+    let mem = retired.mem;
+    assert_eq!((mem.addr, mem.wmask, mem.wdata), (0x8000_0008, 15, 0x1234_5678));
     assert_eq!((words[2], hart.pc), (0x1234_5678, 0x8000_0004));
 }
 

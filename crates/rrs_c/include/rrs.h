@@ -8,14 +8,15 @@
  *
  * - Ownership. The caller owns every value, and no function keeps a pointer after it returns. None
  *   allocates, prints, calls back, or ends the process.
- * - Pointers. None may be NULL, also not one to an array of length 0. What two of them point to must
- *   not overlap. Nothing else is asked: every hart, every word and every address has an answer.
+ * - Pointers. None may be NULL, also not one to an array of length 0. What two of them point to
+ *   must not overlap. Nothing else is asked: every hart, word and address has an answer.
  * - Threads. There is no state but the caller's, so calls on different values may run at the same
  *   time. Two calls on the same hart or the same words must not.
  *
  * Memory is `count` words, which lie one after another from the address `base` on, each as four
  * bytes, lowest first. All of them can be read and written. `base` is a multiple of 4; its two
- * lowest bits are not looked at. Addresses end at 0xffffffff: words that would lie past it have none.
+ * lowest bits are not looked at. Addresses end at 0xffffffff: words that would lie past it have
+ * none.
  * On a machine that stores the lowest byte first, as x86-64 does, the words are the bytes of a
  * program as its file has them.
  */
@@ -42,8 +43,8 @@ uint32_t rrs_version(void);
 typedef struct rrs_hart {
     uint32_t x[32]; /* x1 to x31. x[0] is never read or changed: register x0 is 0. */
     uint32_t pc;    /* The address of the next instruction, in bytes. */
-    uint32_t last;  /* The register that the latest step wrote, 1 to 31, and 0 where it wrote none. As
-                     * input any other number says none too. */
+    uint32_t last;  /* The register that the latest step wrote, 1 to 31, and 0 where it wrote none.
+                     * As input any other number says none too. */
 } rrs_hart;
 
 /* Why a step, or a run, ended. */
@@ -53,15 +54,15 @@ enum rrs_fault_kind {
     RRS_FETCH_FAULT = 2,         /* The pc is past the words. */
     RRS_LOAD_FAULT = 3,          /* A load's bytes are past the words. */
     RRS_STORE_FAULT = 4,         /* A store's bytes are past the words. */
-    RRS_MISALIGNED = 5,          /* The pc is no multiple of 4, or a data address none of the size. */
-    RRS_ECALL = 6,               /* The instruction is ecall: the caller serves it, and sets the pc. */
+    RRS_MISALIGNED = 5,          /* The pc is no multiple of 4, or an address none of the size. */
+    RRS_ECALL = 6,               /* The instruction is ecall: C serves it, and sets the pc. */
     RRS_EBREAK = 7               /* The instruction is ebreak. */
 };
 
 /* After a fault the registers, the pc and memory are as before the step, and `last` is 0. */
 typedef struct rrs_fault {
     uint32_t kind;    /* One of enum rrs_fault_kind. */
-    uint32_t address; /* The pc, or of a load or a store the data address. 0 where there is no fault. */
+    uint32_t address; /* The pc, or of a load or a store the data address; 0 for no fault. */
     uint32_t word;    /* The word of RRS_ILLEGAL_INSTRUCTION, else 0. */
 } rrs_fault;
 
@@ -79,15 +80,15 @@ rrs_fault rrs_step(rrs_hart *hart, uint32_t *words, size_t count, uint32_t base)
  * 28 KiB on the stack. */
 rrs_end rrs_run(rrs_hart *hart, uint32_t *words, size_t count, uint32_t base, uint64_t limit);
 
-/* Makes steps until the pc is one of the `stop_count` addresses at `stops`, `limit` steps were made,
- * or one faults. It ends before the instruction at a stop. The first step is made wherever the pc
- * is, so a run that ended at a stop goes on by the same call. */
+/* Makes steps until the pc is one of the `stop_count` addresses at `stops`, `limit` were made, or
+ * one faults. It ends before the instruction at a stop. The first step is made wherever the pc is,
+ * so a run that ended at a stop goes on by the same call. */
 rrs_end rrs_run_until(rrs_hart *hart, uint32_t *words, size_t count, uint32_t base, uint64_t limit,
                       const uint32_t *stops, size_t stop_count);
 
-/* What a step retired, in the shape of RVFI, the RISC-V Formal Interface (NRET 1, ILEN and XLEN 32).
- * A step that faulted has a record too, with trap 1. The interface's halt, intr, mode and ixl are
- * the same in each step of this machine: 0, 0, 3 and 1. docs/C.md says what else differs. */
+/* What a step retired, in the shape of RVFI, the RISC-V Formal Interface (NRET 1, ILEN and XLEN
+ * 32). A step that faulted has a record too, with trap 1. The interface's halt, intr, mode and ixl
+ * are the same in each step of this machine: 0, 0, 3 and 1. docs/C.md says what else differs. */
 typedef struct rrs_retired {
     uint64_t order;     /* The number that the caller gave. */
     uint32_t insn;      /* The word at the pc, or 0 where none was fetched. */
@@ -132,13 +133,13 @@ rrs_instruction rrs_decode(uint32_t word);
 
 /* Writes the text of the instruction that a word is at the address `pc`, and a 0 after it, as
  * "addi x1, x2, -3", where the `size` bytes at `text` have room for both, and else nothing. Returns
- * the length of the text without the 0, whether it had room or not: at most RRS_TEXT_SIZE - 1, and 0
- * for a word outside the table. What follows the 0 in the buffer is left as it was. */
+ * the length of the text without the 0, whether it had room or not: at most RRS_TEXT_SIZE - 1, and
+ * 0 for a word outside the table. What follows the 0 in the buffer is left as it was. */
 size_t rrs_disassemble(uint32_t word, uint32_t pc, char *text, size_t size);
 
-/* Memory and devices that the caller keeps, in place of words: C reads the word at the pc, asks which
- * access its instruction makes, makes it, and completes the step with what came of it. No call back
- * is made. A word that C can't read is a fetch fault, which C tells itself. */
+/* Memory and devices that the caller keeps, in place of words: C reads the word at the pc, asks
+ * which access its instruction makes, makes it, and completes the step with what came of it. No
+ * call back is made. A word that C can't read is a fetch fault, which C tells itself. */
 enum rrs_access_kind {
     RRS_NO_ACCESS = 0,
     RRS_LOAD = 1,
@@ -146,11 +147,11 @@ enum rrs_access_kind {
 };
 
 typedef struct rrs_access {
-    rrs_fault fault;  /* The fault before any access, or kind RRS_OK. rrs_complete gives the same. */
+    rrs_fault fault;  /* The fault before any access, or RRS_OK. rrs_complete gives the same. */
     uint32_t kind;    /* One of enum rrs_access_kind. */
     uint32_t address; /* The address of the first byte, a multiple of the size. */
     uint32_t size;    /* 1, 2 or 4 bytes, and 0 where there is no access. */
-    uint32_t value;   /* Of a store: the register's value, whose `size` low bytes are stored. Else 0. */
+    uint32_t value;   /* Of a store the register's value, whose `size` low bytes count; else 0. */
 } rrs_access;
 
 /* The access that `word` makes, which is the word at the pc. Nothing changes. */
