@@ -1,15 +1,19 @@
 -- Where a whole text goes wrong, by where its opening or its operands do.
-use Rattle.std.proofs.Common.{◌≡◌, ◌≢◌, ◌⊎◌, inl, inr, ℕ, ◌+◌, ◌-◌, ◌<◌, ◌≤◌, pos, List, [], ◌++◌, length, refl, sym, ap, subst, ◌∙◌, arith}
+use Rattle.std.proofs.Common.{◌≡◌, ◌≢◌, ◌⊎◌, inl, inr, ℕ, ◌+◌, ◌*◌, ◌^◌, ◌-◌, ◌<◌, ◌≤◌, pos, List, [], ◌++◌, length, refl, sym, ap, subst, ◌∙◌, arith}
+use Rattle.std.specs.Prelude.{codes}
 use Rattle.std.proofs.lemmas.Int.{ints}
 use Rattle.std.proofs.lemmas.Bool.{ltb-true}
 use Rattle.std.proofs.lemmas.List.{append_cancel_left, length-append}
-use Rattle.rrs_lib.specs.Encodings.{R, I, IShamt, S, B, U, J}
+use Rattle.rrs_lib.specs.Words.{floor_mod}
+use Rattle.rrs_lib.specs.Encodings.{Fields, R, I, IShamt, S, B, U, J, encode}
 use Rattle.rrs_lib.specs.Table.{Row, table}
+use Rattle.rrs_extra.specs.Showing.{AreOneOrFences}
+use Rattle.rrs_extra.proofs.SameWords.{words_faithful}
 use Rattle.rrs_assembler.specs.declared.rows.Shape.{Shape}
 use Rattle.rrs_assembler.specs.declared.rows.Shape.TheVariants.{ThreeRegisters, Immediate, Shamt, Upper, UpperToPc, Branch, LoadFrom, StoreTo, Jump, JumpTo, Alone}
-use Rattle.rrs_assembler.specs.Assembling.{common_length, IsFurthest}
+use Rattle.rrs_assembler.specs.Assembling.{common_length, HasText, IsFurthest}
 use Rattle.rrs_assembler.specs.Readers.{Fails}
-use Rattle.rrs_assembler.specs.Shapes.{Form, all_forms, opening_of, shape_of, last_of, funct_of, IsOperands, FailsOpenings, IsTextOfSome}
+use Rattle.rrs_assembler.specs.Shapes.{Form, all_forms, opening_of, shape_of, last_of, funct_of, IsOperands, FailsOpenings, IsTextOfSome, IsAssembled, Shows}
 use Rattle.rrs_assembler.proofs.Lengths.{common-append}
 use Rattle.rrs_assembler.proofs.Forms.{row_of_form, each_form, rows_apart, differ-common, three_small, last_small}
 use Rattle.rrs_assembler.proofs.Openings.{IsOtherThan}
@@ -99,3 +103,36 @@ furthest pc text left fails =
       over = λ w other h. let here = fails.over other (w, h) in omega (arith, here, few);
       reached = (fails.reached.1.0, fails.reached.0, fails.reached.1.1, omega (arith, there, few));
     }
+
+-- ---- the word that is made
+
+pub assembled_text : (pc w : ℕ) (text : List ℕ) → IsAssembled pc text w → HasText pc w text
+assembled_text pc w text is =
+    subst (λ v. HasText pc v text) (sym is.encoded) (subst (λ (l : List ℕ). HasText pc (encode (table is.row).opcode is.fields) l) (sym is.whole) (has_text is.row pc is.rest is.fields is.shows))
+
+-- a word with the same text is this one, or both are fence
+pub only_word : (pc v w : ℕ) (text : List ℕ) → HasText pc v text → HasText pc w text → AreOneOrFences v w
+only_word pc v w text first second = (words_faithful pc v w text text first second).0 refl
+
+fence_word : (pc : ℕ) (x : List ℕ) (f : Fields) → Shows Alone 0 255 pc x f → encode 0x0f f ≡ 0x0ff0000f
+fence_word pc x (I f) h = λ i. 0x0f + h.2 i * 2 ^ 7 + h.1 i * 2 ^ 12 + h.3 i * 2 ^ 15 + floor_mod (h.4 i) (2 ^ 12) * 2 ^ 20
+fence_word pc x f h = elim h [ ]
+
+fence_row : (row : Row) (pc : ℕ) (x : List ℕ) (f : Fields) → row ≡ Row.Fence → Shows (shape_of row) (funct_of (table row).funct3) (last_of row) pc x f → encode (table row).opcode f ≡ 0x0ff0000f
+fence_row row pc x f e shows =
+    subst (λ r. Shows (shape_of r) (funct_of (table r).funct3) (last_of r) pc x f → encode (table r).opcode f ≡ 0x0ff0000f) (sym e) (fence_word pc x f) shows
+
+-- of the words of fence it is this one
+pub fence_only : (pc w : ℕ) (text : List ℕ) → IsAssembled pc text w → text ≡ codes "fence" → w ≡ 0x0ff0000f
+fence_only pc w text is fence =
+    elim (rows_apart Row.Fence is.row) [
+      | inl same ↦ is.encoded ∙ fence_row is.row pc is.rest is.fields same is.shows
+      | inr apart ↦ absurd ((differ-common (opening_of Row.Fence) (opening_of is.row) [] is.rest apart).1 (sym fence ∙ is.whole))
+    ]
+
+-- and it is one
+pub fence_is_text : (pc : ℕ) (text : List ℕ) (left : ℕ) → Fails (IsTextOfSome pc) text left → text ≢ codes "fence"
+unfolding some_operands
+fence_is_text pc text left fails e =
+    let some = text_of_rest Row.Fence pc [] (some_operands Alone 0 255 pc (omega arith) (inr (refl, omega arith))).1 in
+    fails.none (codes "fence") some e

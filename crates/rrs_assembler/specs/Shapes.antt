@@ -4,7 +4,7 @@ use Rattle.rrs_assembler.specs.declared.rows.RowForm.{RowForm}
 use Rattle.std.specs.List.{AllByRecursion}
 use Rattle.std.specs.Fmt.{decimal, signed_decimal}
 use Rattle.rrs_lib.specs.Words.{word}
-use Rattle.rrs_lib.specs.Encodings.{Fields, R, I, IShamt, S, B, U, J, IsInRange}
+use Rattle.rrs_lib.specs.Encodings.{Fields, R, I, IShamt, S, B, U, J, IsInRange, encode}
 use Rattle.rrs_lib.specs.Results.{plus_immediate}
 use Rattle.rrs_lib.specs.Table.{Row, table, all_rows, Constraint, Exactly, Absent, Action, OnRegisters, OnImmediate, OnShamt, LoadUpper, AddUpperToPc, BranchIf, BranchUnless, Load, Store, JumpAndLink, JumpAndLinkRegister, NoEffect, CallEnvironment, Break}
 use Rattle.rrs_lib.specs.Texts.{name_of, register, hexadecimal}
@@ -136,3 +136,12 @@ pub record FailsOpenings (forms : List Form) (text : List ℕ) (left : ℕ) : Ty
 -- some word has this text at this address
 abbrev pub IsTextOfSome : ℕ → List ℕ → Type 0
 IsTextOfSome pc text = (w : ℕ) × HasText pc w text
+
+-- the text is that of a row with these fields, and the word is theirs
+pub record IsAssembled (pc : ℕ) (text : List ℕ) (w : ℕ) : Type 0 where
+  pub row : Row
+  pub fields : Fields
+  pub rest : List ℕ
+  pub whole : text ≡ opening_of row ++ rest
+  pub shows : Shows (shape_of row) (funct_of (table row).funct3) (last_of row) pc rest fields
+  pub encoded : w ≡ encode (table row).opcode fields

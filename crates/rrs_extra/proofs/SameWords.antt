@@ -113,7 +113,7 @@ alike_from first second row f is (inr fences) =
     record { row = Row.Fence; first_fields = fences.0.0; second_fields = fences.1.0; is_first = fences.0.1; is_second = fences.1.1; same = refl }
 
 -- Two texts at one address are equal exactly when their words are one or both fence.
-words_faithful : (pc first second : ℕ) (a b : List ℕ) → IsRowAnd first (λ row f. text_of row f pc ≡ Some a) → IsRowAnd second (λ row f. text_of row f pc ≡ Some b)
+pub words_faithful : (pc first second : ℕ) (a b : List ℕ) → IsRowAnd first (λ row f. text_of row f pc ≡ Some a) → IsRowAnd second (λ row f. text_of row f pc ≡ Some b)
     → (a ≡ b) ↔ AreOneOrFences first second
 words_faithful pc first second a b x y =
     let texts = faithful pc first second a b x y in

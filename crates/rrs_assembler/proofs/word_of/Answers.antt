@@ -2,13 +2,12 @@ use Rattle.std.proofs.Common.{◌≡◌, ◌<◌, ℕ, List, ◌++◌, rules, su
 use Rattle.std.proofs.lemmas.Bool.{ltb-true}
 use Rattle.rrs_lib.specs.Encodings.{encode}
 use Rattle.rrs_lib.specs.Instructions.{as_fields}
-use Rattle.rrs_lib.specs.Table.{Row, table}
+use Rattle.rrs_lib.specs.Table.{Row}
 use Rattle.rrs_lib.proofs.Rows.{small_opcode}
-use Rattle.rrs_assembler.specs.Assembling.{HasText}
 use Rattle.rrs_assembler.specs.Readers.{Fails}
 use Rattle.rrs_assembler.specs.Shapes.{Form, form_of, form_of_row, IsTextOfSome, IsOperands, Shows, opening_of}
 use Rattle.rrs_assembler.proofs.Forms.{row_of_form, three_small, last_small}
-use Rattle.rrs_assembler.proofs.RowTexts.{LastFits, has_text, fields_in_range}
+use Rattle.rrs_assembler.proofs.RowTexts.{LastFits, fields_in_range}
 use Rattle.rrs_assembler.proofs.Whole.{IsRest, no_opening, no_operands}
 use Rattle.rrs_assembler.proofs.word_of.Goals as goal
 
@@ -55,7 +54,11 @@ pub returns : goal.returns
 returns c =
     let found = row_of_form _ c.in_ok-row.ensures.0 in
     let fields = as_fields c.in_ok-fields.fields in
-    let shows = subst (λ (f : Form). Shows f.1 f.3 f.4 c.args.pc c.in_ok-row.rest.now fields) found.1 c.in_ok-fields.ensures in
-    let text = begins (form_of c.in_ok-row.row) found.0 _ _ found.1 c.in_ok-row.ensures.1 in
-    let word : c.encode.result ≡ encode (table found.0).opcode fields = c.encode.ensures ∙ ap (λ (f : Form). encode f.2 fields) found.1 in
-    subst (λ w. HasText c.args.pc w c.args.text.now) (sym word) (subst (λ (l : List ℕ). HasText c.args.pc (encode (table found.0).opcode fields) l) (sym text) (has_text found.0 c.args.pc c.in_ok-row.rest.now fields shows))
+    record {
+      row = found.0;
+      fields = fields;
+      rest = c.in_ok-row.rest.now;
+      whole = begins (form_of c.in_ok-row.row) found.0 _ _ found.1 c.in_ok-row.ensures.1;
+      shows = subst (λ (f : Form). Shows f.1 f.3 f.4 c.args.pc c.in_ok-row.rest.now fields) found.1 c.in_ok-fields.ensures;
+      encoded = c.encode.ensures ∙ ap (λ (f : Form). encode f.2 fields) found.1;
+    }
