@@ -16,7 +16,7 @@ use std::process::Abort;
 use std::test::Fail;
 
 /// One word of each row, in the order of the table, and its text at address 0x100.
-fn rows() -> [(u32, &'static str); ROW_COUNT] {
+pub fn rows() -> [(u32, &'static str); ROW_COUNT] {
     [
         (0x002081b3, "add x3, x1, x2"),
         (0x402081b3, "sub x3, x1, x2"),
