@@ -22,8 +22,10 @@ IsPastPiece (c ∷ cs) = c < 45
 
 -- the same of a piece of a text, whatever follows past it
 pub record FailsPiece (Piece : List ℕ → Type 0) (text : List ℕ) (left : ℕ) : Type 0 where
-  pub over : (p x : List ℕ) → Piece p → IsPastPiece x → common_length text (p ++ x) + left ≤ length text
-  pub reached : (p : List ℕ) × Piece p × ((x : List ℕ) → IsPastPiece x → common_length text (p ++ x) + left ≡ length text)
+  pub over : (p x : List ℕ) → Piece p → IsPastPiece x
+      → common_length text (p ++ x) + left ≤ length text
+  pub reached : (p : List ℕ) × Piece p
+      × ((x : List ℕ) → IsPastPiece x → common_length text (p ++ x) + left ≡ length text)
   pub none : (p x : List ℕ) → Piece p → IsPastPiece x → text ≢ p ++ x
 
 -- the same of one text, whatever follows it
@@ -33,8 +35,10 @@ pub record FailsLiteral (literal text : List ℕ) (left : ℕ) : Type 0 where
 
 -- the same of a piece and a separator, whatever follows
 pub record FailsBefore (Piece : List ℕ → Type 0) (separator text : List ℕ) (left : ℕ) : Type 0 where
-  pub over : (p x : List ℕ) → Piece p → common_length text (p ++ (separator ++ x)) + left ≤ length text
-  pub reached : (p : List ℕ) × Piece p × ((x : List ℕ) → common_length text (p ++ (separator ++ x)) + left ≡ length text)
+  pub over : (p x : List ℕ) → Piece p
+      → common_length text (p ++ (separator ++ x)) + left ≤ length text
+  pub reached : (p : List ℕ) × Piece p
+      × ((x : List ℕ) → common_length text (p ++ (separator ++ x)) + left ≡ length text)
   pub none : (p x : List ℕ) → Piece p → text ≢ p ++ (separator ++ x)
 
 -- the text is this piece and the rest, and no other piece reaches into the rest
