@@ -2,7 +2,7 @@
 //!
 //! [assemble] takes exactly the texts that `InstructionStringOutputter` of `rrs_lib` gives, at the
 //! same address, and returns the word. Its syntax has one way to write each instruction: see the
-//! table of `rrs_lib`'s module `instruction_string_outputter`. It allocates nothing.
+//! table of `rrs_lib`'s module `disassembly`. It allocates nothing.
 //!
 //! A text is read piece by piece. What each reader says of a text that it refuses, where the text
 //! stops to be a beginning of what is wanted, is written in `specs/Readers.antt`, and so it can be

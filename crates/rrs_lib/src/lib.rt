@@ -3,7 +3,8 @@
 //! `process_instruction` decodes a word and calls a function of an [InstructionProcessor], for
 //! which a user writes an [InstructionHandler]: one function over an `Instruction`. The processor
 //! of `instruction_executor` executes the instruction, over any [Memory]; that of
-//! `instruction_string_outputter` gives its text; `memories` has memories and a loader.
+//! `instruction_string_outputter` gives its text, which `disassembly` makes with no allocation;
+//! `memories` has memories and a loader.
 //!
 //! What the rows of the table are, and what they do, is written in `specs/`, in the terms of the
 //! RISC-V unprivileged specification. The contracts of the calls here cite these definitions. Two
