@@ -12,11 +12,13 @@ use crate::rows::Shape;
 use rrs_lib::instruction::InstructionFields;
 use rrs_lib::instruction_formats::{BType, IType, ITypeShamt, JType, RType, SType, UType};
 
-/// How far a branch reaches, `jal`, and `lui` and `auipc`, in bytes forward and backward.
+/// How far a branch reaches, in bytes: so many backward, and fewer forward.
 const BRANCH_REACH: u32 = 0x1000;
 
+/// How far `jal` reaches.
 const JUMP_REACH: u32 = 0x10_0000;
 
+/// How far `auipc` reaches, and the word of `lui` from 0.
 const UPPER_REACH: u32 = 0x8000_0000;
 
 /// The fields that a text shows as operands of this shape, with funct3 and the last as given.
@@ -46,6 +48,7 @@ pub fn fields_of(
     }
 }
 
+/// The operands of an operation on two registers: `x3, x1, x2`.
 fn three_registers(text: &[u8], funct3: u32, funct7: u32) -> Result<InstructionFields, Stop>
     requires funct3 { funct3 < 2 ^ 3 }
     requires funct7 { funct7 < 2 ^ 7 }
@@ -63,6 +66,7 @@ fn three_registers(text: &[u8], funct3: u32, funct7: u32) -> Result<InstructionF
     }))
 }
 
+/// Those of an operation on a register and an immediate: `x3, x1, -5`.
 fn register_and_immediate(text: &[u8], funct3: u32) -> Result<InstructionFields, Stop>
     requires { funct3 < 2 ^ 3 }
     ensures { ReadsOperands Shape.Immediate funct3 0 0 text.now result }
@@ -78,6 +82,7 @@ fn register_and_immediate(text: &[u8], funct3: u32) -> Result<InstructionFields,
     }))
 }
 
+/// Those of a shift by an amount: `x3, x1, 7`.
 fn shift(text: &[u8], funct3: u32, funct7: u32) -> Result<InstructionFields, Stop>
     requires funct3 { funct3 < 2 ^ 3 }
     requires funct7 { funct7 < 2 ^ 7 }
@@ -95,7 +100,8 @@ fn shift(text: &[u8], funct3: u32, funct7: u32) -> Result<InstructionFields, Sto
     }))
 }
 
-/// A register and the sum of an upper immediate with a base.
+/// Those of `lui`, where the base is 0, and of `auipc`, where it is the pc: `x3, 0x12345100`, of
+/// which the last is the base plus the immediate.
 fn upper(text: &[u8], base: u32) -> Result<InstructionFields, Stop>
     ensures { ReadsOperands Shape.UpperToPc 0 0 base text.now result }
 {
@@ -104,6 +110,7 @@ fn upper(text: &[u8], base: u32) -> Result<InstructionFields, Stop>
     Ok(InstructionFields::U(UType { imm, rd }))
 }
 
+/// Those of a branch: `x1, x2, 0x00000108`, of which the last is the target.
 fn branch(text: &[u8], funct3: u32, pc: u32) -> Result<InstructionFields, Stop>
     requires { funct3 < 2 ^ 3 }
     ensures { ReadsOperands Shape.Branch funct3 0 pc text.now result }
@@ -119,6 +126,7 @@ fn branch(text: &[u8], funct3: u32, pc: u32) -> Result<InstructionFields, Stop>
     }))
 }
 
+/// Those of a load: `x3, -4(x1)`.
 fn load(text: &[u8], funct3: u32) -> Result<InstructionFields, Stop>
     requires { funct3 < 2 ^ 3 }
     ensures { ReadsOperands Shape.LoadFrom funct3 0 0 text.now result }
@@ -135,6 +143,7 @@ fn load(text: &[u8], funct3: u32) -> Result<InstructionFields, Stop>
     }))
 }
 
+/// Those of a store: `x2, 8(x1)`.
 fn store(text: &[u8], funct3: u32) -> Result<InstructionFields, Stop>
     requires { funct3 < 2 ^ 3 }
     ensures { ReadsOperands Shape.StoreTo funct3 0 0 text.now result }
@@ -151,6 +160,7 @@ fn store(text: &[u8], funct3: u32) -> Result<InstructionFields, Stop>
     }))
 }
 
+/// Those of `jal`: `x3, 0x00000110`, of which the last is the target.
 fn jump(text: &[u8], pc: u32) -> Result<InstructionFields, Stop>
     ensures { ReadsOperands Shape.Jump 0 0 pc text.now result }
 {
@@ -159,6 +169,7 @@ fn jump(text: &[u8], pc: u32) -> Result<InstructionFields, Stop>
     Ok(InstructionFields::J(JType { imm, rd }))
 }
 
+/// Those of `jalr`: `x3, 0x014(x1)`.
 fn jump_to(text: &[u8], funct3: u32) -> Result<InstructionFields, Stop>
     requires { funct3 < 2 ^ 3 }
     ensures { ReadsOperands Shape.JumpTo funct3 0 0 text.now result }
