@@ -81,3 +81,13 @@ module _ {M : Type 0} (bytes : M → ByteMap) (writable : M → ℕ → Bool) (l
     pub layout_kept : layout new ≡ layout old
     pub lawful : IsLawful (bytes old) (writable old) a n
     pub ends : EndsAtLastAddress (bytes old) (writable old)
+
+-- ---- pure reads
+
+-- Reads of a memory of type M do nothing, by its own relation: of each value of it, a read at any
+-- aligned address answers as the law has it and leaves that very value. So one may be left out.
+abbrev pub ReadsArePure : {M : Type 0} → (M → ByteMap)
+    → (M → ℕ → MemAccessSize → M → Option ℕ → Type 0) → Type 0
+ReadsArePure {M = M} bytes reads = (m : M) (address : ℕ) (size : MemAccessSize)
+    → address % width size ≡ 0
+    → reads m address size m (little_endian (bytes m) address (width size))

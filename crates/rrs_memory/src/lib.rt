@@ -11,7 +11,8 @@
 pub mod memories;
 
 ghost use Rattle.std.specs.Prelude.{◌≡◌, ◌↔◌, ℕ, ◌%◌, List, Bool, Option, IsTrue};
-ghost use Rattle.rrs_memory.specs.Bytes.{width, Reads, Writes};
+ghost use Rattle.std.specs.Bool.{OnTrue};
+ghost use Rattle.rrs_memory.specs.Bytes.{width, Reads, Writes, ReadsArePure};
 
 /// The sizes of memory accesses.
 #[derive(Debug, PartialEq, Clone, Copy)]
@@ -86,4 +87,13 @@ pub trait Memory {
         ensures laws { Writes bytes writable layout
             self.old self.new addr (width size) store_data result }
         ensures did { writes self.old addr size store_data self.new result };
+
+    /// Whether a read does nothing, by the relation `reads`. A long run then fetches each word once.
+    ///
+    /// An implementation that says nothing of it answers `false`.
+    fn reads_are_pure(&self) -> bool
+        ensures pure { OnTrue result (ReadsArePure bytes reads) }
+    {
+        false
+    }
 }

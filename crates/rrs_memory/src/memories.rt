@@ -1,9 +1,9 @@
 //! Memories for a simulator.
 
-ghost use Rattle.std.specs.Prelude.{◌≡◌, ◌≢◌, ℕ, ◌+◌, ◌*◌, ◌/◌, ◌%◌, ◌^◌, ◌≤◌, length};
+ghost use Rattle.std.specs.Prelude.{◌≡◌, ◌≢◌, ℕ, ◌+◌, ◌*◌, ◌/◌, ◌%◌, ◌^◌, ◌≤◌, length, true};
 ghost use Rattle.std.specs.Prelude.{slice_index};
 ghost use Rattle.std.specs.Bool.{OnTrue, OnFalse};
-ghost use Rattle.rrs_memory.specs.Bytes.{width, little_endian, all_writable, store, Reads, Writes};
+ghost use Rattle.rrs_memory.specs.Bytes.{width, little_endian, all_writable, store, Reads, Writes, ReadsArePure};
 ghost use Rattle.rrs_memory.specs.VecBytes.{bytes_of_words, lies_in_words};
 
 mod boxed;
@@ -135,5 +135,14 @@ impl Memory for VecMemory {
         ensures did { VecWrites self.old addr size store_data self.new result }
     {
         write_words(&mut self.mem, addr, size, store_data)
+    }
+
+    /// They are: a program that runs for long has each of its words fetched once.
+    #[inline(always)]
+    fn reads_are_pure(&self) -> bool
+        ensures pure { OnTrue result (ReadsArePure vec_bytes vec_reads) }
+        ensures always { result ≡ true }
+    {
+        true
     }
 }

@@ -71,4 +71,10 @@ impl<'a> Memory for SliceMemory<'a> {
         }
         write_words(self.words, addr - start, size, store_data)
     }
+
+    /// They are, as those of a `VecMemory`.
+    #[inline(always)]
+    fn reads_are_pure(&self) -> bool {
+        true
+    }
 }
