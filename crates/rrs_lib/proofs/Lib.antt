@@ -20,6 +20,7 @@ pub mod Engines
 pub mod ExampleRows
 pub mod Forgetting
 pub mod Keeping
+pub mod Known
 pub mod Making
 pub mod Programs
 pub mod Stepping

@@ -28,4 +28,5 @@ pub mod FaultTexts
 pub mod Executor
 pub mod Engines
 pub mod Decoded
+pub mod Known
 pub mod Outputter
