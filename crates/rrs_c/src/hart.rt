@@ -1,6 +1,6 @@
 //! The hart, and how a step or a run ended, as C has them.
 
-ghost use Rattle.std.specs.Prelude.{◌≡◌, ◌<◌, slice_index};
+ghost use Rattle.std.specs.Prelude.{◌≡◌, ◌<◌, Some, slice_index};
 ghost use Rattle.rrs_lib.specs.Steps.{LastIsRegister};
 ghost use Rattle.rrs_c.specs.Harts.{register_in, hart_in, exception_of, IsFault, IsEnd, answer_of, reason_of};
 
@@ -65,7 +65,7 @@ pub(crate) fn opened(hart: &RrsHart) -> HartState
 
 /// The number of the register that was written last, or 0.
 #[inline]
-fn number_of(last: Option<usize>) -> u32
+pub(crate) fn number_of(last: Option<usize>) -> u32
     ensures register { LastIsRegister last → register_in result ≡ last }
     ensures low { result < 32 }
 {
@@ -110,6 +110,16 @@ pub(crate) fn fault_of(exception: Option<InstructionException>) -> RrsFault
     }
 }
 
+/// The fault that an exception is, out of the way of the steps that go on.
+#[cold]
+#[inline(never)]
+fn fault_of_exception(exception: InstructionException) -> RrsFault
+    ensures same { exception_of result ≡ Some exception }
+    ensures told { IsFault result }
+{
+    fault_of(Some(exception))
+}
+
 /// The fault that the answer of a step is, or none.
 #[inline]
 pub(crate) fn fault_of_answer(answer: Result<(), InstructionException>) -> RrsFault
@@ -118,7 +128,7 @@ pub(crate) fn fault_of_answer(answer: Result<(), InstructionException>) -> RrsFa
 {
     match answer {
         Ok(()) => fault_of(None),
-        Err(exception) => fault_of(Some(exception)),
+        Err(exception) => fault_of_exception(exception),
     }
 }
 

@@ -31,7 +31,9 @@ ghost use Rattle.rrs_debug.specs.Outside.{WithEachMemory, AccessesAfterFetch, re
 ghost use Rattle.rrs_c.specs.Asking.{request_of, IsAccess, given};
 
 use access::{RrsAccess, access_or_fault, given_by};
-use hart::{RrsEnd, RrsFault, RrsHart, close, end_of_run, end_of_stop, fault_of_answer, opened};
+use hart::{
+    RrsEnd, RrsFault, RrsHart, close, end_of_run, end_of_stop, fault_of_answer, number_of, opened,
+};
 use instruction::{RrsInstruction, listed, nothing};
 use lent::{run_lent, run_until_lent, step_lent, step_retired_lent};
 use retired::{RrsRetired, written_out};
@@ -68,11 +70,11 @@ pub extern "C" fn rrs_step(hart: &mut RrsHart, words: &mut [u32], base: u32) -> 
     ensures last { hart.new.last < 32 }
     ensures entry_zero { slice_index hart.new.x 0 ≡ slice_index hart.old.x 0 }
 {
-    let mut state = opened(hart);
     let mut memory = SliceMemory { words, base };
-    let answer = step_lent(&mut memory, &mut state);
-    close(&state, hart);
-    fault_of_answer(answer)
+    let end = step_lent(&mut memory, &mut hart.x, hart.pc);
+    hart.pc = end.pc;
+    hart.last = number_of(end.last_register_write);
+    fault_of_answer(end.answer)
 }
 
 /// Makes steps until as many as `limit` were made, or one faults.
@@ -138,12 +140,12 @@ pub extern "C" fn rrs_step_rvfi(
     ensures last { hart.new.last < 32 }
     ensures entry_zero { slice_index hart.new.x 0 ≡ slice_index hart.old.x 0 }
 {
-    let mut state = opened(hart);
     let mut memory = SliceMemory { words, base };
-    let (answer, seen) = step_retired_lent(&mut memory, &mut state, order);
-    close(&state, hart);
+    let (end, seen) = step_retired_lent(&mut memory, &mut hart.x, hart.pc, order);
+    hart.pc = end.pc;
+    hart.last = number_of(end.last_register_write);
     *retired = written_out(&seen);
-    fault_of_answer(answer)
+    fault_of_answer(end.answer)
 }
 
 /// The instruction that a word is: the number of its row and its fields, and row 0 for a word

@@ -11,6 +11,7 @@ use Rattle.rrs_lib.specs.Steps.{StepAnswer, next_word}
 use Rattle.rrs_lib.specs.Accesses.{Access, Read, Write, AccessesOf}
 use Rattle.rrs_debug.specs.declared.traced.MemoryAccess.{MemoryAccess}
 use Rattle.rrs_debug.specs.declared.retired.Retired.{Retired}
+use Rattle.rrs_debug.specs.declared.retired.Sources.{Sources}
 
 -- ---- the load or the store
 
@@ -58,6 +59,13 @@ pub record HasSources (word : Option ℕ) (rs1 rs2 : ℕ) : Type 0 where
   pub of_row : (w : ℕ) (row : Row) (f : Fields) → word ≡ Some w → Decodes w row f
       → (rs1 ≡ first_source f) × (rs2 ≡ second_source f)
   pub of_none : IfSome word IsIllegal → (rs1 ≡ 0) × (rs2 ≡ 0)
+
+-- they are registers, with the values that these have in a state
+pub record HasValues (s : State) (sources : Sources) : Type 0 where
+  pub first : sources.rs1_rdata ≡ reg s sources.rs1_addr
+  pub second : sources.rs2_rdata ≡ reg s sources.rs2_addr
+  pub first_low : sources.rs1_addr < 32
+  pub second_low : sources.rs2_addr < 32
 
 -- the register that was written last, where 0 says that none was
 abbrev pub last_of : ℕ → Option ℕ

@@ -1,19 +1,21 @@
 //! What a step retires, in the shape of RVFI.
 
-ghost use Rattle.std.specs.Prelude.{slice_index, ◌≡◌, ◌<◌, true, List, None, Option, IfSome};
+ghost use Rattle.std.specs.Prelude.{slice_index, drop, ◌≡◌, ◌<◌, ℕ, List, true, None, Option, Err};
 ghost use Rattle.rrs_lib.specs.Encodings.{HasRegisters};
 ghost use Rattle.rrs_lib.specs.Instructions.{fields_of};
-ghost use Rattle.rrs_lib.specs.Machine.{State, reg, state_of};
+ghost use Rattle.rrs_lib.specs.Machine.{State, reg, state_of, hart_of};
 ghost use Rattle.rrs_lib.specs.Executor.{state_in, KeepsTheRest};
 ghost use Rattle.rrs_lib.specs.Accesses.{Access, AccessesOf, MakesExactly};
 ghost use Rattle.rrs_lib.specs.Steps.{Step, IsOnlyStep, next_word, LastIsRegister};
-ghost use Rattle.rrs_debug.specs.Traced.{traced_state};
-ghost use Rattle.rrs_debug.specs.Retired.{no_access, after_fetch, first_source, second_source, HasSources, last_of, HasRegisterNumbers, Retires};
+ghost use Rattle.rrs_debug.specs.Traced.{traced_state, traced_reads, traced_writes};
+ghost use Rattle.rrs_debug.specs.Retired.{no_access, after_fetch, first_source, second_source, HasSources, HasValues, last_of, HasRegisterNumbers, Retires};
 
 use crate::traced::{MemoryAccess, TracedMemory};
+use rrs_lib::Memory;
 use rrs_lib::instruction::{Instruction, InstructionFields, decode};
-use rrs_lib::instruction_executor::{InstructionException, InstructionExecutor};
-use rrs_lib::{HartState, Memory};
+use rrs_lib::instruction_executor::{
+    InstructionException, InstructionExecutor, StepEnd, execute_apart, fetch_word,
+};
 
 /// What a step retired, under the names of RVFI. A step that faulted retires with `trap`.
 ///
@@ -46,8 +48,22 @@ pub struct Retired {
     pub mem: MemoryAccess,
 }
 
+/// The source registers of a word, with the values that they had, all 0 where there are none.
+#[derive(Clone, Copy)]
+struct Sources {
+    /// The first source register.
+    rs1_addr: usize,
+    /// Its value.
+    rs1_rdata: u32,
+    /// The second source register.
+    rs2_addr: usize,
+    /// Its value.
+    rs2_rdata: u32,
+}
+
 /// The source registers of an instruction, 0 where its format has none.
-fn sources_of(instruction: &Instruction) -> (usize, usize)
+#[inline(always)]
+fn numbers_of(instruction: &Instruction) -> (usize, usize)
     requires { HasRegisters (fields_of instruction.now) }
     ensures first { result.0 ≡ first_source (fields_of instruction.now) }
     ensures second { result.1 ≡ second_source (fields_of instruction.now) }
@@ -64,80 +80,168 @@ fn sources_of(instruction: &Instruction) -> (usize, usize)
     }
 }
 
-/// The source registers of a word, 0 where there is none or it is outside the table.
-fn sources(insn: Option<u32>) -> (usize, usize)
-    ensures sources { HasSources insn result.0 result.1 }
-    ensures first_low { result.0 < 32 }
-    ensures second_low { result.1 < 32 }
+/// The value of a register.
+#[inline]
+fn value_of(registers: &[u32; 32], register: usize) -> u32
+    requires { register < 32 }
+    ensures { (s : State) → s.registers ≡ drop 1 registers.now → result ≡ reg s register }
 {
-    let Some(word) = insn else {
-        return (0, 0);
-    };
-    match decode(word) {
-        Some(instruction) => sources_of(&instruction),
-        None => (0, 0),
+    if register == 0 { 0 } else { registers[register] }
+}
+
+/// The source registers of an instruction, with their values.
+#[inline(always)]
+fn sources_of(instruction: &Instruction, registers: &[u32; 32]) -> Sources
+    requires { HasRegisters (fields_of instruction.now) }
+    ensures first { result.rs1_addr ≡ first_source (fields_of instruction.now) }
+    ensures second { result.rs2_addr ≡ second_source (fields_of instruction.now) }
+    ensures values { (s : State) → s.registers ≡ drop 1 registers.now → HasValues s result }
+{
+    let (rs1_addr, rs2_addr) = numbers_of(instruction);
+    Sources {
+        rs1_addr,
+        rs1_rdata: value_of(registers, rs1_addr),
+        rs2_addr,
+        rs2_rdata: value_of(registers, rs2_addr),
     }
 }
 
+/// No source registers.
+#[inline(always)]
+fn no_sources() -> Sources
+    ensures numbers { (result.rs1_addr ≡ 0) × (result.rs2_addr ≡ 0) }
+    ensures values { (s : State) → HasValues s result }
+{
+    Sources {
+        rs1_addr: 0,
+        rs1_rdata: 0,
+        rs2_addr: 0,
+        rs2_rdata: 0,
+    }
+}
+
+/// How a step ends that faulted before its instruction was executed.
+#[inline(always)]
+fn faulted(exception: InstructionException, pc: u32) -> StepEnd
+    ensures answer { result.answer ≡ Err exception }
+    ensures pc { result.pc ≡ pc }
+    ensures last { result.last_register_write ≡ None }
+{
+    StepEnd {
+        answer: Err(exception),
+        pc,
+        last_register_write: None,
+    }
+}
+
+/// Makes a step over a memory that is traced, and that nothing has accessed yet.
+#[inline(always)]
+fn step_traced<'b, M: Memory>(
+    traced: &mut TracedMemory<'b, M>,
+    registers: &mut [u32; 32],
+    pc: u32,
+) -> (StepEnd, Sources)
+    ensures step { (last : Option ℕ) → Step
+        (traced_state M.bytes M.writable (hart_of registers.old pc last) traced.old)
+        (traced_state M.bytes M.writable (hart_of registers.new result.0.pc
+        result.0.last_register_write) traced.new) result.0.answer }
+    ensures sources { (last : Option ℕ) → HasSources (next_word
+        (traced_state M.bytes M.writable (hart_of registers.old pc last) traced.old))
+        result.1.rs1_addr result.1.rs2_addr }
+    ensures values { (last : Option ℕ) → HasValues
+        (traced_state M.bytes M.writable (hart_of registers.old pc last) traced.old) result.1 }
+    ensures accesses { (last : Option ℕ) → MakesExactly (traced_reads M.reads)
+        (traced_writes M.writes) (AccessesOf
+        (traced_state M.bytes M.writable (hart_of registers.old pc last) traced.old))
+        traced.old traced.new }
+    ensures layout_kept { M.layout traced.new.memory.now ≡ M.layout traced.old.memory.now }
+    ensures entry_zero { slice_index registers.new 0 ≡ slice_index registers.old 0 }
+{
+    let word = match fetch_word(traced, pc) {
+        Ok(word) => word,
+        Err(exception) => return (faulted(exception, pc), no_sources()),
+    };
+    let Some(instruction) = decode(word) else {
+        let illegal = InstructionException::IllegalInstruction(pc, word);
+        return (faulted(illegal, pc), no_sources());
+    };
+    let sources = sources_of(&instruction, registers);
+    (
+        execute_apart(traced, registers, pc, &instruction),
+        sources,
+    )
+}
+
+/// Makes a step over a memory that is traced, and that nothing has accessed yet: what was seen.
+#[inline(always)]
+fn trace_step<'b, M: Memory>(
+    traced: &mut TracedMemory<'b, M>,
+    registers: &mut [u32; 32],
+    pc: u32,
+) -> (StepEnd, Sources)
+    requires first { traced.old.is_fetch ≡ true }
+    requires no_word { traced.old.insn ≡ None }
+    requires no_access { traced.old.access ≡ no_access }
+    ensures step { (last : Option ℕ) → Step
+        (traced_state M.bytes M.writable (hart_of registers.old pc last) traced.old)
+        (traced_state M.bytes M.writable (hart_of registers.new result.0.pc
+        result.0.last_register_write) traced.new) result.0.answer }
+    ensures sources { (last : Option ℕ) → HasSources (next_word
+        (traced_state M.bytes M.writable (hart_of registers.old pc last) traced.old))
+        result.1.rs1_addr result.1.rs2_addr }
+    ensures values { (last : Option ℕ) → HasValues
+        (traced_state M.bytes M.writable (hart_of registers.old pc last) traced.old) result.1 }
+    ensures insn { (last : Option ℕ) → traced.new.insn ≡ next_word
+        (traced_state M.bytes M.writable (hart_of registers.old pc last) traced.old) }
+    ensures access { (last : Option ℕ) (accesses : List Access) → AccessesOf
+        (traced_state M.bytes M.writable (hart_of registers.old pc last) traced.old) accesses
+        → traced.new.access ≡ after_fetch accesses }
+    ensures accesses { (last : Option ℕ) → MakesExactly M.reads M.writes (AccessesOf
+        (traced_state M.bytes M.writable (hart_of registers.old pc last) traced.old))
+        traced.old.memory.now traced.new.memory.now }
+    ensures same_memory { traced.new.memory.ghost_name ≡ traced.old.memory.ghost_name }
+    ensures layout_kept { M.layout traced.new.memory.now ≡ M.layout traced.old.memory.now }
+    ensures entry_zero { slice_index registers.new 0 ≡ slice_index registers.old 0 }
+{
+    step_traced(traced, registers, pc)
+}
+
 /// What was seen of a step.
-#[derive(Drop)]
+#[derive(Clone, Copy)]
 struct SeenStep {
-    /// Its answer.
-    answer: Result<(), InstructionException>,
+    /// How it ended.
+    end: StepEnd,
     /// What the fetch read.
     insn: Option<u32>,
+    /// The source registers of that word.
+    sources: Sources,
     /// The access after the fetch.
     access: MemoryAccess,
 }
 
-/// Makes a step of a hart over a memory that is traced, and that nothing has accessed yet.
-#[inline]
-fn step_traced<'b, M: Memory>(
-    traced: &mut TracedMemory<'b, M>,
-    hart_state: &mut HartState,
-) -> Result<(), InstructionException>
-    requires first { traced.old.is_fetch ≡ true }
-    requires no_word { traced.old.insn ≡ None }
-    requires no_access { traced.old.access ≡ no_access }
-    ensures step { Step (traced_state M.bytes M.writable hart_state.old traced.old)
-        (traced_state M.bytes M.writable hart_state.new traced.new) result }
-    ensures insn { traced.new.insn
-        ≡ next_word (traced_state M.bytes M.writable hart_state.old traced.old) }
-    ensures access { (accesses : List Access)
-        → AccessesOf (traced_state M.bytes M.writable hart_state.old traced.old) accesses
-        → traced.new.access ≡ after_fetch accesses }
-    ensures accesses { MakesExactly M.reads M.writes
-        (AccessesOf (traced_state M.bytes M.writable hart_state.old traced.old))
-        traced.old.memory.now traced.new.memory.now }
-    ensures same_memory { traced.new.memory.ghost_name ≡ traced.old.memory.ghost_name }
-    ensures layout_kept { M.layout traced.new.memory.now ≡ M.layout traced.old.memory.now }
-    ensures entry_zero { slice_index hart_state.new.registers 0
-        ≡ slice_index hart_state.old.registers 0 }
-{
-    let mut executor = InstructionExecutor {
-        mem: traced,
-        hart_state,
-    };
-    executor.step()
-}
-
-/// Makes a step of a hart over a memory, which is traced for it.
-#[inline]
-fn see_step<M: Memory>(mem: &mut M, hart_state: &mut HartState) -> SeenStep
-    ensures step { Step (state_of hart_state.old (M.bytes mem.old) (M.writable mem.old))
-        (state_of hart_state.new (M.bytes mem.new) (M.writable mem.new)) result.answer }
-    ensures insn { result.insn
-        ≡ next_word (state_of hart_state.old (M.bytes mem.old) (M.writable mem.old)) }
-    ensures access { (accesses : List Access)
-        → AccessesOf (state_of hart_state.old (M.bytes mem.old) (M.writable mem.old)) accesses
+/// Makes a step over a memory, which is traced for it.
+#[inline(always)]
+fn see_step<M: Memory>(mem: &mut M, registers: &mut [u32; 32], pc: u32) -> SeenStep
+    ensures step { (last : Option ℕ) → Step
+        (state_of (hart_of registers.old pc last) (M.bytes mem.old) (M.writable mem.old))
+        (state_of (hart_of registers.new result.end.pc result.end.last_register_write)
+        (M.bytes mem.new) (M.writable mem.new)) result.end.answer }
+    ensures insn { (last : Option ℕ) → result.insn ≡ next_word
+        (state_of (hart_of registers.old pc last) (M.bytes mem.old) (M.writable mem.old)) }
+    ensures sources { (last : Option ℕ) → HasSources (next_word
+        (state_of (hart_of registers.old pc last) (M.bytes mem.old) (M.writable mem.old)))
+        result.sources.rs1_addr result.sources.rs2_addr }
+    ensures values { (last : Option ℕ) → HasValues
+        (state_of (hart_of registers.old pc last) (M.bytes mem.old) (M.writable mem.old))
+        result.sources }
+    ensures access { (last : Option ℕ) (accesses : List Access) → AccessesOf
+        (state_of (hart_of registers.old pc last) (M.bytes mem.old) (M.writable mem.old)) accesses
         → result.access ≡ after_fetch accesses }
-    ensures accesses { MakesExactly M.reads M.writes
-        (AccessesOf (state_of hart_state.old (M.bytes mem.old) (M.writable mem.old)))
+    ensures accesses { (last : Option ℕ) → MakesExactly M.reads M.writes (AccessesOf
+        (state_of (hart_of registers.old pc last) (M.bytes mem.old) (M.writable mem.old)))
         mem.old mem.new }
     ensures layout_kept { M.layout mem.new ≡ M.layout mem.old }
-    ensures entry_zero { slice_index hart_state.new.registers 0
-        ≡ slice_index hart_state.old.registers 0 }
-    ensures last { LastIsRegister hart_state.new.last_register_write }
+    ensures entry_zero { slice_index registers.new 0 ≡ slice_index registers.old 0 }
 {
     let mut traced = TracedMemory {
         memory: mem,
@@ -145,23 +249,12 @@ fn see_step<M: Memory>(mem: &mut M, hart_state: &mut HartState) -> SeenStep
         insn: None,
         access: MemoryAccess::none(),
     };
-    let answer = step_traced(&mut traced, hart_state);
+    let (end, sources) = trace_step(&mut traced, registers, pc);
     SeenStep {
-        answer,
+        end,
         insn: traced.insn,
+        sources,
         access: traced.access,
-    }
-}
-
-/// A hart as it is.
-#[inline]
-fn copy_of(hart: &HartState) -> HartState
-    ensures { result ≡ hart.now }
-{
-    HartState {
-        registers: hart.registers,
-        pc: hart.pc,
-        last_register_write: hart.last_register_write,
     }
 }
 
@@ -178,11 +271,61 @@ fn number_of(last: Option<usize>) -> usize
     }
 }
 
+/// Makes a step of a hart whose registers and pc are handed in apart, as `step_apart`, and tells
+/// what it retired, with this number: [step_retired] for a hart that is kept in another layout.
+///
+/// The clauses hold whatever register was written last before.
+///
+/// # Errors
+///
+/// The first of the two has the answer of `step`, with its faults; what each leaves is as there.
+/// The second is told after a fault too, with `trap`.
+#[inline(always)]
+pub fn step_retired_apart<M: Memory>(
+    mem: &mut M,
+    registers: &mut [u32; 32],
+    pc: u32,
+    order: u64,
+) -> (StepEnd, Retired)
+    ensures step { (last : Option ℕ) → Step
+        (state_of (hart_of registers.old pc last) (M.bytes mem.old) (M.writable mem.old))
+        (state_of (hart_of registers.new result.0.pc result.0.last_register_write)
+        (M.bytes mem.new) (M.writable mem.new)) result.0.answer }
+    ensures retires { (last : Option ℕ) → Retires order
+        (state_of (hart_of registers.old pc last) (M.bytes mem.old) (M.writable mem.old))
+        (state_of (hart_of registers.new result.0.pc result.0.last_register_write)
+        (M.bytes mem.new) (M.writable mem.new)) result.0.answer result.1 }
+    ensures numbers { HasRegisterNumbers result.1 }
+    ensures last { LastIsRegister result.0.last_register_write }
+    ensures entry_zero { slice_index registers.new 0 ≡ slice_index registers.old 0 }
+    ensures layout_kept { M.layout mem.new ≡ M.layout mem.old }
+    ensures accesses { (last : Option ℕ) → MakesExactly M.reads M.writes (AccessesOf
+        (state_of (hart_of registers.old pc last) (M.bytes mem.old) (M.writable mem.old)))
+        mem.old mem.new }
+{
+    let seen = see_step(mem, registers, pc);
+    let rd_addr = number_of(seen.end.last_register_write);
+    let retired = Retired {
+        order,
+        insn: seen.insn,
+        trap: seen.end.answer.is_err(),
+        pc_rdata: pc,
+        pc_wdata: seen.end.pc,
+        rs1_addr: seen.sources.rs1_addr,
+        rs1_rdata: seen.sources.rs1_rdata,
+        rs2_addr: seen.sources.rs2_addr,
+        rs2_rdata: seen.sources.rs2_rdata,
+        rd_addr,
+        rd_wdata: value_of(registers, rd_addr),
+        mem: seen.access,
+    };
+    (seen.end, retired)
+}
+
 /// Makes a step, and tells what it retired, with this number.
 ///
 /// The step is that of `step`, with its answer and its accesses and no others: the word and the
-/// load or store are seen as they are made. For the values of the source registers before it, the
-/// hart is copied, which are 33 words and more. The bytes of memory are not.
+/// load or store are seen as they are made, and the source registers are read between the two.
 ///
 /// # Errors
 ///
@@ -205,23 +348,9 @@ pub fn step_retired<M: Memory>(
         (AccessesOf (state_in M.bytes M.writable executor.old))
         executor.old.mem.now executor.new.mem.now }
 {
-    let before = copy_of(executor.hart_state);
-    let seen = see_step(executor.mem, executor.hart_state);
-    let (rs1_addr, rs2_addr) = sources(seen.insn);
-    let rd_addr = number_of(executor.hart_state.last_register_write);
-    let retired = Retired {
-        order,
-        insn: seen.insn,
-        trap: seen.answer.is_err(),
-        pc_rdata: before.pc,
-        pc_wdata: executor.hart_state.pc,
-        rs1_addr,
-        rs1_rdata: before.read_register(rs1_addr),
-        rs2_addr,
-        rs2_rdata: before.read_register(rs2_addr),
-        rd_addr,
-        rd_wdata: executor.hart_state.read_register(rd_addr),
-        mem: seen.access,
-    };
-    (seen.answer, retired)
+    let hart = &mut *executor.hart_state;
+    let (end, retired) = step_retired_apart(executor.mem, &mut hart.registers, hart.pc, order);
+    hart.pc = end.pc;
+    hart.last_register_write = end.last_register_write;
+    (end.answer, retired)
 }

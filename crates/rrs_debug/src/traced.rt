@@ -121,7 +121,7 @@ impl<'a, M: Memory> Memory for TracedMemory<'a, M> {
 
     ghost writes = { traced_writes M.writes };
 
-    #[inline]
+    #[inline(always)]
     fn read_mem(&mut self, addr: u32, size: MemAccessSize) -> Option<u32> {
         let answer = self.memory.read_mem(addr, size);
         if self.is_fetch {
@@ -133,7 +133,7 @@ impl<'a, M: Memory> Memory for TracedMemory<'a, M> {
         answer
     }
 
-    #[inline]
+    #[inline(always)]
     fn write_mem(&mut self, addr: u32, size: MemAccessSize, store_data: u32) -> bool {
         let answer = self.memory.write_mem(addr, size, store_data);
         if self.is_fetch {

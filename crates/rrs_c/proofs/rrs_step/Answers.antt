@@ -1,20 +1,31 @@
--- The step is the kit's, over the same hart and the same words, and a state has one.
-use Rattle.std.proofs.Common.{rules}
+-- The step is the kit's, over the same registers and the same words, and a state has one.
+use Rattle.std.proofs.Common.{rules, refl}
+use Rattle.rrs_lib.specs.Machine.{hart_of}
 use Rattle.rrs_lib.specs.Steps.{Step}
 use Rattle.rrs_lib.proofs.Stepping.{Step-unique}
+use Rattle.rrs_lib.proofs.Keeping.{Step-little, Step-fault}
 use Rattle.rrs_lib.proofs.Rows.{one_row_at_most}
-use Rattle.rrs_c.specs.Harts.{answer_of}
-use Rattle.rrs_c.proofs.Carrying.{carried}
+use Rattle.rrs_c.specs.Harts.{register_in, answer_of}
+use Rattle.rrs_c.proofs.Carrying.{carried, left}
 use Rattle.rrs_c.proofs.rrs_step.Goals as goal
 
 pub returns-clause-step : goal.returns-clause-step
 returns-clause-step c =
-    carried Step c.opened-state.result c.step_lent-answer.new.hart_state c.args.hart.now c.close.new.hart
-    c.args.base c.step_lent-answer.new.mem.base c.args.words.now c.step_lent-answer.new.mem.words.now _
-    c.step_lent-answer.result (answer_of c.fault_of_answer.result)
-    c.opened-state.ensures.same (c.close.ensures.same c.step_lent-answer.ensures.last) c.step_lent-answer.ensures.lent.same_base (search rules)
-    c.fault_of_answer.ensures.same c.step_lent-answer.ensures.step
+    let hart = c.args.hart.now in
+    let lent = c.step_lent-end in
+    let end = lent.result in
+    carried Step (hart_of hart.x hart.pc (register_in hart.last)) (hart_of lent.new.registers end.pc end.last_register_write) hart (record { x = lent.new.registers; pc = end.pc; last = c.number_of-hart.result })
+    c.args.base lent.new.mem.base c.args.words.now lent.new.mem.words.now _
+    end.answer (answer_of c.fault_of_answer.result)
+    refl (left _ _ c.number_of-hart.result _ lent.ensures.last c.number_of-hart.ensures.register) lent.ensures.lent.same_base (search rules)
+    c.fault_of_answer.ensures.same (lent.ensures.step (register_in hart.last))
 
 pub returns-clause-only : goal.returns-clause-only
 returns-clause-only c = λ t answer other.
     Step-unique one_row_at_most _ t _ answer _ other (returns-clause-step c)
+
+pub returns-clause-fault : goal.returns-clause-fault
+returns-clause-fault c = Step-fault _ _ _ (returns-clause-step c)
+
+pub returns-clause-little : goal.returns-clause-little
+returns-clause-little c = Step-little _ _ _ (returns-clause-step c)

@@ -10,10 +10,10 @@ pub returns-then-not-is_aligned-clause-fault : goal.returns-then-not-is_aligned-
 returns-then-not-is_aligned-clause-fault g c = λ extended rd.
     let s = engine_state g.M.Memory.bytes g.M.Memory.writable c.args.self.now in
     let same : load_outcome (width c.args.size) extended rd c.args.addr s ≡ fault_outcome (AlignmentFault c.args.addr) s = search rules in
-    ap gone_on same ∙ gone_on-fault _ s
+    rw c.alignment_fault.ensures (ap gone_on same ∙ gone_on-fault _ s)
 
 pub returns-in-None-clause-fault : goal.returns-in-None-clause-fault
 returns-in-None-clause-fault g c = λ extended rd.
     let s = engine_state g.M.Memory.bytes g.M.Memory.writable c.args.self.now in
     let same : load_outcome (width c.args.size) extended rd c.args.addr s ≡ fault_outcome (LoadAccessFault c.args.addr) s = search rules in
-    ap gone_on same ∙ gone_on-fault _ s
+    rw c.load_access_fault.ensures (ap gone_on same ∙ gone_on-fault _ s)

@@ -10,10 +10,10 @@ pub returns-then-not-is_aligned-clause-stored : goal.returns-then-not-is_aligned
 returns-then-not-is_aligned-clause-stored g c =
     let s = engine_state g.M.Memory.bytes g.M.Memory.writable c.args.self.now in
     let same : store_outcome (width c.args.size) c.args.value c.args.addr s ≡ fault_outcome (AlignmentFault c.args.addr) s = search rules in
-    ap gone_on same ∙ gone_on-fault _ s
+    rw c.alignment_fault.ensures (ap gone_on same ∙ gone_on-fault _ s)
 
 pub returns-else-write_mem-clause-stored : goal.returns-else-write_mem-clause-stored
 returns-else-write_mem-clause-stored g c =
     let s = engine_state g.M.Memory.bytes g.M.Memory.writable c.args.self.now in
     let same : store_outcome (width c.args.size) c.args.value c.args.addr s ≡ fault_outcome (StoreAccessFault c.args.addr) s = search rules in
-    ap gone_on same ∙ (gone_on-fault _ s ∙ search rules)
+    rw c.store_access_fault.ensures (ap gone_on same ∙ (gone_on-fault _ s ∙ search rules))
