@@ -1,0 +1,324 @@
+"use strict";
+
+// The programs of the example menu, as words with labels and comments.
+
+/* Of each: its name in the menu, whether it stands among those that fault, a sentence, its text. */
+const EXAMPLES = [
+  {
+    id: "three",
+    name: "Three words",
+    isFault: false,
+    about: "Two constants are added. Behind them the memory is 0, which is no instruction.",
+    text: `0x1234b137  # x2 = 0x1234b000
+0xf387e1b7  # x3 = 0xf387e000
+0x003100b3  # x1 = x2 + x3
+`,
+  },
+  {
+    id: "sum",
+    name: "Sum of a list",
+    isFault: false,
+    about: "A loop adds eight words of memory. The status is their sum.",
+    text: `start:
+0x03000513  # a0: where the list is
+0x00800593  # a1: how many words
+sum:
+0x00000613  # a2: the sum
+loop:
+0x00058c63
+0x00052683
+0x00d60633
+0x00450513
+0xfff58593
+0xfedff06f
+done:
+0x00060513  # the status is the sum
+0x05d00893  # exit
+0x00000073
+numbers:
+0x00000003
+0x00000001
+0x00000004
+0x00000001
+0x00000005
+0x00000009
+0x00000002
+0x00000006
+`,
+  },
+  {
+    id: "gcd",
+    name: "Greatest common divisor",
+    isFault: false,
+    about: "gcd(1071, 462) by Euclid's algorithm, as gcc makes it of C. The status is the divisor.",
+    text: `start:
+0x42f00513
+0x1ce00593
+0x00c000ef
+0x05d00893  # exit: the status is the divisor
+0x00000073
+gcd:
+0x00059463
+0x00008067  # return
+divide:
+0x02b577b3
+0x00058513
+0x00078593
+0xfedff06f
+`,
+  },
+  {
+    id: "port",
+    name: "A string to the port",
+    isFault: false,
+    about: "Each byte of a string is stored at 0x10000000, the port, which prints it.",
+    text: `start:
+0x10000537  # a0: the port
+0x03000593  # a1: the string
+0x010000ef
+0x00000513
+0x05d00893  # exit
+0x00000073
+put_string:
+0x0005c783
+0x00079463
+0x00008067  # return at the 0 behind the string
+put:
+0x00158593
+0x00f50023
+0xfedff06f
+text:
+0x6c6c6548  # "Hell"
+0x52202c6f  # "o, R"
+0x2d435349  # "ISC-"
+0x000a2156  # "V!.."
+`,
+  },
+  {
+    id: "console",
+    name: "A question and an answer",
+    isFault: false,
+    about: "The program writes a question, reads a line of the console, and greets.",
+    text: `start:
+0x00100513  # to the output
+0x05c00593
+0x01300613
+0x04000893  # write
+0x00000073
+0x00000513  # from the input
+0x07800593
+0x04000613
+0x03f00893  # read
+0x00000073
+0x00050413  # how many bytes came
+0x00100513
+0x07000593
+0x00700613
+0x04000893  # write
+0x00000073
+0x00100513
+0x07800593
+0x00040613
+0x00000073
+0x00000513
+0x05d00893  # exit
+0x00000073
+question:
+0x74616857  # "What"
+0x20736920  # " is "
+0x72756f79  # "your"
+0x6d616e20  # " nam"
+0x00203f65  # "e? ."
+hello:
+0x6c6c6548  # "Hell"
+0x00202c6f  # "o, ."
+name:
+`,
+  },
+  {
+    id: "fibonacci",
+    name: "Fibonacci by recursion",
+    isFault: false,
+    about: "fib(10) by calls that keep their values on the stack: look at memory around sp.",
+    text: `start:
+0x00010137  # the stack ends where the memory ends
+0x00a00513
+0x00c000ef
+0x05d00893  # exit: the status is fib(10)
+0x00000073
+fib:
+0x00200293
+0x04556063  # fib(0) = 0, fib(1) = 1
+0xff010113
+0x00112623
+0x00812423
+0x00912223
+0x00050413
+0xfff40513
+0xfe1ff0ef
+0x00050493
+0xffe40513
+0xfd5ff0ef
+0x00950533
+0x00412483
+0x00812403
+0x00c12083
+0x01010113
+small:
+0x00008067
+`,
+  },
+  {
+    id: "primes",
+    name: "Primes in C",
+    isFault: false,
+    about: "A sieve as gcc makes it of C: it ends with 168, the number of primes below 1,000.",
+    text: `start:
+0x00010137
+0x06c000ef
+0x05d00893
+0x00000073
+count_primes:
+0x00000693
+0x00000513
+0x00200793
+0x0d000713
+0x3e700813
+0x00100893
+0x3e800593
+0x00f70333
+0x00034303
+0x00031c63
+0x02f786b3
+0x00150513
+0x02d87063
+0x00078613
+0x00100693
+0x00178793
+0xfcb79ee3
+0x00068463
+0x0cc02623
+0x00008067
+0x00d70633
+0x01160023
+0x00f686b3
+0xfd5ff06f
+main:
+0xff010113
+0x00112623
+0xf99ff0ef
+0x0cc02583
+0x0bc00793
+0x01078613
+0x0d000693
+0x0007a703
+0x02e5e263
+0x00e68733
+0x00074703
+0x00071c63
+0x00478793
+0xfec794e3
+0x00c12083
+0x01010113
+0x00008067
+0xfff00513
+0xff1ff06f
+known:
+0x00000002
+0x00000003
+0x000001f3
+0x000003e5
+greatest:
+0x00000001
+is_composite:
+`,
+  },
+  {
+    id: "million",
+    name: "A million steps",
+    isFault: false,
+    about: "A loop that counts down. It can be taken back to its first state.",
+    text: `start:
+0x0007a2b7
+0x11e28293  # t0 = 499,998
+0x00000513
+0x05d00893
+loop:
+0xfff28293
+0xfe029ee3
+0x00000073  # exit
+`,
+  },
+  {
+    id: "illegal",
+    name: "Illegal instruction",
+    isFault: true,
+    about: "",
+    text: `0x00100293
+0xffffffff  # no instruction
+`,
+  },
+  {
+    id: "fetch",
+    name: "Fetch outside the memory",
+    isFault: true,
+    about: "",
+    text: `0x200002b7
+0x00028067  # to where there is no memory
+`,
+  },
+  {
+    id: "load",
+    name: "Load outside the memory",
+    isFault: true,
+    about: "",
+    text: `0x200002b7
+0x0002a303
+`,
+  },
+  {
+    id: "store",
+    name: "Store outside the memory",
+    isFault: true,
+    about: "",
+    text: `0x200002b7
+0x0062a423
+`,
+  },
+  {
+    id: "misaligned",
+    name: "Misaligned address",
+    isFault: true,
+    about: "",
+    text: `0x10200293
+0x0002a303  # 4 bytes at an address that is no multiple of 4
+`,
+  },
+  {
+    id: "jump",
+    name: "Misaligned jump",
+    isFault: true,
+    about: "",
+    text: `0x10200067
+`,
+  },
+  {
+    id: "ecall",
+    name: "Unknown system call",
+    isFault: true,
+    about: "",
+    text: `0x1f400893
+0x00000073
+`,
+  },
+  {
+    id: "ebreak",
+    name: "ebreak",
+    isFault: true,
+    about: "",
+    text: `0x00100293
+0x00100073
+0x00200293
+`,
+  },
+];

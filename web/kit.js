@@ -1,0 +1,136 @@
+"use strict";
+
+// The proved library, crates/rrs_c, as a WebAssembly module with 64-bit addresses. This is the one
+// file that knows its calls and the layouts of its structs (crates/rrs_c/include/rrs.h).
+
+/* Sizes and offsets in bytes, as rrs.h has them. */
+const LAYOUT = {
+  hart: { size: 136, x: 0, pc: 128, last: 132 },
+  fault: { size: 12, kind: 0, address: 4, word: 8 },
+  retired: {
+    size: 72, insn: 8, pcBefore: 20, rd: 44, rdValue: 48, memoryAddress: 52,
+    readMask: 56, writeMask: 60, readValue: 64, writtenValue: 68,
+  },
+  instruction: { size: 24, row: 0, rd: 4 },
+  access: { size: 28, fault: 0, kind: 12, address: 16, bytes: 20, value: 24 },
+  text: { size: 26 },
+};
+
+/* Where in a record of a step its words are, for the loop that has to be fast. */
+const RETIRED = Object.fromEntries(
+  Object.entries(LAYOUT.retired).map(([name, offset]) => [name, offset / 4]));
+
+/* The kinds of a fault, and of an access, as rrs.h numbers them. */
+const FAULT = {
+  NONE: 0, ILLEGAL: 1, FETCH: 2, LOAD: 3, STORE: 4, MISALIGNED: 5, ECALL: 6, EBREAK: 7,
+};
+const ACCESS = { NONE: 0, LOAD: 1, STORE: 2 };
+
+/* The most bytes that the page's memory may have. */
+const MOST_BYTES = 1 << 20;
+
+const PAGE_BYTES = 65536;
+
+/** Whether this browser runs modules whose addresses have 64 bits: a module with such a memory. */
+function hasMemory64() {
+  const module = [0, 0x61, 0x73, 0x6d, 1, 0, 0, 0, 5, 3, 1, 4, 1];
+  return typeof WebAssembly === "object" && WebAssembly.validate(new Uint8Array(module));
+}
+
+/** The library's calls over one hart and one memory, which lie in the module's own memory. */
+class Kit {
+  static async load(bytes) {
+    const { instance } = await WebAssembly.instantiate(bytes, {});
+    return new Kit(instance.exports);
+  }
+
+  constructor(exports) {
+    this.exports = exports;
+    this.placeStructs();
+    const buffer = exports.memory.buffer;
+    this.u32 = new Uint32Array(buffer);
+    this.u8 = new Uint8Array(buffer);
+    this.x = this.u32.subarray(this.hart / 4, this.hart / 4 + 32);
+    this.pcAt = (this.hart + LAYOUT.hart.pc) / 4;
+    this.lastAt = (this.hart + LAYOUT.hart.last) / 4;
+    this.retiredAt = this.retired / 4;
+    this.setMemory(0, PAGE_BYTES);
+  }
+
+  /* Gives each struct a place behind what the module uses, and then the words. */
+  placeStructs() {
+    const { memory, __heap_base: heapBase } = this.exports;
+    let next = (Number(heapBase.value) + 15) & ~15;
+    const place = (size) => {
+      const at = next;
+      next += (size + 15) & ~15;
+      return at;
+    };
+    for (const name of ["hart", "fault", "retired", "instruction", "access", "text"]) {
+      this[name] = place(LAYOUT[name].size);
+    }
+    this.memory = place(MOST_BYTES);
+    const short = next - memory.buffer.byteLength;
+    if (short > 0) memory.grow(BigInt(Math.ceil(short / PAGE_BYTES)));
+    this.addresses = {};
+    for (const name of ["hart", "fault", "retired", "instruction", "access", "text", "memory"]) {
+      this.addresses[name] = BigInt(this[name]);
+    }
+  }
+
+  /** Has `size` bytes of memory from `base` on, both multiples of 4, with what they held. */
+  setMemory(base, size) {
+    this.base = base;
+    this.size = size;
+    this.count = BigInt(size / 4);
+    this.words = this.u32.subarray(this.memory / 4, (this.memory + size) / 4);
+    this.bytes = this.u8.subarray(this.memory, this.memory + size);
+  }
+
+  get pc() { return this.u32[this.pcAt]; }
+  set pc(value) { this.u32[this.pcAt] = value; }
+  get last() { return this.u32[this.lastAt]; }
+  set last(value) { this.u32[this.lastAt] = value; }
+
+  /** Makes a step, leaves what it retired in `retired`, and returns the kind of its fault, or 0. */
+  stepRetired() {
+    const at = this.addresses;
+    this.exports.rrs_step_rvfi(at.fault, at.hart, at.memory, this.count, this.base, 0n, at.retired);
+    return this.u32[this.fault / 4];
+  }
+
+  /** The fault that the latest call told. */
+  readFault() {
+    const at = this.fault / 4;
+    return { kind: this.u32[at], address: this.u32[at + 1], word: this.u32[at + 2] };
+  }
+
+  /** The load or the store that `word`, the one at the pc, makes. Nothing changes. */
+  request(word) {
+    this.exports.rrs_request(this.addresses.access, this.addresses.hart, word);
+    const read = (offset) => this.u32[(this.access + offset) / 4];
+    const { kind, address, bytes, value } = LAYOUT.access;
+    return { kind: read(kind), address: read(address), bytes: read(bytes), value: read(value) };
+  }
+
+  /** Executes `word`, the one at the pc, whose access was made; a load has read `value`. */
+  complete(word, value) {
+    const at = this.addresses;
+    this.exports.rrs_complete(at.fault, at.hart, word, 1, value);
+    return this.u32[this.fault / 4];
+  }
+
+  /** The number of the row of a word, 1 to 48, or 0, and the register that it writes, or 0. */
+  decode(word) {
+    this.exports.rrs_decode(this.addresses.instruction, word);
+    const at = this.instruction / 4;
+    return { row: this.u32[at], rd: this.u32[at + LAYOUT.instruction.rd / 4] };
+  }
+
+  /** The text of a word at an address, or "" for a word outside the table. */
+  disassemble(word, pc) {
+    const room = BigInt(LAYOUT.text.size);
+    const length = Number(this.exports.rrs_disassemble(word, pc, this.addresses.text, room));
+    return String.fromCharCode(...this.u8.subarray(this.text, this.text + length));
+  }
+}

@@ -1,0 +1,288 @@
+"use strict";
+
+// The machine of the page: the proved steps of the kit, and around them what serves the program's
+// calls and the port, what takes steps back, and what counts them.
+
+const REGISTER = { SP: 2, A0: 10, A1: 11, A2: 12, A7: 17 };
+
+/* The system calls that are served, by Linux's numbers, and their errors. */
+const CALL = { READ: 63, WRITE: 64, EXIT: 93 };
+const NO_SUCH_FILE = -9;
+const BAD_ADDRESS = -14;
+
+/* The most bytes of one call, as on Linux. */
+const MOST_TRANSFERRED = 0x7ffff000;
+
+/* Instructions that were executed are counted by these bits of a word: the opcode, funct3, and the
+ * two bits of funct7 that tell rows apart. Words of different rows that retire differ in them. */
+const KINDS = 1 << 10;
+function kindOf(word) {
+  const opcode = word >>> 2 & 31;
+  return opcode | (word >>> 12 & 7) << 5 | (word >>> 30 & 1) << 8 | (word >>> 25 & 1) << 9;
+}
+
+/** A machine that runs one program, and can take its steps back. */
+class Machine {
+  constructor(kit) {
+    this.kit = kit;
+    this.terminal = new Terminal();
+    this.history = new History();
+    this.load(new Uint32Array(0), 0, PAGE_BYTES, false);
+  }
+
+  /** Has `size` bytes of memory from `base` on, with the words at its start, and starts there. With
+   * a stack sp starts as the end of memory. */
+  load(words, base, size, hasStack) {
+    this.kit.setMemory(base, size);
+    this.program = Uint32Array.from(words);
+    this.hasStack = hasStack;
+    this.reset();
+  }
+
+  /** The first state: registers 0 but for sp where there is a stack, the pc at the program's start,
+   * memory the program and then 0. */
+  reset() {
+    const { kit } = this;
+    kit.x.fill(0);
+    if (this.hasStack) kit.x[REGISTER.SP] = kit.base + kit.size;
+    kit.pc = kit.base;
+    kit.last = 0;
+    kit.words.fill(0);
+    kit.words.set(this.program);
+    this.xBefore = Uint32Array.from(kit.x);
+    this.wordsBefore = Uint32Array.from(kit.words);
+    this.executed = new Float64Array(kit.words.length);
+    this.kinds = new Float64Array(KINDS);
+    this.wordOfKind = new Uint32Array(KINDS);
+    this.terminal.reset();
+    this.history.clear();
+  }
+
+  /** How many steps were made. */
+  get steps() {
+    return this.history.steps;
+  }
+
+  /** The number of the word at an address, or -1 where there is none. */
+  indexOf(address) {
+    const offset = address - this.kit.base;
+    return offset >= 0 && offset < this.kit.size ? Math.floor(offset / 4) : -1;
+  }
+
+  /** The word at the pc, or undefined. */
+  wordAtPc() {
+    return this.kit.pc % 4 === 0 ? this.kit.words[this.indexOf(this.kit.pc)] : undefined;
+  }
+
+  /** Makes one step. Returns null where it was made, and else why it was not: an end. */
+  step() {
+    const { kit } = this;
+    const lastBefore = kit.last;
+    if (kit.stepRetired() !== FAULT.NONE) return this.serve(lastBefore);
+    this.keepRetired(lastBefore);
+    return null;
+  }
+
+  /** Makes steps until one ends, `most` were made, or the pc is a stop. `stops` has a number that
+   * is not 0 for each word to stop at; the first step is made wherever the pc is. */
+  run(most, stops) {
+    const { kit } = this;
+    for (let made = 0; made < most; made++) {
+      const end = this.step();
+      if (end !== null) return end;
+      if (stops[(kit.pc - kit.base) >>> 2]) return { reason: "stop", address: kit.pc };
+    }
+    return null;
+  }
+
+  /* Keeps the record of the step that the kit made. */
+  keepRetired(lastBefore) {
+    const { u32, retiredAt, base } = this.kit;
+    const rd = u32[retiredAt + RETIRED.rd];
+    const address = u32[retiredAt + RETIRED.memoryAddress];
+    const readMask = u32[retiredAt + RETIRED.readMask];
+    const writeMask = u32[retiredAt + RETIRED.writeMask];
+    const value = u32[retiredAt + (readMask ? RETIRED.readValue : RETIRED.writtenValue)];
+    let wordBefore = 0;
+    if (writeMask) {
+      const index = (address - base) >>> 2;
+      wordBefore = this.wordsBefore[index];
+      this.wordsBefore[index] = this.kit.words[index];
+    }
+    const flags = packFlags(rd, lastBefore, readMask, writeMask, MADE_BY.MACHINE);
+    const pc = u32[retiredAt + RETIRED.pcBefore];
+    const word = u32[retiredAt + RETIRED.insn];
+    this.keep(pc, word, flags, rd, address, wordBefore, value);
+  }
+
+  /* Keeps a record, and counts the step. */
+  keep(pc, word, flags, rd, address, wordBefore, value, extra) {
+    const rdBefore = this.xBefore[rd];
+    const rdAfter = rd ? this.kit.x[rd] : 0;
+    this.xBefore[rd] = rdAfter;
+    this.history.push(pc, word, flags, rdBefore, rdAfter, address, wordBefore, value, extra);
+    this.executed[(pc - this.kit.base) >>> 2]++;
+    const kind = kindOf(word);
+    this.kinds[kind]++;
+    this.wordOfKind[kind] = word;
+  }
+
+  /* Serves the step that the kit did not make, or returns why it ends the program. */
+  serve(lastBefore) {
+    const fault = this.kit.readFault();
+    if (fault.kind === FAULT.ECALL) return this.serveCall(fault, lastBefore);
+    const isAccess = fault.kind === FAULT.LOAD || fault.kind === FAULT.STORE;
+    if (isAccess && fault.address === PORT_ADDRESS) return this.servePort(fault, lastBefore);
+    return { reason: "fault", ...fault };
+  }
+
+  /* The port takes and gives one byte. */
+  servePort(fault, lastBefore) {
+    const { kit, terminal } = this;
+    const word = this.wordAtPc();
+    const pc = kit.pc;
+    const access = kit.request(word);
+    if (access.bytes !== 1) return { reason: "fault", ...fault };
+    const extra = { mark: terminal.mark() };
+    const isLoad = access.kind === ACCESS.LOAD;
+    const value = isLoad ? terminal.port : access.value & 0xff;
+    kit.complete(word, value);
+    if (!isLoad) terminal.storeToPort(value);
+    const rd = isLoad ? kit.decode(word).rd : 0;
+    const flags = packFlags(rd, lastBefore, isLoad ? 1 : 0, isLoad ? 0 : 1, MADE_BY.PORT);
+    this.keep(pc, word, flags, rd, PORT_ADDRESS, 0, value, extra);
+    return null;
+  }
+
+  /* A system call by the numbers of Linux. */
+  serveCall(fault, lastBefore) {
+    const { kit, terminal } = this;
+    const number = kit.x[REGISTER.A7];
+    if (number === CALL.EXIT) return { reason: "exit", status: kit.x[REGISTER.A0] & 0xff };
+    if (number !== CALL.READ && number !== CALL.WRITE) return { reason: "fault", ...fault };
+    const extra = { mark: terminal.mark(), words: [] };
+    const answer = number === CALL.READ ? this.readCall(extra) : this.writeCall();
+    if (answer === null) return { reason: "waiting" };
+    const { pc } = kit;
+    const word = this.wordAtPc();
+    kit.x[REGISTER.A0] = answer;
+    kit.pc = pc + 4;
+    kit.last = REGISTER.A0;
+    const flags = packFlags(REGISTER.A0, lastBefore, 0, 0, MADE_BY.CALL);
+    this.keep(pc, word, flags, REGISTER.A0, 0, 0, number, extra);
+    return null;
+  }
+
+  /* How many of `length` bytes from `address` on the memory has, up to the first that it lacks, or
+   * an error: where the buffer passes the last address, or its first byte is not there. */
+  countMapped(address, length) {
+    if (address + length > 2 ** 32) return BAD_ADDRESS;
+    const offset = address - this.kit.base;
+    const mapped = offset < 0 ? 0 : Math.max(0, Math.min(length, this.kit.size - offset));
+    return length > 0 && mapped === 0 ? BAD_ADDRESS : mapped;
+  }
+
+  /* write(a0, a1, a2): prints the bytes, and answers how many they are. */
+  writeCall() {
+    const { kit, terminal } = this;
+    const file = kit.x[REGISTER.A0];
+    if (file !== 1 && file !== 2) return NO_SUCH_FILE;
+    const address = kit.x[REGISTER.A1];
+    const count = this.countMapped(address, Math.min(kit.x[REGISTER.A2], MOST_TRANSFERRED));
+    for (let i = 0; i < count; i++) terminal.print(kit.bytes[address - kit.base + i]);
+    return count;
+  }
+
+  /* read(a0, a1, a2): gives typed bytes, one line at most, and answers how many they are; null
+   * where none is there yet. */
+  readCall(extra) {
+    const { kit, terminal } = this;
+    if (kit.x[REGISTER.A0] !== 0) return NO_SUCH_FILE;
+    const address = kit.x[REGISTER.A1];
+    const room = this.countMapped(address, Math.min(kit.x[REGISTER.A2], MOST_TRANSFERRED));
+    if (room <= 0) return room;
+    if (terminal.isEmpty) return null;
+    const given = terminal.peek(room);
+    terminal.taken += given.length;
+    this.storeBytes(address, given, extra);
+    return given.length;
+  }
+
+  /* Stores what a call gives, and keeps the words that stood there. */
+  storeBytes(address, given, extra) {
+    if (given.length === 0) return;
+    const offset = address - this.kit.base;
+    const end = (offset + given.length - 1) >>> 2;
+    for (let index = offset >>> 2; index <= end; index++) {
+      extra.words.push([index, this.wordsBefore[index]]);
+    }
+    this.kit.bytes.set(given, offset);
+    for (const [index] of extra.words) this.wordsBefore[index] = this.kit.words[index];
+    extra.stored = { address, length: given.length };
+  }
+
+  /** Takes the latest step back by its record. Returns whether one was kept. */
+  stepBack() {
+    const { kit, history } = this;
+    if (history.length === 0) return false;
+    history.pop();
+    const { block, at, extra } = history;
+    const pc = block[at + RECORD.pc];
+    const flags = block[at + RECORD.flags];
+    kit.pc = pc;
+    kit.last = lastBeforeIn(flags);
+    const rd = rdIn(flags);
+    if (rd) kit.x[rd] = this.xBefore[rd] = block[at + RECORD.rdBefore];
+    if (writeMaskIn(flags) && madeByIn(flags) === MADE_BY.MACHINE) {
+      this.putBack((block[at + RECORD.address] - kit.base) >>> 2, block[at + RECORD.wordBefore]);
+    }
+    if (extra !== undefined) this.restore(extra);
+    this.executed[(pc - kit.base) >>> 2]--;
+    this.kinds[kindOf(block[at + RECORD.word])]--;
+    return true;
+  }
+
+  /* Takes back what a system call or the port did beside the registers. */
+  restore({ mark, words }) {
+    this.terminal.restore(mark);
+    for (const [index, word] of words ?? []) this.putBack(index, word);
+  }
+
+  putBack(index, word) {
+    this.kit.words[index] = this.wordsBefore[index] = word;
+  }
+
+  /** Takes `most` steps back, or as many as are kept, and stops where the pc is a stop. Returns
+   * null where it went on to the end, "stop", or "oldest" where no step is kept. */
+  runBack(most, stops) {
+    const { kit } = this;
+    for (let made = 0; made < most; made++) {
+      if (!this.stepBack()) return "oldest";
+      if (stops[(kit.pc - kit.base) >>> 2]) return "stop";
+    }
+    return this.history.length === 0 ? "oldest" : null;
+  }
+
+  /** The bytes that the latest step stored: their address and how many, or null. */
+  latestStore() {
+    if (this.history.length === 0) return null;
+    const { address, writeMask, madeBy, extra } = this.history.read(this.steps - 1);
+    if (extra?.stored) return extra.stored;
+    if (!writeMask || madeBy === MADE_BY.PORT) return null;
+    return { address, length: writeMask === 15 ? 4 : writeMask === 3 ? 2 : 1 };
+  }
+
+  /** How often each kind of instruction was executed: `{ name, word, count }`, most first. */
+  counts() {
+    const byName = new Map();
+    for (let kind = 0; kind < KINDS; kind++) {
+      if (this.kinds[kind] === 0) continue;
+      const word = this.wordOfKind[kind];
+      const name = this.kit.disassemble(word, 0).split(" ")[0];
+      const entry = byName.get(name) ?? { name, word, count: 0 };
+      entry.count += this.kinds[kind];
+      byName.set(name, entry);
+    }
+    return [...byName.values()].sort((a, b) => b.count - a.count || a.name.localeCompare(b.name));
+  }
+}

@@ -1,0 +1,422 @@
+"use strict";
+
+// The page: its buttons, keys, files and links, and how it starts.
+
+/* Each action: what it is called, its key, and whether it can be done while a run goes on. */
+const ACTIONS = {
+  step: { label: "Step: execute one instruction", key: "s" },
+  stepBack: { label: "Back: take the latest step back", key: "b" },
+  run: { label: "Run to the end, a breakpoint, or Pause", key: "r" },
+  pause: { label: "Pause", key: "p" },
+  runBack: { label: "Run back to the start, or a breakpoint", key: "B" },
+  runToLine: { label: "Run to the selected line", key: "t" },
+  reset: { label: "Reset: the program as it was opened", key: "x" },
+  breakpoint: { label: "Breakpoint at the selected line, on or off", key: "k" },
+  program: { label: "Go to the program; arrow keys select a line", key: "g" },
+  slower: { label: "Slower", key: "-" },
+  faster: { label: "Faster", key: "+" },
+  radix: { label: "Next radix of the registers", key: "n" },
+  unit: { label: "Memory as words or bytes", key: "m" },
+  address: { label: "Go to the address of memory", key: "a" },
+  memoryUp: { label: "Lower addresses of memory", key: "[" },
+  memoryDown: { label: "Higher addresses of memory", key: "]" },
+  console: { label: "Go to the console's input", key: "c" },
+  endInput: { label: "End the console's input", key: "z" },
+  examples: { label: "Go to the examples", key: "y" },
+  edit: { label: "Edit the program's words", key: "e" },
+  open: { label: "Open a .bin file, or a text of words", key: "o" },
+  link: { label: "A link that holds the program", key: "l" },
+  theme: { label: "Light or dark", key: "d" },
+  keys: { label: "All keys", key: "?" },
+};
+
+/* The most bytes of a file of words as text. */
+const MOST_TEXT = 1 << 23;
+
+/** Whether a file has words as text, by its name. Each other is taken byte by byte. */
+function isTextFile(file) {
+  return /\.(txt|hex|words)$/i.test(file.name);
+}
+
+/** The page over one session. */
+class Page {
+  constructor(session) {
+    this.session = session;
+    this.listing = new ListingView(session);
+    this.registers = new RegistersView(session);
+    this.memory = new MemoryView(session);
+    this.views = [
+      this.listing, this.registers, this.memory, new ConsoleView(session), new LogView(session),
+      new CountsView(session),
+    ];
+    this.handlers = this.makeHandlers();
+    this.fillMenus();
+    this.listen();
+    session.onChange = () => this.render();
+  }
+
+  makeHandlers() {
+    const { session } = this;
+    return {
+      step: () => session.step(),
+      stepBack: () => session.stepBack(),
+      run: () => session.run(),
+      pause: () => session.pause(),
+      runBack: () => session.runBack(),
+      runToLine: () => session.runToLine(),
+      reset: () => session.reset(),
+      breakpoint: () => session.toggleBreakpoint(session.selected),
+      program: () => $("listing").focus(),
+      slower: () => this.setSpeed(session.speed - 1),
+      faster: () => this.setSpeed(session.speed + 1),
+      radix: () => this.nextRadix(),
+      unit: () => this.setUnit(this.memory.unit === 4 ? 1 : 4),
+      address: () => $("address").focus(),
+      memoryUp: () => this.memory.page(-8),
+      memoryDown: () => this.memory.page(8),
+      console: () => $("input").focus(),
+      endInput: () => session.type("", true),
+      examples: () => $("examples").focus(),
+      edit: () => this.edit(session),
+      open: () => $("file").click(),
+      link: () => this.showLink(),
+      theme: () => this.changeTheme(),
+      keys: () => $("help").showModal(),
+    };
+  }
+
+  act(name) {
+    this.handlers[name]();
+  }
+
+  /* ---- menus and labels */
+
+  fillMenus() {
+    $("speed").append(...SPEEDS.map((speed, at) =>
+      new Option(speed === Infinity ? "full" : `${speed.toLocaleString("en")}/s`, at)));
+    $("speed").value = this.session.speed;
+    $("size").append(...SIZES.map((size) => new Option(`${size / 1024} KiB`, size)));
+    this.fillExamples();
+    for (const button of document.querySelectorAll("[data-action]")) {
+      const { label, key } = ACTIONS[button.dataset.action];
+      button.title = `${label} (${key})`;
+      button.setAttribute("aria-keyshortcuts", key);
+      button.addEventListener("click", () => this.act(button.dataset.action));
+    }
+    for (const { label, key } of Object.values(ACTIONS)) {
+      const keyCell = make("td");
+      keyCell.append(make("kbd", "", key));
+      $("key-table").tBodies[0].append(makeRow("tr", [keyCell, make("td", "", label)]));
+    }
+  }
+
+  fillExamples() {
+    const faults = document.createElement("optgroup");
+    faults.label = "Programs that fault";
+    const other = new Option("your own", "");
+    other.hidden = true;
+    $("examples").append(other);
+    for (const { id, name, isFault } of EXAMPLES) {
+      (isFault ? faults : $("examples")).append(new Option(name, id));
+    }
+    $("examples").append(faults);
+  }
+
+  setSpeed(speed) {
+    this.session.speed = Math.max(0, Math.min(speed, SPEEDS.length - 1));
+    $("speed").value = this.session.speed;
+  }
+
+  nextRadix() {
+    const all = Object.keys(RADIXES);
+    this.setRadix(all[(all.indexOf(this.registers.radix) + 1) % all.length]);
+  }
+
+  setRadix(radix) {
+    this.registers.radix = $("radix").value = radix;
+    this.registers.render();
+  }
+
+  setUnit(unit) {
+    this.memory.unit = unit;
+    $("unit").value = unit;
+    this.memory.render();
+  }
+
+  changeTheme() {
+    const root = document.documentElement;
+    const isDark = matchMedia("(prefers-color-scheme: dark)").matches;
+    const now = root.dataset.theme ?? (isDark ? "dark" : "light");
+    root.dataset.theme = now === "dark" ? "light" : "dark";
+  }
+
+  /* ---- what the page listens to */
+
+  listen() {
+    $("examples").addEventListener("change", (event) => this.openExample(event.target.value));
+    $("speed").addEventListener("change", (event) => this.setSpeed(Number(event.target.value)));
+    $("radix").addEventListener("change", (event) => this.setRadix(event.target.value));
+    $("unit").addEventListener("change", (event) => this.setUnit(Number(event.target.value)));
+    $("around").addEventListener("change", (event) => this.showAround(event.target.value));
+    $("address").addEventListener("change", () => this.showAddress());
+    $("file").addEventListener("change", (event) => this.openFiles(event.target.files));
+    $("typing").addEventListener("submit", (event) => this.send(event));
+    $("take").addEventListener("click", () => this.take());
+    $("copy").addEventListener("click", () => this.copyLink());
+    $("text").addEventListener("keydown", (event) => {
+      if (event.key === "Enter" && (event.ctrlKey || event.metaKey)) this.take();
+    });
+    for (const button of document.querySelectorAll("[data-close]")) {
+      button.addEventListener("click", () => button.closest("dialog").close());
+    }
+    document.addEventListener("keydown", (event) => this.press(event));
+    this.listenToPointer();
+    window.addEventListener("resize", () => this.render());
+    window.addEventListener("hashchange", () => this.openLink());
+    this.listenToDrops();
+  }
+
+  /* A menu that was used by a pointer gives the keys back to the page. */
+  listenToPointer() {
+    let isByPointer = false;
+    document.addEventListener("pointerdown", () => { isByPointer = true; });
+    document.addEventListener("keydown", () => { isByPointer = false; }, true);
+    document.addEventListener("change", ({ target }) => {
+      if (isByPointer && target.matches(":is(header, .controls, main) select")) target.blur();
+    });
+  }
+
+  listenToDrops() {
+    const show = (isOver) => { $("drop").hidden = !isOver; };
+    document.addEventListener("dragover", (event) => {
+      event.preventDefault();
+      show(true);
+    });
+    document.addEventListener("dragleave", (event) => { if (!event.relatedTarget) show(false); });
+    document.addEventListener("drop", (event) => {
+      event.preventDefault();
+      show(false);
+      this.openFiles(event.dataTransfer.files);
+    });
+  }
+
+  press(event) {
+    if (event.ctrlKey || event.metaKey || event.altKey || event.defaultPrevented) return;
+    if (document.querySelector("dialog[open]")) return;
+    if (event.target === $("listing") && this.pressInListing(event)) return;
+    if (event.target.matches("input, textarea, select") || !$("keys-on").checked) return;
+    const action = Object.keys(ACTIONS).find((name) => ACTIONS[name].key === event.key);
+    if (!action) return;
+    event.preventDefault();
+    this.act(action);
+  }
+
+  /* Arrow keys select a line. Returns whether the key was one of these. */
+  pressInListing(event) {
+    const { session } = this;
+    const page = Math.floor($("listing").clientHeight / LINE_HEIGHT) - 1;
+    const moves = {
+      ArrowDown: 1, ArrowUp: -1, PageDown: page, PageUp: -page, Home: -Infinity, End: Infinity,
+    };
+    const move = moves[event.key];
+    if (move === undefined) return false;
+    event.preventDefault();
+    session.select(session.selected + move);
+    this.listing.reveal(session.selected);
+    return true;
+  }
+
+  send(event) {
+    event.preventDefault();
+    this.session.type(`${$("input").value}\n`);
+    $("input").value = "";
+  }
+
+  showAround(choice) {
+    this.memory.around = choice;
+    if (choice === "address") this.showAddress();
+    else this.memory.render();
+  }
+
+  showAddress() {
+    const field = $("address");
+    const isShown = field.value.trim() === "" || this.memory.show(field.value);
+    field.setAttribute("aria-invalid", !isShown);
+    const where = whereMemoryIs(this.session.machine);
+    field.title = isShown ? "" : `No address or label of the memory. ${where}`;
+  }
+
+  /* ---- programs */
+
+  /** Opens a program. Returns "", or why it can't be opened; then what was open stays. */
+  tryToOpen(program, example = "") {
+    try {
+      this.session.open(program);
+    } catch (error) {
+      if (!(error instanceof ProgramError)) throw error;
+      return error.message;
+    }
+    $("examples").value = example;
+    setText($("program-title"), this.session.name);
+    this.memory.fillChoices();
+    this.render();
+    return "";
+  }
+
+  /** Opens a program, or has the page say why not. */
+  open(program, example) {
+    const mistake = this.tryToOpen(program, example);
+    if (mistake) this.refuse(`${program.name} was not opened. ${mistake}`);
+  }
+
+  refuse(sentence) {
+    this.session.stop();
+    this.session.say("Not opened", sentence, "end");
+  }
+
+  openExample(id) {
+    this.open(EXAMPLES.find((example) => example.id === id), id);
+  }
+
+  async openFiles(files) {
+    const [file] = files;
+    if (!file) return;
+    const mistake = this.mistakeOf(file);
+    if (mistake) {
+      this.refuse(`${file.name} ${mistake}`);
+    } else {
+      const { kit: { base, size }, hasStack } = this.session.machine;
+      const bytes = new Uint8Array(await file.arrayBuffer());
+      const text = isTextFile(file) ? new TextDecoder().decode(bytes) : textOfBytes(bytes);
+      this.open({ name: file.name, text, base, size, hasStack });
+    }
+    $("file").value = "";
+  }
+
+  /* Why a file can't be opened, or "". */
+  mistakeOf(file) {
+    const { size } = this.session.machine.kit;
+    const is = file.size.toLocaleString("en");
+    if (file.size === 0) return "is empty.";
+    if (isTextFile(file)) {
+      const most = MOST_TEXT.toLocaleString("en");
+      return file.size > MOST_TEXT ? `has ${is} bytes, and a text of words ${most} at most.` : "";
+    }
+    if (file.size <= size) return "";
+    const room = size.toLocaleString("en");
+    return `has ${is} bytes, and the memory has ${room}. A larger memory can be chosen at Edit.`;
+  }
+
+  edit({ text, machine }) {
+    $("text").value = text;
+    $("base").value = hex(machine.kit.base);
+    $("size").value = machine.kit.size;
+    $("stack").checked = machine.hasStack;
+    setText($("mistake"), "");
+    $("editor").showModal();
+    $("text").setSelectionRange(0, 0);
+    $("text").scrollTop = 0;
+  }
+
+  /* Opens what stands in the editor, or says there what is wrong with it. */
+  take() {
+    const base = WORD.exec($("base").value.trim());
+    const program = {
+      name: "Program",
+      text: $("text").value,
+      base: base ? parseInt(base[2], 16) : NaN,
+      size: Number($("size").value),
+      hasStack: $("stack").checked,
+    };
+    const mistake = this.tryToOpen(program);
+    setText($("mistake"), mistake);
+    if (!mistake) $("editor").close();
+  }
+
+  async showLink() {
+    const { machine, text } = this.session;
+    const { kit: { base, size }, hasStack } = machine;
+    const hash = await encodeLink({ text, base, size, hasStack });
+    const link = location.href.replace(/#.*$/, "") + hash;
+    $("link").value = link;
+    const isLong = link.length > 8000 ? " Some programs that send mail cut such a long one." : "";
+    const isFile = location.protocol === "file:"
+      ? " It leads to a file of this computer: put the page on a server to send it." : "";
+    setText($("shared-note"), `${counted(link.length, "character")}.${isLong}${isFile}`);
+    $("shared").showModal();
+    $("link").select();
+  }
+
+  /* Puts the link on the clipboard, or says that the browser did not let the page. */
+  async copyLink() {
+    $("link").select();
+    try {
+      await navigator.clipboard.writeText($("link").value);
+      setText($("shared-note"), "The link is on the clipboard.");
+    } catch {
+      setText($("shared-note"), "The browser keeps the clipboard to itself: press Ctrl+C.");
+    }
+  }
+
+  /** Opens the program of the page's own link, and answers whether there is one. */
+  async openLink() {
+    try {
+      const program = await decodeLink(location.hash);
+      if (program === null) return false;
+      this.open({ name: "Program of the link", ...program });
+    } catch (error) {
+      if (!(error instanceof ProgramError)) throw error;
+      this.refuse(error.message);
+    }
+    return true;
+  }
+
+  /* ---- showing */
+
+  render() {
+    const { session } = this;
+    const { machine, notice } = session;
+    setText($("heading"), notice.heading);
+    setText($("sentence"), notice.sentence);
+    $("state").className = `state ${notice.kind}`;
+    $("state").firstElementChild.setAttribute("aria-busy", session.isRunning);
+    setText($("steps"), counted(machine.steps, "step"));
+    setText($("kept"), `can go back ${machine.history.length.toLocaleString("en")}`);
+    $("kept").title = `The records of the latest ${STEPS_KEPT.toLocaleString("en")} steps at least `
+      + "are kept.";
+    for (const view of this.views) view.render();
+    const enabled = {
+      pause: session.isRunning,
+      stepBack: machine.history.length > 0 && !session.isRunning,
+      runBack: machine.history.length > 0 && !session.isRunning,
+      run: !session.isRunning,
+      runToLine: !session.isRunning,
+    };
+    for (const [name, isOn] of Object.entries(enabled)) {
+      document.querySelector(`[data-action=${name}]`).setAttribute("aria-disabled", !isOn);
+    }
+  }
+}
+
+/** Says why there is no machine in the page. */
+function refuseBrowser(sentence) {
+  $("refusal").textContent = sentence;
+  $("refusal").hidden = false;
+}
+
+async function startPage() {
+  if (!hasMemory64()) {
+    refuseBrowser("This browser can't run the machine: its WebAssembly has no 64-bit memories "
+      + "(memory64). Chromium and Chrome from 133 on, and Firefox from 134 on, have them.");
+    return;
+  }
+  const kit = await Kit.load(Uint8Array.from(atob(MODULE), (letter) => letter.charCodeAt(0)));
+  const page = new Page(new Session(new Machine(kit)));
+  globalThis.rrs = page;
+  $("controls").hidden = $("main").hidden = false;
+  page.openExample(EXAMPLES[0].id);
+  await page.openLink();
+  document.documentElement.dataset.ready = "true";
+}
+
+startPage().catch((error) => refuseBrowser(`The machine could not be started: ${error.message}`));

@@ -1,0 +1,86 @@
+"use strict";
+
+// What a program prints and reads: the console of its system calls, and the port.
+
+/* The address of the port, of one byte: a byte stored there is printed, and reads back. */
+const PORT_ADDRESS = 0x10000000;
+
+/* How many printed bytes are kept. Others are counted. */
+const OUTPUT_ROOM = 1 << 20;
+
+/** The bytes that were printed, those that were typed, and the port's own byte. */
+class Terminal {
+  constructor() {
+    this.reset();
+  }
+
+  /** As it is before a program starts: nothing printed, nothing typed. */
+  reset() {
+    this.output = new Uint8Array(1024);
+    this.printed = 0;
+    this.lost = 0;
+    this.input = [];
+    this.taken = 0;
+    this.isClosed = false;
+    this.port = 0;
+  }
+
+  /** Prints a byte, or counts it where there is no more room. */
+  print(byte) {
+    if (this.printed === OUTPUT_ROOM) {
+      this.lost++;
+      return;
+    }
+    if (this.printed === this.output.length) {
+      const longer = new Uint8Array(2 * this.output.length);
+      longer.set(this.output);
+      this.output = longer;
+    }
+    this.output[this.printed++] = byte;
+  }
+
+  /** A byte is stored to the port. */
+  storeToPort(byte) {
+    this.port = byte;
+    this.print(byte);
+  }
+
+  /** Adds typed text behind what was typed before. */
+  type(text) {
+    for (const byte of new TextEncoder().encode(text)) this.input.push(byte);
+  }
+
+  /** Says that nothing more will be typed: a program that reads then gets 0 bytes. */
+  close() {
+    this.isClosed = true;
+  }
+
+  /** Whether a program that reads has to wait. */
+  get isEmpty() {
+    return this.taken === this.input.length && !this.isClosed;
+  }
+
+  /** The next typed bytes, `most` of them and one line at most, which stay untaken. */
+  peek(most) {
+    let end = this.taken;
+    const last = Math.min(this.input.length, this.taken + most);
+    while (end < last && this.input[end++] !== 10);
+    return this.input.slice(this.taken, end);
+  }
+
+  /** What a step may change, for `restore`. */
+  mark() {
+    return { printed: this.printed, lost: this.lost, taken: this.taken, port: this.port };
+  }
+
+  /** Takes back what happened since a mark. */
+  restore(mark) {
+    Object.assign(this, mark);
+  }
+
+  /** What was printed as text, its last `most` bytes. */
+  text(most) {
+    const from = Math.max(0, this.printed - most);
+    return new TextDecoder().decode(this.output.subarray(from, this.printed));
+  }
+}

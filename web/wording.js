@@ -1,0 +1,142 @@
+"use strict";
+
+// What the page says in plain words, and how it writes numbers and names.
+
+/* The names of the registers in calls, by their numbers. */
+const ABI_NAMES = [
+  "zero", "ra", "sp", "gp", "tp", "t0", "t1", "t2", "s0", "s1", "a0", "a1", "a2", "a3", "a4", "a5",
+  "a6", "a7", "s2", "s3", "s4", "s5", "s6", "s7", "s8", "s9", "s10", "s11", "t3", "t4", "t5", "t6",
+];
+
+/* The ways to write a register's value. */
+const RADIXES = {
+  hex: { name: "hexadecimal", write: (value) => `0x${hexOf(value)}` },
+  signed: { name: "signed decimal", write: (value) => String(value | 0) },
+  unsigned: { name: "unsigned decimal", write: (value) => String(value) },
+  binary: { name: "binary", write: (value) => `0b${value.toString(2).padStart(32, "0")}` },
+};
+
+const hex = (value) => `0x${hexOf(value)}`;
+const counted = (count, noun) => `${count.toLocaleString("en")} ${noun}${count === 1 ? "" : "s"}`;
+
+/* What kind of instruction a word is, by its opcode; multiplication by funct7 too. */
+const GROUPS = {
+  arithmetic: "arithmetic and logic",
+  multiply: "multiply and divide",
+  load: "load",
+  store: "store",
+  branch: "branch",
+  jump: "jump",
+  system: "system",
+};
+const GROUP_OF_OPCODE = {
+  0x03: "load", 0x0f: "system", 0x13: "arithmetic", 0x17: "arithmetic", 0x23: "store",
+  0x33: "arithmetic", 0x37: "arithmetic", 0x63: "branch", 0x67: "jump", 0x6f: "jump",
+  0x73: "system",
+};
+
+function groupOf(word) {
+  const opcode = word & 0x7f;
+  return opcode === 0x33 && word >>> 25 === 1 ? "multiply" : GROUP_OF_OPCODE[opcode];
+}
+
+/* How many bytes the load or the store of a word has. */
+const bytesOf = (word) => 1 << (word >>> 12 & 3);
+
+/* The memory, as a sentence names it. */
+const whereMemoryIs = (machine) => {
+  const { base, size } = machine.kit;
+  return `Memory goes from ${hex(base)} to ${hex(base + size - 1)}.`;
+};
+
+/* The sentence of each fault. `pc` is where the machine stands. */
+const FAULT_SENTENCES = {
+  [FAULT.ILLEGAL]({ address, word }) {
+    const why = word === 0 ? " Memory is 0 behind a program's end." : "";
+    return `The word at ${hex(address)} is ${hex(word)}, which is no instruction of RV32IM.${why}`;
+  },
+  [FAULT.FETCH]({ address }, machine) {
+    return `The program went to ${hex(address)}, where there is no memory. `
+      + whereMemoryIs(machine);
+  },
+  [FAULT.LOAD]({ address }, machine) {
+    const { pc } = machine.kit;
+    return `The instruction at ${hex(pc)} loads from ${hex(address)}, where there is no memory. `
+      + whereMemoryIs(machine);
+  },
+  [FAULT.STORE]({ address }, machine) {
+    const { pc } = machine.kit;
+    return `The instruction at ${hex(pc)} stores to ${hex(address)}, where there is no memory. `
+      + whereMemoryIs(machine);
+  },
+  [FAULT.MISALIGNED]({ address }, machine) {
+    const { pc } = machine.kit;
+    if (pc % 4 !== 0) {
+      return `The program went to ${hex(address)}, which is no multiple of 4: no instruction starts`
+        + " there.";
+    }
+    const word = machine.wordAtPc();
+    const does = groupOf(word) === "load" ? "loads" : "stores";
+    const bytes = bytesOf(word);
+    return `The instruction at ${hex(pc)} ${does} ${bytes} bytes at ${hex(address)}, which is no `
+      + `multiple of ${bytes}.`;
+  },
+  [FAULT.ECALL]({ address }, machine) {
+    const number = machine.kit.x[REGISTER.A7];
+    return `The ecall at ${hex(address)} asks for system call ${number} (a7). This page serves 63 `
+      + "(read), 64 (write) and 93 (exit).";
+  },
+  [FAULT.EBREAK]({ address }) {
+    return `The program asked to stop, by the ebreak at ${hex(address)}.`;
+  },
+};
+
+const FAULT_NAMES = {
+  [FAULT.ILLEGAL]: "Illegal instruction",
+  [FAULT.FETCH]: "Fetch fault",
+  [FAULT.LOAD]: "Load fault",
+  [FAULT.STORE]: "Store fault",
+  [FAULT.MISALIGNED]: "Misaligned address",
+  [FAULT.ECALL]: "Environment call",
+  [FAULT.EBREAK]: "Breakpoint instruction",
+};
+
+/** A heading and a sentence for why the machine stands where it stands, and which kind of news that
+ * is: a fault is an "end", exit is "done", and "wait" is none, since the program can go on. */
+function explain(end, machine) {
+  switch (end.reason) {
+    case "fault":
+      return {
+        heading: FAULT_NAMES[end.kind],
+        sentence: `${FAULT_SENTENCES[end.kind](end, machine)} Nothing was changed by it.`,
+        kind: "end",
+      };
+    case "exit":
+      return {
+        heading: "Exit",
+        sentence: `The program ended by the ecall at ${hex(machine.kit.pc)}, with status `
+          + `${end.status}.`,
+        kind: "done",
+      };
+    case "waiting":
+      return {
+        heading: "Waiting for input",
+        sentence: "The program reads from the console. Type a line there, or end the input.",
+        kind: "wait",
+      };
+    default:
+      throw new Error(`no such end: ${end.reason}`);
+  }
+}
+
+/** What a step did, as `t0 = 0x0000002a`, from its record. */
+function effectOf(record) {
+  const written = record.rd ? `${ABI_NAMES[record.rd]} = ${hex(record.rdAfter)}` : "";
+  const value = `0x${hexOf(record.value, 2 * bytesOf(record.word))}`;
+  if (record.madeBy === MADE_BY.CALL) {
+    return `${record.value === CALL.READ ? "read" : "write"}, ${written}`;
+  }
+  if (record.writeMask) return `[${hex(record.address)}] ← ${value}`;
+  if (record.readMask) return `${written || value} ← [${hex(record.address)}]`;
+  return written;
+}
