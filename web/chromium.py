@@ -1,0 +1,191 @@
+"""Drives a headless Chromium by the DevTools protocol over a pipe, with nothing but Python."""
+
+import base64
+import fcntl
+import json
+import os
+import select
+import shutil
+import signal
+import subprocess
+import tempfile
+import time
+
+NAMES = ("chromium", "chromium-browser", "google-chrome")
+
+KEYS = {"Enter": 13, "ArrowDown": 40, "ArrowUp": 38, "Home": 36, "End": 35, "Tab": 9}
+
+
+def find():
+    """The path of the browser, or None."""
+    return next((path for path in map(shutil.which, NAMES) if path), None)
+
+
+class Failed(Exception):
+    """The browser answered with an error, or not in time."""
+
+
+class Browser:
+    """A browser with an empty profile of its own, which `close` ends and takes away."""
+
+    def __init__(self, path, flags=()):
+        self.profile = tempfile.mkdtemp()
+        into, self.write_to = os.pipe()
+        self.read_from, out = os.pipe()
+        # what the browser reads and writes becomes its descriptors 3 and 4
+        ends = [fcntl.fcntl(end, fcntl.F_DUPFD, 10) for end in (into, out)]
+        command = [
+            path, "--headless=new", "--no-sandbox", "--disable-gpu", "--disable-dev-shm-usage",
+            "--no-first-run", "--hide-scrollbars", "--remote-debugging-pipe",
+            f"--user-data-dir={self.profile}", *flags,
+        ]
+
+        def connect():
+            os.dup2(ends[0], 3)
+            os.dup2(ends[1], 4)
+
+        self.process = subprocess.Popen(
+            command, preexec_fn=connect, pass_fds=(3, 4), start_new_session=True,
+            stdin=subprocess.DEVNULL, stdout=subprocess.DEVNULL, stderr=subprocess.DEVNULL)
+        for end in (into, out, *ends):
+            os.close(end)
+        self.number = 0
+        self.unread = b""
+        self.events = []
+
+    def send(self, method, session=None, **params):
+        """Makes a call, and returns its answer."""
+        self.number += 1
+        call = {"id": self.number, "method": method, "params": params}
+        if session:
+            call["sessionId"] = session
+        os.write(self.write_to, json.dumps(call).encode() + b"\0")
+        while True:
+            message = self.receive()
+            if message.get("id") == self.number:
+                if "error" in message:
+                    raise Failed(f"{method}: {message['error']['message']}")
+                return message["result"]
+            self.events.append(message)
+
+    def receive(self, seconds=60):
+        """The next message."""
+        until = time.monotonic() + seconds
+        while b"\0" not in self.unread:
+            if not select.select([self.read_from], [], [], max(0, until - time.monotonic()))[0]:
+                raise Failed("the browser does not answer")
+            got = os.read(self.read_from, 1 << 16)
+            if not got:
+                raise Failed("the browser has ended")
+            self.unread += got
+        message, self.unread = self.unread.split(b"\0", 1)
+        return json.loads(message)
+
+    def open(self, address, width=1280, height=900, dark=False):
+        """Opens a page, and returns it when it has loaded."""
+        target = self.send("Target.createTarget", url="about:blank")["targetId"]
+        session = self.send("Target.attachToTarget", targetId=target, flatten=True)["sessionId"]
+        page = Page(self, session, target)
+        page.send("Page.enable")
+        page.send("Runtime.enable")
+        page.send("Network.enable")
+        page.resize(width, height)
+        page.prefer(dark)
+        page.go(address)
+        return page
+
+    def close(self):
+        """Ends the browser."""
+        try:
+            self.send("Browser.close")
+            self.process.wait(10)
+        except (Failed, OSError, subprocess.TimeoutExpired):
+            os.killpg(self.process.pid, signal.SIGKILL)
+            self.process.wait()
+        os.close(self.write_to)
+        os.close(self.read_from)
+        shutil.rmtree(self.profile, ignore_errors=True)
+
+
+class Page:
+    """A page, as a person has it before them."""
+
+    def __init__(self, browser, session, target):
+        self.browser, self.session, self.target = browser, session, target
+
+    def send(self, method, **params):
+        return self.browser.send(method, self.session, **params)
+
+    def go(self, address):
+        self.send("Page.navigate", url=address)
+        self.wait("document.readyState === 'complete'")
+
+    def resize(self, width, height):
+        self.send("Emulation.setDeviceMetricsOverride", width=width, height=height,
+                  deviceScaleFactor=1, mobile=False)
+
+    def prefer(self, dark):
+        value = "dark" if dark else "light"
+        self.send("Emulation.setEmulatedMedia",
+                  features=[{"name": "prefers-color-scheme", "value": value}])
+
+    def ask(self, expression):
+        """The value of an expression of JavaScript in the page."""
+        answer = self.send("Runtime.evaluate", expression=expression, returnByValue=True,
+                           awaitPromise=True)
+        if "exceptionDetails" in answer:
+            details = answer["exceptionDetails"]
+            raise Failed(details.get("exception", {}).get("description", details["text"]))
+        return answer["result"].get("value")
+
+    def wait(self, expression, seconds=30):
+        """Waits until an expression holds."""
+        until = time.monotonic() + seconds
+        while not self.ask(expression):
+            if time.monotonic() > until:
+                raise Failed(f"in {seconds} s this did not come to hold: {expression}")
+            time.sleep(0.01)
+
+    def text(self, selector):
+        """What stands in an element."""
+        return self.ask(f"document.querySelector({json.dumps(selector)}).textContent")
+
+    def click(self, selector):
+        """Clicks the middle of an element, as a mouse does."""
+        where = self.ask(
+            f"(() => {{ const e = document.querySelector({json.dumps(selector)});"
+            " e.scrollIntoView({ block: 'center' }); const r = e.getBoundingClientRect();"
+            " return [r.x + r.width / 2, r.y + r.height / 2]; })()")
+        for kind in ("mousePressed", "mouseReleased"):
+            self.send("Input.dispatchMouseEvent", type=kind, x=where[0], y=where[1],
+                      button="left", clickCount=1)
+
+    def press(self, key):
+        """Presses a key."""
+        text = {"Enter": "\r"}.get(key, key if len(key) == 1 else "")
+        code = KEYS.get(key, ord(key.upper()) if len(key) == 1 and key.isalnum() else 0)
+        self.send("Input.dispatchKeyEvent", type="keyDown", key=key, text=text,
+                  windowsVirtualKeyCode=code)
+        self.send("Input.dispatchKeyEvent", type="keyUp", key=key, windowsVirtualKeyCode=code)
+
+    def type(self, text):
+        """Types a text where the focus is."""
+        self.send("Input.insertText", text=text)
+
+    def choose(self, selector, value):
+        """Chooses an option of a menu."""
+        self.ask(f"(() => {{ const e = document.querySelector({json.dumps(selector)});"
+                 f" e.value = {json.dumps(value)};"
+                 " e.dispatchEvent(new Event('change', { bubbles: true })); })()")
+
+    def give_file(self, selector, path):
+        """Gives a file to a field for files."""
+        root = self.send("DOM.getDocument")["root"]["nodeId"]
+        node = self.send("DOM.querySelector", nodeId=root, selector=selector)["nodeId"]
+        self.send("DOM.setFileInputFiles", nodeId=node, files=[str(path)])
+
+    def picture(self, path, whole=True):
+        """Writes a picture of the page, the whole of it or what is in view."""
+        taken = self.send("Page.captureScreenshot", format="png", captureBeyondViewport=whole)
+        with open(path, "wb") as file:
+            file.write(base64.b64decode(taken["data"]))
