@@ -16,6 +16,8 @@ mod call_counter;
 #[cfg(test)]
 mod calls;
 #[cfg(test)]
+mod changing;
+#[cfg(test)]
 mod console;
 #[cfg(test)]
 mod count_down;

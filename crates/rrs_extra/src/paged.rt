@@ -195,4 +195,10 @@ impl Memory for PagedMemory {
             None => false,
         }
     }
+
+    /// They are, as those of a `VecMemory`.
+    #[inline(always)]
+    fn reads_are_pure(&self) -> bool {
+        true
+    }
 }

@@ -1,0 +1,181 @@
+//! Programs that change themselves, in long runs over memories of different kinds.
+
+use crate::machines::hart_of;
+use rrs_extra::PagedMemory;
+use rrs_lib::instruction_executor::{InstructionExecutor, RunEnd};
+use rrs_lib::memories::{BoxedMemory, MemorySpace, VecMemory};
+use rrs_lib::{HartState, Memory};
+use std::alloc::{AllocError, Global};
+use std::process::Abort;
+use std::test::Fail;
+
+/// Adds 1 to x5, stores x6 somewhere, exchanges x6, and begins again: so each time it stores the
+/// other of two values.
+const LOOP: [u32; 4] = [
+    0x0012_8293, // addi x5, x5, 1
+    0, // the store
+    0x0073_4333, // xor x6, x6, x7
+    0xff5f_f06f, // jal x0, -12
+];
+
+/// A store of the loop, and the two values that it stores.
+struct Change {
+    store: u32,
+    first: u32,
+    second: u32,
+}
+
+/// A word of the loop, a half-word, each byte that can be changed and leaves an `addi`, the next
+/// word but one, and words that have the place of the first one in a table of 512.
+const CHANGES: [Change; 8] = [
+    // sw x6, 0(x0): addi x5, x5, 100 and addi x5, x5, 1
+    Change {
+        store: 0x0060_2023,
+        first: 0x0642_8293,
+        second: 0x0012_8293,
+    },
+    // sh x6, 2(x0): its upper half
+    Change {
+        store: 0x0060_1123,
+        first: 0x0642,
+        second: 0x0012,
+    },
+    // sb x6, 2(x0): the four low bits of its immediate
+    Change {
+        store: 0x0060_0123,
+        first: 0x72,
+        second: 0x12,
+    },
+    // sb x6, 3(x0): the eight high ones
+    Change {
+        store: 0x0060_01a3,
+        first: 0x06,
+        second: 0x00,
+    },
+    // sb x6, 1(x0): xori x5, x5, 1 and addi x5, x5, 1, by funct3
+    Change {
+        store: 0x0060_00a3,
+        first: 0xc2,
+        second: 0x82,
+    },
+    // sw x6, 8(x0): xor x6, x7, x6, and xor x6, x6, x7
+    Change {
+        store: 0x0060_2423,
+        first: 0x0063_c333,
+        second: 0x0073_4333,
+    },
+    // sw x6, 16(x0): behind the loop
+    Change {
+        store: 0x0060_2823,
+        first: 1,
+        second: 2,
+    },
+    // sw x6, 2044(x0): no word of the loop
+    Change {
+        store: 0x7e60_2e23,
+        first: 1,
+        second: 2,
+    },
+];
+
+/// How many steps are made.
+const LIMIT: u64 = 4001;
+
+/// The words of a loop that makes a change.
+fn words_of(change: &Change) -> [u32; 1024] {
+    let mut words = [0; 1024];
+    words[..4].copy_from_slice(&LOOP);
+    words[1] = change.store;
+    words
+}
+
+/// The hart that makes it.
+fn hart_for(change: &Change) -> HartState {
+    hart_of(0, &[(6, change.first), (7, change.first ^ change.second)])
+}
+
+/// What a hart has after a run of one call.
+fn run_once<M: Memory>(mem: &mut M, change: &Change) -> (RunEnd, [u32; 32], u32) {
+    let mut hart_state = hart_for(change);
+    let mut executor = InstructionExecutor {
+        mem,
+        hart_state: &mut hart_state,
+    };
+    let end = executor.run(LIMIT);
+    (end, hart_state.registers, hart_state.pc)
+}
+
+/// What it has after as many steps, each made by itself.
+fn step_by_step<M: Memory>(mem: &mut M, change: &Change) -> (RunEnd, [u32; 32], u32) {
+    let mut hart_state = hart_for(change);
+    let mut executor = InstructionExecutor {
+        mem,
+        hart_state: &mut hart_state,
+    };
+    let mut end = RunEnd {
+        steps: LIMIT,
+        exception: None,
+    };
+    for steps in 0..LIMIT {
+        if let Err(exception) = executor.step() {
+            end = RunEnd {
+                steps,
+                exception: Some(exception),
+            };
+            break;
+        }
+    }
+    (end, hart_state.registers, hart_state.pc)
+}
+
+/// A memory of a page.
+fn page_of(alloc: Global, words: &[u32; 1024]) -> Result<PagedMemory, AllocError> {
+    let mut pages = PagedMemory::new(alloc);
+    let marks = Vec::from_slice(alloc, &[false; 1024])?;
+    match pages.add_page(0, words.to_vec(alloc)?, marks) {
+        Ok(()) => Ok(pages),
+        Err(_) => Err(AllocError),
+    }
+}
+
+/// A space of one region.
+fn space_of(alloc: Global, words: &[u32; 1024]) -> Result<MemorySpace<VecMemory>, AllocError> {
+    let mut space = MemorySpace::new(alloc);
+    match space.add_memory(0, 4096, VecMemory::new(words.to_vec(alloc)?)) {
+        Ok(_) => Ok(space),
+        Err(_) => Err(AllocError),
+    }
+}
+
+#[test]
+fn each_change_is_seen_by_the_next_fetch(rt: HostRuntime) -> Result<(), Fail> {
+    let alloc = rt.alloc();
+    for change in &CHANGES {
+        let words = words_of(change);
+        let mut memory = VecMemory::new(words.to_vec(alloc)?);
+        let expected = step_by_step(&mut memory, change);
+        let mut memory = VecMemory::new(words.to_vec(alloc)?);
+        let over_words = run_once(&mut memory, change);
+        let over_page = run_once(&mut page_of(alloc, &words)?, change);
+        let over_space = run_once(&mut space_of(alloc, &words)?, change);
+        let mut boxed = BoxedMemory {
+            memory: Box::new(alloc, VecMemory::new(words.to_vec(alloc)?))?,
+        };
+        let in_box = run_once(&mut boxed, change);
+        let seen = [over_words, over_page, over_space, in_box];
+        for run in &seen {
+            assert!(rt; *run == expected);
+        }
+    }
+    Ok(())
+}
+
+#[test]
+fn a_word_that_is_changed_in_each_turn_adds_both_numbers(rt: HostRuntime) -> Result<(), Fail> {
+    let alloc = rt.alloc();
+    let mut memory = VecMemory::new(words_of(&CHANGES[0]).to_vec(alloc)?);
+    let (end, registers, pc) = run_once(&mut memory, &CHANGES[0]);
+    // 1,000 turns of four steps, and the first step of the next one
+    assert!(rt; (end.steps, end.exception, registers[5], pc) == (LIMIT, None, 50_501, 4));
+    Ok(())
+}
