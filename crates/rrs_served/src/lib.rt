@@ -7,10 +7,11 @@
 
 #![tactic(auto)]
 
-ghost use Rattle.std.specs.Prelude.{◌≡◌, ◌<◌, ◌≤◌, ℕ, List, Option, None};
+ghost use Rattle.std.specs.Prelude.{◌≡◌, ◌%◌, ◌<◌, ◌≤◌, ℕ, List, Option, None};
 ghost use Rattle.rrs_lib.specs.Machine.{State};
 ghost use Rattle.rrs_lib.specs.Executor.{state_in, KeepsTheRest};
 ghost use Rattle.rrs_lib.specs.Accesses.{Access};
+ghost use Rattle.rrs_lib.specs.Bytes.{EndsAtLastAddress};
 ghost use Rattle.rrs_served.specs.Serving.{Served, IsOnlyServed, MakesSome};
 ghost use Rattle.rrs_served.specs.Rounds.{RoundOf, StepsWithin};
 
@@ -86,6 +87,8 @@ fn serve_next<M: Memory, E: Environment>(
         executor.old.mem.now executor.new.mem.now }
     ensures within { StepsWithin limit result }
     ensures rest { KeepsTheRest M.layout executor.old executor.new }
+    ensures ends { 1 ≤ limit → executor.old.hart_state.now.pc % 4 ≡ 0
+        → EndsAtLastAddress (M.bytes executor.old.mem.now) (M.writable executor.old.mem.now) }
 {
     let end = executor.run(limit);
     let Some(exception) = end.exception else {
@@ -117,7 +120,8 @@ fn serve_next<M: Memory, E: Environment>(
 /// what is left of the limit, leads to those after, and exactly its accesses are made, those of the
 /// steps and those of the calls in their order (`served`); where the environment's calls are
 /// determined no other chain leads from there (`only`); what is no part of the state stays
-/// (`rest`).
+/// (`rest`). Where the first step fetches, nothing is mapped or writable from 2^32 on (`ends`), as
+/// by `run`.
 pub fn run_served<M: Memory, E: Environment>(
     executor: &mut InstructionExecutor<M>,
     environment: &mut E,
@@ -133,6 +137,8 @@ pub fn run_served<M: Memory, E: Environment>(
         result.steps result.ending
         environment.new (state_in M.bytes M.writable executor.new) }
     ensures rest { KeepsTheRest M.layout executor.old executor.new }
+    ensures ends { 1 ≤ limit → executor.old.hart_state.now.pc % 4 ≡ 0
+        → EndsAtLastAddress (M.bytes executor.old.mem.now) (M.writable executor.old.mem.now) }
 {
     let mut steps = 0;
     'rounds: loop {

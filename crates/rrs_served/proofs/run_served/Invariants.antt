@@ -1,4 +1,5 @@
-use Rattle.std.proofs.Common.{◌≤◌, ◌-◌}
+use Rattle.std.proofs.Common.{◌≡◌, ◌<◌, ◌≤◌, ◌-◌, ◌%◌}
+use Rattle.rrs_lib.specs.Bytes.{EndsAtLastAddress}
 use Rattle.rrs_lib.specs.Executor.{state_in, KeepsTheRest}
 use Rattle.rrs_served.proofs.Rounds.{Reached}
 use Rattle.rrs_served.proofs.run_served.Given as goal
@@ -12,6 +13,8 @@ invariant-rounds g l =
       within : l.steps ≤ l.fn.limit;
       reached : Reached g.E.Environment.serves memory.reads memory.writes l.fn.limit l.fn.environment (state l.fn.executor) l.fn.executor.mem.now l.steps l.environment (state l.executor) l.executor.mem.now;
       rest : KeepsTheRest memory.layout l.fn.executor l.executor;
+      at_start : l.steps ≡ 0 → l.executor ≡ l.fn.executor;
+      ends : 0 < l.steps → l.fn.executor.hart_state.now.pc % 4 ≡ 0 → EndsAtLastAddress (memory.bytes l.fn.executor.mem.now) (memory.writable l.fn.executor.mem.now);
     }
 
 abbrev pub decreases-rounds : goal.decreases-rounds

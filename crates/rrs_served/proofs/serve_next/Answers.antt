@@ -26,4 +26,5 @@ returns-in_default-exception g c =
       round = last_round _ _ _ _ _ _ _ _ c.run-end.result.exception (Fault x) _ _ c.run-end.ensures.run c.run-end.ensures.accesses ends;
       within = run_within _ _ _ _ c.run-end.result.exception c.run-end.ensures.run;
       rest = c.run-end.ensures.rest;
+      ends = c.run-end.ensures.ends;
     }
