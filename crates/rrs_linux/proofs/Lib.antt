@@ -1,2 +1,3 @@
+pub mod KnownStreams
 pub mod Placed
 pub mod Written

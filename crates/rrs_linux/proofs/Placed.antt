@@ -68,7 +68,7 @@ end_behind held left empty end =
 
 -- ---- how a read ends
 
-none_loaded : (bytes : ByteMap) (writable : ℕ → Bool) (a : ℕ) → a < 2 ^ 32 → Loaded bytes bytes writable a []
+pub none_loaded : (bytes : ByteMap) (writable : ℕ → Bool) (a : ℕ) → a < 2 ^ 32 → Loaded bytes bytes writable a []
 none_loaded bytes writable a low = record {
   writable_there = λ i h. absurd (omega (arith, h));
   loaded = λ i h. absurd (omega (arith, h));

@@ -38,7 +38,7 @@ Stands-take bytes a n text short stands =
     λ i h. let long : length (take n text) ≡ n = length-take-le n text short in
     stands i (omega (arith, h, long, short)) ∙ ap Some (sym (get_or-take n text i 0 (omega (arith, h, long))))
 
-Stands-append : (bytes : ByteMap) (a n : ℕ) (xs ys : List ℕ) → length xs ≡ n → Stands bytes a xs → Stands bytes (a + n) ys → Stands bytes a (xs ++ ys)
+pub Stands-append : (bytes : ByteMap) (a n : ℕ) (xs ys : List ℕ) → length xs ≡ n → Stands bytes a xs → Stands bytes (a + n) ys → Stands bytes a (xs ++ ys)
 Stands-append bytes a n xs ys long first later = λ i h.
     let both : length (xs ++ ys) ≡ length xs + length ys = length-append xs ys in
     elim (cases_lt i n) [

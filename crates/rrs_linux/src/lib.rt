@@ -3,11 +3,14 @@
 //!
 //! [Linux] is an [Environment] of `run_served`, over a reader that is the program's standard input,
 //! and two writers that are its standard output and its standard error. What each call does is
-//! written in `specs/SystemCalls.antt`. No call allocates.
+//! written in `specs/SystemCalls.antt`. No call allocates. [Recorder] serves the same calls over
+//! bytes in the host's memory: what its calls do is written in `specs/Recording.antt`.
 
 #![tactic(auto)]
 
 mod held;
+mod recorded;
+mod recorder;
 mod requests;
 mod streams;
 
@@ -19,6 +22,7 @@ ghost use Rattle.rrs_linux.specs.SystemCalls.{Serves, moved, answered};
 use crate::requests::request_of;
 use crate::streams::{read_bytes, write_bytes};
 pub use held::Held;
+pub use recorder::Recorder;
 pub use requests::Request;
 use rrs_lib::instruction_executor::InstructionExecutor;
 use rrs_lib::{HartState, Memory};

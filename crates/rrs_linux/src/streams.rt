@@ -22,10 +22,10 @@ const MOST_BYTES: u32 = 0x7fff_f000;
 const HOST_FAILED: u32 = 0xffff_fffb;
 /// The answer where a buffer's first byte can't be accessed, or the buffer passes the last address:
 /// -14, `EFAULT`.
-const BAD_ADDRESS: u32 = 0xffff_fff2;
+pub const BAD_ADDRESS: u32 = 0xffff_fff2;
 
 /// How many bytes of a buffer may be transferred, or `None` where it passes the last address.
-fn most_of(address: u32, count: u32) -> Option<u32>
+pub fn most_of(address: u32, count: u32) -> Option<u32>
     ensures { MatchOption result (2 ^ 32 < address + count)
         (λ most. (address + count ≤ 2 ^ 32) × (most ≡ min count most_bytes)) }
 {
@@ -36,7 +36,7 @@ fn most_of(address: u32, count: u32) -> Option<u32>
 }
 
 /// The answer of a call that transferred so many bytes and then met an error.
-fn answer_of(done: u32, error: u32) -> u32
+pub fn answer_of(done: u32, error: u32) -> u32
     ensures { result ≡ counted done error }
 {
     if done == 0 { error } else { done }

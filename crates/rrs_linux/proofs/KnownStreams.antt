@@ -1,0 +1,88 @@
+-- Bytes that are taken to a log, one after another, and bytes of a known input that are given.
+use Rattle.std.proofs.Common.{◌≡◌, ℕ, zero, suc, ◌+◌, ◌-◌, ◌^◌, ◌<◌, Bool, true, List, [], ◌∷◌, ◌++◌, length, take, drop, slice_index, Option, Some, refl, sym, subst, ap, ◌∙◌, append_assoc, arith}
+use Rattle.std.proofs.lemmas.List.{length-append, length-drop, length-take-le, take_all, take_more, take-append-drop}
+use Rattle.rrs_lib.specs.declared.MemAccessSize.{MemAccessSize}
+use Rattle.rrs_lib.specs.declared.MemAccessSize.TheVariants.{Byte}
+use Rattle.rrs_lib.specs.Bytes.{ByteMap, IsLawful, store}
+use Rattle.rrs_lib.specs.AccessLists.{Makes}
+use Rattle.rrs_lib.specs.Loading.{Loaded, byte_writes}
+use Rattle.rrs_served.specs.Serving.{MakesSome}
+use Rattle.rrs_linux.specs.Transfers.{Stands, byte_reads}
+use Rattle.rrs_linux.specs.Recording.{TakingEnds, TakesText, GivingEnds, GivesText}
+use Rattle.rrs_memory.proofs.LoadLemmas.{Loaded-next, writes-next}
+use Rattle.rrs_linux.proofs.Written.{Stands-append}
+
+-- ---- taken
+
+-- one byte stands
+Stands-one : (bytes : ByteMap) (a byte : ℕ) → bytes a ≡ Some byte → Stands bytes a (byte ∷ [])
+Stands-one bytes a byte there zero less = let here : a + 0 ≡ a = omega arith in ap bytes here ∙ there
+Stands-one bytes a byte there (suc i) less = absurd (omega (arith, less))
+
+-- one byte more stands
+pub Stands-more : (bytes : ByteMap) (a n byte : ℕ) (text : List ℕ) → length text ≡ n → Stands bytes a text → bytes (a + n) ≡ Some byte → Stands bytes a (text ++ byte ∷ [])
+Stands-more bytes a n byte text long stands there = Stands-append bytes a n text (byte ∷ []) long stands (Stands-one bytes (a + n) byte there)
+
+pub longer : (text : List ℕ) (byte n : ℕ) → length text ≡ n → length (text ++ byte ∷ []) ≡ n + 1
+longer text byte n long = length-append text (byte ∷ []) ∙ ap (λ k. k + 1) long
+
+pub appended_more : (old mid new text : List ℕ) (byte : ℕ) → mid ≡ old ++ text → new ≡ mid ++ byte ∷ [] → new ≡ old ++ (text ++ byte ∷ [])
+appended_more old mid new text byte so_far more = more ∙ ap (λ l. l ++ byte ∷ []) so_far ∙ append_assoc old text (byte ∷ [])
+
+module _ {M : Type 0} (reads : M → ℕ → MemAccessSize → M → Option ℕ → Type 0) (writes : M → ℕ → MemAccessSize → ℕ → M → Bool → Type 0) where
+  pub takes_text : (bytes : ByteMap) (a count capacity n answer : ℕ) (old new text : List ℕ) (m m' : M) → Stands bytes a text → new ≡ old ++ text → TakingEnds bytes a count (capacity - length old) text n answer
+      → Makes reads writes (byte_reads bytes a n) m m' → MakesSome reads writes (TakesText bytes a count capacity old new answer) m m'
+  takes_text bytes a count capacity n answer old new text m m' stands appended ended made = record {
+    accesses = byte_reads bytes a n;
+    these = record { text = text; stands = stands; appended = appended; reads = n; ended = ended; accessed = refl };
+    made = made;
+  }
+
+  -- ---- given
+
+  pub gives_text : (writable : ℕ → Bool) (bytes bytes' : ByteMap) (a count n answer : ℕ) (input written : List ℕ) (m m' : M) → Loaded bytes bytes' writable a (take n input)
+      → GivingEnds writable a count input (take n input) (byte_writes writable a written) answer → Makes reads writes (byte_writes writable a written) m m'
+      → MakesSome reads writes (GivesText writable bytes bytes' a count input (drop n input) answer) m m'
+  gives_text writable bytes bytes' a count n answer input written m m' loaded ended made = record {
+    accesses = byte_writes writable a written;
+    these = record { text = take n input; loaded = loaded; consumed = sym (take-append-drop n input); ended = ended };
+    made = made;
+  }
+
+  -- one byte more is given
+  pub record Given (writable : ℕ → Bool) (old : ByteMap) (a n : ℕ) (input : List ℕ) (bytes : ByteMap) (m m' : M) : Type 0 where
+    pub loaded : Loaded old bytes writable a (take n input)
+    pub made : Makes reads writes (byte_writes writable a (take n input)) m m'
+
+  -- how long what is given is
+  placed_at : (a n : ℕ) (input : List ℕ) → n < length input → a + length (take n input) ≡ a + n
+  placed_at a n input within = ap (λ k. a + k) (length-take-le n input (omega (arith, within)))
+
+  -- the write of the byte behind those that were given
+  pub written_next : (writable writable' : ℕ → Bool) (a n value : ℕ) (answer : Bool) (input : List ℕ) (m mid new : M) → n < length input → a + n < 2 ^ 32 → value ≡ slice_index input n
+      → Makes reads writes (byte_writes writable a (take n input)) m mid → writable' ≡ writable → answer ≡ writable' (a + n + 0) → writes mid (a + n) Byte value new answer
+      → Makes reads writes (byte_writes writable a (take n input ++ slice_index input n ∷ [])) m new
+  written_next writable writable' a n value answer input m mid new within low same made kept granted did =
+      writes-next reads writes writable a (a + n) (slice_index input n) value answer writable' (take n input) m mid new made (placed_at a n input within) low same kept granted did
+
+  pub given_next : (old mid_bytes new_bytes : ByteMap) (writable writable' : ℕ → Bool) (a n value : ℕ) (answer : Bool) (input : List ℕ) (m mid new : M) → n < length input → a + n < 2 ^ 32 → value ≡ slice_index input n → slice_index input n < 256
+      → Loaded old mid_bytes writable a (take n input) → Makes reads writes (byte_writes writable a (take n input)) m mid → writable' ≡ writable → answer ≡ writable' (a + n + 0) → answer ≡ true → IsLawful mid_bytes writable' (a + n) 1
+      → new_bytes ≡ store mid_bytes (a + n) 1 value → writes mid (a + n) Byte value new answer
+      → Given writable old a (n + 1) input new_bytes m new
+  given_next old mid_bytes new_bytes writable writable' a n value answer input m mid new within low same small loaded made kept granted allowed lawful stored did =
+      let more : take (n + 1) input ≡ take n input ++ slice_index input n ∷ [] = take_more input n 0 within in
+      let P : List ℕ → Type 0 = λ l. Loaded old new_bytes writable a l in
+      let Q : List ℕ → Type 0 = λ l. Makes reads writes (byte_writes writable a l) m new in
+      record {
+        loaded = subst P (sym more) (Loaded-next old mid_bytes new_bytes writable writable' a (slice_index input n) value (a + n) (take n input) loaded (placed_at a n input within) low small same kept (sym allowed ∙ granted) lawful stored);
+        made = subst Q (sym more) (written_next writable writable' a n value answer input m mid new within low same made kept granted did);
+      }
+
+-- what is left of a list begins with the element there
+pub left_after : (input : List ℕ) (n : ℕ) → n < length input → input ≡ take n input ++ slice_index input n ∷ drop (n + 1) input
+left_after input n within =
+    sym (take-append-drop (n + 1) input) ∙ ap (λ l. l ++ drop (n + 1) input) (take_more input n 0 within) ∙ append_assoc (take n input) (slice_index input n ∷ []) (drop (n + 1) input)
+
+-- all that is behind the first n, as a range
+pub behind : (xs : List ℕ) (n : ℕ) → drop n xs ≡ take (length xs - n) (drop n xs)
+behind xs n = sym (take_all (length xs - n) (drop n xs) (omega (arith, length-drop n xs)))
