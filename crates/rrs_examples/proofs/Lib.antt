@@ -2,3 +2,4 @@ pub mod CountDown
 pub mod ProgramExamples
 pub mod ExampleShowing
 pub mod PageExamples
+pub mod ServedExamples

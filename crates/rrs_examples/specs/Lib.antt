@@ -4,3 +4,4 @@
 pub mod Consoles
 pub mod Counting
 pub mod ProgramExamples
+pub mod ServedExamples

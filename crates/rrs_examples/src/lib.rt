@@ -40,6 +40,8 @@ mod programs;
 #[cfg(test)]
 mod rows;
 #[cfg(test)]
+mod served_programs;
+#[cfg(test)]
 mod system_calls;
 #[cfg(test)]
 mod texts;

@@ -4,7 +4,7 @@
 use rrs_lib::HartState;
 use rrs_lib::instruction_executor::InstructionExecutor;
 use rrs_lib::memories::VecMemory;
-use rrs_linux::{Heap, Linux};
+use rrs_linux::{Heap, Linux, Recorder};
 use rrs_served::Environment;
 use std::alloc::{AllocError, Global};
 use std::io;
@@ -18,12 +18,14 @@ const WRITE: u32 = 64;
 
 const BRK: u32 = 214;
 
-/// The answers -5, -9, -14 and -38.
+/// The answers -5, -9, -14, -28 and -38.
 const EIO: u32 = 0xffff_fffb;
 
 const EBADF: u32 = 0xffff_fff7;
 
 const EFAULT: u32 = 0xffff_fff2;
+
+const ENOSPC: u32 = 0xffff_ffe4;
 
 const ENOSYS: u32 = 0xffff_ffda;
 
@@ -101,8 +103,8 @@ fn numbered(alloc: Global) -> Result<VecMemory, AllocError> {
 }
 
 /// Serves a call with its number and three arguments: how it ended, and what it answered.
-fn call<R: Read, W: Write, E: Write>(
-    environment: &mut Linux<R, W, E>,
+fn call<E: Environment>(
+    environment: &mut E,
     mem: &mut VecMemory,
     request: (u32, u32, u32, u32),
 ) -> (Option<u32>, u32) {
@@ -172,6 +174,42 @@ fn calls_answer(rt: HostRuntime) -> Result<(), Fail> {
         assert!(rt; seen == (end, answer) && lengths == written, "{request:?}");
     }
     assert!(rt; counts_from(&linux.output.written, 0) && counts_from(&linux.errors.written, 34));
+    Ok(())
+}
+
+// Each call of a recorder of three bytes of input and with room for ten bytes, with its answer, and
+// what is left of the input and held of the output and of the errors after it.
+#[test]
+fn a_recorder_answers(rt: HostRuntime) -> Result<(), Fail> {
+    let mut memory = numbered(rt.alloc())?;
+    let mut recorder = Recorder::new(rt.alloc(), &[0, 1, 2], 10, Heap::new(64, 96))?;
+    for (request, end, answer, after) in [
+        ((WRITE, 1, 0, 4), None, 4, (3, 4, 0)),
+        ((WRITE, 1, 4, 10), None, 6, (3, 10, 0)),
+        ((WRITE, 1, 10, 1), None, ENOSPC, (3, 10, 0)),
+        ((WRITE, 1, 10, 0), None, 0, (3, 10, 0)),
+        ((WRITE, 2, 298, 5), None, 2, (3, 10, 2)),
+        ((WRITE, 2, 300, 1), None, EFAULT, (3, 10, 2)),
+        ((WRITE, 2, 0xffff_fff0, 17), None, EFAULT, (3, 10, 2)),
+        ((WRITE, 0, 0, 1), None, EBADF, (3, 10, 2)),
+        ((READ, 0, 100, 2), None, 2, (1, 10, 2)),
+        ((READ, 0, 300, 1), None, EFAULT, (1, 10, 2)),
+        ((READ, 0, 0xffff_fff0, 17), None, EFAULT, (1, 10, 2)),
+        ((READ, 0, 102, 9), None, 1, (0, 10, 2)),
+        ((READ, 0, 300, 9), None, 0, (0, 10, 2)),
+        ((WRITE, 2, 100, 3), None, 3, (0, 10, 5)),
+        ((BRK, 96, 0, 0), None, 96, (0, 10, 5)),
+        ((57, 3, 0, 0), None, EBADF, (0, 10, 5)),
+        ((80, 1, 0, 0), None, ENOSYS, (0, 10, 5)),
+        ((93, 0x107, 0, 0), Some(7), 0x107, (0, 10, 5)),
+    ] {
+        let seen = call(&mut recorder, &mut memory, request);
+        let held = (recorder.output.len(), recorder.errors.len());
+        let is_right = (recorder.input.len(), held.0, held.1) == after;
+        assert!(rt; seen == (end, answer) && is_right, "{request:?}");
+    }
+    let errors = recorder.errors.as_slice() == [42, 43, 0, 1, 2].as_slice();
+    assert!(rt; counts_from(&recorder.output, 0) && errors);
     Ok(())
 }
 
