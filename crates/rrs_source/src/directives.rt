@@ -1,0 +1,214 @@
+//! Directives.
+
+ghost use Rattle.std.specs.Prelude.{◌<◌};
+
+use crate::literals::escaped;
+use crate::mistakes::{Halt, Mistake, Stop};
+use crate::output::MOST_BYTES;
+use crate::reading::Line;
+use crate::statements::Statement;
+use std::alloc::Global;
+
+/// The greatest alignment, as a power of 2.
+const MOST_ALIGNED: u32 = 16;
+
+/// What a directive says.
+#[derive(Drop)]
+pub enum Directive<'a> {
+    /// What stands at the address.
+    Place(Statement),
+    /// A constant has this value.
+    Set(&'a [u8], u32),
+    /// Nothing.
+    Nothing,
+}
+
+/// Reads the operands of a directive of this name, which begins with a dot. Its name stands at
+/// `stop`.
+pub fn read_directive<'a>(
+    alloc: Global,
+    line: &mut Line<'a, '_>,
+    name: &[u8],
+    stop: Stop,
+) -> Result<Directive<'a>, Halt> {
+    let statement = match name {
+        b".word" | b".long" | b".4byte" => read_data(alloc, line, 32)?,
+        b".half" | b".short" | b".2byte" => read_data(alloc, line, 16)?,
+        b".byte" => read_data(alloc, line, 8)?,
+        b".ascii" => read_strings(alloc, line, false)?,
+        b".asciz" | b".string" => read_strings(alloc, line, true)?,
+        b".align" | b".p2align" => read_power(alloc, line)?,
+        b".balign" => read_alignment(alloc, line)?,
+        b".space" | b".zero" | b".skip" => read_space(line)?,
+        b".org" => read_origin(line)?,
+        b".equ" | b".set" => return Ok(read_constant(line)?),
+        b".text" => return Ok(Directive::Nothing),
+        b".globl" | b".global" => return Ok(read_names(line)?),
+        b".data" | b".bss" | b".rodata" | b".section" => {
+            return Err(Halt::Mistake(Stop {
+                mistake: Mistake::Section,
+                ..stop
+            }));
+        }
+        _ => return Err(Halt::Mistake(stop)),
+    };
+    Ok(Directive::Place(statement))
+}
+
+/// Reads the name and the value of a constant.
+fn read_constant<'a>(line: &mut Line<'a, '_>) -> Result<Directive<'a>, Stop> {
+    let name = read_name(line)?;
+    line.comma()?;
+    Ok(Directive::Set(name, line.known_value()?))
+}
+
+/// Reads the name of a symbol.
+fn read_name<'a>(line: &mut Line<'a, '_>) -> Result<&'a [u8], Stop> {
+    line.skip_blanks();
+    let stop = line.stop(Mistake::Character);
+    match line.word() {
+        [] | [b'0'..=b'9', ..] => Err(stop),
+        name => Ok(name),
+    }
+}
+
+/// Reads names that mean nothing here.
+fn read_names<'a>(line: &mut Line<'a, '_>) -> Result<Directive<'a>, Stop> {
+    for _ in 0..u64::MAX {
+        let _ = read_name(line)?;
+        if !line.take(b',') {
+            break;
+        }
+    }
+    Ok(Directive::Nothing)
+}
+
+/// Reads numbers of so many bits each, with commas between them.
+fn read_data(alloc: Global, line: &mut Line, bits: u32) -> Result<Statement, Halt> {
+    let mut bytes = Vec::new(alloc);
+    for _ in 0..u64::MAX {
+        let [first, second, third, fourth] = line.datum(bits)?.to_le_bytes();
+        bytes.push(first)?;
+        if bits > 8 {
+            bytes.push(second)?;
+        }
+        if bits > 16 {
+            bytes.push(third)?;
+            bytes.push(fourth)?;
+        }
+        if !line.take(b',') {
+            break;
+        }
+    }
+    Ok(Statement::Data(bytes))
+}
+
+/// Reads strings with commas between them, and puts a zero byte behind each if that is asked.
+fn read_strings(alloc: Global, line: &mut Line, is_ended: bool) -> Result<Statement, Halt> {
+    let mut bytes = Vec::new(alloc);
+    for _ in 0..u64::MAX {
+        read_string(line, &mut bytes)?;
+        if is_ended {
+            bytes.push(0)?;
+        }
+        if !line.take(b',') {
+            break;
+        }
+    }
+    Ok(Statement::Data(bytes))
+}
+
+/// Reads a string, and appends its bytes.
+fn read_string(line: &mut Line, bytes: &mut Vec<u8>) -> Result<(), Halt> {
+    line.expect(b'"', Mistake::Quote)?;
+    for _ in 0..u64::MAX {
+        match line.next_byte() {
+            None => break,
+            Some(b'"') => return Ok(()),
+            Some(b'\\') => {
+                let stop = line.stop(Mistake::Escape);
+                let byte = line.next_byte().and_then(escaped).ok_or(stop)?;
+                bytes.push(byte)?;
+            }
+            Some(byte) => bytes.push(byte)?,
+        }
+    }
+    Err(Halt::Mistake(line.stop(Mistake::Quote)))
+}
+
+/// Reads how many bytes, and which byte where another than zero is meant.
+fn read_space(line: &mut Line) -> Result<Statement, Stop> {
+    let count = read_count(line)?;
+    let byte = if line.take(b',') {
+        (line.datum(8)? % 256) as u8
+    } else {
+        0
+    };
+    Ok(Statement::Fill(count, byte))
+}
+
+/// Reads a number of bytes that is known here.
+fn read_count(line: &mut Line) -> Result<u32, Stop> {
+    line.skip_blanks();
+    let stop = line.stop(Mistake::TooLong);
+    let count = line.known_value()?;
+    if count as usize <= MOST_BYTES {
+        Ok(count)
+    } else {
+        Err(stop)
+    }
+}
+
+/// Reads the address of what follows, which is no lower than that of the directive.
+fn read_origin(line: &mut Line) -> Result<Statement, Stop> {
+    line.skip_blanks();
+    let stop = line.stop(Mistake::Backward);
+    let target = line.known_value()?;
+    let count = target.checked_sub(line.here()).ok_or(stop)?;
+    if count as usize <= MOST_BYTES {
+        Ok(Statement::Fill(count, 0))
+    } else {
+        Err(Stop {
+            mistake: Mistake::TooLong,
+            ..stop
+        })
+    }
+}
+
+/// Reads an alignment as a power of 2.
+fn read_power(alloc: Global, line: &mut Line) -> Result<Statement, Halt> {
+    line.skip_blanks();
+    let stop = line.stop(Mistake::Range);
+    let power = line.known_value()?;
+    if power > MOST_ALIGNED {
+        return Err(Halt::Mistake(stop));
+    }
+    padding(alloc, line.here(), 1 << power)
+}
+
+/// Reads an alignment in bytes, a power of 2.
+fn read_alignment(alloc: Global, line: &mut Line) -> Result<Statement, Halt> {
+    line.skip_blanks();
+    let stop = line.stop(Mistake::Range);
+    let alignment = line.known_value()?;
+    if !alignment.is_power_of_two() || alignment > 1 << MOST_ALIGNED {
+        return Err(Halt::Mistake(stop));
+    }
+    padding(alloc, line.here(), alignment)
+}
+
+/// The bytes from an address to the next multiple of the alignment: zeros up to a multiple of 4,
+/// and then `nop`s.
+fn padding(alloc: Global, here: u32, alignment: u32) -> Result<Statement, Halt>
+    requires { 0 < alignment }
+{
+    let count = 0u32.wrapping_sub(here) % alignment;
+    let mut bytes = Vec::new(alloc);
+    for _ in 0..count % 4 {
+        bytes.push(0)?;
+    }
+    for _ in 0..count / 4 {
+        bytes.extend_from_slice(&[0x13, 0, 0, 0])?;
+    }
+    Ok(Statement::Data(bytes))
+}

@@ -1,0 +1,277 @@
+//! Reading the operands of instructions and pseudo-instructions.
+
+ghost use Rattle.std.specs.Prelude.{◌<◌, IfOk, IfSome};
+
+use crate::fields::{Operands, filled};
+use crate::mistakes::{Mistake, Stop};
+use crate::names::{PseudoForm, pseudo_named};
+use crate::pseudo::Pseudo;
+use crate::reading::Line;
+use crate::rows::row_named;
+use crate::statements::Statement;
+use rrs_instruction::instruction::{Instruction, InstructionFields};
+
+/// How far a branch reaches, in bytes: so many backward, and fewer forward.
+const BRANCH_REACH: i32 = 0x1000;
+
+/// How far a jump reaches.
+const JUMP_REACH: i32 = 0x10_0000;
+
+/// No operands.
+const NONE: Operands = Operands {
+    rd: 0,
+    rs1: 0,
+    rs2: 0,
+    imm: 0,
+};
+
+/// Reads the operands of an instruction or a pseudo-instruction of this name. Its name stands at
+/// `stop`.
+pub fn read_instruction(line: &mut Line, name: &[u8], stop: Stop) -> Result<Statement, Stop> {
+    if line.here() % 4 != 0 {
+        return Err(Stop {
+            mistake: Mistake::Misplaced,
+            ..stop
+        });
+    }
+    if let Some(template) = row_named(name) {
+        return read_row(line, template);
+    }
+    match pseudo_named(name) {
+        Some(form) => Ok(Statement::Pseudo(read_pseudo(line, form)?)),
+        None => Err(stop),
+    }
+}
+
+/// Reads the operands of a row.
+fn read_row(line: &mut Line, template: Instruction) -> Result<Statement, Stop> {
+    let operands = match template {
+        Instruction::Ecall(_) | Instruction::Ebreak(_) => NONE,
+        Instruction::Fence(_) => return read_fence(line, template),
+        Instruction::Jal(_) => return read_jal(line, template),
+        Instruction::Jalr(_) => return read_jalr(line, template),
+        Instruction::Lb(_)
+        | Instruction::Lbu(_)
+        | Instruction::Lh(_)
+        | Instruction::Lhu(_)
+        | Instruction::Lw(_) => load_operands(line)?,
+        _ => format_operands(line, template.fields())?,
+    };
+    Ok(Statement::Instruction(filled(template, operands)))
+}
+
+/// Reads the operands of an instruction that is written as others of its format.
+fn format_operands(line: &mut Line, fields: InstructionFields) -> Result<Operands, Stop> {
+    match fields {
+        InstructionFields::R(_) => {
+            let rd = line.register_before_comma()?;
+            let rs1 = line.register_before_comma()?;
+            let rs2 = line.register()?;
+            Ok(Operands {
+                rd,
+                rs1,
+                rs2,
+                ..NONE
+            })
+        }
+        InstructionFields::I(_) => immediate_operands(line),
+        InstructionFields::IShamt(_) => {
+            let rd = line.register_before_comma()?;
+            let rs1 = line.register_before_comma()?;
+            let imm = line.below(32)?.cast_signed();
+            Ok(Operands {
+                rd,
+                rs1,
+                imm,
+                ..NONE
+            })
+        }
+        InstructionFields::S(_) => {
+            let rs2 = line.register_before_comma()?;
+            let (imm, rs1) = line.address()?;
+            Ok(Operands {
+                rs1,
+                rs2,
+                imm,
+                ..NONE
+            })
+        }
+        InstructionFields::B(_) => branch_operands(line),
+        InstructionFields::U(_) => {
+            let rd = line.register_before_comma()?;
+            let imm = (line.below(0x10_0000)? << 12).cast_signed();
+            Ok(Operands { rd, imm, ..NONE })
+        }
+        InstructionFields::J(_) => {
+            let rd = line.register_before_comma()?;
+            let imm = line.offset(JUMP_REACH)?;
+            Ok(Operands { rd, imm, ..NONE })
+        }
+    }
+}
+
+/// Reads `rd, rs1, immediate`.
+fn immediate_operands(line: &mut Line) -> Result<Operands, Stop> {
+    let rd = line.register_before_comma()?;
+    let rs1 = line.register_before_comma()?;
+    let imm = line.immediate()?;
+    Ok(Operands {
+        rd,
+        rs1,
+        imm,
+        ..NONE
+    })
+}
+
+/// Reads `rs1, rs2, target`.
+fn branch_operands(line: &mut Line) -> Result<Operands, Stop> {
+    let rs1 = line.register_before_comma()?;
+    let rs2 = line.register_before_comma()?;
+    let imm = line.offset(BRANCH_REACH)?;
+    Ok(Operands {
+        rs1,
+        rs2,
+        imm,
+        ..NONE
+    })
+}
+
+/// Reads `rd, immediate(rs1)`.
+fn load_operands(line: &mut Line) -> Result<Operands, Stop> {
+    let rd = line.register_before_comma()?;
+    let (imm, rs1) = line.address()?;
+    Ok(Operands {
+        rd,
+        rs1,
+        imm,
+        ..NONE
+    })
+}
+
+/// Reads `rd, target`, or `target` alone.
+fn read_jal(line: &mut Line, template: Instruction) -> Result<Statement, Stop> {
+    let mut ahead = *line;
+    if let Ok(rd) = ahead.register() {
+        if ahead.take(b',') {
+            *line = ahead;
+            let imm = line.offset(JUMP_REACH)?;
+            let operands = Operands { rd, imm, ..NONE };
+            return Ok(Statement::Instruction(filled(template, operands)));
+        }
+    }
+    Ok(Statement::Pseudo(Pseudo::Jal(line.offset(JUMP_REACH)?)))
+}
+
+/// Reads `rd, immediate(rs1)`, `rd, rs1, immediate`, `rd, rs1`, or `rs1` alone.
+fn read_jalr(line: &mut Line, template: Instruction) -> Result<Statement, Stop> {
+    let rd = line.register()?;
+    if !line.take(b',') {
+        return Ok(Statement::Pseudo(Pseudo::Jalr(rd)));
+    }
+    let mut ahead = *line;
+    let (imm, rs1) = match ahead.register() {
+        Ok(rs1) => {
+            *line = ahead;
+            let imm = if line.take(b',') {
+                line.immediate()?
+            } else {
+                0
+            };
+            (imm, rs1)
+        }
+        Err(_) => line.address()?,
+    };
+    let operands = Operands {
+        rd,
+        rs1,
+        imm,
+        ..NONE
+    };
+    Ok(Statement::Instruction(filled(template, operands)))
+}
+
+/// Reads two sets of accesses, or nothing.
+fn read_fence(line: &mut Line, template: Instruction) -> Result<Statement, Stop> {
+    if line.is_over() {
+        return Ok(Statement::Pseudo(Pseudo::Fence));
+    }
+    let before = read_accesses(line)?;
+    line.comma()?;
+    let after = read_accesses(line)?;
+    let imm = (before * 16 + after).cast_signed();
+    let operands = Operands { imm, ..NONE };
+    Ok(Statement::Instruction(filled(template, operands)))
+}
+
+/// Reads a set of accesses: some of the letters `iorw`, in this order.
+fn read_accesses(line: &mut Line) -> Result<u32, Stop>
+    ensures { IfOk result (λ set. set < 16) }
+{
+    line.skip_blanks();
+    let stop = line.stop(Mistake::Value);
+    accesses_of(line.word()).ok_or(stop)
+}
+
+/// The four bits of a set of accesses.
+fn accesses_of(word: &[u8]) -> Option<u32>
+    ensures { IfSome result (λ set. set < 16) }
+{
+    match word {
+        b"i" => Some(8),
+        b"o" => Some(4),
+        b"r" => Some(2),
+        b"w" => Some(1),
+        b"io" => Some(12),
+        b"ir" => Some(10),
+        b"iw" => Some(9),
+        b"or" => Some(6),
+        b"ow" => Some(5),
+        b"rw" => Some(3),
+        b"ior" => Some(14),
+        b"iow" => Some(13),
+        b"irw" => Some(11),
+        b"orw" => Some(7),
+        b"iorw" => Some(15),
+        _ => None,
+    }
+}
+
+/// Reads the operands of a pseudo-instruction.
+fn read_pseudo(line: &mut Line, form: PseudoForm) -> Result<Pseudo, Stop> {
+    match form {
+        PseudoForm::Nop => Ok(Pseudo::Nop),
+        PseudoForm::Ret => Ok(Pseudo::Ret),
+        PseudoForm::Li => {
+            let rd = line.register_before_comma()?;
+            Ok(Pseudo::Li(rd, line.known_value()?))
+        }
+        PseudoForm::La => {
+            let rd = line.register_before_comma()?;
+            Ok(Pseudo::La(rd, read_distance(line)?))
+        }
+        PseudoForm::OfOne(name) => {
+            let rd = line.register_before_comma()?;
+            Ok(Pseudo::OfOne(name, rd, line.register()?))
+        }
+        PseudoForm::AgainstZero(name) => {
+            let rs = line.register_before_comma()?;
+            let offset = line.offset(BRANCH_REACH)?;
+            Ok(Pseudo::AgainstZero(name, rs, offset))
+        }
+        PseudoForm::Swapped(name) => {
+            let rs = line.register_before_comma()?;
+            let rt = line.register_before_comma()?;
+            let offset = line.offset(BRANCH_REACH)?;
+            Ok(Pseudo::Swapped(name, rs, rt, offset))
+        }
+        PseudoForm::J => Ok(Pseudo::J(line.offset(JUMP_REACH)?)),
+        PseudoForm::Jr => Ok(Pseudo::Jr(line.register()?)),
+        PseudoForm::Call => Ok(Pseudo::Call(read_distance(line)?)),
+        PseudoForm::Tail => Ok(Pseudo::Tail(read_distance(line)?)),
+    }
+}
+
+/// Reads a symbol, or an address: how far it is from the statement, modulo 2^32.
+fn read_distance(line: &mut Line) -> Result<u32, Stop> {
+    Ok(line.value()?.wrapping_sub(line.here()))
+}

@@ -1,0 +1,32 @@
+//! Statements: what stands at an address.
+
+use crate::pseudo::Pseudo;
+use rrs_instruction::instruction::Instruction;
+
+/// What a statement of a source puts at its address.
+#[derive(Debug, PartialEq, Drop)]
+pub enum Statement {
+    /// An instruction of the table.
+    Instruction(Instruction),
+    /// One or two instructions.
+    Pseudo(Pseudo),
+    /// Bytes.
+    Data(Vec<u8>),
+    /// So many of one byte.
+    Fill(u32, u8),
+}
+
+impl Statement {
+    /// How many bytes it takes.
+    pub fn size(&self) -> usize {
+        match self {
+            Statement::Instruction(_) => 4,
+            Statement::Pseudo(pseudo) => match pseudo.expand().second {
+                None => 4,
+                Some(_) => 8,
+            },
+            Statement::Data(bytes) => bytes.len(),
+            Statement::Fill(count, _) => *count as usize,
+        }
+    }
+}
