@@ -39,3 +39,9 @@ pub const RRS_EXEC: Command = Command {
     name: "rrs-exec",
     words: " FILE LIMIT",
 };
+
+/// `rrs-as`, which assembles a source.
+pub const RRS_AS: Command = Command {
+    name: "rrs-as",
+    words: " [--gnu] FILE",
+};

@@ -1,0 +1,206 @@
+#!/usr/bin/env python3
+"""Lines of assembly for the comparison with GNU as.
+
+usage: lines.py SEED COUNT            a source of so many statements, all of them right
+       lines.py SEED COUNT changed    lines of such a source, cut short or with a byte changed
+"""
+import random
+import re
+import sys
+
+ABI = ("zero ra sp gp tp t0 t1 t2 s0 s1 a0 a1 a2 a3 a4 a5 a6 a7 "
+       "s2 s3 s4 s5 s6 s7 s8 s9 s10 s11 t3 t4 t5 t6").split()
+THREE = ("add sub sll slt sltu xor srl sra or and mul mulh mulhu mulhsu div divu rem "
+         "remu").split()
+IMMEDIATE = "addi slti sltiu xori ori andi".split()
+SHIFTS = "slli srli srai".split()
+LOADS = "lb lbu lh lhu lw".split()
+STORES = "sb sh sw".split()
+BRANCHES = "beq bne blt bltu bge bgeu".split()
+SWAPPED = "bgt ble bgtu bleu".split()
+AGAINST_ZERO = "beqz bnez blez bgez bltz bgtz".split()
+OF_ONE = "mv not neg seqz snez sltz sgtz".split()
+EDGES = [0, 1, 2047, 2048, 2049, 4095, 4096, 0x7ffff7ff, 0x7ffff800, 0x7fffffff, 0x80000000,
+         0xfffff7ff, 0xfffff800, 0xffffffff]
+
+BRANCH = re.compile(rb"\s*([12]\s*:)?\s*(nop\s*;)?\s*b[a-z]+\s")
+ADDRESS = re.compile(rb"\s*([12]\s*:)?\s*(nop\s*;)?\s*la\s")
+
+
+class Source:
+    def __init__(self, seed, is_apart=False):
+        self.random = random.Random(seed)
+        # whether a line means the same wherever it stands
+        self.is_apart = is_apart
+        self.lines = []
+        self.labels = 0
+        self.since = 1000
+
+    def register(self):
+        number = self.random.randrange(32)
+        return self.random.choice([f"x{number}", ABI[number], "fp" if number == 8 else ABI[number]])
+
+    def written(self):
+        """A register other than x0, of which GNU as makes an `addi` more at some values."""
+        number = self.random.randrange(1, 32)
+        return self.random.choice([f"x{number}", ABI[number]])
+
+    def number(self, least, most):
+        value = self.random.choice([least, most, 0, self.random.randint(least, most)])
+        value = min(max(value, least), most)
+        if value >= 0 and self.random.random() < 0.4:
+            return hex(value)
+        return str(value)
+
+    def immediate(self):
+        kind = self.random.randrange(8)
+        if kind == 0:
+            return f"%lo({self.word()})"
+        if kind == 1:
+            return f"%lo(constant + {self.random.randrange(100)})"
+        return self.number(-2048, 2047)
+
+    def word(self):
+        value = self.random.choice([self.random.getrandbits(32), self.random.choice(EDGES)])
+        return self.random.choice([str(value), hex(value)])
+
+    def separator(self):
+        return self.random.choice([",", ", ", " , ", ",\t"])
+
+    def join(self, *operands):
+        return self.separator().join(operands)
+
+    def near(self):
+        """A target in the reach of a branch: one of the latest labels, one to come, or by `.`."""
+        kind = self.random.randrange(2 if self.is_apart else 5)
+        if kind == 0:
+            return f". + {4 * self.random.randrange(500)}"
+        if kind == 1:
+            return f". - {4 * self.random.randrange(500)}"
+        if kind == 2:
+            return self.random.choice(["1b", "2b", "1f", "2f"])
+        if kind == 3:
+            return f"near{self.labels}"
+        return f"near{self.labels - 1} + {4 * self.random.randrange(3)}"
+
+    def statement(self):
+        r, join = self.register, self.join
+        kind = self.random.randrange(20 if self.is_apart else 22)
+        pick = self.random.choice
+        if kind < 4:
+            return f"{pick(THREE)} {join(r(), r(), r())}"
+        if kind < 6:
+            return f"{pick(IMMEDIATE)} {join(r(), r(), self.immediate())}"
+        if kind == 6:
+            return f"{pick(SHIFTS)} {join(r(), r(), self.number(0, 31))}"
+        if kind == 7:
+            return f"{pick(LOADS)} {join(r(), f'{self.immediate()}({r()})')}"
+        if kind == 8:
+            return f"{pick(STORES)} {join(r(), f'{self.immediate()}({r()})')}"
+        if kind == 9:
+            return f"{pick(LOADS + STORES)} {join(r(), f'({r()})')}"
+        if kind == 10:
+            upper = pick([self.number(0, 0xfffff), f"%hi({self.word()})"])
+            return f"{pick(['lui', 'auipc'])} {join(r(), upper)}"
+        if kind == 11:
+            return f"{pick(BRANCHES)} {join(r(), r(), self.near())}"
+        if kind == 12:
+            return f"{pick(SWAPPED)} {join(r(), r(), self.near())}"
+        if kind == 13:
+            return f"{pick(AGAINST_ZERO)} {join(r(), self.near())}"
+        if kind == 14:
+            return pick([f"jal {join(r(), self.near())}", f"jal {self.near()}", f"j {self.near()}"])
+        if kind == 15:
+            return pick([f"jalr {join(r(), f'{self.immediate()}({r()})')}", f"jalr {r()}",
+                         f"jalr {join(r(), r(), self.immediate())}", f"jr {r()}",
+                         f"jalr {join(r(), r())}"])
+        if kind == 16:
+            value = pick([self.word(), self.number(-2**31, 2**31 - 1), "constant"])
+            return f"li {join(self.written(), value)}"
+        if kind == 17:
+            return f"{pick(OF_ONE)} {join(r(), r())}"
+        if kind == 18:
+            sets = [s for n in range(1, 16) for s in ["".join(c for i, c in enumerate("iorw")
+                                                             if n >> (3 - i) & 1)]]
+            return pick(["nop", "ret", "fence", "ecall", "ebreak",
+                         f"fence {join(pick(sets), pick(sets))}"])
+        if kind == 19:
+            place = pick(["first", "last", "first + 8", "last - 4"])
+            return pick([f"la {join(r(), place)}", f"call {place}", f"tail {place}"])
+        if kind == 20:
+            return pick([
+                f".word {join(self.word(), 'last - first', '-1', 'constant')}",
+                f".half {join(self.number(-32768, 65535), self.number(0, 65535))}",
+                f".byte {join(self.number(-128, 255), self.number(0, 255), hex(7), '0b11')}",
+                '.ascii "a;#b", "\\n\\t\\\\\\""',
+                '.string "abc"', '.asciz "abcdefg"',
+                f".space {4 * self.random.randrange(5)}", f".zero {4 * self.random.randrange(5)}",
+                f".space {4 * self.random.randrange(5)}, {self.number(0, 255)}",
+                ".balign 4", ".p2align 2", ".align 3", ".balign 16",
+                ".text", ".globl first", f".word {self.word()} + 4 - 2"])
+        return pick([f".word constant - {self.random.randrange(9)}",
+                     f".equ constant, {self.number(-2048, 2047)}",
+                     f".set constant, {self.number(0, 5000)} + 3",
+                     f".word near{self.labels}, last"])
+
+    def make(self, count):
+        self.lines = [".equ constant, 12", "first:", "near0: nop", "1:", "2:", "near1:"]
+        self.labels = 2
+        while len(self.lines) < count:
+            text = self.statement()
+            self.since += 1
+            comment = self.random.choice(["", "", "", "  # note", " # ; , ("])
+            opening = self.random.choice(["", "", "    ", "\t"])
+            line = opening + text + comment
+            if self.is_apart:
+                pass
+            elif self.since > 40:
+                self.since = 0
+                line = f"near{self.labels}: {line}"
+                self.labels += 1
+            elif self.random.random() < 0.05:
+                line = f"{self.random.choice('12')}: {line}"
+            elif self.random.random() < 0.05:
+                line = f"nop; {line}"
+            self.lines.append(line)
+        self.lines += [f"near{self.labels}: nop", "1: nop", "2: nop", "last: ret"]
+        return self.lines
+
+
+def changed(source, count):
+    lines = source.make(max(count // 10, 100))[6:-4]
+    pick = source.random
+    alphabet = [bytes([b]) for b in range(256) if b != 10]
+    for _ in range(count):
+        line = pick.choice(lines).encode()
+        at = pick.randrange(len(line) + 1)
+        kind = pick.randrange(4)
+        if kind == 0:
+            line = line[:at]
+        elif kind == 1:
+            line = line[:at] + line[at + 1:]
+        elif kind == 2:
+            line = line[:at] + pick.choice(alphabet) + line[at + 1:]
+        else:
+            line = line[:at] + pick.choice(alphabet[0x1f:0x7e]) + line[at:]
+        # Of a branch to an absolute address GNU as makes two instructions, and of `la` of a
+        # constant what `li` is.
+        statement = line.split(b"#")[0]
+        if BRANCH.match(line) and b"." not in statement:
+            continue
+        if ADDRESS.match(line) and b"first" not in statement and b"last" not in statement:
+            continue
+        yield line
+
+
+def main():
+    source = Source(int(sys.argv[1]), sys.argv[3:] == ["changed"])
+    count = int(sys.argv[2])
+    if source.is_apart:
+        lines = [b".equ constant, 12", b"first: nop", *changed(source, count), b"last: ret", b""]
+        sys.stdout.buffer.write(b"\n".join(lines))
+    else:
+        print("\n".join(source.make(count)))
+
+
+main()
