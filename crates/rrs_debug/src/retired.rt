@@ -86,7 +86,11 @@ fn value_of(registers: &[u32; 32], register: usize) -> u32
     requires { register < 32 }
     ensures { (s : State) → s.registers ≡ drop 1 registers.now → result ≡ reg s register }
 {
-    if register == 0 { 0 } else { registers[register] }
+    if register == 0 {
+        0
+    } else {
+        registers[register]
+    }
 }
 
 /// The source registers of an instruction, with their values.
@@ -166,10 +170,7 @@ fn step_traced<'b, M: Memory>(
         return (faulted(illegal, pc), no_sources());
     };
     let sources = sources_of(&instruction, registers);
-    (
-        execute_apart(traced, registers, pc, &instruction),
-        sources,
-    )
+    (execute_apart(traced, registers, pc, &instruction), sources)
 }
 
 /// Makes a step over a memory that is traced, and that nothing has accessed yet: what was seen.
