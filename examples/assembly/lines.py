@@ -3,6 +3,8 @@
 
 usage: lines.py SEED COUNT            a source of so many statements, all of them right
        lines.py SEED COUNT changed    lines of such a source, cut short or with a byte changed
+       lines.py SEED COUNT each       of so many lines each beginning, and each with one byte
+                                      changed, at each place
 """
 import random
 import re
@@ -167,40 +169,54 @@ class Source:
         return self.lines
 
 
+ALPHABET = [bytes([b]) for b in range(256) if b != 10]
+
+
+def means_the_same(line):
+    """Whether GNU as makes the same of a line, if it takes it: of a branch to an absolute address
+    it makes two instructions, and of `la` of a constant what `li` is."""
+    statement = line.split(b"#")[0]
+    if BRANCH.match(line) and b"." not in statement:
+        return False
+    return not (ADDRESS.match(line) and b"first" not in statement and b"last" not in statement)
+
+
 def changed(source, count):
     lines = source.make(max(count // 10, 100))[6:-4]
     pick = source.random
-    alphabet = [bytes([b]) for b in range(256) if b != 10]
     for _ in range(count):
         line = pick.choice(lines).encode()
         at = pick.randrange(len(line) + 1)
         kind = pick.randrange(4)
         if kind == 0:
-            line = line[:at]
+            yield line[:at]
         elif kind == 1:
-            line = line[:at] + line[at + 1:]
+            yield line[:at] + line[at + 1:]
         elif kind == 2:
-            line = line[:at] + pick.choice(alphabet) + line[at + 1:]
+            yield line[:at] + pick.choice(ALPHABET) + line[at + 1:]
         else:
-            line = line[:at] + pick.choice(alphabet[0x1f:0x7e]) + line[at:]
-        # Of a branch to an absolute address GNU as makes two instructions, and of `la` of a
-        # constant what `li` is.
-        statement = line.split(b"#")[0]
-        if BRANCH.match(line) and b"." not in statement:
-            continue
-        if ADDRESS.match(line) and b"first" not in statement and b"last" not in statement:
-            continue
-        yield line
+            yield line[:at] + pick.choice(ALPHABET[0x1f:0x7e]) + line[at:]
+
+
+def each(source, count):
+    for text in source.make(count + 10)[6:-4]:
+        line = text.encode()
+        for at in range(len(line)):
+            yield line[:at]
+            yield line[:at] + source.random.choice(ALPHABET) + line[at + 1:]
 
 
 def main():
-    source = Source(int(sys.argv[1]), sys.argv[3:] == ["changed"])
+    kinds = {"changed": changed, "each": each}
+    kind = kinds.get(sys.argv[3]) if len(sys.argv) > 3 else None
+    source = Source(int(sys.argv[1]), kind is not None)
     count = int(sys.argv[2])
-    if source.is_apart:
-        lines = [b".equ constant, 12", b"first: nop", *changed(source, count), b"last: ret", b""]
-        sys.stdout.buffer.write(b"\n".join(lines))
-    else:
+    if kind is None:
         print("\n".join(source.make(count)))
+        return
+    lines = filter(means_the_same, kind(source, count))
+    whole = [b".equ constant, 12", b"first: nop", *lines, b"last: ret", b""]
+    sys.stdout.buffer.write(b"\n".join(whole))
 
 
 main()
