@@ -1,9 +1,10 @@
 //! A kit for debuggers and tracers of `rrs_lib`'s machine.
 //!
 //! [step_retired] makes a step and tells what it retired, in the shape of RVFI, the RISC-V Formal
-//! Interface, and [step_retired_apart] does so of a hart that is kept in another layout. [TracedMemory] is the memory under it, which keeps the latest access that is no
-//! fetch. [run_until] makes steps until the pc is one of some addresses. [request] and [complete]
-//! execute an instruction whose load or store the caller makes, outside of the machine, and
+//! Interface, and [step_retired_apart] does so of a hart that is kept in another layout.
+//! [TracedMemory] is the memory under both, which keeps the latest access that is no fetch.
+//! [run_until] makes steps until the pc is one of some addresses. [request] and [complete] execute
+//! an instruction whose load or store the caller makes, outside of the machine, and
 //! [complete_load] and [complete_store] the one at which a run faulted.
 //!
 //! What a step retires is written in `specs/Retired.antt`, what a run that stops is in

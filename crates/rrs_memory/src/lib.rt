@@ -88,9 +88,10 @@ pub trait Memory {
             self.old self.new addr (width size) store_data result }
         ensures did { writes self.old addr size store_data self.new result };
 
-    /// Whether a read does nothing, by the relation `reads`. A long run then fetches each word once.
+    /// Whether a read does nothing, by the relation `reads`: so one may be left out. A long run over
+    /// such a memory fetches each word once, until a store changes it.
     ///
-    /// An implementation that says nothing of it answers `false`.
+    /// `false` is always right, and is what an implementation answers that says nothing of it.
     fn reads_are_pure(&self) -> bool
         ensures pure { OnTrue result (ReadsArePure bytes reads) }
     {
