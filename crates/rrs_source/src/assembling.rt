@@ -139,24 +139,41 @@ fn read_statement<'a>(alloc: Global, line: &mut Line<'a, '_>) -> Result<Read<'a>
     let word = line.word();
     let is_ended = line.is_word_over();
     if line.take(b':') {
-        return match word {
-            [digit @ b'0'..=b'9'] => Ok(Read::LocalLabel(*digit - b'0')),
-            name => Ok(Read::Label(checked_name(name, stop)?)),
-        };
+        return Ok(label_of(word, stop)?);
     }
-    let directive = if line.take(b'=') {
-        Directive::Set(checked_name(word, stop)?, line.known_value()?)
-    } else if !is_ended {
-        return Err(Halt::Mistake(unexpected(word, stop)));
-    } else if word.starts_with(b".") {
-        read_directive(alloc, line, word, stop)?
-    } else {
-        Directive::Place(read_instruction(line, word, stop)?)
-    };
+    let directive = read_unlabelled(alloc, line, word, is_ended, stop)?;
     if line.is_over() {
         Ok(Read::Directive(directive))
     } else {
         Err(Halt::Mistake(line.stop(Mistake::More)))
+    }
+}
+
+/// The label of a word that a colon follows.
+fn label_of(word: &[u8], stop: Stop) -> Result<Read, Stop> {
+    match word {
+        [digit @ b'0'..=b'9'] => Ok(Read::LocalLabel(*digit - b'0')),
+        name => Ok(Read::Label(checked_name(name, stop)?)),
+    }
+}
+
+/// Reads what follows the word that a statement begins with, which may be over there.
+fn read_unlabelled<'a>(
+    alloc: Global,
+    line: &mut Line<'a, '_>,
+    word: &'a [u8],
+    is_ended: bool,
+    stop: Stop,
+) -> Result<Directive<'a>, Halt> {
+    if line.take(b'=') {
+        let name = checked_name(word, stop)?;
+        Ok(Directive::Set(name, line.known_value()?))
+    } else if !is_ended {
+        Err(Halt::Mistake(unexpected(word, stop)))
+    } else if word.starts_with(b".") {
+        read_directive(alloc, line, word, stop)
+    } else {
+        Ok(Directive::Place(read_instruction(line, word, stop)?))
     }
 }
 

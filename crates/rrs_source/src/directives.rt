@@ -4,6 +4,7 @@ ghost use Rattle.std.specs.Prelude.{◌<◌};
 
 use crate::literals::escaped;
 use crate::mistakes::{Halt, Mistake, Stop};
+use crate::names::{DirectiveForm, PlacedForm, directive_named};
 use crate::output::MOST_BYTES;
 use crate::reading::Line;
 use crate::statements::Statement;
@@ -31,28 +32,29 @@ pub fn read_directive<'a>(
     name: &[u8],
     stop: Stop,
 ) -> Result<Directive<'a>, Halt> {
-    let statement = match name {
-        b".word" | b".long" | b".4byte" => read_data(alloc, line, 32)?,
-        b".half" | b".short" | b".2byte" => read_data(alloc, line, 16)?,
-        b".byte" => read_data(alloc, line, 8)?,
-        b".ascii" => read_strings(alloc, line, false)?,
-        b".asciz" | b".string" => read_strings(alloc, line, true)?,
-        b".align" | b".p2align" => read_power(alloc, line)?,
-        b".balign" => read_alignment(alloc, line)?,
-        b".space" | b".zero" | b".skip" => read_space(line)?,
-        b".org" => read_origin(line)?,
-        b".equ" | b".set" => return Ok(read_constant(line)?),
-        b".text" => return Ok(Directive::Nothing),
-        b".globl" | b".global" => return Ok(read_names(line)?),
-        b".data" | b".bss" | b".rodata" | b".section" => {
-            return Err(Halt::Mistake(Stop {
-                mistake: Mistake::Section,
-                ..stop
-            }));
-        }
-        _ => return Err(Halt::Mistake(stop)),
-    };
-    Ok(Directive::Place(statement))
+    match directive_named(name) {
+        Some(DirectiveForm::Place(form)) => Ok(Directive::Place(read_placed(alloc, line, form)?)),
+        Some(DirectiveForm::Constant) => Ok(read_constant(line)?),
+        Some(DirectiveForm::Names) => Ok(read_names(line)?),
+        Some(DirectiveForm::Text) => Ok(Directive::Nothing),
+        Some(DirectiveForm::Section) => Err(Halt::Mistake(Stop {
+            mistake: Mistake::Section,
+            ..stop
+        })),
+        None => Err(Halt::Mistake(stop)),
+    }
+}
+
+/// Reads the operands of a directive that puts something at its address.
+fn read_placed(alloc: Global, line: &mut Line, form: PlacedForm) -> Result<Statement, Halt> {
+    match form {
+        PlacedForm::Data(bits) => read_data(alloc, line, bits),
+        PlacedForm::Strings(is_ended) => read_strings(alloc, line, is_ended),
+        PlacedForm::Power => read_power(alloc, line),
+        PlacedForm::Alignment => read_alignment(alloc, line),
+        PlacedForm::Space => Ok(read_space(line)?),
+        PlacedForm::Origin => Ok(read_origin(line)?),
+    }
 }
 
 /// Reads the name and the value of a constant.

@@ -51,10 +51,7 @@ fn push_instruction(
         | Instruction::Lhu(f)
         | Instruction::Lw(f)
         | Instruction::Jalr(f) => {
-            let rd = f.rd;
-            let rs1 = f.rs1;
-            let imm = f.imm;
-            return writeln!(text, "    {name} x{rd}, {imm}(x{rs1})");
+            return writeln!(text, "    {name} x{}, {}(x{})", f.rd, f.imm, f.rs1);
         }
         _ => (),
     }
@@ -65,45 +62,21 @@ fn push_instruction(
 fn push_fields(text: &mut String, name: &str, fields: InstructionFields) -> Result<(), AllocError> {
     match fields {
         InstructionFields::R(f) => {
-            let rd = f.rd;
-            let rs1 = f.rs1;
-            let rs2 = f.rs2;
-            writeln!(text, "    {name} x{rd}, x{rs1}, x{rs2}")
+            writeln!(text, "    {name} x{}, x{}, x{}", f.rd, f.rs1, f.rs2)
         }
-        InstructionFields::I(f) => {
-            let rd = f.rd;
-            let rs1 = f.rs1;
-            let imm = f.imm;
-            writeln!(text, "    {name} x{rd}, x{rs1}, {imm}")
-        }
+        InstructionFields::I(f) => writeln!(text, "    {name} x{}, x{}, {}", f.rd, f.rs1, f.imm),
         InstructionFields::IShamt(f) => {
-            let rd = f.rd;
-            let rs1 = f.rs1;
-            let shamt = f.shamt;
-            writeln!(text, "    {name} x{rd}, x{rs1}, {shamt}")
+            writeln!(text, "    {name} x{}, x{}, {}", f.rd, f.rs1, f.shamt)
         }
-        InstructionFields::S(f) => {
-            let rs1 = f.rs1;
-            let rs2 = f.rs2;
-            let imm = f.imm;
-            writeln!(text, "    {name} x{rs2}, {imm}(x{rs1})")
-        }
+        InstructionFields::S(f) => writeln!(text, "    {name} x{}, {}(x{})", f.rs2, f.imm, f.rs1),
         InstructionFields::B(f) => {
-            let rs1 = f.rs1;
-            let rs2 = f.rs2;
-            let imm = f.imm;
-            writeln!(text, "    {name} x{rs1}, x{rs2}, . {imm:+}")
+            writeln!(text, "    {name} x{}, x{}, . {:+}", f.rs1, f.rs2, f.imm)
         }
         InstructionFields::U(f) => {
-            let rd = f.rd;
             let upper = f.imm.cast_unsigned() >> 12;
-            writeln!(text, "    {name} x{rd}, 0x{upper:x}")
+            writeln!(text, "    {name} x{}, 0x{upper:x}", f.rd)
         }
-        InstructionFields::J(f) => {
-            let rd = f.rd;
-            let imm = f.imm;
-            writeln!(text, "    {name} x{rd}, . {imm:+}")
-        }
+        InstructionFields::J(f) => writeln!(text, "    {name} x{}, . {:+}", f.rd, f.imm),
     }
 }
 

@@ -1,4 +1,4 @@
-//! Numbers and escapes.
+//! Numbers, local labels and escapes.
 
 /// The value of a number: decimal with no zero in front, or hexadecimal after `0x`, or binary after
 /// `0b`. None where it is written otherwise, or has more than 32 bits.
@@ -34,6 +34,15 @@ fn digit_of(byte: u8, base: u32) -> Option<u32> {
         _ => return None,
     };
     if digit < base { Some(digit) } else { None }
+}
+
+/// The digit of the nearest local label that a word means, and whether it stands before: `1b`, `1f`.
+pub fn local_label(word: &[u8]) -> Option<(u8, bool)> {
+    match word {
+        [digit @ b'0'..=b'9', b'b'] => Some((*digit - b'0', true)),
+        [digit @ b'0'..=b'9', b'f'] => Some((*digit - b'0', false)),
+        _ => None,
+    }
 }
 
 /// The byte that a backslash and this byte stand for.

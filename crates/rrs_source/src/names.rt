@@ -1,4 +1,4 @@
-//! The names of pseudo-instructions.
+//! The names of pseudo-instructions and of directives.
 
 use crate::pseudo::{SwappedBranch, Unary, ZeroBranch};
 
@@ -59,6 +59,78 @@ const FORMS: [(&[u8], PseudoForm); 25] = [
 /// The pseudo-instruction of a name.
 pub fn pseudo_named(name: &[u8]) -> Option<PseudoForm> {
     for (form_name, form) in &FORMS {
+        if *form_name == name {
+            return Some(*form);
+        }
+    }
+    None
+}
+
+/// A directive that puts something at its address, by how its operands are written.
+#[derive(Clone, Copy)]
+pub enum PlacedForm {
+    /// Numbers of so many bits each.
+    Data(u32),
+    /// Strings, with a zero byte behind each or not.
+    Strings(bool),
+    /// An alignment as a power of 2.
+    Power,
+    /// An alignment in bytes.
+    Alignment,
+    /// A number of bytes, and which byte.
+    Space,
+    /// The address of what follows.
+    Origin,
+}
+
+/// A directive by what it says.
+#[derive(Clone, Copy)]
+pub enum DirectiveForm {
+    /// What stands at its address.
+    Place(PlacedForm),
+    /// That a constant has a value.
+    Constant,
+    /// Names, which mean nothing here.
+    Names,
+    /// That the section of the program follows, which is the only one.
+    Text,
+    /// That another section follows.
+    Section,
+}
+
+/// The directives, which begin with a dot.
+const DIRECTIVES: [(&[u8], DirectiveForm); 26] = [
+    (b".word", DirectiveForm::Place(PlacedForm::Data(32))),
+    (b".long", DirectiveForm::Place(PlacedForm::Data(32))),
+    (b".4byte", DirectiveForm::Place(PlacedForm::Data(32))),
+    (b".half", DirectiveForm::Place(PlacedForm::Data(16))),
+    (b".short", DirectiveForm::Place(PlacedForm::Data(16))),
+    (b".2byte", DirectiveForm::Place(PlacedForm::Data(16))),
+    (b".byte", DirectiveForm::Place(PlacedForm::Data(8))),
+    (b".ascii", DirectiveForm::Place(PlacedForm::Strings(false))),
+    (b".asciz", DirectiveForm::Place(PlacedForm::Strings(true))),
+    (b".string", DirectiveForm::Place(PlacedForm::Strings(true))),
+    (b".align", DirectiveForm::Place(PlacedForm::Power)),
+    (b".p2align", DirectiveForm::Place(PlacedForm::Power)),
+    (b".balign", DirectiveForm::Place(PlacedForm::Alignment)),
+    (b".space", DirectiveForm::Place(PlacedForm::Space)),
+    (b".zero", DirectiveForm::Place(PlacedForm::Space)),
+    (b".skip", DirectiveForm::Place(PlacedForm::Space)),
+    (b".org", DirectiveForm::Place(PlacedForm::Origin)),
+    (b".equ", DirectiveForm::Constant),
+    (b".set", DirectiveForm::Constant),
+    (b".globl", DirectiveForm::Names),
+    (b".global", DirectiveForm::Names),
+    (b".text", DirectiveForm::Text),
+    (b".data", DirectiveForm::Section),
+    (b".bss", DirectiveForm::Section),
+    (b".rodata", DirectiveForm::Section),
+    (b".section", DirectiveForm::Section),
+];
+
+/// What the directive of a name says.
+pub fn directive_named(name: &[u8]) -> Option<DirectiveForm> {
+    for (form_name, form) in &DIRECTIVES {
         if *form_name == name {
             return Some(*form);
         }

@@ -2,7 +2,7 @@
 
 ghost use Rattle.std.specs.Prelude.{pos, ◌<ℤ◌};
 
-use crate::literals::{escaped, number_of};
+use crate::literals::{escaped, local_label, number_of};
 use crate::mistakes::{Mistake, Stop};
 use crate::registers::register_number;
 use crate::symbols::{Known, Symbols};
@@ -194,13 +194,17 @@ impl<'a, 's> Line<'a, 's> {
         self.skip_blanks();
         let stop = self.stop(Mistake::Value);
         let word = self.word();
+        self.value_of_word(word, is_known, stop)
+    }
+
+    /// The value of a word.
+    fn value_of_word(&self, word: &[u8], is_known: bool, stop: Stop) -> Result<u32, Stop> {
+        if let Some((digit, is_before)) = local_label(word) {
+            return self.known(self.symbols.local_value(digit, is_before), is_known, stop);
+        }
         match word {
             [] => Err(stop),
             [b'.'] => Ok(self.here),
-            [digit @ b'0'..=b'9', way @ (b'b' | b'f')] => {
-                let known = self.symbols.local_value(*digit - b'0', *way == b'b');
-                self.known(known, is_known, stop)
-            }
             [b'0'..=b'9', ..] => number_of(word).ok_or(Stop {
                 mistake: Mistake::Number,
                 ..stop
