@@ -28,5 +28,6 @@ pub mod FaultTexts
 pub mod Executor
 pub mod Engines
 pub mod Decoded
+pub mod Packed
 pub mod Known
 pub mod Outputter
