@@ -94,8 +94,11 @@ fn hart_for(change: &Change) -> HartState {
     hart_of(0, &[(6, change.first), (7, change.first ^ change.second)])
 }
 
+/// How a run ended, and the registers and the pc after it.
+type Seen = (RunEnd, [u32; 32], u32);
+
 /// What a hart has after a run of one call.
-fn run_once<M: Memory>(mem: &mut M, change: &Change) -> (RunEnd, [u32; 32], u32) {
+fn run_once<M: Memory>(mem: &mut M, change: &Change) -> Seen {
     let mut hart_state = hart_for(change);
     let mut executor = InstructionExecutor {
         mem,
@@ -106,7 +109,7 @@ fn run_once<M: Memory>(mem: &mut M, change: &Change) -> (RunEnd, [u32; 32], u32)
 }
 
 /// What it has after as many steps, each made by itself.
-fn step_by_step<M: Memory>(mem: &mut M, change: &Change) -> (RunEnd, [u32; 32], u32) {
+fn step_by_step<M: Memory>(mem: &mut M, change: &Change) -> Seen {
     let mut hart_state = hart_for(change);
     let mut executor = InstructionExecutor {
         mem,
@@ -147,25 +150,34 @@ fn space_of(alloc: Global, words: &[u32; 1024]) -> Result<MemorySpace<VecMemory>
     }
 }
 
+/// A memory of words.
+fn words_over(alloc: Global, change: &Change) -> Result<VecMemory, AllocError> {
+    Ok(VecMemory::new(words_of(change).to_vec(alloc)?))
+}
+
+/// The run over a memory of words, behind a box.
+fn run_in_box(alloc: Global, change: &Change) -> Result<Seen, AllocError> {
+    let memory = Box::new(alloc, words_over(alloc, change)?)?;
+    Ok(run_once(&mut BoxedMemory { memory }, change))
+}
+
+/// Asserts that a run leaves what is expected.
+fn same_seen(rt: &impl Abort, seen: &Seen, expected: &Seen) {
+    assert!(rt; seen == expected);
+}
+
 #[test]
 fn each_change_is_seen_by_the_next_fetch(rt: HostRuntime) -> Result<(), Fail> {
     let alloc = rt.alloc();
     for change in &CHANGES {
-        let words = words_of(change);
-        let mut memory = VecMemory::new(words.to_vec(alloc)?);
-        let expected = step_by_step(&mut memory, change);
-        let mut memory = VecMemory::new(words.to_vec(alloc)?);
-        let over_words = run_once(&mut memory, change);
-        let over_page = run_once(&mut page_of(alloc, &words)?, change);
-        let over_space = run_once(&mut space_of(alloc, &words)?, change);
-        let mut boxed = BoxedMemory {
-            memory: Box::new(alloc, VecMemory::new(words.to_vec(alloc)?))?,
-        };
-        let in_box = run_once(&mut boxed, change);
-        let seen = [over_words, over_page, over_space, in_box];
-        for run in &seen {
-            assert!(rt; *run == expected);
-        }
+        let expected = step_by_step(&mut words_over(alloc, change)?, change);
+        let over_words = run_once(&mut words_over(alloc, change)?, change);
+        same_seen(&rt, &over_words, &expected);
+        let over_page = run_once(&mut page_of(alloc, &words_of(change))?, change);
+        same_seen(&rt, &over_page, &expected);
+        let over_space = run_once(&mut space_of(alloc, &words_of(change))?, change);
+        same_seen(&rt, &over_space, &expected);
+        same_seen(&rt, &run_in_box(alloc, change)?, &expected);
     }
     Ok(())
 }
@@ -173,7 +185,7 @@ fn each_change_is_seen_by_the_next_fetch(rt: HostRuntime) -> Result<(), Fail> {
 #[test]
 fn a_word_that_is_changed_in_each_turn_adds_both_numbers(rt: HostRuntime) -> Result<(), Fail> {
     let alloc = rt.alloc();
-    let mut memory = VecMemory::new(words_of(&CHANGES[0]).to_vec(alloc)?);
+    let mut memory = words_over(alloc, &CHANGES[0])?;
     let (end, registers, pc) = run_once(&mut memory, &CHANGES[0]);
     // 1,000 turns of four steps, and the first step of the next one
     assert!(rt; (end.steps, end.exception, registers[5], pc) == (LIMIT, None, 50_501, 4));

@@ -3,10 +3,11 @@
 ghost use Rattle.std.specs.Prelude.{◌≡◌};
 ghost use Rattle.rrs_examples.specs.Consoles.{Serves};
 
+use crate::served_programs::{exit_at, served_over};
 use rrs_lib::instruction_executor::InstructionExecutor;
 use rrs_lib::memories::VecMemory;
 use rrs_lib::{HartState, MemAccessSize, Memory};
-use rrs_served::{Ending, Environment, ServedEnd, run_served};
+use rrs_served::Environment;
 use std::test::Fail;
 
 /// What a call answers whose address is not mapped: -14.
@@ -47,28 +48,21 @@ impl Environment for Console {
     }
 }
 
-// A program that writes the byte at 52, then one at an address that is not mapped, makes call 214,
-// and exits with 7. It puts the three answers into x8, x9 and x18.
+/// A program that writes the byte at 52, then one at an address that is not mapped, makes call 214,
+/// and exits with 7. It puts the three answers into x8, x9 and x18.
+static WORDS: [u32; 14] = [
+    0x03400593, 0x04000893, 0x00000073, 0x00050413, 0xfff00593, 0x00000073, 0x00050493, 0x0d600893,
+    0x00000073, 0x00050913, 0x00700513, 0x05d00893, 0x00000073, 0x48,
+];
+
 #[test]
 fn a_console_serves_a_program(rt: HostRuntime) -> Result<(), Fail> {
-    let words = [
-        0x03400593, 0x04000893, 0x00000073, 0x00050413, 0xfff00593, 0x00000073, 0x00050493,
-        0x0d600893, 0x00000073, 0x00050913, 0x00700513, 0x05d00893, 0x00000073, 0x48,
-    ];
-    let mut memory = VecMemory::new(words.to_vec(rt.alloc())?);
+    let mut memory = VecMemory::new(WORDS.to_vec(rt.alloc())?);
     let mut hart = HartState::new();
     let mut console = Console { last: 0 };
-    let mut executor = InstructionExecutor {
-        mem: &mut memory,
-        hart_state: &mut hart,
-    };
-    let end = run_served(&mut executor, &mut console, 100);
+    let end = served_over(&mut memory, &mut hart, &mut console, 100);
     let answers = [hart.registers[8], hart.registers[9], hart.registers[18]];
-    let expected = ServedEnd {
-        steps: 13,
-        ending: Ending::Exit(7),
-    };
     let is_answered = answers == [1, 0xffff_fff2, 0xffff_ffda];
-    assert!(rt; end == expected && is_answered && console.last == 0x48);
+    assert!(rt; end == exit_at(13, 7) && is_answered && console.last == 0x48);
     Ok(())
 }

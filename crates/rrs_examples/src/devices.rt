@@ -120,61 +120,70 @@ fn a_clock_is_a_cell(rt: HostRuntime) -> Result<(), Fail> {
     Ok(())
 }
 
-/// What a word that is given this leaves of a hart at 8: the answer, x1 and the pc.
-fn completed(word: u32, given: Option<u32>) -> (Result<(), InstructionException>, u32, u32) {
+/// What is left of a hart: the answer, x1 and the pc.
+type Completed = (Result<(), InstructionException>, u32, u32);
+
+/// What a word that is given this leaves of a hart at 8.
+fn completed(word: u32, given: Option<u32>) -> Completed {
     let mut hart = hart_of(8, &[(2, 0x103), (3, 0x1234_5678)]);
     let answer = complete(&mut hart, word, given);
     (answer, hart.registers[1], hart.pc)
 }
 
+const REFUSED_LOAD: InstructionException = InstructionException::LoadAccessFault(0x104);
+
+const REFUSED_STORE: InstructionException = InstructionException::StoreAccessFault(0x104);
+
+/// Words and what they are given, each with what this leaves.
+static COMPLETED: [(u32, Option<u32>, Completed); 10] = [
+    (0x0011_0083, Some(0x1f0), (Ok(()), 0xffff_fff0, 12)), // lb x1, 1(x2)
+    (0x0011_4083, Some(0x1f0), (Ok(()), 0xf0, 12)), // lbu x1, 1(x2)
+    (0x0011_1083, Some(0xf_8001), (Ok(()), 0xffff_8001, 12)), // lh x1, 1(x2)
+    (0x0011_2083, Some(7), (Ok(()), 7, 12)), // lw x1, 1(x2)
+    (0x0011_2083, None, (Err(REFUSED_LOAD), 0, 8)), // lw x1, 1(x2)
+    (0x0031_00a3, Some(0), (Ok(()), 0, 12)), // sb x3, 1(x2)
+    (0x0031_00a3, None, (Err(REFUSED_STORE), 0, 8)), // sb x3, 1(x2)
+    (0x0031_00b3, None, (Ok(()), 0x1234_577b, 12)), // add x1, x2, x3
+    (0x0100_00ef, None, (Ok(()), 12, 24)), // jal x1, 16
+    (
+        0,
+        None,
+        (Err(InstructionException::IllegalInstruction(8, 0)), 0, 8),
+    ),
+];
+
 // A load is extended, a refusal is the fault of the access, and all else needs no answer.
 #[test]
 fn an_instruction_is_completed(rt: HostRuntime) -> Result<(), Fail> {
-    let refused_load = InstructionException::LoadAccessFault(0x104);
-    let refused_store = InstructionException::StoreAccessFault(0x104);
-    let cases = [
-        (0x0011_0083, Some(0x1f0), (Ok(()), 0xffff_fff0, 12)), // lb x1, 1(x2)
-        (0x0011_4083, Some(0x1f0), (Ok(()), 0xf0, 12)), // lbu x1, 1(x2)
-        (0x0011_1083, Some(0xf_8001), (Ok(()), 0xffff_8001, 12)), // lh x1, 1(x2)
-        (0x0011_2083, Some(7), (Ok(()), 7, 12)), // lw x1, 1(x2)
-        (0x0011_2083, None, (Err(refused_load), 0, 8)), // lw x1, 1(x2)
-        (0x0031_00a3, Some(0), (Ok(()), 0, 12)), // sb x3, 1(x2)
-        (0x0031_00a3, None, (Err(refused_store), 0, 8)), // sb x3, 1(x2)
-        (0x0031_00b3, None, (Ok(()), 0x1234_577b, 12)), // add x1, x2, x3
-        (0x0100_00ef, None, (Ok(()), 12, 24)), // jal x1, 16
-        (
-            0,
-            None,
-            (Err(InstructionException::IllegalInstruction(8, 0)), 0, 8),
-        ),
-    ];
-    for (word, given, expected) in cases {
+    for &(word, given, expected) in &COMPLETED {
         assert!(rt; completed(word, given) == expected, "0x{word:08x}");
     }
     Ok(())
 }
 
+/// Words, each with what it asks.
+static ASKED: [(u32, Result<Option<DataRequest>, InstructionException>); 5] = [
+    (
+        0x0011_1083,
+        Ok(Some(DataRequest::Load(0x104, MemAccessSize::HalfWord))),
+    ),
+    (
+        0x0031_00a3,
+        Ok(Some(DataRequest::Store(0x104, MemAccessSize::Byte, 0x1234_5678))),
+    ),
+    (
+        0x0001_2083,
+        Err(InstructionException::AlignmentFault(0x103)),
+    ), // lw x1, 0(x2)
+    (0x0031_00b3, Ok(None)),
+    (0x0000_0073, Err(InstructionException::EnvironmentCall(8))),
+];
+
 // What is asked: the size of the row, the address, and the whole register that is stored.
 #[test]
 fn an_instruction_asks(rt: HostRuntime) -> Result<(), Fail> {
     let hart = hart_of(8, &[(2, 0x103), (3, 0x1234_5678)]);
-    let cases = [
-        (
-            0x0011_1083,
-            Ok(Some(DataRequest::Load(0x104, MemAccessSize::HalfWord))),
-        ),
-        (
-            0x0031_00a3,
-            Ok(Some(DataRequest::Store(0x104, MemAccessSize::Byte, 0x1234_5678))),
-        ),
-        (
-            0x0001_2083,
-            Err(InstructionException::AlignmentFault(0x103)),
-        ), // lw x1, 0(x2)
-        (0x0031_00b3, Ok(None)),
-        (0x0000_0073, Err(InstructionException::EnvironmentCall(8))),
-    ];
-    for (word, expected) in cases {
+    for &(word, expected) in &ASKED {
         assert!(rt; request(&hart, word) == expected, "0x{word:08x}");
     }
     Ok(())

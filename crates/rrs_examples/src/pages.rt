@@ -2,8 +2,9 @@
 
 ghost use Rattle.std.specs.Prelude.{◌≡◌, ◌^◌, ◌<◌, IfOk, vec_len};
 
+use crate::machines::{read_at, write_at};
 use rrs_extra::{PageError, PagedMemory};
-use rrs_lib::{MemAccessSize, Memory};
+use rrs_lib::MemAccessSize;
 use std::alloc::{AllocError, Global};
 use std::test::Fail;
 
@@ -37,17 +38,17 @@ fn a_page_is_read_and_written_but_for_its_read_only_word(rt: HostRuntime) -> Res
     let words = words_of(alloc, &[0, 0xdead_beef])?;
     let added = memory.add_page(0, words, one_read_only(alloc, 1)?);
     let written = [
-        memory.write_mem(7, MemAccessSize::Byte, 0),
-        memory.write_mem(4, MemAccessSize::Word, 0),
-        memory.write_mem(8, MemAccessSize::Word, 5),
-        memory.write_mem(4092, MemAccessSize::HalfWord, 0x1_2345),
-        memory.write_mem(4096, MemAccessSize::Byte, 1),
+        write_at(&mut memory, 7, MemAccessSize::Byte, 0),
+        write_at(&mut memory, 4, MemAccessSize::Word, 0),
+        write_at(&mut memory, 8, MemAccessSize::Word, 5),
+        write_at(&mut memory, 4092, MemAccessSize::HalfWord, 0x1_2345),
+        write_at(&mut memory, 4096, MemAccessSize::Byte, 1),
     ];
     let read = [
-        memory.read_mem(7, MemAccessSize::Byte),
-        memory.read_mem(8, MemAccessSize::Word),
-        memory.read_mem(4092, MemAccessSize::Word),
-        memory.read_mem(4096, MemAccessSize::Word),
+        read_at(&mut memory, 7, MemAccessSize::Byte),
+        read_at(&mut memory, 8, MemAccessSize::Word),
+        read_at(&mut memory, 4092, MemAccessSize::Word),
+        read_at(&mut memory, 4096, MemAccessSize::Word),
     ];
     let expected = [Some(0xde), Some(5), Some(0x2345), None];
     assert!(rt; added.is_ok() && written == [false, false, true, true, false] && read == expected);
@@ -73,6 +74,19 @@ fn some_page(alloc: Global, word: u32) -> Result<(Vec<u32>, Vec<bool>), AllocErr
     }
 }
 
+/// Adds a page of a word, and returns what the call answered.
+fn added_once(
+    memory: &mut PagedMemory,
+    alloc: Global,
+    number: u32,
+    word: u32,
+) -> Result<Result<(), PageError>, AllocError>
+    requires { number < 2 ^ 20 }
+{
+    let (words, marks) = some_page(alloc, word)?;
+    Ok(memory.add_page(number, words, marks))
+}
+
 /// Adds a page of a word, and again where there was no memory: what the calls answered, and how
 /// many pages there were after the first of two.
 fn added_at_last(
@@ -83,12 +97,11 @@ fn added_at_last(
 ) -> Result<(Result<(), PageError>, Option<usize>), AllocError>
     requires { number < 2 ^ 20 }
 {
-    let (words, marks) = some_page(alloc, word)?;
-    let added = memory.add_page(number, words, marks);
+    let added = added_once(memory, alloc, number, word)?;
     if added == Err(PageError::OutOfMemory) {
         let count = memory.page_count();
-        let (words, marks) = some_page(alloc, word)?;
-        return Ok((memory.add_page(number, words, marks), Some(count)));
+        let again = added_once(memory, alloc, number, word)?;
+        return Ok((again, Some(count)));
     }
     Ok((added, None))
 }
@@ -103,14 +116,13 @@ fn a_refused_page_may_be_added_again(rt: HostRuntime) -> Result<(), Fail> {
     for count in 0..13 {
         let number = (count as u32 * 5 + 7) % 13;
         let (added, pages) = added_at_last(&mut memory, alloc, number, number + 100)?;
-        let (words, marks) = some_page(alloc, 0)?;
-        let again = memory.add_page(number, words, marks);
+        let again = added_once(&mut memory, alloc, number, 0)?;
         assert!(rt;
             added == Ok(()) && pages.unwrap_or(count) == count && again == Err(PageError::PageTaken)
         );
     }
     for number in 0..13 {
-        let first = memory.read_mem(number * 4096, MemAccessSize::Word);
+        let first = read_at(&mut memory, number * 4096, MemAccessSize::Word);
         assert!(rt; first == Some(number + 100) && memory.has_page(number));
     }
     Ok(())

@@ -1,8 +1,10 @@
 //! The port that prints: chosen accesses, what it keeps of them, and a program that reads it back.
 
-use crate::machines::{faulted, hart_of, run_over};
-use rrs_extra::{PrintPort, RamOrPort};
-use rrs_lib::instruction_executor::{InstructionException, RunEnd};
+use crate::machines::{
+    beside_port, faulted, hart_of, has_logged, read_at, run_over, space_beside, write_at,
+};
+use rrs_extra::PrintPort;
+use rrs_lib::instruction_executor::InstructionException;
 use rrs_lib::memories::{BoxedMemory, MemorySpace, VecMemory};
 use rrs_lib::{MemAccessSize, Memory};
 use std::alloc::{AllocError, Global};
@@ -12,30 +14,35 @@ use std::test::Fail;
 fn write_all(port: &mut PrintPort, bytes: &[u8]) -> bool {
     let mut granted = true;
     for byte in bytes {
-        granted = granted & port.write_mem(0, MemAccessSize::Byte, 0x1200 + u32::from(*byte));
+        granted &= write_at(port, 0, MemAccessSize::Byte, 0x1200 + u32::from(*byte));
     }
     granted
 }
 
+/// Whether a port grants the writes of a text, and its byte reads as 0 before and as the last one
+/// after them.
+fn takes_two_men(port: &mut PrintPort) -> bool {
+    let before = read_at(port, 0, MemAccessSize::Byte);
+    let granted = write_all(port, b"two men");
+    let after = read_at(port, 0, MemAccessSize::Byte);
+    granted && (before, after) == (Some(0), Some(0x6e))
+}
+
+/// Rooms, each with what is kept of the bytes, and how many are lost.
+static ROOMS: [(usize, &[u8], u64); 4] = [
+    (0, b"", 7),
+    (3, b"two", 4),
+    (7, b"two men", 0),
+    (8, b"two men", 0),
+];
+
 // The bytes are logged in their order while there is room, and counted else.
 #[test]
 fn what_finds_no_room_is_counted(rt: HostRuntime) -> Result<(), Fail> {
-    let cases: [(usize, &[u8], u64); 4] = [
-        (0, b"", 7),
-        (3, b"two", 4),
-        (7, b"two men", 0),
-        (8, b"two men", 0),
-    ];
-    for (room, log, lost) in cases {
+    for &(room, log, lost) in &ROOMS {
         let mut port = PrintPort::new(rt.alloc(), room)?;
-        let before = port.read_mem(0, MemAccessSize::Byte);
-        let granted = write_all(&mut port, b"two men");
-        let read = (before, port.read_mem(0, MemAccessSize::Byte));
-        let kept = port.log.as_slice() == log && port.lost == lost;
-        assert!(rt;
-            granted && kept && read == (Some(0), Some(0x6e)),
-            "with room for {room}"
-        );
+        let is_right = takes_two_men(&mut port) && port.log.as_slice() == log && port.lost == lost;
+        assert!(rt; is_right, "with room for {room}");
     }
     Ok(())
 }
@@ -44,33 +51,26 @@ fn what_finds_no_room_is_counted(rt: HostRuntime) -> Result<(), Fail> {
 fn other_accesses_are_refused(rt: HostRuntime) -> Result<(), Fail> {
     let mut port = PrintPort::new(rt.alloc(), 8)?;
     let granted = [
-        port.write_mem(0, MemAccessSize::HalfWord, 65),
-        port.write_mem(0, MemAccessSize::Word, 65),
-        port.write_mem(1, MemAccessSize::Byte, 65),
+        write_at(&mut port, 0, MemAccessSize::HalfWord, 65),
+        write_at(&mut port, 0, MemAccessSize::Word, 65),
+        write_at(&mut port, 1, MemAccessSize::Byte, 65),
     ];
     let read = [
-        port.read_mem(0, MemAccessSize::HalfWord),
-        port.read_mem(0, MemAccessSize::Word),
-        port.read_mem(3, MemAccessSize::Byte),
+        read_at(&mut port, 0, MemAccessSize::HalfWord),
+        read_at(&mut port, 0, MemAccessSize::Word),
+        read_at(&mut port, 3, MemAccessSize::Byte),
     ];
     assert!(rt; granted == [false; 3] && read == [None; 3] && port.log.is_empty());
     Ok(())
 }
 
-/// Runs a program over a space of its words and of a port at 0x1000, and returns how it ended, what
-/// it read back, and the space. It writes 65, reads it back into x3, writes 66, and tries to write
-/// a whole word.
-fn run_beside<M: Memory + Drop>(
-    alloc: Global,
-    words: M,
-    port: M,
-) -> Result<(RunEnd, u32, MemorySpace<M>), Fail> {
-    let mut space = MemorySpace::new(alloc);
-    space.add_memory(0, 0x20, words)?;
-    space.add_memory(0x1000, 4, port)?;
+/// Whether the run of the program over a space of its words and of a port at 0x1000 ends as it has
+/// to. It writes 65, reads it back into x3, writes 66, and tries to write a whole word.
+fn reads_back<M: Memory + Drop>(space: &mut MemorySpace<M>) -> bool {
     let mut hart = hart_of(0, &[]);
-    let end = run_over(&mut space, &mut hart, 10);
-    Ok((end, hart.registers[3], space))
+    let end = run_over(space, &mut hart, 10);
+    let refused = faulted(6, InstructionException::StoreAccessFault(0x1000));
+    end == refused && hart.registers[3] == 65
 }
 
 /// The words of the program.
@@ -84,30 +84,30 @@ fn program(alloc: Global) -> Result<VecMemory, AllocError> {
 // Over the enum of memories the port is reached by the space's own call.
 #[test]
 fn a_program_writes_to_the_port(rt: HostRuntime) -> Result<(), Fail> {
-    let words = RamOrPort::Ram(program(rt.alloc())?);
-    let port = RamOrPort::Port(PrintPort::new(rt.alloc(), 4)?);
-    let (end, read, space) = run_beside(rt.alloc(), words, port)?;
-    let Some(RamOrPort::Port(port)) = space.get_memory_ref(1) else {
-        return Err(Fail::from("region 1 is not the port"));
-    };
-    let refused = faulted(6, InstructionException::StoreAccessFault(0x1000));
-    let is_logged = port.log.as_slice() == b"AB".as_slice() && port.lost == 0;
-    assert!(rt; end == refused && read == 65 && is_logged);
+    let mut space = beside_port(rt.alloc(), program(rt.alloc())?, 0x20, 0x1000, 4)?;
+    assert!(rt; reads_back(&mut space) && has_logged(&space, b"AB", 66, 0));
     Ok(())
+}
+
+/// The words of the program, behind a box.
+fn boxed_program(alloc: Global) -> Result<BoxedMemory, AllocError> {
+    let memory = Box::new(alloc, program(alloc)?)?;
+    Ok(BoxedMemory { memory })
+}
+
+/// A port, behind a box.
+fn boxed_port(alloc: Global) -> Result<BoxedMemory, AllocError> {
+    let memory = Box::new(alloc, PrintPort::new(alloc, 4)?)?;
+    Ok(BoxedMemory { memory })
 }
 
 // Behind boxes it runs alike, but the port can't be reached any more: its byte can.
 #[test]
 fn a_program_writes_to_a_boxed_port(rt: HostRuntime) -> Result<(), Fail> {
-    let words = BoxedMemory {
-        memory: Box::new(rt.alloc(), program(rt.alloc())?)?,
-    };
-    let port = BoxedMemory {
-        memory: Box::new(rt.alloc(), PrintPort::new(rt.alloc(), 4)?)?,
-    };
-    let (end, read, mut space) = run_beside(rt.alloc(), words, port)?;
-    let last = space.read_mem(0x1000, MemAccessSize::Byte);
-    let refused = faulted(6, InstructionException::StoreAccessFault(0x1000));
-    assert!(rt; end == refused && read == 65 && last == Some(66));
+    let words = boxed_program(rt.alloc())?;
+    let port = boxed_port(rt.alloc())?;
+    let mut space = space_beside(rt.alloc(), words, 0x20, port, 0x1000)?;
+    assert!(rt; reads_back(&mut space));
+    assert!(rt; read_at(&mut space, 0x1000, MemAccessSize::Byte) == Some(66));
     Ok(())
 }

@@ -5,9 +5,9 @@ ghost use Rattle.rrs_extra.specs.Printing.{HoldsString, put_string_program};
 ghost use Rattle.rrs_examples.specs.ProgramExamples.{words_to_print};
 ghost use Rattle.rrs_extra.specs.Programs.{HoldsWords, HoldsIllegal};
 
-use crate::machines::{end_at, faulted, hart_of, run_over};
+use crate::machines::{beside_port, end_at, faulted, hart_of, has_logged, run_over};
+use rrs_extra::RamOrPort;
 use rrs_extra::laws::put_string;
-use rrs_extra::{PrintPort, RamOrPort};
 use rrs_lib::instruction_executor::{InstructionException, InstructionExecutor, RunEnd};
 use rrs_lib::memories::{MemorySpace, VecMemory};
 use rrs_lib::{HartState, Memory};
@@ -62,12 +62,7 @@ fn prints_a_string(rt: HostRuntime) -> Result<(), Fail> {
 
 /// A space of the words and of a port at 0x1000_0000, with room for as many bytes.
 fn machine(alloc: Global, room: usize) -> Result<MemorySpace<RamOrPort>, Fail> {
-    let mut space = MemorySpace::new(alloc);
-    let words = RamOrPort::Ram(words_to_print(alloc)?);
-    let port = RamOrPort::Port(PrintPort::new(alloc, room)?);
-    space.add_memory(0, 48, words)?;
-    space.add_memory(0x1000_0000, 4, port)?;
-    Ok(space)
+    beside_port(alloc, words_to_print(alloc)?, 48, 0x1000_0000, room)
 }
 
 /// Runs the program at 0 on the string at an address, over a port at another.
@@ -76,30 +71,35 @@ fn run_from(space: &mut MemorySpace<RamOrPort>, from: u32, port: u32) -> RunEnd 
     run_over(space, &mut hart, 100)
 }
 
-// One string after the other, of which the last finds no room for its end. The first is empty.
-// Behind the byte of the port there is nothing to write to, though its region has four addresses.
+/// Starts of strings and ports, one after the other, each with the steps of the run. The last
+/// string finds no room for its end; the first is empty.
+static PRINTED: [(u32, u32, u64); 5] = [
+    (42, 0x1000_0000, 3),
+    (28, 0x1000_0000, 73),
+    (28, 0x1000_0001, 3),
+    (41, 0x1000_0000, 8),
+    (35, 0x1000_0000, 38),
+];
+
+/// How a run of so many steps over a port at an address ends: behind the byte of the port there is
+/// nothing to write to, though its region has four addresses.
+fn ends_at(port: u32, steps: u64) -> RunEnd {
+    if port == 0x1000_0000 {
+        end_at(steps, 24)
+    } else {
+        faulted(steps, InstructionException::StoreAccessFault(port))
+    }
+}
+
 #[test]
 fn a_port_logs_what_is_printed(rt: HostRuntime) -> Result<(), Fail> {
     let mut space = machine(rt.alloc(), 20)?;
-    let ends = [
-        run_from(&mut space, 42, 0x1000_0000),
-        run_from(&mut space, 28, 0x1000_0000),
-        run_from(&mut space, 28, 0x1000_0001),
-        run_from(&mut space, 41, 0x1000_0000),
-        run_from(&mut space, 35, 0x1000_0000),
-    ];
-    let refused = faulted(3, InstructionException::StoreAccessFault(0x1000_0001));
-    let expected = [
-        end_at(3, 24),
-        end_at(73, 24),
-        refused,
-        end_at(8, 24),
-        end_at(38, 24),
-    ];
-    let Some(RamOrPort::Port(port)) = space.get_memory_ref(1) else {
-        return Err(Fail::from("region 1 is not the port"));
-    };
-    let is_logged = port.log.as_slice() == b"Hello, RISC-V!!RISC-".as_slice();
-    assert!(rt; ends == expected && is_logged && port.last == 0x21 && port.lost == 2);
+    for &(from, port, steps) in &PRINTED {
+        assert!(rt;
+            run_from(&mut space, from, port) == ends_at(port, steps),
+            "from {from}"
+        );
+    }
+    assert!(rt; has_logged(&space, b"Hello, RISC-V!!RISC-", 0x21, 2));
     Ok(())
 }

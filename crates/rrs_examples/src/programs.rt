@@ -92,16 +92,21 @@ fn adds_up_words_of_a_space(rt: HostRuntime) -> Result<(), Fail> {
     Ok(())
 }
 
+/// The fault at the end of the program.
+const FAULT: Option<InstructionException> = Some(InstructionException::IllegalInstruction(0x1c, 0));
+
+/// How many words, and a limit; how the run ends, and the sum.
+static LIMITS: [(u32, u64, u64, Option<InstructionException>, u32); 4] = [
+    (3, 21, 20, FAULT, 11),
+    (3, 20, 20, None, 11),
+    (3, 7, 7, None, 5),
+    (0, 3, 2, FAULT, 0),
+];
+
 // Runs of the program, with x12 9 before: how many of the words, to a limit.
 #[test]
 fn adds_up_within_a_limit(rt: HostRuntime) -> Result<(), Fail> {
-    let fault = || Some(InstructionException::IllegalInstruction(0x1c, 0));
-    for (count, limit, steps, exception, sum) in [
-        (3, 21, 20, fault(), 11),
-        (3, 20, 20, None, 11),
-        (3, 7, 7, None, 5),
-        (0, 3, 2, fault(), 0),
-    ] {
+    for &(count, limit, steps, exception, sum) in &LIMITS {
         let mut memory = words_to_add(rt.alloc())?;
         let mut hart = hart_of(0, &[(10, 0x20), (11, count), (12, 9)]);
         let end = run_over(&mut memory, &mut hart, limit);

@@ -16,6 +16,7 @@ use rrs_linux::{Heap, Linux, Recorder};
 use rrs_linux_programs::{echo, write_and_exit, write_and_exit_over};
 use rrs_served::{Ending, Environment, ServedEnd, run_served};
 use std::alloc::{AllocError, Global};
+use std::process::Abort;
 use std::test::Fail;
 
 /// The words of `write_and_exit`.
@@ -32,7 +33,7 @@ const ECHO: [u32; 18] = [
 ];
 
 /// So many steps, and then the end with a status.
-fn exit_at(steps: u64, status: u32) -> ServedEnd {
+pub(crate) fn exit_at(steps: u64, status: u32) -> ServedEnd {
     ServedEnd {
         steps,
         ending: Ending::Exit(status),
@@ -166,6 +167,17 @@ fn echoes_its_input(rt: HostRuntime) -> Result<(), Fail> {
     Ok(())
 }
 
+/// Runs a hart over a memory and an environment.
+pub(crate) fn served_over<M: Memory, E: Environment>(
+    mem: &mut M,
+    hart_state: &mut HartState,
+    environment: &mut E,
+    limit: u64,
+) -> ServedEnd {
+    let mut executor = InstructionExecutor { mem, hart_state };
+    run_served(&mut executor, environment, limit)
+}
+
 /// Runs words at 0 over an environment, with three arguments, in a memory of 200 words.
 fn run_words<E: Environment>(
     alloc: Global,
@@ -173,40 +185,92 @@ fn run_words<E: Environment>(
     arguments: (u32, u32, u32),
     environment: &mut E,
 ) -> Result<ServedEnd, AllocError> {
-    let mut words = vec![in alloc; 0x4443_4241; 200]?;
-    for (word, of_program) in words.iter_mut().zip(program) {
-        *word = *of_program;
-    }
+    let mut words = program.to_vec(alloc)?;
+    words.resize(200, 0x4443_4241)?;
     let mut memory = VecMemory::new(words);
     let (first, second, third) = arguments;
     let mut hart = hart_of(0, &[(10, first), (11, second), (12, third)]);
-    let mut executor = InstructionExecutor {
-        mem: &mut memory,
-        hart_state: &mut hart,
-    };
-    Ok(run_served(&mut executor, environment, 10_000))
+    Ok(served_over(&mut memory, &mut hart, environment, 10_000))
+}
+
+/// What a program's run over a recorder with this room comes to: how it ends, and whether its
+/// output is this text.
+fn run_recorded(
+    alloc: Global,
+    program: &[u32],
+    arguments: (u32, u32, u32),
+    mut recorder: Recorder,
+    text: &[u8],
+) -> Result<(ServedEnd, bool), AllocError> {
+    let end = run_words(alloc, program, arguments, &mut recorder)?;
+    Ok((end, recorder.output.as_slice() == text))
+}
+
+/// The same over streams.
+fn run_streamed(
+    alloc: Global,
+    program: &[u32],
+    arguments: (u32, u32, u32),
+    input: &[u8],
+    text: &[u8],
+) -> Result<(ServedEnd, bool), AllocError> {
+    let mut linux = Linux::new(input, Vec::new(alloc), Vec::new(alloc), Heap::new(0, 0));
+    let end = run_words(alloc, program, arguments, &mut linux)?;
+    Ok((end, linux.output.as_slice() == text))
+}
+
+/// Asserts that a run made so many steps, exited with this status, and wrote what it had to.
+fn same_run(rt: &impl Abort, seen: &(ServedEnd, bool), steps: u64, status: u32) {
+    assert_eq!(rt; *seen, (exit_at(steps, status), true));
+}
+
+/// The length of a text and a status, with its low byte.
+static WRITTEN: [(u32, u32, u32); 4] = [(0, 0, 0), (1, 7, 7), (5, 0x103, 3), (300, u32::MAX, 255)];
+
+/// The text of which the first bytes are written.
+fn letters() -> [u8; 300] {
+    let mut bytes = [0; 300];
+    for (index, byte) in bytes.iter_mut().enumerate() {
+        *byte = 0x41 + (index % 4) as u8;
+    }
+    bytes
 }
 
 // Texts of 0, 1, 5 and 300 bytes, written over both environments.
 #[test]
 fn texts_of_many_lengths_are_written(rt: HostRuntime) -> Result<(), Fail> {
-    for (count, status, low) in [(0, 0, 0), (1, 7, 7), (5, 0x103, 3), (300, u32::MAX, 255)] {
+    let bytes = letters();
+    for &(count, status, low) in &WRITTEN {
+        let text = &bytes[..count as usize];
         let arguments = (52, count, status);
-        let mut recorder = Recorder::new(rt.alloc(), &[], 300, Heap::new(0, 0))?;
-        let end = run_words(rt.alloc(), &WRITE_AND_EXIT, arguments, &mut recorder)?;
-        let output = Vec::new(rt.alloc());
-        let empty: &[u8] = &[];
-        let mut linux = Linux::new(empty, output, Vec::new(rt.alloc()), Heap::new(0, 0));
-        let same = run_words(rt.alloc(), &WRITE_AND_EXIT, arguments, &mut linux)?;
-        let mut expected = [0; 300];
-        for (index, byte) in expected.iter_mut().enumerate() {
-            *byte = 0x41 + (index % 4) as u8;
-        }
-        let text = &expected[..count as usize];
-        let seen = (recorder.output.as_slice(), linux.output.as_slice());
-        assert!(rt; (end, same) == (exit_at(13, low), exit_at(13, low)) && seen == (text, text));
+        let recorder = Recorder::new(rt.alloc(), &[], 300, Heap::new(0, 0))?;
+        let recorded = run_recorded(rt.alloc(), &WRITE_AND_EXIT, arguments, recorder, text)?;
+        same_run(&rt, &recorded, 13, low);
+        let streamed = run_streamed(rt.alloc(), &WRITE_AND_EXIT, arguments, &[], text)?;
+        same_run(&rt, &streamed, 13, low);
     }
     Ok(())
+}
+
+/// The length of an input and the size of the buffer, with the steps over a recorder and over
+/// streams.
+static ECHOED: [(usize, u32, u64, u64); 7] = [
+    (0, 4, 14, 14),
+    (1, 4, 25, 25),
+    (4, 4, 25, 25),
+    (5, 4, 36, 36),
+    (9, 1, 113, 113),
+    (700, 300, 47, 47),
+    (700, 700, 25, 47),
+];
+
+/// The bytes of which the first are the input.
+fn numbered_bytes() -> [u8; 700] {
+    let mut bytes = [0; 700];
+    for (index, byte) in bytes.iter_mut().enumerate() {
+        *byte = (index % 251) as u8;
+    }
+    bytes
 }
 
 // Inputs that fill a buffer not at all, in part, exactly, and more than once, over both
@@ -214,32 +278,14 @@ fn texts_of_many_lengths_are_written(rt: HostRuntime) -> Result<(), Fail> {
 // more rounds.
 #[test]
 fn inputs_of_many_lengths_are_echoed(rt: HostRuntime) -> Result<(), Fail> {
-    let mut bytes = [0; 700];
-    for (index, byte) in bytes.iter_mut().enumerate() {
-        *byte = (index % 251) as u8;
-    }
-    for (count, size, steps, of_stream) in [
-        (0, 4, 14, 14),
-        (1, 4, 25, 25),
-        (4, 4, 25, 25),
-        (5, 4, 36, 36),
-        (9, 1, 113, 113),
-        (700, 300, 47, 47),
-        (700, 700, 25, 47),
-    ] {
+    let bytes = numbered_bytes();
+    for &(count, size, steps, of_stream) in &ECHOED {
         let input = &bytes[..count];
-        let arguments = (72, size, 0);
-        let mut recorder = Recorder::new(rt.alloc(), input, 700, Heap::new(0, 0))?;
-        let end = run_words(rt.alloc(), &ECHO, arguments, &mut recorder)?;
-        let output = Vec::new(rt.alloc());
-        let mut linux = Linux::new(input, output, Vec::new(rt.alloc()), Heap::new(0, 0));
-        let same = run_words(rt.alloc(), &ECHO, arguments, &mut linux)?;
-        let seen = (recorder.output.as_slice(), linux.output.as_slice());
-        let ends = (exit_at(steps, 0), exit_at(of_stream, 0));
-        assert!(rt;
-            (end, same) == ends && seen == (input, input),
-            "{count} by {size}"
-        );
+        let recorder = Recorder::new(rt.alloc(), input, 700, Heap::new(0, 0))?;
+        let recorded = run_recorded(rt.alloc(), &ECHO, (72, size, 0), recorder, input)?;
+        same_run(&rt, &recorded, steps, 0);
+        let streamed = run_streamed(rt.alloc(), &ECHO, (72, size, 0), input, input)?;
+        same_run(&rt, &streamed, of_stream, 0);
     }
     Ok(())
 }

@@ -106,7 +106,7 @@ fn numbered(alloc: Global) -> Result<VecMemory, AllocError> {
 fn call<E: Environment>(
     environment: &mut E,
     mem: &mut VecMemory,
-    request: (u32, u32, u32, u32),
+    request: Request,
 ) -> (Option<u32>, u32) {
     let mut hart = HartState::new();
     hart.registers[17] = request.0;
@@ -144,31 +144,38 @@ fn environment<'a>(
     Linux::new(input, output, Stream::new(alloc, &[]), Heap::new(64, 96))
 }
 
+/// The number of a call, and three arguments.
+type Request = (u32, u32, u32, u32);
+
+/// Calls, each with how it ends, its answer, and how much standard output and standard error hold
+/// after it.
+static CALLS: [(Request, Option<u32>, u32, (usize, usize)); 18] = [
+    ((WRITE, 1, 0, 300), None, 300, (300, 0)),
+    ((WRITE, 2, 290, 20), None, 10, (300, 10)),
+    ((WRITE, 2, 44, 3), None, 3, (300, 13)),
+    ((WRITE, 1, 300, 1), None, EFAULT, (300, 13)),
+    ((WRITE, 1, 0xffff_fff0, 17), None, EFAULT, (300, 13)),
+    ((WRITE, 1, 0, 0), None, 0, (300, 13)),
+    ((WRITE, 0, 0, 4), None, EBADF, (300, 13)),
+    ((READ, 1, 0, 4), None, EBADF, (300, 13)),
+    ((READ, 0, 0xffff_fff0, 17), None, EFAULT, (300, 13)),
+    ((BRK, 0, 0, 0), None, 64, (300, 13)),
+    ((BRK, 96, 0, 0), None, 96, (300, 13)),
+    ((BRK, 97, 0, 0), None, 96, (300, 13)),
+    ((BRK, 63, 0, 0), None, 96, (300, 13)),
+    ((57, 2, 0, 0), None, 0, (300, 13)),
+    ((57, 3, 0, 0), None, EBADF, (300, 13)),
+    ((80, 1, 0, 0), None, ENOSYS, (300, 13)),
+    ((93, 0x107, 0, 0), Some(7), 0x107, (300, 13)),
+    ((94, 255, 0, 0), Some(255), 255, (300, 13)),
+];
+
 // Each call with its answer, and how much standard output and standard error hold after it.
 #[test]
 fn calls_answer(rt: HostRuntime) -> Result<(), Fail> {
     let mut memory = numbered(rt.alloc())?;
     let mut linux = environment(rt.alloc(), &[], &[]);
-    for (request, end, answer, written) in [
-        ((WRITE, 1, 0, 300), None, 300, (300, 0)),
-        ((WRITE, 2, 290, 20), None, 10, (300, 10)),
-        ((WRITE, 2, 44, 3), None, 3, (300, 13)),
-        ((WRITE, 1, 300, 1), None, EFAULT, (300, 13)),
-        ((WRITE, 1, 0xffff_fff0, 17), None, EFAULT, (300, 13)),
-        ((WRITE, 1, 0, 0), None, 0, (300, 13)),
-        ((WRITE, 0, 0, 4), None, EBADF, (300, 13)),
-        ((READ, 1, 0, 4), None, EBADF, (300, 13)),
-        ((READ, 0, 0xffff_fff0, 17), None, EFAULT, (300, 13)),
-        ((BRK, 0, 0, 0), None, 64, (300, 13)),
-        ((BRK, 96, 0, 0), None, 96, (300, 13)),
-        ((BRK, 97, 0, 0), None, 96, (300, 13)),
-        ((BRK, 63, 0, 0), None, 96, (300, 13)),
-        ((57, 2, 0, 0), None, 0, (300, 13)),
-        ((57, 3, 0, 0), None, EBADF, (300, 13)),
-        ((80, 1, 0, 0), None, ENOSYS, (300, 13)),
-        ((93, 0x107, 0, 0), Some(7), 0x107, (300, 13)),
-        ((94, 255, 0, 0), Some(255), 255, (300, 13)),
-    ] {
+    for &(request, end, answer, written) in &CALLS {
         let seen = call(&mut linux, &mut memory, request);
         let lengths = (linux.output.written.len(), linux.errors.written.len());
         assert!(rt; seen == (end, answer) && lengths == written, "{request:?}");
@@ -177,32 +184,36 @@ fn calls_answer(rt: HostRuntime) -> Result<(), Fail> {
     Ok(())
 }
 
+/// Calls of a recorder, each with how it ends, its answer, and what is left of the input and held of
+/// the output and of the errors after it.
+static RECORDED: [(Request, Option<u32>, u32, (usize, usize, usize)); 18] = [
+    ((WRITE, 1, 0, 4), None, 4, (3, 4, 0)),
+    ((WRITE, 1, 4, 10), None, 6, (3, 10, 0)),
+    ((WRITE, 1, 10, 1), None, ENOSPC, (3, 10, 0)),
+    ((WRITE, 1, 10, 0), None, 0, (3, 10, 0)),
+    ((WRITE, 2, 298, 5), None, 2, (3, 10, 2)),
+    ((WRITE, 2, 300, 1), None, EFAULT, (3, 10, 2)),
+    ((WRITE, 2, 0xffff_fff0, 17), None, EFAULT, (3, 10, 2)),
+    ((WRITE, 0, 0, 1), None, EBADF, (3, 10, 2)),
+    ((READ, 0, 100, 2), None, 2, (1, 10, 2)),
+    ((READ, 0, 300, 1), None, EFAULT, (1, 10, 2)),
+    ((READ, 0, 0xffff_fff0, 17), None, EFAULT, (1, 10, 2)),
+    ((READ, 0, 102, 9), None, 1, (0, 10, 2)),
+    ((READ, 0, 300, 9), None, 0, (0, 10, 2)),
+    ((WRITE, 2, 100, 3), None, 3, (0, 10, 5)),
+    ((BRK, 96, 0, 0), None, 96, (0, 10, 5)),
+    ((57, 3, 0, 0), None, EBADF, (0, 10, 5)),
+    ((80, 1, 0, 0), None, ENOSYS, (0, 10, 5)),
+    ((93, 0x107, 0, 0), Some(7), 0x107, (0, 10, 5)),
+];
+
 // Each call of a recorder of three bytes of input and with room for ten bytes, with its answer, and
 // what is left of the input and held of the output and of the errors after it.
 #[test]
 fn a_recorder_answers(rt: HostRuntime) -> Result<(), Fail> {
     let mut memory = numbered(rt.alloc())?;
     let mut recorder = Recorder::new(rt.alloc(), &[0, 1, 2], 10, Heap::new(64, 96))?;
-    for (request, end, answer, after) in [
-        ((WRITE, 1, 0, 4), None, 4, (3, 4, 0)),
-        ((WRITE, 1, 4, 10), None, 6, (3, 10, 0)),
-        ((WRITE, 1, 10, 1), None, ENOSPC, (3, 10, 0)),
-        ((WRITE, 1, 10, 0), None, 0, (3, 10, 0)),
-        ((WRITE, 2, 298, 5), None, 2, (3, 10, 2)),
-        ((WRITE, 2, 300, 1), None, EFAULT, (3, 10, 2)),
-        ((WRITE, 2, 0xffff_fff0, 17), None, EFAULT, (3, 10, 2)),
-        ((WRITE, 0, 0, 1), None, EBADF, (3, 10, 2)),
-        ((READ, 0, 100, 2), None, 2, (1, 10, 2)),
-        ((READ, 0, 300, 1), None, EFAULT, (1, 10, 2)),
-        ((READ, 0, 0xffff_fff0, 17), None, EFAULT, (1, 10, 2)),
-        ((READ, 0, 102, 9), None, 1, (0, 10, 2)),
-        ((READ, 0, 300, 9), None, 0, (0, 10, 2)),
-        ((WRITE, 2, 100, 3), None, 3, (0, 10, 5)),
-        ((BRK, 96, 0, 0), None, 96, (0, 10, 5)),
-        ((57, 3, 0, 0), None, EBADF, (0, 10, 5)),
-        ((80, 1, 0, 0), None, ENOSYS, (0, 10, 5)),
-        ((93, 0x107, 0, 0), Some(7), 0x107, (0, 10, 5)),
-    ] {
+    for &(request, end, answer, after) in &RECORDED {
         let seen = call(&mut recorder, &mut memory, request);
         let held = (recorder.output.len(), recorder.errors.len());
         let is_right = (recorder.input.len(), held.0, held.1) == after;
@@ -213,23 +224,27 @@ fn a_recorder_answers(rt: HostRuntime) -> Result<(), Fail> {
     Ok(())
 }
 
+const FAILS: Turn = Turn::Fails(ErrorKind::StorageFull);
+
+const WAITS: Turn = Turn::Fails(ErrorKind::Interrupted);
+
+/// Turns of the output, each with what three writes answer.
+static SHORT_WRITES: [(&[Turn], [u32; 3]); 7] = [
+    (&[], [300, 0, 0]),
+    (&[FAILS], [EIO, 300, 0]),
+    (&[FAILS, FAILS, FAILS], [EIO, EIO, EIO]),
+    (&[Turn::Takes(0), Turn::Takes(7), FAILS], [EIO, 7, EIO]),
+    (&[Turn::Takes(256), FAILS], [256, 44, 0]),
+    (&[Turn::Takes(256), Turn::Takes(1)], [257, 43, 0]),
+    (&[WAITS, Turn::Takes(256), WAITS], [300, 0, 0]),
+];
+
 // What a program is answered that writes the bytes at 0 to 299, and then each time those that are
 // not written yet: the stream is handed 256 of them at first, and then the others. In the end all
 // are written once, in order, unless it still fails.
 #[test]
 fn writes_that_are_short_or_fail(rt: HostRuntime) -> Result<(), Fail> {
-    let fails = Turn::Fails(ErrorKind::StorageFull);
-    let waits = Turn::Fails(ErrorKind::Interrupted);
-    let cases: [(&[Turn], [u32; 3]); 7] = [
-        (&[], [300, 0, 0]),
-        (&[fails], [EIO, 300, 0]),
-        (&[fails, fails, fails], [EIO, EIO, EIO]),
-        (&[Turn::Takes(0), Turn::Takes(7), fails], [EIO, 7, EIO]),
-        (&[Turn::Takes(256), fails], [256, 44, 0]),
-        (&[Turn::Takes(256), Turn::Takes(1)], [257, 43, 0]),
-        (&[waits, Turn::Takes(256), waits], [300, 0, 0]),
-    ];
-    for (index, (turns, answers)) in cases.iter().enumerate() {
+    for (index, (turns, answers)) in SHORT_WRITES.iter().enumerate() {
         let mut memory = numbered(rt.alloc())?;
         let mut linux = environment(rt.alloc(), &[], turns);
         for answer in answers {
@@ -242,34 +257,33 @@ fn writes_that_are_short_or_fail(rt: HostRuntime) -> Result<(), Fail> {
     Ok(())
 }
 
+/// Turns of an input that is short, interrupted and fails.
+static SHORT_READS: [Turn; 5] = [Turn::Takes(5), WAITS, Turn::Takes(20), FAILS, FAILS];
+
+/// Reads: an address, a count, and the answer.
+static READS: [(u32, u32, u32); 12] = [
+    (0, 0, 0),
+    (0, 10, 5),
+    (292, 40, 8),
+    (292, 40, 8),
+    (5, 1, 1),
+    (6, 40, 3),
+    (9, 40, EIO),
+    (9, 40, EIO),
+    (9, 40, 40),
+    (49, 300, 35),
+    (84, 300, 0),
+    (300, 1, 0),
+];
+
 // Reads one after the other, with what each answers: of an input that is short, interrupted and
 // fails, into buffers of which some are not writable. No byte is lost, and the input is read to its
 // end.
 #[test]
 fn no_byte_of_the_input_is_lost(rt: HostRuntime) -> Result<(), Fail> {
-    let turns = [
-        Turn::Takes(5),
-        Turn::Fails(ErrorKind::Interrupted),
-        Turn::Takes(20),
-        Turn::Fails(ErrorKind::StorageFull),
-        Turn::Fails(ErrorKind::StorageFull),
-    ];
     let mut memory = numbered(rt.alloc())?;
-    let mut linux = environment(rt.alloc(), &turns, &[]);
-    for (address, count, answer) in [
-        (0, 0, 0),
-        (0, 10, 5),
-        (292, 40, 8),
-        (292, 40, 8),
-        (5, 1, 1),
-        (6, 40, 3),
-        (9, 40, EIO),
-        (9, 40, EIO),
-        (9, 40, 40),
-        (49, 300, 35),
-        (84, 300, 0),
-        (300, 1, 0),
-    ] {
+    let mut linux = environment(rt.alloc(), &SHORT_READS, &[]);
+    for &(address, count, answer) in &READS {
         let seen = call(&mut linux, &mut memory, (READ, 0, address, count));
         assert!(rt; seen == (None, answer), "{count} bytes at {address}");
     }

@@ -23,10 +23,8 @@ const PROGRAM: [u32; 8] = [
 
 /// The program at 0, in 32 words.
 fn memory_of(alloc: Global) -> Result<VecMemory, AllocError> {
-    let mut words = vec![in alloc; 0; 32]?;
-    for (place, word) in words.iter_mut().zip(PROGRAM) {
-        *place = word;
-    }
+    let mut words = PROGRAM.to_vec(alloc)?;
+    words.resize(32, 0)?;
     Ok(VecMemory::new(words))
 }
 
@@ -52,18 +50,29 @@ fn accessed(alloc: Global, mem: MemoryAccess) -> Result<String, AllocError> {
     }
 }
 
+/// The register of a line, with the value that was written, or nothing.
+fn changed(alloc: Global, retired: &Retired) -> Result<String, AllocError> {
+    let (rd, value) = (retired.rd_addr, retired.rd_wdata);
+    if rd == 0 {
+        format!(in alloc; "")
+    } else {
+        format!(in alloc; " x{rd:<2} 0x{value:08x}")
+    }
+}
+
+/// The line of a step that executed a word.
+fn line_of(alloc: Global, retired: &Retired, word: u32) -> Result<String, AllocError> {
+    let pc = retired.pc_rdata;
+    let register = changed(alloc, retired)?;
+    let access = accessed(alloc, retired.mem)?;
+    format!(in alloc; "core   0: 3 0x{pc:08x} (0x{word:08x}){register}{access}\n")
+}
+
 /// The line of a step in a commit log: hart 0, in machine mode. A step that trapped has none.
 fn commit_line(alloc: Global, retired: &Retired) -> Result<String, AllocError> {
-    let word = match retired.insn {
-        Some(word) if !retired.trap => word,
-        _ => return format!(in alloc; ""),
-    };
-    let (pc, rd, value) = (retired.pc_rdata, retired.rd_addr, retired.rd_wdata);
-    let access = accessed(alloc, retired.mem)?;
-    if rd == 0 {
-        format!(in alloc; "core   0: 3 0x{pc:08x} (0x{word:08x}){access}\n")
-    } else {
-        format!(in alloc; "core   0: 3 0x{pc:08x} (0x{word:08x}) x{rd:<2} 0x{value:08x}{access}\n")
+    match retired.insn {
+        Some(word) if !retired.trap => line_of(alloc, retired, word),
+        _ => format!(in alloc; ""),
     }
 }
 
@@ -134,23 +143,29 @@ fn a_watchpoint_stops_after_each_write(rt: HostRuntime) -> Result<(), Fail> {
     Ok(())
 }
 
+/// Limits, each with the steps of the run to it, the pc after it, and why it stopped.
+static STOPPED: [(u64, u64, u32, StopReason); 5] = [
+    (9, 2, 0x08, StopReason::AtStop),
+    (0, 0, 0x08, StopReason::Limit),
+    (2, 2, 0x10, StopReason::AtStop),
+    (1, 1, 0x14, StopReason::Limit),
+    (
+        9,
+        2,
+        0x1c,
+        StopReason::Fault(InstructionException::IllegalInstruction(0x1c, 0)),
+    ),
+];
+
 // A run goes on from a stop, tells a stop at the limit, and ends at a fault or the limit else.
 #[test]
 fn a_run_stops_at_breakpoints(rt: HostRuntime) -> Result<(), Fail> {
     let mut memory = memory_of(rt.alloc())?;
     let mut hart = hart_of(0, &[]);
     let stops = [0x10, 0, 0x08];
-    let fault = StopReason::Fault(InstructionException::IllegalInstruction(0x1c, 0));
-    let cases = [
-        (9, 2, 0x08, StopReason::AtStop),
-        (0, 0, 0x08, StopReason::Limit),
-        (2, 2, 0x10, StopReason::AtStop),
-        (1, 1, 0x14, StopReason::Limit),
-        (9, 2, 0x1c, fault),
-    ];
-    for (limit, steps, pc, reason) in cases {
-        let end = stopped(&mut memory, &mut hart, limit, &stops);
-        assert_eq!(rt; (end, hart.pc), (StopEnd { steps, reason }, pc));
+    for (limit, steps, pc, reason) in &STOPPED {
+        let end = stopped(&mut memory, &mut hart, *limit, &stops);
+        assert_eq!(rt; (end.steps, &end.reason, hart.pc), (*steps, reason, *pc));
     }
     Ok(())
 }
