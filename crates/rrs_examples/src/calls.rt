@@ -27,6 +27,31 @@ fn read_buffer<M: Memory>(
     Ok(true)
 }
 
+/// Serves the call that the program makes, and returns the status of an `exit`.
+fn serve_call<M: Memory>(
+    executor: &mut InstructionExecutor<M>,
+    written: &mut Vec<u8>,
+) -> Result<Option<u32>, Fail> {
+    let answer = match executor.hart_state.read_register(17) {
+        93 => return Ok(Some(executor.hart_state.read_register(10))),
+        64 => write_buffer(executor, written)?,
+        _ => NO_SUCH_CALL,
+    };
+    executor.hart_state.write_register(10, answer);
+    Ok(None)
+}
+
+/// Serves a `write`, and returns its answer.
+fn write_buffer<M: Memory>(
+    executor: &mut InstructionExecutor<M>,
+    written: &mut Vec<u8>,
+) -> Result<u32, Fail> {
+    let address = executor.hart_state.read_register(11);
+    let length = executor.hart_state.read_register(12);
+    let whole = read_buffer(executor.mem, address, length, written)?;
+    Ok(if whole { length } else { BAD_ADDRESS })
+}
+
 /// Runs a program up to its `exit`, and returns the status, or `None` where a fault or the limit
 /// ended it. What it writes is appended.
 fn run_calls<M: Memory>(
@@ -38,42 +63,34 @@ fn run_calls<M: Memory>(
         let Some(InstructionException::EnvironmentCall(pc)) = executor.run(limit).exception else {
             return Ok(None);
         };
-        let call = executor.hart_state.read_register(17);
-        if call == 93 {
-            return Ok(Some(executor.hart_state.read_register(10)));
+        let status = serve_call(executor, written)?;
+        if status.is_some() {
+            return Ok(status);
         }
-        let mut answer = NO_SUCH_CALL;
-        if call == 64 {
-            let address = executor.hart_state.read_register(11);
-            let length = executor.hart_state.read_register(12);
-            let whole = read_buffer(executor.mem, address, length, written)?;
-            answer = if whole { length } else { BAD_ADDRESS };
-        }
-        executor.hart_state.write_register(10, answer);
         executor.hart_state.pc = pc.wrapping_add(4);
     }
     Ok(None)
 }
 
-// The program writes a text of three bytes, and exits with 7.
+/// A program that writes a text of three bytes, and exits with 7.
+static WORDS: [u32; 9] = [
+    0x0400_0893, // addi x17, x0, 64
+    0x0200_0593, // addi x11, x0, 32
+    0x0030_0613, // addi x12, x0, 3
+    0x0000_0073, // ecall
+    0x05d0_0893, // addi x17, x0, 93
+    0x0070_0513, // addi x10, x0, 7
+    0x0000_0073, // ecall
+    0,
+    0x000a_6b6f, // "ok\n"
+];
+
 #[test]
 fn a_buffer_is_read(rt: HostRuntime) -> Result<(), Fail> {
-    let words = [
-        0x0400_0893, // addi x17, x0, 64
-        0x0200_0593, // addi x11, x0, 32
-        0x0030_0613, // addi x12, x0, 3
-        0x0000_0073, // ecall
-        0x05d0_0893, // addi x17, x0, 93
-        0x0070_0513, // addi x10, x0, 7
-        0x0000_0073, // ecall
-        0,
-        0x000a_6b6f, // "ok\n"
-    ];
-    let mut memory = VecMemory::new(words.to_vec(rt.alloc())?);
-    let mut hart = HartState::new();
+    let mut memory = VecMemory::new(WORDS.to_vec(rt.alloc())?);
     let mut executor = InstructionExecutor {
         mem: &mut memory,
-        hart_state: &mut hart,
+        hart_state: &mut HartState::new(),
     };
     let mut written = Vec::new(rt.alloc());
     let status = run_calls(&mut executor, 100, &mut written)?;
