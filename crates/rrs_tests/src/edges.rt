@@ -52,24 +52,27 @@ fn calls_of(alloc: Global, word: u32, pc: u32) -> Result<u32, AllocError> {
     Ok(memory.calls)
 }
 
+/// Words, each with the pc before it, and how often its step touches the memory.
+static ACCESSES: [(u32, u32, u32); 12] = [
+    (0x0000_0013, 1, 0),
+    (0x0000_0013, 2, 0),
+    (0x0000_0013, 0xffff_fffd, 0),
+    (0x0020_2083, 0, 1), // lw x1, 2(x0)
+    (0x0010_1083, 0, 1), // lh x1, 1(x0)
+    (0x0010_2123, 0, 1), // sw x1, 2(x0)
+    (0x0010_10a3, 0, 1), // sh x1, 1(x0)
+    (0x0000_2083, 0, 2), // lw x1, 0(x0)
+    (0x0010_2023, 0, 2), // sw x1, 0(x0)
+    (0x0000_0013, 0, 1), // addi x0, x0, 0
+    (0x0000_0073, 0, 1), // ecall
+    (0x0000_1073, 0, 1), // no row
+];
+
 /// There is no read where the pc is not aligned. A load or a store whose address is not aligned
 /// makes none but the fetch.
 #[test]
 fn no_access_where_the_address_is_not_aligned(rt: HostRuntime) -> Result<(), Fail> {
-    for (word, pc, calls) in [
-        (0x0000_0013, 1, 0),
-        (0x0000_0013, 2, 0),
-        (0x0000_0013, 0xffff_fffd, 0),
-        (0x0020_2083, 0, 1), // lw x1, 2(x0)
-        (0x0010_1083, 0, 1), // lh x1, 1(x0)
-        (0x0010_2123, 0, 1), // sw x1, 2(x0)
-        (0x0010_10a3, 0, 1), // sh x1, 1(x0)
-        (0x0000_2083, 0, 2), // lw x1, 0(x0)
-        (0x0010_2023, 0, 2), // sw x1, 0(x0)
-        (0x0000_0013, 0, 1), // addi x0, x0, 0
-        (0x0000_0073, 0, 1), // ecall
-        (0x0000_1073, 0, 1), // no row
-    ] {
+    for &(word, pc, calls) in &ACCESSES {
         let made = calls_of(rt.alloc(), word, pc)?;
         same_word_at(&rt, word, Some(made), Some(calls));
     }

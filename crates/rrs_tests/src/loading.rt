@@ -89,17 +89,23 @@ fn same_load(
 
 const LOADED: &str = "loaded";
 
+const REFUSED: &str = "Could not write byte at address 0x00000004";
+
+const PAST: &str = "Could not write byte past address 0xffffffff";
+
+/// Bytes, an address, and the words before; what is said, how many bytes are taken, and the words
+/// after it.
+static IN_ORDER: [(&[u8], u32, &[u32], &str, usize, &[u32]); 3] = [
+    (&[0xaa, 0xbb], 3, &[0, 0], LOADED, 2, &[0xaa00_0000, 0xbb]),
+    (&[1, 2, 3, 4, 5, 6], 0, &[0], REFUSED, 5, &[0x0403_0201]),
+    (&[], u32::MAX, &[], LOADED, 0, &[]),
+];
+
 /// Bytes to an address of a memory of these words, and the words after it. The first is the example
 /// of `read_to_memory`.
 #[test]
 fn loads_bytes_in_order(rt: HostRuntime) -> Result<(), Fail> {
-    let refused = "Could not write byte at address 0x00000004";
-    let cases: [(&[u8], u32, &[u32], &str, usize, &[u32]); 3] = [
-        (&[0xaa, 0xbb], 3, &[0, 0], LOADED, 2, &[0xaa00_0000, 0xbb]),
-        (&[1, 2, 3, 4, 5, 6], 0, &[0], refused, 5, &[0x0403_0201]),
-        (&[], u32::MAX, &[], LOADED, 0, &[]),
-    ];
-    for (bytes, addr, before, said, taken, words) in cases {
+    for &(bytes, addr, before, said, taken, words) in &IN_ORDER {
         let mut memory = memory_of(rt.alloc(), before)?;
         let mut reader = reader_of(bytes);
         let (text, given) = load(rt.alloc(), &mut reader, &mut memory, addr)?;
@@ -109,66 +115,79 @@ fn loads_bytes_in_order(rt: HostRuntime) -> Result<(), Fail> {
     Ok(())
 }
 
+/// The words that are read before the read of each of the bytes 1 to 8, and behind them.
+static READ_BEFORE: [[u32; 2]; 9] = [
+    [0, 0],
+    [0x01, 0],
+    [0x0201, 0],
+    [0x03_0201, 0],
+    [0x0403_0201, 0],
+    [0x0403_0201, 0x05],
+    [0x0403_0201, 0x0605],
+    [0x0403_0201, 0x07_0605],
+    [0x0403_0201, 0x0807_0605],
+];
+
+/// Asserts that a read of this kind that fails before a byte is told, and leaves these words.
+fn is_told(
+    rt: &impl Abort,
+    alloc: Global,
+    kind: io::ErrorKind,
+    fails_at: usize,
+    words: &[u32],
+) -> Result<(), AllocError> {
+    let mut memory = memory_of(alloc, &[0, 0])?;
+    let mut reader = reader_of(&[1, 2, 3, 4, 5, 6, 7, 8]);
+    reader.fails_at = fails_at;
+    reader.kind = kind;
+    let (text, taken) = load(alloc, &mut reader, &mut memory, 0)?;
+    let seen = (text.as_str(), taken, memory.mem.as_slice());
+    same_load(rt, fails_at, seen, ("Could not read byte", fails_at, words));
+    Ok(())
+}
+
 /// Before each of the bytes 1 to 8 in turn, and behind them, a read fails once. No byte is taken
 /// after the failure.
 #[test]
 fn tells_a_failing_read(rt: HostRuntime) -> Result<(), Fail> {
-    let read_before = [
-        [0, 0],
-        [0x01, 0],
-        [0x0201, 0],
-        [0x03_0201, 0],
-        [0x0403_0201, 0],
-        [0x0403_0201, 0x05],
-        [0x0403_0201, 0x0605],
-        [0x0403_0201, 0x07_0605],
-        [0x0403_0201, 0x0807_0605],
-    ];
     for kind in [io::ErrorKind::BrokenPipe, io::ErrorKind::Interrupted] {
-        for (fails_at, words) in read_before.iter().enumerate() {
-            let mut memory = memory_of(rt.alloc(), &[0, 0])?;
-            let mut reader = reader_of(&[1, 2, 3, 4, 5, 6, 7, 8]);
-            reader.fails_at = fails_at;
-            reader.kind = kind;
-            let (text, taken) = load(rt.alloc(), &mut reader, &mut memory, 0)?;
-            let seen = (text.as_str(), taken, memory.mem.as_slice());
-            let expected = ("Could not read byte", fails_at, words.as_slice());
-            same_load(&rt, fails_at, seen, expected);
+        for (fails_at, words) in READ_BEFORE.iter().enumerate() {
+            is_told(&rt, rt.alloc(), kind, fails_at, words)?;
         }
     }
     Ok(())
 }
 
+/// Regions and bytes; what is said, how many bytes are taken, and where the last word is.
+static ENDS: [(&[(u32, u32, &[u32])], &[u8], &str, usize, u32); 3] = [
+    (
+        &[(0xffff_fffc, 4, &[0])],
+        &[1, 2, 3, 4],
+        LOADED,
+        4,
+        0xffff_fffc,
+    ),
+    (
+        &[(0xffff_fffc, 4, &[0])],
+        &[1, 2, 3, 4, 5],
+        PAST,
+        5,
+        0xffff_fffc,
+    ),
+    (
+        &[(0, 4, &[0]), (8, 4, &[0])],
+        &[1, 2, 3, 4, 5, 6],
+        REFUSED,
+        5,
+        0,
+    ),
+];
+
 /// Bytes to an address of a space, and the last byte that it took: up to the last address, one byte
 /// more, and into a gap between two regions.
 #[test]
 fn stops_where_regions_or_addresses_end(rt: HostRuntime) -> Result<(), Fail> {
-    let past = "Could not write byte past address 0xffffffff";
-    let refused = "Could not write byte at address 0x00000004";
-    let cases: [(&[(u32, u32, &[u32])], &[u8], &str, usize, u32); 3] = [
-        (
-            &[(0xffff_fffc, 4, &[0])],
-            &[1, 2, 3, 4],
-            LOADED,
-            4,
-            0xffff_fffc,
-        ),
-        (
-            &[(0xffff_fffc, 4, &[0])],
-            &[1, 2, 3, 4, 5],
-            past,
-            5,
-            0xffff_fffc,
-        ),
-        (
-            &[(0, 4, &[0]), (8, 4, &[0])],
-            &[1, 2, 3, 4, 5, 6],
-            refused,
-            5,
-            0,
-        ),
-    ];
-    for (regions, bytes, said, taken, addr) in cases {
+    for &(regions, bytes, said, taken, addr) in &ENDS {
         let mut space = space_of(rt.alloc(), regions)?;
         let mut reader = reader_of(bytes);
         let (text, given) = load(rt.alloc(), &mut reader, &mut space, addr)?;

@@ -1,7 +1,10 @@
 //! What the tests share: memories, harts and their steps, and the comparison of what is seen.
 
+ghost use Rattle.std.specs.Prelude.{◌≡◌, ◌%◌};
+ghost use Rattle.rrs_lib.specs.Bytes.{width};
+
 use rrs_lib::instruction_executor::{InstructionException, InstructionExecutor, RunEnd};
-use rrs_lib::memories::{MemorySpace, VecMemory};
+use rrs_lib::memories::{MemorySpace, MemorySpaceError, VecMemory};
 use rrs_lib::{HartState, MemAccessSize, Memory};
 use std::alloc::{AllocError, Global};
 use std::process::Abort;
@@ -20,20 +23,52 @@ pub(crate) fn space_of(
 ) -> Result<MemorySpace<VecMemory>, Fail> {
     let mut space = MemorySpace::new(alloc);
     for (index, (base, size, words)) in regions.iter().enumerate() {
-        let memory = memory_of(alloc, words)?;
-        let answer = space.add_memory(*base, *size, memory);
-        if answer != Ok(index) {
-            return Err(Fail::new(format_args!(
-                "region {index} at {base:#x}, of {size} bytes: {answer:?}"
-            )));
-        }
+        let answer = add_region(&mut space, *base, *size, memory_of(alloc, words)?);
+        same_answer_at(*base, *size, &answer, &Ok(index))?;
     }
     Ok(space)
+}
+
+/// Adds a region to a space.
+pub(crate) fn add_region<M: Memory + Drop>(
+    space: &mut MemorySpace<M>,
+    base: u32,
+    size: u32,
+    memory: M,
+) -> Result<usize, MemorySpaceError> {
+    space.add_memory(base, size, memory)
+}
+
+/// Fails where the answer to a region is not the one that is expected.
+pub(crate) fn same_answer_at(
+    base: u32,
+    size: u32,
+    answer: &Result<usize, MemorySpaceError>,
+    expected: &Result<usize, MemorySpaceError>,
+) -> Result<(), Fail> {
+    if answer != expected {
+        return Err(Fail::new(format_args!(
+            "a region at {base:#x}, of {size} bytes: {answer:?}, and not {expected:?}"
+        )));
+    }
+    Ok(())
 }
 
 /// The word of the four bytes of which this address is one.
 pub(crate) fn word_at<M: Memory>(memory: &mut M, addr: u32) -> Option<u32> {
     memory.read_mem(addr - addr % 4, MemAccessSize::Word)
+}
+
+/// Writes to an address, which is a multiple of the size, and returns whether this was granted.
+pub(crate) fn write_at<M: Memory>(
+    memory: &mut M,
+    addr: u32,
+    size: MemAccessSize,
+    value: u32,
+) -> bool
+    requires { addr % width size ≡ 0 }
+{
+    memory.write_mem(addr, size, value)
 }
 
 /// What is seen of a machine after some steps: how they ended, the pc, the entries of the

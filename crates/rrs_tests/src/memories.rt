@@ -1,6 +1,6 @@
 //! What a memory of words answers.
 
-use crate::machines::{memory_of, word_at};
+use crate::machines::{memory_of, word_at, write_at};
 use rrs_lib::{MemAccessSize, Memory};
 use std::test::Fail;
 
@@ -38,10 +38,10 @@ fn empty_has_no_byte(rt: HostRuntime) -> Result<(), Fail> {
 fn writes(rt: HostRuntime) -> Result<(), Fail> {
     let mut memory = memory_of(rt.alloc(), &[0x4433_2211, 0x8877_6655])?;
     let written = [
-        memory.write_mem(2, MemAccessSize::HalfWord, 0xaaaa_bbcc),
-        memory.write_mem(1, MemAccessSize::Byte, 0x1ff),
-        memory.write_mem(4, MemAccessSize::Word, 0x0102_0304),
-        memory.write_mem(8, MemAccessSize::Word, 5),
+        write_at(&mut memory, 2, MemAccessSize::HalfWord, 0xaaaa_bbcc),
+        write_at(&mut memory, 1, MemAccessSize::Byte, 0x1ff),
+        write_at(&mut memory, 4, MemAccessSize::Word, 0x0102_0304),
+        write_at(&mut memory, 8, MemAccessSize::Word, 5),
     ];
     let words = [0xbbcc_ff11, 0x0102_0304];
     assert!(rt; written == [true, true, true, false] && memory.mem.as_slice() == words.as_slice());

@@ -1,11 +1,12 @@
 //! What spaces of regions answer at chosen addresses.
 
 use crate::machines::{
-    ended, hart_of, left, memory_of, same_at, same_word_at, space_of, step_over, word_at,
+    add_region, ended, hart_of, left, memory_of, same_answer_at, same_at, same_word_at, space_of,
+    step_over, word_at, write_at,
 };
 use rrs_lib::memories::{BoxedMemory, MemorySpace, MemorySpaceError, VecMemory};
 use rrs_lib::{MemAccessSize, Memory};
-use std::alloc::Global;
+use std::alloc::{AllocError, Global};
 use std::process::Abort;
 use std::test::Fail;
 
@@ -16,44 +17,57 @@ fn add_in_turn(
 ) -> Result<(), Fail> {
     let mut space = MemorySpace::new(alloc);
     for (base, size, expected) in cases {
-        let memory = memory_of(alloc, &[])?;
-        let answer = space.add_memory(*base, *size, memory);
-        if answer != *expected {
-            return Err(Fail::new(format_args!(
-                "{base:#x}, {size}: {answer:?}, and not {expected:?}"
-            )));
-        }
+        let answer = add_region(&mut space, *base, *size, memory_of(alloc, &[])?);
+        same_answer_at(*base, *size, &answer, expected)?;
     }
     Ok(())
 }
 
+/// Regions, each with what its addition answers.
+static IN_TURN: [(u32, u32, Result<usize, MemorySpaceError>); 9] = [
+    (0x100, 8, Ok(0)),
+    (0x104, 4, Err(MemorySpaceError::RegionOverlap)),
+    (0x10a, 4, Err(MemorySpaceError::Unaligned)),
+    (0x108, 6, Err(MemorySpaceError::Unaligned)),
+    (0x104, 0, Err(MemorySpaceError::RegionOverlap)),
+    (0x108, 4, Ok(1)),
+    (0x100, 0, Ok(2)),
+    (0x304, 0, Ok(3)),
+    (0x300, 0x10, Err(MemorySpaceError::RegionOverlap)),
+];
+
 // The first two are the example of `add_memory`.
 #[test]
 fn regions_are_accepted_in_turn(rt: HostRuntime) -> Result<(), Fail> {
-    let cases = [
-        (0x100, 8, Ok(0)),
-        (0x104, 4, Err(MemorySpaceError::RegionOverlap)),
-        (0x10a, 4, Err(MemorySpaceError::Unaligned)),
-        (0x108, 6, Err(MemorySpaceError::Unaligned)),
-        (0x104, 0, Err(MemorySpaceError::RegionOverlap)),
-        (0x108, 4, Ok(1)),
-        (0x100, 0, Ok(2)),
-        (0x304, 0, Ok(3)),
-        (0x300, 0x10, Err(MemorySpaceError::RegionOverlap)),
-    ];
-    add_in_turn(rt.alloc(), &cases)
+    add_in_turn(rt.alloc(), &IN_TURN)
 }
+
+/// Regions, each with what its addition answers.
+static AT_THE_END: [(u32, u32, Result<usize, MemorySpaceError>); 4] = [
+    (0xffff_fffc, 0xffff_fffc, Ok(0)),
+    (0, 4, Ok(1)),
+    (0xffff_fffc, 0, Ok(2)),
+    (0xffff_fffc, 4, Err(MemorySpaceError::RegionOverlap)),
+];
 
 // Regions at the last address, and past it.
 #[test]
 fn regions_at_the_end_of_the_addresses(rt: HostRuntime) -> Result<(), Fail> {
-    let cases = [
-        (0xffff_fffc, 0xffff_fffc, Ok(0)),
-        (0, 4, Ok(1)),
-        (0xffff_fffc, 0, Ok(2)),
-        (0xffff_fffc, 4, Err(MemorySpaceError::RegionOverlap)),
-    ];
-    add_in_turn(rt.alloc(), &cases)
+    add_in_turn(rt.alloc(), &AT_THE_END)
+}
+
+/// Adds a region of 8 bytes at a base.
+fn add_at(
+    space: &mut MemorySpace<VecMemory>,
+    alloc: Global,
+    base: u32,
+) -> Result<usize, MemorySpaceError> {
+    add_region(space, base, 8, VecMemory::new(Vec::new(alloc)))
+}
+
+/// Whether there is a region of this index.
+fn has_region(space: &MemorySpace<VecMemory>, index: usize) -> bool {
+    space.get_memory_ref(index).is_some()
 }
 
 /// Adds a region at a base, and again where there was no memory: what the calls answered, and
@@ -64,13 +78,26 @@ fn added_at_last(
     index: usize,
     base: u32,
 ) -> (Result<usize, MemorySpaceError>, bool) {
-    let added = space.add_memory(base, 8, VecMemory::new(Vec::new(alloc)));
+    let added = add_at(space, alloc, base);
     if added == Err(MemorySpaceError::OutOfMemory) {
-        let was_there = space.get_memory_ref(index).is_some();
-        let again = space.add_memory(base, 8, VecMemory::new(Vec::new(alloc)));
-        return (again, was_there);
+        let was_there = has_region(space, index);
+        return (add_at(space, alloc, base), was_there);
     }
     (added, false)
+}
+
+/// The bases of regions of 8 bytes, none of which overlap.
+static BASES: [u32; 6] = [0x300, 0x100, 0x500, 0x200, 0, 0x400];
+
+/// Whether the region of a base is added with this index, and one that is not aligned and one that
+/// overlaps it are refused.
+fn is_added(space: &mut MemorySpace<VecMemory>, alloc: Global, index: usize, base: u32) -> bool {
+    let unaligned = add_at(space, alloc, base | 2);
+    let added = added_at_last(space, alloc, index, base);
+    let overlap = add_at(space, alloc, base | 4);
+    unaligned == Err(MemorySpaceError::Unaligned)
+        && added == (Ok(index), false)
+        && overlap == Err(MemorySpaceError::RegionOverlap)
 }
 
 /// Whichever allocation fails, the space is as before, and the same call then gives the index. A
@@ -78,76 +105,71 @@ fn added_at_last(
 /// these calls counts as an access.
 #[test]
 fn a_refused_region_may_be_added_again(rt: HostRuntime) -> Result<(), Fail> {
-    let alloc = rt.alloc();
-    let mut space = MemorySpace::new(alloc);
-    for (index, base) in [0x300, 0x100, 0x500, 0x200, 0, 0x400]
-        .into_iter()
-        .enumerate()
-    {
-        let unaligned = space.add_memory(base | 2, 8, VecMemory::new(Vec::new(alloc)));
-        let added = added_at_last(&mut space, alloc, index, base);
-        let overlap = space.add_memory(base | 4, 8, VecMemory::new(Vec::new(alloc)));
-        assert!(rt;
-            unaligned == Err(MemorySpaceError::Unaligned)
-                && added == (Ok(index), false)
-                && overlap == Err(MemorySpaceError::RegionOverlap)
-                && space.get_memory_ref(index).is_some()
-                && space.regions_looked_at() == 0
-        );
+    let mut space = MemorySpace::new(rt.alloc());
+    for (index, base) in BASES.iter().enumerate() {
+        let is_added = is_added(&mut space, rt.alloc(), index, *base);
+        assert!(rt; is_added && has_region(&space, index) && space.regions_looked_at() == 0);
     }
     Ok(())
 }
+
+/// Asserts which words stand at some addresses.
+fn same_words(rt: &impl Abort, space: &mut MemorySpace<VecMemory>, words: &[(u32, Option<u32>)]) {
+    for &(addr, word) in words {
+        same_word_at(rt, addr, word_at(space, addr), word);
+    }
+}
+
+/// Spaces, each with addresses and the words that stand there.
+static REGIONS: [(&[(u32, u32, &[u32])], [(u32, Option<u32>); 4]); 4] = [
+    (
+        &[(0x100, 8, &[5]), (0x200, 4, &[1, 2])],
+        [
+            (0x100, Some(5)),
+            (0x104, None),
+            (0x200, Some(1)),
+            (0x204, None),
+        ],
+    ),
+    (
+        &[(0xffff_fffc, 8, &[7, 8])],
+        [
+            (0xffff_fffc, Some(7)),
+            (0, None),
+            (4, None),
+            (0xffff_fff8, None),
+        ],
+    ),
+    (
+        &[(0x100, 0, &[1]), (0x100, 0x10, &[2]), (0x200, 0, &[3])],
+        [(0xfc, None), (0x100, Some(2)), (0x104, None), (0x200, None)],
+    ),
+    (
+        &[(0x100, 0x10, &[1]), (0x100, 0, &[2]), (0x200, 0, &[3])],
+        [(0xfc, None), (0x100, Some(1)), (0x104, None), (0x200, None)],
+    ),
+];
 
 /// The words at some addresses of a space of two regions, which are longer and shorter than their
 /// memories; of one that passes the last address; and of one with empty regions, before and behind
 /// one that is not.
 #[test]
 fn each_region_has_its_memory(rt: HostRuntime) -> Result<(), Fail> {
-    let cases: [(&[(u32, u32, &[u32])], [(u32, Option<u32>); 4]); 4] = [
-        (
-            &[(0x100, 8, &[5]), (0x200, 4, &[1, 2])],
-            [
-                (0x100, Some(5)),
-                (0x104, None),
-                (0x200, Some(1)),
-                (0x204, None),
-            ],
-        ),
-        (
-            &[(0xffff_fffc, 8, &[7, 8])],
-            [
-                (0xffff_fffc, Some(7)),
-                (0, None),
-                (4, None),
-                (0xffff_fff8, None),
-            ],
-        ),
-        (
-            &[(0x100, 0, &[1]), (0x100, 0x10, &[2]), (0x200, 0, &[3])],
-            [(0xfc, None), (0x100, Some(2)), (0x104, None), (0x200, None)],
-        ),
-        (
-            &[(0x100, 0x10, &[1]), (0x100, 0, &[2]), (0x200, 0, &[3])],
-            [(0xfc, None), (0x100, Some(1)), (0x104, None), (0x200, None)],
-        ),
-    ];
-    for (regions, words) in cases {
+    for (regions, words) in &REGIONS {
         let mut space = space_of(rt.alloc(), regions)?;
-        for (addr, word) in words {
-            same_word_at(&rt, addr, word_at(&mut space, addr), word);
-        }
+        same_words(&rt, &mut space, words);
     }
     Ok(())
 }
 
-/// The first word of a memory that was lent, where there is one.
-fn first_word(memory: Option<&VecMemory>) -> Option<u32> {
-    memory?.mem.first().copied()
+/// The first word of the memory that is lent by its index, where there is one.
+fn first_word(space: &MemorySpace<VecMemory>, index: usize) -> Option<u32> {
+    space.get_memory_ref(index)?.mem.first().copied()
 }
 
-/// Fills a memory that was lent with a word, and returns whether there is one.
-fn fill(memory: Option<&mut VecMemory>, word: u32) -> bool {
-    match memory {
+/// Fills the memory that is lent by its index with a word, and returns whether there is one.
+fn fill(space: &mut MemorySpace<VecMemory>, index: usize, word: u32) -> bool {
+    match space.get_memory_mut(index) {
         Some(memory) => {
             memory.mem.fill(word);
             true
@@ -159,14 +181,11 @@ fn fill(memory: Option<&mut VecMemory>, word: u32) -> bool {
 #[test]
 fn lends_each_memory(rt: HostRuntime) -> Result<(), Fail> {
     let mut space = space_of(rt.alloc(), &[(0x100, 4, &[1]), (0x200, 4, &[2])])?;
-    let written = [
-        fill(space.get_memory_mut(1), 9),
-        fill(space.get_memory_mut(2), 9),
-    ];
+    let written = [fill(&mut space, 1, 9), fill(&mut space, 2, 9)];
     let lent = [
-        first_word(space.get_memory_ref(0)),
-        first_word(space.get_memory_ref(1)),
-        first_word(space.get_memory_ref(2)),
+        first_word(&space, 0),
+        first_word(&space, 1),
+        first_word(&space, 2),
     ];
     assert!(rt; written == [true, false] && lent == [Some(1), Some(9), None]);
     Ok(())
@@ -176,40 +195,59 @@ fn lends_each_memory(rt: HostRuntime) -> Result<(), Fail> {
 fn writes_go_to_one_region(rt: HostRuntime) -> Result<(), Fail> {
     let mut space = space_of(rt.alloc(), &[(0x100, 8, &[1]), (0x108, 4, &[2, 3])])?;
     let written = [
-        space.write_mem(0x109, MemAccessSize::Byte, 0x1ff),
-        space.write_mem(0x104, MemAccessSize::Word, 7),
-        space.write_mem(0x10c, MemAccessSize::Word, 7),
+        write_at(&mut space, 0x109, MemAccessSize::Byte, 0x1ff),
+        write_at(&mut space, 0x104, MemAccessSize::Word, 7),
+        write_at(&mut space, 0x10c, MemAccessSize::Word, 7),
     ];
     let words = [word_at(&mut space, 0x100), word_at(&mut space, 0x108)];
     assert!(rt; written == [true, false, false] && words == [Some(1), Some(0xff02)]);
     Ok(())
 }
 
-// A word that is executed, addi x1, x0, 5, and a space, each behind a box.
+/// A memory of the word addi x1, x0, 5, behind a box.
+fn boxed_word(alloc: Global) -> Result<BoxedMemory, AllocError> {
+    let memory = Box::new(alloc, memory_of(alloc, &[0x0050_0093])?)?;
+    Ok(BoxedMemory { memory })
+}
+
+/// A space of one region, behind a box.
+fn boxed_space(alloc: Global) -> Result<BoxedMemory, Fail> {
+    let memory = Box::new(alloc, space_of(alloc, &[(4, 4, &[9])])?)?;
+    Ok(BoxedMemory { memory })
+}
+
+/// A space of a word that is executed, and of a space, each behind a box.
+fn boxed_memories(alloc: Global) -> Result<MemorySpace<BoxedMemory>, Fail> {
+    let mut space = MemorySpace::new(alloc);
+    let program = boxed_word(alloc)?;
+    let added = add_region(&mut space, 0, 4, program);
+    same_answer_at(0, 4, &added, &Ok(0))?;
+    let inner = boxed_space(alloc)?;
+    let added = add_region(&mut space, 0x1000, 8, inner);
+    same_answer_at(0x1000, 8, &added, &Ok(1))?;
+    Ok(space)
+}
+
 #[test]
 fn memories_of_two_types(rt: HostRuntime) -> Result<(), Fail> {
-    let program = BoxedMemory {
-        memory: Box::new(rt.alloc(), memory_of(rt.alloc(), &[0x0050_0093])?)?,
-    };
-    let inner = BoxedMemory {
-        memory: Box::new(rt.alloc(), space_of(rt.alloc(), &[(4, 4, &[9])])?)?,
-    };
-    let mut space = MemorySpace::new(rt.alloc());
-    let added = [
-        space.add_memory(0, 4, program),
-        space.add_memory(0x1000, 8, inner),
-    ];
-    let words = [word_at(&mut space, 0x1004), word_at(&mut space, 0x1000)];
-    assert!(rt; added == [Ok(0), Ok(1)] && words == [Some(9), None]);
+    let mut space = boxed_memories(rt.alloc())?;
+    same_word_at(&rt, 0x1004, word_at(&mut space, 0x1004), Some(9));
+    same_word_at(&rt, 0x1000, word_at(&mut space, 0x1000), None);
     let seen = step_over(&mut space, hart_of(0, &[]));
     same_at(&rt, 0, seen, left(ended(1, None), 4, &[(1, 5)], Some(1)));
     Ok(())
 }
 
+/// Words, each with the pc and the last written register after it.
+static LAST_WORDS: [(u32, u32, Option<usize>); 2] = [
+    (0x0000_0013, 0, None),
+    (0x0080_00ef, 4, Some(1)),
+];
+
 // addi x0, x0, 0, and jal x1, 8.
 #[test]
 fn steps_at_the_last_address(rt: HostRuntime) -> Result<(), Fail> {
-    for (word, pc, last) in [(0x0000_0013, 0, None), (0x0080_00ef, 4, Some(1))] {
+    for &(word, pc, last) in &LAST_WORDS {
         let mut space = space_of(rt.alloc(), &[(0xffff_fffc, 4, &[word])])?;
         let seen = step_over(&mut space, hart_of(0xffff_fffc, &[]));
         same_at(&rt, word, seen, left(ended(1, None), pc, &[], last));
@@ -239,22 +277,25 @@ fn same_read(
     );
 }
 
+/// Addresses, each with its word, and how many regions are compared.
+static COMPARED: [(u32, Option<u32>, u64); 8] = [
+    (0x100, Some(1), 1),
+    (0x100, Some(1), 1),
+    (0x200, Some(2), 3),
+    (0x100, Some(1), 1),
+    (0x200, Some(2), 3),
+    (0x200, Some(2), 3),
+    (0x200, Some(2), 1),
+    (0x300, None, 3),
+];
+
 /// Two regions, and how many regions each access compares: the one that is compared first, and
 /// those of a search. A region is compared first once it was found by the second of two searches in
 /// a row.
 #[test]
 fn a_region_that_served_is_compared_first(rt: HostRuntime) -> Result<(), Fail> {
     let mut space = space_of(rt.alloc(), &[(0x100, 4, &[1]), (0x200, 4, &[2])])?;
-    for (addr, word, compared) in [
-        (0x100, Some(1), 1),
-        (0x100, Some(1), 1),
-        (0x200, Some(2), 3),
-        (0x100, Some(1), 1),
-        (0x200, Some(2), 3),
-        (0x200, Some(2), 3),
-        (0x200, Some(2), 1),
-        (0x300, None, 3),
-    ] {
+    for &(addr, word, compared) in &COMPARED {
         let seen = compared_at(&mut space, addr);
         same_read(&rt, addr, seen, word, compared, compared);
     }
@@ -268,10 +309,8 @@ fn thousand_regions(alloc: Global) -> Result<MemorySpace<VecMemory>, Fail> {
     for index in 0..1000 {
         let base = (index * 367 + 101) % 1000 * 32;
         let words = [index, index + 1000, index + 2000, index + 3000];
-        let answer = space.add_memory(base, 16, memory_of(alloc, &words)?);
-        if answer != Ok(index as usize) {
-            return Err(Fail::new(format_args!("{base:#x}: {answer:?}")));
-        }
+        let answer = add_region(&mut space, base, 16, memory_of(alloc, &words)?);
+        same_answer_at(base, 16, &answer, &Ok(index as usize))?;
     }
     Ok(space)
 }
