@@ -214,7 +214,7 @@ fn perform<'a>(
 {
     let here = reading.here(base);
     match read {
-        Read::LocalLabel(digit) => Ok(symbols.define_local(digit, here)?),
+        Read::LocalLabel(digit) => symbols.define_local(digit, here),
         Read::Label(name) => define(name, here, true, start, symbols),
         Read::Directive(Directive::Set(name, value)) => define(name, value, false, start, symbols),
         Read::Directive(Directive::Nothing) => Ok(()),

@@ -8,7 +8,7 @@ use crate::names::{DirectiveForm, PlacedForm, directive_named};
 use crate::output::MOST_BYTES;
 use crate::reading::Line;
 use crate::statements::Statement;
-use std::alloc::Global;
+use std::alloc::{AllocError, Global};
 
 /// The greatest alignment, as a power of 2.
 const MOST_ALIGNED: u32 = 16;
@@ -89,20 +89,22 @@ fn read_names<'a>(line: &mut Line<'a, '_>) -> Result<Directive<'a>, Stop> {
 fn read_data(alloc: Global, line: &mut Line, bits: u32) -> Result<Statement, Halt> {
     let mut bytes = Vec::new(alloc);
     for _ in 0..u64::MAX {
-        let [first, second, third, fourth] = line.datum(bits)?.to_le_bytes();
-        bytes.push(first)?;
-        if bits > 8 {
-            bytes.push(second)?;
-        }
-        if bits > 16 {
-            bytes.push(third)?;
-            bytes.push(fourth)?;
-        }
+        push_datum(&mut bytes, line.datum(bits)?, bits)?;
         if !line.take(b',') {
             break;
         }
     }
     Ok(Statement::Data(bytes))
+}
+
+/// Appends a number of so many bits, its lowest byte first.
+fn push_datum(bytes: &mut Vec<u8>, value: u32, bits: u32) -> Result<(), AllocError> {
+    let [first, second, ..] = value.to_le_bytes();
+    match bits {
+        8 => bytes.extend_from_slice(&[first]),
+        16 => bytes.extend_from_slice(&[first, second]),
+        _ => bytes.extend_from_slice(&value.to_le_bytes()),
+    }
 }
 
 /// Reads strings with commas between them, and puts a zero byte behind each if that is asked.
@@ -124,18 +126,31 @@ fn read_strings(alloc: Global, line: &mut Line, is_ended: bool) -> Result<Statem
 fn read_string(line: &mut Line, bytes: &mut Vec<u8>) -> Result<(), Halt> {
     line.expect(b'"', Mistake::Quote)?;
     for _ in 0..u64::MAX {
-        match line.next_byte() {
-            None => break,
-            Some(b'"') => return Ok(()),
-            Some(b'\\') => {
-                let stop = line.stop(Mistake::Escape);
-                let byte = line.next_byte().and_then(escaped).ok_or(stop)?;
-                bytes.push(byte)?;
-            }
-            Some(byte) => bytes.push(byte)?,
-        }
+        let Some(byte) = next_in_string(line)? else {
+            break;
+        };
+        bytes.push(byte)?;
     }
-    Err(Halt::Mistake(line.stop(Mistake::Quote)))
+    Ok(())
+}
+
+/// Takes the next byte of a string, or its end, where there is none.
+fn next_in_string(line: &mut Line) -> Result<Option<u8>, Stop> {
+    match line.next_byte() {
+        None => Err(line.stop(Mistake::Quote)),
+        Some(b'"') => Ok(None),
+        Some(b'\\') => next_escaped(line),
+        byte => Ok(byte),
+    }
+}
+
+/// Takes what follows a backslash: the byte that it stands for.
+fn next_escaped(line: &mut Line) -> Result<Option<u8>, Stop> {
+    let stop = line.stop(Mistake::Escape);
+    match line.next_byte().and_then(escaped) {
+        None => Err(stop),
+        byte => Ok(byte),
+    }
 }
 
 /// Reads how many bytes, and which byte where another than zero is meant.

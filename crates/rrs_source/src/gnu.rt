@@ -1,6 +1,7 @@
 //! The text that GNU `as` takes.
 
 use rrs_instruction::instruction::{Instruction, InstructionFields, decode};
+use rrs_instruction::instruction_formats::{BType, JType, RType, UType};
 use std::alloc::{AllocError, Global};
 
 /// Bytes as a source that GNU `as` takes, and this assembler too.
@@ -50,9 +51,7 @@ fn push_instruction(
         | Instruction::Lh(f)
         | Instruction::Lhu(f)
         | Instruction::Lw(f)
-        | Instruction::Jalr(f) => {
-            return writeln!(text, "    {name} x{}, {}(x{})", f.rd, f.imm, f.rs1);
-        }
+        | Instruction::Jalr(f) => return push_access(text, name, f.rd, f.imm, f.rs1),
         _ => (),
     }
     push_fields(text, name, instruction.fields())
@@ -61,23 +60,63 @@ fn push_instruction(
 /// Writes an instruction that is written as others of its format.
 fn push_fields(text: &mut String, name: &str, fields: InstructionFields) -> Result<(), AllocError> {
     match fields {
-        InstructionFields::R(f) => {
-            writeln!(text, "    {name} x{}, x{}, x{}", f.rd, f.rs1, f.rs2)
-        }
-        InstructionFields::I(f) => writeln!(text, "    {name} x{}, x{}, {}", f.rd, f.rs1, f.imm),
+        InstructionFields::R(f) => push_registers(text, name, f),
+        InstructionFields::I(f) => push_immediate(text, name, f.rd, f.rs1, f.imm),
         InstructionFields::IShamt(f) => {
-            writeln!(text, "    {name} x{}, x{}, {}", f.rd, f.rs1, f.shamt)
+            push_immediate(text, name, f.rd, f.rs1, f.shamt.cast_signed())
         }
-        InstructionFields::S(f) => writeln!(text, "    {name} x{}, {}(x{})", f.rs2, f.imm, f.rs1),
-        InstructionFields::B(f) => {
-            writeln!(text, "    {name} x{}, x{}, . {:+}", f.rs1, f.rs2, f.imm)
-        }
-        InstructionFields::U(f) => {
-            let upper = f.imm.cast_unsigned() >> 12;
-            writeln!(text, "    {name} x{}, 0x{upper:x}", f.rd)
-        }
-        InstructionFields::J(f) => writeln!(text, "    {name} x{}, . {:+}", f.rd, f.imm),
+        InstructionFields::S(f) => push_access(text, name, f.rs2, f.imm, f.rs1),
+        InstructionFields::B(f) => push_branch(text, name, f),
+        InstructionFields::U(f) => push_upper(text, name, f),
+        InstructionFields::J(f) => push_jump(text, name, f),
     }
+}
+
+/// Writes an instruction with three registers.
+fn push_registers(text: &mut String, name: &str, fields: RType) -> Result<(), AllocError> {
+    let RType { rd, rs1, rs2, .. } = fields;
+    writeln!(text, "    {name} x{rd}, x{rs1}, x{rs2}")
+}
+
+/// Writes an instruction with two registers and a number.
+fn push_immediate(
+    text: &mut String,
+    name: &str,
+    rd: usize,
+    rs1: usize,
+    imm: i32,
+) -> Result<(), AllocError> {
+    writeln!(text, "    {name} x{rd}, x{rs1}, {imm}")
+}
+
+/// Writes an instruction with a register, and an address that is another and a number.
+fn push_access(
+    text: &mut String,
+    name: &str,
+    register: usize,
+    imm: i32,
+    base: usize,
+) -> Result<(), AllocError> {
+    writeln!(text, "    {name} x{register}, {imm}(x{base})")
+}
+
+/// Writes a branch.
+fn push_branch(text: &mut String, name: &str, fields: BType) -> Result<(), AllocError> {
+    let BType { rs1, rs2, imm, .. } = fields;
+    writeln!(text, "    {name} x{rs1}, x{rs2}, . {imm:+}")
+}
+
+/// Writes an instruction with a register and the upper 20 bits of a word.
+fn push_upper(text: &mut String, name: &str, fields: UType) -> Result<(), AllocError> {
+    let rd = fields.rd;
+    let upper = fields.imm.cast_unsigned() >> 12;
+    writeln!(text, "    {name} x{rd}, 0x{upper:x}")
+}
+
+/// Writes a jump.
+fn push_jump(text: &mut String, name: &str, fields: JType) -> Result<(), AllocError> {
+    let JType { rd, imm } = fields;
+    writeln!(text, "    {name} x{rd}, . {imm:+}")
 }
 
 /// Writes a `fence`: without operands where it orders all accesses, and else as data.

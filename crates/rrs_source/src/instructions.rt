@@ -5,7 +5,7 @@ ghost use Rattle.std.specs.Prelude.{◌<◌, IfOk, IfSome};
 use crate::fields::{Operands, filled};
 use crate::mistakes::{Mistake, Stop};
 use crate::names::{PseudoForm, pseudo_named};
-use crate::pseudo::Pseudo;
+use crate::pseudo::{Pseudo, SwappedBranch, Unary, ZeroBranch};
 use crate::reading::Line;
 use crate::rows::row_named;
 use crate::statements::Statement;
@@ -63,57 +63,31 @@ fn read_row(line: &mut Line, template: Instruction) -> Result<Statement, Stop> {
 /// Reads the operands of an instruction that is written as others of its format.
 fn format_operands(line: &mut Line, fields: InstructionFields) -> Result<Operands, Stop> {
     match fields {
-        InstructionFields::R(_) => {
-            let rd = line.register_before_comma()?;
-            let rs1 = line.register_before_comma()?;
-            let rs2 = line.register()?;
-            Ok(Operands {
-                rd,
-                rs1,
-                rs2,
-                ..NONE
-            })
-        }
+        InstructionFields::R(_) => register_operands(line),
         InstructionFields::I(_) => immediate_operands(line),
-        InstructionFields::IShamt(_) => {
-            let rd = line.register_before_comma()?;
-            let rs1 = line.register_before_comma()?;
-            let imm = line.below(32)?.cast_signed();
-            Ok(Operands {
-                rd,
-                rs1,
-                imm,
-                ..NONE
-            })
-        }
-        InstructionFields::S(_) => {
-            let rs2 = line.register_before_comma()?;
-            let (imm, rs1) = line.address()?;
-            Ok(Operands {
-                rs1,
-                rs2,
-                imm,
-                ..NONE
-            })
-        }
+        InstructionFields::IShamt(_) => shift_operands(line),
+        InstructionFields::S(_) => store_operands(line),
         InstructionFields::B(_) => branch_operands(line),
-        InstructionFields::U(_) => {
-            let rd = line.register_before_comma()?;
-            let imm = (line.below(0x10_0000)? << 12).cast_signed();
-            Ok(Operands { rd, imm, ..NONE })
-        }
-        InstructionFields::J(_) => {
-            let rd = line.register_before_comma()?;
-            let imm = line.offset(JUMP_REACH)?;
-            Ok(Operands { rd, imm, ..NONE })
-        }
+        InstructionFields::U(_) => upper_operands(line),
+        InstructionFields::J(_) => jump_operands(line),
     }
+}
+
+/// Reads `rd, rs1, rs2`.
+fn register_operands(line: &mut Line) -> Result<Operands, Stop> {
+    let (rd, rs1) = line.registers_before_comma()?;
+    let rs2 = line.register()?;
+    Ok(Operands {
+        rd,
+        rs1,
+        rs2,
+        ..NONE
+    })
 }
 
 /// Reads `rd, rs1, immediate`.
 fn immediate_operands(line: &mut Line) -> Result<Operands, Stop> {
-    let rd = line.register_before_comma()?;
-    let rs1 = line.register_before_comma()?;
+    let (rd, rs1) = line.registers_before_comma()?;
     let imm = line.immediate()?;
     Ok(Operands {
         rd,
@@ -123,10 +97,47 @@ fn immediate_operands(line: &mut Line) -> Result<Operands, Stop> {
     })
 }
 
+/// Reads `rd, rs1, shamt`.
+fn shift_operands(line: &mut Line) -> Result<Operands, Stop> {
+    let (rd, rs1) = line.registers_before_comma()?;
+    let imm = line.below(32)?.cast_signed();
+    Ok(Operands {
+        rd,
+        rs1,
+        imm,
+        ..NONE
+    })
+}
+
+/// Reads `rs2, immediate(rs1)`.
+fn store_operands(line: &mut Line) -> Result<Operands, Stop> {
+    let rs2 = line.register_before_comma()?;
+    let (imm, rs1) = line.address()?;
+    Ok(Operands {
+        rs1,
+        rs2,
+        imm,
+        ..NONE
+    })
+}
+
+/// Reads `rd, immediate`, of which the upper 20 bits are meant.
+fn upper_operands(line: &mut Line) -> Result<Operands, Stop> {
+    let rd = line.register_before_comma()?;
+    let imm = (line.below(0x10_0000)? << 12).cast_signed();
+    Ok(Operands { rd, imm, ..NONE })
+}
+
+/// Reads `rd, target`.
+fn jump_operands(line: &mut Line) -> Result<Operands, Stop> {
+    let rd = line.register_before_comma()?;
+    let imm = line.offset(JUMP_REACH)?;
+    Ok(Operands { rd, imm, ..NONE })
+}
+
 /// Reads `rs1, rs2, target`.
 fn branch_operands(line: &mut Line) -> Result<Operands, Stop> {
-    let rs1 = line.register_before_comma()?;
-    let rs2 = line.register_before_comma()?;
+    let (rs1, rs2) = line.registers_before_comma()?;
     let imm = line.offset(BRANCH_REACH)?;
     Ok(Operands {
         rs1,
@@ -241,34 +252,46 @@ fn read_pseudo(line: &mut Line, form: PseudoForm) -> Result<Pseudo, Stop> {
     match form {
         PseudoForm::Nop => Ok(Pseudo::Nop),
         PseudoForm::Ret => Ok(Pseudo::Ret),
-        PseudoForm::Li => {
-            let rd = line.register_before_comma()?;
-            Ok(Pseudo::Li(rd, line.known_value()?))
-        }
-        PseudoForm::La => {
-            let rd = line.register_before_comma()?;
-            Ok(Pseudo::La(rd, read_distance(line)?))
-        }
-        PseudoForm::OfOne(name) => {
-            let rd = line.register_before_comma()?;
-            Ok(Pseudo::OfOne(name, rd, line.register()?))
-        }
-        PseudoForm::AgainstZero(name) => {
-            let rs = line.register_before_comma()?;
-            let offset = line.offset(BRANCH_REACH)?;
-            Ok(Pseudo::AgainstZero(name, rs, offset))
-        }
-        PseudoForm::Swapped(name) => {
-            let rs = line.register_before_comma()?;
-            let rt = line.register_before_comma()?;
-            let offset = line.offset(BRANCH_REACH)?;
-            Ok(Pseudo::Swapped(name, rs, rt, offset))
-        }
+        PseudoForm::Li => read_li(line),
+        PseudoForm::La => read_la(line),
+        PseudoForm::OfOne(name) => read_of_one(line, name),
+        PseudoForm::AgainstZero(name) => read_against_zero(line, name),
+        PseudoForm::Swapped(name) => read_swapped(line, name),
         PseudoForm::J => Ok(Pseudo::J(line.offset(JUMP_REACH)?)),
         PseudoForm::Jr => Ok(Pseudo::Jr(line.register()?)),
         PseudoForm::Call => Ok(Pseudo::Call(read_distance(line)?)),
         PseudoForm::Tail => Ok(Pseudo::Tail(read_distance(line)?)),
     }
+}
+
+/// Reads `rd, value`.
+fn read_li(line: &mut Line) -> Result<Pseudo, Stop> {
+    let rd = line.register_before_comma()?;
+    Ok(Pseudo::Li(rd, line.known_value()?))
+}
+
+/// Reads `rd, symbol`.
+fn read_la(line: &mut Line) -> Result<Pseudo, Stop> {
+    let rd = line.register_before_comma()?;
+    Ok(Pseudo::La(rd, read_distance(line)?))
+}
+
+/// Reads `rd, rs`.
+fn read_of_one(line: &mut Line, name: Unary) -> Result<Pseudo, Stop> {
+    let rd = line.register_before_comma()?;
+    Ok(Pseudo::OfOne(name, rd, line.register()?))
+}
+
+/// Reads `rs, target`.
+fn read_against_zero(line: &mut Line, name: ZeroBranch) -> Result<Pseudo, Stop> {
+    let rs = line.register_before_comma()?;
+    Ok(Pseudo::AgainstZero(name, rs, line.offset(BRANCH_REACH)?))
+}
+
+/// Reads `rs, rt, target`.
+fn read_swapped(line: &mut Line, name: SwappedBranch) -> Result<Pseudo, Stop> {
+    let (rs, rt) = line.registers_before_comma()?;
+    Ok(Pseudo::Swapped(name, rs, rt, line.offset(BRANCH_REACH)?))
 }
 
 /// Reads a symbol, or an address: how far it is from the statement, modulo 2^32.

@@ -90,12 +90,19 @@ impl Pseudo {
         ensures expanded { listed result ≡ expanded self.now }
         ensures halves { (v : ℕ) → v < 2 ^ 32 → AreHalves v (upper v) (lower v) }
     {
+        self.instructions()
+    }
+
+    /// The instructions that it is.
+    fn instructions(&self) -> Expansion
+        ensures { listed result ≡ expanded self.now }
+    {
         match *self {
             Pseudo::Nop => one(addi(0, 0, 0)),
             Pseudo::Ret => one(jalr(0, 0, 1)),
             Pseudo::Fence => one(fence_all()),
             Pseudo::Li(rd, value) => load_immediate(rd, value),
-            Pseudo::La(rd, offset) => two(auipc(rd, upper(offset)), addi(rd, rd, lower(offset))),
+            Pseudo::La(rd, offset) => load_address(rd, offset),
             Pseudo::OfOne(name, rd, rs) => one(of_one(name, rd, rs)),
             Pseudo::AgainstZero(name, rs, offset) => one(against_zero(name, rs, offset)),
             Pseudo::Swapped(name, rs, rt, offset) => one(swapped(name, rs, rt, offset)),
@@ -103,8 +110,8 @@ impl Pseudo {
             Pseudo::Jal(offset) => one(jal(1, offset)),
             Pseudo::Jr(rs) => one(jalr(0, 0, rs)),
             Pseudo::Jalr(rs) => one(jalr(1, 0, rs)),
-            Pseudo::Call(offset) => two(auipc(1, upper(offset)), jalr(1, lower(offset), 1)),
-            Pseudo::Tail(offset) => two(auipc(6, upper(offset)), jalr(0, lower(offset), 6)),
+            Pseudo::Call(offset) => jump_far(1, 1, offset),
+            Pseudo::Tail(offset) => jump_far(0, 6, offset),
         }
     }
 }
@@ -156,6 +163,20 @@ fn load_immediate(rd: usize, value: u32) -> Expansion
     } else {
         two(lui(rd, upper(value)), addi(rd, rd, lower(value)))
     }
+}
+
+/// `auipc` and `addi`: the sum of an offset and the address.
+fn load_address(rd: usize, offset: u32) -> Expansion
+    ensures { listed result ≡ auipc rd (upper offset) ∷ addi rd rd (lower offset) ∷ [] }
+{
+    two(auipc(rd, upper(offset)), addi(rd, rd, lower(offset)))
+}
+
+/// `auipc` and `jalr`: a jump to the sum of an offset and the address, by way of a register.
+fn jump_far(link: usize, way: usize, offset: u32) -> Expansion
+    ensures { listed result ≡ auipc way (upper offset) ∷ jalr link (lower offset) way ∷ [] }
+{
+    two(auipc(way, upper(offset)), jalr(link, lower(offset), way))
 }
 
 fn of_one(name: Unary, rd: usize, rs: usize) -> Instruction

@@ -145,6 +145,13 @@ impl<'a, 's> Line<'a, 's> {
         Ok(register)
     }
 
+    /// Takes two registers, each with a comma.
+    pub fn registers_before_comma(&mut self) -> Result<(usize, usize), Stop> {
+        let first = self.register_before_comma()?;
+        let second = self.register_before_comma()?;
+        Ok((first, second))
+    }
+
     /// Takes a value: terms with signs between them. It wraps modulo 2^32.
     pub fn value(&mut self) -> Result<u32, Stop> {
         self.sum(false)

@@ -1,26 +1,27 @@
 //! The names of registers: x0 to x31, and those of the ABI.
 
+/// The names of the ABI, in the order of the numbers.
+const NAMES: [&[u8]; 32] = [
+    b"zero", b"ra", b"sp", b"gp", b"tp", b"t0", b"t1", b"t2", b"s0", b"s1", b"a0", b"a1", b"a2",
+    b"a3", b"a4", b"a5", b"a6", b"a7", b"s2", b"s3", b"s4", b"s5", b"s6", b"s7", b"s8", b"s9",
+    b"s10", b"s11", b"t3", b"t4", b"t5", b"t6",
+];
+
 /// The number of the register of this name.
 pub fn register_number(name: &[u8]) -> Option<usize> {
     match name {
-        b"zero" => Some(0),
-        b"ra" => Some(1),
-        b"sp" => Some(2),
-        b"gp" => Some(3),
-        b"tp" => Some(4),
+        [b'x', digits @ ..] => number_below_32(digits),
         b"fp" => Some(8),
-        b"s10" => Some(26),
-        b"s11" => Some(27),
-        [b'x', ones @ b'0'..=b'9'] => Some(usize::from(*ones - b'0')),
-        [b'x', tens @ b'1'..=b'2', ones @ b'0'..=b'9'] => {
-            Some(usize::from(*tens - b'0') * 10 + usize::from(*ones - b'0'))
-        }
-        [b'x', b'3', ones @ b'0'..=b'1'] => Some(30 + usize::from(*ones - b'0')),
-        [b't', digit @ b'0'..=b'2'] => Some(5 + usize::from(*digit - b'0')),
-        [b't', digit @ b'3'..=b'6'] => Some(25 + usize::from(*digit - b'0')),
-        [b's', digit @ b'0'..=b'1'] => Some(8 + usize::from(*digit - b'0')),
-        [b's', digit @ b'2'..=b'9'] => Some(16 + usize::from(*digit - b'0')),
-        [b'a', digit @ b'0'..=b'7'] => Some(10 + usize::from(*digit - b'0')),
-        _ => None,
+        _ => NAMES.iter().position(|own| *own == name),
     }
+}
+
+/// The number below 32 that decimal digits are, with no zero in front.
+fn number_below_32(digits: &[u8]) -> Option<usize> {
+    let number = match digits {
+        [ones @ b'0'..=b'9'] => *ones - b'0',
+        [tens @ b'1'..=b'3', ones @ b'0'..=b'9'] => (*tens - b'0') * 10 + (*ones - b'0'),
+        _ => return None,
+    };
+    (number < 32).then_some(usize::from(number))
 }

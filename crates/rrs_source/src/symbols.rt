@@ -1,6 +1,6 @@
 //! Symbols: labels, local labels and constants.
 
-use crate::mistakes::Mistake;
+use crate::mistakes::{Halt, Mistake};
 use std::alloc::{AllocError, Global};
 use std::collections::BTreeMap;
 
@@ -112,7 +112,7 @@ impl<'a> Symbols<'a> {
     }
 
     /// Defines a local label of a digit.
-    pub fn define_local(&mut self, digit: u8, address: u32) -> Result<(), AllocError> {
+    pub fn define_local(&mut self, digit: u8, address: u32) -> Result<(), Halt> {
         let count = self.count_of(digit);
         self.locals.insert((digit, count), address)?;
         if let Some(slot) = self.counts.get_mut(usize::from(digit)) {
