@@ -69,12 +69,24 @@ fn write_steps<W: Write>(steps: Steps, out: &mut W) -> io::Result<()> {
         last_register_write: last.map(|register| register.index),
     };
     let mut memory = VecMemory::new(memory);
+    make_steps(count, &mut hart, &mut memory, out)?;
+    write_hart(&hart, out)?;
+    write_memory(&memory.mem, out)
+}
+
+/// Makes the steps, and writes what each returns.
+fn make_steps<W: Write>(
+    count: u32,
+    hart: &mut HartState,
+    memory: &mut VecMemory,
+    out: &mut W,
+) -> io::Result<()> {
     if count == 0 {
-        write!(out, "-")?;
+        return write!(out, "-");
     }
     let mut executor = InstructionExecutor {
-        mem: &mut memory,
-        hart_state: &mut hart,
+        mem: memory,
+        hart_state: hart,
     };
     for made in 0..count {
         if made > 0 {
@@ -84,8 +96,7 @@ fn write_steps<W: Write>(steps: Steps, out: &mut W) -> io::Result<()> {
         executor.step_each(&mut answers);
         write_step(&answers[0], out)?;
     }
-    write_hart(&hart, out)?;
-    write_memory(&memory.mem, out)
+    Ok(())
 }
 
 /// Writes what a step returned.
@@ -93,46 +104,51 @@ fn write_step<W: Write>(answer: &Result<(), InstructionException>, out: &mut W) 
     let Err(exception) = answer else {
         return write!(out, "Ok");
     };
-    match exception {
+    let (name, address) = match exception {
         InstructionException::IllegalInstruction(pc, word) => {
-            write!(out, "IllegalInstruction 0x{pc:08x} 0x{word:08x}")
+            return write!(out, "IllegalInstruction 0x{pc:08x} 0x{word:08x}");
         }
-        InstructionException::FetchError(pc) => write!(out, "FetchError 0x{pc:08x}"),
-        InstructionException::LoadAccessFault(addr) => {
-            write!(out, "LoadAccessFault 0x{addr:08x}")
-        }
-        InstructionException::StoreAccessFault(addr) => {
-            write!(out, "StoreAccessFault 0x{addr:08x}")
-        }
-        InstructionException::AlignmentFault(addr) => write!(out, "AlignmentFault 0x{addr:08x}"),
-        InstructionException::EnvironmentCall(pc) => write!(out, "EnvironmentCall 0x{pc:08x}"),
-        InstructionException::Breakpoint(pc) => write!(out, "Breakpoint 0x{pc:08x}"),
-    }
+        InstructionException::FetchError(pc) => ("FetchError", *pc),
+        InstructionException::LoadAccessFault(addr) => ("LoadAccessFault", *addr),
+        InstructionException::StoreAccessFault(addr) => ("StoreAccessFault", *addr),
+        InstructionException::AlignmentFault(addr) => ("AlignmentFault", *addr),
+        InstructionException::EnvironmentCall(pc) => ("EnvironmentCall", *pc),
+        InstructionException::Breakpoint(pc) => ("Breakpoint", *pc),
+    };
+    write!(out, "{name} 0x{address:08x}")
 }
 
 /// Writes the pc, the register that was written last, and the registers that are not 0.
 fn write_hart<W: Write>(hart: &HartState, out: &mut W) -> io::Result<()> {
     let pc = hart.pc;
     write!(out, " pc=0x{pc:08x} last=")?;
-    match hart.last_register_write {
-        Some(index) => write!(out, "x{index}")?,
-        None => write!(out, "-")?,
-    }
+    write_last(hart.last_register_write, out)?;
     write!(out, " regs=")?;
-    let mut is_first = true;
-    for (index, value) in hart.registers.iter().enumerate() {
+    write_registers(&hart.registers, out)
+}
+
+/// Writes the register that was written last.
+fn write_last<W: Write>(last: Option<usize>, out: &mut W) -> io::Result<()> {
+    match last {
+        Some(index) => write!(out, "x{index}"),
+        None => write!(out, "-"),
+    }
+}
+
+/// Writes the registers that are not 0.
+fn write_registers<W: Write>(registers: &[u32; 32], out: &mut W) -> io::Result<()> {
+    let mut separator = "";
+    for (index, value) in registers.iter().enumerate() {
         if *value != 0 {
-            if !is_first {
-                write!(out, ",")?;
-            }
-            write!(out, "x{index}=0x{value:08x}")?;
-            is_first = false;
+            write!(out, "{separator}x{index}=0x{value:08x}")?;
+            separator = ",";
         }
     }
-    if is_first {
-        write!(out, "-")?;
+    if separator.is_empty() {
+        write!(out, "-")
+    } else {
+        Ok(())
     }
-    Ok(())
 }
 
 /// Writes the words of a memory.
@@ -141,11 +157,10 @@ fn write_memory<W: Write>(words: &[u32], out: &mut W) -> io::Result<()> {
     if words.is_empty() {
         return write!(out, "-");
     }
-    for (index, word) in words.iter().enumerate() {
-        if index > 0 {
-            write!(out, ",")?;
-        }
-        write!(out, "0x{word:08x}")?;
+    let mut separator = "";
+    for word in words {
+        write!(out, "{separator}0x{word:08x}")?;
+        separator = ",";
     }
     Ok(())
 }

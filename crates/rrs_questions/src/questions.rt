@@ -74,22 +74,22 @@ pub enum Mistake {
 
 impl fmt::Display for Mistake {
     fn fmt<W: fmt::Write>(&self, f: &mut fmt::Formatter<W>) -> fmt::Result {
-        match self {
-            Mistake::EmptyLine => write!(f, "empty line"),
-            Mistake::NotText => write!(f, "the line is not UTF-8"),
-            Mistake::NoQuestion => write!(f, "the line begins with no known question"),
-            Mistake::Missing(part) => write!(f, "{part} is missing or out of place"),
-            Mistake::TextAtEnd => write!(f, "there is more after the last part"),
+        f.write_str(match self {
+            Mistake::EmptyLine => "empty line",
+            Mistake::NotText => "the line is not UTF-8",
+            Mistake::NoQuestion => "the line begins with no known question",
+            Mistake::Missing(part) => return write!(f, "{part} is missing or out of place"),
+            Mistake::TextAtEnd => "there is more after the last part",
             Mistake::NotWord(part) => {
-                write!(f, "{part} is not 0x and 8 lower-case hexadecimal digits")
+                return write!(f, "{part} is not 0x and 8 lower-case hexadecimal digits");
             }
-            Mistake::NotCount => write!(f, "N is not a decimal number of 1 to 7 digits"),
-            Mistake::TooManySteps => write!(f, "more than {MOST_STEPS} steps"),
-            Mistake::NotRegister => write!(f, "a register is not one of x0 to x31"),
-            Mistake::NoValue => write!(f, "a register has no value"),
-            Mistake::ZeroListed => write!(f, "a register that is 0 is listed"),
-            Mistake::OutOfOrder => write!(f, "a register is out of order or listed twice"),
-        }
+            Mistake::NotCount => "N is not a decimal number of 1 to 7 digits",
+            Mistake::TooManySteps => return write!(f, "more than {MOST_STEPS} steps"),
+            Mistake::NotRegister => "a register is not one of x0 to x31",
+            Mistake::NoValue => "a register has no value",
+            Mistake::ZeroListed => "a register that is 0 is listed",
+            Mistake::OutOfOrder => "a register is out of order or listed twice",
+        })
     }
 }
 
