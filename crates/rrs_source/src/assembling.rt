@@ -139,7 +139,7 @@ fn read_statement<'a>(alloc: Global, line: &mut Line<'a, '_>) -> Result<Read<'a>
     let word = line.word();
     let is_ended = line.is_word_over();
     if line.take(b':') {
-        return Ok(label_of(word, stop)?);
+        return label_of(word, stop).map_err(Halt::Mistake);
     }
     let directive = read_unlabelled(alloc, line, word, is_ended, stop)?;
     if line.is_over() {
@@ -153,7 +153,7 @@ fn read_statement<'a>(alloc: Global, line: &mut Line<'a, '_>) -> Result<Read<'a>
 fn label_of(word: &[u8], stop: Stop) -> Result<Read, Stop> {
     match word {
         [digit @ b'0'..=b'9'] => Ok(Read::LocalLabel(*digit - b'0')),
-        name => Ok(Read::Label(checked_name(name, stop)?)),
+        name => checked_name(name, stop).map(Read::Label),
     }
 }
 

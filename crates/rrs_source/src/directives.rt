@@ -34,8 +34,8 @@ pub fn read_directive<'a>(
 ) -> Result<Directive<'a>, Halt> {
     match directive_named(name) {
         Some(DirectiveForm::Place(form)) => Ok(Directive::Place(read_placed(alloc, line, form)?)),
-        Some(DirectiveForm::Constant) => Ok(read_constant(line)?),
-        Some(DirectiveForm::Names) => Ok(read_names(line)?),
+        Some(DirectiveForm::Constant) => read_constant(line).map_err(Halt::Mistake),
+        Some(DirectiveForm::Names) => read_names(line).map_err(Halt::Mistake),
         Some(DirectiveForm::Text) => Ok(Directive::Nothing),
         Some(DirectiveForm::Section) => Err(Halt::Mistake(Stop {
             mistake: Mistake::Section,
@@ -52,8 +52,8 @@ fn read_placed(alloc: Global, line: &mut Line, form: PlacedForm) -> Result<State
         PlacedForm::Strings(is_ended) => read_strings(alloc, line, is_ended),
         PlacedForm::Power => read_power(alloc, line),
         PlacedForm::Alignment => read_alignment(alloc, line),
-        PlacedForm::Space => Ok(read_space(line)?),
-        PlacedForm::Origin => Ok(read_origin(line)?),
+        PlacedForm::Space => read_space(line).map_err(Halt::Mistake),
+        PlacedForm::Origin => read_origin(line).map_err(Halt::Mistake),
     }
 }
 

@@ -38,7 +38,7 @@ pub fn read_instruction(line: &mut Line, name: &[u8], stop: Stop) -> Result<Stat
         return read_row(line, template);
     }
     match pseudo_named(name) {
-        Some(form) => Ok(Statement::Pseudo(read_pseudo(line, form)?)),
+        Some(form) => read_pseudo(line, form).map(Statement::Pseudo),
         None => Err(stop),
     }
 }
@@ -257,10 +257,10 @@ fn read_pseudo(line: &mut Line, form: PseudoForm) -> Result<Pseudo, Stop> {
         PseudoForm::OfOne(name) => read_of_one(line, name),
         PseudoForm::AgainstZero(name) => read_against_zero(line, name),
         PseudoForm::Swapped(name) => read_swapped(line, name),
-        PseudoForm::J => Ok(Pseudo::J(line.offset(JUMP_REACH)?)),
-        PseudoForm::Jr => Ok(Pseudo::Jr(line.register()?)),
-        PseudoForm::Call => Ok(Pseudo::Call(read_distance(line)?)),
-        PseudoForm::Tail => Ok(Pseudo::Tail(read_distance(line)?)),
+        PseudoForm::J => line.offset(JUMP_REACH).map(Pseudo::J),
+        PseudoForm::Jr => line.register().map(Pseudo::Jr),
+        PseudoForm::Call => read_distance(line).map(Pseudo::Call),
+        PseudoForm::Tail => read_distance(line).map(Pseudo::Tail),
     }
 }
 
