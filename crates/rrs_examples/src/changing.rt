@@ -1,5 +1,7 @@
 //! Programs that change themselves, in long runs over memories of different kinds.
 
+ghost use Rattle.std.specs.Prelude.{◌<◌, ◌^◌};
+
 use crate::machines::hart_of;
 use rrs_extra::PagedMemory;
 use rrs_lib::instruction_executor::{InstructionExecutor, RunEnd};
@@ -26,8 +28,9 @@ struct Change {
 }
 
 /// A word of the loop, a half-word, each byte that can be changed and leaves an `addi`, the next
-/// word but one, and words that have the place of the first one in a table of 512.
-const CHANGES: [Change; 8] = [
+/// word but one, a word behind the loop, the last word below 2,048, and the one at 4,096, which has
+/// the place of the first one in a table of 1,024.
+const CHANGES: [Change; 9] = [
     // sw x6, 0(x0): addi x5, x5, 100 and addi x5, x5, 1
     Change {
         store: 0x0060_2023,
@@ -76,12 +79,18 @@ const CHANGES: [Change; 8] = [
         first: 1,
         second: 2,
     },
+    // sw x6, 0(x8)
+    Change {
+        store: 0x0064_2023,
+        first: 0x0642_8293,
+        second: 0x0012_8293,
+    },
 ];
 
 /// How many steps are made.
 const LIMIT: u64 = 4001;
 
-/// The words of a loop that makes a change.
+/// The first page of words of a loop that makes a change. The second one is of zeros.
 fn words_of(change: &Change) -> [u32; 1024] {
     let mut words = [0; 1024];
     words[..4].copy_from_slice(&LOOP);
@@ -91,7 +100,8 @@ fn words_of(change: &Change) -> [u32; 1024] {
 
 /// The hart that makes it.
 fn hart_for(change: &Change) -> HartState {
-    hart_of(0, &[(6, change.first), (7, change.first ^ change.second)])
+    let both = change.first ^ change.second;
+    hart_of(0, &[(6, change.first), (7, both), (8, 4096)])
 }
 
 /// How a run ended, and the registers and the pc after it.
@@ -131,20 +141,34 @@ fn step_by_step<M: Memory>(mem: &mut M, change: &Change) -> Seen {
     (end, hart_state.registers, hart_state.pc)
 }
 
-/// A memory of a page.
-fn page_of(alloc: Global, words: &[u32; 1024]) -> Result<PagedMemory, AllocError> {
+/// A memory of two pages.
+fn pages_of(alloc: Global, change: &Change) -> Result<PagedMemory, AllocError> {
     let mut pages = PagedMemory::new(alloc);
+    add_page(alloc, &mut pages, 0, &words_of(change))?;
+    add_page(alloc, &mut pages, 1, &[0; 1024])?;
+    Ok(pages)
+}
+
+/// Adds a page that is writable.
+fn add_page(
+    alloc: Global,
+    pages: &mut PagedMemory,
+    number: u32,
+    words: &[u32; 1024],
+) -> Result<(), AllocError>
+    requires { number < 2 ^ 20 }
+{
     let marks = Vec::from_slice(alloc, &[false; 1024])?;
-    match pages.add_page(0, words.to_vec(alloc)?, marks) {
-        Ok(()) => Ok(pages),
+    match pages.add_page(number, words.to_vec(alloc)?, marks) {
+        Ok(()) => Ok(()),
         Err(_) => Err(AllocError),
     }
 }
 
 /// A space of one region.
-fn space_of(alloc: Global, words: &[u32; 1024]) -> Result<MemorySpace<VecMemory>, AllocError> {
+fn space_of(alloc: Global, change: &Change) -> Result<MemorySpace<VecMemory>, AllocError> {
     let mut space = MemorySpace::new(alloc);
-    match space.add_memory(0, 4096, VecMemory::new(words.to_vec(alloc)?)) {
+    match space.add_memory(0, 8192, words_over(alloc, change)?) {
         Ok(_) => Ok(space),
         Err(_) => Err(AllocError),
     }
@@ -152,7 +176,9 @@ fn space_of(alloc: Global, words: &[u32; 1024]) -> Result<MemorySpace<VecMemory>
 
 /// A memory of words.
 fn words_over(alloc: Global, change: &Change) -> Result<VecMemory, AllocError> {
-    Ok(VecMemory::new(words_of(change).to_vec(alloc)?))
+    let mut words = words_of(change).to_vec(alloc)?;
+    words.resize(2048, 0)?;
+    Ok(VecMemory::new(words))
 }
 
 /// The run over a memory of words, behind a box.
@@ -173,9 +199,9 @@ fn each_change_is_seen_by_the_next_fetch(rt: HostRuntime) -> Result<(), Fail> {
         let expected = step_by_step(&mut words_over(alloc, change)?, change);
         let over_words = run_once(&mut words_over(alloc, change)?, change);
         same_seen(&rt, &over_words, &expected);
-        let over_page = run_once(&mut page_of(alloc, &words_of(change))?, change);
-        same_seen(&rt, &over_page, &expected);
-        let over_space = run_once(&mut space_of(alloc, &words_of(change))?, change);
+        let over_pages = run_once(&mut pages_of(alloc, change)?, change);
+        same_seen(&rt, &over_pages, &expected);
+        let over_space = run_once(&mut space_of(alloc, change)?, change);
         same_seen(&rt, &over_space, &expected);
         same_seen(&rt, &run_in_box(alloc, change)?, &expected);
     }
