@@ -8,6 +8,7 @@ use rrs_runner::report::write_text;
 use rrs_runner::simulation::{Shown, simulate};
 use std::alloc::{AllocError, Global};
 use std::io::{ErrorKind, Read, Write};
+use std::process::Abort;
 use std::test::Fail;
 
 /// The account of these three words, with the line of each.
@@ -118,7 +119,7 @@ fn prints_the_whole_run(rt: HostRuntime) -> Result<(), Fail> {
 /// of what is printed after them.
 type Case = (&'static [u32], u64, &'static str, &'static str);
 
-const CASES: [Case; 16] = [
+static CASES: [Case; 16] = [
     (&[], 0, "", "end: limit, steps 0\nx0 0x00000000\n"),
     (
         &[],
@@ -235,8 +236,7 @@ fn case_begins(alloc: Global, case: &Case) -> Result<bool, Fail> {
 #[test]
 fn prints_the_lines_of_the_steps_or_none(rt: HostRuntime) -> Result<(), Fail> {
     for case in &CASES {
-        let begins_so = case_begins(rt.alloc(), case)?;
-        assert!(rt; begins_so, "{case:?}");
+        assert!(rt; case_begins(rt.alloc(), case)?, "{}", case.3);
     }
     Ok(())
 }
@@ -252,19 +252,25 @@ fn bytes_of_all_addresses(alloc: Global) -> Result<Vec<u8>, AllocError> {
     Ok(bytes)
 }
 
+/// How the run of these bytes ends that are too many, how many are not read, and how many are
+/// printed.
+fn run_of_too_many(alloc: Global, bytes: &[u8]) -> (Result<(), RunFault>, usize, usize) {
+    let mut reader = bytes;
+    let mut out = Vec::new(alloc);
+    let result = simulated(alloc, Shown::Nothing, &mut reader, 9, &mut out);
+    (result, reader.len(), out.len())
+}
+
 /// One byte more is refused, and the next one is not read.
 #[test]
 fn refuses_a_byte_past_the_addresses(rt: HostRuntime) -> Result<(), Fail> {
     let mut bytes = bytes_of_all_addresses(rt.alloc())?;
     let lines = "0x00000000: jal x0, 0x0000fffc\n0x0000fffc: addi x0, x0, 0\n";
     let ending = "end: FetchError pc=0x00010000, steps 2\n";
-    let begins_so = begins(rt.alloc(), &bytes, 9, lines, ending)?;
+    assert!(rt; begins(rt.alloc(), &bytes, 9, lines, ending)?);
     bytes.extend_from_slice(&[0, 0])?;
-    let mut reader = bytes.as_slice();
-    let mut out = Vec::new(rt.alloc());
-    let result = simulated(rt.alloc(), Shown::Nothing, &mut reader, 9, &mut out);
-    let left = (begins_so, result, reader.len(), out.len());
-    assert_eq!(rt; left, (true, Err(RunFault::Refused(0x10000)), 1, 0));
+    let left = run_of_too_many(rt.alloc(), &bytes);
+    assert_eq!(rt; left, (Err(RunFault::Refused(0x10000)), 1, 0));
     Ok(())
 }
 
@@ -289,21 +295,31 @@ fn run_where_a_read_fails(
     (result, reader.given, out.taken)
 }
 
+/// The kinds of a read's failure.
+static KINDS: [ErrorKind; 3] = [
+    ErrorKind::Other,
+    ErrorKind::OutOfMemory,
+    ErrorKind::Interrupted,
+];
+
+/// How many bytes are read before a failure.
+static FAILS_AT: [usize; 11] = [0, 1, 2, 3, 4, 5, 6, 7, 8, 65535, 65536];
+
+/// Asserts that a failure of this kind is told wherever it comes.
+fn is_told(rt: &impl Abort, alloc: Global, shown: Shown, kind: ErrorKind) {
+    for &fails_at in &FAILS_AT {
+        let left = run_where_a_read_fails(alloc, shown, fails_at, kind);
+        let want = (Err(RunFault::Reader), fails_at, 0);
+        assert_eq!(rt; left, want, "after {fails_at} bytes");
+    }
+}
+
 /// No byte is taken after the failure, and nothing is written.
 #[test]
 fn tells_a_reader_that_fails(rt: HostRuntime) {
-    for kind in [
-        ErrorKind::Other,
-        ErrorKind::OutOfMemory,
-        ErrorKind::Interrupted,
-    ] {
-        for shown in [Shown::Instructions, Shown::Nothing] {
-            for fails_at in [0, 1, 2, 3, 4, 5, 6, 7, 8, 65535, 65536] {
-                let left = run_where_a_read_fails(rt.alloc(), shown, fails_at, kind);
-                let want = (Err(RunFault::Reader), fails_at, 0);
-                assert_eq!(rt; left, want, "after {fails_at} bytes");
-            }
-        }
+    for &kind in &KINDS {
+        is_told(&rt, rt.alloc(), Shown::Instructions, kind);
+        is_told(&rt, rt.alloc(), Shown::Nothing, kind);
     }
 }
 
@@ -323,25 +339,30 @@ fn run_where_a_write_fails(
     (result, out.written)
 }
 
+/// Whether the run ends so where a write fails so, and these bytes are written.
+fn writes(
+    alloc: Global,
+    fails_at: usize,
+    kind: ErrorKind,
+    want: Result<(), RunFault>,
+    written: &[u8],
+) -> bool {
+    let (result, out) = run_where_a_write_fails(alloc, fails_at, kind);
+    result == want && out.as_slice() == written
+}
+
 /// A write that fails at a byte leaves what is before it; one that is interrupted is made again.
 #[test]
 fn tells_a_writer_that_fails(rt: HostRuntime) {
     let account = ACCOUNT.as_bytes();
     for fails_at in 0..account.len() {
-        let (failed, beginning) = run_where_a_write_fails(
-            rt.alloc(),
-            fails_at,
-            ErrorKind::StorageFull,
-        );
-        let (done, whole) = run_where_a_write_fails(rt.alloc(), fails_at, ErrorKind::Interrupted);
-        let are_written = beginning.as_slice() == &account[..fails_at]
-            && whole.as_slice() == account;
-        let left = (failed, done, are_written);
-        assert_eq!(rt;
-            left,
-            (Err(RunFault::Output), Ok(()), true),
-            "at {fails_at}"
-        );
+        let (alloc, beginning) = (rt.alloc(), &account[..fails_at]);
+        let failed = Err(RunFault::Output);
+        let are_written = [
+            writes(alloc, fails_at, ErrorKind::StorageFull, failed, beginning),
+            writes(alloc, fails_at, ErrorKind::Interrupted, Ok(()), account),
+        ];
+        assert_eq!(rt; are_written, [true; 2], "at {fails_at}");
     }
 }
 

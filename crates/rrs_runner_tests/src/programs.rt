@@ -6,17 +6,20 @@ use rrs_runner::command::{Command, Failure, Program, conclude, run_program, take
 use rrs_runner::fault::RunFault;
 use rrs_runner::programs::{RRS_HELLO, RRS_REPLAY, RRS_RUN, RRS_SPEED};
 use std::alloc::{AllocError, Global};
-use std::process::ExitCode;
+use std::process::{Abort, ExitCode};
 use std::test::Fail;
 
-/// The program's status, what it says on standard error, and what it printed.
+/// What is left of a program: its status, what it says on standard error, and what it printed.
+type Left = (ExitCode, Vec<u8>, Vec<u8>);
+
+/// Runs a program on a machine with these words and files, and room for so many bytes of output.
 fn run(
     alloc: Global,
     program: &Program,
     words: &[&[u8]],
     files: &[Contents<'_>],
     room: usize,
-) -> (ExitCode, Vec<u8>, Vec<u8>) {
+) -> Left {
     let machine = Machine::new(alloc, words, files, room);
     let status = run_program(&machine, program);
     let (said, printed) = machine.into_outputs();
@@ -51,28 +54,30 @@ fn both_say(
 }
 
 /// Whether a program printed nothing, and ended with this status and this line.
-fn says(left: &(ExitCode, Vec<u8>, Vec<u8>), status: u8, line: &str) -> bool {
+fn says(left: &Left, status: u8, line: &str) -> bool {
     left.0 == ExitCode::from(status) && left.1.as_slice() == line.as_bytes() && left.2.is_empty()
 }
 
+/// Words of command lines that are refused.
+static OTHER_WORDS: [&[&[u8]]; 9] = [
+    &[],
+    &[b"rrs-run"],
+    &[b"rrs-run", b"program"],
+    &[b"rrs-run", b"program", b"10", b"10"],
+    &[b"rrs-run", b"program", b"1a"],
+    &[b"rrs-run", b"10", b"program"],
+    &[b"rrs-run", b"program", b"\xff"],
+    &[b"rrs-run", b"\xff", b"10"],
+    &[b"\xff", b"program", b"10"],
+];
+
 #[test]
 fn refuses_other_words(rt: HostRuntime) {
-    let cases: [&[&[u8]]; 9] = [
-        &[],
-        &[b"rrs-run"],
-        &[b"rrs-run", b"program"],
-        &[b"rrs-run", b"program", b"10", b"10"],
-        &[b"rrs-run", b"program", b"1a"],
-        &[b"rrs-run", b"10", b"program"],
-        &[b"rrs-run", b"program", b"\xff"],
-        &[b"rrs-run", b"\xff", b"10"],
-        &[b"\xff", b"program", b"10"],
-    ];
     let lines = (
         "usage: rrs-run FILE LIMIT\n",
         "usage: rrs-speed FILE LIMIT\n",
     );
-    for (index, words) in cases.iter().enumerate() {
+    for (index, words) in OTHER_WORDS.iter().enumerate() {
         assert!(rt; both_say(rt.alloc(), words, &FILES, 2, lines), "at {index}");
     }
 }
@@ -216,7 +221,7 @@ fn is_tried(room: usize, length: usize) -> bool {
 }
 
 /// Whether a program printed these bytes, and then ended well, or since no more could be written.
-fn ends_with_room(left: &(ExitCode, Vec<u8>, Vec<u8>), printed: &[u8], fails: bool) -> bool {
+fn ends_with_room(left: &Left, printed: &[u8], fails: bool) -> bool {
     let line = if fails {
         b"rrs-run: cannot write output\n".as_slice()
     } else {
@@ -227,16 +232,26 @@ fn ends_with_room(left: &(ExitCode, Vec<u8>, Vec<u8>), printed: &[u8], fails: bo
         && left.2.as_slice() == printed
 }
 
+/// Whether a program ends as it has to where there is room for the first bytes of its account.
+fn ends_with(alloc: Global, words: &[&[u8]], whole: &[u8], room: usize) -> bool {
+    let left = run(alloc, &RRS_RUN, words, &FILES, room);
+    match whole.get(..room) {
+        Some(printed) => ends_with_room(&left, printed, room < whole.len()),
+        None => false,
+    }
+}
+
+/// A file and a limit: the first account is shorter than the buffer, so that the flush fails; the
+/// second is longer.
+static ACCOUNTS: [(&[u8], &[u8]); 2] = [(b"program", b"10"), (b"loop", b"400")];
+
 #[test]
 fn tells_an_output_that_fails(rt: HostRuntime) -> Result<(), Fail> {
-    // The first account is shorter than the buffer, so that the flush fails; the second is longer.
-    for (path, limit) in [(b"program".as_slice(), b"10".as_slice()), (b"loop", b"400")] {
-        let words: [&[u8]; 3] = [b"rrs-run", path, limit];
+    for &(path, limit) in &ACCOUNTS {
         let whole = whole_account(rt.alloc(), &RRS_RUN, path, limit)?;
         for room in 0..=whole.len() {
             if is_tried(room, whole.len()) {
-                let left = run(rt.alloc(), &RRS_RUN, &words, &FILES, room);
-                let ends_so = ends_with_room(&left, &whole[..room], room < whole.len());
+                let ends_so = ends_with(rt.alloc(), &[b"rrs-run", path, limit], &whole, room);
                 assert!(rt; ends_so, "with room for {room}");
             }
         }
@@ -263,46 +278,54 @@ fn fails(alloc: Global, program: Command, fault: RunFault, line: &str) -> bool {
     ends(alloc, program, Err(Failure::Run(fault)), 1, line)
 }
 
+/// Programs, each with what is said where it is called wrongly.
+static USAGES: [(Command, &str); 2] = [
+    (RRS_HELLO, "usage: rrs-hello\n"),
+    (RRS_REPLAY, "usage: rrs-replay\n"),
+];
+
+/// Programs, each with what is said where its output can't be written.
+static UNWRITTEN: [(Command, &str); 2] = [
+    (RRS_HELLO, "rrs-hello: cannot write output\n"),
+    (RRS_REPLAY, "rrs-replay: cannot write output\n"),
+];
+
+/// Asserts what programs say that are called wrongly, or whose output can't be written.
+fn says_its_name(rt: &impl Abort, alloc: Global) {
+    for &(program, line) in &USAGES {
+        assert!(rt;
+            ends(alloc, program, Err(Failure::Usage), 2, line),
+            "{line}"
+        );
+    }
+    for &(program, line) in &UNWRITTEN {
+        assert!(rt; fails(alloc, program, RunFault::Output, line), "{line}");
+    }
+}
+
 #[test]
 fn ends_by_its_name(rt: HostRuntime) {
     let alloc = rt.alloc();
+    says_its_name(&rt, alloc);
     let cannot_open = Err(Failure::CannotOpen);
-    let (hello, replay) = (RRS_HELLO, RRS_REPLAY);
+    let output = RunFault::Output;
     let ended = [
-        ends(alloc, hello, Ok(()), 0, ""),
-        ends(alloc, hello, Err(Failure::Usage), 2, "usage: rrs-hello\n"),
-        ends(alloc, replay, Err(Failure::Usage), 2, "usage: rrs-replay\n"),
-        ends(
-            alloc,
-            RRS_RUN.command,
-            cannot_open,
-            1,
-            "rrs-run: cannot open file\n",
-        ),
-    ];
-    let no_memory = RunFault::OutOfMemory;
-    let failed = [
-        fails(alloc, hello, no_memory, "rrs-hello: out of memory\n"),
+        ends(alloc, RRS_HELLO, Ok(()), 0, ""),
+        ends(alloc, RRS_RUN.command, cannot_open, 1, CANNOT_OPEN.0),
         fails(
             alloc,
-            hello,
-            RunFault::Output,
-            "rrs-hello: cannot write output\n",
-        ),
-        fails(
-            alloc,
-            replay,
-            RunFault::Output,
-            "rrs-replay: cannot write output\n",
+            RRS_HELLO,
+            RunFault::OutOfMemory,
+            "rrs-hello: out of memory\n",
         ),
         fails(
             alloc,
             RRS_SPEED.command,
-            RunFault::Output,
+            output,
             "rrs-speed: cannot write output\n",
         ),
     ];
-    assert_eq!(rt; (ended, failed), ([true; 4], [true; 4]));
+    assert_eq!(rt; ended, [true; 4]);
 }
 
 /// Whether a program that takes no arguments is refused as one that is called wrongly.
@@ -311,15 +334,17 @@ fn is_refused(alloc: Global, words: &[&[u8]]) -> bool {
     matches!(take_no_arguments(&machine), Err(Failure::Usage))
 }
 
+/// Words of command lines, each with whether they are refused.
+static ARGUMENTS: [(&[&[u8]], bool); 4] = [
+    (&[], false),
+    (&[b"rrs-hello"], false),
+    (&[b"rrs-hello", b""], true),
+    (&[b"rrs-hello", b"\xff"], true),
+];
+
 #[test]
 fn refuses_an_argument(rt: HostRuntime) {
-    let cases: [(&[&[u8]], bool); 4] = [
-        (&[], false),
-        (&[b"rrs-hello"], false),
-        (&[b"rrs-hello", b""], true),
-        (&[b"rrs-hello", b"\xff"], true),
-    ];
-    for (words, want) in cases {
+    for &(words, want) in &ARGUMENTS {
         assert_eq!(rt; is_refused(rt.alloc(), words), want, "{words:?}");
     }
 }
