@@ -1,8 +1,13 @@
 //! What the tests share: a source as its words, or as its mistakes.
 
-use rrs_source::{SourceError, SourceFault, assemble_source};
+use rrs_source::{Assembled, SourceError, SourceFault, assemble_source};
 use std::alloc::{AllocError, Global};
 use std::process::Abort;
+
+/// What `assemble_source` answers, whose contract is so paid in this function alone.
+pub(crate) fn made(alloc: Global, source: &[u8], base: u32) -> Result<Assembled, SourceFault> {
+    assemble_source(alloc, source, base)
+}
 
 /// The words of a source, the last of them filled up with zeros, and its mistakes. Where there are
 /// mistakes there are no words.
@@ -11,7 +16,7 @@ pub(crate) fn assembled(
     source: &[u8],
     base: u32,
 ) -> Result<(Vec<u32>, Vec<SourceError>), AllocError> {
-    match assemble_source(alloc, source, base) {
+    match made(alloc, source, base) {
         Ok(made) => Ok((words_of(alloc, &made.bytes)?, Vec::new(alloc))),
         Err(SourceFault::Mistakes(errors)) => Ok((Vec::new(alloc), errors)),
         Err(SourceFault::OutOfMemory) => Err(AllocError),

@@ -1,51 +1,54 @@
 //! Sources with mistakes, and the places that are told.
 
-use crate::assembled::{same_mistakes, same_words};
-use rrs_source::{Mistake, SourceError, SourceFault, assemble_source};
+use crate::assembled::{made, same_mistakes, same_words};
+use rrs_source::{Mistake, SourceError, SourceFault};
 use std::alloc::Global;
 use std::test::Fail;
+
+/// Sources, each with the line and the column of its mistake.
+static MISTAKES: [(&str, usize, usize, Mistake); 36] = [
+    ("nop\n  addx a0, a1", 2, 3, Mistake::Unknown),
+    (".wrod 1", 1, 1, Mistake::Unknown),
+    ("addi-1", 1, 1, Mistake::Unknown),
+    ("nop\n\n)", 3, 1, Mistake::Character),
+    ("2a: nop", 1, 1, Mistake::Character),
+    ("add a0, x32, a1", 1, 9, Mistake::Register),
+    ("li a0,", 1, 7, Mistake::Value),
+    ("addi a0, a0, %top(4)", 1, 15, Mistake::Value),
+    ("li a0, 0x", 1, 8, Mistake::Number),
+    ("li a0, 4294967296", 1, 8, Mistake::Number),
+    ("li a0, 017", 1, 8, Mistake::Number),
+    ("addi a0, a0, 2048", 1, 14, Mistake::Range),
+    ("li a0, -2147483649", 1, 9, Mistake::Range),
+    ("slli a0, a0, 32", 1, 14, Mistake::Range),
+    ("lui a0, 0x100000", 1, 9, Mistake::Range),
+    (".byte 256", 1, 7, Mistake::Range),
+    (".balign 3", 1, 9, Mistake::Range),
+    ("beq a0, a1, . + 4096", 1, 13, Mistake::Range),
+    ("j . - 0x100002", 1, 3, Mistake::Range),
+    ("j . + 1", 1, 3, Mistake::Unaligned),
+    ("add a0 a1, a2", 1, 8, Mistake::Comma),
+    ("lw a0, 4", 1, 9, Mistake::Parenthesis),
+    ("lw a0, 4(a1", 1, 12, Mistake::Parenthesis),
+    (".ascii \"ab", 1, 11, Mistake::Quote),
+    ("li a0, 'ab'", 1, 10, Mistake::Quote),
+    (".ascii \"a\\q\"", 1, 11, Mistake::Escape),
+    ("nop nop", 1, 5, Mistake::More),
+    ("j there", 1, 3, Mistake::Undefined),
+    ("j 1b\n1:", 1, 3, Mistake::Undefined),
+    ("li a0, a\na:", 1, 8, Mistake::Later),
+    ("a:\nnop; a: nop", 2, 6, Mistake::Duplicate),
+    ("a0: nop", 1, 1, Mistake::Reserved),
+    (".data", 1, 1, Mistake::Section),
+    ("nop\n.org 2", 2, 6, Mistake::Backward),
+    (".byte 1\nnop\nnop", 2, 1, Mistake::Misplaced),
+    (".space 0x4000001", 1, 8, Mistake::TooLong),
+];
 
 /// Each mistake, with the line and the column where it is.
 #[test]
 fn mistakes_are_told_with_their_places(rt: HostRuntime) -> Result<(), Fail> {
-    for (text, line, column, mistake) in [
-        ("nop\n  addx a0, a1", 2, 3, Mistake::Unknown),
-        (".wrod 1", 1, 1, Mistake::Unknown),
-        ("addi-1", 1, 1, Mistake::Unknown),
-        ("nop\n\n)", 3, 1, Mistake::Character),
-        ("2a: nop", 1, 1, Mistake::Character),
-        ("add a0, x32, a1", 1, 9, Mistake::Register),
-        ("li a0,", 1, 7, Mistake::Value),
-        ("addi a0, a0, %top(4)", 1, 15, Mistake::Value),
-        ("li a0, 0x", 1, 8, Mistake::Number),
-        ("li a0, 4294967296", 1, 8, Mistake::Number),
-        ("li a0, 017", 1, 8, Mistake::Number),
-        ("addi a0, a0, 2048", 1, 14, Mistake::Range),
-        ("li a0, -2147483649", 1, 9, Mistake::Range),
-        ("slli a0, a0, 32", 1, 14, Mistake::Range),
-        ("lui a0, 0x100000", 1, 9, Mistake::Range),
-        (".byte 256", 1, 7, Mistake::Range),
-        (".balign 3", 1, 9, Mistake::Range),
-        ("beq a0, a1, . + 4096", 1, 13, Mistake::Range),
-        ("j . - 0x100002", 1, 3, Mistake::Range),
-        ("j . + 1", 1, 3, Mistake::Unaligned),
-        ("add a0 a1, a2", 1, 8, Mistake::Comma),
-        ("lw a0, 4", 1, 9, Mistake::Parenthesis),
-        ("lw a0, 4(a1", 1, 12, Mistake::Parenthesis),
-        (".ascii \"ab", 1, 11, Mistake::Quote),
-        ("li a0, 'ab'", 1, 10, Mistake::Quote),
-        (".ascii \"a\\q\"", 1, 11, Mistake::Escape),
-        ("nop nop", 1, 5, Mistake::More),
-        ("j there", 1, 3, Mistake::Undefined),
-        ("j 1b\n1:", 1, 3, Mistake::Undefined),
-        ("li a0, a\na:", 1, 8, Mistake::Later),
-        ("a:\nnop; a: nop", 2, 6, Mistake::Duplicate),
-        ("a0: nop", 1, 1, Mistake::Reserved),
-        (".data", 1, 1, Mistake::Section),
-        ("nop\n.org 2", 2, 6, Mistake::Backward),
-        (".byte 1\nnop\nnop", 2, 1, Mistake::Misplaced),
-        (".space 0x4000001", 1, 8, Mistake::TooLong),
-    ] {
+    for &(text, line, column, mistake) in &MISTAKES {
         let expected = SourceError {
             line,
             column,
@@ -56,27 +59,35 @@ fn mistakes_are_told_with_their_places(rt: HostRuntime) -> Result<(), Fail> {
     Ok(())
 }
 
+/// The mistakes of three lines of a source, in their order.
+static IN_ORDER: [SourceError; 3] = [
+    SourceError {
+        line: 1,
+        column: 3,
+        mistake: Mistake::Register,
+    },
+    SourceError {
+        line: 3,
+        column: 3,
+        mistake: Mistake::Undefined,
+    },
+    SourceError {
+        line: 4,
+        column: 9,
+        mistake: Mistake::Value,
+    },
+];
+
 /// The first mistake of each line is told, in the order of the lines.
 #[test]
 fn every_line_with_a_mistake_is_told(rt: HostRuntime) -> Result<(), Fail> {
-    let wanted = [
-        SourceError {
-            line: 1,
-            column: 3,
-            mistake: Mistake::Register,
-        },
-        SourceError {
-            line: 3,
-            column: 3,
-            mistake: Mistake::Undefined,
-        },
-        SourceError {
-            line: 4,
-            column: 9,
-            mistake: Mistake::Value,
-        },
-    ];
-    same_mistakes(&rt, rt.alloc(), "li\nnop\nj a; j b\n.word 1,\n", 0, &wanted)?;
+    same_mistakes(
+        &rt,
+        rt.alloc(),
+        "li\nnop\nj a; j b\n.word 1,\n",
+        0,
+        &IN_ORDER,
+    )?;
     Ok(())
 }
 
@@ -93,13 +104,12 @@ fn addresses_end(rt: HostRuntime) -> Result<(), Fail> {
     Ok(())
 }
 
+/// A source with labels, a constant, and data.
+const SOURCE: &[u8] = b"a: .word 1f, a\n.ascii \"xyz\"\nb = 1\n1:\n.byte b";
+
 /// Whether a source is assembled to the bytes that are wanted, or None where memory ran out.
 fn is_assembled(alloc: Global) -> Option<bool> {
-    match assemble_source(
-        alloc,
-        b"a: .word 1f, a\n.ascii \"xyz\"\nb = 1\n1:\n.byte b",
-        0,
-    ) {
+    match made(alloc, SOURCE, 0) {
         Ok(made) => Some(made.bytes.as_slice() == b"\x0b\0\0\0\0\0\0\0xyz\x01".as_slice()),
         Err(SourceFault::OutOfMemory) => None,
         Err(SourceFault::Mistakes(_)) => Some(false),

@@ -4,7 +4,7 @@ use crate::assembled::assembled;
 use rrs_lib::HartState;
 use rrs_lib::instruction_executor::InstructionExecutor;
 use rrs_lib::memories::VecMemory;
-use std::alloc::Global;
+use std::alloc::{AllocError, Global};
 use std::test::Fail;
 
 const THREE_WORDS: &str = "# Two constants in the upper 20 bits, and their sum.
@@ -63,101 +63,117 @@ put_string:
     j    put_string
 ";
 
-/// What is seen of a program: whether its words are those that are wanted, how many steps it made,
-/// a register at the end, and the word of the memory at 0x80.
-type Seen = (bool, u64, u32, Option<u32>);
-
-/// Assembles a program, puts its words at 0 and other words at 0x80, and runs it with these
-/// registers to a fetch or a word that is a fault. x1 is 0x7c, where a zero stands.
-fn run_program(
-    alloc: Global,
-    source: &[u8],
-    wanted: &[u32],
-    others: &[u32],
+/// A program, and what is seen of it.
+struct Case {
+    source: &'static str,
+    /// The words that are wanted.
+    words: &'static [u32],
+    /// The words at 0x80.
+    others: &'static [u32],
+    /// x10, x11 and x12 before.
     registers: [u32; 3],
-    shown: usize,
-) -> Result<Seen, Fail> {
-    let (mut words, _) = assembled(alloc, source, 0)?;
-    let is_wanted = words.as_slice() == wanted;
+    /// How many steps it makes.
+    steps: u64,
+    /// A register after them, and its value.
+    left: (usize, u32),
+    /// The word at 0x80 after them.
+    at_80: Option<u32>,
+}
+
+static CASES: [Case; 5] = [
+    Case {
+        source: THREE_WORDS,
+        words: &[0x1234b137, 0xf387e1b7, 0x003100b3],
+        others: &[],
+        registers: [0, 0, 0],
+        steps: 3,
+        left: (1, 0x05bc_9000),
+        at_80: None,
+    },
+    Case {
+        source: SUM_LOOP,
+        words: &[
+            0x00000613, 0x00058c63, 0x00052683, 0x00d60633, 0x00450513, 0xfff58593, 0xfedff06f,
+        ],
+        others: &[5, 7, 0xffff_ffff],
+        registers: [0x80, 3, 0],
+        steps: 20,
+        left: (12, 11),
+        at_80: Some(5),
+    },
+    Case {
+        source: GCD,
+        words: &[
+            0x00059463, 0x00008067, 0x02b577b3, 0x00058513, 0x00078593, 0xfedff06f,
+        ],
+        others: &[],
+        registers: [48, 36, 0],
+        steps: 12,
+        left: (10, 12),
+        at_80: None,
+    },
+    Case {
+        source: COPY_WORDS,
+        words: &[
+            0x02060063, 0x00261613, 0x00c58733, 0x0005a783, 0x00458593, 0x00450513, 0xfef52e23,
+            0xfee598e3, 0x00008067,
+        ],
+        others: &[0, 0, 21, 22],
+        registers: [0x80, 0x88, 2],
+        steps: 14,
+        left: (10, 0x88),
+        at_80: Some(21),
+    },
+    Case {
+        source: PUT_STRING,
+        words: &[
+            0x0005c783, 0x00079463, 0x00008067, 0x00158593, 0x00f50023, 0xfedff06f,
+        ],
+        others: &[0, 0x0063_6261],
+        registers: [0x80, 0x84, 0],
+        steps: 18,
+        left: (15, 0),
+        at_80: Some(0x63),
+    },
+];
+
+/// A memory of the words of a program at 0, and of other words at 0x80.
+fn memory_of(mut words: Vec<u32>, others: &[u32]) -> Result<VecMemory, AllocError> {
     words.resize(0x20, 0)?;
     words.extend_from_slice(others)?;
-    let mut memory = VecMemory::new(words);
+    Ok(VecMemory::new(words))
+}
+
+/// Runs a program to a fetch or a word that is a fault: how many steps it made, and its registers.
+/// x1 is 0x7c, where a zero stands.
+fn run_over(memory: &mut VecMemory, registers: [u32; 3]) -> (u64, [u32; 32]) {
     let mut hart = HartState::new();
     hart.registers[1] = 0x7c;
-    let [first, second, third] = registers;
-    hart.registers[10] = first;
-    hart.registers[11] = second;
-    hart.registers[12] = third;
+    hart.registers[10..13].copy_from_slice(&registers);
     let mut executor = InstructionExecutor {
-        mem: &mut memory,
+        mem: memory,
         hart_state: &mut hart,
     };
     let end = executor.run(1000);
-    let value = hart.registers.get(shown).copied().unwrap_or(0);
-    Ok((is_wanted, end.steps, value, memory.mem.get(0x20).copied()))
+    (end.steps, hart.registers)
+}
+
+/// Whether a program has its words, and its run leaves what it has to: the steps, the register, and
+/// the word at 0x80.
+fn is_right(alloc: Global, case: &Case) -> Result<bool, AllocError> {
+    let (words, _) = assembled(alloc, case.source.as_bytes(), 0)?;
+    let is_wanted = words.as_slice() == case.words;
+    let mut memory = memory_of(words, case.others)?;
+    let (steps, registers) = run_over(&mut memory, case.registers);
+    let (shown, value) = case.left;
+    let is_left = steps == case.steps && registers.get(shown) == Some(&value);
+    Ok(is_wanted && is_left && memory.mem.get(0x20).copied() == case.at_80)
 }
 
 #[test]
 fn programs_are_assembled_and_run(rt: HostRuntime) -> Result<(), Fail> {
-    let alloc = rt.alloc();
-    let seen = [
-        run_program(
-            alloc,
-            THREE_WORDS.as_bytes(),
-            &[0x1234b137, 0xf387e1b7, 0x003100b3],
-            &[],
-            [0, 0, 0],
-            1,
-        )?,
-        run_program(
-            alloc,
-            SUM_LOOP.as_bytes(),
-            &[
-                0x00000613, 0x00058c63, 0x00052683, 0x00d60633, 0x00450513, 0xfff58593, 0xfedff06f,
-            ],
-            &[5, 7, 0xffff_ffff],
-            [0x80, 3, 0],
-            12,
-        )?,
-        run_program(
-            alloc,
-            GCD.as_bytes(),
-            &[
-                0x00059463, 0x00008067, 0x02b577b3, 0x00058513, 0x00078593, 0xfedff06f,
-            ],
-            &[],
-            [48, 36, 0],
-            10,
-        )?,
-        run_program(
-            alloc,
-            COPY_WORDS.as_bytes(),
-            &[
-                0x02060063, 0x00261613, 0x00c58733, 0x0005a783, 0x00458593, 0x00450513, 0xfef52e23,
-                0xfee598e3, 0x00008067,
-            ],
-            &[0, 0, 21, 22],
-            [0x80, 0x88, 2],
-            10,
-        )?,
-        run_program(
-            alloc,
-            PUT_STRING.as_bytes(),
-            &[
-                0x0005c783, 0x00079463, 0x00008067, 0x00158593, 0x00f50023, 0xfedff06f,
-            ],
-            &[0, 0x0063_6261],
-            [0x80, 0x84, 0],
-            15,
-        )?,
-    ];
-    let expected = [
-        (true, 3, 0x05bc_9000, None),
-        (true, 20, 11, Some(5)),
-        (true, 12, 12, None),
-        (true, 14, 0x88, Some(21)),
-        (true, 18, 0, Some(0x63)),
-    ];
-    assert!(rt; seen == expected);
+    for (index, case) in CASES.iter().enumerate() {
+        assert!(rt; is_right(rt.alloc(), case)?, "at {index}");
+    }
     Ok(())
 }
