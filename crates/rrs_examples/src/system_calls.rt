@@ -184,8 +184,8 @@ fn calls_answer(rt: HostRuntime) -> Result<(), Fail> {
     Ok(())
 }
 
-/// Calls of a recorder, each with how it ends, its answer, and what is left of the input and held of
-/// the output and of the errors after it.
+/// Calls of a recorder, each with how it ends, its answer, and what is left of the input and held
+/// of the output and of the errors after it.
 static RECORDED: [(Request, Option<u32>, u32, (usize, usize, usize)); 18] = [
     ((WRITE, 1, 0, 4), None, 4, (3, 4, 0)),
     ((WRITE, 1, 4, 10), None, 6, (3, 10, 0)),
