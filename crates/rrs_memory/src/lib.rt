@@ -88,8 +88,8 @@ pub trait Memory {
             self.old self.new addr (width size) store_data result }
         ensures did { writes self.old addr size store_data self.new result };
 
-    /// Whether a read does nothing, by the relation `reads`: so one may be left out. A long run over
-    /// such a memory fetches each word once, until a store changes it.
+    /// Whether a read does nothing, by the relation `reads`: so one may be left out. A long run
+    /// over such a memory fetches each word once, until a store changes it.
     ///
     /// `false` is always right, and is what an implementation answers that says nothing of it.
     fn reads_are_pure(&self) -> bool
