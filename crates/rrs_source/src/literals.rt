@@ -36,7 +36,8 @@ fn digit_of(byte: u8, base: u32) -> Option<u32> {
     if digit < base { Some(digit) } else { None }
 }
 
-/// The digit of the nearest local label that a word means, and whether it stands before: `1b`, `1f`.
+/// The digit of the local label that a word means, and whether it is the nearest one before, as in
+/// `1b`, or behind, as in `1f`.
 pub fn local_label(word: &[u8]) -> Option<(u8, bool)> {
     match word {
         [digit @ b'0'..=b'9', b'b'] => Some((*digit - b'0', true)),

@@ -58,12 +58,7 @@ const FORMS: [(&[u8], PseudoForm); 25] = [
 
 /// The pseudo-instruction of a name.
 pub fn pseudo_named(name: &[u8]) -> Option<PseudoForm> {
-    for (form_name, form) in &FORMS {
-        if *form_name == name {
-            return Some(*form);
-        }
-    }
-    None
+    value_named(&FORMS, name)
 }
 
 /// A directive that puts something at its address, by how its operands are written.
@@ -130,9 +125,14 @@ const DIRECTIVES: [(&[u8], DirectiveForm); 26] = [
 
 /// What the directive of a name says.
 pub fn directive_named(name: &[u8]) -> Option<DirectiveForm> {
-    for (form_name, form) in &DIRECTIVES {
-        if *form_name == name {
-            return Some(*form);
+    value_named(&DIRECTIVES, name)
+}
+
+/// What stands beside a name in a table.
+pub fn value_named<T: Copy>(table: &[(&[u8], T)], name: &[u8]) -> Option<T> {
+    for (own, value) in table {
+        if *own == name {
+            return Some(*value);
         }
     }
     None

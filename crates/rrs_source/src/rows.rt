@@ -1,5 +1,6 @@
 //! The rows of the table, by their names.
 
+use crate::names::value_named;
 use rrs_instruction::instruction::{Instruction, decode};
 
 /// The rows in the order of the table, and the word of each with its operands left 0.
@@ -56,10 +57,5 @@ const ROWS: [(&[u8], u32); 48] = [
 
 /// The instruction of a name, with its operands left 0.
 pub fn row_named(name: &[u8]) -> Option<Instruction> {
-    for (row, word) in &ROWS {
-        if *row == name {
-            return decode(*word);
-        }
-    }
-    None
+    decode(value_named(&ROWS, name)?)
 }
