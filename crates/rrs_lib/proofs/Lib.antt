@@ -18,9 +18,7 @@ pub mod Accesses
 pub mod ComputedSteps
 pub mod Engines
 pub mod ExampleRows
-pub mod Forgetting
 pub mod Keeping
-pub mod Known
 pub mod Making
 pub mod Programs
 pub mod Stepping

@@ -27,7 +27,4 @@ pub mod FaultTexts
 -- The code as seen by these: what a processor, the executor and the outputter say of themselves.
 pub mod Executor
 pub mod Engines
-pub mod Decoded
-pub mod Packed
-pub mod Known
 pub mod Outputter

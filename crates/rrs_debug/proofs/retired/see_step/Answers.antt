@@ -2,7 +2,7 @@
 use Rattle.std.proofs.Common.{rules}
 use Rattle.rrs_lib.specs.Machine.{state_of, hart_of}
 use Rattle.rrs_lib.specs.Steps.{Step}
-use Rattle.rrs_lib.proofs.Forgetting.{moved}
+use Rattle.rrs_lib.proofs.Engines.{moved}
 use Rattle.rrs_debug.proofs.retired.see_step.Goals as goal
 
 pub returns-clause-step : goal.returns-clause-step

@@ -4,7 +4,7 @@ use Rattle.std.proofs.lemmas.Option.{none-some}
 use Rattle.rrs_lib.specs.Instructions.{row_of, fields_of}
 use Rattle.rrs_lib.specs.Machine.{hart_of}
 use Rattle.rrs_lib.specs.Steps.{Step, Illegal, cleared}
-use Rattle.rrs_lib.proofs.Forgetting.{moved}
+use Rattle.rrs_lib.proofs.Engines.{moved}
 use Rattle.rrs_lib.proofs.Making.{exactly-fetch, exactly-step, accesses_of_illegal, accesses_of_legal}
 use Rattle.rrs_lib.proofs.Rows.{one_row_at_most}
 use Rattle.rrs_debug.specs.Traced.{traced_state}

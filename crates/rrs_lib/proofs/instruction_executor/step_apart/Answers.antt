@@ -3,8 +3,7 @@ use Rattle.std.proofs.Common.{rules, None}
 use Rattle.rrs_lib.specs.Machine.{state_of, hart_of}
 use Rattle.rrs_lib.specs.Steps.{Step, cleared}
 use Rattle.rrs_lib.specs.Accesses.{AccessesOf, MakesExactly}
-use Rattle.rrs_lib.proofs.Engines.{apart}
-use Rattle.rrs_lib.proofs.Forgetting.{moved}
+use Rattle.rrs_lib.proofs.Engines.{apart, moved}
 use Rattle.rrs_lib.proofs.Keeping.{Step-last}
 use Rattle.rrs_lib.proofs.Making.{exactly-uncleared}
 use Rattle.rrs_lib.proofs.Stepping.{Step-uncleared}
