@@ -15,6 +15,7 @@ ghost use Rattle.rrs_lib.specs.Bytes.{EndsAtLastAddress};
 ghost use Rattle.rrs_served.specs.Serving.{Served, IsOnlyServed, MakesSome};
 ghost use Rattle.rrs_served.specs.Rounds.{RoundOf, StepsWithin};
 
+use rrs_fast::DecodeCache;
 use rrs_lib::Memory;
 use rrs_lib::instruction_executor::{InstructionException, InstructionExecutor};
 
@@ -76,6 +77,7 @@ enum Round {
 
 /// Makes steps up to a call, and serves it.
 fn serve_next<M: Memory, E: Environment>(
+    cache: &mut DecodeCache,
     executor: &mut InstructionExecutor<M>,
     environment: &mut E,
     limit: u64,
@@ -90,7 +92,7 @@ fn serve_next<M: Memory, E: Environment>(
     ensures ends { 1 ≤ limit → executor.old.hart_state.now.pc % 4 ≡ 0
         → EndsAtLastAddress (M.bytes executor.old.mem.now) (M.writable executor.old.mem.now) }
 {
-    let end = executor.run(limit);
+    let end = cache.run(executor, limit);
     let Some(exception) = end.exception else {
         return Round::Ended(end.steps, Ending::Limit);
     };
@@ -111,10 +113,10 @@ fn serve_next<M: Memory, E: Environment>(
 
 /// Makes steps until as many as `limit` were made, one faults, or the environment ends the program.
 ///
-/// Steps are made as by `run`. At an `ecall` the environment serves the call, once, and a program
-/// that goes on does so at the next instruction, pc + 4 modulo 2^32. Each `ecall` that is served
-/// counts as a step, so that a program that does nothing but call ends too. With limit 0 nothing
-/// changes and no call is served.
+/// Steps are made as by `run`, over the cache that is lent. At an `ecall` the environment serves
+/// the call, once, and a program that goes on does so at the next instruction, pc + 4 modulo 2^32.
+/// Each `ecall` that is served counts as a step, so that a program that does nothing but call ends
+/// too. With limit 0 nothing changes and no call is served.
 ///
 /// The clauses: from the machine and the environment before, a chain of runs and calls, each within
 /// what is left of the limit, leads to those after, and exactly its accesses are made, those of the
@@ -123,6 +125,7 @@ fn serve_next<M: Memory, E: Environment>(
 /// (`rest`). Where the first step fetches, nothing is mapped or writable from 2^32 on (`ends`), as
 /// by `run`.
 pub fn run_served<M: Memory, E: Environment>(
+    cache: &mut DecodeCache,
     executor: &mut InstructionExecutor<M>,
     environment: &mut E,
     limit: u64,
@@ -142,7 +145,7 @@ pub fn run_served<M: Memory, E: Environment>(
 {
     let mut steps = 0;
     'rounds: loop {
-        match serve_next(executor, environment, limit - steps) {
+        match serve_next(cache, executor, environment, limit - steps) {
             Round::GoneOn(more) => {
                 steps += more;
             }
