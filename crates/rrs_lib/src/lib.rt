@@ -25,7 +25,7 @@ pub use rrs_instruction::{
 pub use rrs_memory::{MemAccessSize, Memory, memories};
 
 /// The state of a single RISC-V hart (hardware thread).
-#[derive(Debug, PartialEq, Clone, Drop)]
+#[derive(Drop)]
 pub struct HartState {
     /// The registers x1 to x31. x0 is 0, whatever entry 0 holds, and no call leaves another value
     /// there than it found.
