@@ -77,7 +77,7 @@ typedef struct rrs_end {
 rrs_fault rrs_step(rrs_hart *hart, uint32_t *words, size_t count, uint32_t base);
 
 /* Makes steps until `limit` were made, or one faults. A run of 2,000 steps or more keeps a table of
- * 28 KiB on the stack. */
+ * 20 KiB on the stack. */
 rrs_end rrs_run(rrs_hart *hart, uint32_t *words, size_t count, uint32_t base, uint64_t limit);
 
 /* Makes steps until the pc is one of the `stop_count` addresses at `stops`, `limit` were made, or
