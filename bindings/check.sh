@@ -94,7 +94,7 @@ python_prints() {
     diff "$here/python/expected.txt" "$room/printed"
 }
 
-try "rt lib" sh -c 'cd "$1" && rt lib' sh "$crate"
+try "the library is built" "$here/../.ci/built" library
 [ "$failed" = 0 ] || exit 1
 try "the library needs memset, memcpy and memmove alone" asks_little
 examples
