@@ -43,8 +43,9 @@ run() {
 # refuse CRATE TEST
 refuse() {
     tests=$here/../../crates/$1/out/$1_tests
-    if [ ! -x "$tests" ] || ! "$tests" --list | grep -q "^$2: test"; then
-        echo "$1 $2: no such test is built: \`rt ci\`, or \`rt test\` in crates/$1, builds it" >&2
+    "$here/../../.ci/built" tests "$1" || return
+    if ! "$tests" --list | grep -q "^$2: test"; then
+        echo "$1 $2: there is no such test" >&2
         return 2
     fi
     n=1
