@@ -5,8 +5,13 @@
 #
 # usage: check.sh
 #
-# It needs rt, gcc and g++, nm, cargo and python3, and stops where one is missing. The status is 0
-# where all passed, 1 where something did not, and 2 where a tool is missing.
+# The library is taken as it stands where it is newer than its sources, and else built, over what
+# `rt ci` left. It needs rt, and Debian's packages gcc, g++, binutils, cargo and python3; where CI is
+# true those that are missing are installed. The status is 0 where all passed, 1 where something did
+# not, and 2 where a tool is missing, and nothing was tried.
+
+# functions below are called by `try`
+# shellcheck disable=SC2317
 
 here=$(cd "$(dirname "$0")" && pwd) || exit 2
 crate=$here/../crates/rrs_c
@@ -14,12 +19,14 @@ library=$crate/out/librrs_c.a
 room=$(mktemp -d) || exit 2
 trap 'rm -rf "$room"' EXIT
 
-for tool in rt gcc g++ nm cargo python3; do
-    if ! command -v "$tool" >/dev/null; then
-        echo "$0: there is no $tool" >&2
-        exit 2
-    fi
-done
+if ! command -v rt >/dev/null; then
+    echo "$0: there is no rt" >&2
+    exit 2
+fi
+if ! lacking=$("$here/../.ci/tools" gcc=gcc g++=g++ nm=binutils cargo=cargo python3=python3); then
+    echo "$0: nothing was tried: not installed: $lacking" >&2
+    exit 2
+fi
 
 failed=0
 # try WHAT COMMAND ..: runs it, and shows what it printed where it fails
