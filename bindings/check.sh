@@ -6,9 +6,9 @@
 # usage: check.sh
 #
 # The library is taken as it stands where it is newer than its sources, and else built, over what
-# `rt ci` left. It needs rt, and Debian's packages gcc, g++, binutils, cargo and python3; where CI is
-# true those that are missing are installed. The status is 0 where all passed, 1 where something did
-# not, and 2 where a tool is missing, and nothing was tried.
+# `rt ci` left. It needs rt, and Debian's packages gcc, g++, binutils, cargo and python3; where CI
+# is true those that are missing are installed. The status is 0 where all passed, 1 where something
+# did not, and 2 where a tool is missing, and nothing was tried.
 
 # functions below are called by `try`
 # shellcheck disable=SC2317

@@ -3,13 +3,13 @@
 #
 # usage: refuse-each.sh [CRATE TEST]
 #
-# It runs the built tests of a crate, those that `rt ci` leaves, and builds them first where they are
-# older than their sources. They run with refuse.c preloaded, which the C compiler `cc` makes: the
-# first allocation is refused, then the second alone, and so on up to the last that the test makes.
-# With no arguments it does so for the tests below, which are written to hold whichever allocation is
-# refused; docs/PROVED.md says what each holds to. The status is 0 where each run passed, 1 where one
-# did not, and 2 where there is no such test or no C compiler, or for wrong arguments. Where CI is
-# true a missing compiler is installed.
+# It runs the built tests of a crate, those that `rt ci` leaves, and builds them first where they
+# are older than their sources. They run with refuse.c preloaded, which the C compiler `cc` makes:
+# the first allocation is refused, then the second alone, and so on up to the last that the test
+# makes. With no arguments it does so for the tests below, which are written to hold whichever
+# allocation is refused; docs/PROVED.md says what each holds to. The status is 0 where each run
+# passed, 1 where one did not, and 2 where there is no such test or no C compiler, or for wrong
+# arguments. Where CI is true a missing compiler is installed.
 
 all='rrs_tests texts::a_refused_text_may_be_asked_for_again
 rrs_tests spaces::a_refused_region_may_be_added_again
