@@ -1,7 +1,6 @@
 -- The regions of the code, and the list that contracts see of them.
 use Rattle.std.proofs.Common.{◌≡◌, ◌↔◌, ℕ, zero, suc, ◌<◌, List, [], ◌∷◌, ◌++◌, length, map, get_or, set, Some, Result, Ok, Err, OnOk, Bool, true, false, IsTrue, Any, MatchBool, inl, inr, refl, sym, subst, ap, ◌∙◌, arith}
 use Rattle.std.specs.List.{slice_get, HoldsAt, AllWithin}
-use Rattle.std.specs.Bool.{OnTrue, OnFalse}
 use Rattle.std.proofs.lemmas.Bool.{false≢true}
 use Rattle.std.proofs.lemmas.List.{map_push, length-map}
 use Rattle.std.proofs.lemmas.Option.{none-some, same_Some, slice_get-map, slice_get_read, slice_get_within, slice_get_cases, get_or_from_slice_get}
@@ -13,16 +12,6 @@ use Rattle.rrs_memory.proofs.Regions.{IsSpace-push}
 -- a fact that a test says does not hold
 pub refuted : {P : Type 0} (r : Bool) → r ≡ false → IsTrue r ↔ P → P → ⊥
 refuted r e same p = false≢true (sym e ∙ same.1 p)
-
--- what follows from a fact of the answer `true`
-pub OnTrue_then : {P Q : Type 0} (r : Bool) → OnTrue r P → (P → Q) → OnTrue r Q
-OnTrue_then true p f = f p
-OnTrue_then false p f = p
-
--- what follows from a fact of the answer `false`
-pub OnFalse_then : {P Q : Type 0} (r : Bool) → OnFalse r P → (P → Q) → OnFalse r Q
-OnFalse_then true p f = p
-OnFalse_then false p f = f p
 
 -- a fact holds where the result is `Ok` too
 pub OnOk_always : {A B P : Type 0} (r : Result A B) → P → OnOk r P
@@ -38,19 +27,25 @@ module _ {M : Type 0} where
       let at_fields : slice_get fields i ≡ Some x = slice_get_read fields (length fields) i x refl (omega (arith, long, long_old, within)) read in
       (at_fields, ap (λ xs. slice_get xs i) (sym view) ∙ slice_get-map region_of fields i ∙ rw at_fields refl)
 
+  -- the region of the code that was found for an address, at its place in the list of the contract
+  pub record Found (fields : List (MemoryRegion M)) (old : List (Region M)) (i : ℕ) (x : MemoryRegion M) (a : ℕ) : Type 0 where
+    pub view : map region_of fields ≡ old
+    pub here : slice_get fields i ≡ Some x
+    pub stands : slice_get old i ≡ Some (region_of x)
+    pub hit : serves (region_of x) a ≡ true
+
   -- a region that serves an address is one of the code's list
   pub served_within : (fields : List (MemoryRegion M)) (old : List (Region M)) (i a : ℕ) → map region_of fields ≡ old → IsServedAt old a i → i < length fields
   served_within fields old i a view found =
-      let long : length (map region_of fields) ≡ length fields = length-map fields region_of in
       let long_old : length (map region_of fields) ≡ length old = ap length view in
-      omega (arith, long, long_old, slice_get_within old i found.region found.stands)
+      omega (arith, length-map fields region_of, long_old, slice_get_within old i found.region found.stands)
 
-  -- the region that was read at a served index stands there and serves
-  pub served_field : (fields : List (MemoryRegion M)) (old : List (Region M)) (i : ℕ) (x : MemoryRegion M) (a : ℕ) → map region_of fields ≡ old → IsServedAt old a i → x ≡ get_or fields i x → (slice_get fields i ≡ Some x) × (slice_get old i ≡ Some (region_of x)) × (serves (region_of x) a ≡ true)
+  -- the region that was read at a served index
+  pub served_field : (fields : List (MemoryRegion M)) (old : List (Region M)) (i : ℕ) (x : MemoryRegion M) (a : ℕ) → map region_of fields ≡ old → IsServedAt old a i → x ≡ get_or fields i x → Found fields old i x a
   served_field fields old i x a view found read =
       let both = stands_of fields old i x view (slice_get_within old i found.region found.stands) read in
       let same : found.region ≡ region_of x = same_Some _ _ (sym found.stands ∙ both.1) in
-      (both.0, both.1, ap (λ r. serves r a) (sym same) ∙ found.serves_it)
+      record { view = view; here = both.0; stands = both.1; hit = ap (λ r. serves r a) (sym same) ∙ found.serves_it }
 
   -- a region of the code replaced by one with another memory, as the contract sees it
   pub set_is_with_memory : (fields : List (MemoryRegion M)) (i : ℕ) (x y : MemoryRegion M) → slice_get fields i ≡ Some x → y ≡ with_inner x y.memory → map region_of (set fields i y) ≡ with_memory (map region_of fields) i y.memory

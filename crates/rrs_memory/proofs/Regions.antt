@@ -1,6 +1,7 @@
 -- What the regions of an address space say of an address, and what replacing one region's memory changes of that.
-use Rattle.std.proofs.Common.{◌≡◌, ◌⊎◌, ℕ, zero, suc, ◌+◌, ◌-◌, ◌/◌, ◌%◌, ◌^◌, ◌<◌, ◌≤◌, List, [], ◌∷◌, ◌++◌, length, map, get_or, Some, None, Bool, true, false, All, Any, inl, inr, refl, sym, ap, subst, ◌∙◌, arith}
+use Rattle.std.proofs.Common.{◌≡◌, ◌⊎◌, ℕ, zero, suc, ◌+◌, ◌-◌, ◌/◌, ◌%◌, ◌^◌, ◌<◌, ◌≤◌, List, [], ◌∷◌, ◌++◌, length, map, get_or, Option, Some, None, Bool, true, false, All, Any, inl, inr, refl, sym, ap, subst, ◌∙◌, arith}
 use Rattle.std.specs.List.{AllPairs, slice_get}
+use Rattle.std.specs.Bool.{OnTrue, OnFalse}
 use Rattle.std.proofs.Math.Path.{fun_ext}
 use Rattle.std.proofs.lemmas.Bool.{cases_lt, false≢true}
 use Rattle.std.proofs.lemmas.Bool.Decides.{nat_tests}
@@ -10,9 +11,21 @@ use Rattle.std.proofs.lemmas.List.Elements.{All-push}
 use Rattle.std.proofs.lemmas.List.{get_or_default}
 use Rattle.rrs_memory.specs.declared.MemAccessSize.{MemAccessSize}
 use Rattle.rrs_memory.specs.declared.MemAccessSize.TheVariants.{Byte, HalfWord, Word}
-use Rattle.rrs_memory.specs.Bytes.{ByteMap, width, little_endian, all_writable, store, IsLawful, EndsAtLastAddress}
+use Rattle.rrs_memory.specs.Bytes.{ByteMap, width, little_endian, all_writable, store, IsLawful, EndsAtLastAddress, Reads, Writes}
 pub use Rattle.rrs_memory.proofs.ByteLemmas.{little_endian-moved, all_writable-moved, IsLawful-moved, little_endian-unmapped, all_writable-refused, IsLawful-unmapped, store_inside, store_outside}
-use Rattle.rrs_memory.specs.Spaces.{Region, serves, served_by, space_bytes, space_writable, space_layout, Overlaps, bounds, IsWordRegion, IsSpace, with_memory, OthersKept, ServedBecomes}
+use Rattle.rrs_memory.specs.Spaces.{Region, Space, serves, served_by, space_bytes, space_writable, space_layout, Overlaps, bounds, IsWordRegion, IsSpace, with_memory, CountsCompared, OthersKept, ServedBecomes, SpaceAccess}
+
+-- ---- answers
+
+-- what follows from a fact of the answer `true`
+pub OnTrue_then : {P Q : Type 0} (r : Bool) → OnTrue r P → (P → Q) → OnTrue r Q
+OnTrue_then true p f = f p
+OnTrue_then false p f = p
+
+-- what follows from a fact of the answer `false`
+pub OnFalse_then : {P Q : Type 0} (r : Bool) → OnFalse r P → (P → Q) → OnFalse r Q
+OnFalse_then true p f = p
+OnFalse_then false p f = f p
 
 -- ---- numbers
 
@@ -251,38 +264,8 @@ module _ {M : Type 0} where
       ap (λ rest. (x.base ∷ x.size ∷ length (layout x.memory) ∷ []) ++ layout x.memory ++ rest) (layout-with_memory layout regions i r m stands same)
 
 module _ {M : Type 0} where
-  -- ---- an access that no region serves
-
-  -- no byte of it is served
-  unserved_at : {T : Type 0} (says : M → ℕ → T) (default : T) (regions : List (Region M)) (a i : ℕ) (n : MemAccessSize) → IsSpace regions → a % width n ≡ 0 → a < 2 ^ 32 → All (λ r. serves r a ≡ false) regions → i < width n → served_by says default regions (a + i) ≡ default
-  unserved_at says default regions a i n space al fits none below =
-      served_nowhere says default regions (a + i) (λ k d within. serves_none (get_or regions k d) a i n (space.words k d within) al below fits (none k d within))
-
-  -- it has no value
-  pub unserved_value : (bytes : M → ByteMap) (regions : List (Region M)) (a : ℕ) (n : MemAccessSize) → IsSpace regions → a % width n ≡ 0 → a < 2 ^ 32 → All (λ r. serves r a ≡ false) regions → little_endian (space_bytes bytes regions) a (width n) ≡ None
-  unserved_value bytes regions a n space al fits none =
-      little_endian-unmapped (space_bytes bytes regions) a (width n) (width_pos n) (unserved_at bytes None regions a 0 n space al fits none (width_pos n))
-
-  -- it is not writable
-  pub unserved_writable : (writable : M → ℕ → Bool) (regions : List (Region M)) (a : ℕ) (n : MemAccessSize) → IsSpace regions → a % width n ≡ 0 → a < 2 ^ 32 → All (λ r. serves r a ≡ false) regions → all_writable (space_writable writable regions) a (width n) ≡ false
-  unserved_writable writable regions a n space al fits none =
-      all_writable-refused (space_writable writable regions) a (width n) (width_pos n) (unserved_at writable false regions a 0 n space al fits none (width_pos n))
-
-  -- it is lawful
-  pub unserved_lawful : (bytes : M → ByteMap) (writable : M → ℕ → Bool) (regions : List (Region M)) (a : ℕ) (n : MemAccessSize) → IsSpace regions → a % width n ≡ 0 → a < 2 ^ 32 → All (λ r. serves r a ≡ false) regions → IsLawful (space_bytes bytes regions) (space_writable writable regions) a (width n)
-  unserved_lawful bytes writable regions a n space al fits none =
-      IsLawful-unmapped
-      (space_bytes bytes regions)
-      (space_writable writable regions)
-      a
-      (width n)
-      (λ i below. unserved_at bytes None regions a i n space al fits none below)
-      (λ i below. unserved_at writable false regions a i n space al fits none below)
-
-  -- ---- an access that a region serves
-
-  -- the region is of whole words
-  pub served_word : (regions : List (Region M)) (i : ℕ) (r : Region M) → IsSpace regions → slice_get regions i ≡ Some r → IsWordRegion r
+  -- the region at an index of a space is of whole words
+  served_word : (regions : List (Region M)) (i : ℕ) (r : Region M) → IsSpace regions → slice_get regions i ≡ Some r → IsWordRegion r
   served_word regions i r space stands =
       rw (get_or_from_slice_get regions i r r stands) at (space.words i r (slice_get_within regions i r stands))
 
@@ -291,90 +274,6 @@ module _ {M : Type 0} where
   served_offset regions a i r n space al stands hit =
       let from : r.base ≤ a = (serves_true r a hit).0 in
       (from, aligned_offset r.base a n (served_word regions i r space stands).aligned.0 al from)
-
-  -- each of its bytes is the inner memory's at the offset from the base
-  offset_at : {T : Type 0} (says : M → ℕ → T) (default : T) (regions : List (Region M)) (a i k : ℕ) (r : Region M) (n : MemAccessSize) → IsSpace regions → a % width n ≡ 0 → slice_get regions i ≡ Some r → serves r a ≡ true → k < width n → served_by says default regions (a + k) ≡ says r.memory ((a - r.base) + k)
-  offset_at says default regions a i k r n space al stands hit below =
-      let from : r.base ≤ a = (serves_true r a hit).0 in
-      let offset : a + k - r.base ≡ (a - r.base) + k = omega arith in
-      served_at says default regions (a + k) i r stands (serves_all r a k n (served_word regions i r space stands) al below hit) space.apart
-      ∙ ap (says r.memory) offset
-
-  -- its value is the inner memory's
-  pub served_value : (bytes : M → ByteMap) (regions : List (Region M)) (a i : ℕ) (r : Region M) (n : MemAccessSize) → IsSpace regions → a % width n ≡ 0 → slice_get regions i ≡ Some r → serves r a ≡ true → little_endian (space_bytes bytes regions) a (width n) ≡ little_endian (bytes r.memory) (a - r.base) (width n)
-  served_value bytes regions a i r n space al stands hit =
-      little_endian-moved
-      (space_bytes bytes regions)
-      (bytes r.memory)
-      a
-      (a - r.base)
-      (width n)
-      (λ k below. offset_at bytes None regions a i k r n space al stands hit below)
-
-  -- it is writable where the inner memory is
-  pub served_writable : (writable : M → ℕ → Bool) (regions : List (Region M)) (a i : ℕ) (r : Region M) (n : MemAccessSize) → IsSpace regions → a % width n ≡ 0 → slice_get regions i ≡ Some r → serves r a ≡ true → all_writable (space_writable writable regions) a (width n) ≡ all_writable (writable r.memory) (a - r.base) (width n)
-  served_writable writable regions a i r n space al stands hit =
-      all_writable-moved
-      (space_writable writable regions)
-      (writable r.memory)
-      a
-      (a - r.base)
-      (width n)
-      (λ k below. offset_at writable false regions a i k r n space al stands hit below)
-
-  -- it is lawful where the inner access is
-  pub served_lawful : (bytes : M → ByteMap) (writable : M → ℕ → Bool) (regions : List (Region M)) (a i : ℕ) (r : Region M) (n : MemAccessSize) → IsSpace regions → a % width n ≡ 0 → slice_get regions i ≡ Some r → serves r a ≡ true → IsLawful (bytes r.memory) (writable r.memory) (a - r.base) (width n) → IsLawful (space_bytes bytes regions) (space_writable writable regions) a (width n)
-  served_lawful bytes writable regions a i r n space al stands hit law =
-      IsLawful-moved
-      (space_bytes bytes regions)
-      (bytes r.memory)
-      (space_writable writable regions)
-      (writable r.memory)
-      a
-      (a - r.base)
-      (width n)
-      (λ k below. offset_at bytes None regions a i k r n space al stands hit below)
-      (λ k below. offset_at writable false regions a i k r n space al stands hit below)
-      law
-
-  -- A write that the inner memory took is a write of the space.
-  pub served_written : (bytes : M → ByteMap) (regions : List (Region M)) (a i v : ℕ) (r : Region M) (m : M) (n : MemAccessSize) → IsSpace regions → a % width n ≡ 0 → slice_get regions i ≡ Some r → serves r a ≡ true → bytes m ≡ store (bytes r.memory) (a - r.base) (width n) v → space_bytes bytes (with_memory regions i m) ≡ store (space_bytes bytes regions) a (width n) v
-  served_written bytes regions a i v r m n space al stands hit wrote = fun_ext each
-    where
-      from : r.base ≤ a
-      from = (serves_true r a hit).0
-
-      inside : (b : ℕ) → a ≤ b → b < a + width n → space_bytes bytes (with_memory regions i m) b ≡ store (space_bytes bytes regions) a (width n) v b
-      inside b p q =
-          let k : a + (b - a) ≡ b = omega arith in
-          let whole : serves r b ≡ true = rw k at (serves_all r a (b - a) n (served_word regions i r space stands) al (omega arith) hit) in
-          let place : b - r.base - (a - r.base) ≡ b - a = omega (arith, from) in
-          let other : Region M = record r { memory = m } in
-          served_at bytes None (with_memory regions i m) b i other (stands-with_memory regions i r m stands) whole (IsSpace-with_memory regions i m space).apart
-          ∙ ap (λ f. f (b - r.base)) wrote
-          ∙ store_inside (bytes r.memory) (a - r.base) (width n) v (b - r.base) (omega (arith, from)) (omega (arith, from))
-          ∙ ap (λ x. Some (v / 256 ^ x % 256)) place
-          ∙ sym (store_inside (space_bytes bytes regions) a (width n) v b p q)
-
-      outside : (b : ℕ) → (a ≤ b → a + width n ≤ b) → space_bytes bytes (with_memory regions i m) b ≡ store (space_bytes bytes regions) a (width n) v b
-      outside b apart =
-          served-with_memory bytes None regions i r m b stands (λ hit_b.
-          let from_b : r.base ≤ b = (serves_true r b hit_b).0 in
-          ap (λ f. f (b - r.base)) wrote
-          ∙ store_outside (bytes r.memory) (a - r.base) (width n) v (b - r.base) (λ p.
-          let q : a ≤ b = omega (arith, from, from_b, p) in
-          omega (arith, from, from_b, apart q)))
-          ∙ sym (store_outside (space_bytes bytes regions) a (width n) v b apart)
-
-      each : (b : ℕ) → space_bytes bytes (with_memory regions i m) b ≡ store (space_bytes bytes regions) a (width n) v b
-      each b =
-          elim (cases_lt b a) [
-            | inl below ↦ outside b (λ p. absurd (omega (arith, p, below)))
-            | inr past ↦ elim (cases_lt b (a + width n)) [
-              | inl within ↦ inside b (omega (arith, past)) within
-              | inr after ↦ outside b (λ p. omega (arith, after))
-            ]
-          ]
 
   -- ---- a region appended
 
@@ -391,20 +290,152 @@ module _ {M : Type 0} where
   all_apart regions base size none k d within both =
       none (k, get_or regions k d, within, get_or_default regions k _ d within, both)
 
-  -- what holds of the memory that serves an address, as it was and as it is
-  pub served_becomes : (P : M → ℕ → M → Type 0) (regions : List (Region M)) (a i : ℕ) (r : Region M) (m : M) → IsSpace regions → slice_get regions i ≡ Some r → serves r a ≡ true → P r.memory (a - r.base) m → ServedBecomes a regions (with_memory regions i m) P
-  served_becomes P regions a i r m space stands hit holds j r' s stands' hit' after =
-      let here : i ≡ j = served_once regions a i j r r' space.apart stands stands' hit hit' in
-      let same : r ≡ r' = same_Some _ _ (sym stands ∙ ap (λ k. slice_get regions k) here ∙ stands') in
-      let other : Region M = record r { memory = m } in
-      let new : other ≡ s = same_Some _ _ (sym (stands-with_memory regions i r m stands) ∙ ap (λ k. slice_get (with_memory regions i m) k) here ∙ after) in
-      let Q : Region M → Type 0 = λ y. P y.memory (a - y.base) s.memory in
-      let R : Region M → Type 0 = λ y. P r.memory (a - r.base) y.memory in
-      subst Q same (subst R new holds)
+-- ---- an aligned access to a space
 
+module _ {M : Type 0} (bytes : M → ByteMap) (writable : M → ℕ → Bool) (layout : M → List ℕ) (old new : Space M) (a : ℕ) (n : MemAccessSize) (space : IsSpace old.regions) (al : a % width n ≡ 0) where
+  abbrev bytes_in : Space M → ByteMap
+  bytes_in s = space_bytes bytes s.regions
+
+  abbrev writable_in : Space M → ℕ → Bool
+  writable_in s = space_writable writable s.regions
+
+  abbrev layout_in : Space M → List ℕ
+  layout_in s = space_layout layout s.regions
+
+  -- where no region serves its address, none serves any byte of it
+  module _ (fits : a < 2 ^ 32) (none : All (λ r. serves r a ≡ false) old.regions) (same : new.regions ≡ old.regions) where
+    unserved_at : {T : Type 0} (says : M → ℕ → T) (default : T) (i : ℕ) → i < width n → served_by says default old.regions (a + i) ≡ default
+    unserved_at says default i below =
+        served_nowhere says default old.regions (a + i) (λ k d within. serves_none (get_or old.regions k d) a i n (space.words k d within) al below fits (none k d within))
+
+    lawful_none : IsLawful (bytes_in old) (writable_in old) a (width n)
+    lawful_none = IsLawful-unmapped (bytes_in old) (writable_in old) a (width n) (unserved_at bytes None) (unserved_at writable false)
+
+    -- a read answers that nothing is mapped
+    pub reads_none : Reads bytes_in writable_in layout_in old new a (width n) None
+    reads_none = record {
+      value = sym (little_endian-unmapped (bytes_in old) a (width n) (width_pos n) (unserved_at bytes None 0 (width_pos n)));
+      bytes_kept = ap (space_bytes bytes) same;
+      writable_kept = ap (space_writable writable) same;
+      layout_kept = ap (space_layout layout) same;
+      lawful = lawful_none;
+      ends = space_ends bytes writable old.regions;
+    }
+
+    -- a write is refused
+    pub writes_none : (value : ℕ) → Writes bytes_in writable_in layout_in old new a (width n) value false
+    writes_none value = record {
+      granted = sym (all_writable-refused (writable_in old) a (width n) (width_pos n) (unserved_at writable false 0 (width_pos n)));
+      written = tt;
+      refused = ap (space_bytes bytes) same;
+      writable_kept = ap (space_writable writable) same;
+      layout_kept = ap (space_layout layout) same;
+      lawful = lawful_none;
+      ends = space_ends bytes writable old.regions;
+    }
+
+  -- where a region serves its address, it is one to the inner memory, at the offset from the base
+  module _ (i : ℕ) (r : Region M) (m : M) (stands : slice_get old.regions i ≡ Some r) (hit : serves r a ≡ true) (e : new.regions ≡ with_memory old.regions i m) where
+    offset_at : {T : Type 0} (says : M → ℕ → T) (default : T) (k : ℕ) → k < width n → served_by says default old.regions (a + k) ≡ says r.memory ((a - r.base) + k)
+    offset_at says default k below =
+        served_at says default old.regions (a + k) i r stands (serves_all r a k n (served_word old.regions i r space stands) al below hit) space.apart
+        ∙ ap (says r.memory) (omega (arith, (serves_true r a hit).0))
+
+    kept : {T : Type 0} (says : M → ℕ → T) (default : T) → says m ≡ says r.memory → served_by says default new.regions ≡ served_by says default old.regions
+    kept says default same = ap (served_by says default) e ∙ served_same says default old.regions i r m stands same
+
+    layout_kept : layout m ≡ layout r.memory → layout_in new ≡ layout_in old
+    layout_kept same = ap (space_layout layout) e ∙ layout-with_memory layout old.regions i r m stands same
+
+    lawful_there : IsLawful (bytes r.memory) (writable r.memory) (a - r.base) (width n) → IsLawful (bytes_in old) (writable_in old) a (width n)
+    lawful_there = IsLawful-moved _ _ (writable_in old) (writable r.memory) a (a - r.base) (width n) (offset_at bytes None) (offset_at writable false)
+
+    pub reads_there : (answer : Option ℕ) → Reads bytes writable layout r.memory m (a - r.base) (width n) answer → Reads bytes_in writable_in layout_in old new a (width n) answer
+    reads_there answer laws = record {
+      value = laws.value ∙ sym (little_endian-moved (bytes_in old) (bytes r.memory) a (a - r.base) (width n) (offset_at bytes None));
+      bytes_kept = kept bytes None laws.bytes_kept;
+      writable_kept = kept writable false laws.writable_kept;
+      layout_kept = layout_kept laws.layout_kept;
+      lawful = lawful_there laws.lawful;
+      ends = space_ends bytes writable old.regions;
+    }
+
+    -- what the inner memory took is stored in the space
+    stored : (v : ℕ) → bytes m ≡ store (bytes r.memory) (a - r.base) (width n) v → bytes_in new ≡ store (bytes_in old) a (width n) v
+    stored v wrote = ap (space_bytes bytes) e ∙ fun_ext each
+      where
+        from : r.base ≤ a
+        from = (serves_true r a hit).0
+
+        inside : (b : ℕ) → a ≤ b → b < a + width n → space_bytes bytes (with_memory old.regions i m) b ≡ store (bytes_in old) a (width n) v b
+        inside b p q =
+            let k : a + (b - a) ≡ b = omega arith in
+            let whole : serves r b ≡ true = rw k at (serves_all r a (b - a) n (served_word old.regions i r space stands) al (omega arith) hit) in
+            served_at bytes None (with_memory old.regions i m) b i (record r { memory = m }) (stands-with_memory old.regions i r m stands) whole (IsSpace-with_memory old.regions i m space).apart
+            ∙ ap (λ f. f (b - r.base)) wrote
+            ∙ store_inside (bytes r.memory) (a - r.base) (width n) v (b - r.base) (omega (arith, from)) (omega (arith, from))
+            ∙ ap (λ x. Some (v / 256 ^ x % 256)) (omega (arith, from))
+            ∙ sym (store_inside (bytes_in old) a (width n) v b p q)
+
+        outside : (b : ℕ) → (a ≤ b → a + width n ≤ b) → space_bytes bytes (with_memory old.regions i m) b ≡ store (bytes_in old) a (width n) v b
+        outside b apart =
+            served-with_memory bytes None old.regions i r m b stands (λ hit_b.
+            ap (λ f. f (b - r.base)) wrote
+            ∙ store_outside (bytes r.memory) (a - r.base) (width n) v (b - r.base) (λ p. omega (arith, from, (serves_true r b hit_b).0, apart, p)))
+            ∙ sym (store_outside (bytes_in old) a (width n) v b apart)
+
+        each : (b : ℕ) → space_bytes bytes (with_memory old.regions i m) b ≡ store (bytes_in old) a (width n) v b
+        each b =
+            elim (cases_lt b a) [
+              | inl below ↦ outside b (λ p. absurd (omega (arith, p, below)))
+              | inr past ↦ elim (cases_lt b (a + width n)) [
+                | inl within ↦ inside b (omega (arith, past)) within
+                | inr after ↦ outside b (λ p. omega (arith, after))
+              ]
+            ]
+
+    pub writes_there : (v : ℕ) (answer : Bool) → Writes bytes writable layout r.memory m (a - r.base) (width n) v answer → Writes bytes_in writable_in layout_in old new a (width n) v answer
+    writes_there v answer laws = record {
+      granted = laws.granted ∙ sym (all_writable-moved (writable_in old) (writable r.memory) a (a - r.base) (width n) (offset_at writable false));
+      written = OnTrue_then answer laws.written (stored v);
+      refused = OnFalse_then answer laws.refused (kept bytes None);
+      writable_kept = kept writable false laws.writable_kept;
+      layout_kept = layout_kept laws.layout_kept;
+      lawful = lawful_there laws.lawful;
+      ends = space_ends bytes writable old.regions;
+    }
+
+-- ---- what an access does to the whole space
+
+module _ {M : Type 0} (P : M → ℕ → M → Type 0) (regions new : List (Region M)) (a : ℕ) where
   -- where no region serves the address, nothing is said of its memory
-  pub unserved_becomes : (P : M → ℕ → M → Type 0) (regions new : List (Region M)) (a : ℕ) → All (λ r. serves r a ≡ false) regions → ServedBecomes a regions new P
-  unserved_becomes P regions new a none j r s stands hit after =
-      let within : j < length regions = slice_get_within regions j r stands in
+  pub becomes_none : All (λ r. serves r a ≡ false) regions → ServedBecomes a regions new P
+  becomes_none none j r s stands hit after =
       let here : get_or regions j r ≡ r = get_or_from_slice_get regions j r r stands in
-      absurd (false≢true (sym (rw here at (none j r within)) ∙ hit))
+      absurd (false≢true (sym (rw here at (none j r (slice_get_within regions j r stands))) ∙ hit))
+
+  -- what holds of the memory that serves the address, as it was and as it is
+  pub becomes_there : (i : ℕ) (r : Region M) (m : M) → IsSpace regions → slice_get regions i ≡ Some r → serves r a ≡ true → new ≡ with_memory regions i m → P r.memory (a - r.base) m → ServedBecomes a regions new P
+  becomes_there i r m space stands hit e holds j r' s stands' hit' after =
+      let here : i ≡ j = served_once regions a i j r r' space.apart stands stands' hit hit' in
+      let same : r ≡ r' = same_Some _ _ (sym stands ∙ ap (slice_get regions) here ∙ stands') in
+      let new_r : record r { memory = m } ≡ s = same_Some _ _ (sym (stands-with_memory regions i r m stands) ∙ (λ k. slice_get (sym e k) (here k)) ∙ after) in
+      let Q : Region M → Region M → Type 0 = λ x y. P x.memory (a - x.base) y.memory in
+      subst (λ x. Q x s) same (subst (Q r) new_r holds)
+
+module _ {M : Type 0} (P : M → ℕ → M → Type 0) (old new : Space M) (a : ℕ) where
+  pub access_none : All (λ r. serves r a ≡ false) old.regions → new.regions ≡ old.regions → CountsCompared old new → SpaceAccess a old new P
+  access_none none same counts = record {
+    regions_kept = ap (map bounds) same;
+    others_kept = λ i r stands miss. ap (λ rs. slice_get rs i) same ∙ stands;
+    served = becomes_none P old.regions new.regions a none;
+    counts = counts;
+  }
+
+  pub access_there : (i : ℕ) (r : Region M) (m : M) → IsSpace old.regions → slice_get old.regions i ≡ Some r → serves r a ≡ true → new.regions ≡ with_memory old.regions i m → CountsCompared old new → P r.memory (a - r.base) m → SpaceAccess a old new P
+  access_there i r m space stands hit e counts holds = record {
+    regions_kept = ap (map bounds) e ∙ bounds-with_memory old.regions i m;
+    others_kept = rw e (OthersKept-with_memory old.regions i r m a stands hit);
+    served = becomes_there P old.regions new.regions a i r m space stands hit e holds;
+    counts = counts;
+  }

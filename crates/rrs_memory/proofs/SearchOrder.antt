@@ -9,9 +9,9 @@ use Rattle.std.proofs.lemmas.List.{get_or-map, length-map, get_or_default, get_o
 use Rattle.std.proofs.lemmas.List.Edits.{length-insert, get_or-insert_at, get_or-insert_below, get_or-insert_above}
 use Rattle.rrs_memory.specs.declared.memories.space.MemoryRegion.{MemoryRegion}
 use Rattle.rrs_memory.specs.SpaceFields.{region_of, with_inner, base_at, size_at, IsSearchOrder}
-use Rattle.rrs_memory.specs.Spaces.{Region, Space, serves, bounds, Overlaps, HasAddresses, IsServedAt, CountsCompared, digits_after, binary_digits}
-use Rattle.rrs_memory.proofs.Regions.{true_serves, false_serves, bounds-with_memory}
-use Rattle.rrs_memory.proofs.RegionFields.{set_is_with_memory, stands_of, shown_length}
+use Rattle.rrs_memory.specs.Spaces.{Region, Space, serves, bounds, Overlaps, HasAddresses, IsSpace, IsServedAt, CountsCompared, digits_after, binary_digits}
+use Rattle.rrs_memory.proofs.Regions.{true_serves, false_serves, bounds-with_memory, IsSpace-with_memory}
+use Rattle.rrs_memory.proofs.RegionFields.{set_is_with_memory, with_memory_of, stands_of, shown_length}
 
 -- ---- digits
 
@@ -288,10 +288,12 @@ module _ {M : Type 0} where
       let more : length (map bounds (map region_of fields)) ≡ length (map region_of fields) = length-map (map region_of fields) bounds in
       omega (arith, sorted.few)
 
-  -- a region with another memory leaves the order
-  pub order_kept : (fields : List (MemoryRegion M)) (order : List ℕ) (i : ℕ) (x y : MemoryRegion M) → slice_get fields i ≡ Some x → y ≡ with_inner x y.memory → IsSearchOrder (map bounds (map region_of fields)) order → IsSearchOrder (map bounds (map region_of (set fields i y))) order
-  order_kept fields order i x y stands e sorted =
-      rw (set_is_with_memory fields i x y stands e, bounds-with_memory) sorted
+  -- a region with another memory leaves a space, and its order
+  pub region_replaced : (fields : List (MemoryRegion M)) (old : List (Region M)) (order : List ℕ) (i : ℕ) (x y : MemoryRegion M) → map region_of fields ≡ old → slice_get fields i ≡ Some x → y ≡ with_inner x y.memory → IsSpace old → IsSearchOrder (map bounds (map region_of fields)) order → IsSpace (map region_of (set fields i y)) × IsSearchOrder (map bounds (map region_of (set fields i y))) order
+  region_replaced fields old order i x y view stands e space sorted = (
+    rw (with_memory_of fields old i x y view stands e) (IsSpace-with_memory old i y.memory space),
+    rw (set_is_with_memory fields i x y stands e, bounds-with_memory) sorted,
+  )
 
   -- ---- a region found
 
