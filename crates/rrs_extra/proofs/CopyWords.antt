@@ -15,70 +15,30 @@ use Rattle.rrs_lib.proofs.Programs
 use Rattle.rrs_lib.proofs.Programs.{at, Others, registers_by}
 use Rattle.rrs_lib.proofs.ByteLemmas.{outside_from_none, read-stored, read-kept, store-outside, write-allowed}
 use Rattle.rrs_extra.specs.Programs.{HoldsWords, HasWords, IsMapped, IsWritable, AreApart, CopyWordsStarts, CopiesWords, copy_steps, word_at, copy_words_program}
-use Rattle.rrs_extra.proofs.Words.{word_read, instruction, read_after, holds_after, mapped-ends, writable-ends, words-end}
-
--- ---- the words
-
-beq_x12 : Decodes 0x02060063 Row.Beq (of_B (pos 32) 0 12 0)
-beq_x12 = decodes _ _ _ refl
-
-slli_x12 : Decodes 0x00261613 Row.Slli (of_IShamt 0 2 12 1 12)
-slli_x12 = decodes _ _ _ refl
-
-add_x14 : Decodes 0x00c58733 Row.Add (of_R 0 12 11 0 14)
-add_x14 = decodes _ _ _ refl
-
-lw_x15 : Decodes 0x0005a783 Row.Lw (of_I (pos 0) 11 2 15)
-lw_x15 = decodes _ _ _ refl
-
-addi_x11 : Decodes 0x00458593 Row.Addi (of_I (pos 4) 11 0 11)
-addi_x11 = decodes _ _ _ refl
-
-addi_x10 : Decodes 0x00450513 Row.Addi (of_I (pos 4) 10 0 10)
-addi_x10 = decodes _ _ _ refl
-
-sw_x15 : Decodes 0xfef52e23 Row.Sw (of_S (neg_ℤ (pos 4)) 15 10 2)
-sw_x15 = decodes _ _ _ refl
-
-bne_x11 : Decodes 0xfee598e3 Row.Bne (of_B (neg_ℤ (pos 16)) 14 11 1)
-bne_x11 = decodes _ _ _ refl
-
-ret : Decodes 0x00008067 Row.Jalr (of_I (pos 0) 1 0 0)
-ret = decodes _ _ _ refl
+use Rattle.rrs_extra.proofs.Words.{word_read, at_word, Chain, ◌▸◌, done, by_registers, read_after, holds_after, mapped-ends, writable-ends, words-end}
 
 -- ---- one round
 
 body : (o : Others) (x1 to from to' from' v x12 x13 x14 x15 p : ℕ) (last : Option ℕ) (bytes : ByteMap) (writable : ℕ → Bool)
     → HoldsWords bytes p copy_words_program → p % 4 ≡ 0 → p + 36 ≤ 2 ^ 32 → from % 4 ≡ 0 → from < 2 ^ 32 → to % 4 ≡ 0 → to < 2 ^ 32
     → little_endian bytes from 4 ≡ Some v → all_writable writable to 4 ≡ true → word (pos (to + 4)) ≡ to' → word (pos (from + 4)) ≡ from'
-    → RunsOk 4 (at (registers_by o x1 to from x12 x13 x14 x15) (p + 12) last bytes writable) (at (registers_by o x1 to' from' x12 x13 x14 (word (pos v))) (p + 28) None (store bytes to 4 (word (pos v))) writable)
-body o x1 to from to' from' v x12 x13 x14 x15 p last bytes writable holds aligned fits from_aligned from_small to_aligned to_small read allowed to_next from_next = (
-  _,
-  Programs.step-loads (p + 16) 4 pos from v (word (pos v)) (instruction holds aligned 3 (omega arith) (omega arith) lw_x15) refl (omega arith) from_aligned read refl (omega arith),
-  (
-    _,
-    Programs.step-writes (p + 20) 10 from' (pos (from + 4)) (instruction holds aligned 4 (omega arith) (omega arith) addi_x11) refl from_next (omega arith),
-    (
-      _,
-      Programs.step-writes (p + 24) 9 to' (pos (to + 4)) (instruction holds aligned 5 (omega arith) (omega arith) addi_x10) refl to_next (omega arith),
-      (
-        _,
-        Programs.step-stores (p + 28) 4 to (word (pos v)) (instruction holds aligned 6 (omega arith) (omega arith) sw_x15) refl (omega arith) refl to_aligned allowed (omega arith),
-        refl,
-      ),
-    ),
-  ),
-)
+    → Chain 4 (at (registers_by o x1 to from x12 x13 x14 x15) (p + 12) last bytes writable) (at (registers_by o x1 to' from' x12 x13 x14 (word (pos v))) (p + 28) None (store bytes to 4 (word (pos v))) writable)
+body o x1 to from to' from' v x12 x13 x14 x15 p last bytes writable holds aligned fits from_aligned from_small to_aligned to_small read allowed to_next from_next =
+    Programs.step-loads (p + 16) 4 pos from v (word (pos v)) (at_word holds aligned 3 (omega arith) (omega arith) refl) refl (omega arith) from_aligned read refl (omega arith)
+    ▸ Programs.step-writes (p + 20) 10 from' (pos (from + 4)) (at_word holds aligned 4 (omega arith) (omega arith) refl) refl from_next (omega arith)
+    ▸ Programs.step-writes (p + 24) 9 to' (pos (to + 4)) (at_word holds aligned 5 (omega arith) (omega arith) refl) refl to_next (omega arith)
+    ▸ Programs.step-stores (p + 28) 4 to (word (pos v)) (at_word holds aligned 6 (omega arith) (omega arith) refl) refl (omega arith) refl to_aligned allowed (omega arith)
+    ▸ done
 
 again : (o : Others) (x1 x10 x11 x12 x13 x14 x15 p : ℕ) (bytes : ByteMap) (writable : ℕ → Bool) → HoldsWords bytes p copy_words_program → p % 4 ≡ 0 → p + 36 ≤ 2 ^ 32 → x11 ≢ x14
     → Step (at (registers_by o x1 x10 x11 x12 x13 x14 x15) (p + 28) None bytes writable) (at (registers_by o x1 x10 x11 x12 x13 x14 x15) (p + 12) None bytes writable) (Ok tt)
 again o x1 x10 x11 x12 x13 x14 x15 p bytes writable holds aligned fits differ =
-    Programs.step-branches (p + 12) (not (x11 == x14)) (neg_ℤ (pos 16)) {registers = registers_by o x1 x10 x11 x12 x13 x14 x15} (instruction holds aligned 7 (omega arith) (omega arith) bne_x11) refl (grind (arith, nat_tests)) (omega arith)
+    Programs.step-branches (p + 12) (not (x11 == x14)) (neg_ℤ (pos 16)) {registers = registers_by o x1 x10 x11 x12 x13 x14 x15} (at_word holds aligned 7 (omega arith) (omega arith) refl) refl (grind (arith, nat_tests)) (omega arith)
 
-done : (o : Others) (x1 x10 x11 x12 x13 x14 x15 p : ℕ) (bytes : ByteMap) (writable : ℕ → Bool) → HoldsWords bytes p copy_words_program → p % 4 ≡ 0 → p + 36 ≤ 2 ^ 32 → x11 ≡ x14
+ends_round : (o : Others) (x1 x10 x11 x12 x13 x14 x15 p : ℕ) (bytes : ByteMap) (writable : ℕ → Bool) → HoldsWords bytes p copy_words_program → p % 4 ≡ 0 → p + 36 ≤ 2 ^ 32 → x11 ≡ x14
     → Step (at (registers_by o x1 x10 x11 x12 x13 x14 x15) (p + 28) None bytes writable) (at (registers_by o x1 x10 x11 x12 x13 x14 x15) (p + 32) None bytes writable) (Ok tt)
-done o x1 x10 x11 x12 x13 x14 x15 p bytes writable holds aligned fits same =
-    Programs.step-stays (p + 32) (not (x11 == x14)) (neg_ℤ (pos 16)) {registers = registers_by o x1 x10 x11 x12 x13 x14 x15} (instruction holds aligned 7 (omega arith) (omega arith) bne_x11) refl (grind (arith, nat_tests)) (omega arith)
+ends_round o x1 x10 x11 x12 x13 x14 x15 p bytes writable holds aligned fits same =
+    Programs.step-stays (p + 32) (not (x11 == x14)) (neg_ℤ (pos 16)) {registers = registers_by o x1 x10 x11 x12 x13 x14 x15} (at_word holds aligned 7 (omega arith) (omega arith) refl) refl (grind (arith, nat_tests)) (omega arith)
 
 -- ---- what is copied
 
@@ -192,14 +152,14 @@ rounds zero o x1 to from x12 x13 x14 x15 p last bytes writable ready end =
     let x10 : ℕ = word (pos (to + 4)) in
     let x11 : ℕ = word (pos (from + 4)) in
     let four = body o x1 to from (word (pos (to + 4))) (word (pos (from + 4))) v x12 x13 x14 x15 p last bytes writable ready.holds ready.aligned ready.fits ready.from_aligned (omega (arith, ready.from_fits)) ready.to_aligned (omega (arith, ready.to_fits)) read allowed refl refl in
-    let out = done o x1 (word (pos (to + 4))) (word (pos (from + 4))) x12 x13 x14 (word (pos v)) p (store bytes to 4 (word (pos v))) writable (still_holds to from 0 p (word (pos v)) bytes writable ready) ready.aligned ready.fits (omega (arith, end)) in
+    let out = ends_round o x1 (word (pos (to + 4))) (word (pos (from + 4))) x12 x13 x14 (word (pos v)) p (store bytes to 4 (word (pos v))) writable (still_holds to from 0 p (word (pos v)) bytes writable ready) ready.aligned ready.fits (omega (arith, end)) in
     record {
       x10_after = word (pos (to + 4));
       x11_after = word (pos (from + 4));
       x15_after = word (pos v);
       bytes_after = store bytes to 4 (word (pos v));
       copies = copies_more bytes (store bytes to 4 (word (pos v))) to from 0 v read ready.apart_source (copies_none _ _ _);
-      runs = Programs.RunsOk-append 4 1 _ _ _ four (Programs.RunsOk-one _ _ out);
+      runs = Programs.RunsOk-append 4 1 _ _ _ four.runs (Programs.RunsOk-one _ _ out);
     }
 rounds (suc n) o x1 to from x12 x13 x14 x15 p last bytes writable ready end =
     let v = word_at bytes from in
@@ -209,7 +169,7 @@ rounds (suc n) o x1 to from x12 x13 x14 x15 p last bytes writable ready end =
     let differ : from + 4 ≢ x14 = λ same. omega (arith, same, end, ready.from_fits) in
     let on = again o x1 (to + 4) (from + 4) x12 x13 x14 (word (pos v)) p (store bytes to 4 (word (pos v))) writable (still_holds to from (suc n) p (word (pos v)) bytes writable ready) ready.aligned ready.fits differ in
     let rest = rounds n o x1 (to + 4) (from + 4) x12 x13 x14 (word (pos v)) p None (store bytes to 4 (word (pos v))) writable (next_ready to from (suc n) p (word (pos v)) bytes writable ready) (end ∙ ap (λ b. word (pos b)) (omega arith)) in
-    let one = Programs.RunsOk-append 4 1 _ _ _ four (Programs.RunsOk-one _ _ on) in
+    let one = Programs.RunsOk-append 4 1 _ _ _ four.runs (Programs.RunsOk-one _ _ on) in
     record {
       x10_after = rest.x10_after;
       x11_after = rest.x11_after;
@@ -231,24 +191,16 @@ record Called (o : Others) (x1 to from n x12 x13 x14 x15 p : ℕ) (last : Option
 returns : (o : Others) (x1 x10 x11 x12 x13 x14 x15 p : ℕ) (bytes : ByteMap) (writable : ℕ → Bool) → HoldsWords bytes p copy_words_program → p % 4 ≡ 0 → p + 36 ≤ 2 ^ 32 → x1 % 4 ≡ 0 → x1 < 2 ^ 32
     → Step (at (registers_by o x1 x10 x11 x12 x13 x14 x15) (p + 32) None bytes writable) (at (registers_by o x1 x10 x11 x12 x13 x14 x15) x1 None bytes writable) (Ok tt)
 returns o x1 x10 x11 x12 x13 x14 x15 p bytes writable holds aligned fits return_aligned small =
-    Programs.step-jumps x1 0 (made_even (word (pos (x1 + 0)))) (instruction holds aligned 8 (omega arith) (omega arith) ret) refl (omega arith)
+    Programs.step-jumps x1 0 (made_even (word (pos (x1 + 0)))) (at_word holds aligned 8 (omega arith) (omega arith) refl) refl (omega arith)
 
 -- the three instructions before the first round
 begins : (o : Others) (x1 to from m x13 x14 x15 p : ℕ) (last : Option ℕ) (bytes : ByteMap) (writable : ℕ → Bool) → HoldsWords bytes p copy_words_program → p % 4 ≡ 0 → p + 36 ≤ 2 ^ 32
-    → RunsOk 3 (at (registers_by o x1 to from (suc m) x13 x14 x15) p last bytes writable) (at (registers_by o x1 to from (word (pos (suc m * 4))) x13 (word (pos (from + 4 * suc m))) x15) (p + 12) (Some 14) bytes writable)
-begins o x1 to from m x13 x14 x15 p last bytes writable holds aligned fits = (
-  _,
-  Programs.step-stays (p + 4) (suc m == 0) (pos 32) (instruction holds aligned 0 (omega arith) (omega arith) beq_x12) refl (grind (arith, nat_tests)) (omega arith),
-  (
-    _,
-    Programs.step-writes (p + 8) 11 (word (pos (suc m * 4))) (pos (suc m * 4)) (instruction holds aligned 1 (omega arith) (omega arith) slli_x12) refl refl (omega arith),
-    (
-      _,
-      Programs.step-writes (p + 12) 13 (word (pos (from + 4 * suc m))) (pos (from + word (pos (suc m * 4)))) (instruction holds aligned 2 (omega arith) (omega arith) add_x14) refl (omega arith) (omega arith),
-      refl,
-    ),
-  ),
-)
+    → Chain 3 (at (registers_by o x1 to from (suc m) x13 x14 x15) p last bytes writable) (at (registers_by o x1 to from (word (pos (suc m * 4))) x13 (word (pos (from + 4 * suc m))) x15) (p + 12) (Some 14) bytes writable)
+begins o x1 to from m x13 x14 x15 p last bytes writable holds aligned fits =
+    Programs.step-stays (p + 4) (suc m == 0) (pos 32) (at_word holds aligned 0 (omega arith) (omega arith) refl) refl (grind (arith, nat_tests)) (omega arith)
+    ▸ Programs.step-writes (p + 8) 11 (word (pos (suc m * 4))) (pos (suc m * 4)) (at_word holds aligned 1 (omega arith) (omega arith) refl) refl refl (omega arith)
+    ▸ Programs.step-writes (p + 12) 13 (word (pos (from + 4 * suc m))) (pos (from + word (pos (suc m * 4)))) (at_word holds aligned 2 (omega arith) (omega arith) refl) refl (omega arith) (omega arith)
+    ▸ done
 
 calls : (n : ℕ) (o : Others) (x1 to from x13 x14 x15 p : ℕ) (last : Option ℕ) (bytes : ByteMap) (writable : ℕ → Bool)
     → Ready to from n p bytes writable → x1 % 4 ≡ 0 → x1 < 2 ^ 32 → Called o x1 to from n n x13 x14 x15 p last bytes writable
@@ -257,10 +209,9 @@ calls zero o x1 to from x13 x14 x15 p last bytes writable ready return_aligned s
   bytes_after = bytes;
   copies = copies_none bytes to from;
   runs = (
-    _,
-    Programs.step-branches (p + 32) true (pos 32) {registers = registers_by o x1 to from 0 x13 x14 x15} (instruction ready.holds ready.aligned 0 (omega arith) (omega arith) beq_x12) refl refl (omega (arith, ready.fits)),
-    (_, returns o x1 to from 0 x13 x14 x15 p bytes writable ready.holds ready.aligned ready.fits return_aligned small, refl),
-  );
+      Programs.step-branches (p + 32) true (pos 32) {registers = registers_by o x1 to from 0 x13 x14 x15} (at_word ready.holds ready.aligned 0 (omega arith) (omega arith) refl) refl refl (omega (arith, ready.fits))
+      ▸ returns o x1 to from 0 x13 x14 x15 p bytes writable ready.holds ready.aligned ready.fits return_aligned small
+      ▸ done).runs;
 }
 calls (suc m) o x1 to from x13 x14 x15 p last bytes writable ready return_aligned small =
     let three = begins o x1 to from m x13 x14 x15 p last bytes writable ready.holds ready.aligned ready.fits in
@@ -271,21 +222,26 @@ calls (suc m) o x1 to from x13 x14 x15 p last bytes writable ready return_aligne
       registers_after = _;
       bytes_after = all.bytes_after;
       copies = all.copies;
-      runs = Programs.RunsOk-join 3 (5 * suc m + 1) (5 * suc m + 4) _ _ _ (omega arith) three (Programs.RunsOk-append (5 * suc m) 1 _ _ _ all.runs (Programs.RunsOk-one _ _ out));
+      runs = Programs.RunsOk-join 3 (5 * suc m + 1) (5 * suc m + 4) _ _ _ (omega arith) three.runs (Programs.RunsOk-append (5 * suc m) 1 _ _ _ all.runs (Programs.RunsOk-one _ _ out));
     }
 
-pub record Copies (s : State) : Type 0 where
-  pub after : State
-  pub runs : RunUntil (5 * reg s 12 + 5) s (copy_steps (reg s 12)) (Some (IllegalInstruction (reg s 1) (word_at s.bytes (reg s 1)))) after
-  pub copies : CopiesWords s.bytes after.bytes (reg s 10) (reg s 11) (reg s 12)
+-- what a call of `run` returned
+pub record Copied (s : State) (steps : ℕ) (e : Option InstructionException) (t : State) : Type 0 where
+  pub steps_made : steps ≡ copy_steps (reg s 12)
+  pub fault : e ≡ Some (IllegalInstruction (reg s 1) (word_at s.bytes (reg s 1)))
+  pub copies_words : CopiesWords s.bytes t.bytes (reg s 10) (reg s 11) (reg s 12)
+
+-- what the program does from a state
+abbrev Copies : (limit steps : ℕ) → Option InstructionException → State → State → Type 0
+Copies limit steps e t s = CopyWordsStarts s → HasWords s → EndsAtLastAddress s.bytes s.writable → limit ≡ 5 * reg s 12 + 5 → IsOnlyRunUntil limit s steps e t → Copied s steps e t
 
 few_steps : (n : ℕ) → copy_steps n < 5 * n + 5
 few_steps zero = omega arith
 few_steps (suc n) = omega arith
 
-copies_from : (o : Others) (x1 to from n p x13 x14 x15 : ℕ) (last : Option ℕ) (bytes : ByteMap) (writable : ℕ → Bool)
-    → CopyWordsStarts (at (registers_by o x1 to from n x13 x14 x15) p last bytes writable) → (x1 < 2 ^ 32) × (to < 2 ^ 32) × (from < 2 ^ 32) → EndsAtLastAddress bytes writable → Copies (at (registers_by o x1 to from n x13 x14 x15) p last bytes writable)
-copies_from o x1 to from n p x13 x14 x15 last bytes writable starts small ends =
+copies : (limit steps : ℕ) (e : Option InstructionException) (t : State) (o : Others) (x1 to from n x13 x14 x15 p : ℕ) (last : Option ℕ) (bytes : ByteMap) (writable : ℕ → Bool)
+    → Copies limit steps e t (at (registers_by o x1 to from n x13 x14 x15) p last bytes writable)
+copies limit steps e t o x1 to from n x13 x14 x15 p last bytes writable starts small ends limit_is only =
     let called = starts.called in
     let ready : Ready to from n p bytes writable = record {
       holds = called.program_there;
@@ -303,22 +259,8 @@ copies_from o x1 to from n p x13 x14 x15 last bytes writable starts small ends =
     let all = calls n o x1 to from x13 x14 x15 p last bytes writable ready called.return_aligned small.0 in
     let read = read_after bytes all.bytes_after to (4 * n) x1 4 x1 4 all.copies.others starts.apart_from_return (omega arith) (omega arith) ∙ word_read bytes x1 called.stops.mapped in
     let fault = Programs.step-illegal {registers = all.registers_after} {pc = x1} {last = None} {bytes = all.bytes_after} {writable = writable} called.return_aligned read called.stops.outside in
-    record { after = _; runs = Programs.RunUntil-fault (5 * n + 5) (copy_steps n) _ _ _ _ (few_steps n) all.runs fault; copies = all.copies }
+    let same = Programs.returned only limit_is (Programs.RunUntil-fault (5 * n + 5) (copy_steps n) _ _ _ _ (few_steps n) all.runs fault) in
+    record { steps_made = same.0; fault = same.1; copies_words = rw same.2 all.copies }
 
-copies : (s : State) → 15 ≤ length s.registers → CopyWordsStarts s → HasWords s → EndsAtLastAddress s.bytes s.writable → Copies s
-copies s long starts small ends =
-    let open_s = Programs.opened s long in
-    subst Copies (sym open_s.same) (copies_from open_s.others (reg s 1) (reg s 10) (reg s 11) (reg s 12) s.pc (reg s 13) (reg s 14) (reg s 15) s.last s.bytes s.writable (subst CopyWordsStarts open_s.same starts) small ends)
-
--- what a call of `run` returned
-pub record Copied (s : State) (steps : ℕ) (e : Option InstructionException) (t : State) : Type 0 where
-  pub steps_made : steps ≡ copy_steps (reg s 12)
-  pub fault : e ≡ Some (IllegalInstruction (reg s 1) (word_at s.bytes (reg s 1)))
-  pub copies_words : CopiesWords s.bytes t.bytes (reg s 10) (reg s 11) (reg s 12)
-
-pub copied : (s t : State) (limit steps : ℕ) (e : Option InstructionException) → 15 ≤ length s.registers → CopyWordsStarts s → HasWords s → EndsAtLastAddress s.bytes s.writable → limit ≡ 5 * reg s 12 + 5 → IsOnlyRunUntil limit s steps e t → Copied s steps e t
-copied s t limit steps e long starts small ends limit_is only =
-    let known = copies s long starts small ends in
-    let same = Programs.returned only limit_is known.runs in
-    let P : State → Type 0 = λ x. CopiesWords s.bytes x.bytes (reg s 10) (reg s 11) (reg s 12) in
-    record { steps_made = same.0; fault = same.1; copies_words = subst P (sym same.2) known.copies }
+pub copied : (s t : State) (limit steps : ℕ) (e : Option InstructionException) → 15 ≤ length s.registers → Copies limit steps e t s
+copied s t limit steps e long = by_registers (Copies limit steps e t) (copies limit steps e t) s long

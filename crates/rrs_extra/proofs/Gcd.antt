@@ -17,27 +17,7 @@ use Rattle.rrs_lib.proofs.Decoder.{decodes}
 use Rattle.rrs_lib.proofs.Programs
 use Rattle.rrs_lib.proofs.Programs.{at, Others, registers_by}
 use Rattle.rrs_extra.specs.Programs.{HoldsWords, IsCalled, HasWords, word_at, gcd_program}
-use Rattle.rrs_extra.proofs.Words.{word_read, instruction, words-end}
-
--- ---- the words
-
-bne_x11 : Decodes 0x00059463 Row.Bne (of_B (pos 8) 0 11 1)
-bne_x11 = decodes _ _ _ refl
-
-ret : Decodes 0x00008067 Row.Jalr (of_I (pos 0) 1 0 0)
-ret = decodes _ _ _ refl
-
-remu_x15 : Decodes 0x02b577b3 Row.Remu (of_R 1 11 10 7 15)
-remu_x15 = decodes _ _ _ refl
-
-mv_x10 : Decodes 0x00058513 Row.Addi (of_I (pos 0) 11 0 10)
-mv_x10 = decodes _ _ _ refl
-
-mv_x11 : Decodes 0x00078593 Row.Addi (of_I (pos 0) 15 0 11)
-mv_x11 = decodes _ _ _ refl
-
-jal_back : Decodes 0xfedff06f Row.Jal (of_J (neg_ℤ (pos 20)) 0)
-jal_back = decodes _ _ _ refl
+use Rattle.rrs_extra.proofs.Words.{word_read, at_word, Chain, ◌▸◌, done, by_registers, words-end}
 
 -- ---- one round
 
@@ -51,29 +31,14 @@ remainder a m small =
 
 round : (o : Others) (x1 a m p x12 x13 x14 x15 : ℕ) (last : Option ℕ) (bytes : ByteMap) (writable : ℕ → Bool)
     → HoldsWords bytes p gcd_program → p % 4 ≡ 0 → p + 24 ≤ 2 ^ 32 → suc m < 2 ^ 32
-    → RunsOk 5 (at (registers_by o x1 a (suc m) x12 x13 x14 x15) p last bytes writable) (at (registers_by o x1 (suc m) (a % suc m) x12 x13 x14 (a % suc m)) p None bytes writable)
+    → Chain 5 (at (registers_by o x1 a (suc m) x12 x13 x14 x15) p last bytes writable) (at (registers_by o x1 (suc m) (a % suc m) x12 x13 x14 (a % suc m)) p None bytes writable)
 round o x1 a m p x12 x13 x14 x15 last bytes writable holds aligned fits small =
-    let r_small : a % suc m < 2 ^ 32 = omega arith in (
-      _,
-      Programs.step-branches (p + 8) (not (suc m == 0)) (pos 8) (instruction holds aligned 0 (omega arith) (omega arith) bne_x11) refl (grind (arith, nat_tests)) (omega arith),
-      (
-        _,
-        Programs.step-writes (p + 12) 14 (a % suc m) (remu a (suc m)) (instruction holds aligned 2 (omega arith) (omega arith) remu_x15) refl (remainder a m small) (omega arith),
-        (
-          _,
-          Programs.step-writes (p + 16) 9 (suc m) (pos (suc m + 0)) (instruction holds aligned 3 (omega arith) (omega arith) mv_x10) refl (omega arith) (omega arith),
-          (
-            _,
-            Programs.step-writes (p + 20) 10 (a % suc m) (pos (a % suc m + 0)) (instruction holds aligned 4 (omega arith) (omega arith) mv_x11) refl (omega arith) (omega arith),
-            (
-              _,
-              Programs.step-jumps p 0 (word (pos (p + 20 + 4294967276))) (instruction holds aligned 5 (omega arith) (omega arith) jal_back) refl (omega arith),
-              refl,
-            ),
-          ),
-        ),
-      ),
-    )
+    Programs.step-branches (p + 8) (not (suc m == 0)) (pos 8) (at_word holds aligned 0 (omega arith) (omega arith) refl) refl (grind (arith, nat_tests)) (omega arith)
+    ▸ Programs.step-writes (p + 12) 14 (a % suc m) (remu a (suc m)) (at_word holds aligned 2 (omega arith) (omega arith) refl) refl (remainder a m small) (omega arith)
+    ▸ Programs.step-writes (p + 16) 9 (suc m) (pos (suc m + 0)) (at_word holds aligned 3 (omega arith) (omega arith) refl) refl (omega arith) (omega arith)
+    ▸ Programs.step-writes (p + 20) 10 (a % suc m) (pos (a % suc m + 0)) (at_word holds aligned 4 (omega arith) (omega arith) refl) refl (omega arith) (omega arith)
+    ▸ Programs.step-jumps p 0 (word (pos (p + 20 + 4294967276))) (at_word holds aligned 5 (omega arith) (omega arith) refl) refl (omega arith)
+    ▸ done
 
 -- ---- all rounds
 
@@ -106,7 +71,7 @@ rounds (suc bound) (suc m) within o x1 a p x12 x13 x14 x15 last bytes writable h
       is_gcd = IsGcd-from_mod a (suc m) rest.divisor rest.is_gcd;
       value = rest.value;
       last_after = rest.last_after;
-      runs = Programs.RunsOk-join 5 (5 * rest.count) (5 * suc rest.count) _ _ _ (omega arith) one rest.runs;
+      runs = Programs.RunsOk-join 5 (5 * rest.count) (5 * suc rest.count) _ _ _ (omega arith) one.runs rest.runs;
     }
 
 -- ---- the run
@@ -114,47 +79,11 @@ rounds (suc bound) (suc m) within o x1 a p x12 x13 x14 x15 last bytes writable h
 -- where there is nothing to divide by, the program returns
 leaves : (o : Others) (x1 g p x12 x13 x14 x15 : ℕ) (last : Option ℕ) (bytes : ByteMap) (writable : ℕ → Bool)
     → HoldsWords bytes p gcd_program → p % 4 ≡ 0 → p + 24 ≤ 2 ^ 32 → x1 % 4 ≡ 0 → x1 < 2 ^ 32
-    → RunsOk 2 (at (registers_by o x1 g 0 x12 x13 x14 x15) p last bytes writable) (at (registers_by o x1 g 0 x12 x13 x14 x15) x1 None bytes writable)
-leaves o x1 g p x12 x13 x14 x15 last bytes writable holds aligned fits return_aligned small = (
-  _,
-  Programs.step-stays (p + 4) false (pos 8) {registers = registers_by o x1 g 0 x12 x13 x14 x15} (instruction holds aligned 0 (omega arith) (omega arith) bne_x11) refl refl (omega arith),
-  (
-    _,
-    Programs.step-jumps x1 0 (made_even (word (pos (x1 + 0)))) (instruction holds aligned 1 (omega arith) (omega arith) ret) refl (omega arith),
-    refl,
-  ),
-)
-
-pub record Divides (s : State) : Type 0 where
-  pub count : ℕ
-  pub at_most : count ≤ reg s 11
-  pub after : State
-  pub runs : RunUntil (5 * reg s 11 + 3) s (5 * count + 2) (Some (IllegalInstruction (reg s 1) (word_at s.bytes (reg s 1)))) after
-  pub divisor : IsGcd (reg s 10) (reg s 11) (reg after 10)
-  pub bytes_kept : after.bytes ≡ s.bytes
-
-divides_from : (o : Others) (x1 a b p x12 x13 x14 x15 : ℕ) (last : Option ℕ) (bytes : ByteMap) (writable : ℕ → Bool)
-    → IsCalled gcd_program (at (registers_by o x1 a b x12 x13 x14 x15) p last bytes writable) → HasWords (at (registers_by o x1 a b x12 x13 x14 x15) p last bytes writable) → EndsAtLastAddress bytes writable
-    → Divides (at (registers_by o x1 a b x12 x13 x14 x15) p last bytes writable)
-divides_from o x1 a b p x12 x13 x14 x15 last bytes writable called words ends =
-    let fits = words-end bytes writable p gcd_program ends called.program_there (omega arith) in
-    let all = rounds b b (omega arith) o x1 a p x12 x13 x14 x15 last bytes writable called.program_there called.aligned fits words.1 words.2 in
-    let out = leaves o x1 all.divisor p x12 x13 x14 all.value all.last_after bytes writable called.program_there called.aligned fits called.return_aligned words.0 in
-    let chain = Programs.RunsOk-append (5 * all.count) 2 _ _ _ all.runs out in
-    let fault = Programs.step-illegal {registers = registers_by o x1 all.divisor 0 x12 x13 x14 all.value} {pc = x1} {last = None} {bytes = bytes} {writable = writable} called.return_aligned (word_read bytes x1 called.stops.mapped) called.stops.outside in
-    record {
-      count = all.count;
-      at_most = all.at_most;
-      after = _;
-      runs = Programs.RunUntil-fault (5 * b + 3) (5 * all.count + 2) _ _ _ _ (omega (arith, all.at_most)) chain fault;
-      divisor = all.is_gcd;
-      bytes_kept = refl;
-    }
-
-divides : (s : State) → 15 ≤ length s.registers → IsCalled gcd_program s → HasWords s → EndsAtLastAddress s.bytes s.writable → Divides s
-divides s long called words ends =
-    let open_s = Programs.opened s long in
-    subst Divides (sym open_s.same) (divides_from open_s.others (reg s 1) (reg s 10) (reg s 11) s.pc (reg s 12) (reg s 13) (reg s 14) (reg s 15) s.last s.bytes s.writable (subst (IsCalled gcd_program) open_s.same called) words ends)
+    → Chain 2 (at (registers_by o x1 g 0 x12 x13 x14 x15) p last bytes writable) (at (registers_by o x1 g 0 x12 x13 x14 x15) x1 None bytes writable)
+leaves o x1 g p x12 x13 x14 x15 last bytes writable holds aligned fits return_aligned small =
+    Programs.step-stays (p + 4) false (pos 8) {registers = registers_by o x1 g 0 x12 x13 x14 x15} (at_word holds aligned 0 (omega arith) (omega arith) refl) refl refl (omega arith)
+    ▸ Programs.step-jumps x1 0 (made_even (word (pos (x1 + 0)))) (at_word holds aligned 1 (omega arith) (omega arith) refl) refl (omega arith)
+    ▸ done
 
 -- what a call of `run` returned
 pub record Divided (s : State) (steps : ℕ) (e : Option InstructionException) (t : State) : Type 0 where
@@ -163,10 +92,20 @@ pub record Divided (s : State) (steps : ℕ) (e : Option InstructionException) (
   pub divisor : IsGcd (reg s 10) (reg s 11) (reg t 10)
   pub bytes_kept : t.bytes ≡ s.bytes
 
-pub divided : (s t : State) (limit steps : ℕ) (e : Option InstructionException) → 15 ≤ length s.registers → IsCalled gcd_program s → HasWords s → EndsAtLastAddress s.bytes s.writable → limit ≡ 5 * reg s 11 + 3 → IsOnlyRunUntil limit s steps e t → Divided s steps e t
-divided s t limit steps e long called words ends limit_is only =
-    let known = divides s long called words ends in
-    let same = Programs.returned only limit_is known.runs in
-    let bytes : State → ByteMap = λ x. x.bytes in
-    let is_gcd : State → Type 0 = λ x. IsGcd (reg s 10) (reg s 11) (reg x 10) in
-    record { steps_made = (known.count, known.at_most, same.0); fault = same.1; divisor = subst is_gcd (sym same.2) known.divisor; bytes_kept = ap bytes same.2 ∙ known.bytes_kept }
+-- what the program does from a state
+abbrev Divides : (limit steps : ℕ) → Option InstructionException → State → State → Type 0
+Divides limit steps e t s = IsCalled gcd_program s → HasWords s → EndsAtLastAddress s.bytes s.writable → limit ≡ 5 * reg s 11 + 3 → IsOnlyRunUntil limit s steps e t → Divided s steps e t
+
+divides : (limit steps : ℕ) (e : Option InstructionException) (t : State) (o : Others) (x1 a b x12 x13 x14 x15 p : ℕ) (last : Option ℕ) (bytes : ByteMap) (writable : ℕ → Bool)
+    → Divides limit steps e t (at (registers_by o x1 a b x12 x13 x14 x15) p last bytes writable)
+divides limit steps e t o x1 a b x12 x13 x14 x15 p last bytes writable called words ends limit_is only =
+    let fits = words-end bytes writable p gcd_program ends called.program_there (omega arith) in
+    let all = rounds b b (omega arith) o x1 a p x12 x13 x14 x15 last bytes writable called.program_there called.aligned fits words.1 words.2 in
+    let out = leaves o x1 all.divisor p x12 x13 x14 all.value all.last_after bytes writable called.program_there called.aligned fits called.return_aligned words.0 in
+    let chain = Programs.RunsOk-append (5 * all.count) 2 _ _ _ all.runs out.runs in
+    let fault = Programs.step-illegal {registers = registers_by o x1 all.divisor 0 x12 x13 x14 all.value} {pc = x1} {last = None} {bytes = bytes} {writable = writable} called.return_aligned (word_read bytes x1 called.stops.mapped) called.stops.outside in
+    let same = Programs.returned only limit_is (Programs.RunUntil-fault (5 * b + 3) (5 * all.count + 2) _ _ _ _ (omega (arith, all.at_most)) chain fault) in
+    record { steps_made = (all.count, all.at_most, same.0); fault = same.1; divisor = rw same.2 all.is_gcd; bytes_kept = ap (λ x. x.bytes) same.2 }
+
+pub divided : (s t : State) (limit steps : ℕ) (e : Option InstructionException) → 15 ≤ length s.registers → Divides limit steps e t s
+divided s t limit steps e long = by_registers (Divides limit steps e t) (divides limit steps e t) s long

@@ -19,38 +19,29 @@ use Rattle.rrs_lib.proofs.ByteLemmas.{Outside, outside_from_none, store-outside,
 use Rattle.rrs_lib.proofs.Making.{AccessesOfRun-unique, accesses_of_illegal}
 use Rattle.rrs_lib.proofs.Rows.{one_row_at_most}
 use Rattle.rrs_lib.proofs.AccessChains
-use Rattle.rrs_lib.proofs.AccessChains.{RunsMaking, joined, making, making-loads, making-stores}
-use Rattle.rrs_extra.specs.Programs.{HoldsWords, AreApart, word_at}
+use Rattle.rrs_lib.proofs.AccessChains.{RunsMaking, StepMaking, joined, making, making-loads, making-stores}
+use Rattle.rrs_extra.specs.Programs.{HoldsWords, HasWords, AreApart, word_at}
 use Rattle.rrs_extra.specs.Printing.{HoldsString, put_string_program, PutStringStarts, writes_of, writes_to}
-use Rattle.rrs_extra.proofs.Words.{word_read, instruction, read_after, holds_after, value-small, words-end, is_value, value_is}
-
--- ---- the words
-
-lbu_x15 : Decodes 0x0005c783 Row.Lbu (of_I (pos 0) 11 4 15)
-lbu_x15 = decodes _ _ _ refl
-
-bne_x15 : Decodes 0x00079463 Row.Bne (of_B (pos 8) 0 15 1)
-bne_x15 = decodes _ _ _ refl
-
-ret : Decodes 0x00008067 Row.Jalr (of_I (pos 0) 1 0 0)
-ret = decodes _ _ _ refl
-
-addi_x11 : Decodes 0x00158593 Row.Addi (of_I (pos 1) 11 0 11)
-addi_x11 = decodes _ _ _ refl
-
-sb_x15 : Decodes 0x00f50023 Row.Sb (of_S (pos 0) 15 10 0)
-sb_x15 = decodes _ _ _ refl
-
-jal_back : Decodes 0xfedff06f Row.Jal (of_J (neg_ℤ (pos 20)) 0)
-jal_back = decodes _ _ _ refl
+use Rattle.rrs_extra.proofs.Words.{word_read, at_word, by_registers, read_after, holds_after, value-small, words-end, is_value, value_is}
 
 -- ---- one round
+
+-- a chain with the accesses of each step, to be written a line for each
+record Making (s : State) (each : List (List Access)) (t : State) : Type 0 where
+  made : RunsMaking s each t
+
+infixr 5 ◌▹◌
+◌▹◌ : {s m t : State} {first : List Access} {later : List (List Access)} → StepMaking s m first → Making m later t → Making s (first ∷ later) t
+step ▹ chain = record { made = (_, step, chain.made) }
+
+no_more : {s : State} → Making s [] s
+no_more = record { made = refl }
 
 -- a chain whose accesses have these writes
 record Printing (n : ℕ) (s t : State) (writes : List Access) : Type 0 where
   each : List (List Access)
   count : length each ≡ n
-  makes : RunsMaking s each t
+  makes : Making s each t
   printed : writes_of (joined each) ≡ writes
 
 round : (o : Others) (x1 port a c x12 x13 x14 x15 p : ℕ) (last : Option ℕ) (bytes : ByteMap) (writable : ℕ → Bool)
@@ -60,27 +51,13 @@ round : (o : Others) (x1 port a c x12 x13 x14 x15 p : ℕ) (last : Option ℕ) (
 round o x1 port a c x12 x13 x14 x15 p last bytes writable holds holds' aligned fits small a_small some byte read allowed = record {
   each = _ ∷ _ ∷ _ ∷ _ ∷ _ ∷ [];
   count = refl;
-  makes = (
-    _,
-    making-loads (p + 4) Byte pos a c c (instruction holds aligned 0 (omega arith) (omega arith) lbu_x15) refl refl (omega arith) (omega arith) read (omega arith) (omega arith),
-    (
-      _,
-      making (instruction holds aligned 1 (omega arith) (omega arith) bne_x15) (λ f. Programs.step-branches (p + 12) (not (c == 0)) (pos 8) f refl (grind (arith, nat_tests)) (omega arith)) refl,
-      (
-        _,
-        making (instruction holds aligned 3 (omega arith) (omega arith) addi_x11) (λ f. Programs.step-writes (p + 16) 10 (a + 1) (pos (a + 1)) f refl (omega arith) (omega arith)) refl,
-        (
-          _,
-          making-stores (p + 20) Byte port c (instruction holds aligned 4 (omega arith) (omega arith) sb_x15) refl refl (omega arith) refl (omega arith) allowed (omega arith),
-          (
-            _,
-            making (instruction holds' aligned 5 (omega arith) (omega arith) jal_back) (λ f. Programs.step-jumps p 0 (word (pos (p + 20 + 4294967276))) f refl (omega arith)) refl,
-            refl,
-          ),
-        ),
-      ),
-    ),
-  );
+  makes =
+      making-loads (p + 4) Byte pos a c c (at_word holds aligned 0 (omega arith) (omega arith) refl) refl refl (omega arith) (omega arith) read (omega arith) (omega arith)
+      ▹ making (at_word holds aligned 1 (omega arith) (omega arith) refl) (λ f. Programs.step-branches (p + 12) (not (c == 0)) (pos 8) f refl (grind (arith, nat_tests)) (omega arith)) refl
+      ▹ making (at_word holds aligned 3 (omega arith) (omega arith) refl) (λ f. Programs.step-writes (p + 16) 10 (a + 1) (pos (a + 1)) f refl (omega arith) (omega arith)) refl
+      ▹ making-stores (p + 20) Byte port c (at_word holds aligned 4 (omega arith) (omega arith) refl) refl refl (omega arith) refl (omega arith) allowed (omega arith)
+      ▹ making (at_word holds' aligned 5 (omega arith) (omega arith) refl) (λ f. Programs.step-jumps p 0 (word (pos (p + 20 + 4294967276))) f refl (omega arith)) refl
+      ▹ no_more;
   printed = refl;
 }
 
@@ -152,19 +129,11 @@ returns : (o : Others) (x1 port a x12 x13 x14 x15 p : ℕ) (last : Option ℕ) (
 returns o x1 port a x12 x13 x14 x15 p last bytes writable holds aligned fits a_small read return_aligned small = record {
   each = _ ∷ _ ∷ _ ∷ [];
   count = refl;
-  makes = (
-    _,
-    making-loads (p + 4) Byte pos a 0 0 (instruction holds aligned 0 (omega arith) (omega arith) lbu_x15) refl refl (omega arith) (omega arith) read refl (omega arith),
-    (
-      _,
-      making (instruction holds aligned 1 (omega arith) (omega arith) bne_x15) (λ f. Programs.step-stays (p + 8) false (pos 8) {registers = registers_by o x1 port a x12 x13 x14 0} f refl refl (omega arith)) refl,
-      (
-        _,
-        making (instruction holds aligned 2 (omega arith) (omega arith) ret) (λ f. Programs.step-jumps x1 0 (made_even (word (pos (x1 + 0)))) f refl (omega arith)) refl,
-        refl,
-      ),
-    ),
-  );
+  makes =
+      making-loads (p + 4) Byte pos a 0 0 (at_word holds aligned 0 (omega arith) (omega arith) refl) refl refl (omega arith) (omega arith) read refl (omega arith)
+      ▹ making (at_word holds aligned 1 (omega arith) (omega arith) refl) (λ f. Programs.step-stays (p + 8) false (pos 8) {registers = registers_by o x1 port a x12 x13 x14 0} f refl refl (omega arith)) refl
+      ▹ making (at_word holds aligned 2 (omega arith) (omega arith) refl) (λ f. Programs.step-jumps x1 0 (made_even (word (pos (x1 + 0)))) f refl (omega arith)) refl
+      ▹ no_more;
   printed = refl;
 }
 
@@ -179,7 +148,7 @@ prints_join : (m n k : ℕ) (s u t : State) (first later writes : List Access) �
 prints_join m n k s u t first later writes together are one more = record {
   each = one.each ++ more.each;
   count = length-append one.each more.each ∙ (λ i. one.count i + more.count i) ∙ together;
-  makes = AccessChains.RunsMaking-append one.each more.each s u t one.makes more.makes;
+  makes = record { made = AccessChains.RunsMaking-append one.each more.each s u t one.makes.made more.makes.made };
   printed = ap writes_of (AccessChains.joined-append one.each more.each) ∙ writes_of-append (joined one.each) (joined more.each) ∙ (λ i. one.printed i ++ more.printed i) ∙ are;
 }
 
@@ -206,52 +175,6 @@ prints (b ∷ text) o x1 port a x12 x13 x14 x15 p last bytes writable ready retu
 
 -- ---- the run
 
-pub record PutsString (text : List ℕ) (s : State) : Type 0 where
-  pub after : State
-  pub runs : RunUntil (5 * length text + 4) s (5 * length text + 3) (Some (IllegalInstruction (reg s 1) (word_at s.bytes (reg s 1)))) after
-  pub accesses : List Access
-  pub makes : AccessesOfRun s (answers_of_run (5 * length text + 3) (Some (IllegalInstruction (reg s 1) (word_at s.bytes (reg s 1))))) accesses
-  pub printed : writes_of accesses ≡ writes_to (reg s 10) text
-  pub others : (b : ℕ) → b ≢ reg s 10 → after.bytes b ≡ s.bytes b
-
-puts_from : (text : List ℕ) (o : Others) (x1 port a x12 x13 x14 x15 p : ℕ) (last : Option ℕ) (bytes : ByteMap) (writable : ℕ → Bool)
-    → PutStringStarts text (at (registers_by o x1 port a x12 x13 x14 x15) p last bytes writable) → x1 < 2 ^ 32 → port < 2 ^ 32 → EndsAtLastAddress bytes writable
-    → PutsString text (at (registers_by o x1 port a x12 x13 x14 x15) p last bytes writable)
-puts_from text o x1 port a x12 x13 x14 x15 p last bytes writable starts small port_small ends =
-    let called = starts.called in
-    let ready : Ready port a p text bytes writable = record {
-      holds = called.program_there;
-      aligned = called.aligned;
-      fits = words-end bytes writable p put_string_program ends called.program_there (omega arith);
-      string = starts.string;
-      in_range = value-small bytes writable (a + length text) 0 ends starts.string.ended;
-      port_small = port_small;
-      port_writable = starts.port_writable;
-      apart_program = starts.apart_from_program;
-      apart_text = λ i j less within. starts.apart_from_text i j less (omega (arith, within));
-    } in
-    let all = prints text o x1 port a x12 x13 x14 x15 p last bytes writable ready called.return_aligned small in
-    let others : (b : ℕ) → Outside port 1 b → all.bytes_after b ≡ bytes b = λ b outside. all.others b (λ same. elim outside [ inl below ↦ omega (arith, same, below) | inr above ↦ omega (arith, same, above) ]) in
-    let read = read_after bytes all.bytes_after port 1 x1 4 x1 4 others starts.apart_from_return (omega arith) (omega arith) ∙ word_read bytes x1 called.stops.mapped in
-    let m = at all.registers_after x1 None all.bytes_after writable in
-    let s = at (registers_by o x1 port a x12 x13 x14 x15) p last bytes writable in
-    let fault = Programs.step-illegal {registers = all.registers_after} {pc = x1} {last = None} {bytes = all.bytes_after} {writable = writable} called.return_aligned read called.stops.outside in
-    let chain = Programs.RunsOk-as (length all.runs.each) (5 * length text + 3) s m all.runs.count (AccessChains.RunsMaking-runs all.runs.each s m all.runs.makes) in
-    let last_fetch = accesses_of_illegal m _ called.return_aligned read called.stops.outside in
-    record {
-      after = m;
-      runs = Programs.RunUntil-fault (5 * length text + 4) (5 * length text + 3) s m m _ (omega arith) chain fault;
-      accesses = joined all.runs.each ++ (fetch m ∷ []);
-      makes = subst (λ n. AccessesOfRun s (answers_of_run n (Some (IllegalInstruction x1 (word_at bytes x1)))) (joined all.runs.each ++ (fetch m ∷ []))) all.runs.count (AccessChains.RunsMaking-fault all.runs.each s m m _ (fetch m ∷ []) all.runs.makes fault last_fetch);
-      printed = writes_of-append (joined all.runs.each) (fetch m ∷ []) ∙ append-nil _ ∙ all.runs.printed;
-      others = all.others;
-    }
-
-puts : (text : List ℕ) (s : State) → 15 ≤ length s.registers → PutStringStarts text s → reg s 1 < 2 ^ 32 → reg s 10 < 2 ^ 32 → EndsAtLastAddress s.bytes s.writable → PutsString text s
-puts text s long starts small port_small ends =
-    let open_s = Programs.opened s long in
-    subst (PutsString text) (sym open_s.same) (puts_from text open_s.others (reg s 1) (reg s 10) (reg s 11) (reg s 12) (reg s 13) (reg s 14) (reg s 15) s.pc s.last s.bytes s.writable (subst (PutStringStarts text) open_s.same starts) small port_small ends)
-
 -- what a call of `run` returned
 pub record PutAll (text : List ℕ) (s : State) (steps : ℕ) (e : Option InstructionException) (t : State) : Type 0 where
   pub steps_made : steps ≡ 5 * length text + 3
@@ -259,19 +182,46 @@ pub record PutAll (text : List ℕ) (s : State) (steps : ℕ) (e : Option Instru
   pub bytes_kept : (b : ℕ) → b ≢ reg s 10 → t.bytes b ≡ s.bytes b
   pub printed : (accesses : List Access) → AccessesOfRun s (answers_of_run steps e) accesses → writes_of accesses ≡ writes_to (reg s 10) text
 
-pub put_all : (text : List ℕ) (s t : State) (limit steps : ℕ) (e : Option InstructionException) → 15 ≤ length s.registers → PutStringStarts text s → reg s 1 < 2 ^ 32 → reg s 10 < 2 ^ 32 → EndsAtLastAddress s.bytes s.writable → limit ≡ 5 * length text + 4 → IsOnlyRunUntil limit s steps e t → PutAll text s steps e t
-put_all text s t limit steps e long starts small port_small ends limit_is only =
-    let known = puts text s long starts small port_small ends in
-    let same = Programs.returned only limit_is known.runs in
-    let P : State → Type 0 = λ x. (b : ℕ) → b ≢ reg s 10 → x.bytes b ≡ s.bytes b in
-    let are : answers_of_run (5 * length text + 3) (Some (IllegalInstruction (reg s 1) (word_at s.bytes (reg s 1)))) ≡ answers_of_run steps e = λ i. answers_of_run (sym same.0 i) (sym same.1 i) in
-    let makes = subst (λ answers. AccessesOfRun s answers known.accesses) are known.makes in
+-- what the program does from a state
+abbrev Puts : List ℕ → (limit steps : ℕ) → Option InstructionException → State → State → Type 0
+Puts text limit steps e t s = PutStringStarts text s → HasWords s → EndsAtLastAddress s.bytes s.writable → limit ≡ 5 * length text + 4 → IsOnlyRunUntil limit s steps e t → PutAll text s steps e t
+
+puts : (text : List ℕ) (limit steps : ℕ) (e : Option InstructionException) (t : State) (o : Others) (x1 port a x12 x13 x14 x15 p : ℕ) (last : Option ℕ) (bytes : ByteMap) (writable : ℕ → Bool)
+    → Puts text limit steps e t (at (registers_by o x1 port a x12 x13 x14 x15) p last bytes writable)
+puts text limit steps e t o x1 port a x12 x13 x14 x15 p last bytes writable starts words ends limit_is only =
+    let called = starts.called in
+    let ready : Ready port a p text bytes writable = record {
+      holds = called.program_there;
+      aligned = called.aligned;
+      fits = words-end bytes writable p put_string_program ends called.program_there (omega arith);
+      string = starts.string;
+      in_range = value-small bytes writable (a + length text) 0 ends starts.string.ended;
+      port_small = words.1;
+      port_writable = starts.port_writable;
+      apart_program = starts.apart_from_program;
+      apart_text = λ i j less within. starts.apart_from_text i j less (omega (arith, within));
+    } in
+    let all = prints text o x1 port a x12 x13 x14 x15 p last bytes writable ready called.return_aligned words.0 in
+    let others : (b : ℕ) → Outside port 1 b → all.bytes_after b ≡ bytes b = λ b outside. all.others b (λ same. elim outside [ inl below ↦ omega (arith, same, below) | inr above ↦ omega (arith, same, above) ]) in
+    let read = read_after bytes all.bytes_after port 1 x1 4 x1 4 others starts.apart_from_return (omega arith) (omega arith) ∙ word_read bytes x1 called.stops.mapped in
+    let m = at all.registers_after x1 None all.bytes_after writable in
+    let s = at (registers_by o x1 port a x12 x13 x14 x15) p last bytes writable in
+    let fault = Programs.step-illegal {registers = all.registers_after} {pc = x1} {last = None} {bytes = all.bytes_after} {writable = writable} called.return_aligned read called.stops.outside in
+    let chain = Programs.RunsOk-as (length all.runs.each) (5 * length text + 3) s m all.runs.count (AccessChains.RunsMaking-runs all.runs.each s m all.runs.makes.made) in
+    let same = Programs.returned only limit_is (Programs.RunUntil-fault (5 * length text + 4) (5 * length text + 3) s m m _ (omega arith) chain fault) in
+    let last_fetch = accesses_of_illegal m _ called.return_aligned read called.stops.outside in
+    let makes = AccessChains.RunsMaking-fault all.runs.each s m m _ (fetch m ∷ []) all.runs.makes.made fault last_fetch in
+    let answers : answers_of_run (length all.runs.each) (Some (IllegalInstruction x1 (word_at bytes x1))) ≡ answers_of_run steps e = λ i. answers_of_run ((all.runs.count ∙ sym same.0) i) (sym same.1 i) in
     record {
       steps_made = same.0;
       fault = same.1;
-      bytes_kept = subst P (sym same.2) known.others;
-      printed = λ accesses made. ap writes_of (AccessesOfRun-unique one_row_at_most s (answers_of_run steps e) accesses known.accesses made makes) ∙ known.printed;
+      bytes_kept = rw same.2 all.others;
+      printed = λ accesses made. ap writes_of (AccessesOfRun-unique one_row_at_most s (answers_of_run steps e) accesses _ made (subst (λ d. AccessesOfRun s d (joined all.runs.each ++ (fetch m ∷ []))) answers makes))
+          ∙ writes_of-append (joined all.runs.each) (fetch m ∷ []) ∙ append-nil _ ∙ all.runs.printed;
     }
+
+pub put_all : (text : List ℕ) (s t : State) (limit steps : ℕ) (e : Option InstructionException) → 15 ≤ length s.registers → Puts text limit steps e t s
+put_all text s t limit steps e long = by_registers (Puts text limit steps e t) (puts text limit steps e t) s long
 
 -- ---- strings of memories that are known, by computation
 

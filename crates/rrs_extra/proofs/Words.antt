@@ -1,12 +1,15 @@
 -- Words in a memory.
-use Rattle.std.proofs.Common.{◌≡◌, ℕ, zero, suc, ◌+◌, ◌-◌, ◌*◌, ◌%◌, ◌^◌, ◌<◌, ◌≤◌, ◌==◌, ◌&&◌, Bool, true, false, List, [], ◌∷◌, length, slice_index, Option, Some, None, IsSome, IsTrue, inl, inr, refl, sym, ap, subst, ◌∙◌, arith}
+use Rattle.std.proofs.Common.{◌≡◌, ℕ, zero, suc, ◌+◌, ◌-◌, ◌*◌, ◌%◌, ◌^◌, ◌<◌, ◌≤◌, ◌==◌, ◌&&◌, Bool, true, false, List, [], ◌∷◌, length, slice_index, Option, Some, None, IsSome, IsTrue, Ok, inl, inr, refl, sym, ap, subst, ◌∙◌, arith}
 use Rattle.std.proofs.lemmas.Bool.{eqb-true, and_parts, cases_lt}
 use Rattle.std.proofs.lemmas.Option.{none-some}
 use Rattle.rrs_lib.specs.Encodings.{Fields}
 use Rattle.rrs_lib.specs.Table.{Row, Decodes}
 use Rattle.rrs_lib.specs.Bytes.{ByteMap, little_endian, sum_if_both, at_place, EndsAtLastAddress}
 use Rattle.rrs_lib.proofs.ByteLemmas.{Outside, read-mapped, read-kept, outside_from_none}
-use Rattle.rrs_lib.proofs.Programs.{Fetches, fetches}
+use Rattle.rrs_lib.specs.Machine.{State}
+use Rattle.rrs_lib.specs.Steps.{Step, RunsOk}
+use Rattle.rrs_lib.proofs.Decoder.{decode, decodes}
+use Rattle.rrs_lib.proofs.Programs.{Fetches, fetches, at, Others, registers_by, opened}
 use Rattle.rrs_extra.specs.Programs.{HoldsWords, IsMapped, IsWritable, AreApart, or_zero, word_at}
 
 is_its_value : (o : Option ℕ) → IsSome o → o ≡ Some (or_zero o)
@@ -79,6 +82,27 @@ pub instruction : {bytes : ByteMap} {a pc : ℕ} {words : List ℕ} {row : Row} 
 instruction {bytes = bytes} {a = a} {pc = pc} {words = words} holds aligned i within there decodes =
     let P : ℕ → Type 0 = λ b. little_endian bytes b 4 ≡ Some (slice_index words i) in
     fetches {w = slice_index words i} (omega arith) (subst P there (holds.each i within)) decodes
+
+-- the same, where the decoder computes the row and the fields
+pub at_word : {bytes : ByteMap} {a pc : ℕ} {words : List ℕ} {row : Row} {f : Fields}
+    → HoldsWords bytes a words → a % 4 ≡ 0 → (i : ℕ) → i < length words → a + 4 * i ≡ pc → decode (slice_index words i) ≡ Some (record { row = row; fields = f }) → Fetches bytes pc row f
+at_word holds aligned i within there is = instruction holds aligned i within there (decodes _ _ _ is)
+
+-- a chain of n steps that are all Ok, to be written a line for each
+pub record Chain (n : ℕ) (s t : State) : Type 0 where
+  pub runs : RunsOk n s t
+
+infixr 5 ◌▸◌
+pub ◌▸◌ : {n : ℕ} {s m t : State} → Step s m (Ok tt) → Chain n m t → Chain (suc n) s t
+step ▸ chain = record { runs = (_, step, chain.runs) }
+
+pub done : {s : State} → Chain 0 s s
+done = record { runs = refl }
+
+-- what holds of each state whose registers are written out holds of each state that has as many
+pub by_registers : (P : State → Type 0) → ((o : Others) (x1 x10 x11 x12 x13 x14 x15 pc : ℕ) (last : Option ℕ) (bytes : ByteMap) (writable : ℕ → Bool) → P (at (registers_by o x1 x10 x11 x12 x13 x14 x15) pc last bytes writable))
+    → (s : State) → 15 ≤ length s.registers → P s
+by_registers P each s long = let open_s = opened s long in subst P (sym open_s.same) (each open_s.others _ _ _ _ _ _ _ _ _ _ _)
 
 -- what is read apart from a range is as before where all bytes outside it are
 pub read_after : (old new : ByteMap) (a n b m from count : ℕ) → ((c : ℕ) → Outside a n c → new c ≡ old c) → AreApart a n b m → b ≤ from → from + count ≤ b + m → little_endian new from count ≡ little_endian old from count

@@ -1,33 +1,20 @@
 -- The run that the call made is the one that the program makes.
-use Rattle.std.proofs.Common.{◌≡◌, ◌+◌, ◌*◌, ap, subst, ◌∙◌, arith}
+use Rattle.std.proofs.Common.{◌+◌, ◌*◌, ap, ◌∙◌, rules, arith}
 use Rattle.std.proofs.lemmas.List.{length-drop}
-use Rattle.rrs_lib.specs.Executor.{state_in}
-use Rattle.rrs_lib.specs.Machine.{reg}
-use Rattle.rrs_lib.specs.Steps.{RunUntil}
-use Rattle.rrs_extra.proofs.CopyWords.{Copied, copied}
-use Rattle.rrs_extra.proofs.laws.programs.copy_words.Given
+use Rattle.rrs_extra.proofs.CopyWords.{copied}
 use Rattle.rrs_extra.proofs.laws.programs.copy_words.Goals as goal
 
--- the limit
-limit_is : (g : Given.Over) (c : goal.After-run g) → 5 * c.from.result + 5 ≡ 5 * reg (state_in g.M.Memory.bytes g.M.Memory.writable c.args.executor.now) 12 + 5
-limit_is g c = ap (λ n. 5 * n + 5) (c.from.ensures ∙ c.read_register-count.ensures (g.M.Memory.bytes c.args.executor.now.mem.now) (g.M.Memory.writable c.args.executor.now.mem.now))
-
-known : (g : Given.Over) (c : goal.After-run g) → Copied (state_in g.M.Memory.bytes g.M.Memory.writable c.args.executor.now) c.run.result.steps c.run.result.exception (state_in g.M.Memory.bytes g.M.Memory.writable c.run.new.self)
-known g c =
-    let words = c.registers_of_call.ensures.words (g.M.Memory.bytes c.args.executor.now.mem.now) (g.M.Memory.writable c.args.executor.now.mem.now) in
-    let ends = c.run.ensures.ends (omega arith) c.requires.called.aligned in
-    copied _ _ _ _ _ (omega (arith, length-drop 1 c.args.executor.now.hart_state.now.registers, c.registers_of_call.ensures.count)) c.requires words ends (limit_is g c) c.run.ensures.only
-
-pub returns-clause-run : goal.returns-clause-run
-returns-clause-run g c =
-    let state = state_in g.M.Memory.bytes g.M.Memory.writable in
-    subst (λ limit. RunUntil limit (state c.args.executor.now) c.run.result.steps c.run.result.exception (state c.run.new.self)) (limit_is g c) c.run.ensures.run
-
-pub returns-clause-steps : goal.returns-clause-steps
-returns-clause-steps g c = (known g c).steps_made
-
-pub returns-clause-fault : goal.returns-clause-fault
-returns-clause-fault g c = (known g c).fault
-
-pub returns-clause-copied : goal.returns-clause-copied
-returns-clause-copied g c = (known g c).copies_words
+pub returns : goal.returns
+returns g c =
+    let executor = c.args.executor.now in
+    let words = c.registers_of_call.ensures.words (g.M.Memory.bytes executor.mem.now) (g.M.Memory.writable executor.mem.now) in
+    let limit = ap (λ n. 5 * n + 5) (c.from.ensures ∙ c.read_register-count.ensures (g.M.Memory.bytes executor.mem.now) (g.M.Memory.writable executor.mem.now)) in
+    let known = copied _ _ _ _ _ (omega (arith, length-drop 1 executor.hart_state.now.registers, c.registers_of_call.ensures.count)) c.requires words (c.run.ensures.ends (omega arith) c.requires.called.aligned) limit c.run.ensures.only in
+    record {
+      run = rw limit at c.run.ensures.run;
+      steps = known.steps_made;
+      fault = known.fault;
+      copied = known.copies_words;
+      rest = search rules;
+      accesses = search rules;
+    }
