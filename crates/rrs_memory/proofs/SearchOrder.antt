@@ -64,9 +64,7 @@ pub later_base : (spans : List (ℕ × ℕ)) (order : List ℕ) (j k : ℕ) → 
 later_base spans order j k sorted before within =
     elim (cases_lt j k) [
       | inl first ↦ omega (arith, sorted.rising j k first within)
-      | inr past ↦
-          let same : j ≡ k = omega arith in
-          rw same (omega arith)
+      | inr past ↦ let same : j ≡ k = omega arith in rw same (omega arith)
     ]
 
 -- places after one that begins after an address begin after it too
@@ -84,77 +82,72 @@ pub ends_earlier : (spans : List (ℕ × ℕ)) (order : List ℕ) (j k a : ℕ) 
 ends_earlier spans order j k a sorted before within ends =
     elim (cases_lt j k) [
       | inl first ↦ omega (arith, sorted.rising j k first within, ends)
-      | inr past ↦
-          let same : j ≡ k = omega arith in
-          rw same ends
+      | inr past ↦ let same : j ≡ k = omega arith in rw same ends
     ]
 
 -- ---- one more region
 
--- what stands at a place of an order into which an index was inserted
-inserted_at : (order : List ℕ) (place new j : ℕ) → place ≤ length order → ((j < place) × (get_or (insert order place new) j 0 ≡ get_or order j 0)) ⊎ (((j ≡ place) × (get_or (insert order place new) j 0 ≡ new)) ⊎ ((place < j) × (get_or (insert order place new) j 0 ≡ get_or order (j - 1) 0)))
-inserted_at order place new j fits =
-    elim (cases_lt j place) [
-      | inl below ↦ inl (below, get_or-insert_below order place new 0 j below fits)
-      | inr past ↦ elim (cases_lt place j) [
-        | inl above ↦
-            let back : j - 1 + 1 ≡ j = omega arith in
-            inr (inr (above, rw back at (get_or-insert_above order place new 0 (j - 1) (omega arith) fits)))
-        | inr at ↦
-            let here : j ≡ place = omega arith in
-            inr (inl (here, rw here (get_or-insert_at order place new 0 fits)))
-      ]
-    ]
-
 module _ (spans : List (ℕ × ℕ)) (order : List ℕ) (place : ℕ) (span : ℕ × ℕ) where
-  -- the base and the size of what stands at a place of the new order
-  span_at : (j : ℕ) → IsSearchOrder spans order → place ≤ length order → j < length order + 1 → ((j < place) × (get_or (spans ++ span ∷ []) (get_or (insert order place (length spans)) j 0) (0, 0) ≡ get_or spans (get_or order j 0) (0, 0))) ⊎ (((j ≡ place) × (get_or (spans ++ span ∷ []) (get_or (insert order place (length spans)) j 0) (0, 0) ≡ span)) ⊎ ((place < j) × (get_or (spans ++ span ∷ []) (get_or (insert order place (length spans)) j 0) (0, 0) ≡ get_or spans (get_or order (j - 1) 0) (0, 0))))
-  span_at j sorted fits within =
-      elim (inserted_at order place (length spans) j fits) [
-        | inl below ↦ inl (below.0, rw (below.1) (get_or_append_left spans (span ∷ []) (0, 0) (get_or order j 0) (sorted.within j (omega (arith, below.0, fits)))))
-        | inr other ↦ elim other [
-          | inl at ↦ inr (inl (at.0, rw (at.1) (get_or_push spans span (0, 0) (length spans) refl)))
-          | inr above ↦ inr (inr (above.0, rw (above.1) (get_or_append_left spans (span ∷ []) (0, 0) (get_or order (j - 1) 0) (sorted.within (j - 1) (omega (arith, above.0, within))))))
+  abbrev spans' : List (ℕ × ℕ)
+  spans' = spans ++ span ∷ []
+
+  abbrev order' : List ℕ
+  order' = insert order place (length spans)
+
+  -- what stands at place j of the new order: what stood there, the new region, or what stood before it
+  data Stands (j : ℕ) : Type 0 where
+    Early : j < place → get_or order' j 0 ≡ get_or order j 0 → get_or spans' (get_or order' j 0) (0, 0) ≡ get_or spans (get_or order j 0) (0, 0) → Stands j
+    Here : j ≡ place → get_or order' j 0 ≡ length spans → get_or spans' (get_or order' j 0) (0, 0) ≡ span → Stands j
+    Late : place < j → get_or order' j 0 ≡ get_or order (j - 1) 0 → get_or spans' (get_or order' j 0) (0, 0) ≡ get_or spans (get_or order (j - 1) 0) (0, 0) → Stands j
+
+  stands_at : (j : ℕ) → IsSearchOrder spans order → place ≤ length order → j < length order + 1 → Stands j
+  stands_at j sorted fits within =
+      elim (cases_lt j place) [
+        | inl below ↦
+            let at = get_or-insert_below order place (length spans) 0 j below fits in
+            Early below at (rw at (get_or_append_left spans (span ∷ []) (0, 0) (get_or order j 0) (sorted.within j (omega arith))))
+        | inr past ↦ elim (cases_lt place j) [
+          | inl above ↦
+              let back : j - 1 + 1 ≡ j = omega arith in
+              let at = rw back at (get_or-insert_above order place (length spans) 0 (j - 1) (omega arith) fits) in
+              Late above at (rw at (get_or_append_left spans (span ∷ []) (0, 0) (get_or order (j - 1) 0) (sorted.within (j - 1) (omega arith))))
+          | inr same ↦
+              let here : j ≡ place = omega arith in
+              let at : get_or order' j 0 ≡ length spans = rw here (get_or-insert_at order place (length spans) 0 fits) in
+              Here here at (rw at (get_or_push spans span (0, 0) (length spans) refl))
         ]
       ]
 
   -- a region of size above 0 that overlaps no other, added at the end, and its index put at its place
   pub IsSearchOrder-insert : IsSearchOrder spans order → place ≤ length order → 0 < span.1 → ((j : ℕ) → j < place → base_at spans (get_or order j 0) ≤ span.0) → ((j : ℕ) → place ≤ j → j < length order → span.0 < base_at spans (get_or order j 0)) → ((i : ℕ) → i < length spans → (base_at spans i < span.0 + span.1) × (span.0 < base_at spans i + size_at spans i) → ⊥) → IsSearchOrder (spans ++ span ∷ []) (insert order place (length spans))
   IsSearchOrder-insert sorted fits some before after apart = record {
-    within = λ j below. within j (omega (arith, longer, below));
-    nonempty = λ j below. nonempty j (omega (arith, longer, below));
+    within = λ j below. within j (omega (arith, longer, below)) (at j below);
+    nonempty = λ j below. nonempty j (omega (arith, longer, below)) (at j below);
     complete = λ i inside large. complete i (omega (arith, more, inside)) large;
-    rising = λ j k first below. rising j k first (omega (arith, longer, below));
+    rising = λ j k first below. rising j k first (omega (arith, longer, below)) (at j (omega arith)) (at k below);
     few = omega (arith, longer, more, sorted.few);
   }
     where
-      longer : length (insert order place (length spans)) ≡ length order + 1
+      longer : length order' ≡ length order + 1
       longer = length-insert order place (length spans) fits
 
-      more : length (spans ++ span ∷ []) ≡ length spans + 1
+      more : length spans' ≡ length spans + 1
       more = length_push spans span
 
-      within : (j : ℕ) → j < length order + 1 → get_or (insert order place (length spans)) j 0 < length (spans ++ span ∷ [])
-      within j below =
-          elim (inserted_at order place (length spans) j fits) [
-            | inl early ↦ omega (arith, early.1, more, sorted.within j (omega (arith, early.0, fits)))
-            | inr other ↦ elim other [
-              | inl at ↦ omega (arith, at.1, more)
-              | inr late ↦ omega (arith, late.1, more, sorted.within (j - 1) (omega (arith, late.0, below)))
-            ]
-          ]
+      at : (j : ℕ) → j < length order' → Stands j
+      at j below = stands_at j sorted fits (omega (arith, longer, below))
 
-      nonempty : (j : ℕ) → j < length order + 1 → 0 < size_at (spans ++ span ∷ []) (get_or (insert order place (length spans)) j 0)
-      nonempty j below =
-          elim (span_at j sorted fits below) [
-            | inl early ↦ omega (arith, ap (λ p. p.1) (early.1), sorted.nonempty j (omega (arith, early.0, fits)))
-            | inr other ↦ elim other [
-              | inl at ↦ omega (arith, ap (λ p. p.1) (at.1), some)
-              | inr late ↦ omega (arith, ap (λ p. p.1) (late.1), sorted.nonempty (j - 1) (omega (arith, late.0, below)))
-            ]
-          ]
+      within : (j : ℕ) → j < length order + 1 → Stands j → get_or order' j 0 < length spans'
+      within j below (Early early is _) = omega (arith, more, sorted.within j (omega arith))
+      within j below (Here same is _) = omega (arith, more)
+      within j below (Late late is _) = omega (arith, more, sorted.within (j - 1) (omega arith))
 
-      complete : (i : ℕ) → i < length spans + 1 → 0 < size_at (spans ++ span ∷ []) i → (j : ℕ) × (j < length (insert order place (length spans))) × (get_or (insert order place (length spans)) j 0 ≡ i)
+      nonempty : (j : ℕ) → j < length order + 1 → Stands j → 0 < size_at spans' (get_or order' j 0)
+      nonempty j below (Early early _ is) = omega (arith, ap (λ p. p.1) is, sorted.nonempty j (omega arith))
+      nonempty j below (Here same _ is) = omega (arith, ap (λ p. p.1) is, some)
+      nonempty j below (Late late _ is) = omega (arith, ap (λ p. p.1) is, sorted.nonempty (j - 1) (omega arith))
+
+      complete : (i : ℕ) → i < length spans + 1 → 0 < size_at spans' i → (j : ℕ) × (j < length order') × (get_or order' j 0 ≡ i)
       complete i inside large =
           elim (cases_lt i (length spans)) [
             | inl old ↦
@@ -164,56 +157,36 @@ module _ (spans : List (ℕ × ℕ)) (order : List ℕ) (place : ℕ) (span : �
                   | inl early ↦ (stood.0, omega (arith, stood.1, longer), get_or-insert_below order place (length spans) 0 stood.0 early fits ∙ stood.2)
                   | inr late ↦ (stood.0 + 1, omega (arith, stood.1, longer), get_or-insert_above order place (length spans) 0 stood.0 late fits ∙ stood.2)
                 ]
-            | inr new ↦
-                let here : length spans ≡ i = omega arith in
-                (place, omega (arith, longer, fits), get_or-insert_at order place (length spans) 0 fits ∙ here)
+            | inr new ↦ (place, omega (arith, longer, fits), get_or-insert_at order place (length spans) 0 fits ∙ omega (arith, new, inside))
           ]
 
       -- the new region begins where those before it have ended
       ends_before : (j : ℕ) → j < place → base_at spans (get_or order j 0) + size_at spans (get_or order j 0) ≤ span.0
       ends_before j early =
-          let inside = sorted.within j (omega (arith, early, fits)) in
+          let no = apart (get_or order j 0) (sorted.within j (omega arith)) in
           elim (cases_lt span.0 (base_at spans (get_or order j 0) + size_at spans (get_or order j 0))) [
-            | inl over ↦ absurd (apart (get_or order j 0) inside (omega (arith, before j early, some), over))
+            | inl over ↦ absurd (no (omega (arith, before j early, some), over))
             | inr done ↦ done
           ]
 
       -- it ends where those after it begin
       ends_in_time : (j : ℕ) → place ≤ j → j < length order → span.0 + span.1 ≤ base_at spans (get_or order j 0)
       ends_in_time j late below =
-          let inside = sorted.within j below in
           elim (cases_lt (base_at spans (get_or order j 0)) (span.0 + span.1)) [
-            | inl over ↦ absurd (apart (get_or order j 0) inside (over, omega (arith, after j late below)))
+            | inl over ↦ absurd (apart (get_or order j 0) (sorted.within j below) (over, omega (arith, after j late below)))
             | inr done ↦ done
           ]
 
-      rising : (j k : ℕ) → j < k → k < length order + 1 → base_at (spans ++ span ∷ []) (get_or (insert order place (length spans)) j 0) + size_at (spans ++ span ∷ []) (get_or (insert order place (length spans)) j 0) ≤ base_at (spans ++ span ∷ []) (get_or (insert order place (length spans)) k 0)
-      rising j k first below =
-          elim (span_at j sorted fits (omega arith)) [
-            | inl early ↦ elim (span_at k sorted fits below) [
-              | inl early_k ↦ omega (arith, ap (λ p. p.0) (early.1), ap (λ p. p.1) (early.1), ap (λ p. p.0) (early_k.1), sorted.rising j k first (omega (arith, early_k.0, fits)))
-              | inr other_k ↦ elim other_k [
-                | inl at_k ↦ omega (arith, ap (λ p. p.0) (early.1), ap (λ p. p.1) (early.1), ap (λ p. p.0) (at_k.1), ends_before j (early.0))
-                | inr late_k ↦ omega (arith, ap (λ p. p.0) (early.1), ap (λ p. p.1) (early.1), ap (λ p. p.0) (late_k.1), sorted.rising j (k - 1) (omega (arith, early.0, late_k.0)) (omega (arith, late_k.0, below)))
-              ]
-            ]
-            | inr other ↦ elim (span_at k sorted fits below) [
-              | inl early_k ↦ elim other [
-                | inl at ↦ absurd (omega (arith, early_k.0, at.0, first))
-                | inr late ↦ absurd (omega (arith, early_k.0, late.0, first))
-              ]
-              | inr other_k ↦ elim other_k [
-                | inl at_k ↦ elim other [
-                  | inl at ↦ absurd (omega (arith, at_k.0, at.0, first))
-                  | inr late ↦ absurd (omega (arith, at_k.0, late.0, first))
-                ]
-                | inr late_k ↦ elim other [
-                  | inl at ↦ omega (arith, ap (λ p. p.0) (at.1), ap (λ p. p.1) (at.1), ap (λ p. p.0) (late_k.1), ends_in_time (k - 1) (omega (arith, late_k.0)) (omega (arith, late_k.0, below)))
-                  | inr late ↦ omega (arith, ap (λ p. p.0) (late.1), ap (λ p. p.1) (late.1), ap (λ p. p.0) (late_k.1), sorted.rising (j - 1) (k - 1) (omega (arith, late.0, first)) (omega (arith, late_k.0, below)))
-                ]
-              ]
-            ]
-          ]
+      rising : (j k : ℕ) → j < k → k < length order + 1 → Stands j → Stands k → base_at spans' (get_or order' j 0) + size_at spans' (get_or order' j 0) ≤ base_at spans' (get_or order' k 0)
+      rising j k first below (Early early _ is) (Early early_k _ is_k) = omega (arith, ap (λ p. p.0) is, ap (λ p. p.1) is, ap (λ p. p.0) is_k, sorted.rising j k first (omega arith))
+      rising j k first below (Early early _ is) (Here at_k _ is_k) = omega (arith, ap (λ p. p.0) is, ap (λ p. p.1) is, ap (λ p. p.0) is_k, ends_before j early)
+      rising j k first below (Early early _ is) (Late late_k _ is_k) = omega (arith, ap (λ p. p.0) is, ap (λ p. p.1) is, ap (λ p. p.0) is_k, sorted.rising j (k - 1) (omega arith) (omega arith))
+      rising j k first below (Here same _ is) (Late late_k _ is_k) = omega (arith, ap (λ p. p.0) is, ap (λ p. p.1) is, ap (λ p. p.0) is_k, ends_in_time (k - 1) (omega arith) (omega arith))
+      rising j k first below (Late late _ is) (Late late_k _ is_k) = omega (arith, ap (λ p. p.0) is, ap (λ p. p.1) is, ap (λ p. p.0) is_k, sorted.rising (j - 1) (k - 1) (omega arith) (omega arith))
+      rising j k first below (Here same _ is) (Early early_k _ is_k) = absurd (omega arith)
+      rising j k first below (Here same _ is) (Here at_k _ is_k) = absurd (omega arith)
+      rising j k first below (Late late _ is) (Early early_k _ is_k) = absurd (omega arith)
+      rising j k first below (Late late _ is) (Here at_k _ is_k) = absurd (omega arith)
 
 -- an empty region added at the end
 pub IsSearchOrder-push_empty : (spans : List (ℕ × ℕ)) (order : List ℕ) (span : ℕ × ℕ) → IsSearchOrder spans order → span.1 ≡ 0 → IsSearchOrder (spans ++ span ∷ []) order
