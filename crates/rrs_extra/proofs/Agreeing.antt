@@ -10,38 +10,18 @@ use Rattle.rrs_extra.specs.Agreement.{Agree}
 
 -- ---- one step
 
--- a step from a state is one from the state with no last written register
-step_of_cleared : (s t : State) (a : StepAnswer) → Step s t a → Step (cleared s) t a
-step_of_cleared s t a (Misaligned odd same answers) = Misaligned odd same answers
-step_of_cleared s t a (Unmapped aligned read same answers) = Unmapped aligned read same answers
-step_of_cleared s t a (Illegal w aligned read outside same answers) = Illegal w aligned read outside same answers
-step_of_cleared s t a (Legal w row f u b aligned read is executes after answers) = Legal w row f u b aligned read is executes after answers
-
--- and the other way
-step_from_cleared : (s t : State) (a : StepAnswer) → Step (cleared s) t a → Step s t a
-step_from_cleared s t a (Misaligned odd same answers) = Misaligned odd same answers
-step_from_cleared s t a (Unmapped aligned read same answers) = Unmapped aligned read same answers
-step_from_cleared s t a (Illegal w aligned read outside same answers) = Illegal w aligned read outside same answers
-step_from_cleared s t a (Legal w row f u b aligned read is executes after answers) = Legal w row f u b aligned read is executes after answers
-
--- a state in which no register was written last
-abbrev bare : List ℕ → ℕ → ByteMap → (ℕ → Bool) → State
-bare registers pc bytes writable = record { registers = registers; pc = pc; last = None; bytes = bytes; writable = writable }
-
-same_parts : (r r' : List ℕ) (p p' : ℕ) (b b' : ByteMap) (w w' : ℕ → Bool) → r ≡ r' → p ≡ p' → b ≡ b' → w ≡ w' → bare r p b w ≡ bare r' p' b' w'
-same_parts r r' p p' b b' w w' registers pc bytes writable =
-    ap (λ x. bare x p b w) registers ∙ ap (λ x. bare r' x b w) pc ∙ ap (λ x. bare r' p' x w) bytes ∙ ap (bare r' p' b') writable
-
--- states that agree differ in the last written register at most
-same_cleared : (s s' : State) → Agree s s' → cleared s ≡ cleared s'
-same_cleared s s' agree =
-    same_parts _ _ _ _ _ _ _ _ agree.registers agree.pc agree.bytes agree.writable
+-- a step is one from the state in which any register was written last, or none
+step_of_last : (s t : State) (last : Option ℕ) (a : StepAnswer) → Step s t a → Step (record s { last = last }) t a
+step_of_last s t last a (Misaligned odd same answers) = Misaligned odd same answers
+step_of_last s t last a (Unmapped aligned read same answers) = Unmapped aligned read same answers
+step_of_last s t last a (Illegal w aligned read outside same answers) = Illegal w aligned read outside same answers
+step_of_last s t last a (Legal w row f u b aligned read is executes after answers) = Legal w row f u b aligned read is executes after answers
 
 -- what a step does from one of two states that agree it does from the other
 pub Step-agree : (s s' t : State) (a : StepAnswer) → Agree s s' → Step s' t a → Step s t a
 Step-agree s s' t a agree step =
-    let P : State → Type 0 = λ x. Step x t a in
-    step_from_cleared s t a (subst P (sym (same_cleared s s' agree)) (step_of_cleared s' t a step))
+    let same : s' ≡ record s { last = s'.last } = λ i. record { registers = sym agree.registers i; pc = sym agree.pc i; last = s'.last; bytes = sym agree.bytes i; writable = sym agree.writable i } in
+    step_of_last (record s { last = s'.last }) t s.last a (subst (λ x. Step x t a) same step)
 
 -- ---- runs of a number of steps
 

@@ -21,29 +21,6 @@ use Rattle.rrs_extra.proofs.Operands.{three-alike, two-alike, shift-alike, lui-a
 
 -- ---- fields of one format
 
--- P holds of all fields in range of a format
-abbrev ForEach : (Fields → Type 0) → Format → Type 0
-ForEach P InR = (f : RType) → IsInRange (R f) → P (R f)
-ForEach P InI = (f : IType) → IsInRange (I f) → P (I f)
-ForEach P InIShamt = (f : ITypeShamt) → IsInRange (IShamt f) → P (IShamt f)
-ForEach P InS = (f : SType) → IsInRange (S f) → P (S f)
-ForEach P InB = (f : BType) → IsInRange (B f) → P (B f)
-ForEach P InU = (f : UType) → IsInRange (U f) → P (U f)
-ForEach P InJ = (f : JType) → IsInRange (J f) → P (J f)
-
--- what holds of each of a format holds of fields that have the format
-at_own : (P : Fields → Type 0) (f : Fields) → ForEach P (format_of f) → IsInRange f → P f
-at_own P (R f) all p = all f p
-at_own P (I f) all p = all f p
-at_own P (IShamt f) all p = all f p
-at_own P (S f) all p = all f p
-at_own P (B f) all p = all f p
-at_own P (U f) all p = all f p
-at_own P (J f) all p = all f p
-
-at_format : (P : Fields → Type 0) (k : Format) (f : Fields) → format_of f ≡ k → ForEach P k → IsInRange f → P f
-at_format P k f e all p = at_own P f (subst (ForEach P) (sym e) all) p
-
 -- P holds of each two fields in range of a format
 abbrev pub ForBoth : (Fields → Fields → Type 0) → Format → Type 0
 ForBoth P InR = (f g : RType) → IsInRange (R f) → IsInRange (R g) → P (R f) (R g)
@@ -55,13 +32,14 @@ ForBoth P InU = (f g : UType) → IsInRange (U f) → IsInRange (U g) → P (U f
 ForBoth P InJ = (f g : JType) → IsInRange (J f) → IsInRange (J g) → P (J f) (J g)
 
 at_both_own : (P : Fields → Fields → Type 0) (f g : Fields) → format_of g ≡ format_of f → ForBoth P (format_of f) → IsInRange f → IsInRange g → P f g
-at_both_own P (R f) g e all p q = at_format (P (R f)) InR g e (λ g q. all f g p q) q
-at_both_own P (I f) g e all p q = at_format (P (I f)) InI g e (λ g q. all f g p q) q
-at_both_own P (IShamt f) g e all p q = at_format (P (IShamt f)) InIShamt g e (λ g q. all f g p q) q
-at_both_own P (S f) g e all p q = at_format (P (S f)) InS g e (λ g q. all f g p q) q
-at_both_own P (B f) g e all p q = at_format (P (B f)) InB g e (λ g q. all f g p q) q
-at_both_own P (U f) g e all p q = at_format (P (U f)) InU g e (λ g q. all f g p q) q
-at_both_own P (J f) g e all p q = at_format (P (J f)) InJ g e (λ g q. all f g p q) q
+at_both_own P (R f) (R g) e all p q = all f g p q
+at_both_own P (I f) (I g) e all p q = all f g p q
+at_both_own P (IShamt f) (IShamt g) e all p q = all f g p q
+at_both_own P (S f) (S g) e all p q = all f g p q
+at_both_own P (B f) (B g) e all p q = all f g p q
+at_both_own P (U f) (U g) e all p q = all f g p q
+at_both_own P (J f) (J g) e all p q = all f g p q
+at_both_own P f g e all p q = absurd (cc)
 
 -- what holds of both of a format holds of two fields that have the format
 pub at_both : (P : Fields → Fields → Type 0) (k : Format) (f g : Fields) → format_of f ≡ k → format_of g ≡ k → ForBoth P k → IsInRange f → IsInRange g → P f g
@@ -73,40 +51,36 @@ at_both P k f g e e' all p q = at_both_own P f g (e' ∙ sym e) (subst (ForBoth 
 abbrev BeginsWithName : Row → Fields → Type 0
 BeginsWithName row f = (pc : ℕ) → option_map first_word (text_of row f pc) ≡ Some (name_of row)
 
-begins_with_name : (row : Row) → ForEach (BeginsWithName row) (table row).format
-begins_with_name Row.Add = λ f p pc. refl
-begins_with_name _ = λ f p pc. refl
+begins_with_name : (row : Row) → ForBoth (λ f g. BeginsWithName row f) (table row).format
+begins_with_name Row.Add = λ f g p q pc. refl
+begins_with_name _ = λ f g p q pc. refl
 
 -- the texts of rows that do one thing are equal exactly when what they show is
 abbrev ShownAlike : Action → Row → Fields → Fields → Type 0
 ShownAlike action row f g = (pc : ℕ) → (text_by action row f pc ≡ text_by action row g pc) ↔ (shown_by action f ≡ shown_by action g)
 
--- rows whose texts show no operands
-no-operands : {A B : Type 0} (x : A) (y : B) → (x ≡ x) ↔ (y ≡ y)
-no-operands x y = (λ _. refl, λ _. refl)
-
 shown_alike : (action : Action) (row : Row) → ForBoth (ShownAlike action row) (format_of_action action)
-shown_alike (OnRegisters op) row = λ f g p q pc. three-alike row f g p q
-shown_alike (OnImmediate op) row = λ f g p q pc. two-alike row f g p q
-shown_alike (OnShamt op) row = λ f g p q pc. shift-alike row f g p q
-shown_alike LoadUpper row = λ f g p q pc. lui-alike row f g p q
-shown_alike AddUpperToPc row = λ f g p q pc. auipc-alike row pc f g p q
-shown_alike (BranchIf test) row = λ f g p q pc. branch-alike row pc f g p q
-shown_alike (BranchUnless test) row = λ f g p q pc. branch-alike row pc f g p q
-shown_alike (Load n extended) row = λ f g p q pc. load-alike row f g p q
-shown_alike (Store n) row = λ f g p q pc. store-alike row f g p q
-shown_alike JumpAndLink row = λ f g p q pc. jal-alike row pc f g p q
-shown_alike JumpAndLinkRegister row = λ f g p q pc. jalr-alike row f g p q
-shown_alike NoEffect row = λ f g p q pc. no-operands _ _
-shown_alike CallEnvironment row = λ f g p q pc. no-operands _ _
-shown_alike Break row = λ f g p q pc. no-operands _ _
+shown_alike (OnRegisters op) row = λ f g p q pc. (three-alike row f g p q, λ s. (cc))
+shown_alike (OnImmediate op) row = λ f g p q pc. (two-alike row f g p q, λ s. (cc))
+shown_alike (OnShamt op) row = λ f g p q pc. (shift-alike row f g p q, λ s. (cc))
+shown_alike LoadUpper row = λ f g p q pc. (lui-alike row f g p q, λ s. (cc))
+shown_alike AddUpperToPc row = λ f g p q pc. (auipc-alike row pc f g p q, λ s. (cc))
+shown_alike (BranchIf test) row = λ f g p q pc. (branch-alike row pc f g p q, λ s. (cc))
+shown_alike (BranchUnless test) row = λ f g p q pc. (branch-alike row pc f g p q, λ s. (cc))
+shown_alike (Load n extended) row = λ f g p q pc. (load-alike row f g p q, λ s. (cc))
+shown_alike (Store n) row = λ f g p q pc. (store-alike row f g p q, λ s. (cc))
+shown_alike JumpAndLink row = λ f g p q pc. (jal-alike row pc f g p q, λ s. (cc))
+shown_alike JumpAndLinkRegister row = λ f g p q pc. (jalr-alike row f g p q, λ s. (cc))
+shown_alike NoEffect row = λ f g p q pc. (λ _. refl, λ _. refl)
+shown_alike CallEnvironment row = λ f g p q pc. (λ _. refl, λ _. refl)
+shown_alike Break row = λ f g p q pc. (λ _. refl, λ _. refl)
 
 -- ---- two words
 
 -- a row's text begins with its name
 text-name : (w : ℕ) (row : Row) (f : Fields) (pc : ℕ) (text : List ℕ) → Decodes w row f → text_of row f pc ≡ Some text → first_word text ≡ name_of row
 text-name w row f pc text is e =
-    let named : option_map first_word (text_of row f pc) ≡ Some (name_of row) = at_format (BeginsWithName row) (table row).format f is.format (begins_with_name row) is.in_range pc in
+    let named : option_map first_word (text_of row f pc) ≡ Some (name_of row) = at_both (λ f g. BeginsWithName row f) (table row).format f f is.format is.format (begins_with_name row) is.in_range is.in_range pc in
     let read : option_map first_word (text_of row f pc) ≡ Some (first_word text) = ap (option_map first_word) e in
     cc
 

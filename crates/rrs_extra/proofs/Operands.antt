@@ -85,44 +85,35 @@ mag-imm (negsuc n) low high = omega (arith, ints)
 
 -- three registers
 pub three-alike : (row : Row) (f g : RType) → IsInRange (R f) → IsInRange (R g)
-    → (Some (three_registers row f) ≡ Some (three_registers row g)) ↔ (shown (R f) ≡ shown (R g))
-three-alike row f g p q = (
-  λ e.
-      let same = three_operands (table row).name (register f.rd) (register f.rs1) (register f.rs2) (register g.rd) (register g.rs1) (register g.rs2)
-      (register_piece f.rd p.0) (register_piece g.rd q.0) (register_piece f.rs1 p.2) (register_piece g.rs1 q.2) (simp append_assoc at (same_Some _ _ e)) in
-      cc (same_register f.rd g.rd p.0 q.0 same.0, same_register f.rs1 g.rs1 p.2 q.2 same.1, same_register f.rs2 g.rs2 p.3 q.3 same.2),
-  λ s. (cc),
-)
+    → Some (three_registers row f) ≡ Some (three_registers row g) → shown (R f) ≡ shown (R g)
+three-alike row f g p q e =
+    let same = three_operands (table row).name (register f.rd) (register f.rs1) (register f.rs2) (register g.rd) (register g.rs1) (register g.rs2)
+    (register_piece f.rd p.0) (register_piece g.rd q.0) (register_piece f.rs1 p.2) (register_piece g.rs1 q.2) (simp append_assoc at (same_Some _ _ e)) in
+    cc (same_register f.rd g.rd p.0 q.0 same.0, same_register f.rs1 g.rs1 p.2 q.2 same.1, same_register f.rs2 g.rs2 p.3 q.3 same.2)
 
 -- two registers and an immediate
 pub two-alike : (row : Row) (f g : IType) → IsInRange (I f) → IsInRange (I g)
-    → (Some (two_registers row f) ≡ Some (two_registers row g)) ↔ (shown (I f) ≡ shown (I g))
-two-alike row f g p q = (
-  λ e.
-      let same = three_operands (table row).name (register f.rd) (register f.rs1) (signed_decimal f.imm) (register g.rd) (register g.rs1) (signed_decimal g.imm)
-      (register_piece f.rd p.0) (register_piece g.rd q.0) (register_piece f.rs1 p.2) (register_piece g.rs1 q.2) (simp append_assoc at (same_Some _ _ e)) in
-      cc (
-        same_register f.rd g.rd p.0 q.0 same.0,
-        same_register f.rs1 g.rs1 p.2 q.2 same.1,
-        signed_decimal_injective f.imm g.imm (mag-imm f.imm p.3 p.4) (mag-imm g.imm q.3 q.4) same.2,
-      ),
-  λ s. (cc),
-)
+    → Some (two_registers row f) ≡ Some (two_registers row g) → shown (I f) ≡ shown (I g)
+two-alike row f g p q e =
+    let same = three_operands (table row).name (register f.rd) (register f.rs1) (signed_decimal f.imm) (register g.rd) (register g.rs1) (signed_decimal g.imm)
+    (register_piece f.rd p.0) (register_piece g.rd q.0) (register_piece f.rs1 p.2) (register_piece g.rs1 q.2) (simp append_assoc at (same_Some _ _ e)) in
+    cc (
+      same_register f.rd g.rd p.0 q.0 same.0,
+      same_register f.rs1 g.rs1 p.2 q.2 same.1,
+      signed_decimal_injective f.imm g.imm (mag-imm f.imm p.3 p.4) (mag-imm g.imm q.3 q.4) same.2,
+    )
 
 -- two registers and a shift amount
 pub shift-alike : (row : Row) (f g : ITypeShamt) → IsInRange (IShamt f) → IsInRange (IShamt g)
-    → (Some (shifted_register row f) ≡ Some (shifted_register row g)) ↔ (shown (IShamt f) ≡ shown (IShamt g))
-shift-alike row f g p q = (
-  λ e.
-      let same = three_operands (table row).name (register f.rd) (register f.rs1) (decimal f.shamt) (register g.rd) (register g.rs1) (decimal g.shamt)
-      (register_piece f.rd p.0) (register_piece g.rd q.0) (register_piece f.rs1 p.2) (register_piece g.rs1 q.2) (simp append_assoc at (same_Some _ _ e)) in
-      cc (
-        same_register f.rd g.rd p.0 q.0 same.0,
-        same_register f.rs1 g.rs1 p.2 q.2 same.1,
-        decimal_injective f.shamt g.shamt (omega (arith, p.3)) (omega (arith, q.3)) same.2,
-      ),
-  λ s. (cc),
-)
+    → Some (shifted_register row f) ≡ Some (shifted_register row g) → shown (IShamt f) ≡ shown (IShamt g)
+shift-alike row f g p q e =
+    let same = three_operands (table row).name (register f.rd) (register f.rs1) (decimal f.shamt) (register g.rd) (register g.rs1) (decimal g.shamt)
+    (register_piece f.rd p.0) (register_piece g.rd q.0) (register_piece f.rs1 p.2) (register_piece g.rs1 q.2) (simp append_assoc at (same_Some _ _ e)) in
+    cc (
+      same_register f.rd g.rd p.0 q.0 same.0,
+      same_register f.rs1 g.rs1 p.2 q.2 same.1,
+      decimal_injective f.shamt g.shamt (omega (arith, p.3)) (omega (arith, q.3)) same.2,
+    )
 
 -- a word is read back from its hexadecimal digits behind 0x
 same_prefixed : (n : ℕ) (y z : ℤ) → codes "0x" ++ hexadecimal n (word y) ≡ codes "0x" ++ hexadecimal n (word z) → word y ≡ word z
@@ -142,49 +133,37 @@ register_and_word-read row q r y z p p' e =
 
 -- the word is of the immediate (lui), or of its sum with the address (auipc, jal)
 pub lui-alike : (row : Row) (f g : UType) → IsInRange (U f) → IsInRange (U g)
-    → (Some (register_and_word row f.rd (word f.imm)) ≡ Some (register_and_word row g.rd (word g.imm))) ↔ (shown (U f) ≡ shown (U g))
-lui-alike row f g p q = (
-  λ e.
-      let same = register_and_word-read row f.rd g.rd f.imm g.imm p.0 q.0 (same_Some _ _ e) in
-      cc (same.0, same_immediate f.imm g.imm p.1 (omega (arith, ints)) q.1 (omega (arith, ints)) same.1),
-  λ s. (cc),
-)
+    → Some (register_and_word row f.rd (word f.imm)) ≡ Some (register_and_word row g.rd (word g.imm)) → shown (U f) ≡ shown (U g)
+lui-alike row f g p q e =
+    let same = register_and_word-read row f.rd g.rd f.imm g.imm p.0 q.0 (same_Some _ _ e) in
+    cc (same.0, same_immediate f.imm g.imm p.1 (omega (arith, ints)) q.1 (omega (arith, ints)) same.1)
 
 pub auipc-alike : (row : Row) (pc : ℕ) (f g : UType) → IsInRange (U f) → IsInRange (U g)
-    → (Some (register_and_word row f.rd (plus_immediate pc f.imm)) ≡ Some (register_and_word row g.rd (plus_immediate pc g.imm))) ↔ (shown (U f) ≡ shown (U g))
-auipc-alike row pc f g p q = (
-  λ e.
-      let same = register_and_word-read row f.rd g.rd (add pc (word f.imm)) (add pc (word g.imm)) p.0 q.0 (same_Some _ _ e) in
-      cc (same.0, same_immediate f.imm g.imm p.1 (omega (arith, ints)) q.1 (omega (arith, ints)) (same_offset pc f.imm g.imm same.1)),
-  λ s. (cc),
-)
+    → Some (register_and_word row f.rd (plus_immediate pc f.imm)) ≡ Some (register_and_word row g.rd (plus_immediate pc g.imm)) → shown (U f) ≡ shown (U g)
+auipc-alike row pc f g p q e =
+    let same = register_and_word-read row f.rd g.rd (add pc (word f.imm)) (add pc (word g.imm)) p.0 q.0 (same_Some _ _ e) in
+    cc (same.0, same_immediate f.imm g.imm p.1 (omega (arith, ints)) q.1 (omega (arith, ints)) (same_offset pc f.imm g.imm same.1))
 
 pub jal-alike : (row : Row) (pc : ℕ) (f g : JType) → IsInRange (J f) → IsInRange (J g)
-    → (Some (register_and_word row f.rd (plus_immediate pc f.imm)) ≡ Some (register_and_word row g.rd (plus_immediate pc g.imm))) ↔ (shown (J f) ≡ shown (J g))
-jal-alike row pc f g p q = (
-  λ e.
-      let same = register_and_word-read row f.rd g.rd (add pc (word f.imm)) (add pc (word g.imm)) p.0 q.0 (same_Some _ _ e) in
-      cc (same.0, same_immediate f.imm g.imm (omega (arith, ints)) (omega (arith, ints)) (omega (arith, ints)) (omega (arith, ints)) (same_offset pc f.imm g.imm same.1)),
-  λ s. (cc),
-)
+    → Some (register_and_word row f.rd (plus_immediate pc f.imm)) ≡ Some (register_and_word row g.rd (plus_immediate pc g.imm)) → shown (J f) ≡ shown (J g)
+jal-alike row pc f g p q e =
+    let same = register_and_word-read row f.rd g.rd (add pc (word f.imm)) (add pc (word g.imm)) p.0 q.0 (same_Some _ _ e) in
+    cc (same.0, same_immediate f.imm g.imm (omega (arith, ints)) (omega (arith, ints)) (omega (arith, ints)) (omega (arith, ints)) (same_offset pc f.imm g.imm same.1))
 
 -- two registers and a target
 pub branch-alike : (row : Row) (pc : ℕ) (f g : BType) → IsInRange (B f) → IsInRange (B g)
-    → (Some (branch_to row f pc) ≡ Some (branch_to row g pc)) ↔ (shown (B f) ≡ shown (B g))
-branch-alike row pc f g p q = (
-  λ e.
-      let y : ℤ = add pc (word f.imm) in
-      let z : ℤ = add pc (word g.imm) in
-      let same = three_operands (table row).name (register f.rs1) (register f.rs2) (codes "0x" ++ hexadecimal 8 (word y)) (register g.rs1) (register g.rs2) (codes "0x" ++ hexadecimal 8 (word z))
-      (register_piece f.rs1 p.1) (register_piece g.rs1 q.1) (register_piece f.rs2 p.2) (register_piece g.rs2 q.2) (simp append_assoc at (same_Some _ _ e)) in
-      let offset = same_offset pc f.imm g.imm (same_prefixed 8 y z same.2) in
-      cc (
-        same_register f.rs1 g.rs1 p.1 q.1 same.0,
-        same_register f.rs2 g.rs2 p.2 q.2 same.1,
-        same_immediate f.imm g.imm (omega (arith, ints)) (omega (arith, ints)) (omega (arith, ints)) (omega (arith, ints)) offset,
-      ),
-  λ s. (cc),
-)
+    → Some (branch_to row f pc) ≡ Some (branch_to row g pc) → shown (B f) ≡ shown (B g)
+branch-alike row pc f g p q e =
+    let y : ℤ = add pc (word f.imm) in
+    let z : ℤ = add pc (word g.imm) in
+    let same = three_operands (table row).name (register f.rs1) (register f.rs2) (codes "0x" ++ hexadecimal 8 (word y)) (register g.rs1) (register g.rs2) (codes "0x" ++ hexadecimal 8 (word z))
+    (register_piece f.rs1 p.1) (register_piece g.rs1 q.1) (register_piece f.rs2 p.2) (register_piece g.rs2 q.2) (simp append_assoc at (same_Some _ _ e)) in
+    let offset = same_offset pc f.imm g.imm (same_prefixed 8 y z same.2) in
+    cc (
+      same_register f.rs1 g.rs1 p.1 q.1 same.0,
+      same_register f.rs2 g.rs2 p.2 q.2 same.1,
+      same_immediate f.imm g.imm (omega (arith, ints)) (omega (arith, ints)) (omega (arith, ints)) (omega (arith, ints)) offset,
+    )
 
 -- a register and a place: loads and stores
 register_and_place-read : (row : Row) (q q' : ℕ) (y z : ℤ) (r r' : ℕ) → q < 2 ^ 5 → q' < 2 ^ 5 → mag y < 2 ^ 63 → mag z < 2 ^ 63 → r < 2 ^ 5 → r' < 2 ^ 5
@@ -195,22 +174,16 @@ register_and_place-read row q q' y z r r' a a' b b' c c' e =
     (same_register q q' a a' same.0, signed_decimal_injective y z b b' same.1, same_register r r' c c' same.2)
 
 pub load-alike : (row : Row) (f g : IType) → IsInRange (I f) → IsInRange (I g)
-    → (Some (register_and_place row f.rd f.imm f.rs1) ≡ Some (register_and_place row g.rd g.imm g.rs1)) ↔ (shown (I f) ≡ shown (I g))
-load-alike row f g p q = (
-  λ e.
-      let same = register_and_place-read row f.rd g.rd f.imm g.imm f.rs1 g.rs1 p.0 q.0 (mag-imm f.imm p.3 p.4) (mag-imm g.imm q.3 q.4) p.2 q.2 (same_Some _ _ e) in
-      (cc),
-  λ s. (cc),
-)
+    → Some (register_and_place row f.rd f.imm f.rs1) ≡ Some (register_and_place row g.rd g.imm g.rs1) → shown (I f) ≡ shown (I g)
+load-alike row f g p q e =
+    let same = register_and_place-read row f.rd g.rd f.imm g.imm f.rs1 g.rs1 p.0 q.0 (mag-imm f.imm p.3 p.4) (mag-imm g.imm q.3 q.4) p.2 q.2 (same_Some _ _ e) in
+    (cc)
 
 pub store-alike : (row : Row) (f g : SType) → IsInRange (S f) → IsInRange (S g)
-    → (Some (register_and_place row f.rs2 f.imm f.rs1) ≡ Some (register_and_place row g.rs2 g.imm g.rs1)) ↔ (shown (S f) ≡ shown (S g))
-store-alike row f g p q = (
-  λ e.
-      let same = register_and_place-read row f.rs2 g.rs2 f.imm g.imm f.rs1 g.rs1 p.2 q.2 (mag-imm f.imm p.3 p.4) (mag-imm g.imm q.3 q.4) p.1 q.1 (same_Some _ _ e) in
-      (cc),
-  λ s. (cc),
-)
+    → Some (register_and_place row f.rs2 f.imm f.rs1) ≡ Some (register_and_place row g.rs2 g.imm g.rs1) → shown (S f) ≡ shown (S g)
+store-alike row f g p q e =
+    let same = register_and_place-read row f.rs2 g.rs2 f.imm g.imm f.rs1 g.rs1 p.2 q.2 (mag-imm f.imm p.3 p.4) (mag-imm g.imm q.3 q.4) p.1 q.1 (same_Some _ _ e) in
+    (cc)
 
 -- the operands of a jump, the second behind 0x
 jump_operands : (name a b c a' b' c' : List ℕ) → IsPiece a → IsPiece a' → IsPiece (codes "0x" ++ b) → IsPiece (codes "0x" ++ b')
@@ -230,10 +203,7 @@ jump-read name q q' y z r r' a a' c c' e =
     (same_register q q' a a' same.0, same_prefixed 3 y z same.1, same_register r r' c c' same.2)
 
 pub jalr-alike : (row : Row) (f g : IType) → IsInRange (I f) → IsInRange (I g)
-    → (Some (jump_to_place row f) ≡ Some (jump_to_place row g)) ↔ (shown (I f) ≡ shown (I g))
-jalr-alike row f g p q = (
-  λ e.
-      let same = jump-read (table row).name f.rd g.rd f.imm g.imm f.rs1 g.rs1 p.0 q.0 p.2 q.2 (same_Some _ _ e) in
-      cc (same.0, same.2, same_immediate f.imm g.imm (omega (arith, ints)) (omega (arith, ints)) (omega (arith, ints)) (omega (arith, ints)) same.1),
-  λ s. (cc),
-)
+    → Some (jump_to_place row f) ≡ Some (jump_to_place row g) → shown (I f) ≡ shown (I g)
+jalr-alike row f g p q e =
+    let same = jump-read (table row).name f.rd g.rd f.imm g.imm f.rs1 g.rs1 p.0 q.0 p.2 q.2 (same_Some _ _ e) in
+    cc (same.0, same.2, same_immediate f.imm g.imm (omega (arith, ints)) (omega (arith, ints)) (omega (arith, ints)) (omega (arith, ints)) same.1)
