@@ -1,5 +1,6 @@
 -- Bytes at addresses: what is read where, what a store leaves of a byte and of a read, and when a write is allowed.
 use Rattle.std.proofs.Common.{◌≡◌, ◌≢◌, ◌⊎◌, ℕ, zero, suc, ◌+◌, ◌-◌, ◌*◌, ◌/◌, ◌%◌, ◌^◌, ◌<◌, ◌≤◌, Bool, true, false, ◌&&◌, nat_lt, nat_le, Option, Some, None, IsSome, IsTrue, inl, inr, refl, sym, ap, ◌∙◌, arith}
+use Rattle.std.proofs.Math.Path.{fun_ext}
 use Rattle.std.proofs.Math.Nat.{pow-suc, pow-succ', mod-one}
 use Rattle.std.proofs.Math.Arith.{mod-mul}
 use Rattle.std.proofs.lemmas.Nat.{pow-add, pow_pos}
@@ -45,6 +46,18 @@ pub store_outside : (f : ByteMap) (a n v b : ℕ) → (a ≤ b → a + n ≤ b) 
 store_outside f a n v b h =
     let test : (nat_le a b && nat_lt b (a + n)) ≡ false = grind (arith, nat_tests) in
     rw test refl
+
+-- a map is what a store leaves where it has the stored bytes, and all others as before
+pub store_by : (old new : ByteMap) (a n v : ℕ) → ((b : ℕ) → a ≤ b → b < a + n → new b ≡ Some (v / 256 ^ (b - a) % 256))
+    → ((b : ℕ) → (a ≤ b → a + n ≤ b) → new b ≡ old b) → new ≡ store old a n v
+store_by old new a n v inside outside =
+    fun_ext (λ b. elim (cases_lt b a) [
+      | inl below ↦ outside b (λ from. absurd (omega (arith, below, from))) ∙ sym (store_below old a n v b below)
+      | inr from ↦ elim (cases_lt b (a + n)) [
+        | inl to ↦ inside b from to ∙ sym (store_inside old a n v b from to)
+        | inr above ↦ outside b (λ le. above) ∙ sym (store_above old a n v b above)
+      ]
+    ])
 
 -- ---- the bytes of an access in two maps
 

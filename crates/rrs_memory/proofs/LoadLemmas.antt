@@ -79,9 +79,8 @@ module _ {M : Type 0} (reads : M → ℕ → MemAccessSize → M → Option ℕ 
   writes-more a addr byte [] old mid new made placed low did =
       let low_a : nat_lt a (2 ^ 32) ≡ true = lt-ltb a (2 ^ 32) (omega arith) in
       let here : addr ≡ a = omega arith in
-      let P : M → Type 0 = λ m. writes m a Byte byte new (writable a) in
       let Q : ℕ → Type 0 = λ b. writes mid b Byte byte new (writable b) in
-      rw low_a (new, subst P made (subst Q here did), refl)
+      rw low_a (new, subst (λ (m : M). writes m a Byte byte new (writable a)) made (subst Q here did), refl)
   writes-more a addr byte (x ∷ input) old mid new made placed low did =
       let low_a : nat_lt a (2 ^ 32) ≡ true = lt-ltb a (2 ^ 32) (omega arith) in
       let parts = rw low_a at made in

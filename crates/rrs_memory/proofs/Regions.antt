@@ -12,7 +12,7 @@ use Rattle.std.proofs.lemmas.List.{get_or_default}
 use Rattle.rrs_memory.specs.declared.MemAccessSize.{MemAccessSize}
 use Rattle.rrs_memory.specs.declared.MemAccessSize.TheVariants.{Byte, HalfWord, Word}
 use Rattle.rrs_memory.specs.Bytes.{ByteMap, width, little_endian, all_writable, store, IsLawful, EndsAtLastAddress, Reads, Writes}
-pub use Rattle.rrs_memory.proofs.ByteLemmas.{little_endian-moved, all_writable-moved, IsLawful-moved, little_endian-unmapped, all_writable-refused, IsLawful-unmapped, store_inside, store_outside}
+pub use Rattle.rrs_memory.proofs.ByteLemmas.{little_endian-moved, all_writable-moved, IsLawful-moved, little_endian-unmapped, all_writable-refused, IsLawful-unmapped, store_inside, store_outside, store_by}
 use Rattle.rrs_memory.specs.Spaces.{Region, Space, serves, served_by, space_bytes, space_writable, space_layout, Overlaps, bounds, IsWordRegion, IsSpace, with_memory, CountsCompared, OthersKept, ServedBecomes, SpaceAccess}
 
 -- ---- answers
@@ -362,12 +362,12 @@ module _ {M : Type 0} (bytes : M → ByteMap) (writable : M → ℕ → Bool) (l
 
     -- what the inner memory took is stored in the space
     stored : (v : ℕ) → bytes m ≡ store (bytes r.memory) (a - r.base) (width n) v → bytes_in new ≡ store (bytes_in old) a (width n) v
-    stored v wrote = ap (space_bytes bytes) e ∙ fun_ext each
+    stored v wrote = ap (space_bytes bytes) e ∙ store_by (bytes_in old) _ a (width n) v inside outside
       where
         from : r.base ≤ a
         from = (serves_true r a hit).0
 
-        inside : (b : ℕ) → a ≤ b → b < a + width n → space_bytes bytes (with_memory old.regions i m) b ≡ store (bytes_in old) a (width n) v b
+        inside : (b : ℕ) → a ≤ b → b < a + width n → space_bytes bytes (with_memory old.regions i m) b ≡ Some (v / 256 ^ (b - a) % 256)
         inside b p q =
             let k : a + (b - a) ≡ b = omega arith in
             let whole : serves r b ≡ true = rw k at (serves_all r a (b - a) n (served_word old.regions i r space stands) al (omega arith) hit) in
@@ -375,24 +375,12 @@ module _ {M : Type 0} (bytes : M → ByteMap) (writable : M → ℕ → Bool) (l
             ∙ ap (λ f. f (b - r.base)) wrote
             ∙ store_inside (bytes r.memory) (a - r.base) (width n) v (b - r.base) (omega (arith, from)) (omega (arith, from))
             ∙ ap (λ x. Some (v / 256 ^ x % 256)) (omega (arith, from))
-            ∙ sym (store_inside (bytes_in old) a (width n) v b p q)
 
-        outside : (b : ℕ) → (a ≤ b → a + width n ≤ b) → space_bytes bytes (with_memory old.regions i m) b ≡ store (bytes_in old) a (width n) v b
+        outside : (b : ℕ) → (a ≤ b → a + width n ≤ b) → space_bytes bytes (with_memory old.regions i m) b ≡ bytes_in old b
         outside b apart =
             served-with_memory bytes None old.regions i r m b stands (λ hit_b.
             ap (λ f. f (b - r.base)) wrote
             ∙ store_outside (bytes r.memory) (a - r.base) (width n) v (b - r.base) (λ p. omega (arith, from, (serves_true r b hit_b).0, apart, p)))
-            ∙ sym (store_outside (bytes_in old) a (width n) v b apart)
-
-        each : (b : ℕ) → space_bytes bytes (with_memory old.regions i m) b ≡ store (bytes_in old) a (width n) v b
-        each b =
-            elim (cases_lt b a) [
-              | inl below ↦ outside b (λ p. absurd (omega (arith, p, below)))
-              | inr past ↦ elim (cases_lt b (a + width n)) [
-                | inl within ↦ inside b (omega (arith, past)) within
-                | inr after ↦ outside b (λ p. omega (arith, after))
-              ]
-            ]
 
     pub writes_there : (v : ℕ) (answer : Bool) → Writes bytes writable layout r.memory m (a - r.base) (width n) v answer → Writes bytes_in writable_in layout_in old new a (width n) v answer
     writes_there v answer laws = record {

@@ -33,11 +33,15 @@ below_digits zero = omega arith
 below_digits (suc n) = digits_step n (binary_digits n) (below_digits n)
 
 -- what is left after more than a half was ruled out needs one digit less
-pub halved : (n rest left : ℕ) → 0 < n → n < 2 ^ left → rest ≤ n / 2 → (0 < left) × (rest < 2 ^ (left - 1))
-halved n rest zero some room half = absurd (omega arith)
-halved n rest (suc left) some room half =
-    let same : suc left - 1 ≡ left = omega arith in
-    rw same (omega arith, omega (arith, pow-succ' 2 left, room, half))
+pub halved : (n rest digits compared : ℕ) → 0 < n → n < 2 ^ (digits - compared) → rest ≤ n / 2 → (compared < digits) × (rest < 2 ^ (digits - (compared + 1)))
+halved n rest digits compared some room half =
+    elim (cases_lt compared digits) [
+      | inl less ↦
+          let left : digits - compared ≡ suc (digits - (compared + 1)) = omega arith in
+          let room = rw left at room in
+          (less, omega (arith, pow-succ' 2 (digits - (compared + 1)), room, half))
+      | inr none ↦ let left : digits - compared ≡ 0 = omega arith in absurd (omega (arith, rw left at room))
+    ]
 
 -- the digits of the number of all have room for a part of them
 pub digits_room : (len n : ℕ) → len ≤ n → len - 0 < 2 ^ (binary_digits n - 0)

@@ -1,7 +1,5 @@
 -- The bytes of words from a base on are those of the words from 0 on, moved.
 use Rattle.std.proofs.Common.{◌≡◌, ℕ, ◌+◌, ◌-◌, ◌*◌, ◌/◌, ◌%◌, ◌^◌, ◌<◌, ◌≤◌, List, length, Bool, true, false, ◌&&◌, nat_lt, Some, None, IsTrue, IsSome, if◌then◌else◌, inl, inr, refl, sym, ap, ◌∙◌, arith}
-use Rattle.std.specs.Bool.{OnTrue, OnFalse}
-use Rattle.std.proofs.Math.Path.{fun_ext}
 use Rattle.std.proofs.lemmas.Bool.{cases_lt, cond-true, cond-false}
 use Rattle.std.proofs.lemmas.Bool.Decides.{nat_tests}
 use Rattle.std.proofs.lemmas.Option.{none-some, same_Some}
@@ -9,8 +7,8 @@ use Rattle.rrs_memory.specs.declared.MemAccessSize.{MemAccessSize}
 use Rattle.rrs_memory.specs.Bytes.{width, little_endian, all_writable, store, IsLawful, EndsAtLastAddress}
 use Rattle.rrs_memory.specs.VecBytes.{bytes_of_words, lies_in_words}
 use Rattle.rrs_memory.specs.SliceBytes.{word_start, is_from, bytes_from, lies_from}
-use Rattle.rrs_memory.proofs.ByteLemmas.{little_endian-moved, all_writable-moved, little_endian-unmapped, all_writable-refused, store_inside, store_outside}
-use Rattle.rrs_memory.proofs.Regions.{aligned_below, aligned_offset, width_pos}
+use Rattle.rrs_memory.proofs.ByteLemmas.{little_endian-moved, all_writable-moved, store_inside, store_outside, store_by}
+use Rattle.rrs_memory.proofs.Regions.{aligned_below, width_pos}
 
 -- where the words begin, and past it
 is_from_true : (base a : ℕ) → word_start base ≤ a → a < 2 ^ 32 → is_from base a ≡ true
@@ -22,13 +20,6 @@ is_from_below base a below = grind (arith, nat_tests)
 
 is_from_end : (base a : ℕ) → 2 ^ 32 ≤ a → is_from base a ≡ false
 is_from_end base a past = grind (arith, nat_tests)
-
-word_start-aligned : (base : ℕ) → word_start base % 4 ≡ 0
-word_start-aligned base = omega arith
-
--- the offset of an aligned access is aligned
-pub offset_aligned : (base a : ℕ) (size : MemAccessSize) → a % width size ≡ 0 → word_start base ≤ a → (a - word_start base) % width size ≡ 0
-offset_aligned base a size aligned from = aligned_offset (word_start base) a size (word_start-aligned base) aligned from
 
 module _ (base a : ℕ) (size : MemAccessSize) (aligned : a % width size ≡ 0) (low : a < 2 ^ 32) where
   -- the bytes of an access from the base on
@@ -52,58 +43,27 @@ module _ (base a : ℕ) (size : MemAccessSize) (aligned : a % width size ≡ 0) 
     pub writable_from : all_writable (lies_from base words) a (width size) ≡ all_writable (lies_in_words words) (a - word_start base) (width size)
     writable_from = all_writable-moved (lies_from base words) (lies_in_words words) a (a - word_start base) (width size) lies_moved
 
-  -- an access below the base
-  module _ (words : List ℕ) (below : a < word_start base) where
-    outside : is_from base (a + 0) ≡ false
-    outside = is_from_below base (a + 0) (omega (arith, below))
-
-    pub value_below : little_endian (bytes_from base words) a (width size) ≡ None
-    value_below = little_endian-unmapped (bytes_from base words) a (width size) (width_pos size) (cond-false (is_from base (a + 0)) (bytes_of_words words (a + 0 - word_start base)) None outside)
-
-    pub writable_below : all_writable (lies_from base words) a (width size) ≡ false
-    writable_below = all_writable-refused (lies_from base words) a (width size) (width_pos size) (cond-false (is_from base (a + 0)) (lies_in_words words (a + 0 - word_start base)) false outside)
-
   -- a write of words from 0 on is one of words from the base on
   module _ (words words' : List ℕ) (value : ℕ) (from : word_start base ≤ a)
       (wrote : bytes_of_words words' ≡ store (bytes_of_words words) (a - word_start base) (width size) value) where
     end_low : a + width size ≤ 2 ^ 32
     end_low = omega (arith, aligned_below (2 ^ 32) a (width size - 1) size (omega arith) aligned (omega (arith, width_pos size)) low, width_pos size)
 
-    byte_stored : (b : ℕ) → a ≤ b → b < a + width size → bytes_from base words' b ≡ store (bytes_from base words) a (width size) value b
+    byte_stored : (b : ℕ) → a ≤ b → b < a + width size → bytes_from base words' b ≡ Some (value / 256 ^ (b - a) % 256)
     byte_stored b p q =
         cond-true (is_from base b) (bytes_of_words words' (b - word_start base)) None (is_from_true base b (omega (arith, from)) (omega (arith, end_low)))
         ∙ ap (λ f. f (b - word_start base)) wrote
         ∙ store_inside (bytes_of_words words) (a - word_start base) (width size) value (b - word_start base) (omega arith) (omega (arith, from))
         ∙ ap (λ x. Some (value / 256 ^ x % 256)) (omega (arith, from))
-        ∙ sym (store_inside (bytes_from base words) a (width size) value b p q)
 
-    byte_kept : (b : ℕ) → (a ≤ b → a + width size ≤ b) → bytes_from base words' b ≡ store (bytes_from base words) a (width size) value b
-    byte_kept b apart = kept ∙ sym (store_outside (bytes_from base words) a (width size) value b apart)
-      where
-        other : word_start base ≤ b → bytes_of_words words' (b - word_start base) ≡ bytes_of_words words (b - word_start base)
-        other past =
-            ap (λ f. f (b - word_start base)) wrote
-            ∙ store_outside (bytes_of_words words) (a - word_start base) (width size) value (b - word_start base) (λ p. omega (arith, apart, from, past, p))
-
-        kept : bytes_from base words' b ≡ bytes_from base words b
-        kept = elim (cases_lt b (word_start base)) [
-          | inl before ↦
-              cond-false (is_from base b) (bytes_of_words words' (b - word_start base)) None (is_from_below base b before)
-              ∙ sym (cond-false (is_from base b) (bytes_of_words words (b - word_start base)) None (is_from_below base b before))
-          | inr past ↦ rw (other past) refl
-        ]
-
-    each : (b : ℕ) → bytes_from base words' b ≡ store (bytes_from base words) a (width size) value b
-    each b = elim (cases_lt b a) [
-      | inl before ↦ byte_kept b (λ p. absurd (omega (arith, before, p)))
-      | inr past ↦ elim (cases_lt b (a + width size)) [
-        | inl within ↦ byte_stored b past within
-        | inr after ↦ byte_kept b (λ p. after)
-      ]
+    byte_kept : (b : ℕ) → (a ≤ b → a + width size ≤ b) → bytes_from base words' b ≡ bytes_from base words b
+    byte_kept b apart = elim (cases_lt b (word_start base)) [
+      | inl before ↦ rw (is_from_below base b before) refl
+      | inr past ↦ rw (ap (λ f. f (b - word_start base)) wrote ∙ store_outside (bytes_of_words words) (a - word_start base) (width size) value (b - word_start base) (λ p. omega (arith, apart, from, past, p))) refl
     ]
 
     pub store_from : bytes_from base words' ≡ store (bytes_from base words) a (width size) value
-    store_from = fun_ext each
+    store_from = store_by (bytes_from base words) (bytes_from base words') a (width size) value byte_stored byte_kept
 
 -- the bytes are lawful everywhere, since all of them are
 pub lawful_from : (base : ℕ) (words : List ℕ) (a n : ℕ) → IsLawful (bytes_from base words) (lies_from base words) a n
@@ -127,15 +87,6 @@ ends_from base words a past = (
   cond-false (is_from base a) (bytes_of_words words (a - word_start base)) None (is_from_end base a past),
   cond-false (is_from base a) (lies_in_words words (a - word_start base)) false (is_from_end base a past),
 )
-
--- what holds in one outcome, from what holds in it
-pub on_true : {P Q : Type 0} (b : Bool) → (P → Q) → OnTrue b P → OnTrue b Q
-on_true true f p = f p
-on_true false f p = p
-
-pub on_false : {P Q : Type 0} (b : Bool) → (P → Q) → OnFalse b P → OnFalse b Q
-on_false true f p = p
-on_false false f p = f p
 
 -- as many words lie at the same addresses
 pub lies_same : (base : ℕ) (words words' : List ℕ) → length words' ≡ length words → lies_from base words' ≡ lies_from base words

@@ -5,14 +5,13 @@ use Rattle.std.proofs.Math.Nat.{pow-succ', div-div-eq-div-mul, add-mul, mul_asso
 use Rattle.std.proofs.lemmas.Nat.{pow-add, and_mask, and-not, or_shifted, or_block, and_comm, pow_pos, shr-shr, shr_split, mod_below, shl_whole, div-mul-add, div-add-mod'}
 use Rattle.std.proofs.lemmas.Nat.Bits.{and_high}
 use Rattle.std.proofs.Math.Pow.{pow_mono}
-use Rattle.std.proofs.Math.Path.{fun_ext}
 use Rattle.std.proofs.lemmas.Bool.{lt-ltb, le-ltb, and_from, and_left, cond-true, cond-false, cases_lt, cases_eq}
 use Rattle.std.proofs.lemmas.List.{length-set, get_or-set_same, get_or-set_other}
 use Rattle.rrs_memory.specs.declared.MemAccessSize.{MemAccessSize}
 use Rattle.rrs_memory.specs.declared.MemAccessSize.TheVariants.{Byte, HalfWord, Word}
 use Rattle.rrs_memory.specs.Bytes.{width, little_endian, store, sum_if_both, at_place}
 use Rattle.rrs_memory.specs.VecBytes.{bytes_of_words, lies_in_words}
-use Rattle.rrs_memory.proofs.ByteLemmas.{pow-256, pow-256_pos, one_more_byte, store_inside, store_below, store_above}
+use Rattle.rrs_memory.proofs.ByteLemmas.{pow-256, pow-256_pos, one_more_byte, store_by}
 
 -- a mask of the lowest n bytes
 pub and_low : (x m n : ℕ) → m + 1 ≡ 256 ^ n → bit_and x m ≡ x % 256 ^ n
@@ -24,33 +23,23 @@ and_low x m n e =
 -- a word in three parts: below place k, the n bits from there on, and those above
 pub three_parts : (w n k : ℕ) → w ≡ (w / 2 ^ (n + k) * 2 ^ n) * 2 ^ k + (w / 2 ^ k % 2 ^ n) * 2 ^ k + w % 2 ^ k
 three_parts w n k =
-    let low : w / 2 ^ k * 2 ^ k + w % 2 ^ k ≡ w = shr_split w k in
-    let high : w / 2 ^ k / 2 ^ n * 2 ^ n + w / 2 ^ k % 2 ^ n ≡ w / 2 ^ k = shr_split (w / 2 ^ k) n in
-    let joined : w / 2 ^ k / 2 ^ n ≡ w / 2 ^ (n + k) = shr-shr w k n ∙ ap (λ x. w / 2 ^ x) (omega arith) in
-    let parted : (w / 2 ^ (n + k) * 2 ^ n + w / 2 ^ k % 2 ^ n) * 2 ^ k ≡ (w / 2 ^ (n + k) * 2 ^ n) * 2 ^ k + (w / 2 ^ k % 2 ^ n) * 2 ^ k = add-mul (w / 2 ^ (n + k) * 2 ^ n) (w / 2 ^ k % 2 ^ n) (2 ^ k) in
-    let front : w / 2 ^ (n + k) * 2 ^ n + w / 2 ^ k % 2 ^ n ≡ w / 2 ^ k = ap (λ x. x * 2 ^ n + w / 2 ^ k % 2 ^ n) (sym joined) ∙ high in
-    let scaled : (w / 2 ^ (n + k) * 2 ^ n + w / 2 ^ k % 2 ^ n) * 2 ^ k ≡ w / 2 ^ k * 2 ^ k = ap (λ x. x * 2 ^ k) front in
-    omega arith
+    let high : w / 2 ^ (n + k) * 2 ^ n + w / 2 ^ k % 2 ^ n ≡ w / 2 ^ k = ap (λ x. x * 2 ^ n + w / 2 ^ k % 2 ^ n) (ap (λ x. w / 2 ^ x) (omega arith) ∙ sym (shr-shr w k n)) ∙ shr_split (w / 2 ^ k) n in
+    omega (arith, shr_split w k, add-mul (w / 2 ^ (n + k) * 2 ^ n) (w / 2 ^ k % 2 ^ n) (2 ^ k), ap (λ x. x * 2 ^ k) high)
 
 -- n ones from place k on
 pub ones_from : (n k : ℕ) → (2 ^ n - 1) * 2 ^ k ≡ 2 ^ (n + k) - 2 ^ k
 ones_from n k =
     let one_more : 2 ^ n - 1 + 1 ≡ 2 ^ n = omega (arith, pow_pos n) in
-    let product : (2 ^ n - 1 + 1) * 2 ^ k ≡ (2 ^ n - 1) * 2 ^ k + 1 * 2 ^ k = add-mul (2 ^ n - 1) 1 (2 ^ k) in
-    let whole : (2 ^ n - 1 + 1) * 2 ^ k ≡ 2 ^ (n + k) = ap (λ x. x * 2 ^ k) one_more ∙ sym (pow-add 2 n k) in
-    omega arith
+    omega (arith, add-mul (2 ^ n - 1) 1 (2 ^ k), ap (λ x. x * 2 ^ k) one_more, pow-add 2 n k)
 
 -- a word with the n bits from place k on cleared
 pub cleared : (w n k : ℕ) → w < 2 ^ 32 → n + k ≤ 32 → bit_and w (2 ^ 32 - 1 - (2 ^ n - 1) * 2 ^ k) ≡ (w / 2 ^ (n + k) * 2 ^ n) * 2 ^ k + w % 2 ^ k
 cleared w n k below fits =
-    let ones : (2 ^ n - 1) * 2 ^ k ≡ 2 ^ (n + k) - 2 ^ k = ones_from n k in
+    let ones = ones_from n k in
     let in_word : 2 ^ (n + k) ≤ 2 ^ 32 = pow_mono fits in
-    let mask_fits : (2 ^ n - 1) * 2 ^ k < 2 ^ 32 = omega (arith, pow_pos k, pow_pos 32) in
-    let both : bit_and (2 ^ 32 - 1 - (2 ^ n - 1) * 2 ^ k) w + bit_and ((2 ^ n - 1) * 2 ^ k) w ≡ w = and-not 32 ((2 ^ n - 1) * 2 ^ k) w mask_fits below in
-    let turned : bit_and w (2 ^ 32 - 1 - (2 ^ n - 1) * 2 ^ k) ≡ bit_and (2 ^ 32 - 1 - (2 ^ n - 1) * 2 ^ k) w = and_comm w (2 ^ 32 - 1 - (2 ^ n - 1) * 2 ^ k) in
-    let middle : bit_and ((2 ^ n - 1) * 2 ^ k) w ≡ (w / 2 ^ k % 2 ^ n) * 2 ^ k = and_comm ((2 ^ n - 1) * 2 ^ k) w ∙ ap (λ x. bit_and w x) ones ∙ and_high w n k in
-    let parts : w ≡ (w / 2 ^ (n + k) * 2 ^ n) * 2 ^ k + (w / 2 ^ k % 2 ^ n) * 2 ^ k + w % 2 ^ k = three_parts w n k in
-    omega arith
+    let both = and-not 32 ((2 ^ n - 1) * 2 ^ k) w (omega (arith, pow_pos k, pow_pos 32)) below in
+    let middle = and_comm ((2 ^ n - 1) * 2 ^ k) w ∙ ap (λ x. bit_and w x) ones ∙ and_high w n k in
+    omega (arith, both, and_comm w (2 ^ 32 - 1 - (2 ^ n - 1) * 2 ^ k), middle, three_parts w n k)
 
 -- n bits put at place k of a word where they were cleared
 pub replaced_bits : (h v l n k : ℕ) → v < 2 ^ n → l < 2 ^ k → bit_or ((h * 2 ^ n) * 2 ^ k + l) (v * 2 ^ k) ≡ (h * 2 ^ n + v) * 2 ^ k + l
@@ -70,8 +59,6 @@ replaced w v m n p below fits e =
     let pnp : 256 ^ (n + p) ≡ 2 ^ (8 * n + 8 * p) = pow-256 (n + p) ∙ ap (λ x. 2 ^ x) (omega arith) in
     let m_is : m ≡ 2 ^ (8 * n) - 1 = omega arith in
     let bits : 8 * n + 8 * p ≤ 32 = omega arith in
-    let in_word : 2 ^ (8 * n + 8 * p) ≤ 2 ^ 32 = pow_mono bits in
-    let mask_is : m * 2 ^ (8 * p) ≡ 2 ^ (8 * n + 8 * p) - 2 ^ (8 * p) = ap (λ x. x * 2 ^ (8 * p)) m_is ∙ ones_from (8 * n) (8 * p) in
     let mask_whole : m * 2 ^ (8 * p) % 2 ^ 32 ≡ (2 ^ (8 * n) - 1) * 2 ^ (8 * p) = shl_whole m (8 * n) (8 * p) 32 (omega (arith, pow_pos (8 * n))) bits ∙ ap (λ x. x * 2 ^ (8 * p)) m_is in
     let v_is : bit_and v m ≡ v % 2 ^ (8 * n) = and_low v m n e ∙ ap (λ x. v % x) pn in
     let v_below : v % 2 ^ (8 * n) < 2 ^ (8 * n) = mod_below v (2 ^ (8 * n)) (pow_pos (8 * n)) in
@@ -188,46 +175,40 @@ byte_of_set words i x b low there same =
     byte_at (slice_set words i x) b low (omega (arith, length-set words i x))
     ∙ ap (λ w. Some (w / 256 ^ (b % 4) % 256)) (ap (λ j. slice_index (slice_set words i x) j) same ∙ get_or-set_same words i x 0 there)
 
--- a byte of the word with n bytes replaced
-pub byte_of_written : (words : List ℕ) (a n v b : ℕ) → a < 2 ^ 32 → a / 4 < length words → a % 4 + n ≤ 4 → b / 4 ≡ a / 4
-    → Some (with_bytes (slice_index words (a / 4)) v n (a % 4) / 256 ^ (b % 4) % 256) ≡ store (bytes_of_words words) a n v b
-byte_of_written words a n v b low there within same =
-    let w = slice_index words (a / 4) in
-    let old : bytes_of_words words b ≡ Some (w / 256 ^ (b % 4) % 256) = byte_at words b (omega arith) (omega arith) ∙ ap (λ i. Some (slice_index words i / 256 ^ (b % 4) % 256)) same in
-    elim (cases_lt b a) [
-      | inl below ↦ ap Some (byte_below w v n (a % 4) (b % 4) (omega arith)) ∙ sym old ∙ sym (store_below (bytes_of_words words) a n v b below)
-      | inr from ↦ elim (cases_lt b (a + n)) [
-        | inl to ↦
-            let place : a % 4 + (b - a) ≡ b % 4 = omega arith in
-            ap (λ j. Some (with_bytes w v n (a % 4) / 256 ^ j % 256)) (sym place)
-            ∙ ap Some (byte_inside w v n (a % 4) (b - a) (omega arith))
-            ∙ sym (store_inside (bytes_of_words words) a n v b from to)
-        | inr above ↦
-            let place : n + a % 4 + (b % 4 - (n + a % 4)) ≡ b % 4 = omega arith in
-            ap (λ j. Some (with_bytes w v n (a % 4) / 256 ^ j % 256)) (sym place)
-            ∙ ap Some (byte_above w v n (a % 4) (b % 4 - (n + a % 4)))
-            ∙ ap (λ j. Some (w / 256 ^ j % 256)) place
-            ∙ sym old ∙ sym (store_above (bytes_of_words words) a n v b above)
-      ]
-    ]
-
--- a byte after a write of one word
-pub byte_after : (words : List ℕ) (a n v b : ℕ) → a < 2 ^ 32 → a / 4 < length words → a % 4 + n ≤ 4
-    → bytes_of_words (slice_set words (a / 4) (with_bytes (slice_index words (a / 4)) v n (a % 4))) b ≡ store (bytes_of_words words) a n v b
-byte_after words a n v b low there within =
-    let x = with_bytes (slice_index words (a / 4)) v n (a % 4) in
-    elim (cases_eq (b / 4) (a / 4)) [
-      | inl same ↦ byte_of_set words (a / 4) x b (omega arith) there same ∙ byte_of_written words a n v b low there within same
-      | inr other ↦ byte_of_other words (a / 4) x b other ∙ elim (cases_lt b a) [
-        | inl below ↦ sym (store_below (bytes_of_words words) a n v b below)
-        | inr from ↦ sym (store_above (bytes_of_words words) a n v b (omega arith))
-      ]
-    ]
-
 -- replacing n bytes of the word at a stores them
 pub write_stores : (words : List ℕ) (a n v : ℕ) → a < 2 ^ 32 → a / 4 < length words → a % 4 + n ≤ 4
     → bytes_of_words (slice_set words (a / 4) (with_bytes (slice_index words (a / 4)) v n (a % 4))) ≡ store (bytes_of_words words) a n v
-write_stores words a n v low there within = fun_ext (λ b. byte_after words a n v b low there within)
+write_stores words a n v low there within = store_by (bytes_of_words words) _ a n v inside outside
+  where
+    w : ℕ
+    w = slice_index words (a / 4)
+
+    inside : (b : ℕ) → a ≤ b → b < a + n → bytes_of_words (slice_set words (a / 4) (with_bytes w v n (a % 4))) b ≡ Some (v / 256 ^ (b - a) % 256)
+    inside b from to =
+        let place : b % 4 ≡ a % 4 + (b - a) = omega arith in
+        byte_of_set words (a / 4) (with_bytes w v n (a % 4)) b (omega arith) there (omega arith)
+        ∙ ap (λ j. Some (with_bytes w v n (a % 4) / 256 ^ j % 256)) place
+        ∙ ap Some (byte_inside w v n (a % 4) (b - a) (omega arith))
+
+    kept : (j : ℕ) → (a % 4 ≤ j → n + a % 4 ≤ j) → with_bytes w v n (a % 4) / 256 ^ j % 256 ≡ w / 256 ^ j % 256
+    kept j apart =
+        elim (cases_lt j (a % 4)) [
+          | inl below ↦ byte_below w v n (a % 4) j below
+          | inr above ↦
+              let place : n + a % 4 + (j - (n + a % 4)) ≡ j = omega (arith, apart, above) in
+              rw place at (byte_above w v n (a % 4) (j - (n + a % 4)))
+        ]
+
+    outside : (b : ℕ) → (a ≤ b → a + n ≤ b) → bytes_of_words (slice_set words (a / 4) (with_bytes w v n (a % 4))) b ≡ bytes_of_words words b
+    outside b apart =
+        elim (cases_eq (b / 4) (a / 4)) [
+          | inl same ↦
+              byte_of_set words (a / 4) (with_bytes w v n (a % 4)) b (omega arith) there same
+              ∙ ap Some (kept (b % 4) (λ le. omega arith))
+              ∙ ap (λ i. Some (slice_index words i / 256 ^ (b % 4) % 256)) (sym same)
+              ∙ sym (byte_at words b (omega arith) (omega arith))
+          | inr other ↦ byte_of_other words (a / 4) (with_bytes w v n (a % 4)) b other
+        ]
 
 -- an access at a multiple of its size stays in one word
 pub aligned_in_word : (a : ℕ) (size : MemAccessSize) → a % width size ≡ 0 → a % 4 + width size ≤ 4

@@ -19,64 +19,46 @@ loop-low-init g c = record {
 
 pub returns-then-contains-clause-region : goal.returns-then-contains-clause-region
 returns-then-contains-clause-region g c =
-    let regions = c.args.regions.now in
-    let order = c.args.by_base.now in
-    let spans = map bounds (map region_of regions) in
-    let low = c.loop-low.low in
-    let high = c.loop-low.high in
-    let middle = low + (high - low - 1) / 2 in
-    let x = c.index-regions-index.result in
-    let old = c.loop-low.invariant in
-    let within : middle < length order = omega (arith, old.room, c.loop-low-test.true) in
+    let within : c.loop-low.low + (c.loop-low.high - c.loop-low.low - 1) / 2 < length c.args.by_base.now = omega (arith, c.loop-low.invariant.room, c.loop-low-test.true) in
     let lies = c.contains.ensures.0 c.if-contains.true in
-    field_found regions order middle (get_or order middle 0) c.args.addr x c.requires within refl c.index-regions-index.is (lies.0) (lies.1) (omega arith)
+    field_found c.args.regions.now c.args.by_base.now _ _ c.args.addr c.index-regions-index.result c.requires within refl c.index-regions-index.is lies.0 lies.1 (omega arith)
 
 pub loop-low-preserved-then-region-addr : goal.loop-low-preserved-then-region-addr
 loop-low-preserved-then-region-addr g c =
-    let regions = c.args.regions.now in
-    let order = c.args.by_base.now in
-    let spans = map bounds (map region_of regions) in
     let low = c.loop-low.low in
     let high = c.loop-low.high in
     let middle = low + (high - low - 1) / 2 in
-    let x = c.index-regions-index.result in
     let old = c.loop-low.invariant in
-    let within : middle < length order = omega (arith, old.room, c.loop-low-test.true) in
-    let fewer_left : binary_digits (length regions) - (c.loop-low.compared + 1) ≡ binary_digits (length regions) - c.loop-low.compared - 1 = omega arith in
-    let half = halved (high - low) (high - (middle + 1)) (binary_digits (length regions) - c.loop-low.compared) (omega (arith, c.loop-low-test.true)) old.left (omega arith) in
-    let ended = field_ended regions order middle (get_or order middle 0) c.args.addr x c.requires within refl c.index-regions-index.is c.if-region-addr.true (refuted _ c.if-contains.false c.contains.ensures) in
+    let within : middle < length c.args.by_base.now = omega (arith, old.room, c.loop-low-test.true) in
+    let half = halved (high - low) (high - (middle + 1)) (binary_digits (length c.args.regions.now)) c.loop-low.compared (omega (arith, c.loop-low-test.true)) old.left (omega arith) in
+    let ended = field_ended c.args.regions.now c.args.by_base.now middle _ c.args.addr c.index-regions-index.result c.requires within refl c.index-regions-index.is c.if-region-addr.true (refuted _ c.if-contains.false c.contains.ensures) in
     record {
       room = old.room;
-      before = λ j early below. ends_earlier spans order j middle c.args.addr c.requires (omega arith) within ended;
+      before = λ j early below. ends_earlier _ c.args.by_base.now j middle c.args.addr c.requires (omega arith) within ended;
       after = old.after;
       digits = omega (arith, half.0, old.digits);
-      left = rw fewer_left (half.1);
-      ruled_out = one_round (length order) (high - low) _ c.loop-low.compared (omega arith) old.ruled_out;
+      left = half.1;
+      ruled_out = one_round _ (high - low) _ c.loop-low.compared (omega arith) old.ruled_out;
       fewer = omega (arith, old.fewer, c.loop-low-test.true);
       some = λ none. absurd (omega arith);
     }
 
 pub loop-low-preserved : goal.loop-low-preserved
 loop-low-preserved g c =
-    let regions = c.args.regions.now in
-    let order = c.args.by_base.now in
-    let spans = map bounds (map region_of regions) in
     let low = c.loop-low.low in
     let high = c.loop-low.high in
     let middle = low + (high - low - 1) / 2 in
-    let x = c.index-regions-index.result in
     let old = c.loop-low.invariant in
-    let within : middle < length order = omega (arith, old.room, c.loop-low-test.true) in
-    let fewer_left : binary_digits (length regions) - (c.loop-low.compared + 1) ≡ binary_digits (length regions) - c.loop-low.compared - 1 = omega arith in
-    let half = halved (high - low) (middle - low) (binary_digits (length regions) - c.loop-low.compared) (omega (arith, c.loop-low-test.true)) old.left (omega arith) in
-    let base = field_base regions order middle (get_or order middle 0) x c.requires within refl c.index-regions-index.is in
+    let within : middle < length c.args.by_base.now = omega (arith, old.room, c.loop-low-test.true) in
+    let half = halved (high - low) (middle - low) (binary_digits (length c.args.regions.now)) c.loop-low.compared (omega (arith, c.loop-low-test.true)) old.left (omega arith) in
+    let base = field_base c.args.regions.now c.args.by_base.now middle _ _ c.requires within refl c.index-regions-index.is in
     record {
       room = omega (arith, within);
       before = old.before;
-      after = λ j late below. begins_later spans order middle j c.args.addr x.base c.requires late below base c.if-region-addr.false;
+      after = λ j late below. begins_later _ c.args.by_base.now middle j c.args.addr _ c.requires late below base c.if-region-addr.false;
       digits = omega (arith, half.0, old.digits);
-      left = rw fewer_left (half.1);
-      ruled_out = one_round (length order) (high - low) _ c.loop-low.compared (omega arith) old.ruled_out;
+      left = half.1;
+      ruled_out = one_round _ (high - low) _ c.loop-low.compared (omega arith) old.ruled_out;
       fewer = omega (arith, old.fewer, c.loop-low-test.true);
       some = λ none. absurd (omega arith);
     }
@@ -87,5 +69,4 @@ returns-clause-region g c =
 
 pub returns-clause-ruled_out : goal.returns-clause-ruled_out
 returns-clause-ruled_out g c = λ none.
-    let ended : c.loop-low.high - c.loop-low.low ≡ 0 = omega (arith, c.loop-low-test.false) in
-    rw ended at c.loop-low.invariant.ruled_out
+    let ended : c.loop-low.high - c.loop-low.low ≡ 0 = omega (arith, c.loop-low-test.false) in rw ended at c.loop-low.invariant.ruled_out
