@@ -1,11 +1,10 @@
 -- A step depends on the state without the register that was written last, so from states that agree
 -- the same steps lead.
-use Rattle.std.proofs.Common.{◌≡◌, ℕ, Bool, zero, suc, ◌≤◌, List, [], ◌∷◌, length, replicate, Option, Some, None, Ok, Err, refl, sym, subst, ap, ◌∙◌, arith}
+use Rattle.std.proofs.Common.{◌≡◌, ℕ, zero, suc, ◌≤◌, List, [], ◌∷◌, length, replicate, Option, Some, None, Ok, Err, refl, sym, subst, ap, ◌∙◌, arith}
 use Rattle.rrs_lib.specs.declared.instruction_executor.InstructionException.{InstructionException}
 use Rattle.rrs_lib.specs.declared.instruction_executor.RunEnd.{RunEnd}
-use Rattle.rrs_lib.specs.Bytes.{ByteMap}
 use Rattle.rrs_lib.specs.Machine.{State}
-use Rattle.rrs_lib.specs.Steps.{Step, StepAnswer, Misaligned, Unmapped, Illegal, Legal, Run, RunUntil, IsOnlyRun, IsOnlyRunUntil, cleared}
+use Rattle.rrs_lib.specs.Steps.{Step, StepAnswer, Misaligned, Unmapped, Illegal, Legal, Run, RunUntil, IsOnlyRun, IsOnlyRunUntil}
 use Rattle.rrs_extra.specs.Agreement.{Agree}
 
 -- ---- one step
@@ -50,10 +49,8 @@ alike_from_same n t t' same = record { agree = Agree-same t t' same; same = λ s
 -- by the states before, where nothing was done
 alike_from_none : (n : ℕ) (s s' t t' : State) → n ≡ 0 → Agree s s' → t ≡ s → t' ≡ s' → EndAlike n t t'
 alike_from_none n s s' t t' none agree first second =
-    let P : State → Type 0 = λ x. Agree x s' in
-    let Q : State → Type 0 = λ x. Agree t x in
     record {
-      agree = subst Q (sym second) (subst P (sym first) agree);
+      agree = subst (λ (x : State). Agree t x) (sym second) (subst (λ (x : State). Agree x s') (sym first) agree);
       same = λ some. absurd (omega (arith, some, none));
     }
 
@@ -73,8 +70,7 @@ RunUntil-agree limit s s' zero None t some agree run = absurd (omega (arith, som
 RunUntil-agree limit s s' (suc steps) None t some agree run =
     (run.0, Run-agree s s' t (Ok tt) (replicate steps (Ok tt)) agree run.1)
 RunUntil-agree limit s s' zero (Some e) t some agree run =
-    let P : State → Type 0 = λ x. Step x t (Err e) in
-    (run.0, (s, refl, Step-agree s s' t (Err e) agree (subst P run.1.1 run.1.2)))
+    (run.0, (s, refl, Step-agree s s' t (Err e) agree (subst (λ (x : State). Step x t (Err e)) run.1.1 run.1.2)))
 RunUntil-agree limit s s' (suc steps) (Some e) t some agree run =
     (run.0, (run.1.0, Run-agree s s' run.1.0 (Ok tt) (replicate steps (Ok tt)) agree run.1.1, run.1.2))
 

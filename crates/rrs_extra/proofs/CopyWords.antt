@@ -5,12 +5,9 @@ use Rattle.std.proofs.lemmas.Bool.Decides.{nat_tests}
 use Rattle.rrs_lib.specs.declared.instruction_executor.InstructionException.{InstructionException}
 use Rattle.rrs_lib.specs.declared.instruction_executor.InstructionException.TheVariants.{IllegalInstruction}
 use Rattle.rrs_lib.specs.Words.{word}
-use Rattle.rrs_lib.specs.Table.{Row, Decodes}
 use Rattle.rrs_lib.specs.Bytes.{ByteMap, little_endian, all_writable, store, EndsAtLastAddress}
 use Rattle.rrs_lib.specs.Machine.{State, reg, made_even}
-use Rattle.rrs_lib.specs.Steps.{Step, RunsOk, RunUntil, IsOnlyRunUntil}
-use Rattle.rrs_lib.proofs.Formats.{of_R, of_I, of_IShamt, of_S, of_B}
-use Rattle.rrs_lib.proofs.Decoder.{decodes}
+use Rattle.rrs_lib.specs.Steps.{Step, RunsOk, IsOnlyRunUntil}
 use Rattle.rrs_lib.proofs.Programs
 use Rattle.rrs_lib.proofs.Programs.{at, Others, registers_by}
 use Rattle.rrs_lib.proofs.ByteLemmas.{outside_from_none, read-stored, read-kept, store-outside, write-allowed}
@@ -116,9 +113,8 @@ mapped_after bytes to from n v apart mapped i less =
 
 writable_after : (writable : ℕ → Bool) (to n : ℕ) → IsWritable writable to (4 * suc n) → IsWritable writable (to + 4) (4 * n)
 writable_after writable to n allowed i less =
-    let Q : ℕ → Type 0 = λ b. IsTrue (writable b) in
     let there : to + (4 + i) ≡ to + 4 + i = omega arith in
-    subst Q there (allowed (4 + i) (omega arith))
+    subst (λ (b : ℕ). IsTrue (writable b)) there (allowed (4 + i) (omega arith))
 
 next_ready : (to from n p v : ℕ) (bytes : ByteMap) (writable : ℕ → Bool) → Ready to from (suc n) p bytes writable → Ready (to + 4) (from + 4) n p (store bytes to 4 v) writable
 next_ready to from n p v bytes writable ready = record {

@@ -124,13 +124,15 @@ faithful pc first second a b x y = (
       same_Some a b (sym text_a ∙ texts ∙ text_b),
 )
 
--- Of two answers, where both are texts, they are equal exactly when their words show alike.
-pub both_faithful : (pc first second : ℕ) (a b : Asked)
+-- Of two answers, where both are texts, what holds of each two texts of their words.
+pub both_texts : (pc first second : ℕ) (P : List ℕ → List ℕ → Type 0)
+    → ((x y : List ℕ) → IsRowAnd first (λ row f. text_of row f pc ≡ Some x) → IsRowAnd second (λ row f. text_of row f pc ≡ Some y) → P x y)
+    → (a b : Asked)
     → IfSome a (λ answer. IsRowAnd first (λ row f. IfOk answer (λ text. text_of row f pc ≡ Some (string_bytes text))))
     → IfSome b (λ answer. IsRowAnd second (λ row f. IfOk answer (λ text. text_of row f pc ≡ Some (string_bytes text))))
-    → IfBothTexts a b (λ text other. (text ≡ other) ↔ ShowAlike first second)
-both_faithful pc first second None b x y = tt
-both_faithful pc first second (Some (Err e)) b x y = tt
-both_faithful pc first second (Some (Ok s)) None x y = tt
-both_faithful pc first second (Some (Ok s)) (Some (Err e)) x y = tt
-both_faithful pc first second (Some (Ok s)) (Some (Ok t)) x y = faithful pc first second (string_bytes s) (string_bytes t) x y
+    → IfBothTexts a b P
+both_texts pc first second P all None b x y = tt
+both_texts pc first second P all (Some (Err e)) b x y = tt
+both_texts pc first second P all (Some (Ok s)) None x y = tt
+both_texts pc first second P all (Some (Ok s)) (Some (Err e)) x y = tt
+both_texts pc first second P all (Some (Ok s)) (Some (Ok t)) x y = all (string_bytes s) (string_bytes t) x y

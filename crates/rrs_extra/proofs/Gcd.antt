@@ -1,5 +1,5 @@
 -- The program of the greatest common divisor, as a run.
-use Rattle.std.proofs.Common.{◌≡◌, ℕ, zero, suc, ◌+◌, ◌*◌, ◌%◌, ◌^◌, ◌<◌, ◌≤◌, ◌==◌, length, pos, neg_ℤ, not, Bool, false, Option, Some, None, refl, sym, ap, subst, ◌∙◌, arith}
+use Rattle.std.proofs.Common.{◌≡◌, ℕ, zero, suc, ◌+◌, ◌*◌, ◌%◌, ◌^◌, ◌<◌, ◌≤◌, ◌==◌, length, pos, not, Bool, false, Option, Some, None, refl, ap, ◌∙◌, arith}
 use Rattle.std.specs.Int.{IsGcd}
 use Rattle.std.proofs.lemmas.Nat.Gcd.{IsGcd-from_zero, IsGcd-from_mod}
 use Rattle.std.proofs.lemmas.Bool.{cond-false}
@@ -7,13 +7,10 @@ use Rattle.std.proofs.lemmas.Bool.Decides.{nat_tests}
 use Rattle.rrs_lib.specs.declared.instruction_executor.InstructionException.{InstructionException}
 use Rattle.rrs_lib.specs.declared.instruction_executor.InstructionException.TheVariants.{IllegalInstruction}
 use Rattle.rrs_lib.specs.Words.{word}
-use Rattle.rrs_lib.specs.Table.{Row, Decodes}
 use Rattle.rrs_lib.specs.Bytes.{ByteMap, EndsAtLastAddress}
 use Rattle.rrs_lib.specs.Results.{remu}
 use Rattle.rrs_lib.specs.Machine.{State, reg, made_even}
-use Rattle.rrs_lib.specs.Steps.{RunsOk, RunUntil, IsOnlyRunUntil}
-use Rattle.rrs_lib.proofs.Formats.{of_R, of_I, of_B, of_J}
-use Rattle.rrs_lib.proofs.Decoder.{decodes}
+use Rattle.rrs_lib.specs.Steps.{RunsOk, IsOnlyRunUntil}
 use Rattle.rrs_lib.proofs.Programs
 use Rattle.rrs_lib.proofs.Programs.{at, Others, registers_by}
 use Rattle.rrs_extra.specs.Programs.{HoldsWords, IsCalled, HasWords, word_at, gcd_program}

@@ -1,6 +1,6 @@
 -- How the operands of a text are read back: of two texts with one name, operand by operand.
 use Rattle.std.proofs.Common.{◌≡◌, ℕ, ◌+◌, ◌%◌, ◌^◌, ◌<◌, ℤ, pos, negsuc, neg_ℤ, ◌≤ℤ◌, ◌<ℤ◌, List, ◌∷◌, ◌++◌, Some, arith}
-use Rattle.std.specs.Prelude.{codes, ◌↔◌}
+use Rattle.std.specs.Prelude.{codes}
 use Rattle.std.specs.Int.Signed.{mag}
 use Rattle.std.specs.Fmt.{decimal, signed_decimal}
 use Rattle.std.proofs.lemmas.Int.{ints}

@@ -38,8 +38,7 @@ page_later p pages n apart = lookup_tail (is_at (nat_cmp n)) p pages (at_other n
 -- what holds of what each page holds, holds of what is found
 pub holds_at : (P : Contents → Type 0) (pages : List Page) (n : ℕ) (c : Contents) → All P (values_of pages) → page_at pages n ≡ Some c → P c
 holds_at P pages n c all found =
-    let Q : Option Contents → Type 0 = λ o. IfSome o P in
-    subst Q found (IfSome-lookup_from_All P (is_at (nat_cmp n)) pages all)
+    subst (λ (o : Option Contents). IfSome o P) found (IfSome-lookup_from_All P (is_at (nat_cmp n)) pages all)
 
 -- no page has a number from 2 ^ 20 on
 pub no_page_past : (pages : List Page) (n : ℕ) → All (λ number. number < 2 ^ 20) (keys_of pages) → 2 ^ 20 ≤ n → page_at pages n ≡ None

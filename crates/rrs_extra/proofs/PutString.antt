@@ -1,18 +1,15 @@
 -- The program that prints, as a run with its accesses.
-use Rattle.std.proofs.Common.{◌≡◌, ◌≢◌, ℕ, zero, suc, ◌+◌, ◌*◌, ◌%◌, ◌^◌, ◌<◌, ◌≤◌, ◌==◌, ◌&&◌, nat_lt, List, [], ◌∷◌, ◌++◌, length, slice_index, pos, neg_ℤ, not, Bool, true, false, Option, Some, None, IsTrue, inl, inr, refl, sym, ap, subst, ◌∙◌, arith, append-nil, length-append}
+use Rattle.std.proofs.Common.{◌≡◌, ◌≢◌, ℕ, suc, ◌+◌, ◌*◌, ◌%◌, ◌^◌, ◌<◌, ◌≤◌, ◌==◌, ◌&&◌, nat_lt, List, [], ◌∷◌, ◌++◌, length, slice_index, pos, not, Bool, true, false, Option, Some, None, IsTrue, inl, inr, refl, sym, ap, subst, ◌∙◌, arith, append-nil, length-append}
 use Rattle.std.proofs.lemmas.Bool.{and_parts, ltb-true}
 use Rattle.std.proofs.lemmas.Bool.Decides.{nat_tests}
 use Rattle.rrs_lib.specs.declared.MemAccessSize.TheVariants.{Byte}
 use Rattle.rrs_lib.specs.declared.instruction_executor.InstructionException.{InstructionException}
 use Rattle.rrs_lib.specs.declared.instruction_executor.InstructionException.TheVariants.{IllegalInstruction}
 use Rattle.rrs_lib.specs.Words.{word}
-use Rattle.rrs_lib.specs.Table.{Row, Decodes}
 use Rattle.rrs_lib.specs.Bytes.{ByteMap, little_endian, all_writable, store, sum_if_both, at_place, EndsAtLastAddress}
 use Rattle.rrs_lib.specs.Machine.{State, reg, made_even}
-use Rattle.rrs_lib.specs.Steps.{RunUntil, IsOnlyRunUntil}
+use Rattle.rrs_lib.specs.Steps.{IsOnlyRunUntil}
 use Rattle.rrs_lib.specs.Accesses.{Access, Read, Write, fetch, AccessesOfRun, answers_of_run}
-use Rattle.rrs_lib.proofs.Formats.{of_I, of_S, of_B, of_J}
-use Rattle.rrs_lib.proofs.Decoder.{decodes}
 use Rattle.rrs_lib.proofs.Programs
 use Rattle.rrs_lib.proofs.Programs.{at, Others, registers_by}
 use Rattle.rrs_lib.proofs.ByteLemmas.{Outside, outside_from_none, store-outside, write-allowed}
@@ -22,7 +19,7 @@ use Rattle.rrs_lib.proofs.AccessChains
 use Rattle.rrs_lib.proofs.AccessChains.{RunsMaking, StepMaking, joined, making, making-loads, making-stores}
 use Rattle.rrs_extra.specs.Programs.{HoldsWords, HasWords, AreApart, word_at}
 use Rattle.rrs_extra.specs.Printing.{HoldsString, put_string_program, PutStringStarts, writes_of, writes_to}
-use Rattle.rrs_extra.proofs.Words.{word_read, at_word, by_registers, read_after, holds_after, value-small, words-end, is_value, value_is}
+use Rattle.rrs_extra.proofs.Words.{word_read, at_word, by_registers, read_after, holds_after, value-small, words-end, is_value, value_is, at_each}
 
 -- ---- one round
 
@@ -78,14 +75,14 @@ byte_kept bytes port c a n i apart less = store_others bytes port c (a + i) (out
 -- the string apart from the port, after its first byte
 string_after : (bytes : ByteMap) (port c a b : ℕ) (text : List ℕ) → AreApart port 1 a (length (b ∷ text) + 1) → HoldsString bytes a (b ∷ text) → HoldsString (store bytes port 1 c) (a + 1) text
 string_after bytes port c a b text apart string = record {
-  each = λ i less. let there : a + suc i ≡ a + 1 + i = omega arith in
-      let P : ℕ → Type 0 = λ x. store bytes port 1 c x ≡ Some (slice_index text i) in
-      subst P there (byte_kept bytes port c a (length (b ∷ text) + 1) (suc i) apart (omega (arith, less)) ∙ string.each (suc i) (omega (arith, less)));
+  each = λ i less.
+      let there : a + 1 + i ≡ a + suc i = omega arith in
+      rw there (byte_kept bytes port c a (length (b ∷ text) + 1) (suc i) apart (omega (arith, less)) ∙ string.each (suc i) (omega (arith, less)));
   not_zero = λ i less. string.not_zero (suc i) (omega (arith, less));
   below_256 = λ i less. string.below_256 (suc i) (omega (arith, less));
-  ended = let there : a + length (b ∷ text) ≡ a + 1 + length text = omega arith in
-      let P : ℕ → Type 0 = λ x. store bytes port 1 c x ≡ Some 0 in
-      subst P there (byte_kept bytes port c a (length (b ∷ text) + 1) (length (b ∷ text)) apart (omega arith) ∙ string.ended);
+  ended =
+      let there : a + 1 + length text ≡ a + length (b ∷ text) = omega arith in
+      rw there (byte_kept bytes port c a (length (b ∷ text) + 1) (length (b ∷ text)) apart (omega arith) ∙ string.ended);
 }
 
 -- ---- all rounds
@@ -229,44 +226,24 @@ abbrev pub string_test : ByteMap → ℕ → List ℕ → Bool
 string_test bytes a [] = is_value (bytes a) 0
 string_test bytes a (b ∷ text) = is_value (bytes a) b && (nat_lt 0 b && nat_lt b 256) && string_test bytes (a + 1) text
 
-each_of : (bytes : ByteMap) (a b : ℕ) (text : List ℕ) → bytes a ≡ Some b → ((i : ℕ) → i < length text → bytes (a + 1 + i) ≡ Some (slice_index text i)) → (i : ℕ) → i < length (b ∷ text) → bytes (a + i) ≡ Some (slice_index (b ∷ text) i)
-each_of bytes a b text first rest zero less =
-    let P : ℕ → Type 0 = λ x. bytes x ≡ Some b in
-    let there : a ≡ a + 0 = omega arith in
-    subst P there first
-each_of bytes a b text first rest (suc i) less =
-    let P : ℕ → Type 0 = λ x. bytes x ≡ Some (slice_index text i) in
-    let there : a + 1 + i ≡ a + suc i = omega arith in
-    subst P there (rest i (omega (arith, less)))
-
-not_zero_of : (b : ℕ) (text : List ℕ) → 0 < b → ((i : ℕ) → i < length text → slice_index text i ≢ 0) → (i : ℕ) → i < length (b ∷ text) → slice_index (b ∷ text) i ≢ 0
-not_zero_of b text first rest zero less = λ is. omega (arith, first, is)
-not_zero_of b text first rest (suc i) less = rest i (omega (arith, less))
-
-below_of : (b : ℕ) (text : List ℕ) → b < 256 → ((i : ℕ) → i < length text → slice_index text i < 256) → (i : ℕ) → i < length (b ∷ text) → slice_index (b ∷ text) i < 256
-below_of b text first rest zero less = first
-below_of b text first rest (suc i) less = rest i (omega (arith, less))
-
 pub string_by_test : (bytes : ByteMap) (a : ℕ) (text : List ℕ) → string_test bytes a text ≡ true → HoldsString bytes a text
-string_by_test bytes a [] test =
-    let P : ℕ → Type 0 = λ x. bytes x ≡ Some 0 in
-    let there : a ≡ a + 0 = omega arith in
-    record {
-      each = λ i less. absurd (omega (arith, less));
-      not_zero = λ i less. absurd (omega (arith, less));
-      below_256 = λ i less. absurd (omega (arith, less));
-      ended = subst P there (value_is (bytes a) 0 test);
-    }
+string_by_test bytes a [] test = record {
+  each = λ i less. absurd (omega (arith, less));
+  not_zero = λ i less. absurd (omega (arith, less));
+  below_256 = λ i less. absurd (omega (arith, less));
+  ended = let here : a + 0 ≡ a = omega arith in rw here (value_is (bytes a) 0 test);
+}
 string_by_test bytes a (b ∷ text) test =
-    let both = and_parts _ _ test in
-    let first = and_parts _ _ both.0 in
-    let range = and_parts _ _ first.1 in
+    let both = and_parts (is_value (bytes a) b && (nat_lt 0 b && nat_lt b 256)) (string_test bytes (a + 1) text) test in
+    let first = and_parts (is_value (bytes a) b) (nat_lt 0 b && nat_lt b 256) both.0 in
+    let range = and_parts (nat_lt 0 b) (nat_lt b 256) first.1 in
     let rest = string_by_test bytes (a + 1) text both.1 in
+    let here : a + 0 ≡ a = omega arith in
+    let Stands : ℕ → Type 0 = λ i. bytes (a + i) ≡ Some (slice_index (b ∷ text) i) in
     record {
-      each = each_of bytes a b text (value_is (bytes a) b first.0) rest.each;
-      not_zero = not_zero_of b text (ltb-true 0 b range.0) rest.not_zero;
-      below_256 = below_of b text (ltb-true b 256 range.1) rest.below_256;
-      ended = let P : ℕ → Type 0 = λ x. bytes x ≡ Some 0 in
-          let there : a + 1 + length text ≡ a + length (b ∷ text) = omega arith in
-          subst P there rest.ended;
+      each = at_each Stands (length text) (rw here (value_is (bytes a) b first.0)) (λ i less.
+          let there : a + suc i ≡ a + 1 + i = omega arith in rw there (rest.each i less));
+      not_zero = at_each (λ i. slice_index (b ∷ text) i ≢ 0) (length text) (omega (arith, ltb-true 0 b range.0)) rest.not_zero;
+      below_256 = at_each (λ i. slice_index (b ∷ text) i < 256) (length text) (ltb-true b 256 range.1) rest.below_256;
+      ended = let there : a + length (b ∷ text) ≡ a + 1 + length text = omega arith in rw there rest.ended;
     }

@@ -1,10 +1,10 @@
 -- Of a row that fixes its functs and shows all other fields, what a text shows determines the word.
-use Rattle.std.proofs.Common.{◌≡◌, ◌⊎◌, ◌↔◌, inl, inr, ℕ, List, [], ◌∷◌, ℤ, Some, None, IfSome, Ok, Err, IfOk, string_bytes, refl, ap, ◌∙◌, sym, subst}
+use Rattle.std.proofs.Common.{◌≡◌, ◌⊎◌, ◌↔◌, inl, inr, ℕ, List, [], ◌∷◌, ℤ, Some, refl, ap, ◌∙◌, sym, subst}
 use Rattle.rrs_lib.specs.declared.instruction_formats.IType.{IType}
 use Rattle.rrs_lib.specs.Encodings.{Fields, R, I, IShamt, S, B, U, J, encode}
 use Rattle.rrs_lib.specs.Table.{Row, table, format_of, MeetsFuncts, MeetsOperands, Decodes, IsRowAnd}
 use Rattle.rrs_lib.specs.Texts.{text_of}
-use Rattle.rrs_extra.specs.Showing.{shown, shown_of, ShowAlike, AreOneOrFences, Asked, IfBothTexts}
+use Rattle.rrs_extra.specs.Showing.{shown, shown_of, ShowAlike, AreOneOrFences}
 use Rattle.rrs_extra.proofs.Faithful.{ForBoth, at_both, faithful}
 
 -- the funct3 and the funct7 of fields that have them
@@ -118,14 +118,3 @@ pub words_faithful : (pc first second : ℕ) (a b : List ℕ) → IsRowAnd first
 words_faithful pc first second a b x y =
     let texts = faithful pc first second a b x y in
     (λ same. one_or_fences first second (texts.0 same), λ one. texts.1 (alike_from first second x.row x.fields x.is one))
-
--- Of two answers, where both are texts, they are equal exactly when their words are one or both fence.
-pub both_one_or_fences : (pc first second : ℕ) (a b : Asked)
-    → IfSome a (λ answer. IsRowAnd first (λ row f. IfOk answer (λ text. text_of row f pc ≡ Some (string_bytes text))))
-    → IfSome b (λ answer. IsRowAnd second (λ row f. IfOk answer (λ text. text_of row f pc ≡ Some (string_bytes text))))
-    → IfBothTexts a b (λ text other. (text ≡ other) ↔ AreOneOrFences first second)
-both_one_or_fences pc first second None b x y = tt
-both_one_or_fences pc first second (Some (Err e)) b x y = tt
-both_one_or_fences pc first second (Some (Ok s)) None x y = tt
-both_one_or_fences pc first second (Some (Ok s)) (Some (Err e)) x y = tt
-both_one_or_fences pc first second (Some (Ok s)) (Some (Ok t)) x y = words_faithful pc first second (string_bytes s) (string_bytes t) x y

@@ -1,14 +1,11 @@
 -- The program that adds up words, as a run.
-use Rattle.std.proofs.Common.{◌≡◌, ℕ, zero, suc, ◌+◌, ◌*◌, ◌%◌, ◌^◌, ◌<◌, ◌≤◌, ◌==◌, length, pos, neg_ℤ, Bool, true, Option, Some, None, IsSome, refl, sym, ap, subst, ◌∙◌, arith}
+use Rattle.std.proofs.Common.{◌≡◌, ℕ, zero, suc, ◌+◌, ◌*◌, ◌%◌, ◌^◌, ◌<◌, ◌≤◌, ◌==◌, length, pos, Bool, true, Option, Some, None, IsSome, refl, ap, subst, ◌∙◌, arith}
 use Rattle.rrs_lib.specs.declared.instruction_executor.InstructionException.{InstructionException}
 use Rattle.rrs_lib.specs.declared.instruction_executor.InstructionException.TheVariants.{IllegalInstruction}
 use Rattle.rrs_lib.specs.Words.{word}
-use Rattle.rrs_lib.specs.Table.{Row, Decodes}
 use Rattle.rrs_lib.specs.Bytes.{ByteMap, little_endian, EndsAtLastAddress}
 use Rattle.rrs_lib.specs.Machine.{State, reg}
-use Rattle.rrs_lib.specs.Steps.{RunsOk, RunUntil, IsOnlyRunUntil}
-use Rattle.rrs_lib.proofs.Formats.{of_R, of_I, of_B, of_J}
-use Rattle.rrs_lib.proofs.Decoder.{decodes}
+use Rattle.rrs_lib.specs.Steps.{RunsOk, IsOnlyRunUntil}
 use Rattle.rrs_lib.proofs.Programs
 use Rattle.rrs_lib.proofs.Programs.{at, Fetches, fetches, Others, registers_by}
 use Rattle.rrs_extra.specs.Programs.{HoldsWords, HasWords, IsMapped, word_at, sum_of_words, sum_loop_program, SumLoopStarts}
@@ -37,9 +34,8 @@ next_words bytes a (suc n) fits = let same : word (pos (a + 4)) ≡ a + 4 = omeg
 
 next_mapped : (bytes : ByteMap) (a n : ℕ) → a + 4 * suc n ≤ 2 ^ 32 → IsMapped bytes a (4 * suc n) → IsMapped bytes (word (pos (a + 4))) (4 * n)
 next_mapped bytes a n fits mapped i less =
-    let P : ℕ → Type 0 = λ b. IsSome (bytes b) in
     let same : a + (4 + i) ≡ word (pos (a + 4)) + i = omega arith in
-    subst P same (mapped (4 + i) (omega arith))
+    subst (λ (b : ℕ). IsSome (bytes b)) same (mapped (4 + i) (omega arith))
 
 -- a sum modulo 2 ^ 32 may be taken modulo 2 ^ 32 on the way
 same_sum : (sum x rest : ℕ) → (word (pos (sum + word (pos x))) + rest) % 2 ^ 32 ≡ (sum + (x + rest)) % 2 ^ 32

@@ -1,6 +1,6 @@
 -- Words in a memory.
-use Rattle.std.proofs.Common.{◌≡◌, ℕ, zero, suc, ◌+◌, ◌-◌, ◌*◌, ◌%◌, ◌^◌, ◌<◌, ◌≤◌, ◌==◌, ◌&&◌, Bool, true, false, List, [], ◌∷◌, length, slice_index, Option, Some, None, IsSome, IsTrue, Ok, inl, inr, refl, sym, ap, subst, ◌∙◌, arith}
-use Rattle.std.proofs.lemmas.Bool.{eqb-true, and_parts, cases_lt}
+use Rattle.std.proofs.Common.{◌≡◌, ℕ, zero, suc, ◌+◌, ◌-◌, ◌*◌, ◌%◌, ◌^◌, ◌<◌, ◌≤◌, ◌==◌, ◌&&◌, Bool, true, false, List, [], ◌∷◌, length, slice_index, Option, Some, None, IsSome, IsTrue, Ok, refl, sym, ap, subst, ◌∙◌, arith}
+use Rattle.std.proofs.lemmas.Bool.{eqb-true, and_parts, false≢true}
 use Rattle.std.proofs.lemmas.Option.{none-some}
 use Rattle.rrs_lib.specs.Encodings.{Fields}
 use Rattle.rrs_lib.specs.Table.{Row, Decodes}
@@ -25,22 +25,12 @@ word_read bytes a mapped = is_its_value (little_endian bytes a 4) (read-mapped b
 -- what is mapped lies below
 pub value-small : (bytes : ByteMap) (writable : ℕ → Bool) (b x : ℕ) → EndsAtLastAddress bytes writable → bytes b ≡ Some x → b < 2 ^ 32
 value-small bytes writable b x ends is =
-    elim (cases_lt b (2 ^ 32)) as (λ _. b < 2 ^ 32) [
-      | inl less ↦ less
-      | inr past ↦ absurd (none-some x (sym (ends b past).0 ∙ is))
-    ]
-
-not-true : IsTrue false → ⊥
-not-true test = cc
+    let past : 2 ^ 32 ≤ b → ⊥ = λ from. none-some x (sym (ends b from).0 ∙ is) in omega arith
 
 -- what is writable lies below
 writable-small : (bytes : ByteMap) (writable : ℕ → Bool) (b : ℕ) → EndsAtLastAddress bytes writable → IsTrue (writable b) → b < 2 ^ 32
 writable-small bytes writable b ends test =
-    let P : Bool → Type 0 = λ x. IsTrue x in
-    elim (cases_lt b (2 ^ 32)) as (λ _. b < 2 ^ 32) [
-      | inl less ↦ less
-      | inr past ↦ absurd (not-true (subst P (ends b past).1 test))
-    ]
+    let past : 2 ^ 32 ≤ b → ⊥ = λ from. false≢true (sym (ends b from).1 ∙ test) in omega arith
 
 -- n bytes that are mapped end there at the latest
 pub mapped-ends : (bytes : ByteMap) (writable : ℕ → Bool) (a n : ℕ) → EndsAtLastAddress bytes writable → IsMapped bytes a n → a ≤ 2 ^ 32 → a + n ≤ 2 ^ 32
@@ -63,10 +53,8 @@ sum-none (Some x) = refl
 word-small : (bytes : ByteMap) (writable : ℕ → Bool) (a w : ℕ) → EndsAtLastAddress bytes writable → little_endian bytes a 4 ≡ Some w → a + 3 < 2 ^ 32
 word-small bytes writable a w ends read =
     let with_last : Option ℕ → Option ℕ = λ o. sum_if_both (little_endian bytes a 3) (at_place 3 o) in
-    elim (cases_lt (a + 3) (2 ^ 32)) as (λ _. a + 3 < 2 ^ 32) [
-      | inl less ↦ less
-      | inr past ↦ absurd (none-some w (sym (ap with_last (ends (a + 3) past).0 ∙ sum-none (little_endian bytes a 3)) ∙ read))
-    ]
+    let past : 2 ^ 32 ≤ a + 3 → ⊥ = λ from. none-some w (sym (ap with_last (ends (a + 3) from).0 ∙ sum-none (little_endian bytes a 3)) ∙ read) in
+    omega arith
 
 -- and words that stand
 pub words-end : (bytes : ByteMap) (writable : ℕ → Bool) (a : ℕ) (words : List ℕ) → EndsAtLastAddress bytes writable → HoldsWords bytes a words → 1 ≤ length words → a + 4 * length words ≤ 2 ^ 32
@@ -128,16 +116,19 @@ abbrev pub holds_test : ByteMap → ℕ → List ℕ → Bool
 holds_test bytes a [] = true
 holds_test bytes a (w ∷ words) = is_value (little_endian bytes a 4) w && holds_test bytes (a + 4) words
 
-each_holds : (bytes : ByteMap) (a : ℕ) (words : List ℕ) → holds_test bytes a words ≡ true → (i : ℕ) → i < length words → little_endian bytes (a + 4 * i) 4 ≡ Some (slice_index words i)
-each_holds bytes a [] test i less = absurd (omega (arith, less))
-each_holds bytes a (w ∷ words) test zero less =
-    let P : ℕ → Type 0 = λ b. little_endian bytes b 4 ≡ Some w in
-    let there : a ≡ a + 4 * 0 = omega arith in
-    subst P there (value_is (little_endian bytes a 4) w ((and_parts _ _ test).0))
-each_holds bytes a (w ∷ words) test (suc i) less =
-    let P : ℕ → Type 0 = λ b. little_endian bytes b 4 ≡ Some (slice_index words i) in
-    let there : a + 4 + 4 * i ≡ a + 4 * suc i = omega arith in
-    subst P there (each_holds bytes (a + 4) words ((and_parts _ _ test).1) i (omega (arith, less)))
+-- what holds of the first place holds of all, where it holds of each later one
+pub at_each : (P : ℕ → Type 0) (n : ℕ) → P 0 → ((i : ℕ) → i < n → P (suc i)) → (i : ℕ) → i < suc n → P i
+at_each P n first rest zero less = first
+at_each P n first rest (suc i) less = rest i (omega (arith, less))
 
 pub holds_by_test : (bytes : ByteMap) (a : ℕ) (words : List ℕ) → holds_test bytes a words ≡ true → HoldsWords bytes a words
-holds_by_test bytes a words test = record { each = each_holds bytes a words test }
+holds_by_test bytes a [] test = record { each = λ i less. absurd (omega (arith, less)) }
+holds_by_test bytes a (w ∷ words) test =
+    let both = and_parts (is_value (little_endian bytes a 4) w) (holds_test bytes (a + 4) words) test in
+    let rest = holds_by_test bytes (a + 4) words both.1 in
+    let Stands : ℕ → Type 0 = λ i. little_endian bytes (a + 4 * i) 4 ≡ Some (slice_index (w ∷ words) i) in
+    let here : a + 4 * 0 ≡ a = omega arith in
+    record {
+      each = at_each Stands (length words) (rw here (value_is (little_endian bytes a 4) w both.0)) (λ i less.
+          let there : a + 4 * suc i ≡ a + 4 + 4 * i = omega arith in rw there (rest.each i less));
+    }
