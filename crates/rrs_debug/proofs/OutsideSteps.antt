@@ -195,32 +195,28 @@ performs_fault row f given hart r e asks is = record {
 
 pub performs_refused_load : (row : Row) (f : Fields) (given : Option ℕ) (hart : HartState) (r : RequestAnswer) (address : ℕ) (size : MemAccessSize) → Asks row f hart r → r ≡ Ok (Some (DataRequest.Load address size)) → given ≡ None → Performs row f given hart hart (Err (LoadAccessFault address))
 performs_refused_load row f given hart r address size asks is none =
-    let P : Option ℕ → Type 0 = λ x. Performs row f x hart hart (Err (LoadAccessFault address)) in
-    subst P (sym none) (record {
+    subst (λ (x : Option ℕ). Performs row f x hart hart (Err (LoadAccessFault address))) (sym none) (record {
       performs = λ bytes writable u a same answers.
           finish _ bytes (λ b. state_of hart b writable) (state_of hart bytes writable) u a (Err (LoadAccessFault address)) refl (claimed row f None hart r _ asks is bytes writable u a same answers);
     })
 
 pub performs_refused_store : (row : Row) (f : Fields) (given : Option ℕ) (hart : HartState) (r : RequestAnswer) (address value : ℕ) (size : MemAccessSize) → Asks row f hart r → r ≡ Ok (Some (DataRequest.Store address size value)) → given ≡ None → Performs row f given hart hart (Err (StoreAccessFault address))
 performs_refused_store row f given hart r address value size asks is none =
-    let P : Option ℕ → Type 0 = λ x. Performs row f x hart hart (Err (StoreAccessFault address)) in
-    subst P (sym none) (record {
+    subst (λ (x : Option ℕ). Performs row f x hart hart (Err (StoreAccessFault address))) (sym none) (record {
       performs = λ bytes writable u a same answers.
           finish _ bytes (λ b. state_of hart b writable) (state_of hart bytes writable) u a (Err (StoreAccessFault address)) refl (claimed row f None hart r _ asks is bytes writable u a same answers);
     })
 
 pub performs_load : (row : Row) (f : Fields) (given : Option ℕ) (v : ℕ) (old mid new : HartState) (r : RequestAnswer) (address : ℕ) (size : MemAccessSize) → Asks row f old r → r ≡ Ok (Some (DataRequest.Load address size)) → given ≡ Some v → Loads row f v old mid → Advances mid new → Performs row f given old new (Ok tt)
 performs_load row f given v old mid new r address size asks is some loads goes =
-    let P : Option ℕ → Type 0 = λ x. Performs row f x old new (Ok tt) in
-    subst P (sym some) (record {
+    subst (λ (x : Option ℕ). Performs row f x old new (Ok tt)) (sym some) (record {
       performs = λ bytes writable u a same answers.
           finish _ bytes (λ b. state_of new b writable) (advanced (loaded (table row).action f v (state_of old bytes writable)) (Ok false)) u a (Ok tt) (goes.advances bytes writable ∙ ap (λ x. advanced x (Ok false)) (loads.loads bytes writable)) (claimed row f (Some v) old r _ asks is bytes writable u a same answers);
     })
 
 pub performs_store : (row : Row) (f : Fields) (given : Option ℕ) (v : ℕ) (old new : HartState) (r : RequestAnswer) (address value : ℕ) (size : MemAccessSize) → Asks row f old r → r ≡ Ok (Some (DataRequest.Store address size value)) → given ≡ Some v → Advances old new → Performs row f given old new (Ok tt)
 performs_store row f given v old new r address value size asks is some goes =
-    let P : Option ℕ → Type 0 = λ x. Performs row f x old new (Ok tt) in
-    subst P (sym some) (record {
+    subst (λ (x : Option ℕ). Performs row f x old new (Ok tt)) (sym some) (record {
       performs = λ bytes writable u a same answers.
           let claim = claimed row f (Some v) old r _ asks is bytes writable u a same answers in
           (goes.advances (bytes_after (accesses_of_row row f (state_of old bytes writable)) bytes) writable ∙ claim.0, claim.1);
@@ -265,8 +261,7 @@ legal_by : (s t : State) (answer : StepAnswer) (w : ℕ) (row : Row) (f : Fields
 legal_by s t answer w row f (Misaligned odd same is) aligned read decodes = absurd (odd aligned)
 legal_by s t answer w row f (Unmapped aligned' read' same is) aligned read decodes = absurd (none-some _ (sym read' ∙ read))
 legal_by s t answer w row f (Illegal w' aligned' read' outside same is) aligned read decodes =
-    let P : ℕ → Type 0 = λ x. IsIllegal x in
-    absurd (subst P (same_Some _ _ (sym read' ∙ read)) outside row f decodes)
+    absurd (subst (λ (x : ℕ). IsIllegal x) (same_Some _ _ (sym read' ∙ read)) outside row f decodes)
 legal_by s t answer w row f (Legal w' row' f' u a aligned' read' decodes' executes after answers) aligned read decodes =
     let Q : ℕ → Type 0 = λ x. Decodes x row' f' in
     let same = one_row_at_most w row' row f' f (subst Q (same_Some _ _ (sym read' ∙ read)) decodes') decodes in
@@ -454,8 +449,7 @@ some_and (Some x) P holds = (x, refl, holds)
 
 at_some : {T : Type 0} (o : Option T) (x : T) (P : T → Type 0) → o ≡ Some x → IfSome o P → P x
 at_some {T = T} o x P is holds =
-    let Q : Option T → Type 0 = λ y. IfSome y P in
-    let there : IfSome (Some x) P = subst Q is holds in
+    let there : IfSome (Some x) P = subst (λ (y : Option T). IfSome y P) is holds in
     there
 
 pub loads_given : (v : ℕ) (s t : State) (found : Option (Instruction × DataRequest)) (i : Instruction) (address : ℕ) (size : MemAccessSize) → FindsAccess s found → found ≡ Some (i, DataRequest.Load address size) → t ≡ advanced (loaded (table (row_of i)).action (fields_of i) v (cleared s)) (Ok false) → LoadsGiven v s t
@@ -463,7 +457,6 @@ loads_given v s t found i address size finds is after =
     let row = row_of i in
     let at = some_and _ _ (at_some found _ _ is finds.stands) in
     let load = found_load (table row).action (fields_of i) s address size (row_size row) (at_some found _ _ is finds.asks) in
-    let D : Fields → Type 0 = λ f. Decodes at.0 row f in
     record {
       w = at.0;
       row = row;
@@ -471,7 +464,7 @@ loads_given v s t found i address size finds is after =
       n = load.n;
       extended = load.extended;
       fetched = at.1;
-      decoded = subst D load.of_format at.2;
+      decoded = subst (λ (f : Fields). Decodes at.0 row f) load.of_format at.2;
       is_load = load.is_load;
       aligned = load.aligned;
       after = after ∙ ap (λ a. advanced (loaded a (fields_of i) v (cleared s)) (Ok false)) load.is_load ∙ ap (λ f. advanced (loaded (Load load.n load.extended) f v (cleared s)) (Ok false)) load.of_format;
@@ -482,14 +475,13 @@ stores_elsewhere s t found i address value size finds is after =
     let row = row_of i in
     let at = some_and _ _ (at_some found _ _ is finds.stands) in
     let stored = found_store (table row).action (fields_of i) s address value size (row_size row) (at_some found _ _ is finds.asks) in
-    let D : Fields → Type 0 = λ f. Decodes at.0 row f in
     record {
       w = at.0;
       row = row;
       fields = stored.fields;
       n = stored.n;
       fetched = at.1;
-      decoded = subst D stored.of_format at.2;
+      decoded = subst (λ (f : Fields). Decodes at.0 row f) stored.of_format at.2;
       is_store = stored.is_store;
       aligned = stored.aligned;
       after = after;
@@ -521,8 +513,7 @@ store_asks s t given =
 
 none_found : (found : Option (Instruction × DataRequest)) (q : DataRequest) → IsSomeAnd found (λ y. y.1 ≡ q) → found ≡ None → ⊥
 none_found found q holds is =
-    let Q : Option (Instruction × DataRequest) → Type 0 = λ o. IsSomeAnd o (λ y. y.1 ≡ q) in
-    let none : ⊥ = subst Q is holds in
+    let none : ⊥ = subst (λ (o : Option (Instruction × DataRequest)). IsSomeAnd o (λ y. y.1 ≡ q)) is holds in
     none
 
 pub no_load_in_none : (v : ℕ) (s : State) (found : Option (Instruction × DataRequest)) → FindsAccess s found → found ≡ None → (t : State) → ¬ LoadsGiven v s t
@@ -536,8 +527,7 @@ no_store_in_none s found finds is t given =
 -- a request that was found is the one that the word at the program counter makes
 found_is : (found : Option (Instruction × DataRequest)) (x : Instruction × DataRequest) (q : DataRequest) → IsSomeAnd found (λ y. y.1 ≡ q) → found ≡ Some x → x.1 ≡ q
 found_is found x q holds is =
-    let Q : Option (Instruction × DataRequest) → Type 0 = λ o. IsSomeAnd o (λ y. y.1 ≡ q) in
-    let there : x.1 ≡ q = subst Q is holds in
+    let there : x.1 ≡ q = subst (λ (o : Option (Instruction × DataRequest)). IsSomeAnd o (λ y. y.1 ≡ q)) is holds in
     there
 
 load_and_store : (address address' value : ℕ) (size size' : MemAccessSize) → DataRequest.Store address size value ≡ DataRequest.Load address' size' → ⊥
@@ -570,9 +560,8 @@ pub finds_some : (s : State) (hart : HartState) (bytes : ByteMap) (writable : �
     → o ≡ next_word s → o ≡ Some w → IsInstruction w i → ((row : Row) (f : Fields) → Decodes w row f → (row ≡ row_of i) × (f ≡ fields_of i)) → Asks (row_of i) (fields_of i) hart r → state_of hart bytes writable ≡ s → r ≡ Ok (Some q)
     → FindsAccess s (Some (i, q))
 finds_some s hart bytes writable o w i r q read there is only asks same answer =
-    let P : Option ℕ → Type 0 = λ x. IsSomeAnd x (λ y. IsInstruction y i) in
     record {
-      stands = subst P (sym there ∙ read) is;
+      stands = subst (λ (x : Option ℕ). IsSomeAnd x (λ y. IsInstruction y i)) (sym there ∙ read) is;
       asks = sym (ap (answer_by (table (row_of i)).action (fields_of i)) same) ∙ sym (asks.asks bytes writable) ∙ answer;
       only = λ w' row f request stands decodes answers.
           same_request q request r answer (asks_alone s hart bytes writable o w i r read there only asks same w' row f request stands decodes answers);
