@@ -57,19 +57,14 @@ source_kept bytes to from n v apart b count low high =
 words_more : (bytes new : ByteMap) (to from n v i x : ℕ) → little_endian bytes from 4 ≡ Some v → AreApart to (4 * suc n) from (4 * suc n) → CopiesWords (store bytes to 4 (word (pos v))) new (to + 4) (from + 4) n
     → i < suc n → x < 2 ^ 32 → little_endian bytes (from + 4 * i) 4 ≡ Some x → little_endian new (to + 4 * i) 4 ≡ Some x
 words_more bytes new to from n v zero x read apart rest less small is =
-    let source : ℕ → Type 0 = λ b. little_endian bytes b 4 ≡ Some x in
-    let destination : ℕ → Type 0 = λ b. little_endian new b 4 ≡ Some x in
-    let to_is : to ≡ to + 4 * 0 = omega arith in
+    let to_is : to + 4 * 0 ≡ to = omega arith in
     let from_is : from + 4 * 0 ≡ from = omega arith in
-    subst destination to_is (first_word bytes new to from n v x read rest small (subst source from_is is))
+    rw to_is (first_word bytes new to from n v x read rest small (rw from_is at is))
 words_more bytes new to from n v (suc i) x read apart rest less small is =
-    let stored = store bytes to 4 (word (pos v)) in
-    let source : ℕ → Type 0 = λ b. little_endian stored b 4 ≡ Some x in
-    let destination : ℕ → Type 0 = λ b. little_endian new b 4 ≡ Some x in
-    let to_is : to + 4 + 4 * i ≡ to + 4 * suc i = omega arith in
-    let from_is : from + 4 * suc i ≡ from + 4 + 4 * i = omega arith in
+    let to_is : to + 4 * suc i ≡ to + 4 + 4 * i = omega arith in
+    let from_is : from + 4 + 4 * i ≡ from + 4 * suc i = omega arith in
     let kept = source_kept bytes to from n (word (pos v)) apart (from + 4 * suc i) 4 (omega arith) (omega arith) in
-    subst destination to_is (rest.words i x (omega (arith, less)) small (subst source from_is (kept ∙ is)))
+    rw to_is (rest.words i x (omega (arith, less)) small (rw from_is (kept ∙ is)))
 
 others_more : (bytes new : ByteMap) (to n v a : ℕ) → ((b : ℕ) → (b < to + 4) ⊎ (to + 4 + 4 * n ≤ b) → new b ≡ store bytes to 4 v b) → (a < to) ⊎ (to + 4 * suc n ≤ a) → new a ≡ bytes a
 others_more bytes new to n v a others (inl below) = others a (inl (omega arith)) ∙ store-outside bytes to 4 v a (inl below)
@@ -105,11 +100,9 @@ still_holds to from n p v bytes writable ready =
 -- what was mapped is mapped after a store elsewhere
 mapped_after : (bytes : ByteMap) (to from n v : ℕ) → AreApart to (4 * suc n) from (4 * suc n) → IsMapped bytes from (4 * suc n) → IsMapped (store bytes to 4 v) (from + 4) (4 * n)
 mapped_after bytes to from n v apart mapped i less =
-    let P : Option ℕ → Type 0 = λ o. IsSome o in
-    let Q : ℕ → Type 0 = λ b. IsSome (bytes b) in
     let outside = outside_from_none to 4 (from + 4 + i) (λ k below same. apart k (4 + i) (omega arith) (omega arith) (omega (arith, same))) in
-    let there : from + (4 + i) ≡ from + 4 + i = omega arith in
-    subst P (sym (store-outside bytes to 4 v (from + 4 + i) outside)) (subst Q there (mapped (4 + i) (omega arith)))
+    let there : from + 4 + i ≡ from + (4 + i) = omega arith in
+    rw (store-outside bytes to 4 v (from + 4 + i) outside, there) (mapped (4 + i) (omega arith))
 
 writable_after : (writable : ℕ → Bool) (to n : ℕ) → IsWritable writable to (4 * suc n) → IsWritable writable (to + 4) (4 * n)
 writable_after writable to n allowed i less =
