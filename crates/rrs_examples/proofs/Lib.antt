@@ -1,5 +1,3 @@
 pub mod CountDown
 pub mod ProgramExamples
-pub mod ExampleShowing
-pub mod PageExamples
 pub mod ServedExamples
