@@ -1,6 +1,10 @@
 -- Of a row that fixes its functs and shows all other fields, what a text shows determines the word.
 use Rattle.std.proofs.Common.{◌≡◌, ◌⊎◌, ◌↔◌, inl, inr, ℕ, List, [], ◌∷◌, ℤ, Some, refl, ap, ◌∙◌, sym, subst}
+use Rattle.rrs_lib.specs.declared.instruction_formats.RType.{RType}
 use Rattle.rrs_lib.specs.declared.instruction_formats.IType.{IType}
+use Rattle.rrs_lib.specs.declared.instruction_formats.ITypeShamt.{ITypeShamt}
+use Rattle.rrs_lib.specs.declared.instruction_formats.SType.{SType}
+use Rattle.rrs_lib.specs.declared.instruction_formats.BType.{BType}
 use Rattle.rrs_lib.specs.Encodings.{Fields, R, I, IShamt, S, B, U, J, encode}
 use Rattle.rrs_lib.specs.Table.{Row, table, format_of, MeetsFuncts, MeetsOperands, Decodes, IsRowAnd}
 use Rattle.rrs_lib.specs.Texts.{text_of}
@@ -17,48 +21,37 @@ functs (B f) = f.funct3 ∷ []
 functs (U f) = []
 functs (J f) = []
 
+-- fields of one format that are equal one by one
+same_R : (f g : RType) → f.rd ≡ g.rd → f.rs1 ≡ g.rs1 → f.rs2 ≡ g.rs2 → f.funct3 ≡ g.funct3 → f.funct7 ≡ g.funct7 → R f ≡ R g
+same_R f g a b c d e = λ i. R (record { funct7 = e i; rs2 = c i; rs1 = b i; funct3 = d i; rd = a i })
+
+same_I : (f g : IType) → f.rd ≡ g.rd → f.rs1 ≡ g.rs1 → f.imm ≡ g.imm → f.funct3 ≡ g.funct3 → I f ≡ I g
+same_I f g a b c d = λ i. I (record { imm = c i; rs1 = b i; funct3 = d i; rd = a i })
+
+same_IShamt : (f g : ITypeShamt) → f.rd ≡ g.rd → f.rs1 ≡ g.rs1 → f.shamt ≡ g.shamt → f.funct3 ≡ g.funct3 → f.funct7 ≡ g.funct7 → IShamt f ≡ IShamt g
+same_IShamt f g a b c d e = λ i. IShamt (record { funct7 = e i; shamt = c i; rs1 = b i; funct3 = d i; rd = a i })
+
+same_S : (f g : SType) → f.rs2 ≡ g.rs2 → f.rs1 ≡ g.rs1 → f.imm ≡ g.imm → f.funct3 ≡ g.funct3 → S f ≡ S g
+same_S f g a b c d = λ i. S (record { imm = c i; rs2 = a i; rs1 = b i; funct3 = d i })
+
+same_B : (f g : BType) → f.rs2 ≡ g.rs2 → f.rs1 ≡ g.rs1 → f.imm ≡ g.imm → f.funct3 ≡ g.funct3 → B f ≡ B g
+same_B f g a b c d = λ i. B (record { imm = c i; rs2 = a i; rs1 = b i; funct3 = d i })
+
 -- What fields show and their functs are all of them.
 pub same_fields : (f g : Fields) → format_of f ≡ format_of g → shown f ≡ shown g → functs f ≡ functs g → f ≡ g
-same_fields (R f) (R g) k s t =
-    let a : f.rd ≡ g.rd = cc in
-    let b : f.rs1 ≡ g.rs1 = cc in
-    let c : f.rs2 ≡ g.rs2 = cc in
-    let d : f.funct3 ≡ g.funct3 = cc in
-    let e : f.funct7 ≡ g.funct7 = cc in
-    λ i. R (record { funct7 = e i; rs2 = c i; rs1 = b i; funct3 = d i; rd = a i })
-same_fields (I f) (I g) k s t =
-    let a : f.rd ≡ g.rd = cc in
-    let b : f.rs1 ≡ g.rs1 = cc in
-    let c : f.imm ≡ g.imm = cc in
-    let d : f.funct3 ≡ g.funct3 = cc in
-    λ i. I (record { imm = c i; rs1 = b i; funct3 = d i; rd = a i })
-same_fields (IShamt f) (IShamt g) k s t =
-    let a : f.rd ≡ g.rd = cc in
-    let b : f.rs1 ≡ g.rs1 = cc in
-    let c : f.shamt ≡ g.shamt = cc in
-    let d : f.funct3 ≡ g.funct3 = cc in
-    let e : f.funct7 ≡ g.funct7 = cc in
-    λ i. IShamt (record { funct7 = e i; shamt = c i; rs1 = b i; funct3 = d i; rd = a i })
-same_fields (S f) (S g) k s t =
-    let a : f.rs2 ≡ g.rs2 = cc in
-    let b : f.rs1 ≡ g.rs1 = cc in
-    let c : f.imm ≡ g.imm = cc in
-    let d : f.funct3 ≡ g.funct3 = cc in
-    λ i. S (record { imm = c i; rs2 = a i; rs1 = b i; funct3 = d i })
-same_fields (B f) (B g) k s t =
-    let a : f.rs2 ≡ g.rs2 = cc in
-    let b : f.rs1 ≡ g.rs1 = cc in
-    let c : f.imm ≡ g.imm = cc in
-    let d : f.funct3 ≡ g.funct3 = cc in
-    λ i. B (record { imm = c i; rs2 = a i; rs1 = b i; funct3 = d i })
+same_fields (R f) (R g) k s t = same_R f g (cc) (cc) (cc) (cc) (cc)
+same_fields (I f) (I g) k s t = same_I f g (cc) (cc) (cc) (cc)
+same_fields (IShamt f) (IShamt g) k s t = same_IShamt f g (cc) (cc) (cc) (cc) (cc)
+same_fields (S f) (S g) k s t = same_S f g (cc) (cc) (cc) (cc)
+same_fields (B f) (B g) k s t = same_B f g (cc) (cc) (cc) (cc)
 same_fields (U f) (U g) k s t =
     let a : f.rd ≡ g.rd = cc in
-    let c : f.imm ≡ g.imm = cc in
-    λ i. U (record { imm = c i; rd = a i })
+    let b : f.imm ≡ g.imm = cc in
+    λ i. U (record { imm = b i; rd = a i })
 same_fields (J f) (J g) k s t =
     let a : f.rd ≡ g.rd = cc in
-    let c : f.imm ≡ g.imm = cc in
-    λ i. J (record { imm = c i; rd = a i })
+    let b : f.imm ≡ g.imm = cc in
+    λ i. J (record { imm = b i; rd = a i })
 same_fields f g k s t = absurd (cc)
 
 -- the row whose words are many and look alike
