@@ -1,12 +1,12 @@
 -- The regions of the code, and the list that contracts see of them.
-use Rattle.std.proofs.Common.{◌≡◌, ◌↔◌, ℕ, zero, suc, ◌<◌, List, [], ◌∷◌, ◌++◌, length, map, get_or, set, Some, Result, Ok, Err, OnOk, Bool, true, false, IsTrue, Any, MatchBool, inl, inr, refl, sym, subst, ap, ◌∙◌, arith}
+use Rattle.std.proofs.Common.{◌≡◌, ◌↔◌, ℕ, zero, suc, ◌<◌, List, [], ◌∷◌, ◌++◌, length, map, get_or, set, Some, option_map, Result, Ok, Err, OnOk, Bool, true, false, IsTrue, Any, MatchBool, inl, inr, refl, sym, subst, ap, ◌∙◌, arith}
 use Rattle.std.specs.List.{slice_get, HoldsAt, AllWithin}
 use Rattle.std.proofs.lemmas.Bool.{false≢true}
 use Rattle.std.proofs.lemmas.List.{map_push, length-map}
 use Rattle.std.proofs.lemmas.Option.{none-some, same_Some, slice_get-map, slice_get_read, slice_get_within, slice_get_cases, get_or_from_slice_get}
 use Rattle.rrs_memory.specs.declared.memories.space.MemoryRegion.{MemoryRegion}
 use Rattle.rrs_memory.specs.SpaceFields.{region_of, with_inner}
-use Rattle.rrs_memory.specs.Spaces.{Region, Space, with_region_memory, serves, Overlaps, IsWordRegion, IsSpace, with_memory, IsServedAt}
+use Rattle.rrs_memory.specs.Spaces.{Region, Space, with_region_memory, serves, Overlaps, IsWordRegion, IsSpace, with_memory, memory_at, IsServedAt}
 use Rattle.rrs_memory.proofs.Regions.{IsSpace-push}
 
 -- a fact that a test says does not hold
@@ -67,6 +67,10 @@ module _ {M : Type 0} where
   with_region_memory_of fields looked_at old i x y view stands e =
       let seen : List (Region M) → Space M = λ regions. record { regions = regions; looked_at = looked_at } in
       ap seen (set_is_with_memory fields i x y stands e) ∙ ap (λ s. with_region_memory s i y.memory) view
+
+  -- the memory of a region that stands at an index
+  pub memory_stands : (regions : List (Region M)) (i : ℕ) (r : Region M) (m : M) → slice_get regions i ≡ Some r → r.memory ≡ m → memory_at regions i ≡ Some m
+  memory_stands regions i r m stands is = ap (option_map (λ r. r.memory)) stands ∙ ap Some is
 
   -- what a push of a region that overlaps no other leaves
   pub IsSpace-after_push : (fields new : List (MemoryRegion M)) (old : List (Region M)) (y : MemoryRegion M) → map region_of fields ≡ old → IsSpace (map region_of fields) → IsWordRegion (region_of y) → (Any (Overlaps y.base y.size) old → ⊥) → new ≡ fields ++ y ∷ [] → IsSpace (map region_of new)

@@ -3,7 +3,7 @@ use Rattle.std.proofs.Common.{◌≡◌, ◌⊎◌, ℕ, zero, suc, ◌+◌, ◌
 use Rattle.std.specs.List.{AllPairs, slice_get}
 use Rattle.std.specs.Bool.{OnTrue, OnFalse}
 use Rattle.std.proofs.Math.Path.{fun_ext}
-use Rattle.std.proofs.lemmas.Bool.{cases_lt, false≢true}
+use Rattle.std.proofs.lemmas.Bool.{false≢true}
 use Rattle.std.proofs.lemmas.Bool.Decides.{nat_tests}
 use Rattle.std.proofs.lemmas.Option.{none-some, same_Some, get_or_from_slice_get, slice_get_within}
 use Rattle.std.proofs.lemmas.List.Quantifiers.{all_pairs_push}
@@ -11,7 +11,7 @@ use Rattle.std.proofs.lemmas.List.Elements.{All-push}
 use Rattle.std.proofs.lemmas.List.{get_or_default}
 use Rattle.rrs_memory.specs.declared.MemAccessSize.{MemAccessSize}
 use Rattle.rrs_memory.specs.declared.MemAccessSize.TheVariants.{Byte, HalfWord, Word}
-use Rattle.rrs_memory.specs.Bytes.{ByteMap, width, little_endian, all_writable, store, IsLawful, EndsAtLastAddress, Reads, Writes}
+use Rattle.rrs_memory.specs.Bytes.{ByteMap, width, store, IsLawful, EndsAtLastAddress, Reads, Writes}
 pub use Rattle.rrs_memory.proofs.ByteLemmas.{little_endian-moved, all_writable-moved, IsLawful-moved, little_endian-unmapped, all_writable-refused, IsLawful-unmapped, store_inside, store_outside, store_by}
 use Rattle.rrs_memory.specs.Spaces.{Region, Space, serves, served_by, space_bytes, space_writable, space_layout, Overlaps, bounds, IsWordRegion, IsSpace, with_memory, CountsCompared, OthersKept, ServedBecomes, SpaceAccess}
 
@@ -139,19 +139,13 @@ module _ {M : Type 0} where
   -- of apart regions at most one serves an address
   pub served_once : (regions : List (Region M)) (a i j : ℕ) (r s : Region M) → AllPairs (λ r s. Overlaps s.base s.size r → ⊥) regions → slice_get regions i ≡ Some r → slice_get regions j ≡ Some s → serves r a ≡ true → serves s a ≡ true → i ≡ j
   served_once regions a i j r s apart stands_r stands_s hit_r hit_s =
-      let here_r : get_or regions i r ≡ r = get_or_from_slice_get regions i r r stands_r in
-      let here_s : get_or regions j s ≡ s = get_or_from_slice_get regions j s s stands_s in
-      let also_r : get_or regions i s ≡ r = get_or_from_slice_get regions i r s stands_r in
-      let also_s : get_or regions j r ≡ s = get_or_from_slice_get regions j s r stands_s in
-      let within_r : i < length regions = slice_get_within regions i r stands_r in
-      let within_s : j < length regions = slice_get_within regions j s stands_s in
-      elim (cases_lt i j) [
-        | inl first ↦ absurd ((rw (here_r, also_s) at (apart i j r first within_s)) (serve_both r s a hit_r hit_s))
-        | inr later ↦ elim (cases_lt j i) [
-          | inl second ↦ absurd ((rw (here_s, also_r) at (apart j i s second within_r)) (serve_both s r a hit_s hit_r))
-          | inr same ↦ omega (arith, later, same)
-        ]
-      ]
+      let not_before : i < j → ⊥ = λ first. clash i j r s first stands_r stands_s hit_r hit_s in
+      let not_after : j < i → ⊥ = λ first. clash j i s r first stands_s stands_r hit_s hit_r in
+      omega arith
+    where
+      clash : (i j : ℕ) (r s : Region M) → i < j → slice_get regions i ≡ Some r → slice_get regions j ≡ Some s → serves r a ≡ true → serves s a ≡ true → ⊥
+      clash i j r s first at at' hit hit' =
+          (rw (get_or_from_slice_get regions i r r at, get_or_from_slice_get regions j s r at') at (apart i j r first (slice_get_within regions j s at'))) (serve_both r s a hit hit')
 
   -- ---- a memory replaced
 
@@ -216,8 +210,7 @@ module _ {M : Type 0} where
   pub stands-with_memory : (regions : List (Region M)) (i : ℕ) (r : Region M) (m : M) → slice_get regions i ≡ Some r → slice_get (with_memory regions i m) i ≡ Some (record r { memory = m })
   stands-with_memory [] i r m stands = absurd (none-some _ stands)
   stands-with_memory (x ∷ regions) zero r m stands =
-      let put : Region M → Region M = λ y. record y { memory = m } in
-      ap (λ y. Some (put y)) (same_Some x r stands)
+      ap (λ (y : Region M). Some (record y { memory = m })) (same_Some x r stands)
   stands-with_memory (x ∷ regions) (suc i) r m stands = stands-with_memory regions i r m stands
 
   -- the regions that do not serve the address stay

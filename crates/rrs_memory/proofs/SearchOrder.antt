@@ -1,5 +1,5 @@
 -- How the regions of a space are found in the order of their bases, and what one more region leaves of that order.
-use Rattle.std.proofs.Common.{◌≡◌, ◌⊎◌, ℕ, zero, suc, ◌+◌, ◌-◌, ◌*◌, ◌/◌, ◌^◌, ◌<◌, ◌≤◌, min, add-one, List, [], ◌∷◌, ◌++◌, length, map, get_or, set, Some, false, All, Any, inl, inr, refl, sym, ap, ◌∙◌, arith}
+use Rattle.std.proofs.Common.{◌≡◌, ℕ, zero, suc, ◌+◌, ◌-◌, ◌*◌, ◌/◌, ◌^◌, ◌<◌, ◌≤◌, min, add-one, List, [], ◌∷◌, ◌++◌, length, map, get_or, set, Some, false, All, Any, inl, inr, refl, sym, ap, ◌∙◌, arith}
 use Rattle.std.specs.List.{slice_get, insert}
 use Rattle.std.proofs.Math.Nat.{pow-succ', mul_assoc, mul-le-mul_right}
 use Rattle.std.proofs.lemmas.Nat.{pow_pos}
@@ -167,19 +167,15 @@ module _ (spans : List (ℕ × ℕ)) (order : List ℕ) (place : ℕ) (span : �
       -- the new region begins where those before it have ended
       ends_before : (j : ℕ) → j < place → base_at spans (get_or order j 0) + size_at spans (get_or order j 0) ≤ span.0
       ends_before j early =
-          let no = apart (get_or order j 0) (sorted.within j (omega arith)) in
-          elim (cases_lt span.0 (base_at spans (get_or order j 0) + size_at spans (get_or order j 0))) [
-            | inl over ↦ absurd (no (omega (arith, before j early, some), over))
-            | inr done ↦ done
-          ]
+          let inside = sorted.within j (omega arith) in
+          let over : span.0 < base_at spans (get_or order j 0) + size_at spans (get_or order j 0) → ⊥ = λ past. apart (get_or order j 0) inside (omega (arith, before j early, some), past) in
+          omega arith
 
       -- it ends where those after it begin
       ends_in_time : (j : ℕ) → place ≤ j → j < length order → span.0 + span.1 ≤ base_at spans (get_or order j 0)
       ends_in_time j late below =
-          elim (cases_lt (base_at spans (get_or order j 0)) (span.0 + span.1)) [
-            | inl over ↦ absurd (apart (get_or order j 0) (sorted.within j below) (over, omega (arith, after j late below)))
-            | inr done ↦ done
-          ]
+          let over : base_at spans (get_or order j 0) < span.0 + span.1 → ⊥ = λ past. apart (get_or order j 0) (sorted.within j below) (past, omega (arith, after j late below)) in
+          omega arith
 
       rising : (j k : ℕ) → j < k → k < length order + 1 → Stands j → Stands k → base_at spans' (get_or order' j 0) + size_at spans' (get_or order' j 0) ≤ base_at spans' (get_or order' k 0)
       rising j k first below (Early early _ is) (Early early_k _ is_k) = omega (arith, ap (λ p. p.0) is, ap (λ p. p.1) is, ap (λ p. p.0) is_k, sorted.rising j k first (omega arith))

@@ -1,6 +1,5 @@
-use Rattle.std.proofs.Common.{◌≡◌, ◌+◌, ◌-◌, ◌/◌, ◌<◌, length, map, get_or, refl, arith}
-use Rattle.rrs_memory.specs.Spaces.{bounds, binary_digits}
-use Rattle.rrs_memory.specs.SpaceFields.{region_of}
+use Rattle.std.proofs.Common.{◌≡◌, ◌+◌, ◌-◌, ◌/◌, ◌<◌, length, refl, arith}
+use Rattle.rrs_memory.specs.Spaces.{binary_digits}
 use Rattle.rrs_memory.proofs.RegionFields.{refuted}
 use Rattle.rrs_memory.proofs.SearchOrder.{digits_room, halved, none_ruled_out, one_round, order_few, begins_later, ends_earlier, field_base, field_found, field_ended, none_left}
 use Rattle.rrs_memory.proofs.memories.space.find.Goals as goal

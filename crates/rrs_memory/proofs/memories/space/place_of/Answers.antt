@@ -1,6 +1,4 @@
-use Rattle.std.proofs.Common.{◌+◌, ◌-◌, ◌/◌, ◌<◌, length, map, get_or, arith}
-use Rattle.rrs_memory.specs.Spaces.{bounds}
-use Rattle.rrs_memory.specs.SpaceFields.{region_of}
+use Rattle.std.proofs.Common.{◌+◌, ◌-◌, ◌/◌, ◌<◌, length, arith}
 use Rattle.rrs_memory.proofs.SearchOrder.{begins_earlier, begins_later, base_read}
 use Rattle.rrs_memory.proofs.memories.space.place_of.Goals as goal
 
