@@ -54,13 +54,9 @@ port_read old new i address a size answer port is did =
     let after = region_after old.regions new.regions i is.region did.regions_kept is.stands in
     elim (serves_cases is.region a) [
       | inl served ↦ port_of new.regions i address port port old.regions is after (did.served i is.region after.region is.stands served after.stands ∙ is.is_port)
-      | inr other ↦ record {
-        region = is.region;
-        stands = did.others_kept i is.region is.stands other;
-        is_port = is.is_port;
-        begins_there = is.begins_there;
-        has_addresses = is.has_addresses;
-      }
+      | inr other ↦
+          let same : After new.regions i is.region = record { region = is.region; stands = did.others_kept i is.region is.stands other; same_bounds = refl } in
+          port_of new.regions i address port port old.regions is same is.is_port
     ]
 
 -- the port that took a byte

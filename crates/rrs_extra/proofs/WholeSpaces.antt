@@ -1,14 +1,14 @@
 -- Spaces whose regions lie one after another from address 0 on, and the memory that they amount to.
 use Rattle.std.proofs.Common.{◌≡◌, ◌⊎◌, ℕ, ◌+◌, ◌-◌, ◌*◌, ◌/◌, ◌%◌, ◌^◌, ◌<◌, ◌≤◌, List, [], ◌∷◌, ◌++◌, length, slice_get, Option, None, option_map, is_some, Bool, true, false, cond, inl, inr, refl, sym, ap, ◌∙◌, arith, length-append}
 use Rattle.std.proofs.Math.Path.{fun_ext}
-use Rattle.std.proofs.lemmas.Bool.{cases_lt, and_right, le-ltb, cond-true, cond-false}
+use Rattle.std.proofs.lemmas.Bool.{cases_lt, cond-true, cond-false}
 use Rattle.std.proofs.lemmas.Option.{slice_get-get_or}
 use Rattle.rrs_lib.specs.declared.memories.VecMemory.{VecMemory}
 use Rattle.rrs_lib.specs.Bytes.{ByteMap}
 use Rattle.rrs_lib.specs.VecBytes.{bytes_of_words, lies_in_words, vec_bytes, vec_writable}
 use Rattle.rrs_lib.specs.Spaces.{Region, serves, served_by, space_bytes, space_writable}
 use Rattle.rrs_lib.proofs.VecWords.{byte_past}
-use Rattle.rrs_lib.proofs.Regions.{true_serves, false_serves, space_ends}
+use Rattle.rrs_lib.proofs.Regions.{true_serves, false_serves, serves_false, serves_cases, space_ends}
 use Rattle.rrs_extra.proofs.OpenPages.{get_left, get_right, byte_of_word, lies_where_mapped, past_words}
 
 abbrev pub region : {M : Type 0} → ℕ → ℕ → M → Region M
@@ -24,16 +24,13 @@ module _ {M : Type 0} {T : Type 0} (says : M → ℕ → T) (default : T) where
   -- a region at 0 that contains all of a memory
   one_at : (size : ℕ) (m : M) (a : ℕ) → ((b : ℕ) → (size ≤ b) ⊎ (2 ^ 32 ≤ b) → says m b ≡ default) → served_by says default (region 0 size m ∷ []) a ≡ says m a
   one_at size m a rest =
-      elim (cases_lt a size) [
-        | inl below ↦ elim (cases_lt a (2 ^ 32)) [
-          | inl low ↦ cond-true (serves (region 0 size m) a) (says m (a - 0)) default (true_serves (region 0 size m) a (omega arith) (omega arith) low) ∙ ap (says m) (minus_none a)
-          | inr high ↦ served_none size m a high ∙ sym (rest a (inr high))
+      elim (serves_cases (region 0 size m) a) [
+        | inl hit ↦ rw hit (ap (says m) (minus_none a))
+        | inr miss ↦ elim (cases_lt a (2 ^ 32)) [
+          | inl low ↦ rw miss (sym (rest a (inl (omega (arith, serves_false (region 0 size m) a low miss (omega arith))))))
+          | inr high ↦ rw miss (sym (rest a (inr high)))
         ]
-        | inr past ↦ cond-false (serves (region 0 size m) a) (says m (a - 0)) default (false_serves (region 0 size m) a (λ from. omega arith)) ∙ sym (rest a (inl past))
       ]
-    where
-      served_none : (size : ℕ) (m : M) (a : ℕ) → 2 ^ 32 ≤ a → served_by says default (region 0 size m ∷ []) a ≡ default
-      served_none size m a high = cond-false (serves (region 0 size m) a) (says m (a - 0)) default (and_right _ _ (le-ltb a (2 ^ 32) high))
 
   -- at all addresses
   pub one_region : (size : ℕ) (m : M) → ((b : ℕ) → (size ≤ b) ⊎ (2 ^ 32 ≤ b) → says m b ≡ default) → served_by says default (region 0 size m ∷ []) ≡ says m
