@@ -1,14 +1,14 @@
 -- Spaces whose regions lie one after another from address 0 on, and the memory that they amount to.
 use Rattle.std.proofs.Common.{◌≡◌, ◌⊎◌, ℕ, ◌+◌, ◌-◌, ◌*◌, ◌/◌, ◌%◌, ◌^◌, ◌<◌, ◌≤◌, List, [], ◌∷◌, ◌++◌, length, slice_get, Option, None, option_map, is_some, Bool, true, false, cond, inl, inr, refl, sym, ap, ◌∙◌, arith, length-append}
 use Rattle.std.proofs.Math.Path.{fun_ext}
-use Rattle.std.proofs.lemmas.Bool.{cases_lt, cond-true, cond-false}
+use Rattle.std.proofs.lemmas.Bool.{cases_lt}
 use Rattle.std.proofs.lemmas.Option.{slice_get-get_or}
 use Rattle.rrs_lib.specs.declared.memories.VecMemory.{VecMemory}
 use Rattle.rrs_lib.specs.Bytes.{ByteMap}
 use Rattle.rrs_lib.specs.VecBytes.{bytes_of_words, lies_in_words, vec_bytes, vec_writable}
 use Rattle.rrs_lib.specs.Spaces.{Region, serves, served_by, space_bytes, space_writable}
 use Rattle.rrs_lib.proofs.VecWords.{byte_past}
-use Rattle.rrs_lib.proofs.Regions.{true_serves, false_serves, serves_false, serves_cases, space_ends}
+use Rattle.rrs_lib.proofs.Regions.{serves_false, serves_true, serves_cases, space_ends}
 use Rattle.rrs_extra.proofs.OpenPages.{get_left, get_right, byte_of_word, lies_where_mapped, past_words}
 
 abbrev pub region : {M : Type 0} → ℕ → ℕ → M → Region M
@@ -75,26 +75,17 @@ module _ (m n whole : VecMemory) (size more : ℕ) (first : size ≡ 4 * length 
   abbrev pub regions : List (Region VecMemory)
   regions = region 0 size m ∷ region size more n ∷ []
 
-  -- what the second says where the first does not serve
-  past_first : (a : ℕ) → (0 ≤ a → size ≤ a) → space_bytes vec_bytes regions a ≡ space_bytes vec_bytes (region size more n ∷ []) a
-  past_first a from =
-      cond-false (serves (region 0 size m) a) (vec_bytes m (a - 0)) (space_bytes vec_bytes (region size more n ∷ []) a) (false_serves (region 0 size m) a (λ le. omega (arith, from le)))
-
   two_low : (a : ℕ) → a < 2 ^ 32 → space_bytes vec_bytes regions a ≡ vec_bytes whole a
   two_low a low =
-      elim (cases_lt a size) [
-        | inl below ↦
-            cond-true (serves (region 0 size m) a) (vec_bytes m (a - 0)) (space_bytes vec_bytes (region size more n ∷ []) a) (true_serves (region 0 size m) a (omega arith) (omega arith) low)
-            ∙ ap (vec_bytes m) (minus_none a) ∙ in_first a low below
-        | inr from ↦
-            past_first a (λ le. from) ∙ elim (cases_lt a (size + more)) [
-              | inl below ↦
-                  cond-true (serves (region size more n) a) (vec_bytes n (a - size)) None (true_serves (region size more n) a from below low)
-                  ∙ in_second a low from
-              | inr past ↦
-                  cond-false (serves (region size more n) a) (vec_bytes n (a - size)) None (false_serves (region size more n) a (λ le. past))
-                  ∙ sym (byte_past whole.mem.items a (omega (arith, first, second, past, ap length both, length-append m.mem.items n.mem.items)))
-            ]
+      elim (serves_cases (region 0 size m) a) [
+        | inl hit ↦ rw hit (ap (vec_bytes m) (minus_none a) ∙ in_first a low (omega (arith, (serves_true (region 0 size m) a hit).1)))
+        | inr miss ↦ rw miss (elim (serves_cases (region size more n) a) [
+          | inl hit ↦ rw hit (in_second a low (serves_true (region size more n) a hit).0)
+          | inr other ↦
+              let first_past : size ≤ a = omega (arith, serves_false (region 0 size m) a low miss (omega arith)) in
+              let past : size + more ≤ a = omega (arith, serves_false (region size more n) a low other first_past) in
+              rw other (sym (byte_past whole.mem.items a (omega (arith, first, second, past, ap length both, length-append m.mem.items n.mem.items))))
+        ])
       ]
 
   -- nothing lies past the last address
