@@ -86,16 +86,6 @@ module _ {E : Type 0} (serves : Relation E) {M : Type 0} (reads : M → ℕ → 
         → Served serves ending e' t limit e s (steps + later) (accesses ++ b)
     pub made : Makes reads writes accesses m k
 
-  pub reached_start : (limit : ℕ) (e : E) (s : State) (m : M) → Reached limit e s m 0 e s m
-  reached_start limit e s m = record {
-    accesses = [];
-    goes_on = λ ending e' t later b served.
-        let whole : limit - 0 ≡ limit = omega arith in
-        let sum : later ≡ 0 + later = omega arith in
-        subst (λ n. Served serves ending e' t limit e s n b) sum (subst (λ n. Served serves ending e' t n e s later b) whole served);
-    made = refl;
-  }
-
   pub reached_more : (limit : ℕ) (e d d' : E) (s u u' : State) (m k k' : M) (steps first : ℕ) → Reached limit e s m steps d u k
       → MakesSome reads writes (Called serves (limit - steps) d u first None d' u') k k' → Reached limit e s m (steps + first) d' u' k'
   reached_more limit e d d' s u u' m k k' steps first so_far called = record {
