@@ -24,7 +24,7 @@ pub const ROW_COUNT: usize = 48;
 ///
 /// Which row and which fields a value is, is written in `specs/Instructions.antt`. The fields may
 /// be any, also such as no word has; those of a value that `decode` returned are in their ranges.
-#[derive(PartialEq, Clone, Copy)]
+#[derive(Clone, Copy)]
 pub enum Instruction {
     /// `add`: the sum.
     Add(RType),
@@ -387,6 +387,23 @@ impl Instruction {
             Instruction::Ecall(dec_insn) => T::process_ecall(processor, dec_insn),
             Instruction::Ebreak(dec_insn) => T::process_ebreak(processor, dec_insn),
         }
+    }
+}
+
+/// Two instructions are equal where their rows and their fields are.
+impl PartialEq for Instruction {
+    ghost use Rattle.std.specs.Ordering.{on};
+    ghost use Rattle.std.specs.Cmp.{on_per, and_per, partial_equiv_from_equiv, nat_eq_equiv};
+    ghost use Rattle.rrs_instruction.specs.contracts.instruction.InstructionFieldsPartialEq.TheImpl.Laws.{laws-law};
+    ghost use Rattle.rrs_instruction.specs.Instructions.{numbered, number_in, fields_in};
+
+    ghost eq = { on numbered ⟦<(usize, InstructionFields) as PartialEq>⟧.eq };
+
+    ghost laws = { on_per numbered (and_per
+        (on_per number_in (partial_equiv_from_equiv nat_eq_equiv)) (on_per fields_in laws-law)) };
+
+    fn eq(&self, other: &Instruction) -> bool {
+        (self.number(), self.fields()) == (other.number(), other.fields())
     }
 }
 
