@@ -4,6 +4,7 @@ ghost use Rattle.std.specs.Prelude.{◌≡◌, IfSome, IfNone};
 ghost use Rattle.rrs_lib.specs.Table.{IsRowAnd, IsIllegal, table};
 
 use crate::call_counter::{CallCounter, count_word};
+use rrs_encode::encode;
 use rrs_extra::{ROW_COUNT, RowNumberer};
 use rrs_lib::instruction::decode;
 use rrs_lib::instruction_formats::{
@@ -99,7 +100,7 @@ fn each_row_has_its_text(rt: HostRuntime) -> Result<(), Fail> {
 
 /// The word of the instruction that a word is.
 fn word_again(word: u32) -> Option<u32> {
-    decode(word)?.encode()
+    encode(&decode(word)?)
 }
 
 /// The number of the row of a word, through the decoder.

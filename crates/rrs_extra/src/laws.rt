@@ -4,13 +4,11 @@
 //! return is related, or what the machine does. No proof looks at how a call of `rrs_lib` is
 //! written: they stand on its contracts, its definitions, and lemmas over these.
 
-mod encoding;
 mod independence;
 mod printing;
 mod programs;
 mod texts;
 
-pub use encoding::{decode_of_encode, encode_of_decode};
 pub use independence::{agree_each, same_bytes, same_run};
 pub use printing::{print_string, put_string};
 pub use programs::{copy_words, gcd, sum_loop};

@@ -4,7 +4,6 @@
 //! one that a word is, and `process` hands it to an [InstructionProcessor].
 //! `process_instruction` is the one after the other.
 
-mod encode;
 mod operands;
 
 ghost use Rattle.std.specs.Prelude.{◌≡◌, ◌≤◌};

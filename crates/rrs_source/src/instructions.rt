@@ -2,13 +2,12 @@
 
 ghost use Rattle.std.specs.Prelude.{◌<◌, IfOk, IfSome};
 
-use crate::fields::{Operands, filled};
 use crate::mistakes::{Mistake, Stop};
 use crate::names::{PseudoForm, pseudo_named};
 use crate::pseudo::{Pseudo, SwappedBranch, Unary, ZeroBranch};
 use crate::reading::Line;
-use crate::rows::row_named;
 use crate::statements::Statement;
+use rrs_encode::{Operands, instruction_named, with_operands};
 use rrs_instruction::instruction::{Instruction, InstructionFields};
 
 /// How far a branch reaches, in bytes: so many backward, and fewer forward.
@@ -34,7 +33,7 @@ pub fn read_instruction(line: &mut Line, name: &[u8], stop: Stop) -> Result<Stat
             ..stop
         });
     }
-    if let Some(template) = row_named(name) {
+    if let Some(template) = instruction_named(name) {
         return read_row(line, template);
     }
     match pseudo_named(name) {
@@ -46,7 +45,9 @@ pub fn read_instruction(line: &mut Line, name: &[u8], stop: Stop) -> Result<Stat
 /// Reads the operands of a row.
 fn read_row(line: &mut Line, template: Instruction) -> Result<Statement, Stop> {
     let operands = match template {
-        Instruction::Ecall(_) | Instruction::Ebreak(_) => NONE,
+        Instruction::Ecall(_) | Instruction::Ebreak(_) => return Ok(Statement::Instruction(
+            template,
+        )),
         Instruction::Fence(_) => return read_fence(line, template),
         Instruction::Jal(_) => return read_jal(line, template),
         Instruction::Jalr(_) => return read_jalr(line, template),
@@ -57,94 +58,52 @@ fn read_row(line: &mut Line, template: Instruction) -> Result<Statement, Stop> {
         | Instruction::Lw(_) => load_operands(line)?,
         _ => format_operands(line, template.fields())?,
     };
-    Ok(Statement::Instruction(filled(template, operands)))
+    statement_of(template, operands)
+}
+
+/// The statement that is an instruction with these operands, whose ranges the readers saw to.
+fn statement_of(template: Instruction, operands: Operands) -> Result<Statement, Stop> {
+    let instruction = with_operands(&template, operands).ok_or(Stop {
+        mistake: Mistake::Range,
+        left: 0,
+    })?;
+    Ok(Statement::Instruction(instruction))
 }
 
 /// Reads the operands of an instruction that is written as others of its format.
 fn format_operands(line: &mut Line, fields: InstructionFields) -> Result<Operands, Stop> {
-    match fields {
-        InstructionFields::R(_) => register_operands(line),
-        InstructionFields::I(_) => immediate_operands(line),
-        InstructionFields::IShamt(_) => shift_operands(line),
-        InstructionFields::S(_) => store_operands(line),
-        InstructionFields::B(_) => branch_operands(line),
-        InstructionFields::U(_) => upper_operands(line),
-        InstructionFields::J(_) => jump_operands(line),
-    }
-}
-
-/// Reads `rd, rs1, rs2`.
-fn register_operands(line: &mut Line) -> Result<Operands, Stop> {
-    let (rd, rs1) = line.registers_before_comma()?;
-    let rs2 = line.register()?;
-    Ok(Operands {
-        rd,
-        rs1,
-        rs2,
-        ..NONE
-    })
-}
-
-/// Reads `rd, rs1, immediate`.
-fn immediate_operands(line: &mut Line) -> Result<Operands, Stop> {
-    let (rd, rs1) = line.registers_before_comma()?;
-    let imm = line.immediate()?;
-    Ok(Operands {
-        rd,
-        rs1,
-        imm,
-        ..NONE
-    })
-}
-
-/// Reads `rd, rs1, shamt`.
-fn shift_operands(line: &mut Line) -> Result<Operands, Stop> {
-    let (rd, rs1) = line.registers_before_comma()?;
-    let imm = line.below(32)?.cast_signed();
-    Ok(Operands {
-        rd,
-        rs1,
-        imm,
-        ..NONE
-    })
-}
-
-/// Reads `rs2, immediate(rs1)`.
-fn store_operands(line: &mut Line) -> Result<Operands, Stop> {
-    let rs2 = line.register_before_comma()?;
-    let (imm, rs1) = line.address()?;
-    Ok(Operands {
-        rs1,
-        rs2,
-        imm,
-        ..NONE
-    })
-}
-
-/// Reads `rd, immediate`, of which the upper 20 bits are meant.
-fn upper_operands(line: &mut Line) -> Result<Operands, Stop> {
-    let rd = line.register_before_comma()?;
-    let imm = (line.below(0x10_0000)? << 12).cast_signed();
-    Ok(Operands { rd, imm, ..NONE })
-}
-
-/// Reads `rd, target`.
-fn jump_operands(line: &mut Line) -> Result<Operands, Stop> {
-    let rd = line.register_before_comma()?;
-    let imm = line.offset(JUMP_REACH)?;
-    Ok(Operands { rd, imm, ..NONE })
-}
-
-/// Reads `rs1, rs2, target`.
-fn branch_operands(line: &mut Line) -> Result<Operands, Stop> {
-    let (rs1, rs2) = line.registers_before_comma()?;
-    let imm = line.offset(BRANCH_REACH)?;
-    Ok(Operands {
-        rs1,
-        rs2,
-        imm,
-        ..NONE
-    })
+    let (rd, rs1, rs2, imm) = match fields {
+        InstructionFields::R(_) => {
+            let (rd, rs1) = line.registers_before_comma()?;
+            (rd, rs1, line.register()?, 0)
+        }
+        InstructionFields::I(_) => {
+            let (rd, rs1) = line.registers_before_comma()?;
+            (rd, rs1, 0, line.immediate()?)
+        }
+        InstructionFields::IShamt(_) => {
+            let (rd, rs1) = line.registers_before_comma()?;
+            (rd, rs1, 0, line.below(32)?.cast_signed())
+        }
+        InstructionFields::S(_) => {
+            let rs2 = line.register_before_comma()?;
+            let (imm, rs1) = line.address()?;
+            (0, rs1, rs2, imm)
+        }
+        InstructionFields::B(_) => {
+            let (rs1, rs2) = line.registers_before_comma()?;
+            (0, rs1, rs2, line.offset(BRANCH_REACH)?)
+        }
+        InstructionFields::U(_) => {
+            let rd = line.register_before_comma()?;
+            (rd, 0, 0, (line.below(0x10_0000)? << 12).cast_signed())
+        }
+        InstructionFields::J(_) => {
+            let rd = line.register_before_comma()?;
+            (rd, 0, 0, line.offset(JUMP_REACH)?)
+        }
+    };
+    Ok(Operands { rd, rs1, rs2, imm })
 }
 
 /// Reads `rd, immediate(rs1)`.
@@ -167,7 +126,7 @@ fn read_jal(line: &mut Line, template: Instruction) -> Result<Statement, Stop> {
             *line = ahead;
             let imm = line.offset(JUMP_REACH)?;
             let operands = Operands { rd, imm, ..NONE };
-            return Ok(Statement::Instruction(filled(template, operands)));
+            return statement_of(template, operands);
         }
     }
     Ok(Statement::Pseudo(Pseudo::Jal(line.offset(JUMP_REACH)?)))
@@ -198,7 +157,7 @@ fn read_jalr(line: &mut Line, template: Instruction) -> Result<Statement, Stop> 
         imm,
         ..NONE
     };
-    Ok(Statement::Instruction(filled(template, operands)))
+    statement_of(template, operands)
 }
 
 /// Reads two sets of accesses, or nothing.
@@ -211,7 +170,7 @@ fn read_fence(line: &mut Line, template: Instruction) -> Result<Statement, Stop>
     let after = read_accesses(line)?;
     let imm = (before * 16 + after).cast_signed();
     let operands = Operands { imm, ..NONE };
-    Ok(Statement::Instruction(filled(template, operands)))
+    statement_of(template, operands)
 }
 
 /// Reads a set of accesses: some of the letters `iorw`, in this order.

@@ -12,7 +12,6 @@
 
 mod assembling;
 mod directives;
-mod fields;
 mod gnu;
 mod instructions;
 mod literals;
@@ -22,7 +21,6 @@ mod output;
 mod pseudo;
 mod reading;
 mod registers;
-mod rows;
 mod statements;
 mod symbols;
 

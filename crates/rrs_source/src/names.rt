@@ -129,7 +129,7 @@ pub fn directive_named(name: &[u8]) -> Option<DirectiveForm> {
 }
 
 /// What stands beside a name in a table.
-pub fn value_named<T: Copy>(table: &[(&[u8], T)], name: &[u8]) -> Option<T> {
+fn value_named<T: Copy>(table: &[(&[u8], T)], name: &[u8]) -> Option<T> {
     for (own, value) in table {
         if *own == name {
             return Some(*value);

@@ -7,6 +7,7 @@ ghost use Rattle.rrs_source.specs.Pseudo.{listed};
 use crate::mistakes::{Halt, Mistake, Stop};
 use crate::pseudo::Expansion;
 use crate::statements::Statement;
+use rrs_encode::encode;
 use rrs_instruction::instruction::Instruction;
 use std::alloc::Global;
 
@@ -126,7 +127,7 @@ fn append_instruction(bytes: &mut Vec<u8>, instruction: &Instruction) -> Result<
     ensures { OnOk result ((own : List ℕ) × AreWords (instruction.now ∷ []) own
         × (bytes.new.items ≡ bytes.old.items ++ own)) }
 {
-    match instruction.encode() {
+    match encode(instruction) {
         Some(word) => Ok(bytes.extend_from_slice(&word.to_le_bytes())?),
         None => Err(Halt::Mistake(Stop {
             mistake: Mistake::Range,

@@ -1,8 +1,8 @@
 use Rattle.std.proofs.Common.{ℕ, Option, Some, None, IfNone, refl}
 use Rattle.std.proofs.lemmas.Option.{none-some}
-use Rattle.rrs_lib.specs.Instructions.{IsInstruction}
-use Rattle.rrs_lib.proofs.Instructions.{decoded_again}
-use Rattle.rrs_extra.proofs.laws.encoding.decode_of_encode.Goals as goal
+use Rattle.rrs_instruction.specs.Instructions.{IsInstruction}
+use Rattle.rrs_instruction.proofs.Instructions.{decoded_again}
+use Rattle.rrs_encode.proofs.laws.decode_of_encode.Goals as goal
 
 pub returns-clause-same : goal.returns-clause-same
 returns-clause-same c =

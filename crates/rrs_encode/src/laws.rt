@@ -1,10 +1,11 @@
 //! Encoding and decoding, the one after the other.
 
 ghost use Rattle.std.specs.Prelude.{◌≡◌, ℕ, Some, IfSome, IfNone};
-ghost use Rattle.rrs_lib.specs.Table.{IsIllegal};
-ghost use Rattle.rrs_lib.specs.Instructions.{IsInstruction};
+ghost use Rattle.rrs_instruction.specs.Table.{IsIllegal};
+ghost use Rattle.rrs_instruction.specs.Instructions.{IsInstruction};
 
-use rrs_lib::instruction::{Instruction, decode};
+use crate::encode;
+use rrs_instruction::instruction::{Instruction, decode};
 
 /// What the word of an instruction is decoded to.
 ///
@@ -14,7 +15,7 @@ pub fn decode_of_encode(instruction: &Instruction) -> Option<Option<Instruction>
     ensures same { IfSome result (λ again. again ≡ Some instruction.now) }
     ensures no_word { IfNone result ((w : ℕ) → ¬ IsInstruction w instruction.now) }
 {
-    let word = instruction.encode()?;
+    let word = encode(instruction)?;
     Some(decode(word))
 }
 
@@ -27,5 +28,5 @@ pub fn encode_of_decode(word: u32) -> Option<Option<u32>>
     ensures outside { IfNone result (IsIllegal word) }
 {
     let instruction = decode(word)?;
-    Some(instruction.encode())
+    Some(encode(&instruction))
 }

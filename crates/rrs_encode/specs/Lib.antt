@@ -1,0 +1,2 @@
+-- Operands in the place of those of an instruction.
+pub mod Operands
