@@ -1,6 +1,7 @@
 -- Bytes that are taken to a log, one after another, and bytes of a known input that are given.
-use Rattle.std.proofs.Common.{◌≡◌, ℕ, zero, suc, ◌+◌, ◌-◌, ◌^◌, ◌<◌, Bool, true, List, [], ◌∷◌, ◌++◌, length, take, drop, slice_index, Option, Some, refl, sym, subst, ap, ◌∙◌, append_assoc, arith}
+use Rattle.std.proofs.Common.{◌≡◌, ℕ, zero, suc, ◌+◌, ◌-◌, ◌^◌, ◌<◌, Bool, true, List, [], ◌∷◌, ◌++◌, length, take, drop, slice_index, Option, Some, refl, sym, subst, ap, ◌∙◌, append_assoc, arith, Vec, vec_capacity}
 use Rattle.std.proofs.lemmas.List.{length-append, length-drop, length-take-le, take_all, take_more, take-append-drop}
+use Rattle.std.specs.declared.alloc.Global.{Global}
 use Rattle.rrs_lib.specs.declared.MemAccessSize.{MemAccessSize}
 use Rattle.rrs_lib.specs.declared.MemAccessSize.TheVariants.{Byte}
 use Rattle.rrs_lib.specs.Bytes.{ByteMap, IsLawful, store}
@@ -8,7 +9,7 @@ use Rattle.rrs_lib.specs.AccessLists.{Makes}
 use Rattle.rrs_lib.specs.Loading.{Loaded, byte_writes}
 use Rattle.rrs_served.specs.Serving.{MakesSome}
 use Rattle.rrs_linux.specs.Transfers.{Stands, byte_reads}
-use Rattle.rrs_linux.specs.Recording.{TakingEnds, TakesText, GivingEnds, GivesText}
+use Rattle.rrs_linux.specs.Recording.{TakingEnds, TakesOutput, GivingEnds, GivesText}
 use Rattle.rrs_memory.proofs.LoadLemmas.{Loaded-next, writes-next}
 use Rattle.rrs_linux.proofs.Written.{Stands-append}
 
@@ -30,11 +31,13 @@ pub appended_more : (old mid new text : List ℕ) (byte : ℕ) → mid ≡ old +
 appended_more old mid new text byte so_far more = more ∙ ap (λ l. l ++ byte ∷ []) so_far ∙ append_assoc old text (byte ∷ [])
 
 module _ {M : Type 0} (reads : M → ℕ → MemAccessSize → M → Option ℕ → Type 0) (writes : M → ℕ → MemAccessSize → ℕ → M → Bool → Type 0) where
-  pub takes_text : (bytes : ByteMap) (a count capacity n answer : ℕ) (old new text : List ℕ) (m m' : M) → Stands bytes a text → new ≡ old ++ text → TakingEnds bytes a count (capacity - length old) text n answer
-      → Makes reads writes (byte_reads bytes a n) m m' → MakesSome reads writes (TakesText bytes a count capacity old new answer) m m'
-  takes_text bytes a count capacity n answer old new text m m' stands appended ended made = record {
+  pub takes_text : (bytes : ByteMap) (a count n answer : ℕ) (old new : Vec ℕ Global) (text : List ℕ) (m m' : M)
+      → Stands bytes a text → new.items ≡ old.items ++ text → vec_capacity new ≡ vec_capacity old
+      → TakingEnds bytes a count (vec_capacity old - length old.items) text n answer → Makes reads writes (byte_reads bytes a n) m m'
+      → MakesSome reads writes (TakesOutput bytes a count old new answer) m m'
+  takes_text bytes a count n answer old new text m m' stands appended kept ended made = record {
     accesses = byte_reads bytes a n;
-    these = record { text = text; stands = stands; appended = appended; reads = n; ended = ended; accessed = refl };
+    these = (record { text = text; stands = stands; appended = appended; reads = n; ended = ended; accessed = refl }, kept);
     made = made;
   }
 

@@ -2,17 +2,18 @@
 -- beforehand, and what is written goes to a record, as far as that has room. What a call asks for
 -- is as over any streams (`Asks`), and so are the bytes and the accesses; but nothing here fails by
 -- the host, so each outcome follows from the environment and the machine (read(2), write(2)).
-use Rattle.std.specs.Prelude.{◌≡◌, ℕ, ◌+◌, ◌-◌, ◌^◌, ◌<◌, ◌≤◌, min, Bool, false, List, [], ◌∷◌, ◌++◌, length, Option, Some, None, vec_capacity}
+use denote.Bor.{Bor}
+use Rattle.std.specs.Prelude.{◌≡◌, ℕ, ◌+◌, ◌-◌, ◌^◌, ◌<◌, ◌≤◌, min, Bool, false, List, [], ◌∷◌, ◌++◌, length, Option, None, Vec, vec_capacity}
+use Rattle.std.specs.declared.alloc.Global.{Global}
 use Rattle.rrs_lib.specs.Bytes.{ByteMap}
 use Rattle.rrs_lib.specs.AccessLists.{Access}
 use Rattle.rrs_lib.specs.Loading.{Loaded, byte_writes}
 use Rattle.rrs_lib.specs.Machine.{State}
-use Rattle.rrs_linux.specs.declared.recorder.Recorder.{Recorder}
-use Rattle.rrs_linux.specs.declared.requests.Request.{Request}
-use Rattle.rrs_linux.specs.declared.requests.Request.TheVariants.{Exit, Answer, SetBreak, Read, WriteOutput, WriteErrors}
-use Rattle.rrs_linux.specs.Requests.{Asks, error}
-use Rattle.rrs_linux.specs.SystemCalls.{moved, answered}
-use Rattle.rrs_linux.specs.Transfers.{Stands, byte_reads, counted, most_bytes}
+use Rattle.rrs_linux.specs.declared.Process.{Process}
+use Rattle.rrs_linux.specs.declared.recorder.Known.{Known}
+use Rattle.rrs_linux.specs.Requests.{error}
+use Rattle.rrs_linux.specs.SystemCalls.{ServesBy}
+use Rattle.rrs_linux.specs.Transfers.{Gives, Takes, Stands, byte_reads, counted, most_bytes}
 
 -- ---- write
 
@@ -86,37 +87,21 @@ pub record GivesText (writable : ℕ → Bool) (bytes bytes' : ByteMap) (a count
 
 -- ---- a call
 
--- what is asked for takes the environment and the machine from the first to the second
-abbrev pub Does : Request → Recorder → State → Recorder → State
-    → List Access → Option ℕ → Type 0
-Does (Exit status) old s new t accesses end =
-    (end ≡ Some status) × (new ≡ old) × (t ≡ s) × (accesses ≡ [])
-Does (Answer word) old s new t accesses end =
-    (end ≡ None) × (new ≡ old) × (t ≡ answered s word) × (accesses ≡ [])
-Does (SetBreak address) old s new t accesses end =
-    (end ≡ None) × (new ≡ record old { heap = moved old.heap address })
-    × (t ≡ answered s (moved old.heap address).top) × (accesses ≡ [])
-Does (Read a count) old s new t accesses end =
-    (end ≡ None) × (bytes : ByteMap) × (answer : ℕ)
-    × GivesText s.writable s.bytes bytes a count old.input.now new.input.now answer accesses
-    × (new ≡ record old { input = new.input })
-    × (t ≡ answered (record s { bytes = bytes }) answer)
-Does (WriteOutput a count) old s new t accesses end =
-    (end ≡ None) × (answer : ℕ)
-    × TakesText s.bytes a count (vec_capacity old.output) old.output.items new.output.items
-    answer accesses
-    × (vec_capacity new.output ≡ vec_capacity old.output)
-    × (new ≡ record old { output = new.output }) × (t ≡ answered s answer)
-Does (WriteErrors a count) old s new t accesses end =
-    (end ≡ None) × (answer : ℕ)
-    × TakesText s.bytes a count (vec_capacity old.errors) old.errors.items new.errors.items
-    answer accesses
-    × (vec_capacity new.errors ≡ vec_capacity old.errors)
-    × (new ≡ record old { errors = new.errors }) × (t ≡ answered s answer)
+-- a read of bytes that are known: those that are left
+abbrev pub GivesInput : Gives (Bor (List ℕ)) Known
+GivesInput writable bytes bytes' a count old held new held' answer accesses =
+    GivesText writable bytes bytes' a count old.now new.now answer accesses
 
--- What a call does: it asks for something, and that is done.
-pub record Records (old : Recorder) (s : State) (new : Recorder) (t : State)
-    (accesses : List Access) (end : Option ℕ) : Type 0 where
-  pub request : Request
-  pub asks : Asks s request
-  pub does : Does request old s new t accesses end
+-- a write to a record, whose capacity is the room that it has
+abbrev pub TakesOutput : Takes (Vec ℕ Global)
+TakesOutput bytes a count old new answer accesses =
+    TakesText bytes a count (vec_capacity old) old.items new.items answer accesses
+    × (vec_capacity new ≡ vec_capacity old)
+
+-- an environment over known bytes
+abbrev pub Recording : Type 0
+Recording = Process (Bor (List ℕ)) (Vec ℕ Global) (Vec ℕ Global) Known
+
+-- What a call does over known bytes.
+abbrev pub Records : Recording → State → Recording → State → List Access → Option ℕ → Type 0
+Records = ServesBy GivesInput TakesOutput TakesOutput

@@ -5,13 +5,13 @@ use Rattle.rrs_lib.specs.Bytes.{ByteMap}
 use Rattle.rrs_lib.specs.AccessLists.{Access}
 use Rattle.rrs_lib.specs.Machine.{State, put}
 use Rattle.rrs_linux.specs.declared.Heap.{Heap}
-use Rattle.rrs_linux.specs.declared.Linux.{Linux}
+use Rattle.rrs_linux.specs.declared.Process.{Process}
 use Rattle.rrs_linux.specs.declared.held.Held.{Held}
 use Rattle.rrs_linux.specs.declared.requests.Request.{Request}
 use Rattle.rrs_linux.specs.declared.requests.Request.TheVariants.{Exit, Answer, SetBreak, Read, WriteOutput, WriteErrors}
 use Rattle.rrs_linux.specs.Requests.{Asks}
 use Rattle.rrs_linux.specs.HeldBytes.{held_bytes}
-use Rattle.rrs_linux.specs.Transfers.{WritesText, ReadsText}
+use Rattle.rrs_linux.specs.Transfers.{Gives, Takes, WritesText, ReadsText}
 
 -- the break at an address, if it may lie there, and else as it was (brk(2), as the kernel answers)
 abbrev pub moved : Heap → ℕ → Heap
@@ -23,15 +23,10 @@ moved heap address =
 abbrev pub answered : State → ℕ → State
 answered s answer = put s 10 (pos answer)
 
--- By the bytes that a reader has left, and those that each writer holds, where these are known:
-module _ {R W E : Type 0} (remaining : R → Option (List ℕ))
-    (contents : W → Option (List ℕ)) (errors_of : E → Option (List ℕ)) where
-  -- the input that a program has not got yet
-  abbrev pub left_of : R → Held → Option (List ℕ)
-  left_of input held = prepend_known (held_bytes held) (remaining input)
-
+-- By what the streams do with the bytes of a buffer:
+module _ {R W E K : Type 0} (gives : Gives R K) (takes : Takes W) (takes_errors : Takes E) where
   -- what is asked for takes the environment and the machine from the first to the second
-  abbrev pub Does : Request → Linux R W E → State → Linux R W E → State
+  abbrev pub Does : Request → Process R W E K → State → Process R W E K → State
       → List Access → Option ℕ → Type 0
   Does (Exit status) old s new t accesses end =
       (end ≡ Some status) × (new ≡ old) × (t ≡ s) × (accesses ≡ [])
@@ -41,23 +36,47 @@ module _ {R W E : Type 0} (remaining : R → Option (List ℕ))
       (end ≡ None) × (new ≡ record old { heap = moved old.heap address })
       × (t ≡ answered s (moved old.heap address).top) × (accesses ≡ [])
   Does (Read a count) old s new t accesses end =
-      (end ≡ None) × (input : R) × (held : Held) × (bytes : ByteMap) × (answer : ℕ)
-      × ReadsText s.writable s.bytes bytes a count
-      (left_of old.input old.held) (left_of input held) answer accesses
+      (end ≡ None) × (input : R) × (held : K) × (bytes : ByteMap) × (answer : ℕ)
+      × gives s.writable s.bytes bytes a count old.input old.held input held answer accesses
       × (new ≡ record old { input = input; held = held })
       × (t ≡ answered (record s { bytes = bytes }) answer)
   Does (WriteOutput a count) old s new t accesses end =
       (end ≡ None) × (output : W) × (answer : ℕ)
-      × WritesText s.bytes a count (contents old.output) (contents output) answer accesses
+      × takes s.bytes a count old.output output answer accesses
       × (new ≡ record old { output = output }) × (t ≡ answered s answer)
   Does (WriteErrors a count) old s new t accesses end =
       (end ≡ None) × (errors : E) × (answer : ℕ)
-      × WritesText s.bytes a count (errors_of old.errors) (errors_of errors) answer accesses
+      × takes_errors s.bytes a count old.errors errors answer accesses
       × (new ≡ record old { errors = errors }) × (t ≡ answered s answer)
 
   -- What a call does: it asks for something, and that is done.
-  pub record Serves (old : Linux R W E) (s : State) (new : Linux R W E) (t : State)
+  pub record ServesBy (old : Process R W E K) (s : State) (new : Process R W E K) (t : State)
       (accesses : List Access) (end : Option ℕ) : Type 0 where
     pub request : Request
     pub asks : Asks s request
     pub does : Does request old s new t accesses end
+
+-- ---- streams of the host
+
+-- a write to a writer, by the bytes that it holds, where these are known
+abbrev pub WritesOutput : {W : Type 0} → (W → Option (List ℕ)) → Takes W
+WritesOutput contents bytes a count old new answer accesses =
+    WritesText bytes a count (contents old) (contents new) answer accesses
+
+-- By the bytes that a reader has left, where these are known:
+module _ {R : Type 0} (remaining : R → Option (List ℕ)) where
+  -- the input that a program has not got yet
+  abbrev pub left_of : R → Held → Option (List ℕ)
+  left_of input held = prepend_known (held_bytes held) (remaining input)
+
+  -- a read of a reader, of which some bytes are held
+  abbrev pub ReadsInput : Gives R Held
+  ReadsInput writable bytes bytes' a count old held new held' answer accesses =
+      ReadsText writable bytes bytes' a count (left_of old held) (left_of new held') answer accesses
+
+-- What a call does over a reader and two writers of the host, by what is known of each.
+abbrev pub Serves : {R W E : Type 0} → (R → Option (List ℕ)) → (W → Option (List ℕ))
+    → (E → Option (List ℕ)) → Process R W E Held → State → Process R W E Held → State
+    → List Access → Option ℕ → Type 0
+Serves remaining contents errors_of =
+    ServesBy (ReadsInput remaining) (WritesOutput contents) (WritesOutput errors_of)

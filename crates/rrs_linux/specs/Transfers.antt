@@ -17,6 +17,18 @@ abbrev pub counted : ℕ → ℕ → ℕ
 counted zero e = e
 counted (suc n) e = suc n
 
+-- What a write of a buffer at a does to a stream: by the bytes of memory, from the stream before to
+-- the one after, with this answer and these accesses.
+abbrev pub Takes : Type 0 → Type 1
+Takes W = ByteMap → (a count : ℕ) → W → W → (answer : ℕ) → List Access → Type 0
+
+-- What a read to a buffer at a does: by the addresses that are writable, from the bytes of memory,
+-- the input and what is kept of it before to those after.
+abbrev pub Gives : Type 0 → Type 0 → Type 1
+Gives R K =
+    (ℕ → Bool) → ByteMap → ByteMap → (a count : ℕ) → R → K → R → K → (answer : ℕ) → List Access
+    → Type 0
+
 -- ---- write
 
 -- the text stands from a on

@@ -57,6 +57,22 @@ impl Held {
         self.start += count;
     }
 
+    /// Reads once, so many bytes at most, if none are held. Gives how many are held then, or `None`
+    /// where the read failed.
+    pub(crate) fn hold<R: Read>(&mut self, input: &mut R, most: usize) -> Option<usize>
+        requires { 0 < most }
+        ensures kept { Keeps (prepend_known (held_bytes self.old) (R.remaining input.old))
+            (prepend_known (held_bytes self.new) (R.remaining input.new)) }
+        ensures count { IfSome result (λ count. count ≡ length (held_bytes self.new)) }
+        ensures end { IfSome result (λ count. count ≡ 0 → IsAtEnd (R.remaining input.new)) }
+        ensures failed { IfNone result (held_bytes self.new ≡ []) }
+    {
+        if self.is_empty() {
+            return self.fill(input, most);
+        }
+        Some(self.as_slice().len())
+    }
+
     /// Reads once, so many bytes at most, where there are none, and gives how many were read, or
     /// `None` where the read failed. An interrupted read is made again.
     pub fn fill<R: Read>(&mut self, input: &mut R, most: usize) -> Option<usize>

@@ -1,15 +1,17 @@
 //! System calls of Linux, served for a program: those that a C library makes to print, to read and
 //! to end.
 //!
-//! [Linux] is an [Environment] of `run_served`, over a reader that is the program's standard input,
-//! and two writers that are its standard output and its standard error. What each call does is
-//! written in `specs/SystemCalls.antt`. No call allocates. [Recorder] serves the same calls over
-//! bytes in the host's memory: what its calls do is written in `specs/Recording.antt`.
+//! [Process] is an [Environment] of `run_served`, over three streams that are the program's standard
+//! input, output and error. What each call does is written in `specs/SystemCalls.antt`, by what the
+//! streams do with the bytes of a buffer ([Input], [Output]). No call allocates. The streams of
+//! [Linux] are a reader and two writers of the host (`specs/Transfers.antt`); those of [Recorder]
+//! are bytes in the host's memory (`specs/Recording.antt`).
 
 #![tactic(auto)]
 
+mod buffers;
 mod held;
-mod recorded;
+mod host;
 mod recorder;
 mod requests;
 mod streams;
@@ -17,17 +19,16 @@ mod streams;
 ghost use Rattle.std.specs.Prelude.{◌≡◌, ℕ, Bool, Option, None, slice_index, []};
 ghost use Rattle.rrs_lib.specs.Machine.{state_of};
 ghost use Rattle.rrs_linux.specs.HeldBytes.{held_bytes};
-ghost use Rattle.rrs_linux.specs.SystemCalls.{Serves, moved, answered};
+ghost use Rattle.rrs_linux.specs.SystemCalls.{ServesBy, moved, answered};
 
 use crate::requests::request_of;
-use crate::streams::{read_bytes, write_bytes};
 pub use held::Held;
-pub use recorder::Recorder;
+pub use recorder::{Known, Recorder};
 pub use requests::Request;
 use rrs_lib::instruction_executor::InstructionExecutor;
 use rrs_lib::{HartState, Memory};
 use rrs_served::Environment;
-use std::io::{Read, Write};
+pub use streams::{Input, Output};
 
 /// Where a program's heap lies, and where it ends at present.
 #[derive(Clone, Copy, Debug, PartialEq)]
@@ -64,9 +65,9 @@ impl Heap {
     }
 }
 
-/// The environment of a program that makes system calls of Linux.
+/// The environment of a program that makes system calls of Linux: its standard streams, and its heap.
 #[derive(Drop)]
-pub struct Linux<R, W, E> {
+pub struct Process<R, W, E, K> {
     /// Standard input, descriptor 0.
     pub input: R,
     /// Standard output, descriptor 1.
@@ -75,11 +76,16 @@ pub struct Linux<R, W, E> {
     pub errors: E,
     /// The program's heap.
     pub heap: Heap,
-    /// What was read of standard input and not given to the program yet.
-    pub held: Held,
+    /// What is kept of standard input between two reads: of a [Linux] what was read of it and not
+    /// given to the program yet.
+    pub held: K,
 }
 
-impl<R, W, E> Linux<R, W, E> {
+/// The environment of a program whose standard input is a reader of the host, and whose standard
+/// output and standard error are writers.
+pub type Linux<R, W, E> = Process<R, W, E, Held>;
+
+impl<R, W, E> Process<R, W, E, Held> {
     /// An environment with these streams and this heap, which holds nothing of the input yet.
     pub fn new(input: R, output: W, errors: E, heap: Heap) -> Self
         ensures input { result.input ≡ input }
@@ -88,7 +94,7 @@ impl<R, W, E> Linux<R, W, E> {
         ensures heap { result.heap ≡ heap }
         ensures held { held_bytes result.held ≡ [] }
     {
-        Linux {
+        Process {
             input,
             output,
             errors,
@@ -98,8 +104,8 @@ impl<R, W, E> Linux<R, W, E> {
     }
 }
 
-impl<R: Read, W: Write, E: Write> Environment for Linux<R, W, E> {
-    ghost serves = { Serves R.remaining W.contents E.contents };
+impl<R: Input<K>, W: Output<K>, E: Output<K>, K> Environment for Process<R, W, E, K> {
+    ghost serves = { ServesBy R.gives W.takes E.takes };
 
     /// Serves a system call: the number is in a7, the arguments in a0 to a2, the answer in a0.
     fn serve<M: Memory>(&mut self, executor: &mut InstructionExecutor<M>) -> Option<u32> {
@@ -111,21 +117,15 @@ impl<R: Read, W: Write, E: Write> Environment for Linux<R, W, E> {
                 go_on(executor.hart_state, answer)
             }
             Request::Read(address, count) => {
-                let answer = read_bytes(
-                    &mut self.input,
-                    &mut self.held,
-                    executor.mem,
-                    address,
-                    count,
-                );
+                let answer = self.input.read_to(&mut self.held, executor.mem, address, count);
                 go_on(executor.hart_state, answer)
             }
             Request::WriteOutput(address, count) => {
-                let answer = write_bytes(&mut self.output, executor.mem, address, count);
+                let answer = self.output.write_from(executor.mem, address, count);
                 go_on(executor.hart_state, answer)
             }
             Request::WriteErrors(address, count) => {
-                let answer = write_bytes(&mut self.errors, executor.mem, address, count);
+                let answer = self.errors.write_from(executor.mem, address, count);
                 go_on(executor.hart_state, answer)
             }
         }

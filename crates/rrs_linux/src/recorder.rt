@@ -1,35 +1,32 @@
-//! An environment whose streams are bytes in the host's memory.
+//! Streams that are bytes in the host's memory.
 
 ghost use Rattle.std.specs.Prelude.{◌≡◌, [], IfOk, vec_capacity};
+ghost use Rattle.rrs_linux.specs.Recording.{GivesInput, TakesOutput};
 
-use crate::recorded::{give_bytes, take_bytes};
-use crate::requests::{Request, request_of};
-use crate::{Heap, go_on};
-use rrs_lib::Memory;
-use rrs_lib::instruction_executor::InstructionExecutor;
-use rrs_served::Environment;
+use crate::buffers::{BAD_ADDRESS, answer_of, give_bytes, most_of};
+use crate::streams::{Input, Output};
+use crate::{Heap, Process};
+use rrs_lib::{MemAccessSize, Memory};
 use std::alloc::{AllocError, Global};
+
+/// The answer where a record has no room for a byte: -28, `ENOSPC`.
+const NO_ROOM: u32 = 0xffff_ffe4;
+
+/// Says of streams that they are known bytes. Nothing is kept of the input between two reads.
+#[derive(Drop)]
+pub struct Known;
 
 /// The environment of a program that reads its input from bytes that are given beforehand, and
 /// whose output is recorded.
 ///
 /// It serves the calls of [Linux](crate::Linux), and depends on nothing of the host: no call
 /// allocates or fails, so what each does follows from the environment and the machine. A read gives
-/// as many bytes as there are and were asked for. A write takes all of its bytes, as far as the
-/// record has room.
-#[derive(Drop)]
-pub struct Recorder<'a> {
-    /// The bytes of standard input that the program has not got yet.
-    pub input: &'a [u8],
-    /// What was written to standard output. Its capacity is the room that it has.
-    pub output: Vec<u8>,
-    /// What was written to standard error. Its capacity is the room that it has.
-    pub errors: Vec<u8>,
-    /// The program's heap.
-    pub heap: Heap,
-}
+/// as many bytes as there are and were asked for: `input` is what the program has not got yet. A
+/// write takes all of its bytes, as far as the record has room: `output` and `errors` are what was
+/// written, and their capacity is the room that they have.
+pub type Recorder<'a> = Process<&'a [u8], Vec<u8>, Vec<u8>, Known>;
 
-impl<'a> Recorder<'a> {
+impl<'a> Process<&'a [u8], Vec<u8>, Vec<u8>, Known> {
     /// An environment with this input, with room for so many bytes of the output and of the errors
     /// each, and with this heap. Nothing is written yet.
     ///
@@ -49,42 +46,51 @@ impl<'a> Recorder<'a> {
             (vec_capacity made.output ≡ room) × (vec_capacity made.errors ≡ room)) }
         ensures heap { IfOk result (λ made. made.heap ≡ heap) }
     {
-        Ok(Recorder {
+        Ok(Process {
             input,
             output: Vec::with_capacity(alloc, room)?,
             errors: Vec::with_capacity(alloc, room)?,
             heap,
+            held: Known,
         })
     }
 }
 
-impl Environment for Recorder<'_> {
-    ghost use Rattle.rrs_linux.specs.Recording.{Records};
+impl Input<Known> for &[u8] {
+    ghost gives = { GivesInput };
 
-    ghost serves = { Records };
+    /// Gives as many bytes as there are and were asked for.
+    fn read_to<M: Memory>(
+        &mut self,
+        _held: &mut Known,
+        memory: &mut M,
+        address: u32,
+        count: u32,
+    ) -> u32 {
+        let input = *self;
+        let (given, answer) = give_bytes(input, memory, address, count);
+        *self = &input[given..];
+        answer
+    }
+}
 
-    /// Serves a system call: the number is in a7, the arguments in a0 to a2, the answer in a0.
-    fn serve<M: Memory>(&mut self, executor: &mut InstructionExecutor<M>) -> Option<u32> {
-        match request_of(executor.hart_state) {
-            Request::Exit(status) => Some(status),
-            Request::Answer(answer) => go_on(executor.hart_state, answer),
-            Request::SetBreak(address) => {
-                let answer = self.heap.set_break(address);
-                go_on(executor.hart_state, answer)
+impl Output<Known> for Vec<u8> {
+    ghost takes = { TakesOutput };
+
+    /// Takes the bytes of a buffer one by one, as far as there is room.
+    fn write_from<M: Memory>(&mut self, memory: &mut M, address: u32, count: u32) -> u32 {
+        let Some(count) = most_of(address, count) else {
+            return BAD_ADDRESS;
+        };
+        for done in 0..count {
+            if self.len() >= self.capacity() {
+                return answer_of(done, NO_ROOM);
             }
-            Request::Read(address, count) => {
-                let (given, answer) = give_bytes(self.input, executor.mem, address, count);
-                self.input = &self.input[given..];
-                go_on(executor.hart_state, answer)
-            }
-            Request::WriteOutput(address, count) => {
-                let answer = take_bytes(&mut self.output, executor.mem, address, count);
-                go_on(executor.hart_state, answer)
-            }
-            Request::WriteErrors(address, count) => {
-                let answer = take_bytes(&mut self.errors, executor.mem, address, count);
-                go_on(executor.hart_state, answer)
+            match memory.read_mem(address + done, MemAccessSize::Byte) {
+                Some(byte) => self.push_reserved(byte as u8),
+                None => return answer_of(done, BAD_ADDRESS),
             }
         }
+        count
     }
 }

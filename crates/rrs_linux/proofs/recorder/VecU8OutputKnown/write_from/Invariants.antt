@@ -1,7 +1,7 @@
 use Rattle.std.proofs.Common.{◌≡◌, ℕ, List, ◌++◌, length, vec_capacity}
 use Rattle.rrs_lib.specs.AccessLists.{Makes}
 use Rattle.rrs_linux.specs.Transfers.{Stands, byte_reads}
-use Rattle.rrs_linux.proofs.recorded.take_bytes.Given as goal
+use Rattle.rrs_linux.proofs.recorder.VecU8OutputKnown.write_from.Given as goal
 
 -- what was read so far is taken
 abbrev pub invariant-loop-done : goal.invariant-loop-done
@@ -11,8 +11,8 @@ invariant-loop-done g l =
       text : List ℕ;
       so_far : length text ≡ l.done;
       stands : Stands (memory.bytes l.fn.memory) l.address text;
-      appended : l.log.items ≡ l.fn.log.items ++ text;
-      room_kept : vec_capacity l.log ≡ vec_capacity l.fn.log;
+      appended : l.self.items ≡ l.fn.self.items ++ text;
+      room_kept : vec_capacity l.self ≡ vec_capacity l.fn.self;
       made : Makes memory.reads memory.writes (byte_reads (memory.bytes l.fn.memory) l.address l.done) l.fn.memory l.memory;
       bytes_kept : memory.bytes l.memory ≡ memory.bytes l.fn.memory;
       writable_kept : memory.writable l.memory ≡ memory.writable l.fn.memory;

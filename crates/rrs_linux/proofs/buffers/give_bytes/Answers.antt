@@ -7,7 +7,7 @@ use Rattle.rrs_linux.specs.Transfers.{counted}
 use Rattle.rrs_linux.specs.Recording.{IsWhole, IsRefused, PassesEnd}
 use Rattle.rrs_linux.proofs.Placed.{none_loaded}
 use Rattle.rrs_linux.proofs.KnownStreams.{gives_text, written_next, given_next, left_after}
-use Rattle.rrs_linux.proofs.recorded.give_bytes.Goals as goal
+use Rattle.rrs_linux.proofs.buffers.give_bytes.Goals as goal
 
 pub returns-in_default-clause-given : goal.returns-in_default-clause-given
 returns-in_default-clause-given g c =

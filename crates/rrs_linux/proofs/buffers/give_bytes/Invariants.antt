@@ -1,7 +1,7 @@
 use Rattle.std.proofs.Common.{◌≡◌, take}
 use Rattle.rrs_lib.specs.AccessLists.{Makes}
 use Rattle.rrs_lib.specs.Loading.{Loaded, byte_writes}
-use Rattle.rrs_linux.proofs.recorded.give_bytes.Given as goal
+use Rattle.rrs_linux.proofs.buffers.give_bytes.Given as goal
 
 -- what was given so far stands in the buffer
 abbrev pub invariant-loop-done : goal.invariant-loop-done

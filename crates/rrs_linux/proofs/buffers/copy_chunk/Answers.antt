@@ -1,6 +1,6 @@
 use Rattle.std.proofs.Common.{◌≡◌, ◌+◌, min, sym, ◌∙◌, arith}
 use Rattle.rrs_linux.proofs.Written.{byte_read, chunk_more, reads_more}
-use Rattle.rrs_linux.proofs.streams.copy_chunk.Goals as goal
+use Rattle.rrs_linux.proofs.buffers.copy_chunk.Goals as goal
 
 pub loop-index-preserved : goal.loop-index-preserved
 loop-index-preserved g c =

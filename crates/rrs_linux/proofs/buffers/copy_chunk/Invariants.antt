@@ -1,7 +1,7 @@
 use Rattle.std.proofs.Common.{◌≡◌, ℕ, ◌+◌, ◌<◌, get_or, Some}
 use Rattle.rrs_lib.specs.AccessLists.{Makes}
 use Rattle.rrs_linux.specs.Transfers.{byte_reads}
-use Rattle.rrs_linux.proofs.streams.copy_chunk.Given as goal
+use Rattle.rrs_linux.proofs.buffers.copy_chunk.Given as goal
 
 -- what was read so far stands in the chunk
 abbrev pub invariant-loop-index : goal.invariant-loop-index

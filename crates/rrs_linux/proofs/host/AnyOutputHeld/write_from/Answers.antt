@@ -2,24 +2,24 @@ use Rattle.std.proofs.Common.{◌≡◌, ◌+◌, ◌<◌, ◌≤◌, min, ◌++
 use Rattle.rrs_linux.specs.Requests.{error}
 use Rattle.rrs_linux.specs.Transfers.{counted, most_bytes, Whole, IsUnmapped, IsShort, PassesEnd}
 use Rattle.rrs_linux.proofs.Written.{none_written, chunk_written, chunk_length, copied_all, writes_text}
-use Rattle.rrs_linux.proofs.streams.write_bytes.Goals as goal
+use Rattle.rrs_linux.proofs.host.AnyOutputHeld.write_from.Goals as goal
 
-pub returns-in_default-clause-written : goal.returns-in_default-clause-written
-returns-in_default-clause-written g c =
+pub returns-in_default-clause-taken : goal.returns-in_default-clause-taken
+returns-in_default-clause-taken g c =
     let memory = g.M.Memory in
     writes_text memory.reads memory.writes (memory.bytes c.args.memory.now) c.args.address _ _ [] c.args.count 0 _ c.args.memory.now c.args.memory.now
-    (none_written memory.reads memory.writes (memory.bytes c.args.memory.now) c.args.address (g.W.Write.contents c.args.out.now) c.args.memory.now)
+    (none_written memory.reads memory.writes (memory.bytes c.args.memory.now) c.args.address (g.W.Write.contents c.args.self.now) c.args.memory.now)
     (PassesEnd (rw c.in_default.is at c.most_of.ensures) refl refl refl)
 
-pub returns-then-taken-copied-clause-written : goal.returns-then-taken-copied-clause-written
-returns-then-taken-copied-clause-written g c =
+pub returns-then-taken-copied-clause-taken : goal.returns-then-taken-copied-clause-taken
+returns-then-taken-copied-clause-taken g c =
     let memory = g.M.Memory in
     let contents = g.W.Write.contents in
     let so_far = c.chunks.invariant in
     let chunk = c.copy_chunk-copied in
     let taken = c.write_once-taken in
     let reading = min c.min-wanted.result (chunk.result + 1) in
-    let written = chunk_written memory.reads memory.writes (memory.bytes c.args.memory.now) c.args.address (contents c.args.out.now) (contents c.chunks.out) (contents taken.new.out) so_far.text chunk.new.chunk c.chunks.done chunk.result reading taken.result (memory.bytes c.chunks.memory) c.args.memory.now c.chunks.memory chunk.new.memory
+    let written = chunk_written memory.reads memory.writes (memory.bytes c.args.memory.now) c.args.address (contents c.args.self.now) (contents c.chunks.self) (contents taken.new.out) so_far.text chunk.new.chunk c.chunks.done chunk.result reading taken.result (memory.bytes c.chunks.memory) c.args.memory.now c.chunks.memory chunk.new.memory
     so_far.written so_far.so_far so_far.bytes_kept taken.ensures.within chunk.ensures.stands taken.ensures.appended chunk.ensures.read in
     let long = chunk_length so_far.text chunk.new.chunk c.chunks.done chunk.result taken.result so_far.so_far taken.ensures.within in
     let text = so_far.text ++ take taken.result (take chunk.result chunk.new.chunk) in
@@ -28,15 +28,15 @@ returns-then-taken-copied-clause-written g c =
     writes_text memory.reads memory.writes (memory.bytes c.args.memory.now) c.args.address _ _ text c.args.count (c.chunks.done + reading) _ c.args.memory.now chunk.new.memory written
     (IsShort c.in-Some.ensures.0 fewer within (c.answer_of.ensures ∙ ap (λ k. counted k (error 5)) (sym long)))
 
-pub returns-then-copied-wanted-clause-written : goal.returns-then-copied-wanted-clause-written
-returns-then-copied-wanted-clause-written g c =
+pub returns-then-copied-wanted-clause-taken : goal.returns-then-copied-wanted-clause-taken
+returns-then-copied-wanted-clause-taken g c =
     let memory = g.M.Memory in
     let contents = g.W.Write.contents in
     let so_far = c.chunks.invariant in
     let chunk = c.copy_chunk-copied in
     let taken = c.write_once-taken in
     let reading = min c.min-wanted.result (chunk.result + 1) in
-    let written = chunk_written memory.reads memory.writes (memory.bytes c.args.memory.now) c.args.address (contents c.args.out.now) (contents c.chunks.out) (contents taken.new.out) so_far.text chunk.new.chunk c.chunks.done chunk.result reading taken.result (memory.bytes c.chunks.memory) c.args.memory.now c.chunks.memory chunk.new.memory
+    let written = chunk_written memory.reads memory.writes (memory.bytes c.args.memory.now) c.args.address (contents c.args.self.now) (contents c.chunks.self) (contents taken.new.out) so_far.text chunk.new.chunk c.chunks.done chunk.result reading taken.result (memory.bytes c.chunks.memory) c.args.memory.now c.chunks.memory chunk.new.memory
     so_far.written so_far.so_far so_far.bytes_kept taken.ensures.within chunk.ensures.stands taken.ensures.appended chunk.ensures.read in
     let long = chunk_length so_far.text chunk.new.chunk c.chunks.done chunk.result taken.result so_far.so_far taken.ensures.within in
     let text = so_far.text ++ take taken.result (take chunk.result chunk.new.chunk) in
@@ -56,7 +56,7 @@ chunks-preserved g c =
     let chunk = c.copy_chunk-copied in
     let taken = c.write_once-taken in
     let reading = min c.min-wanted.result (chunk.result + 1) in
-    let written = chunk_written memory.reads memory.writes (memory.bytes c.args.memory.now) c.args.address (contents c.args.out.now) (contents c.chunks.out) (contents taken.new.out) so_far.text chunk.new.chunk c.chunks.done chunk.result reading taken.result (memory.bytes c.chunks.memory) c.args.memory.now c.chunks.memory chunk.new.memory
+    let written = chunk_written memory.reads memory.writes (memory.bytes c.args.memory.now) c.args.address (contents c.args.self.now) (contents c.chunks.self) (contents taken.new.out) so_far.text chunk.new.chunk c.chunks.done chunk.result reading taken.result (memory.bytes c.chunks.memory) c.args.memory.now c.chunks.memory chunk.new.memory
     so_far.written so_far.so_far so_far.bytes_kept taken.ensures.within chunk.ensures.stands taken.ensures.appended chunk.ensures.read in
     let all = copied_all chunk.result chunk.new.chunk taken.result taken.ensures.within c.if-taken-copied.false in
     let read : reading ≡ taken.result = omega (arith, all, chunk.ensures.within, c.if-copied-wanted.false) in
@@ -70,8 +70,8 @@ chunks-preserved g c =
       layout_kept = chunk.ensures.layout_kept ∙ so_far.layout_kept;
     }
 
-pub returns-clause-written : goal.returns-clause-written
-returns-clause-written g c =
+pub returns-clause-taken : goal.returns-clause-taken
+returns-clause-taken g c =
     let memory = g.M.Memory in
     let so_far = c.chunks.invariant in
     let whole : length so_far.text ≡ min c.args.count most_bytes = omega (arith, so_far.so_far, so_far.within, c.chunks-test.false, c.in-Some.ensures.1) in
