@@ -1,4 +1,4 @@
 pub mod Calls
 pub mod EchoRun
-pub mod Registers
+pub mod Runs
 pub mod WriteAndExit

@@ -1,41 +1,33 @@
 -- The run that the call made is the one that the program makes.
-use Rattle.std.proofs.Common.{ap, arith}
+use Rattle.std.proofs.Common.{◌≡◌, ◌++◌, ap, arith}
 use Rattle.std.proofs.lemmas.List.{length-drop}
 use Rattle.rrs_lib.specs.Executor.{state_in}
-use Rattle.rrs_linux.specs.Recording.{Records}
-use Rattle.rrs_linux_programs.proofs.Calls.{WroteAll, wrote_all, exited}
-use Rattle.rrs_linux_programs.proofs.WriteAndExit.{WritesAndExits, writes_and_exits}
-use Rattle.rrs_linux_programs.proofs.writing.write_and_exit.Given
+use Rattle.rrs_linux.specs.Recording.{GivesInput, TakesOutput}
+use Rattle.rrs_linux_programs.proofs.Calls.{took_all}
+use Rattle.rrs_linux_programs.proofs.WriteAndExit.{writes_and_exits}
 use Rattle.rrs_linux_programs.proofs.writing.write_and_exit.Goals as goal
 
-known : (g : Given.Over) (c : goal.After-run_served g)
-    → WritesAndExits (WroteAll c.args.text.now c.args.environment.now) (state_in g.M.Memory.bytes g.M.Memory.writable c.args.executor.now) c.run_served.new.environment (state_in g.M.Memory.bytes g.M.Memory.writable c.run_served.new.executor) c.run_served.result.steps c.run_served.result.ending
-known g c =
-    let words = c.arguments_of_call.ensures.words (g.M.Memory.bytes c.args.executor.now.mem.now) (g.M.Memory.writable c.args.executor.now.mem.now) in
+pub returns : goal.returns
+returns g c =
+    let s = state_in g.M.Memory.bytes g.M.Memory.writable c.args.executor.now in
+    let t = state_in g.M.Memory.bytes g.M.Memory.writable c.run_served.new.executor in
+    let words = c.arguments_of_call.ensures.words s.bytes s.writable in
     let ends = c.run_served.ensures.ends (omega (arith, c.requires.enough)) c.requires.starts.aligned in
     let old = c.args.environment.now in
     let text = c.args.text.now in
-    writes_and_exits Records exited text old _ (WroteAll text old)
-    (λ a new s t accesses end call fd address count stands fits records. wrote_all text a old new s t accesses end call fd address count stands c.requires.starts.at_once fits c.requires.room records)
-    _ _ _ _ _ _ (omega (arith, length-drop 1 c.args.executor.now.hart_state.now.registers, c.arguments_of_call.ensures.count)) c.requires.starts words.0 words.1 words.2 ends c.requires.enough c.run_served.ensures.served.these
-
-pub returns-clause-steps : goal.returns-clause-steps
-returns-clause-steps g c = (known g c).counted
-
-pub returns-clause-ending : goal.returns-clause-ending
-returns-clause-ending g c = (known g c).ends
-
-pub returns-clause-output : goal.returns-clause-output
-returns-clause-output g c = (known g c).left.output
-
-pub returns-clause-input_kept : goal.returns-clause-input_kept
-returns-clause-input_kept g c = ap (λ r. r.input) (known g c).left.others
-
-pub returns-clause-errors_kept : goal.returns-clause-errors_kept
-returns-clause-errors_kept g c = ap (λ r. r.errors) (known g c).left.others
-
-pub returns-clause-heap_kept : goal.returns-clause-heap_kept
-returns-clause-heap_kept g c = ap (λ r. r.heap) (known g c).left.others
-
-pub returns-clause-bytes_kept : goal.returns-clause-bytes_kept
-returns-clause-bytes_kept g c = (known g c).bytes_kept
+    let run = writes_and_exits GivesInput TakesOutput TakesOutput text old (λ o. o.items ≡ old.output.items ++ text)
+    (λ bytes a count answer o accesses known stands fits takes. (took_all bytes a count text old.output o answer accesses known stands c.requires.starts.at_once fits c.requires.room takes).0)
+    c.run_served.new.environment t c.run_served.result.ending c.args.limit s c.run_served.result.steps _ c.requires.enough
+    (omega (arith, length-drop 1 c.args.executor.now.hart_state.now.registers, c.arguments_of_call.ensures.count))
+    c.requires.starts words.0 words.1 words.2 ends c.run_served.ensures.served.these in
+    record {
+      served = c.run_served.ensures.served;
+      steps = run.counted;
+      ending = run.ends;
+      output = run.left.0;
+      input_kept = ap (λ e. e.input) run.left.1;
+      errors_kept = ap (λ e. e.errors) run.left.1;
+      heap_kept = ap (λ e. e.heap) run.left.1;
+      bytes_kept = run.bytes_kept;
+      rest = c.run_served.ensures.rest;
+    }
