@@ -12,7 +12,8 @@ use Rattle.rrs_lib.specs.VecBytes.{bytes_of_words, lies_in_words}
 use Rattle.rrs_lib.specs.Loading.{Loads}
 use Rattle.rrs_served.specs.declared.Ending.{Ending}
 use Rattle.rrs_served.specs.Serving.{Served}
-use Rattle.rrs_linux.specs.declared.Linux.{Linux}
+use Rattle.rrs_linux.specs.declared.Process.{Process}
+use Rattle.rrs_linux.specs.declared.held.Held.{Held}
 use Rattle.rrs_linux.specs.SystemCalls.{Serves}
 
 -- the words of a new memory, which is 1 MiB
@@ -36,7 +37,7 @@ start_of bytes = record {
 -- gave to the program.
 pub record ExecutesProgram {R W E : Type 0} (remaining : R → Option (List ℕ))
     (contents : W → Option (List ℕ)) (errors_of : E → Option (List ℕ)) (limit : ℕ)
-    (input rest : Option (List ℕ)) (old new : Linux R W E) (ending : Ending) : Type 0 where
+    (input rest : Option (List ℕ)) (old new : Process R W E Held) (ending : Ending) : Type 0 where
   pub bytes : ByteMap
   pub loaded :
       Loads input rest (bytes_of_words zero_words) bytes (lies_in_words zero_words) 0 (Ok tt)
