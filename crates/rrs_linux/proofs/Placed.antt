@@ -13,7 +13,8 @@ use Rattle.rrs_linux.specs.Recording.{GivesText, GivingEnds}
 use Rattle.rrs_linux.specs.Transfers.{ReadEnds, IsGiven, IsRefused, PassesEnd, ReadsText, IsNext}
 
 -- a range whose first elements are left out
-pub range_skipped : (xs : List ℕ) (s e n : ℕ) → n ≤ length (slice_range xs s e) → slice_range xs (s + n) e ≡ drop n (slice_range xs s e)
+pub range_skipped : (xs : List ℕ) (s e n : ℕ) → n ≤ length (slice_range xs s e)
+    → slice_range xs (s + n) e ≡ drop n (slice_range xs s e)
 range_skipped xs s e n within =
     let long : length (slice_range xs s e) ≡ min (e - s) (length (drop s xs)) = length-take (e - s) (drop s xs) in
     let m = e - (s + n) in
@@ -25,7 +26,8 @@ no_length [] e = refl
 no_length (x ∷ xs) e = absurd (omega (arith, e))
 
 -- what is held before the rest loses its first bytes
-pub held_given : (before after text : List ℕ) (left : Option (List ℕ)) → before ≡ text ++ after → Consumes (prepend_known before left) (prepend_known after left) text
+pub held_given : (before after text : List ℕ) (left : Option (List ℕ)) → before ≡ text ++ after
+    → Consumes (prepend_known before left) (prepend_known after left) text
 held_given before after text None is = tt
 held_given before after text (Some rest) is = ap (λ l. l ++ rest) is ∙ append_assoc text after rest
 
@@ -51,9 +53,11 @@ next_of byte text rest more (Some xs) same =
     let P : List ℕ → Type 0 = λ l. IsNext byte (Some (l ++ xs)) in
     subst P (sym (append_cancel_left text rest (byte ∷ more) same)) refl
 
-module _ (writable : ℕ → Bool) (a count : ℕ) (held rest text : List ℕ) (left : Option (List ℕ)) (accesses : List Access) (answer : ℕ) where
+module _ (writable : ℕ → Bool) (a count : ℕ) (held rest text : List ℕ) (left : Option (List ℕ))
+    (accesses : List Access) (answer : ℕ) where
   -- what is given of bytes that are held is given of these and of what comes behind them
-  ends_before : 0 < count → 0 < length held → held ≡ text ++ rest → GivingEnds writable a count held text accesses answer
+  ends_before : 0 < count → 0 < length held → held ≡ text ++ rest
+      → GivingEnds writable a count held text accesses answer
       → ReadEnds writable a count text (prepend_known rest left) accesses answer
   ends_before asked some parts (Recording.IsWhole fits long made answers) =
       IsGiven fits (omega (arith, long)) (omega (arith, long)) made answers
@@ -86,7 +90,8 @@ module _ {M : Type 0} {reads : M → ℕ → MemAccessSize → M → Option ℕ 
       → MakesSome reads writes (ReadsText writable bytes bytes' a count left (prepend_known after rest) answer) m m'
   placed rest given held after n asked some kept same behind made =
       let of = made.these in
-      let parts : held ≡ of.text ++ after = sym same ∙ of.consumed ∙ ap (λ l. of.text ++ l) (ap (drop n) same ∙ sym behind) in
+      let parts : held ≡ of.text ++ after = sym same ∙ of.consumed ∙ ap (λ l. of.text ++ l)
+      (ap (drop n) same ∙ sym behind) in
       let all = prepend_known held rest in
       let ends = subst (λ l. GivingEnds writable a count l of.text made.accesses answer) same of.ended in
       record {

@@ -2,7 +2,7 @@
 use Rattle.std.proofs.Common.{◌≡◌, ◌⊎◌, ℕ, ◌+◌, ◌-◌, ◌%◌, ◌^◌, ◌<◌, ◌≤◌, min, List, ◌++◌, length, take, Option, Some, None, IsTrue, Bool, true, false, inl, inr, refl, sym, ap, subst, ◌∙◌, arith, ext_get_or, Vec, vec_capacity}
 use Rattle.std.specs.declared.alloc.Global.{Global}
 use Rattle.std.proofs.lemmas.Option.{none-some, same_Some}
-use Rattle.std.proofs.lemmas.List.{length-take-le, get_or-take}
+use Rattle.std.proofs.lemmas.List.{length-take-le}
 use Rattle.std.specs.Io.KnownBytes.{Appends}
 use Rattle.rrs_lib.specs.Bytes.{ByteMap}
 use Rattle.rrs_lib.specs.AccessLists.{Access}
@@ -17,6 +17,7 @@ use Rattle.rrs_linux.specs.Transfers
 use Rattle.rrs_linux.specs.Transfers.{Gives, Takes, Stands, WriteEnds, most_bytes}
 use Rattle.rrs_linux.specs.Recording.{TakingEnds, TakesOutput, GivingEnds, GivesText}
 use Rattle.rrs_linux.specs.Recording
+use Rattle.rrs_linux.proofs.Written.{Stands-take}
 
 -- ---- what is asked for
 
@@ -27,15 +28,17 @@ record Asked (call a0 a1 a2 : ℕ) (request : Request) : Type 0 where
   write : call ≡ 64 → a0 ≡ 1 → request ≡ WriteOutput a1 a2
 
 -- none of them is asked for
-none_of : {call a0 a1 a2 : ℕ} {request : Request} → (call ≡ 93 → ⊥) → (call ≡ 63 → a0 ≡ 0 → ⊥) → (call ≡ 64 → a0 ≡ 1 → ⊥)
-    → Asked call a0 a1 a2 request
+none_of : {call a0 a1 a2 : ℕ} {request : Request} → (call ≡ 93 → ⊥) → (call ≡ 63 → a0 ≡ 0 → ⊥)
+    → (call ≡ 64 → a0 ≡ 1 → ⊥) → Asked call a0 a1 a2 request
 none_of no_exit no_read no_write =
     record { exit = λ e. absurd (no_exit e); read = λ e f. absurd (no_read e f); write = λ e f. absurd (no_write e f) }
 
 asked : {call a0 a1 a2 : ℕ} {request : Request} → AsksBy call a0 a1 a2 request → Asked call a0 a1 a2 request
-asked (ToExit (inl c) is) = record { exit = λ e. is; read = λ e f. absurd (omega arith); write = λ e f. absurd (omega arith) }
+asked (ToExit (inl c) is) =
+    record { exit = λ e. is; read = λ e f. absurd (omega arith); write = λ e f. absurd (omega arith) }
 asked (ToExit (inr c) is) = none_of (λ e. omega arith) (λ e f. omega arith) (λ e f. omega arith)
-asked (ToRead c d is) = record { exit = λ e. absurd (omega arith); read = λ e f. is; write = λ e f. absurd (omega arith) }
+asked (ToRead c d is) =
+    record { exit = λ e. absurd (omega arith); read = λ e f. is; write = λ e f. absurd (omega arith) }
 asked (ToWriteOutput c d is) =
     record { exit = λ e. absurd (omega arith); read = λ e f. absurd (omega arith); write = λ e f. is }
 asked (ToWriteErrors c d is) = none_of (λ e. omega arith) (λ e f. omega arith) (λ e f. omega arith)
@@ -72,13 +75,15 @@ module _ {R W E K : Type 0} (gives : Gives R K) (takes : Takes W) (old : Process
     pub goes_on : end ≡ None
     pub bytes : ByteMap
     pub answer : ℕ
-    pub given : gives s.writable s.bytes bytes (reg s 11) (reg s 12) old.input old.held new.input new.held answer accesses
+    pub given : gives s.writable s.bytes bytes (reg s 11)
+        (reg s 12) old.input old.held new.input new.held answer accesses
     pub others : new ≡ record old { input = new.input; held = new.held }
     pub after : t ≡ answered (record s { bytes = bytes }) answer
 
   module _ (takes_errors : Takes E) (serves : ServesBy gives takes takes_errors old s new t accesses end) where
     -- it is done, if it is what was asked for
-    done : (request : Request) → serves.request ≡ request → Does gives takes takes_errors request old s new t accesses end
+    done : (request : Request) → serves.request ≡ request
+        → Does gives takes takes_errors request old s new t accesses end
     done request is = subst (λ r. Does gives takes takes_errors r old s new t accesses end) is serves.does
 
     pub exited : reg s 17 ≡ 93 → Exited
@@ -122,7 +127,8 @@ same_text : (bytes : ByteMap) (a : ℕ) (text text' : List ℕ) → length text 
 same_text bytes a text text' long stands stands' =
     ext_get_or 0 text text' long (λ i less. same_Some _ _ (sym (stands i less) ∙ stands' i (omega (arith, less, long))))
 
-module _ (bytes : ByteMap) (a count : ℕ) (text text' : List ℕ) (known : count ≡ length text) (stands : Stands bytes a text)
+module _ (bytes : ByteMap) (a count : ℕ) (text text' : List ℕ) (known : count ≡ length text)
+    (stands : Stands bytes a text)
     (stands' : Stands bytes a text') where
   -- a text for which a record has room is taken whole
   taken_from : (room reads answer : ℕ) → length text ≤ most_bytes → a + length text ≤ 2 ^ 32 → length text ≤ room
@@ -142,14 +148,15 @@ module _ (bytes : ByteMap) (a count : ℕ) (text text' : List ℕ) (known : coun
   no_longer reads answer (Transfers.IsShort fits short read answers) = omega arith
   no_longer reads answer (Transfers.PassesEnd past none are answers) = omega (arith, ap length none)
 
-pub took_all : (bytes : ByteMap) (a count : ℕ) (text : List ℕ) (old new : Vec ℕ Global) (answer : ℕ) (accesses : List Access)
+pub took_all : (bytes : ByteMap) (a count : ℕ) (text : List ℕ) (old new : Vec ℕ Global) (answer : ℕ)
+    (accesses : List Access)
     → count ≡ length text → Stands bytes a text → length text ≤ most_bytes → a + length text ≤ 2 ^ 32
     → length old.items + length text ≤ vec_capacity old → TakesOutput bytes a count old new answer accesses
     → (new.items ≡ old.items ++ text) × (answer ≡ length text)
 took_all bytes a count text old new answer accesses known stands at_once fits room takes =
     let of = takes.0 in
-    let all = taken_from bytes a count text of.text known stands of.stands (vec_capacity old - length old.items) of.reads answer
-    at_once fits (omega (arith, room)) of.ended in
+    let all = taken_from bytes a count text of.text known stands of.stands
+    (vec_capacity old - length old.items) of.reads answer at_once fits (omega (arith, room)) of.ended in
     (of.appended ∙ ap (λ l. old.items ++ l) all.0, all.1)
 
 -- a beginning of the text was written
@@ -158,19 +165,16 @@ pub record WroteSome {W : Type 0} (contents : W → Option (List ℕ)) (text : L
   pub within : count ≤ length text
   pub appended : Appends (contents old) (contents new) (take count text)
 
-Stands-take : (bytes : ByteMap) (a n : ℕ) (text : List ℕ) → n ≤ length text → Stands bytes a text → Stands bytes a (take n text)
-Stands-take bytes a n text short stands = λ i less.
-    let long : length (take n text) ≡ n = length-take-le n text short in
-    stands i (omega arith) ∙ ap Some (sym (get_or-take n text i 0 (omega arith)))
-
-pub took_some : {W : Type 0} (contents : W → Option (List ℕ)) (bytes : ByteMap) (a count : ℕ) (text : List ℕ) (old new : W)
+pub took_some : {W : Type 0} (contents : W → Option (List ℕ)) (bytes : ByteMap) (a count : ℕ) (text : List ℕ)
+    (old new : W)
     (answer : ℕ) (accesses : List Access) → count ≡ length text → Stands bytes a text
     → WritesOutput contents bytes a count old new answer accesses → WroteSome contents text old new
 took_some contents bytes a count text old new answer accesses known stands writes =
     let n = length writes.text in
     let short = no_longer bytes a count text writes.text known stands writes.stands writes.reads answer writes.ended in
     let long = sym (length-take-le n text short) in
-    let same = same_text bytes a writes.text (take n text) long writes.stands (Stands-take bytes a n text short stands) in
+    let same = same_text bytes a writes.text (take n text) long writes.stands
+    (Stands-take bytes a n text short stands) in
     record { count = n; within = short; appended = subst (Appends (contents old) (contents new)) same writes.appended }
 
 -- ---- bytes of the input that are given to a buffer that is writable
@@ -183,7 +187,10 @@ closed false yes_is no_is = cc
 pub given_all : (writable : ℕ → Bool) (a count answer : ℕ) (left text : List ℕ) (accesses : List Access)
     → IsWritable writable a count → a + count ≤ 2 ^ 32 → GivingEnds writable a count left text accesses answer
     → (length text ≡ min (min count most_bytes) (length left)) × (answer ≡ length text)
-given_all writable a count answer left text accesses open_there fits (Recording.IsWhole fits' long are answers) = (long, answers)
-given_all writable a count answer left text accesses open_there fits (Recording.IsRefused byte rest fits' short is refused are answers) =
+given_all writable a count answer left text accesses open_there fits (Recording.IsWhole fits' long are answers) =
+    (long, answers)
+given_all writable a count answer left text accesses open_there fits
+    (Recording.IsRefused byte rest fits' short is refused are answers) =
     absurd (closed (writable (a + length text)) (open_there (length text) (omega arith)) refused)
-given_all writable a count answer left text accesses open_there fits (Recording.PassesEnd past none are answers) = absurd (omega arith)
+given_all writable a count answer left text accesses open_there fits (Recording.PassesEnd past none are answers) =
+    absurd (omega arith)

@@ -20,6 +20,7 @@ use Rattle.rrs_served.proofs.Following.{Follows, Ended, WentOn, follows}
 use Rattle.rrs_linux.specs.Transfers.{Stands, most_bytes}
 use Rattle.rrs_linux.specs.SystemCalls.{answered}
 use Rattle.rrs_linux.specs.Recording.{Recording, Records, GivesInput, TakesOutput}
+use Rattle.rrs_linux.proofs.Placed.{no_length}
 use Rattle.rrs_extra.specs.Programs.{HoldsWords, IsWritable, AreApart}
 use Rattle.rrs_extra.proofs.Words.{words-end, writable-ends, holds_after}
 use Rattle.rrs_linux_programs.specs.Echoing.{echo_program, EchoStarts, TakesRounds}
@@ -42,7 +43,8 @@ round_more (suc rounds) each taken left all parts whole some takes =
     let needed : each + rounds * each < left + each = omega (arith, takes.needed) in
     record { enough = omega (arith, enough, needed); needed = omega (arith, enough, needed) }
 
--- What the program leaves, from k steps before the loop's head on: by the environment, the bytes of memory and the buffer.
+-- What the program leaves, from k steps before the loop's head on: by the environment, the bytes of memory and the
+-- buffer.
 pub record Echoes (k b size : ℕ) (old : Recording) (bytes : ByteMap) (new : Recording) (t : State) (steps : ℕ)
     (ending : Ending) : Type 0 where
   pub rounds : ℕ
@@ -55,17 +57,15 @@ pub record Echoes (k b size : ℕ) (old : Recording) (bytes : ByteMap) (new : Re
   pub heap_kept : new.heap ≡ old.heap
   pub others_kept : (a : ℕ) → (a < b) ⊎ (b + size ≤ a) → t.bytes a ≡ bytes a
 
-no_bytes : (xs : List ℕ) → length xs ≡ 0 → xs ≡ []
-no_bytes [] none = refl
-no_bytes (x ∷ xs) none = absurd (omega (arith, none))
-
 -- behind a part of a buffer
 behind : (a b n size : ℕ) → n ≤ size → (a < b) ⊎ (b + size ≤ a) → (a < b) ⊎ (b + n ≤ a)
 behind a b n size less (inl below) = inl below
 behind a b n size less (inr above) = inr (omega (arith, above))
 
-module _ (r : ℕ → ℕ) (writable : ℕ → Bool) (p b size : ℕ) (aligned : p % 4 ≡ 0) (fits : p + 72 ≤ 2 ^ 32) (b_small : b < 2 ^ 32)
-    (size_small : size < 2 ^ 32) (open_there : IsWritable writable b size) (buffer_fits : b + size ≤ 2 ^ 32) (some : 0 < size)
+module _ (r : ℕ → ℕ) (writable : ℕ → Bool) (p b size : ℕ) (aligned : p % 4 ≡ 0) (fits : p + 72 ≤ 2 ^ 32)
+    (b_small : b < 2 ^ 32)
+    (size_small : size < 2 ^ 32) (open_there : IsWritable writable b size) (buffer_fits : b + size ≤ 2 ^ 32)
+    (some : 0 < size)
     (apart : AreApart b size p 72) (new : Recording) (t : State) (ending : Ending) where
   -- ---- the states at the loop's head, at each call, and behind the read and the write
 
@@ -94,8 +94,8 @@ module _ (r : ℕ → ℕ) (writable : ℕ → Bool) (p b size : ℕ) (aligned :
       → RunsOk 2 (at (registers_by r b size x12 x13 x14 x15 x17) p last bytes writable)
       (at_head b size x12 x13 x17 (Some 14) bytes)
   to_head x12 x13 x14 x15 x17 last bytes holds =
-      next 1 _ (Programs.step-writes (p + 4) 14 b (pos (b + 0)) (fetch holds aligned 0 (omega arith) (omega arith) refl) refl
-      (omega arith) (omega arith))
+      next 1 _ (Programs.step-writes (p + 4) 14 b (pos (b + 0))
+      (fetch holds aligned 0 (omega arith) (omega arith) refl) refl (omega arith) (omega arith))
       (next 0 _ (writes holds aligned fits 1 13 size (pos (size + 0)) (omega arith) refl refl (omega arith)) refl)
 
   from_head : (x10 x11 x12 x13 x17 : ℕ) (last : Option ℕ) (bytes : ByteMap) → HoldsWords bytes p echo_program
@@ -163,12 +163,14 @@ module _ (r : ℕ → ℕ) (writable : ℕ → Bool) (p b size : ℕ) (aligned :
     others : d ≡ record old { input = d.input; held = d.held }
     after : m ≡ answered (at_read x13 bytes') (length text)
 
-  got : (x13 : ℕ) (old : Recording) (bytes : ByteMap) (d : Recording) (m : State) (end : Option ℕ) (accesses : List Access)
-      → Records old (at_read x13 bytes) d m accesses end → Got x13 old bytes d m end
+  got : (x13 : ℕ) (old : Recording) (bytes : ByteMap) (d : Recording) (m : State) (end : Option ℕ)
+      (accesses : List Access) → Records old (at_read x13 bytes) d m accesses end → Got x13 old bytes d m end
   got x13 old bytes d m end accesses records =
-      let read = Calls.got GivesInput TakesOutput old (at_read x13 bytes) d m end accesses TakesOutput records refl refl in
+      let read = Calls.got GivesInput TakesOutput old
+      (at_read x13 bytes) d m end accesses TakesOutput records refl refl in
       let given = read.given in
-      let all = given_all writable b size read.answer old.input.now given.text accesses open_there buffer_fits given.ended in
+      let all = given_all writable b size read.answer old.input.now given.text accesses open_there buffer_fits
+      given.ended in
       record {
         goes_on = read.goes_on;
         text = given.text;
@@ -183,13 +185,15 @@ module _ (r : ℕ → ℕ) (writable : ℕ → Bool) (p b size : ℕ) (aligned :
 
   -- from k steps before the head on, with no more bytes of input than the fuel
   abbrev Goes : ℕ → Type 0
-  Goes fuel = (k x10 x11 x12 x13 x17 : ℕ) (last : Option ℕ) (bytes : ByteMap) (s : State) (old : Recording) (limit steps : ℕ)
+  Goes fuel =
+      (k x10 x11 x12 x13 x17 : ℕ) (last : Option ℕ) (bytes : ByteMap) (s : State) (old : Recording) (limit steps : ℕ)
       (accesses : List Access) → HoldsWords bytes p echo_program → RunsOk k s (at_head x10 x11 x12 x13 x17 last bytes)
       → length old.input.now ≤ fuel → length old.output.items + length old.input.now ≤ vec_capacity old.output
       → k + (11 * fuel + 12) ≤ limit → Served Records ending new t limit old s steps accesses
       → Echoes k b size old bytes new t steps ending
 
-  module _ (k limit steps later x13 : ℕ) (old d : Recording) (bytes : ByteMap) (m : State) (read : Got x13 old bytes d m None)
+  module _ (k limit steps later x13 : ℕ) (old d : Recording) (bytes : ByteMap) (m : State)
+      (read : Got x13 old bytes d m None)
       (holds : HoldsWords read.bytes' p echo_program) (sum : steps ≡ k + 4 + 1 + later) where
     -- what is left of the input
     left : length old.input.now ≡ length read.text + length d.input.now
@@ -207,23 +211,25 @@ module _ (r : ℕ → ℕ) (writable : ℕ → Bool) (p b size : ℕ) (aligned :
     after_exit : length read.text ≡ 0 → Follows Records ending new t limit 6 (p + 52) d (at_exit x13 read.bytes') later
         → Echoes k b size old bytes new t steps ending
     after_exit none (Ended status of_call records is made) =
-        let exit = exited GivesInput TakesOutput d (at_exit x13 read.bytes') new t (Some status) of_call TakesOutput records refl in
+        let exit = exited GivesInput TakesOutput d (at_exit x13 read.bytes') new t
+        (Some status) of_call TakesOutput records refl in
         let no_input : length old.input.now ≡ 0 = omega (arith, none, read.long, some) in
-        let ended = ap (λ l. old.output.items ++ l) (sym (no_bytes old.input.now no_input)) in
+        let ended = ap (λ l. old.output.items ++ l) (sym (no_length old.input.now no_input)) in
         record {
           rounds = 0;
           takes = record { enough = omega (arith, no_input); needed = omega (arith, no_input, some) };
           counted = omega (arith, sum, made);
           ends = is ∙ ap Exit (same_Some _ _ exit.ends);
           output = ap (λ e. e.output.items) (exit.same ∙ read.others) ∙ sym (append-nil old.output.items) ∙ ended;
-          input = ap (λ e. e.input.now) exit.same ∙ no_bytes d.input.now (omega (arith, left, no_input));
+          input = ap (λ e. e.input.now) exit.same ∙ no_length d.input.now (omega (arith, left, no_input));
           errors_kept = ap (λ e. e.errors) (exit.same ∙ read.others);
           heap_kept = ap (λ e. e.heap) (exit.same ∙ read.others);
-          others_kept = λ a outside.
-          ap (λ y. y.bytes a) exit.stays ∙ read.kept a (behind a b (length read.text) size (omega (arith, none)) outside);
+          others_kept = λ a outside. ap (λ y. y.bytes a) exit.stays ∙ read.kept a
+          (behind a b (length read.text) size (omega (arith, none)) outside);
         }
     after_exit none (WentOn e u of_call of_later rest records served made) =
-        let exit = exited GivesInput TakesOutput d (at_exit x13 read.bytes') e u None of_call TakesOutput records refl in
+        let exit = exited GivesInput TakesOutput d
+        (at_exit x13 read.bytes') e u None of_call TakesOutput records refl in
         absurd (none-some _ exit.ends)
 
     exits : (of_later : List Access) → length read.text ≡ 0 → 7 ≤ limit
@@ -236,7 +242,8 @@ module _ (r : ℕ → ℕ) (writable : ℕ → Bool) (p b size : ℕ) (aligned :
         after_exit none (follows Records ending new t limit 6 (p + 52) d _ _ later of_later run chain)
 
     module _ (fuel : ℕ) (goes : Goes fuel) (more : 0 < length read.text) (enough : length old.input.now ≤ suc fuel)
-        (room : length old.output.items + length old.input.now ≤ vec_capacity old.output) (within : 11 * fuel + 18 ≤ limit) where
+        (room : length old.output.items + length old.input.now ≤ vec_capacity old.output)
+        (within : 11 * fuel + 18 ≤ limit) where
       -- bytes were read: what follows the write
       after_write : Follows Records ending new t limit 4 (p + 64) d (at_write (length read.text) x13 read.bytes') later
           → Echoes k b size old bytes new t steps ending
@@ -252,8 +259,8 @@ module _ (r : ℕ → ℕ) (writable : ℕ → Bool) (p b size : ℕ) (aligned :
           let held : length d.output.items ≡ length old.output.items = ap (λ o. length o.items) same_output in
           let write = wrote GivesInput TakesOutput d u e u' None of_call TakesOutput records refl refl in
           let took = took_all read.bytes' b n read.text d.output e.output write.answer of_call refl read.stands
-          (omega (arith, read.long)) (omega (arith, read.long, buffer_fits)) (omega (arith, left, room, held, same_room))
-          write.taken in
+          (omega (arith, read.long)) (omega (arith, read.long, buffer_fits))
+          (omega (arith, left, room, held, same_room)) write.taken in
           let input : e.input.now ≡ d.input.now = ap (λ y. y.input.now) write.others in
           let input_long : length e.input.now ≡ length d.input.now = ap length input in
           let output_long : length e.output.items ≡ length d.output.items + n =
@@ -264,9 +271,11 @@ module _ (r : ℕ → ℕ) (writable : ℕ → Bool) (p b size : ℕ) (aligned :
           ap (λ y. with_pc y (word (pos (p + 64 + 4)))) write.after
           ∙ (λ i. at (registers_by r (value i) b n x13 size b 64) (pc i) (Some 10) read.bytes' writable) in
           let chain = subst (λ y. Served Records ending new t (limit - 5) e y rest of_later) here served in
-          let last = goes 1 n b n x13 64 None read.bytes' (behind_write n x13 read.bytes') e (limit - 5) rest of_later holds
+          let last = goes 1 n b n x13 64 None read.bytes' (behind_write n x13 read.bytes') e
+          (limit - 5) rest of_later holds
           (go_back n x13 read.bytes' holds) (omega (arith, left, more, enough, input_long))
-          (omega (arith, left, room, input_long, output_long, held, same_room, write.taken.1)) (omega (arith, within)) chain in
+          (omega (arith, left, room, input_long, output_long, held, same_room, write.taken.1))
+          (omega (arith, within)) chain in
           record {
             rounds = suc last.rounds;
             takes = round_more last.rounds (min size most_bytes) n (length e.input.now) (length old.input.now)
@@ -306,9 +315,11 @@ module _ (r : ℕ → ℕ) (writable : ℕ → Bool) (p b size : ℕ) (aligned :
       → Echoes k b size old bytes new t steps ending
   after_read fuel goes k limit steps x13 old bytes holds enough room within (Ended status of_call records is made) =
       absurd (none-some status (sym (got x13 old bytes new t (Some status) of_call records).goes_on))
-  after_read zero goes k limit steps x13 old bytes holds enough room within (WentOn d m call of_later later records served made) =
+  after_read zero goes k limit steps x13 old bytes holds enough room within
+      (WentOn d m call of_later later records served made) =
       let read = got x13 old bytes d m None call records in
-      exits k (limit - (k + 4 + 1)) steps later x13 old d bytes m read (stays x13 old d bytes m read holds) made of_later
+      exits k (limit - (k + 4 + 1)) steps later x13 old d bytes m read
+      (stays x13 old d bytes m read holds) made of_later
       (omega (arith, read.long, enough)) (omega (arith, within)) served
   after_read (suc fuel) goes k limit steps x13 old bytes holds enough room within
       (WentOn d m of_call of_later later records served made) =
@@ -316,15 +327,16 @@ module _ (r : ℕ → ℕ) (writable : ℕ → Bool) (p b size : ℕ) (aligned :
       let there = stays x13 old d bytes m read holds in
       elim (cases_lt 0 (length read.text)) as (λ _. Echoes k b size old bytes new t steps ending) [
         | inl more ↦
-            goes_on k (limit - (k + 4 + 1)) steps later x13 old d bytes m read there made fuel (goes fuel refl) more enough room
-            (omega (arith, within)) of_later served
+            goes_on k (limit - (k + 4 + 1)) steps later x13 old d bytes m read there made fuel
+            (goes fuel refl) more enough room (omega (arith, within)) of_later served
         | inr none ↦
             exits k (limit - (k + 4 + 1)) steps later x13 old d bytes m read there made of_later (omega (arith, none))
             (omega (arith, within)) served
       ]
 
   goes_round : (fuel : ℕ) → ((less : ℕ) → fuel ≡ suc less → Goes less) → Goes fuel
-  goes_round fuel goes k x10 x11 x12 x13 x17 last bytes s old limit steps accesses holds before enough room within served =
+  goes_round fuel goes k x10 x11 x12 x13 x17 last bytes s old limit steps accesses holds before enough room within
+      served =
       let run = to_read limit k x10 x11 x12 x13 x17 last bytes s holds (omega (arith, within)) before in
       after_read fuel goes k limit steps x13 old bytes holds enough room within
       (follows Records ending new t limit (k + 4) (p + 24) old s _ steps accesses run served)
@@ -337,7 +349,8 @@ module _ (r : ℕ → ℕ) (writable : ℕ → Bool) (p b size : ℕ) (aligned :
   goes_all (suc fuel) = goes_round (suc fuel) (λ less same. one_less fuel less same (goes_all fuel))
 
 pub echoes : (old new : Recording) (s t : State) (limit steps : ℕ) (ending : Ending) (accesses : List Access)
-    → length s.registers ≡ 31 → EchoStarts s → reg s 10 < 2 ^ 32 → reg s 11 < 2 ^ 32 → EndsAtLastAddress s.bytes s.writable
+    → length s.registers ≡ 31 → EchoStarts s → reg s 10 < 2 ^ 32 → reg s 11 < 2 ^ 32
+    → EndsAtLastAddress s.bytes s.writable
     → length old.output.items + length old.input.now ≤ vec_capacity old.output → 11 * length old.input.now + 14 ≤ limit
     → Served Records ending new t limit old s steps accesses
     → Echoes 2 (reg s 10) (reg s 11) old s.bytes new t steps ending
@@ -347,9 +360,10 @@ echoes old new s t limit steps ending accesses long starts b_small size_small en
     let fits = words-end s.bytes s.writable s.pc echo_program ends starts.program_there (omega arith) in
     let buffer_fits = writable-ends s.bytes s.writable b size ends starts.buffer_writable (omega (arith, b_small)) in
     let before = to_head (reg s) s.writable s.pc b size starts.aligned fits b_small size_small starts.buffer_writable
-    buffer_fits starts.not_empty starts.apart_from_program new t ending (reg s 12) (reg s 13) (reg s 14) (reg s 15) (reg s 17)
-    s.last s.bytes starts.program_there in
+    buffer_fits starts.not_empty starts.apart_from_program new t ending (reg s 12) (reg s 13) (reg s 14) (reg s 15)
+    (reg s 17) s.last s.bytes starts.program_there in
     goes_all (reg s) s.writable s.pc b size starts.aligned fits b_small size_small starts.buffer_writable buffer_fits
-    starts.not_empty starts.apart_from_program new t ending (length old.input.now) 2 b size (reg s 12) (reg s 13) (reg s 17)
+    starts.not_empty starts.apart_from_program new t ending (length old.input.now) 2 b size (reg s 12) (reg s 13)
+    (reg s 17)
     (Some 14) s.bytes _ old limit steps accesses starts.program_there before (omega arith) room (omega (arith, enough))
     (subst (λ x. Served Records ending new t limit old x steps accesses) (opened s long) served)

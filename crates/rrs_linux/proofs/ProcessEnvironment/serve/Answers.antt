@@ -50,14 +50,12 @@ returns-in-SetBreak-clause-served g c =
     let set = c.set_break-answer.ensures in
     let process = c.args.self.now in
     let before = state_of c.args.executor.now.hart_state.now bytes writable in
-    served [] (SetBreak c.in-SetBreak.address) (c.in-SetBreak.ensures bytes writable)
-    (
+    served [] (SetBreak c.in-SetBreak.address) (c.in-SetBreak.ensures bytes writable) (
       went.goes_on,
       (λ i. record process { heap = set.moved i }),
       went.answered bytes writable ∙ (λ i. answered before (set.answer i)),
       refl,
-    )
-    refl
+    ) refl
 
 pub returns-in-Read-clause-served : goal.returns-in-Read-clause-served
 returns-in-Read-clause-served g c =
@@ -87,8 +85,7 @@ returns-in-WriteOutput-clause-served g c =
     let kept = after hart bytes new writable there call.result of.bytes_kept of.writable_kept in
     served of.taken.accesses (WriteOutput c.in-WriteOutput.address c.in-WriteOutput.count)
     (c.in-WriteOutput.ensures bytes writable)
-    (went.goes_on, call.new.self, call.result, of.taken.these, refl, went.answered new there ∙ kept)
-    of.taken.made
+    (went.goes_on, call.new.self, call.result, of.taken.these, refl, went.answered new there ∙ kept) of.taken.made
 
 pub returns-in-WriteErrors-clause-served : goal.returns-in-WriteErrors-clause-served
 returns-in-WriteErrors-clause-served g c =
@@ -103,5 +100,4 @@ returns-in-WriteErrors-clause-served g c =
     let kept = after hart bytes new writable there call.result of.bytes_kept of.writable_kept in
     served of.taken.accesses (WriteErrors c.in-WriteErrors.address c.in-WriteErrors.count)
     (c.in-WriteErrors.ensures bytes writable)
-    (went.goes_on, call.new.self, call.result, of.taken.these, refl, went.answered new there ∙ kept)
-    of.taken.made
+    (went.goes_on, call.new.self, call.result, of.taken.these, refl, went.answered new there ∙ kept) of.taken.made

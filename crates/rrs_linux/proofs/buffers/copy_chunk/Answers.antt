@@ -9,8 +9,11 @@ loop-index-preserved g c =
     let laws = c.read_mem.ensures.laws in
     let value = byte_read _ _ _ _ so_far.bytes_kept laws.value in
     record {
-      stands = chunk_more (memory.bytes c.args.memory.now) c.args.address _ _ _ so_far.stands (omega arith) (sym value ∙ c.in-Some.is);
-      made = reads_more memory.reads memory.writes (memory.bytes c.args.memory.now) c.args.address c.loop-index.index _ c.args.memory.now c.loop-index.memory c.read_mem.new.self so_far.made c.read_mem.ensures.did value;
+      stands = chunk_more (memory.bytes c.args.memory.now) c.args.address _ _ _ so_far.stands (omega arith)
+      (sym value ∙ c.in-Some.is);
+      made = reads_more memory.reads memory.writes
+      (memory.bytes c.args.memory.now) c.args.address c.loop-index.index _ c.args.memory.now c.loop-index.memory
+      c.read_mem.new.self so_far.made c.read_mem.ensures.did value;
       bytes_kept = laws.bytes_kept ∙ so_far.bytes_kept;
       writable_kept = laws.writable_kept ∙ so_far.writable_kept;
       layout_kept = laws.layout_kept ∙ so_far.layout_kept;
@@ -20,6 +23,9 @@ pub returns-in-None-clause-read : goal.returns-in-None-clause-read
 returns-in-None-clause-read g c =
     let memory = g.M.Memory in
     let so_far = c.loop-index.invariant in
-    let one_more : min c.args.wanted (c.loop-index.index + 1) ≡ c.loop-index.index + 1 = omega (arith, c.loop-index-test.true) in
+    let one_more : min c.args.wanted (c.loop-index.index + 1) ≡ c.loop-index.index + 1 = omega
+    (arith, c.loop-index-test.true) in
     let value = byte_read _ _ _ _ so_far.bytes_kept c.read_mem.ensures.laws.value in
-    rw one_more (reads_more memory.reads memory.writes (memory.bytes c.args.memory.now) c.args.address c.loop-index.index _ c.args.memory.now c.loop-index.memory c.read_mem.new.self so_far.made c.read_mem.ensures.did value)
+    rw one_more (reads_more memory.reads memory.writes
+    (memory.bytes c.args.memory.now) c.args.address c.loop-index.index _ c.args.memory.now c.loop-index.memory
+    c.read_mem.new.self so_far.made c.read_mem.ensures.did value)

@@ -16,8 +16,11 @@ returns g c =
     let old = c.args.environment.now in
     let text = c.args.text.now in
     let run = writes_and_exits GivesInput TakesOutput TakesOutput text old (λ o. o.items ≡ old.output.items ++ text)
-    (λ bytes a count answer o accesses known stands fits takes. (took_all bytes a count text old.output o answer accesses known stands c.requires.starts.at_once fits c.requires.room takes).0)
-    c.run_served.new.environment t c.run_served.result.ending c.args.limit s c.run_served.result.steps _ c.requires.enough
+    (λ bytes a count answer o accesses known stands fits takes.
+    (took_all bytes a count text old.output o answer accesses known stands c.requires.starts.at_once fits
+    c.requires.room takes).0)
+    c.run_served.new.environment t c.run_served.result.ending c.args.limit s c.run_served.result.steps _
+    c.requires.enough
     (omega (arith, length-drop 1 c.args.executor.now.hart_state.now.registers, c.arguments_of_call.ensures.count))
     c.requires.starts words.0 words.1 words.2 ends c.run_served.ensures.served.these in
     record {

@@ -16,9 +16,12 @@ returns g c =
     let old = c.args.environment.now in
     let text = c.args.text.now in
     let contents = g.W.Write.contents in
-    let run = writes_and_exits (ReadsInput g.R.Read.remaining) (WritesOutput contents) (WritesOutput g.E.Write.contents) text old (WroteSome contents text old.output)
-    (λ bytes a count answer o accesses known stands fits writes. took_some contents bytes a count text old.output o answer accesses known stands writes)
-    c.run_served.new.environment t c.run_served.result.ending c.args.limit s c.run_served.result.steps _ c.requires.enough
+    let run = writes_and_exits (ReadsInput g.R.Read.remaining) (WritesOutput contents)
+    (WritesOutput g.E.Write.contents) text old (WroteSome contents text old.output)
+    (λ bytes a count answer o accesses known stands fits writes. took_some contents bytes a count text old.output o
+    answer accesses known stands writes)
+    c.run_served.new.environment t c.run_served.result.ending c.args.limit s c.run_served.result.steps _
+    c.requires.enough
     (omega (arith, length-drop 1 c.args.executor.now.hart_state.now.registers, c.arguments_of_call.ensures.count))
     c.requires.starts words.0 words.1 words.2 ends c.run_served.ensures.served.these in
     record {

@@ -11,7 +11,8 @@ invariant-chunks g l =
       text : List ℕ;
       so_far : length text ≡ l.done;
       within : l.done ≤ l.count;
-      written : Written memory.reads memory.writes (memory.bytes l.fn.memory) l.address (contents l.fn.self) (contents l.self) text l.done l.fn.memory l.memory;
+      written : Written memory.reads memory.writes (memory.bytes l.fn.memory) l.address (contents l.fn.self)
+          (contents l.self) text l.done l.fn.memory l.memory;
       bytes_kept : memory.bytes l.memory ≡ memory.bytes l.fn.memory;
       writable_kept : memory.writable l.memory ≡ memory.writable l.fn.memory;
       layout_kept : memory.layout l.memory ≡ memory.layout l.fn.memory;

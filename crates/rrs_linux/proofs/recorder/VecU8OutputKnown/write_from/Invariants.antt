@@ -13,7 +13,8 @@ invariant-loop-done g l =
       stands : Stands (memory.bytes l.fn.memory) l.address text;
       appended : l.self.items ≡ l.fn.self.items ++ text;
       room_kept : vec_capacity l.self ≡ vec_capacity l.fn.self;
-      made : Makes memory.reads memory.writes (byte_reads (memory.bytes l.fn.memory) l.address l.done) l.fn.memory l.memory;
+      made : Makes memory.reads memory.writes (byte_reads (memory.bytes l.fn.memory) l.address l.done) l.fn.memory
+          l.memory;
       bytes_kept : memory.bytes l.memory ≡ memory.bytes l.fn.memory;
       writable_kept : memory.writable l.memory ≡ memory.writable l.fn.memory;
       layout_kept : memory.layout l.memory ≡ memory.layout l.fn.memory;
