@@ -44,7 +44,7 @@ module _ {M : Type 0} {reads : M → ℕ → MemAccessSize → M → Option ℕ 
   takes_text {bytes = bytes} {a = a} {n = n} {text = text} old new stands appended kept ended made = record {
     accesses = byte_reads bytes a n;
     these =
-      (record { text = text; stands = stands; appended = appended; reads = n; ended = ended; accessed = refl }, kept);
+        (record { text = text; stands = stands; appended = appended; reads = n; ended = ended; accessed = refl }, kept);
     made = made;
   }
 
@@ -85,8 +85,7 @@ module _ {M : Type 0} (reads : M → ℕ → MemAccessSize → M → Option ℕ 
   given_next {old = old} {mid_bytes = mid_bytes} {new_bytes = new_bytes} small loaded allowed lawful stored =
       let more : take (n + 1) input ≡ take n input ++ slice_index input n ∷ [] = take_more input n 0 within in
       let next = Loaded-next old mid_bytes new_bytes writable writable' a (slice_index input n) value (a + n)
-      (take n input) loaded placed_at low small same kept (sym allowed ∙ granted) lawful stored in
-      (
+      (take n input) loaded placed_at low small same kept (sym allowed ∙ granted) lawful stored in (
         subst (Loaded old new_bytes writable a) (sym more) next,
         subst (λ l. Makes reads writes (byte_writes writable a l) m new) (sym more) written_next,
       )

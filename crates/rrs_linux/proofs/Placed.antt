@@ -100,7 +100,7 @@ module _ {M : Type 0} {reads : M → ℕ → MemAccessSize → M → Option ℕ 
           text = of.text;
           loaded = of.loaded;
           consumed = Consumes-trans left all (prepend_known after rest) [] of.text
-          (Consumes-kept left left all [] (Consumes-nil left) kept) (held_given held after of.text rest parts);
+              (Consumes-kept left left all [] (Consumes-nil left) kept) (held_given held after of.text rest parts);
           ended = ends_before writable a count held after of.text rest made.accesses answer asked some parts ends;
         };
         made = made.made;

@@ -47,7 +47,7 @@ Stands-append bytes a n xs ys long first later = λ i h.
     let both : length (xs ++ ys) ≡ length xs + length ys = length-append xs ys in
     elim (cases_lt i n) [
       | inl low ↦ first i (omega (arith, low, long)) ∙ ap Some
-      (sym (get_or_append_left xs ys 0 i (omega (arith, low, long))))
+          (sym (get_or_append_left xs ys 0 i (omega (arith, low, long))))
       | inr high ↦
           let place : a + n + (i - n) ≡ a + i = omega (arith, high) in
           ap bytes (sym place) ∙ later (i - n) (omega (arith, h, high, long, both)) ∙ ap Some
@@ -107,10 +107,10 @@ module _ {M : Type 0} {reads : M → ℕ → MemAccessSize → M → Option ℕ 
       let read = subst (λ f. Makes reads writes (byte_reads f (a + n) reading) m1 m2) kept made in
       record {
         stands = Stands-append bytes a n text (take taken front) long so_far.stands
-        (Stands-take bytes (a + n) taken front short there);
+            (Stands-take bytes (a + n) taken front short there);
         appended = Appends-trans before mid after text (take taken front) so_far.appended appended;
         made = subst P (sym (byte_reads-append bytes a n reading))
-        (Makes-append reads writes (byte_reads bytes a n) _ m0 m1 m2 so_far.made read);
+            (Makes-append reads writes (byte_reads bytes a n) _ m0 m1 m2 so_far.made read);
       }
 
   -- what was written, by how it ended

@@ -1,6 +1,6 @@
 //! Streams of the host.
 
-ghost use Rattle.std.specs.Prelude.{◌≡◌, ◌≤◌, take, length};
+ghost use Rattle.std.specs.Prelude.{◌≤◌, take, length};
 ghost use Rattle.std.specs.Io.KnownBytes.{Appends};
 ghost use Rattle.rrs_linux.specs.SystemCalls.{ReadsInput, WritesOutput};
 

@@ -1,8 +1,8 @@
 //! System calls of Linux, served for a program: those that a C library makes to print, to read and
 //! to end.
 //!
-//! [Process] is an [Environment] of `run_served`, over three streams that are the program's standard
-//! input, output and error. What each call does is written in `specs/SystemCalls.antt`, by what the
+//! [Process] is an [Environment] of `run_served`, over three streams that are the program's
+//! standard input, output and error. What each call does is written in `specs/SystemCalls.antt`, by what the
 //! streams do with the bytes of a buffer ([Input], [Output]). No call allocates. The streams of
 //! [Linux] are a reader and two writers of the host (`specs/Transfers.antt`); those of [Recorder]
 //! are bytes in the host's memory (`specs/Recording.antt`).
@@ -65,7 +65,7 @@ impl Heap {
     }
 }
 
-/// The environment of a program that makes system calls of Linux: its standard streams, and its heap.
+/// The environment of a program that makes system calls of Linux: its streams and its heap.
 #[derive(Drop)]
 pub struct Process<R, W, E, K> {
     /// Standard input, descriptor 0.
@@ -117,7 +117,9 @@ impl<R: Input<K>, W: Output<K>, E: Output<K>, K> Environment for Process<R, W, E
                 go_on(executor.hart_state, answer)
             }
             Request::Read(address, count) => {
-                let answer = self.input.read_to(&mut self.held, executor.mem, address, count);
+                let answer = self
+                    .input
+                    .read_to(&mut self.held, executor.mem, address, count);
                 go_on(executor.hart_state, answer)
             }
             Request::WriteOutput(address, count) => {

@@ -13,13 +13,7 @@ pub trait Input<K> {
     ghost gives: { Gives Self K };
 
     /// Gives bytes of the input to a buffer in memory, and gives the answer of the call.
-    fn read_to<M: Memory>(
-        &mut self,
-        held: &mut K,
-        memory: &mut M,
-        address: u32,
-        count: u32,
-    ) -> u32
+    fn read_to<M: Memory>(&mut self, held: &mut K, memory: &mut M, address: u32, count: u32) -> u32
         ensures given { MakesSome M.reads M.writes
             (gives (M.writable memory.old) (M.bytes memory.old) (M.bytes memory.new) address count
             self.old held.old self.new held.new result)

@@ -1,5 +1,5 @@
 -- What the calls of these programs do to an environment, and to its streams.
-use Rattle.std.proofs.Common.{◌≡◌, ◌⊎◌, ℕ, ◌+◌, ◌-◌, ◌%◌, ◌^◌, ◌<◌, ◌≤◌, min, List, ◌++◌, length, take, Option, Some, None, IsTrue, Bool, true, false, inl, inr, refl, sym, ap, subst, ◌∙◌, arith, ext_get_or, Vec, vec_capacity}
+use Rattle.std.proofs.Common.{◌≡◌, ℕ, ◌+◌, ◌-◌, ◌%◌, ◌^◌, ◌≤◌, min, List, ◌++◌, length, take, Option, Some, None, IsTrue, Bool, true, false, inl, inr, sym, ap, subst, ◌∙◌, arith, ext_get_or, Vec, vec_capacity}
 use Rattle.std.specs.declared.alloc.Global.{Global}
 use Rattle.std.proofs.lemmas.Option.{none-some, same_Some}
 use Rattle.std.proofs.lemmas.List.{length-take-le}
@@ -15,7 +15,7 @@ use Rattle.rrs_linux.specs.Requests.{AsksBy, ToExit, ToRead, ToWriteOutput, ToWr
 use Rattle.rrs_linux.specs.SystemCalls.{answered, Does, ServesBy, WritesOutput}
 use Rattle.rrs_linux.specs.Transfers
 use Rattle.rrs_linux.specs.Transfers.{Gives, Takes, Stands, WriteEnds, most_bytes}
-use Rattle.rrs_linux.specs.Recording.{TakingEnds, TakesOutput, GivingEnds, GivesText}
+use Rattle.rrs_linux.specs.Recording.{TakingEnds, TakesOutput, GivingEnds}
 use Rattle.rrs_linux.specs.Recording
 use Rattle.rrs_linux.proofs.Written.{Stands-take}
 

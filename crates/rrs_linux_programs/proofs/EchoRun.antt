@@ -1,5 +1,5 @@
 -- The program that writes all that it reads, as a served run.
-use Rattle.std.proofs.Common.{◌≡◌, ◌⊎◌, ℕ, zero, suc, ◌+◌, ◌-◌, ◌*◌, ◌%◌, ◌^◌, ◌<◌, ◌≤◌, min, ◌++◌, List, [], ◌∷◌, length, slice_index, Bool, true, false, pos, Option, Some, None, Err, inl, inr, refl, sym, ap, subst, ◌∙◌, arith, append-nil, append_assoc, vec_capacity}
+use Rattle.std.proofs.Common.{◌≡◌, ◌⊎◌, ℕ, zero, suc, ◌+◌, ◌-◌, ◌*◌, ◌%◌, ◌^◌, ◌<◌, ◌≤◌, min, ◌++◌, List, [], length, Bool, true, false, pos, Option, Some, None, inl, inr, refl, sym, ap, subst, ◌∙◌, arith, append-nil, append_assoc, vec_capacity}
 use Rattle.std.proofs.lemmas.Option.{none-some, same_Some}
 use Rattle.std.proofs.lemmas.List.{length-append}
 use Rattle.std.proofs.lemmas.Bool.{cases_lt}
@@ -225,7 +225,7 @@ module _ (r : ℕ → ℕ) (writable : ℕ → Bool) (p b size : ℕ) (aligned :
           errors_kept = ap (λ e. e.errors) (exit.same ∙ read.others);
           heap_kept = ap (λ e. e.heap) (exit.same ∙ read.others);
           others_kept = λ a outside. ap (λ y. y.bytes a) exit.stays ∙ read.kept a
-          (behind a b (length read.text) size (omega (arith, none)) outside);
+              (behind a b (length read.text) size (omega (arith, none)) outside);
         }
     after_exit none (WentOn e u of_call of_later rest records served made) =
         let exit = exited GivesInput TakesOutput d
@@ -279,16 +279,16 @@ module _ (r : ℕ → ℕ) (writable : ℕ → Bool) (p b size : ℕ) (aligned :
           record {
             rounds = suc last.rounds;
             takes = round_more last.rounds (min size most_bytes) n (length e.input.now) (length old.input.now)
-            (omega (arith, left, input_long)) read.long more last.takes;
+                (omega (arith, left, input_long)) read.long more last.takes;
             counted = omega (arith, sum, made, last.counted);
             ends = last.ends;
             output = last.output ∙ (λ i. took.0 i ++ input i) ∙ append_assoc d.output.items read.text d.input.now
-            ∙ (λ i. (same_output i).items ++ sym read.consumed i);
+                ∙ (λ i. (same_output i).items ++ sym read.consumed i);
             input = last.input;
             errors_kept = last.errors_kept ∙ ap (λ y. y.errors) write.others ∙ ap (λ y. y.errors) read.others;
             heap_kept = last.heap_kept ∙ ap (λ y. y.heap) write.others ∙ ap (λ y. y.heap) read.others;
             others_kept = λ a outside.
-            last.others_kept a outside ∙ read.kept a (behind a b n size (omega (arith, read.long)) outside);
+                last.others_kept a outside ∙ read.kept a (behind a b n size (omega (arith, read.long)) outside);
           }
 
       goes_on : (of_later : List Access)

@@ -1,6 +1,6 @@
 -- Runs of these programs, over registers that are written out: 10 to 17 but 16, which a program with a call uses, and
 -- the others by a function of their numbers.
-use Rattle.std.proofs.Common.{◌≡◌, ℕ, suc, ◌+◌, ◌*◌, ◌%◌, ◌^◌, ◌<◌, ◌≤◌, List, ◌∷◌, length, slice_index, slice_set, ℤ, pos, Bool, Option, Some, None, Ok, Err, refl, ap, arith}
+use Rattle.std.proofs.Common.{◌≡◌, ℕ, suc, ◌+◌, ◌*◌, ◌%◌, ◌^◌, ◌<◌, ◌≤◌, List, ◌∷◌, length, slice_index, slice_set, ℤ, Bool, Option, Some, None, Ok, Err, refl, ap, arith}
 use Rattle.rrs_lib.specs.declared.instruction_executor.InstructionException.{InstructionException}
 use Rattle.rrs_lib.specs.declared.instruction_executor.InstructionException.TheVariants.{EnvironmentCall}
 use Rattle.rrs_lib.specs.Words.{word}

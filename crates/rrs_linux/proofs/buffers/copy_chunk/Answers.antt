@@ -10,10 +10,10 @@ loop-index-preserved g c =
     let value = byte_read _ _ _ _ so_far.bytes_kept laws.value in
     record {
       stands = chunk_more (memory.bytes c.args.memory.now) c.args.address _ _ _ so_far.stands (omega arith)
-      (sym value ∙ c.in-Some.is);
+          (sym value ∙ c.in-Some.is);
       made = reads_more memory.reads memory.writes
-      (memory.bytes c.args.memory.now) c.args.address c.loop-index.index _ c.args.memory.now c.loop-index.memory
-      c.read_mem.new.self so_far.made c.read_mem.ensures.did value;
+          (memory.bytes c.args.memory.now) c.args.address c.loop-index.index _ c.args.memory.now c.loop-index.memory
+          c.read_mem.new.self so_far.made c.read_mem.ensures.did value;
       bytes_kept = laws.bytes_kept ∙ so_far.bytes_kept;
       writable_kept = laws.writable_kept ∙ so_far.writable_kept;
       layout_kept = laws.layout_kept ∙ so_far.layout_kept;

@@ -46,12 +46,12 @@ loop-done-preserved g c =
       text = so_far.text ++ byte ∷ [];
       so_far = longer so_far.text byte _ so_far.so_far;
       stands = Stands-more (memory.bytes c.args.memory.now) c.args.address _ byte so_far.text so_far.so_far
-      so_far.stands (sym value ∙ c.in-Some-read_mem.is);
+          so_far.stands (sym value ∙ c.in-Some-read_mem.is);
       appended = appended_more _ _ _ so_far.text byte so_far.appended c.push_reserved.ensures.items;
       room_kept = c.push_reserved.ensures.capacity ∙ so_far.room_kept;
       made = reads_more memory.reads memory.writes
-      (memory.bytes c.args.memory.now) c.args.address c.loop-done.done _ c.args.memory.now c.loop-done.memory
-      c.read_mem.new.self so_far.made c.read_mem.ensures.did value;
+          (memory.bytes c.args.memory.now) c.args.address c.loop-done.done _ c.args.memory.now c.loop-done.memory
+          c.read_mem.new.self so_far.made c.read_mem.ensures.did value;
       bytes_kept = laws.bytes_kept ∙ so_far.bytes_kept;
       writable_kept = laws.writable_kept ∙ so_far.writable_kept;
       layout_kept = laws.layout_kept ∙ so_far.layout_kept;
