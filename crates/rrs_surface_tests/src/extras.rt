@@ -1,0 +1,87 @@
+//! The row numberer, the laws, and what `rrs-run` calls.
+
+ghost use Rattle.std.specs.Prelude.{◌≡◌, length};
+ghost use Rattle.rrs_lib.specs.Executor.{state_in};
+ghost use Rattle.rrs_extra.specs.Agreement.{Agree, AreOpenPages, words_of};
+ghost use Rattle.rrs_extra.specs.Programs.{SumLoopStarts};
+
+use rrs_extra::laws::{agree_each, both_texts, same_bytes, sum_loop};
+use rrs_extra::{PagedMemory, RowNumberer};
+use rrs_lib::instruction_executor::{InstructionException, InstructionExecutor, RunEnd};
+use rrs_lib::memories::VecMemory;
+use rrs_lib::{Memory, process_instruction};
+use rrs_runner::fault::RunFault;
+use rrs_runner::limits::limit_of;
+use std::alloc::AllocError;
+use std::test::Fail;
+
+#[test]
+fn a_word_is_numbered(rt: HostRuntime) {
+    let number: Option<u32> = process_instruction(&mut RowNumberer, 0x00100073);
+    assert!(rt; number == Some(48));
+}
+
+/// The law of two machines, with its types.
+fn agreeing<A: Memory, B: Memory>(
+    first: &mut InstructionExecutor<'_, A>,
+    second: &mut InstructionExecutor<'_, B>,
+    first_answers: &mut [Result<(), InstructionException>],
+    second_answers: &mut [Result<(), InstructionException>],
+)
+    requires same_length { length first_answers.old ≡ length second_answers.old }
+    requires agree { Agree (state_in A.bytes A.writable first.old)
+        (state_in B.bytes B.writable second.old) }
+{
+    agree_each(first, second, first_answers, second_answers)
+}
+
+/// The law of pages and words, with its types.
+fn being_same(pages: &PagedMemory, words: &VecMemory, k: u32)
+    requires pages { AreOpenPages k pages.now }
+    requires words { words.now.mem.items ≡ words_of pages.now }
+{
+    same_bytes(pages, words, k)
+}
+
+/// A program that is proved, with its types.
+fn adding_up<M: Memory>(executor: &mut InstructionExecutor<'_, M>) -> RunEnd
+    requires { SumLoopStarts (state_in M.bytes M.writable executor.old) }
+{
+    sum_loop(executor)
+}
+
+#[test]
+fn texts_are_compared(rt: HostRuntime) -> Result<(), Fail> {
+    let (first, second): (
+        Option<Result<String, AllocError>>,
+        Option<Result<String, AllocError>>,
+    ) = both_texts(rt.alloc(), 0, 0x0ff0000f, 0x00009067);
+    let text: String = first.ok_or("no row")??;
+    assert!(rt; text.as_str() == "fence" && second.is_none());
+    Ok(())
+}
+
+#[test]
+fn limits_are_read(rt: HostRuntime) {
+    let limits: [Option<u64>; 2] = [limit_of("10"), limit_of("-1")];
+    assert!(rt; limits == [Some(10), None]);
+}
+
+/// The number of a fault, and its address.
+fn kind_of(fault: &RunFault) -> (u32, u32) {
+    match fault {
+        RunFault::OutOfMemory => (1, 0),
+        RunFault::Reader => (2, 0),
+        RunFault::Refused(address) => (3, *address),
+        RunFault::Output => (4, 0),
+    }
+}
+
+#[test]
+fn faults_of_a_run_are_printed(rt: HostRuntime) -> Result<(), Fail> {
+    let fault = RunFault::Refused(0x10000);
+    let text = format!(in rt.alloc(); "{fault}")?;
+    let is_told = text.as_str() == "Could not write byte at address 0x00010000";
+    assert!(rt; is_told && kind_of(&fault) == (3, 0x10000));
+    Ok(())
+}
