@@ -21,70 +21,21 @@ const LOOP: [u32; 4] = [
 ];
 
 /// A store of the loop, and the two values that it stores.
-struct Change {
-    store: u32,
-    first: u32,
-    second: u32,
-}
+type Change = (u32, u32, u32);
 
 /// A word of the loop, a half-word, each byte that can be changed and leaves an `addi`, the next
 /// word but one, a word behind the loop, the last word below 2,048, and the one at 4,096, which has
 /// the place of the first one in a table of 1,024.
 const CHANGES: [Change; 9] = [
-    // sw x6, 0(x0): addi x5, x5, 100 and addi x5, x5, 1
-    Change {
-        store: 0x0060_2023,
-        first: 0x0642_8293,
-        second: 0x0012_8293,
-    },
-    // sh x6, 2(x0): its upper half
-    Change {
-        store: 0x0060_1123,
-        first: 0x0642,
-        second: 0x0012,
-    },
-    // sb x6, 2(x0): the four low bits of its immediate
-    Change {
-        store: 0x0060_0123,
-        first: 0x72,
-        second: 0x12,
-    },
-    // sb x6, 3(x0): the eight high ones
-    Change {
-        store: 0x0060_01a3,
-        first: 0x06,
-        second: 0x00,
-    },
-    // sb x6, 1(x0): xori x5, x5, 1 and addi x5, x5, 1, by funct3
-    Change {
-        store: 0x0060_00a3,
-        first: 0xc2,
-        second: 0x82,
-    },
-    // sw x6, 8(x0): xor x6, x7, x6, and xor x6, x6, x7
-    Change {
-        store: 0x0060_2423,
-        first: 0x0063_c333,
-        second: 0x0073_4333,
-    },
-    // sw x6, 16(x0): behind the loop
-    Change {
-        store: 0x0060_2823,
-        first: 1,
-        second: 2,
-    },
-    // sw x6, 2044(x0): no word of the loop
-    Change {
-        store: 0x7e60_2e23,
-        first: 1,
-        second: 2,
-    },
-    // sw x6, 0(x8)
-    Change {
-        store: 0x0064_2023,
-        first: 0x0642_8293,
-        second: 0x0012_8293,
-    },
+    (0x0060_2023, 0x0642_8293, 0x0012_8293), // sw x6, 0(x0): addi by 100 and by 1
+    (0x0060_1123, 0x0642, 0x0012), // sh x6, 2(x0): its upper half
+    (0x0060_0123, 0x72, 0x12), // sb x6, 2(x0): the four low bits of its immediate
+    (0x0060_01a3, 0x06, 0x00), // sb x6, 3(x0): the eight high ones
+    (0x0060_00a3, 0xc2, 0x82), // sb x6, 1(x0): xori x5, x5, 1 and addi x5, x5, 1, by funct3
+    (0x0060_2423, 0x0063_c333, 0x0073_4333), // sw x6, 8(x0): the two orders of xor
+    (0x0060_2823, 1, 2), // sw x6, 16(x0): behind the loop
+    (0x7e60_2e23, 1, 2), // sw x6, 2044(x0): no word of the loop
+    (0x0064_2023, 0x0642_8293, 0x0012_8293), // sw x6, 0(x8)
 ];
 
 /// How many steps are made.
@@ -94,14 +45,14 @@ const LIMIT: u64 = 4001;
 fn words_of(change: &Change) -> [u32; 1024] {
     let mut words = [0; 1024];
     words[..4].copy_from_slice(&LOOP);
-    words[1] = change.store;
+    words[1] = change.0;
     words
 }
 
 /// The hart that makes it.
 fn hart_for(change: &Change) -> HartState {
-    let both = change.first ^ change.second;
-    hart_of(0, &[(6, change.first), (7, both), (8, 4096)])
+    let (_, first, second) = *change;
+    hart_of(0, &[(6, first), (7, first ^ second), (8, 4096)])
 }
 
 /// How a run ended, and the registers and the pc after it.
