@@ -1,7 +1,6 @@
 //! Instructions as values: what words are, and what is done with them.
 
 use rrs_lib::instruction::{DataAccess, Instruction, decode};
-use rrs_lib::instruction_formats::{BType, IType};
 use rrs_lib::instruction_string_outputter::InstructionStringOutputter;
 use std::test::Fail;
 
@@ -30,28 +29,6 @@ fn targets_are_told(rt: HostRuntime) {
         target_of(0, 0xffff_ffff),
     ];
     assert!(rt; told == [Some(0x108), Some(0), None, None]);
-}
-
-#[test]
-fn words_are_these_instructions(rt: HostRuntime) {
-    let branch = Instruction::Beq(BType {
-        imm: 8,
-        rs2: 2,
-        rs1: 1,
-        funct3: 0,
-    });
-    let system = Instruction::Ebreak(IType {
-        imm: 1,
-        rs1: 0,
-        funct3: 0,
-        rd: 0,
-    });
-    let decoded = [
-        decode(0x0020_8463),
-        decode(0x0010_0073),
-        decode(0xffff_ffff),
-    ];
-    assert!(rt; decoded == [Some(branch), Some(system), None]);
 }
 
 /// The operands of an instruction: rd, rs1 and rs2, the immediate, and the shift amount.

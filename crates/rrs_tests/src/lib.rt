@@ -15,17 +15,11 @@ mod edges;
 #[cfg(test)]
 mod executor;
 #[cfg(test)]
-mod formats;
-#[cfg(test)]
 mod instructions;
 #[cfg(test)]
 mod loading;
 #[cfg(test)]
-mod long_runs;
-#[cfg(test)]
 mod machines;
-#[cfg(test)]
-mod memories;
 #[cfg(test)]
 mod spaces;
 #[cfg(test)]

@@ -158,42 +158,27 @@ fn tells_a_failing_read(rt: HostRuntime) -> Result<(), Fail> {
     Ok(())
 }
 
-/// Regions and bytes; what is said, how many bytes are taken, and where the last word is.
-static ENDS: [(&[(u32, u32, &[u32])], &[u8], &str, usize, u32); 3] = [
-    (
-        &[(0xffff_fffc, 4, &[0])],
-        &[1, 2, 3, 4],
-        LOADED,
-        4,
-        0xffff_fffc,
-    ),
-    (
-        &[(0xffff_fffc, 4, &[0])],
-        &[1, 2, 3, 4, 5],
-        PAST,
-        5,
-        0xffff_fffc,
-    ),
-    (
-        &[(0, 4, &[0]), (8, 4, &[0])],
-        &[1, 2, 3, 4, 5, 6],
-        REFUSED,
-        5,
-        0,
-    ),
+/// Regions, bytes and an address; what is said, how many bytes are taken, and the word at the
+/// address after it: up to the last address, one byte more, and into a gap between two regions.
+static ENDS: [(&[(u32, u32, &[u32])], &[u8], u32, &str, usize, u32); 3] = [
+    (AT_THE_END, &[0xab], u32::MAX, LOADED, 1, 0xab00_0000),
+    (AT_THE_END, &[0xab, 0xcd], u32::MAX, PAST, 2, 0xab00_0000),
+    (WITH_A_GAP, &[1, 2, 3, 4, 5, 6], 0, REFUSED, 5, 0x0403_0201),
 ];
 
-/// Bytes to an address of a space, and the last byte that it took: up to the last address, one byte
-/// more, and into a gap between two regions.
+const AT_THE_END: &[(u32, u32, &[u32])] = &[(0xffff_fffc, 4, &[0])];
+
+const WITH_A_GAP: &[(u32, u32, &[u32])] = &[(0, 4, &[0]), (8, 4, &[0])];
+
 #[test]
 fn stops_where_regions_or_addresses_end(rt: HostRuntime) -> Result<(), Fail> {
-    for &(regions, bytes, said, taken, addr) in &ENDS {
+    for &(regions, bytes, addr, said, taken, word) in &ENDS {
         let mut space = space_of(rt.alloc(), regions)?;
         let mut reader = reader_of(bytes);
         let (text, given) = load(rt.alloc(), &mut reader, &mut space, addr)?;
-        let word = [word_at(&mut space, addr).unwrap_or(0)];
-        let seen = (text.as_str(), given, word.as_slice());
-        same_load(&rt, bytes.len(), seen, (said, taken, &[0x0403_0201]));
+        let left = [word_at(&mut space, addr).unwrap_or(0)];
+        let seen = (text.as_str(), given, left.as_slice());
+        same_load(&rt, bytes.len(), seen, (said, taken, &[word]));
     }
     Ok(())
 }

@@ -1,8 +1,5 @@
 //! What the tests share: memories, harts and their steps, and the comparison of what is seen.
 
-ghost use Rattle.std.specs.Prelude.{◌≡◌, ◌%◌};
-ghost use Rattle.rrs_lib.specs.Bytes.{width};
-
 use rrs_lib::instruction_executor::{InstructionException, InstructionExecutor, RunEnd};
 use rrs_lib::memories::{MemorySpace, MemorySpaceError, VecMemory};
 use rrs_lib::{HartState, MemAccessSize, Memory};
@@ -57,18 +54,6 @@ pub(crate) fn same_answer_at(
 /// The word of the four bytes of which this address is one.
 pub(crate) fn word_at<M: Memory>(memory: &mut M, addr: u32) -> Option<u32> {
     memory.read_mem(addr - addr % 4, MemAccessSize::Word)
-}
-
-/// Writes to an address, which is a multiple of the size, and returns whether this was granted.
-pub(crate) fn write_at<M: Memory>(
-    memory: &mut M,
-    addr: u32,
-    size: MemAccessSize,
-    value: u32,
-) -> bool
-    requires { addr % width size ≡ 0 }
-{
-    memory.write_mem(addr, size, value)
 }
 
 /// What is seen of a machine after some steps: how they ended, the pc, the entries of the

@@ -2,10 +2,10 @@
 
 use crate::machines::{
     add_region, ended, hart_of, left, memory_of, same_answer_at, same_at, same_word_at, space_of,
-    step_over, word_at, write_at,
+    step_over, word_at,
 };
+use rrs_lib::Memory;
 use rrs_lib::memories::{BoxedMemory, MemorySpace, MemorySpaceError, VecMemory};
-use rrs_lib::{MemAccessSize, Memory};
 use std::alloc::{AllocError, Global};
 use std::process::Abort;
 use std::test::Fail;
@@ -23,37 +23,37 @@ fn add_in_turn(
     Ok(())
 }
 
-/// Regions, each with what its addition answers.
-static IN_TURN: [(u32, u32, Result<usize, MemorySpaceError>); 9] = [
-    (0x100, 8, Ok(0)),
-    (0x104, 4, Err(MemorySpaceError::RegionOverlap)),
-    (0x10a, 4, Err(MemorySpaceError::Unaligned)),
-    (0x108, 6, Err(MemorySpaceError::Unaligned)),
-    (0x104, 0, Err(MemorySpaceError::RegionOverlap)),
-    (0x108, 4, Ok(1)),
-    (0x100, 0, Ok(2)),
-    (0x304, 0, Ok(3)),
-    (0x300, 0x10, Err(MemorySpaceError::RegionOverlap)),
+/// Regions that are added to an empty space one after the other, each with what its addition
+/// answers: beside and within others, with no address before a longer one, and at the last address
+/// and past it.
+static IN_TURN: [&[(u32, u32, Result<usize, MemorySpaceError>)]; 3] = [
+    &[
+        (0x100, 0x10, Ok(0)),
+        (0x10c, 8, Err(MemorySpaceError::RegionOverlap)),
+        (0x112, 4, Err(MemorySpaceError::Unaligned)),
+        (0x104, 0, Err(MemorySpaceError::RegionOverlap)),
+        (0x110, 4, Ok(1)),
+        (0x110, 6, Err(MemorySpaceError::Unaligned)),
+        (0x100, 0, Ok(2)),
+    ],
+    &[
+        (0x104, 0, Ok(0)),
+        (0x100, 0x10, Err(MemorySpaceError::RegionOverlap)),
+    ],
+    &[
+        (0xffff_fffc, 0xffff_fffc, Ok(0)),
+        (0, 4, Ok(1)),
+        (0xffff_fffc, 0, Ok(2)),
+        (0xffff_fffc, 4, Err(MemorySpaceError::RegionOverlap)),
+    ],
 ];
 
-// The first two are the example of `add_memory`.
 #[test]
 fn regions_are_accepted_in_turn(rt: HostRuntime) -> Result<(), Fail> {
-    add_in_turn(rt.alloc(), &IN_TURN)
-}
-
-/// Regions, each with what its addition answers.
-static AT_THE_END: [(u32, u32, Result<usize, MemorySpaceError>); 4] = [
-    (0xffff_fffc, 0xffff_fffc, Ok(0)),
-    (0, 4, Ok(1)),
-    (0xffff_fffc, 0, Ok(2)),
-    (0xffff_fffc, 4, Err(MemorySpaceError::RegionOverlap)),
-];
-
-// Regions at the last address, and past it.
-#[test]
-fn regions_at_the_end_of_the_addresses(rt: HostRuntime) -> Result<(), Fail> {
-    add_in_turn(rt.alloc(), &AT_THE_END)
+    for cases in &IN_TURN {
+        add_in_turn(rt.alloc(), cases)?;
+    }
+    Ok(())
 }
 
 /// Adds a region of 8 bytes at a base.
@@ -114,18 +114,18 @@ fn a_refused_region_may_be_added_again(rt: HostRuntime) -> Result<(), Fail> {
 }
 
 /// Asserts which words stand at some addresses.
-fn same_words(rt: &impl Abort, space: &mut MemorySpace<VecMemory>, words: &[(u32, Option<u32>)]) {
+fn same_words<M: Memory>(rt: &impl Abort, memory: &mut M, words: &[(u32, Option<u32>)]) {
     for &(addr, word) in words {
-        same_word_at(rt, addr, word_at(space, addr), word);
+        same_word_at(rt, addr, word_at(memory, addr), word);
     }
 }
 
 /// Spaces, each with addresses and the words that stand there.
 static REGIONS: [(&[(u32, u32, &[u32])], [(u32, Option<u32>); 4]); 4] = [
     (
-        &[(0x100, 8, &[5]), (0x200, 4, &[1, 2])],
+        &[(0x100, 8, &[0x1122_3344]), (0x200, 4, &[1, 2])],
         [
-            (0x100, Some(5)),
+            (0x100, Some(0x1122_3344)),
             (0x104, None),
             (0x200, Some(1)),
             (0x204, None),
@@ -180,7 +180,7 @@ fn fill(space: &mut MemorySpace<VecMemory>, index: usize, word: u32) -> bool {
 
 #[test]
 fn lends_each_memory(rt: HostRuntime) -> Result<(), Fail> {
-    let mut space = space_of(rt.alloc(), &[(0x100, 4, &[1]), (0x200, 4, &[2])])?;
+    let mut space = space_of(rt.alloc(), &[(0x100, 8, &[1]), (0x200, 4, &[1, 2])])?;
     let written = [fill(&mut space, 1, 9), fill(&mut space, 2, 9)];
     let lent = [
         first_word(&space, 0),
@@ -188,19 +188,22 @@ fn lends_each_memory(rt: HostRuntime) -> Result<(), Fail> {
         first_word(&space, 2),
     ];
     assert!(rt; written == [true, false] && lent == [Some(1), Some(9), None]);
+    same_word_at(&rt, 0x200, word_at(&mut space, 0x200), Some(9));
     Ok(())
 }
 
+// Two words at 0x10 of a space that stands at 0x1000 of another.
 #[test]
-fn writes_go_to_one_region(rt: HostRuntime) -> Result<(), Fail> {
-    let mut space = space_of(rt.alloc(), &[(0x100, 8, &[1]), (0x108, 4, &[2, 3])])?;
-    let written = [
-        write_at(&mut space, 0x109, MemAccessSize::Byte, 0x1ff),
-        write_at(&mut space, 0x104, MemAccessSize::Word, 7),
-        write_at(&mut space, 0x10c, MemAccessSize::Word, 7),
-    ];
-    let words = [word_at(&mut space, 0x100), word_at(&mut space, 0x108)];
-    assert!(rt; written == [true, false, false] && words == [Some(1), Some(0xff02)]);
+fn a_space_in_a_space(rt: HostRuntime) -> Result<(), Fail> {
+    let inner = space_of(rt.alloc(), &[(0x10, 8, &[7, 8])])?;
+    let mut space = MemorySpace::new(rt.alloc());
+    let added = add_region(&mut space, 0x1000, 0x14, inner);
+    same_answer_at(0x1000, 0x14, &added, &Ok(0))?;
+    same_words(
+        &rt,
+        &mut space,
+        &[(0x1010, Some(7)), (0x1000, None), (0x1014, None)],
+    );
     Ok(())
 }
 
@@ -231,8 +234,7 @@ fn boxed_memories(alloc: Global) -> Result<MemorySpace<BoxedMemory>, Fail> {
 #[test]
 fn memories_of_two_types(rt: HostRuntime) -> Result<(), Fail> {
     let mut space = boxed_memories(rt.alloc())?;
-    same_word_at(&rt, 0x1004, word_at(&mut space, 0x1004), Some(9));
-    same_word_at(&rt, 0x1000, word_at(&mut space, 0x1000), None);
+    same_words(&rt, &mut space, &[(0x1004, Some(9)), (0x1000, None)]);
     let seen = step_over(&mut space, hart_of(0, &[]));
     same_at(&rt, 0, seen, left(ended(1, None), 4, &[(1, 5)], Some(1)));
     Ok(())
