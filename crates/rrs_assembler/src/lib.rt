@@ -12,7 +12,6 @@
 
 mod hexadecimal;
 mod operands;
-mod placing;
 mod readers;
 mod rows;
 
@@ -23,8 +22,8 @@ ghost use Rattle.rrs_assembler.specs.Shapes.{IsTextOfSome, IsAssembled};
 ghost use Rattle.rrs_extra.specs.Showing.{AreOneOrFences};
 
 use crate::operands::fields_of;
-use crate::placing::encode;
 use crate::rows::{RowForm, find_row};
+use rrs_encode::word_of;
 
 /// What is wrong at the byte where a text stops to be a beginning of an instruction.
 #[derive(Debug, PartialEq, Clone, Copy)]
@@ -89,7 +88,7 @@ pub fn assemble(text: &[u8], pc: u32) -> Result<u32, AssembleError>
     ensures none { OnErr result ((w : ℕ) → ¬ HasText pc w text.now) }
     ensures at { IfErr result (λ error. IsFurthest pc text.now error.at) }
 {
-    match word_of(text, pc) {
+    match word_of_text(text, pc) {
         Ok(word) => Ok(word),
         Err(stop) => Err(AssembleError {
             mistake: stop.mistake,
@@ -99,12 +98,12 @@ pub fn assemble(text: &[u8], pc: u32) -> Result<u32, AssembleError>
 }
 
 /// The word of a text, or where the text goes wrong.
-fn word_of(text: &[u8], pc: u32) -> Result<u32, Stop>
+fn word_of_text(text: &[u8], pc: u32) -> Result<u32, Stop>
     ensures { MatchResult result (λ w. IsAssembled pc text.now w)
         (λ stop. Fails (IsTextOfSome pc) text.now stop.left) }
 {
     let (row, rest) = find_row(text)?;
     let RowForm(_, shape, opcode, funct3, last) = row;
     let fields = fields_of(shape, funct3, last, rest, pc)?;
-    Ok(encode(opcode, fields))
+    Ok(word_of(opcode, fields))
 }

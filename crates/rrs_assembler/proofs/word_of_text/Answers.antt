@@ -9,7 +9,7 @@ use Rattle.rrs_assembler.specs.Shapes.{Form, form_of, form_of_row, IsTextOfSome,
 use Rattle.rrs_assembler.proofs.Forms.{row_of_form, three_small, last_small}
 use Rattle.rrs_assembler.proofs.RowTexts.{LastFits, fields_in_range}
 use Rattle.rrs_assembler.proofs.Whole.{IsRest, no_opening, no_operands}
-use Rattle.rrs_assembler.proofs.word_of.Goals as goal
+use Rattle.rrs_assembler.proofs.word_of_text.Goals as goal
 
 pub returns-in_err-row : goal.returns-in_err-row
 returns-in_err-row c =
@@ -39,13 +39,13 @@ returns-in_err-fields c =
     no_operands found.0 c.args.pc c.args.text.now c.in_ok-row.rest.now _ (begins (form_of c.in_ok-row.row) found.0 _ _ found.1 c.in_ok-row.ensures.1) rest in
     search rules
 
-pub encode-requires-clause-opcode : goal.encode-requires-clause-opcode
-encode-requires-clause-opcode c =
+pub word_of-requires-clause-opcode : goal.word_of-requires-clause-opcode
+word_of-requires-clause-opcode c =
     let found = row_of_form _ c.in_ok-row.ensures.0 in
     subst (λ n. n < 128) (sym (ap (λ (f : Form). f.2) found.1)) (small_opcode found.0)
 
-pub encode-requires-clause-fields : goal.encode-requires-clause-fields
-encode-requires-clause-fields c =
+pub word_of-requires-clause-fields : goal.word_of-requires-clause-fields
+word_of-requires-clause-fields c =
     let found = row_of_form _ c.in_ok-row.ensures.0 in
     let shows = subst (λ (f : Form). Shows f.1 f.3 f.4 c.args.pc c.in_ok-row.rest.now (as_fields c.in_ok-fields.fields)) found.1 c.in_ok-fields.ensures in
     fields_in_range found.0 c.args.pc c.in_ok-row.rest.now (as_fields c.in_ok-fields.fields) shows
@@ -60,5 +60,5 @@ returns c =
       rest = c.in_ok-row.rest.now;
       whole = begins (form_of c.in_ok-row.row) found.0 _ _ found.1 c.in_ok-row.ensures.1;
       shows = subst (λ (f : Form). Shows f.1 f.3 f.4 c.args.pc c.in_ok-row.rest.now fields) found.1 c.in_ok-fields.ensures;
-      encoded = c.encode.ensures ∙ ap (λ (f : Form). encode f.2 fields) found.1;
+      encoded = c.word_of.ensures ∙ ap (λ (f : Form). encode f.2 fields) found.1;
     }
