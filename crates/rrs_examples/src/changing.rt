@@ -4,6 +4,7 @@ ghost use Rattle.std.specs.Prelude.{◌<◌, ◌^◌};
 
 use crate::machines::hart_of;
 use rrs_extra::PagedMemory;
+use rrs_fast::DecodeCache;
 use rrs_lib::instruction_executor::{InstructionExecutor, RunEnd};
 use rrs_lib::memories::{BoxedMemory, MemorySpace, VecMemory};
 use rrs_lib::{HartState, Memory};
@@ -59,13 +60,13 @@ fn hart_for(change: &Change) -> HartState {
 type Seen = (RunEnd, [u32; 32], u32);
 
 /// What a hart has after a run of one call.
-fn run_once<M: Memory>(mem: &mut M, change: &Change) -> Seen {
+fn run_once<M: Memory>(cache: &mut DecodeCache, mem: &mut M, change: &Change) -> Seen {
     let mut hart_state = hart_for(change);
     let mut executor = InstructionExecutor {
         mem,
         hart_state: &mut hart_state,
     };
-    let end = executor.run(LIMIT);
+    let end = cache.run(&mut executor, LIMIT);
     (end, hart_state.registers, hart_state.pc)
 }
 
@@ -133,9 +134,9 @@ fn words_over(alloc: Global, change: &Change) -> Result<VecMemory, AllocError> {
 }
 
 /// The run over a memory of words, behind a box.
-fn run_in_box(alloc: Global, change: &Change) -> Result<Seen, AllocError> {
+fn run_in_box(cache: &mut DecodeCache, alloc: Global, change: &Change) -> Result<Seen, AllocError> {
     let memory = Box::new(alloc, words_over(alloc, change)?)?;
-    Ok(run_once(&mut BoxedMemory { memory }, change))
+    Ok(run_once(cache, &mut BoxedMemory { memory }, change))
 }
 
 /// Asserts that a run leaves what is expected.
@@ -146,15 +147,17 @@ fn same_seen(rt: &impl Abort, seen: &Seen, expected: &Seen) {
 #[test]
 fn each_change_is_seen_by_the_next_fetch(rt: HostRuntime) -> Result<(), Fail> {
     let alloc = rt.alloc();
+    // One cache is lent to all of the runs.
+    let mut cache = DecodeCache::new();
     for change in &CHANGES {
         let expected = step_by_step(&mut words_over(alloc, change)?, change);
-        let over_words = run_once(&mut words_over(alloc, change)?, change);
+        let over_words = run_once(&mut cache, &mut words_over(alloc, change)?, change);
         same_seen(&rt, &over_words, &expected);
-        let over_pages = run_once(&mut pages_of(alloc, change)?, change);
+        let over_pages = run_once(&mut cache, &mut pages_of(alloc, change)?, change);
         same_seen(&rt, &over_pages, &expected);
-        let over_space = run_once(&mut space_of(alloc, change)?, change);
+        let over_space = run_once(&mut cache, &mut space_of(alloc, change)?, change);
         same_seen(&rt, &over_space, &expected);
-        same_seen(&rt, &run_in_box(alloc, change)?, &expected);
+        same_seen(&rt, &run_in_box(&mut cache, alloc, change)?, &expected);
     }
     Ok(())
 }
@@ -163,7 +166,8 @@ fn each_change_is_seen_by_the_next_fetch(rt: HostRuntime) -> Result<(), Fail> {
 fn a_word_that_is_changed_in_each_turn_adds_both_numbers(rt: HostRuntime) -> Result<(), Fail> {
     let alloc = rt.alloc();
     let mut memory = words_over(alloc, &CHANGES[0])?;
-    let (end, registers, pc) = run_once(&mut memory, &CHANGES[0]);
+    let mut cache = DecodeCache::new();
+    let (end, registers, pc) = run_once(&mut cache, &mut memory, &CHANGES[0]);
     // 1,000 turns of four steps, and the first step of the next one
     assert!(rt; (end.steps, end.exception, registers[5], pc) == (LIMIT, None, 50_501, 4));
     Ok(())

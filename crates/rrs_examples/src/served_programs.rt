@@ -9,6 +9,7 @@ ghost use Rattle.rrs_linux_programs.specs.Echoing.{echo_program};
 ghost use Rattle.rrs_linux_programs.specs.WritingAndExiting.{write_and_exit_program};
 
 use crate::machines::hart_of;
+use rrs_fast::DecodeCache;
 use rrs_lib::instruction_executor::InstructionExecutor;
 use rrs_lib::memories::VecMemory;
 use rrs_lib::{HartState, Memory};
@@ -175,7 +176,7 @@ pub(crate) fn served_over<M: Memory, E: Environment>(
     limit: u64,
 ) -> ServedEnd {
     let mut executor = InstructionExecutor { mem, hart_state };
-    run_served(&mut executor, environment, limit)
+    run_served(&mut DecodeCache::new(), &mut executor, environment, limit)
 }
 
 /// Runs words at 0 over an environment, with three arguments, in a memory of 200 words.

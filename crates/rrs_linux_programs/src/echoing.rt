@@ -10,6 +10,7 @@ ghost use Rattle.rrs_linux.specs.Transfers.{most_bytes};
 ghost use Rattle.rrs_linux_programs.specs.Echoing.{EchoStarts, TakesRounds};
 
 use crate::arguments::arguments_of_call;
+use rrs_fast::DecodeCache;
 use rrs_lib::Memory;
 use rrs_lib::instruction_executor::InstructionExecutor;
 use rrs_linux::Recorder;
@@ -56,5 +57,5 @@ pub fn echo<M: Memory>(
     ensures rest { KeepsTheRest M.layout executor.old executor.new }
 {
     arguments_of_call(executor.hart_state);
-    run_served(executor, environment, limit)
+    run_served(&mut DecodeCache::new(), executor, environment, limit)
 }

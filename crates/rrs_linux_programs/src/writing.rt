@@ -11,6 +11,7 @@ ghost use Rattle.rrs_linux.specs.SystemCalls.{Serves};
 ghost use Rattle.rrs_linux_programs.specs.WritingAndExiting.{WriteAndExitStarts};
 
 use crate::arguments::arguments_of_call;
+use rrs_fast::DecodeCache;
 use rrs_lib::Memory;
 use rrs_lib::instruction_executor::InstructionExecutor;
 use rrs_linux::{Linux, Recorder};
@@ -50,7 +51,7 @@ pub fn write_and_exit<M: Memory>(
     ensures rest { KeepsTheRest M.layout executor.old executor.new }
 {
     arguments_of_call(executor.hart_state);
-    run_served(executor, environment, limit)
+    run_served(&mut DecodeCache::new(), executor, environment, limit)
 }
 
 /// Calls the program of [write_and_exit] over the streams of a host.
@@ -85,5 +86,5 @@ pub fn write_and_exit_over<M: Memory, R: Read, W: Write, E: Write>(
     ensures rest { KeepsTheRest M.layout executor.old executor.new }
 {
     arguments_of_call(executor.hart_state);
-    run_served(executor, environment, limit)
+    run_served(&mut DecodeCache::new(), executor, environment, limit)
 }
