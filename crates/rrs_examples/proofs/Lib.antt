@@ -1,3 +1,4 @@
 pub mod CountDown
+pub mod GreetingMachine
 pub mod ProgramExamples
 pub mod ServedExamples

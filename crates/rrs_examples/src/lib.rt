@@ -5,7 +5,8 @@
 //! `rrs_served`, `rrs_linux` and `rrs_assembler` offer to every crate. The processor `call_counter`
 //! and its use in `coverage` are those of `docs/PROCESSORS.md`, `count_down` is the program that
 //! `docs/PROGRAMS.md` proves step by step, `tracing`, `calls` and `console` have the examples of
-//! `docs/HOSTS.md`, and `devices` two of `docs/MEMORIES.md`. All of it is built with the tests.
+//! `docs/HOSTS.md`, and `devices` two of `docs/MEMORIES.md`, which speaks of `greeting` too. All
+//! of it is built with the tests.
 
 #![tactic(auto)]
 
@@ -25,6 +26,8 @@ mod count_down;
 mod coverage;
 #[cfg(test)]
 mod devices;
+#[cfg(test)]
+mod greeting;
 #[cfg(test)]
 mod independence;
 #[cfg(test)]

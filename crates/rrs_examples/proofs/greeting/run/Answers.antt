@@ -1,7 +1,7 @@
 -- What the port took is what it has logged, since there was room for it.
 use Rattle.std.proofs.Common.{refl}
-use Rattle.rrs_hello.proofs.Machines.{logs_greeting}
-use Rattle.rrs_hello.proofs.greeting.run.Goals as goal
+use Rattle.rrs_examples.proofs.GreetingMachine.{logs_greeting}
+use Rattle.rrs_examples.proofs.greeting.run.Goals as goal
 
 pub write_log-requires : goal.write_log-requires
 write_log-requires g c =

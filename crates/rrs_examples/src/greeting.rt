@@ -1,4 +1,5 @@
-//! The machine whose program prints the greeting, its run, and the log that is left.
+//! A program in the simulated machine that prints: the machine of words and a port, the call of
+//! `put_string` there on the string "Hello, RISC-V!", and what the port has logged then.
 
 ghost use Rattle.std.specs.Prelude.{◌≡◌, [], IfErr, IfOk, IsOkUnless, IsTrue, OnOk};
 ghost use Rattle.std.specs.Io.KnownBytes.{Appends};
@@ -6,7 +7,7 @@ ghost use Rattle.rrs_extra.specs.Ports.{parts_bytes, parts_writable};
 ghost use Rattle.rrs_extra.specs.Printing.{HoldsString, put_string_program};
 ghost use Rattle.rrs_extra.specs.Programs.{HoldsWords, HoldsIllegal};
 ghost use Rattle.rrs_runner.specs.Faults.{StopsPrinting};
-ghost use Rattle.rrs_hello.specs.Greeting.{greeting, port_address, words_to_run, machine_regions, HasLog, HasRoom};
+ghost use Rattle.rrs_examples.specs.Greeting.{greeting, port_address, words_to_run, machine_regions, HasLog, HasRoom};
 
 use rrs_extra::laws::print_string;
 use rrs_extra::{PrintPort, RamOrPort};
@@ -17,6 +18,7 @@ use rrs_runner::fault::RunFault;
 use rrs_runner::report::write_text;
 use std::alloc::Global;
 use std::io::Write;
+use std::test::Fail;
 
 /// The address of the port.
 const PORT: u32 = 0x1000_0000;
@@ -139,4 +141,12 @@ fn write_log<W: Write>(space: &MemorySpace<RamOrPort>, out: &mut W) -> Result<()
         Some(RamOrPort::Port(port)) => write_text(out, port.log.as_slice()),
         _ => unreachable!(),
     }
+}
+
+#[test]
+fn prints_what_the_program_prints(rt: HostRuntime) -> Result<(), Fail> {
+    let mut out = Vec::new(rt.alloc());
+    print_greeting(rt.alloc(), &mut out)?;
+    assert!(rt; out.as_slice() == b"Hello, RISC-V!\n".as_slice());
+    Ok(())
 }

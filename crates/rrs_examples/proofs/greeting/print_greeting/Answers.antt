@@ -1,6 +1,6 @@
 use Rattle.std.proofs.Common.{arith}
-use Rattle.rrs_hello.proofs.Machines.{holds_program, holds_greeting, has_room}
-use Rattle.rrs_hello.proofs.greeting.print_greeting.Goals as goal
+use Rattle.rrs_examples.proofs.GreetingMachine.{holds_program, holds_greeting, has_room}
+use Rattle.rrs_examples.proofs.greeting.print_greeting.Goals as goal
 
 pub run-requires-clause-program : goal.run-requires-clause-program
 run-requires-clause-program g c = holds_program _ _ _ c.in_ok-space.ensures.regions c.in_ok-ram.ensures.words

@@ -12,7 +12,7 @@ use Rattle.rrs_extra.specs.Printing.{HoldsString, put_string_program}
 use Rattle.rrs_extra.specs.Programs.{HoldsWords}
 use Rattle.rrs_extra.proofs.PutString.{string_by_test}
 use Rattle.rrs_extra.proofs.Words.{holds_by_test}
-use Rattle.rrs_hello.specs.Greeting.{greeting, port_address, words_to_run, machine_regions, HasRoom, HasLog}
+use Rattle.rrs_examples.specs.Greeting.{greeting, port_address, words_to_run, machine_regions, HasRoom, HasLog}
 
 -- the bytes of the machine, by its words and its port
 abbrev in_machine : List ℕ → PrintPort → ByteMap
