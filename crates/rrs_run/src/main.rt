@@ -8,9 +8,8 @@
 #![tactic(auto)]
 
 use rrs_runner::command::run_program;
-use rrs_runner::programs::RRS_RUN;
 use std::process::ExitCode;
 
 fn main(rt: HostRuntime) -> ExitCode {
-    run_program(&rt, &RRS_RUN)
+    run_program(&rt)
 }

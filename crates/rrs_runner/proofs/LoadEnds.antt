@@ -1,5 +1,5 @@
--- Where a load into 16,384 words at address 0 can end.
-use Rattle.std.proofs.Common.{◌≡◌, ℕ, ◌+◌, ◌<◌, ◌≤◌, true, false, List, [], ◌∷◌, ◌++◌, length, Option, Err, sym, ◌∙◌, arith}
+-- Where a load at address 0 can end, and one into 16,384 words.
+use Rattle.std.proofs.Common.{◌≡◌, ℕ, ◌+◌, ◌*◌, ◌<◌, ◌≤◌, true, false, List, [], ◌∷◌, ◌++◌, length, Option, Err, sym, ◌∙◌, arith}
 use Rattle.std.proofs.lemmas.Bool.Decides.{nat_tests}
 use Rattle.std.proofs.lemmas.List.{length-append}
 use Rattle.std.specs.Io.KnownBytes.{Consumes}
@@ -10,18 +10,27 @@ use Rattle.rrs_lib.specs.Loading.{Loaded, Loads}
 use Rattle.rrs_runner.specs.declared.fault.RunFault.TheVariants as RunFault
 use Rattle.rrs_runner.specs.Faults.{StopsLoad}
 
--- the addresses of the words, and the first one past them
+-- no address past the words lies in them
+lies_past_all : (words : List ℕ) (n a : ℕ) → length words ≡ n → 4 * n ≤ a → lies_in_words words a ≡ false
+lies_past_all words n a long past = grind (arith, nat_tests)
+
+-- a load into less than 2^30 words does not come to the last address
+pub not_to_the_end : (words : List ℕ) (n k : ℕ) → length words ≡ n → 4 * n < k → ((i : ℕ) → i < k → lies_in_words words (0 + i) ≡ true) → ⊥
+not_to_the_end words n k long past writable =
+    let yes = writable (4 * n) past in
+    let no = lies_past_all words n (0 + 4 * n) long (omega arith) in
+    let differ : true ≡ false = sym yes ∙ no in
+    cc
+
+-- the addresses of 16,384 words, and the first one past them
 lies_inside : (words : List ℕ) (a : ℕ) → length words ≡ 16384 → a < 65536 → lies_in_words words a ≡ true
 lies_inside words a e h = grind (arith, nat_tests)
-
-lies_past : (words : List ℕ) (a : ℕ) → length words ≡ 16384 → 65536 ≤ a → lies_in_words words a ≡ false
-lies_past words a e h = grind (arith, nat_tests)
 
 -- no address past the words was written
 input_fits : (words : List ℕ) (n : ℕ) → length words ≡ 16384 → ((i : ℕ) → i < n → lies_in_words words (0 + i) ≡ true) → 65536 < n → ⊥
 input_fits words n e writable long =
     let yes = writable 65536 long in
-    let no = lies_past words (0 + 65536) e (omega arith) in
+    let no = lies_past_all words 16384 (0 + 65536) e (omega arith) in
     let differ : true ≡ false = sym yes ∙ no in
     cc
 

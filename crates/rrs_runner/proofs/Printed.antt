@@ -1,6 +1,8 @@
 -- What is printed, put together, and the state that a run of a reader's bytes starts in.
-use Rattle.std.proofs.Common.{◌≡◌, ℕ, List, ◌++◌, drop, replicate, Bool, Option, None, Result, Ok, Err, IfErr, ap, ◌∙◌, subst}
+use Rattle.std.proofs.Common.{◌≡◌, ℕ, List, ◌++◌, drop, replicate, Bool, Option, Some, None, Result, Ok, Err, IfErr, refl, ap, ◌∙◌, subst, inl, inr}
+use Rattle.std.specs.Io.KnownBytes.{Keeps}
 use Rattle.std.proofs.KnownBytes.{Appends-trans}
+use Rattle.std.proofs.lemmas.List.{length-replicate}
 use Rattle.rrs_lib.specs.declared.HartState.{HartState}
 use Rattle.rrs_lib.specs.Bytes.{ByteMap}
 use Rattle.rrs_lib.specs.Machine.{State, state_of}
@@ -8,8 +10,9 @@ use Rattle.rrs_lib.specs.VecBytes.{bytes_of_words, lies_in_words}
 use Rattle.rrs_lib.specs.Loading.{Loads}
 use Rattle.rrs_runner.specs.declared.fault.RunFault.{RunFault}
 use Rattle.rrs_runner.specs.declared.fault.RunFault.TheVariants.{OutOfMemory, Reader, Refused, Output}
-use Rattle.rrs_runner.specs.Faults.{StopsPrinting}
+use Rattle.rrs_runner.specs.Faults.{StopsPrinting, StopsLoadInto, StopsRunOf}
 use Rattle.rrs_runner.specs.Printed.{AppendsLines, IsBeginning, PrintsOfRun, zero_words, start_of}
+use Rattle.rrs_runner.proofs.LoadEnds.{refused_at_end, fails_in_time}
 
 -- ---- lines of a kind
 
@@ -40,20 +43,19 @@ if_stops_weaker P P' Q Q' a b (Err e) f g p = stops_weaker P P' Q Q' a b e f g p
 
 -- ---- the run of a reader's bytes
 
--- the state of a new hart
-start_is : (hart : HartState) (bytes : ByteMap) (writable : ℕ → Bool) → hart.registers ≡ replicate 32 0 → hart.pc ≡ 0 → hart.last_register_write ≡ None → writable ≡ lies_in_words zero_words → state_of hart bytes writable ≡ start_of bytes
-start_is hart bytes writable registers pc last there =
-    let s : List ℕ → ℕ → Option ℕ → (ℕ → Bool) → State = λ rs n o w. record { registers = drop 1 rs; pc = n; last = o; bytes = bytes; writable = w } in
-    ap (λ rs. s rs hart.pc hart.last_register_write writable) registers
-    ∙ (ap (λ n. s (replicate 32 0) n hart.last_register_write writable) pc
-    ∙ (ap (λ o. s (replicate 32 0) 0 o writable) last
-    ∙ ap (λ w. s (replicate 32 0) 0 None w) there))
+-- the state of a hart that begins at address 0
+pub start_is : (count : ℕ) (all registers : List ℕ) (pc : ℕ) (last : Option ℕ) (bytes : ByteMap) (writable : ℕ → Bool) → drop 1 all ≡ registers → pc ≡ 0 → last ≡ None → writable ≡ lies_in_words (zero_words count) → record { registers = drop 1 all; pc = pc; last = last; bytes = bytes; writable = writable } ≡ start_of count registers bytes
+start_is count all registers pc last bytes writable are at none there =
+    let s : List ℕ → ℕ → Option ℕ → (ℕ → Bool) → State = λ rs n o w. record { registers = rs; pc = n; last = o; bytes = bytes; writable = w } in
+    ap (λ rs. s rs pc last writable) are
+    ∙ (ap (λ n. s registers n last writable) at
+    ∙ (ap (λ o. s registers 0 o writable) none
+    ∙ ap (λ w. s registers 0 None w) there))
 
 -- a memory of zeros was loaded, and a hart is new
-pub record Ready (input rest : Option (List ℕ)) (old new : List ℕ) (hart : HartState) : Type 0 where
-  pub zeros : old ≡ zero_words
-  pub loads : Loads input rest (bytes_of_words old) (bytes_of_words new) (lies_in_words old) 0 (Ok tt)
-  pub writable : lies_in_words new ≡ lies_in_words old
+pub record Ready (input rest : Option (List ℕ)) (new : List ℕ) (hart : HartState) : Type 0 where
+  pub loads : Loads input rest (bytes_of_words (zero_words 16384)) (bytes_of_words new) (lies_in_words (zero_words 16384)) 0 (Ok tt)
+  pub writable : lies_in_words new ≡ lies_in_words (zero_words 16384)
   pub registers : hart.registers ≡ replicate 32 0
   pub pc : hart.pc ≡ 0
   pub last : hart.last_register_write ≡ None
@@ -63,9 +65,33 @@ abbrev pub ready_state : List ℕ → HartState → State
 ready_state new hart = state_of hart (bytes_of_words new) (lies_in_words new)
 
 -- what is printed of the run that starts there
-pub run_printed : (AreLines : State → List ℕ → Type 0) (input rest : Option (List ℕ)) (old new : List ℕ) (hart : HartState) (a b : Option (List ℕ)) → Ready input rest old new hart → AppendsLines (AreLines (ready_state new hart)) a b → PrintsOfRun AreLines input rest a b
-run_printed AreLines input rest old new hart a b r printed =
-    let FromWords : List ℕ → Type 0 = λ ws. Loads input rest (bytes_of_words ws) (bytes_of_words new) (lies_in_words ws) 0 (Ok tt) in
+pub run_printed : (AreLines : State → List ℕ → Type 0) (input rest : Option (List ℕ)) (new : List ℕ) (hart : HartState) (a b : Option (List ℕ)) → Ready input rest new hart → AppendsLines (AreLines (ready_state new hart)) a b → PrintsOfRun AreLines input rest a b
+run_printed AreLines input rest new hart a b r printed =
     let FromState : State → Type 0 = λ s. AppendsLines (AreLines s) a b in
-    let start = start_is hart (bytes_of_words new) (lies_in_words new) r.registers r.pc r.last (r.writable ∙ ap lies_in_words r.zeros) in
-    record { bytes = bytes_of_words new; loaded = subst FromWords r.zeros r.loads; printed = subst FromState start printed }
+    let start = start_is 16384 hart.registers (replicate 31 0) hart.pc hart.last_register_write (bytes_of_words new) (lies_in_words new) (ap (λ rs. drop 1 rs) r.registers) r.pc r.last r.writable in
+    record { bytes = bytes_of_words new; loaded = r.loads; printed = subst FromState start printed }
+
+-- what stops the run that starts there
+stops_run : (AreMade ArePart : State → List ℕ → Type 0) (input rest : Option (List ℕ)) (new : List ℕ) (hart : HartState) (a b : Option (List ℕ)) (fault : RunFault) → Ready input rest new hart → StopsPrinting (AreMade (ready_state new hart)) (ArePart (ready_state new hart)) a b fault → StopsRunOf AreMade ArePart input rest a b fault
+stops_run AreMade ArePart input rest new hart a b OutOfMemory r p = inr (run_printed AreMade input rest new hart a b r p)
+stops_run AreMade ArePart input rest new hart a b Reader r p = absurd p
+stops_run AreMade ArePart input rest new hart a b (Refused x) r p = absurd p
+stops_run AreMade ArePart input rest new hart a b Output r p = run_printed (λ s. IsBeginning (ArePart s)) input rest new hart a b r p
+
+-- the same of what a call returned
+pub if_stops_run : (AreMade ArePart : State → List ℕ → Type 0) (input rest : Option (List ℕ)) (new : List ℕ) (hart : HartState) (a b : Option (List ℕ)) (r : Result (Unit {0}) RunFault) → Ready input rest new hart → IfErr r (StopsPrinting (AreMade (ready_state new hart)) (ArePart (ready_state new hart)) a b) → IfErr r (StopsRunOf AreMade ArePart input rest a b)
+if_stops_run AreMade ArePart input rest new hart a b (Ok x) ready p = tt
+if_stops_run AreMade ArePart input rest new hart a b (Err fault) ready p = stops_run AreMade ArePart input rest new hart a b fault ready p
+
+-- there was no run, and nothing is printed
+keeps_same : (a : Option (List ℕ)) → Keeps a a
+keeps_same None = tt
+keeps_same (Some xs) = refl
+
+pub stopped_in_load : (AreMade ArePart : State → List ℕ → Type 0) (input rest a : Option (List ℕ)) (fault : RunFault) → StopsLoadInto 16384 input rest fault → StopsRunOf AreMade ArePart input rest a a fault
+stopped_in_load AreMade ArePart input rest a OutOfMemory kept = inl (kept, keeps_same a)
+stopped_in_load AreMade ArePart input rest a Reader p =
+    (fails_in_time _ _ _ _ (zero_words 16384) _ (length-replicate {A = ℕ} 16384 0) p.2.loaded p.2.answered, keeps_same a)
+stopped_in_load AreMade ArePart input rest a (Refused x) p =
+    (refused_at_end _ _ _ _ (zero_words 16384) x (length-replicate {A = ℕ} 16384 0) p.1, keeps_same a)
+stopped_in_load AreMade ArePart input rest a Output never = absurd never

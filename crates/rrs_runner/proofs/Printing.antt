@@ -1,12 +1,16 @@
 -- Texts that are written one after another.
-use Rattle.std.proofs.Common.{◌≡◌, ℕ, ◌+◌, ◌-◌, ◌≤◌, List, length, length-drop, arith, ◌∙◌, [], ◌++◌, take, drop, Option, sym, ap, subst, Result, Ok, Err, OnOk, append-nil, take-append-drop}
+use Rattle.std.proofs.Common.{◌≡◌, ℕ, ◌+◌, ◌-◌, ◌≤◌, List, length, length-drop, arith, ◌∙◌, [], ◌++◌, take, drop, Option, sym, ap, subst, Result, Ok, Err, OnOk, IfErr, append-nil, take-append-drop}
 use Rattle.std.proofs.lemmas.List.{take_rest}
 use Rattle.std.proofs.Math.Seq.{take-add}
 use Rattle.std.specs.Io.KnownBytes.{Appends, Keeps}
 use Rattle.std.proofs.KnownBytes.{Appends-trans, Appends-kept}
 use Rattle.rrs_lib.specs.Machine.{State}
 use Rattle.rrs_runner.specs.Printed.{AppendsLines, IsBeginning}
+use Rattle.rrs_runner.specs.declared.fault.RunFault.{RunFault}
+use Rattle.rrs_runner.specs.declared.fault.RunFault.TheVariants.{Output}
+use Rattle.rrs_runner.specs.Faults.{StopsPrinting}
 use Rattle.rrs_runner.specs.Texts.{register_lines, pc_line, hart_lines}
+use Rattle.rrs_runner.proofs.Printed.{stops_weaker}
 
 pub ruleset appending = Appends-trans
 
@@ -47,3 +51,15 @@ piece_within text n k m e within more =
 -- a write was interrupted, and no byte was written
 pub none_written : (text : List ℕ) (n m : ℕ) (a b c : Option (List ℕ)) → m ≡ n → Appends a b (take n text) → Keeps b c → Appends a c (take m text)
 none_written text n m a b c e first kept = subst (λ i. Appends a c (take i text)) (sym e) (Appends-kept a b c _ first kept)
+
+-- a text could not be written
+pub stopped_in_text : (text ending : List ℕ) (a c : Option (List ℕ)) (fault : RunFault) → text ≡ ending → StopsPrinting (λ _. ⊥) (λ lines. lines ≡ text) a c fault → StopsPrinting (λ lines. lines ≡ []) (λ lines. lines ≡ ending) a c fault
+stopped_in_text text ending a c fault made p =
+    stops_weaker (λ _. ⊥) (λ lines. lines ≡ []) (λ lines. lines ≡ text) (λ lines. lines ≡ ending) a c fault
+    (λ lines never. absurd never) (λ lines e. e ∙ made) p
+
+-- a text was written, and the flush failed
+pub stopped_in_flush : (P : List ℕ → Type 0) (text : List ℕ) (a d : Option (List ℕ)) (r : Result (Unit {0}) RunFault) → IfErr r (λ fault. fault ≡ Output) → Appends a d text → IfErr r (StopsPrinting P (λ lines. lines ≡ text) a d)
+stopped_in_flush P text a d (Ok x) e written = tt
+stopped_in_flush P text a d (Err fault) e written =
+    subst (StopsPrinting P (λ lines. lines ≡ text) a d) (sym e) (record { lines = text; are_lines = ([], append-nil text); appended = written })

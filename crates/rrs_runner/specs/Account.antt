@@ -1,21 +1,16 @@
--- What is printed of a run: while it is made a line for each instruction before its step, or
--- nothing; then how the run ended, and then the registers. And what a fault says of the reader and
--- of the output.
+-- What is printed of a run: a line for each instruction before its step, then how the run ended,
+-- and then the registers. And what a fault says of the reader and of the output.
 use Rattle.std.specs.Prelude.{◌≡◌, ◌⊎◌, ℕ, zero, suc, ◌<◌, List, [], ◌++◌, Option, Some, None, Ok, Err}
-use Rattle.std.specs.Io.KnownBytes.{Keeps}
 use Rattle.rrs_lib.specs.declared.instruction_executor.InstructionException.{InstructionException}
 use Rattle.rrs_lib.specs.Encodings.{Fields}
 use Rattle.rrs_lib.specs.Table.{Row, Decodes, IsIllegal}
 use Rattle.rrs_lib.specs.Machine.{State}
 use Rattle.rrs_lib.specs.Texts.{text_of}
-use Rattle.rrs_lib.specs.Steps.{Step, RunUntil, next_word}
+use Rattle.rrs_lib.specs.Steps.{Step, next_word}
 use Rattle.rrs_runner.specs.declared.fault.RunFault.{RunFault}
-use Rattle.rrs_runner.specs.declared.fault.RunFault.TheVariants.{OutOfMemory, Reader, Refused, Output}
-use Rattle.rrs_runner.specs.declared.simulation.Shown.{Shown}
-use Rattle.rrs_runner.specs.declared.simulation.Shown.TheVariants.{Instructions, Nothing}
-use Rattle.rrs_runner.specs.Faults.{StopsLoad}
-use Rattle.rrs_runner.specs.Printed.{IsBeginning, PrintsOfRun}
-use Rattle.rrs_runner.specs.Texts.{instruction_line, end_line, hart_lines}
+use Rattle.rrs_runner.specs.Faults.{StopsRunOf}
+use Rattle.rrs_runner.specs.Printed.{PrintsOfRun}
+use Rattle.rrs_runner.specs.Texts.{instruction_line, ending_lines}
 
 -- ---- the lines before the steps
 
@@ -51,64 +46,42 @@ PrintsUntil limit s steps (Some e) t lines =
     × ((m : State) × (first last : List ℕ) × PrintsOk steps s m first × LinesBefore m last
     × Step m t (Err e) × (lines ≡ first ++ last))
 
--- ---- what is shown while a run is made
-
--- From s the machine makes `steps` steps that are Ok, and then either these are as many as the
--- limit, or the next step faults. These lines are printed meanwhile.
-abbrev pub Shows : Shown → ℕ → State → ℕ → Option InstructionException → State → List ℕ → Type 0
-Shows Instructions limit s steps e t lines = PrintsUntil limit s steps e t lines
-Shows Nothing limit s steps e t lines = RunUntil limit s steps e t × (lines ≡ [])
-
 -- what is printed while a run from s is made, up to its end
-abbrev pub ShowsRun : Shown → ℕ → State → List ℕ → Type 0
-ShowsRun shown limit s lines =
+abbrev pub PrintsRun : ℕ → State → List ℕ → Type 0
+PrintsRun limit s lines =
     (steps : ℕ) × (e : Option InstructionException) × (t : State)
-    × Shows shown limit s steps e t lines
+    × PrintsUntil limit s steps e t lines
 
 -- what is printed while the first steps of a run from s are made, which are Ok, and before the step
 -- after them
-abbrev pub ShowsToNext : Shown → ℕ → State → List ℕ → Type 0
-ShowsToNext Instructions limit s lines =
+abbrev pub PrintsToNext : ℕ → State → List ℕ → Type 0
+PrintsToNext limit s lines =
     (n : ℕ) × (m : State) × (first last : List ℕ)
     × (n < limit) × PrintsOk n s m first × LinesBefore m last × (lines ≡ first ++ last)
-ShowsToNext Nothing limit s lines = ⊥
 
 -- ---- the whole account, and what is printed of it
 
 -- the account of a run from s: what is printed while it is made, how it ended, and the registers
-pub record AccountOf (shown : Shown) (limit : ℕ) (s : State) (account : List ℕ) : Type 0 where
+pub record AccountOf (limit : ℕ) (s : State) (account : List ℕ) : Type 0 where
   pub steps : ℕ
   pub exception : Option InstructionException
   pub end : State
   pub trace : List ℕ
-  pub shows : Shows shown limit s steps exception end trace
-  pub whole : account ≡ trace ++ (end_line steps exception ++ hart_lines end)
+  pub prints : PrintsUntil limit s steps exception end trace
+  pub whole : account ≡ trace ++ ending_lines steps exception end
 
 -- what is printed of a run from s up to one of its steps, or up to its end
-abbrev pub PartOfAccount : Shown → ℕ → State → List ℕ → Type 0
-PartOfAccount shown limit s lines = ShowsToNext shown limit s lines ⊎ AccountOf shown limit s lines
+abbrev pub PartOfAccount : ℕ → State → List ℕ → Type 0
+PartOfAccount limit s lines = PrintsToNext limit s lines ⊎ AccountOf limit s lines
 
 -- ---- the account of a reader's bytes
 
 -- what is printed is the whole account of the run of the reader's bytes
-abbrev pub Account : Shown → ℕ → Option (List ℕ) → Option (List ℕ)
+abbrev pub Account : ℕ → Option (List ℕ) → Option (List ℕ)
     → Option (List ℕ) → Option (List ℕ) → Type 0
-Account shown limit input rest before after =
-    PrintsOfRun (AccountOf shown limit) input rest before after
+Account limit input rest before after = PrintsOfRun (AccountOf limit) input rest before after
 
--- What stops a run, by the bytes of the reader and of the output before and after it. Where the
--- memory can't be made, nothing is read or printed, and where the load was stopped nothing is
--- printed. Otherwise the reader was read to its end: out of memory then, for the text of how the
--- run ended, just what is printed while the run is made stands there, and after a write that failed
--- a beginning of the account.
-abbrev pub StopsRun : Shown → ℕ → Option (List ℕ) → Option (List ℕ)
+-- what stops a run, by the bytes of the reader and of the output before and after it
+abbrev pub StopsRun : ℕ → Option (List ℕ) → Option (List ℕ)
     → Option (List ℕ) → Option (List ℕ) → RunFault → Type 0
-StopsRun shown limit input rest before after OutOfMemory =
-    (Keeps input rest × Keeps before after)
-    ⊎ PrintsOfRun (ShowsRun shown limit) input rest before after
-StopsRun shown limit input rest before after Reader =
-    StopsLoad input rest Reader × Keeps before after
-StopsRun shown limit input rest before after (Refused a) =
-    StopsLoad input rest (Refused a) × Keeps before after
-StopsRun shown limit input rest before after Output =
-    PrintsOfRun (λ s. IsBeginning (PartOfAccount shown limit s)) input rest before after
+StopsRun limit = StopsRunOf (PrintsRun limit) (PartOfAccount limit)

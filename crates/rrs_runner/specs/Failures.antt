@@ -4,13 +4,12 @@ use Rattle.rrs_runner.specs.declared.command.Failure.{Failure}
 use Rattle.rrs_runner.specs.declared.command.Failure.TheVariants.{Usage, CannotOpen, CannotReadInput, Run}
 use Rattle.rrs_runner.specs.Faults.{fault_text}
 
--- the line on standard error of the program with this name, which takes these words, each of them
--- after a space
+-- the line on standard error of the program with this name, which is called so
 abbrev pub failure_text : List ℕ → List ℕ → Failure → List ℕ
-failure_text name words Usage = codes "usage: " ++ name ++ words
-failure_text name words CannotOpen = name ++ codes ": cannot open file"
-failure_text name words CannotReadInput = name ++ codes ": cannot read input"
-failure_text name words (Run fault) = name ++ codes ": " ++ fault_text fault
+failure_text name usage Usage = codes "usage: " ++ usage
+failure_text name usage CannotOpen = name ++ codes ": cannot open file"
+failure_text name usage CannotReadInput = name ++ codes ": cannot read input"
+failure_text name usage (Run fault) = name ++ codes ": " ++ fault_text fault
 
 abbrev pub status_of : Failure → ℕ
 status_of Usage = 2

@@ -19,24 +19,25 @@ IsBeginning AreLines begun = (rest : List ℕ) × AreLines (begun ++ rest)
 -- ---- the run of a reader's bytes
 
 -- the words of a new memory
-abbrev pub zero_words : List ℕ
-zero_words = replicate 16384 0
+abbrev pub zero_words : ℕ → List ℕ
+zero_words count = replicate count 0
 
--- a new hart, all of whose registers are 0, at address 0 of a memory with these bytes
-abbrev pub start_of : ByteMap → State
-start_of bytes = record {
-  registers = replicate 31 0;
+-- a hart with these registers from x1 on, at address 0 of a memory of so many words, with these
+-- bytes
+abbrev pub start_of : ℕ → List ℕ → ByteMap → State
+start_of count registers bytes = record {
+  registers = registers;
   pc = 0;
   last = None;
   bytes = bytes;
-  writable = lies_in_words zero_words;
+  writable = lies_in_words (zero_words count);
 }
 
--- The bytes of a reader are loaded at address 0, and lines of this kind are printed of the run that
--- starts there, and nothing else.
+-- The bytes of a reader are loaded at address 0 of 16,384 words, and lines of this kind are printed
+-- of the run that starts there with all registers 0, and nothing else.
 pub record PrintsOfRun (AreLines : State → List ℕ → Type 0)
     (input rest before after : Option (List ℕ)) : Type 0 where
   pub bytes : ByteMap
-  pub loaded :
-      Loads input rest (bytes_of_words zero_words) bytes (lies_in_words zero_words) 0 (Ok tt)
-  pub printed : AppendsLines (AreLines (start_of bytes)) before after
+  pub loaded : Loads input rest (bytes_of_words (zero_words 16384)) bytes
+      (lies_in_words (zero_words 16384)) 0 (Ok tt)
+  pub printed : AppendsLines (AreLines (start_of 16384 (replicate 31 0) bytes)) before after

@@ -40,3 +40,7 @@ pc_line pc = codes "pc 0x" ++ (hexadecimal 8 pc ++ 10 ∷ [])
 -- the lines of all registers and of the program counter
 abbrev pub hart_lines : State → List ℕ
 hart_lines s = register_lines s 32 ++ pc_line s.pc
+
+-- how a run ended, and the registers that it left
+abbrev pub ending_lines : ℕ → Option InstructionException → State → List ℕ
+ending_lines steps exception s = end_line steps exception ++ hart_lines s

@@ -9,8 +9,9 @@ ghost use Rattle.std.specs.Process.{exit_status};
 ghost use Rattle.rrs_runner.specs.Failures.{failure_text, status_of, ended_status};
 
 use crate::fault::RunFault;
+use crate::programs::RRS_RUN;
 use crate::requests::request_of;
-use crate::simulation::{Shown, simulate};
+use crate::simulation::simulate;
 use std::alloc::Global;
 use std::error::Error;
 use std::io::{BufReader, BufWriter, ErrorKind};
@@ -21,19 +22,10 @@ use std::{fmt, fs, io};
 /// How a program is called, as its line on standard error gives it.
 #[derive(Clone, Copy, Debug)]
 pub struct Command {
-    /// The program's name, such as `rrs-run`.
+    /// The program's name, such as `rrs-run`, before what it says.
     pub name: &'static str,
-    /// The words after the name, each after a space, such as ` FILE LIMIT`.
-    pub words: &'static str,
-}
-
-/// A program that runs the bytes of a file: `NAME FILE LIMIT`.
-#[derive(Clone, Copy, Debug)]
-pub struct Program {
-    /// How it is called.
-    pub command: Command,
-    /// What it prints of a run while the run is made.
-    pub shown: Shown,
+    /// How it is called, such as `rrs-run FILE LIMIT`.
+    pub usage: &'static str,
 }
 
 /// Why a program ends with another status than 0.
@@ -72,12 +64,12 @@ pub struct NamedFailure {
 
 impl fmt::Display for NamedFailure {
     ghost output = { λ named. Some (failure_text
-        named.program.name.now named.program.words.now named.failure) };
+        named.program.name.now named.program.usage.now named.failure) };
 
     fn fmt<W: fmt::Write>(&self, f: &mut fmt::Formatter<W>) -> fmt::Result {
-        let Command { name, words } = self.program;
+        let Command { name, usage } = self.program;
         match &self.failure {
-            Failure::Usage => write!(f, "usage: {name}{words}"),
+            Failure::Usage => write!(f, "usage: {usage}"),
             Failure::CannotOpen => write!(f, "{name}: cannot open file"),
             Failure::CannotReadInput => write!(f, "{name}: cannot read input"),
             Failure::Run(fault) => write!(f, "{name}: {fault}"),
@@ -103,31 +95,62 @@ pub fn conclude<R: Eprint>(rt: &R, program: Command, outcome: Result<(), Failure
     }
 }
 
-/// All that a program does that runs the bytes of a file: it runs the file that its arguments name,
-/// and ends as `conclude` says.
-pub fn run_program<R: Env + Files + Print + Eprint + AllocGlobal>(
-    rt: &R,
-    program: &Program,
-) -> ExitCode {
-    conclude(rt, program.command, perform(rt, program))
+/// All that `rrs-run` does: it runs the file that its arguments name, and ends as `conclude` says.
+pub fn run_program<R: Env + Files + Print + Eprint + AllocGlobal>(rt: &R) -> ExitCode {
+    conclude(rt, RRS_RUN, perform(rt))
 }
 
-/// Runs the file that the arguments name, as `program` does.
+/// Runs the file that the arguments name.
 ///
 /// # Errors
 ///
-/// `Failure::Usage` where the arguments are not a file and a limit, `Failure::CannotOpen` where the
-/// file can't be opened, and `Failure::Run` for what goes wrong later, and out of memory for the
-/// arguments or a buffer.
-pub fn perform<R: Env + Files + Print + AllocGlobal>(
-    rt: &R,
-    program: &Program,
-) -> Result<(), Failure> {
+/// `Failure::Usage` where the arguments are not a file and a limit, and out of memory for them as a
+/// failure of the run; else those of `run_file`.
+fn perform<R: Env + Files + Print + AllocGlobal>(rt: &R) -> Result<(), Failure> {
     let words = arguments(rt)?;
     let Some((path, limit)) = request_of(&words) else {
         return Err(Failure::Usage);
     };
-    run_file(rt, program.shown, path, limit)
+    run_file(rt, path, limit)
+}
+
+/// Runs the bytes of a file, and prints the account of it.
+///
+/// # Errors
+///
+/// `Failure::CannotOpen` where the file can't be opened, and else `Failure::Run`.
+pub fn run_file<R: Files + Print + AllocGlobal>(
+    rt: &R,
+    path: &str,
+    limit: u64,
+) -> Result<(), Failure> {
+    let mut reader = open_file(rt, path)?;
+    let mut out = output(rt)?;
+    simulate(rt.alloc(), &mut reader, limit, &mut out).map_err(Failure::Run)
+}
+
+/// A file that is open for reading, behind a buffer.
+///
+/// # Errors
+///
+/// `Failure::CannotOpen` where it can't be opened, and out of memory as a failure of the run.
+pub fn open_file<R: Files + AllocGlobal>(
+    rt: &R,
+    path: &str,
+) -> Result<BufReader<R::File>, Failure> {
+    let Ok(file) = fs::open(rt, path) else {
+        return Err(Failure::CannotOpen);
+    };
+    BufReader::new(rt.alloc(), file).map_err(|_| Failure::Run(RunFault::OutOfMemory))
+}
+
+/// Standard output behind a buffer.
+///
+/// # Errors
+///
+/// Out of memory, as a failure of the run.
+pub fn output<R: Print + AllocGlobal>(rt: &R) -> Result<BufWriter<io::Printer<'_, R>>, Failure> {
+    BufWriter::new(rt.alloc(), io::writer(rt)).map_err(|_| Failure::Run(RunFault::OutOfMemory))
 }
 
 /// Takes no arguments, for a program that has none.
@@ -157,27 +180,4 @@ pub fn arguments<R: Env + AllocGlobal>(rt: &R) -> Result<Vec<String>, Failure> {
         Err(e) if e.kind() == ErrorKind::OutOfMemory => Err(Failure::Run(RunFault::OutOfMemory)),
         Err(_) => Err(Failure::Usage),
     }
-}
-
-/// Runs the bytes of a file, through buffers in front of the file and of standard output.
-///
-/// # Errors
-///
-/// `Failure::CannotOpen` where the file can't be opened, and else `Failure::Run`.
-fn run_file<R: Files + Print + AllocGlobal>(
-    rt: &R,
-    shown: Shown,
-    path: &str,
-    limit: u64,
-) -> Result<(), Failure> {
-    let Ok(file) = fs::open(rt, path) else {
-        return Err(Failure::CannotOpen);
-    };
-    let Ok(mut reader) = BufReader::new(rt.alloc(), file) else {
-        return Err(Failure::Run(RunFault::OutOfMemory));
-    };
-    let Ok(mut out) = BufWriter::new(rt.alloc(), io::writer(rt)) else {
-        return Err(Failure::Run(RunFault::OutOfMemory));
-    };
-    simulate(rt.alloc(), shown, &mut reader, limit, &mut out).map_err(Failure::Run)
 }

@@ -5,11 +5,11 @@
 //! not be written. The line of an instruction is made in a buffer that it always fits, so that no
 //! step allocates.
 
-ghost use Rattle.std.specs.Prelude.{◌≡◌, ◌<◌, ◌++◌, ℕ, Bool, Option, IfOk, OnOk, IfErr, IsOkUnless};
+ghost use Rattle.std.specs.Prelude.{◌≡◌, ◌<◌, [], ℕ, Bool, Option, IfOk, OnOk, IfErr, IsOkUnless};
 ghost use Rattle.std.specs.Io.KnownBytes.{Appends, Keeps};
 ghost use Rattle.rrs_lib.specs.Machine.{state_of};
 ghost use Rattle.rrs_runner.specs.Faults.{StopsPrinting};
-ghost use Rattle.rrs_runner.specs.Texts.{instruction_line, reason_text, steps_text, end_line, register_line, pc_line, hart_lines};
+ghost use Rattle.rrs_runner.specs.Texts.{instruction_line, reason_text, steps_text, end_line, register_line, pc_line, hart_lines, ending_lines};
 
 use crate::fault::RunFault;
 use arrayvec::ArrayString;
@@ -40,30 +40,55 @@ pub fn line_of(pc: u32, text: &InstructionText) -> ArrayString<LINE_CAPACITY>
     line
 }
 
+/// Prints how a run ended and the registers that it left, and flushes the output.
+///
+/// # Errors
+///
+/// `RunFault::OutOfMemory`, out of memory for the text: nothing is printed then.
+/// `RunFault::Output` where a write or the flush fails: a beginning of the text is printed then.
+pub fn print_ending<W: Write>(
+    alloc: Global,
+    end: &RunEnd,
+    hart: &HartState,
+    out: &mut W,
+) -> Result<(), RunFault>
+    ensures printed { (bytes : ℕ → Option ℕ) (writable : ℕ → Bool)
+        → OnOk result (Appends (W.contents out.old) (W.contents out.new)
+        (ending_lines end.now.steps end.now.exception (state_of hart.now bytes writable))) }
+    ensures fault { (bytes : ℕ → Option ℕ) (writable : ℕ → Bool)
+        → IfErr result (StopsPrinting (λ lines. lines ≡ [])
+        (λ lines. lines
+        ≡ ending_lines end.now.steps end.now.exception (state_of hart.now bytes writable))
+        (W.contents out.old) (W.contents out.new)) }
+{
+    let ending = ending_of(alloc, end, hart)?;
+    write_text(out, &ending)?;
+    flush(out)
+}
+
 /// The text of how a run ended, and of the registers that it left.
 ///
 /// # Errors
 ///
 /// `RunFault::OutOfMemory`, out of memory for the text.
-pub fn ending_of(alloc: Global, end: &RunEnd, hart: &HartState) -> Result<Vec<u8>, RunFault>
+fn ending_of(alloc: Global, end: &RunEnd, hart: &HartState) -> Result<Vec<u8>, RunFault>
     ensures text { (bytes : ℕ → Option ℕ) (writable : ℕ → Bool)
-        → IfOk result (λ text. text.items ≡ end_line end.now.steps end.now.exception
-        ++ hart_lines (state_of hart.now bytes writable)) }
+        → IfOk result (λ text. text.items
+        ≡ ending_lines end.now.steps end.now.exception (state_of hart.now bytes writable)) }
     ensures fault { IsOkUnless result RunFault.OutOfMemory }
 {
     let mut text = Vec::new(alloc);
-    match print_ending(&mut text, end, hart) {
+    match write_ending(&mut text, end, hart) {
         Ok(()) => Ok(text),
         Err(_) => Err(RunFault::OutOfMemory),
     }
 }
 
-/// Prints how a run ended, and the registers.
-fn print_ending<W: Write>(out: &mut W, end: &RunEnd, hart: &HartState) -> io::Result<()>
+/// Writes how a run ended, and the registers.
+fn write_ending<W: Write>(out: &mut W, end: &RunEnd, hart: &HartState) -> io::Result<()>
     ensures { (bytes : ℕ → Option ℕ) (writable : ℕ → Bool)
         → OnOk result (Appends (W.contents out.old) (W.contents out.new)
-        (end_line end.now.steps end.now.exception
-        ++ hart_lines (state_of hart.now bytes writable))) }
+        (ending_lines end.now.steps end.now.exception (state_of hart.now bytes writable))) }
 {
     print_end(out, end)?;
     print_hart(out, hart)

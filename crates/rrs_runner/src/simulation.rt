@@ -1,14 +1,14 @@
-//! The account of a run: what is printed while it is made, how it ended, and the registers.
+//! The account of a run: each instruction before its step, how it ended, and the registers.
 
 ghost use Rattle.std.specs.Prelude.{◌≡◌, IfOk, OnOk, IfErr};
 ghost use Rattle.rrs_lib.specs.Executor.{state_in};
 ghost use Rattle.rrs_lib.specs.Steps.{Step};
-ghost use Rattle.rrs_runner.specs.Account.{Account, AccountOf, PartOfAccount, Shows, ShowsRun, ShowsToNext, StopsRun, LinesBefore, LinesOfWord, PrintsUntil};
+ghost use Rattle.rrs_runner.specs.Account.{Account, AccountOf, PartOfAccount, PrintsRun, PrintsToNext, StopsRun, LinesBefore, LinesOfWord, PrintsUntil};
 ghost use Rattle.rrs_runner.specs.Printed.{AppendsLines};
 ghost use Rattle.rrs_runner.specs.Faults.{StopsPrinting};
 
 use crate::fault::RunFault;
-use crate::loading::{empty_memory, load};
+use crate::loading::load;
 use crate::report;
 use rrs_lib::disassembly::Disassembled;
 use rrs_lib::instruction::decode;
@@ -17,90 +17,57 @@ use rrs_lib::{HartState, Memory};
 use std::alloc::Global;
 use std::io::{Read, Write};
 
-/// What is printed of a run while it is made.
-#[derive(Clone, Copy, Debug, PartialEq)]
-pub enum Shown {
-    /// The line of each instruction, before its step.
-    Instructions,
-    /// Nothing. The run is one call of `InstructionExecutor::run`, by whose table long runs are
-    /// fast.
-    Nothing,
-}
+/// The number of words of the memory.
+pub const WORDS: usize = 16384;
 
 /// Runs the reader's bytes as a program, for `limit` steps or up to the first fault, and prints
-/// its account: what is shown while it is made, how it ended, and the registers.
+/// its account: each instruction before its step, how the run ended, and the registers.
 ///
 /// # Errors
 ///
 /// `RunFault::Reader` and `RunFault::Refused` where the bytes can't be loaded: nothing is printed
 /// then. `RunFault::OutOfMemory` before anything is read or printed, or at the end of the run: then
-/// all that is shown of its steps is printed, and nothing else. `RunFault::Output` where a write or
+/// the instructions of its steps are printed, and nothing else. `RunFault::Output` where a write or
 /// the flush fails: a beginning of the account is printed then, up to all of it.
 pub fn simulate<R: Read, W: Write>(
     alloc: Global,
-    shown: Shown,
     reader: &mut R,
     limit: u64,
     out: &mut W,
 ) -> Result<(), RunFault>
-    ensures account { OnOk result (Account shown limit
+    ensures account { OnOk result (Account limit
         (R.remaining reader.old) (R.remaining reader.new)
         (W.contents out.old) (W.contents out.new)) }
-    ensures fault { IfErr result (StopsRun shown limit
+    ensures fault { IfErr result (StopsRun limit
         (R.remaining reader.old) (R.remaining reader.new)
         (W.contents out.old) (W.contents out.new)) }
 {
-    let mut memory = empty_memory(alloc)?;
-    load(reader, &mut memory)?;
+    let mut memory = load(alloc, WORDS, reader)?;
     let mut hart = HartState::new();
     let mut executor = InstructionExecutor {
         mem: &mut memory,
         hart_state: &mut hart,
     };
-    print_account(&mut executor, alloc, shown, limit, out)
+    print_account(&mut executor, alloc, limit, out)
 }
 
 /// Makes steps up to the limit or the first fault, and prints the account of them.
 fn print_account<M: Memory, W: Write>(
     executor: &mut InstructionExecutor<M>,
     alloc: Global,
-    shown: Shown,
     limit: u64,
     out: &mut W,
 ) -> Result<(), RunFault>
     ensures account { OnOk result (AppendsLines
-        (AccountOf shown limit (state_in M.bytes M.writable executor.old))
+        (AccountOf limit (state_in M.bytes M.writable executor.old))
         (W.contents out.old) (W.contents out.new)) }
     ensures fault { IfErr result (StopsPrinting
-        (ShowsRun shown limit (state_in M.bytes M.writable executor.old))
-        (PartOfAccount shown limit (state_in M.bytes M.writable executor.old))
+        (PrintsRun limit (state_in M.bytes M.writable executor.old))
+        (PartOfAccount limit (state_in M.bytes M.writable executor.old))
         (W.contents out.old) (W.contents out.new)) }
 {
-    let end = make_steps(executor, shown, limit, out)?;
-    let ending = report::ending_of(alloc, &end, executor.hart_state)?;
-    report::write_text(out, &ending)?;
-    report::flush(out)
-}
-
-/// Makes steps as `InstructionExecutor::run` does, and prints what is shown meanwhile.
-fn make_steps<M: Memory, W: Write>(
-    executor: &mut InstructionExecutor<M>,
-    shown: Shown,
-    limit: u64,
-    out: &mut W,
-) -> Result<RunEnd, RunFault>
-    ensures shows { IfOk result (λ end. AppendsLines
-        (Shows shown limit (state_in M.bytes M.writable executor.old)
-        end.steps end.exception (state_in M.bytes M.writable executor.new))
-        (W.contents out.old) (W.contents out.new)) }
-    ensures fault { IfErr result (StopsPrinting (λ _. ⊥)
-        (ShowsToNext shown limit (state_in M.bytes M.writable executor.old))
-        (W.contents out.old) (W.contents out.new)) }
-{
-    match shown {
-        Shown::Instructions => trace(executor, limit, out),
-        Shown::Nothing => Ok(executor.run(limit)),
-    }
+    let end = trace(executor, limit, out)?;
+    report::print_ending(alloc, &end, executor.hart_state, out)
 }
 
 /// Makes steps as `InstructionExecutor::run` does, and prints each instruction before its step.
@@ -117,7 +84,7 @@ fn trace<M: Memory, W: Write>(
         end.steps end.exception (state_in M.bytes M.writable executor.new))
         (W.contents out.old) (W.contents out.new)) }
     ensures fault { IfErr result (StopsPrinting (λ _. ⊥)
-        (ShowsToNext Shown.Instructions limit (state_in M.bytes M.writable executor.old))
+        (PrintsToNext limit (state_in M.bytes M.writable executor.old))
         (W.contents out.old) (W.contents out.new)) }
 {
     for steps in 0..limit {

@@ -1,11 +1,12 @@
-//! What `simulate` prints of a run, where it stops, and what it says of a reader or a writer that
-//! fails.
+//! What `simulate` and `simulate_quietly` print of a run, where they stop, and what they say of a
+//! reader or a writer that fails.
 
 use crate::THREE_WORDS;
 use crate::writers::{Failing, FailsOnce, FailsToFlush, TakesFew};
+use rrs_commands::quiet::simulate_quietly;
 use rrs_runner::fault::RunFault;
 use rrs_runner::report::write_text;
-use rrs_runner::simulation::{Shown, simulate};
+use rrs_runner::simulation::simulate;
 use std::alloc::{AllocError, Global};
 use std::io::{ErrorKind, Read, Write};
 use std::process::Abort;
@@ -64,7 +65,16 @@ fn bytes_of(alloc: Global, words: &[u32]) -> Result<Vec<u8>, AllocError> {
     Ok(bytes)
 }
 
-/// What `simulate` answers, whose contract is so paid in this function alone.
+/// What is printed of a run while it is made.
+#[derive(Clone, Copy)]
+enum Shown {
+    /// The line of each instruction, by `simulate`.
+    Instructions,
+    /// Nothing, by `simulate_quietly`.
+    Nothing,
+}
+
+/// What the call answers, whose contract is so paid in this function alone.
 fn simulated<R: Read, W: Write>(
     alloc: Global,
     shown: Shown,
@@ -72,7 +82,10 @@ fn simulated<R: Read, W: Write>(
     limit: u64,
     out: &mut W,
 ) -> Result<(), RunFault> {
-    simulate(alloc, shown, reader, limit, out)
+    match shown {
+        Shown::Instructions => simulate(alloc, reader, limit, out),
+        Shown::Nothing => simulate_quietly(alloc, reader, limit, out),
+    }
 }
 
 /// How the run of three words ends, up to limit 10, with a line for each instruction.

@@ -1,7 +1,7 @@
-//! The tests of `rrs_runner`, which call what it offers to every crate.
+//! The tests of `rrs_runner` and of `rrs_commands`, which call what they offer to every crate.
 //!
-//! They stand in a crate of their own, so that a check of `rrs_runner` proves its calls and a check
-//! of this crate its tests.
+//! They stand in a crate of their own, so that a check of those proves their calls and a check of
+//! this crate the tests.
 
 #![tactic(auto)]
 

@@ -1,27 +1,54 @@
-//! The programs that run a file's bytes, over a runtime of their own, and how each program ends.
+//! The programs, over a runtime of their own, and how each ends.
 
 use crate::THREE_WORDS;
 use crate::machine::{Contents, Machine};
-use rrs_runner::command::{Command, Failure, Program, conclude, run_program, take_no_arguments};
+use rrs_commands::execution::{HEAP_END, HEAP_START};
+use rrs_commands::program::run_rrs;
+use rrs_linux::{Heap, Linux};
+use rrs_runner::command::{Command, Failure, conclude, run_program, take_no_arguments};
 use rrs_runner::fault::RunFault;
-use rrs_runner::programs::{RRS_HELLO, RRS_REPLAY, RRS_RUN, RRS_SPEED};
-use std::alloc::{AllocError, Global};
-use std::process::{Abort, ExitCode};
+use rrs_runner::programs::{RRS_REPLAY, RRS_RUN};
+use std::alloc::Global;
+use std::process::ExitCode;
 use std::test::Fail;
 
 /// What is left of a program: its status, what it says on standard error, and what it printed.
 type Left = (ExitCode, Vec<u8>, Vec<u8>);
 
+/// A program.
+#[derive(Clone, Copy)]
+enum Program {
+    /// `rrs-run`.
+    Run,
+    /// `rrs`.
+    Rrs,
+}
+
+/// Ends a program, and gives its status. What it simulates reads nothing, and prints nothing.
+fn status_of(machine: &Machine<'_>, alloc: Global, program: Program) -> ExitCode {
+    match program {
+        Program::Run => run_program(machine),
+        Program::Rrs => {
+            let heap = Heap::new(HEAP_START, HEAP_END);
+            let (output, errors) = (Vec::new(alloc), Vec::new(alloc));
+            run_rrs(
+                machine,
+                &mut Linux::new(b"".as_slice(), output, errors, heap),
+            )
+        }
+    }
+}
+
 /// Runs a program on a machine with these words and files, and room for so many bytes of output.
 fn run(
     alloc: Global,
-    program: &Program,
+    program: Program,
     words: &[&[u8]],
     files: &[Contents<'_>],
     room: usize,
 ) -> Left {
     let machine = Machine::new(alloc, words, files, room);
-    let status = run_program(&machine, program);
+    let status = status_of(&machine, alloc, program);
     let (said, printed) = machine.into_outputs();
     (status, said, printed)
 }
@@ -40,45 +67,104 @@ const FILES: [Contents<'static>; 2] = [
     },
 ];
 
-/// Whether both programs print nothing, and end with this status and their line of this text.
-fn both_say(
-    alloc: Global,
-    words: &[&[u8]],
-    files: &[Contents<'_>],
-    status: u8,
-    lines: (&str, &str),
-) -> bool {
-    let first = run(alloc, &RRS_RUN, words, files, 10_000);
-    let second = run(alloc, &RRS_SPEED, words, files, 10_000);
-    says(&first, status, lines.0) && says(&second, status, lines.1)
-}
-
 /// Whether a program printed nothing, and ended with this status and this line.
 fn says(left: &Left, status: u8, line: &str) -> bool {
     left.0 == ExitCode::from(status) && left.1.as_slice() == line.as_bytes() && left.2.is_empty()
 }
 
-/// Words of command lines that are refused.
-static OTHER_WORDS: [&[&[u8]]; 9] = [
-    &[],
-    &[b"rrs-run"],
-    &[b"rrs-run", b"program"],
-    &[b"rrs-run", b"program", b"10", b"10"],
-    &[b"rrs-run", b"program", b"1a"],
-    &[b"rrs-run", b"10", b"program"],
-    &[b"rrs-run", b"program", b"\xff"],
-    &[b"rrs-run", b"\xff", b"10"],
-    &[b"\xff", b"program", b"10"],
+/// How `rrs-run` is called.
+const RUN_USAGE: &str = "usage: rrs-run FILE LIMIT\n";
+
+/// How `rrs` is called.
+const RRS_USAGE: &str = "usage: rrs run|exec|as|help ..\n";
+
+/// How `rrs run` is called.
+const QUIET_USAGE: &str = "usage: rrs run [--quiet] FILE LIMIT\n";
+
+/// A program, words of its command line of which it does not do what they ask, its status, and its
+/// line on standard error.
+type Refused = (Program, &'static [&'static [u8]], u8, &'static str);
+
+static REFUSED: [Refused; 22] = [
+    (Program::Run, &[], 2, RUN_USAGE),
+    (Program::Run, &[b"rrs-run"], 2, RUN_USAGE),
+    (Program::Run, &[b"rrs-run", b"program"], 2, RUN_USAGE),
+    (
+        Program::Run,
+        &[b"rrs-run", b"program", b"10", b"10"],
+        2,
+        RUN_USAGE,
+    ),
+    (Program::Run, &[b"rrs-run", b"program", b"1a"], 2, RUN_USAGE),
+    (Program::Run, &[b"rrs-run", b"10", b"program"], 2, RUN_USAGE),
+    (
+        Program::Run,
+        &[b"rrs-run", b"program", b"\xff"],
+        2,
+        RUN_USAGE,
+    ),
+    (Program::Run, &[b"rrs-run", b"\xff", b"10"], 2, RUN_USAGE),
+    (Program::Run, &[b"\xff", b"program", b"10"], 2, RUN_USAGE),
+    (Program::Rrs, &[], 2, RRS_USAGE),
+    (Program::Rrs, &[b"rrs"], 2, RRS_USAGE),
+    (
+        Program::Rrs,
+        &[b"rrs", b"runs", b"program", b"10"],
+        2,
+        RRS_USAGE,
+    ),
+    (Program::Rrs, &[b"rrs", b"help", b"run"], 2, RRS_USAGE),
+    (
+        Program::Rrs,
+        &[b"rrs", b"run", b"program", b"\xff"],
+        2,
+        RRS_USAGE,
+    ),
+    (
+        Program::Rrs,
+        &[b"\xff", b"run", b"program", b"10"],
+        2,
+        RRS_USAGE,
+    ),
+    (Program::Rrs, &[b"rrs", b"run"], 2, QUIET_USAGE),
+    (Program::Rrs, &[b"rrs", b"run", b"program"], 2, QUIET_USAGE),
+    (
+        Program::Rrs,
+        &[b"rrs", b"run", b"--quiet", b"10"],
+        2,
+        QUIET_USAGE,
+    ),
+    (
+        Program::Rrs,
+        &[b"rrs", b"run", b"--quiet", b"program", b"1a"],
+        2,
+        QUIET_USAGE,
+    ),
+    (
+        Program::Rrs,
+        &[b"rrs", b"run", b"--quiet", b"10", b"program"],
+        2,
+        QUIET_USAGE,
+    ),
+    (
+        Program::Rrs,
+        &[b"rrs", b"run", b"program", b"10", b"10"],
+        2,
+        QUIET_USAGE,
+    ),
+    (
+        Program::Rrs,
+        &[b"rrs", b"exec", b"--limit", b"10", b"--raw", b"program"],
+        132,
+        "rrs exec: IllegalInstruction pc=0x0000000c word=0x00000000\n",
+    ),
 ];
 
 #[test]
 fn refuses_other_words(rt: HostRuntime) {
-    let lines = (
-        "usage: rrs-run FILE LIMIT\n",
-        "usage: rrs-speed FILE LIMIT\n",
-    );
-    for (index, words) in OTHER_WORDS.iter().enumerate() {
-        assert!(rt; both_say(rt.alloc(), words, &FILES, 2, lines), "at {index}");
+    for (index, &(program, words, status, line)) in REFUSED.iter().enumerate() {
+        let left = run(rt.alloc(), program, words, &FILES, 10_000);
+        assert!(rt; says(&left, status, line), "at {index}");
     }
 }
 
@@ -87,9 +173,9 @@ fn file<'a>(name: &'a str, bytes: &'a [u8], fails: bool) -> Contents<'a> {
     Contents { name, bytes, fails }
 }
 
-/// Whether both programs say this of a file, where there are these four: a directory, one that is
-/// cut off, one that is full and cut off, and one that is too long.
-fn both_say_of(alloc: Global, too_long: &[u8], path: &[u8], lines: (&str, &str)) -> bool {
+/// Whether `rrs-run` and `rrs run` say this of a file, where there are these four: a directory, one
+/// that is cut off, one that is full and cut off, and one that is too long.
+fn both_say_of(alloc: Global, too_long: &[u8], path: &[u8], line: &str) -> bool {
     let files = [
         file("directory", b"", true),
         file("cut off", THREE_WORDS, true),
@@ -100,42 +186,39 @@ fn both_say_of(alloc: Global, too_long: &[u8], path: &[u8], lines: (&str, &str))
         ),
         file("too long", too_long, false),
     ];
-    both_say(alloc, &[b"rrs-run", path, b"10"], &files, 1, lines)
+    let words: [&[u8]; 5] = [b"rrs", b"run", b"--quiet", path, b"10"];
+    let first = run(
+        alloc,
+        Program::Run,
+        &[b"rrs-run", path, b"10"],
+        &files,
+        10_000,
+    );
+    let second = run(alloc, Program::Rrs, &words, &files, 10_000);
+    says(&first, 1, line) && says(&second, 1, line)
 }
 
-/// What is said of a file that can't be opened.
-const CANNOT_OPEN: (&str, &str) = (
-    "rrs-run: cannot open file\n",
-    "rrs-speed: cannot open file\n",
-);
-
 /// What is said of a file that can't be read to its end.
-const CANNOT_READ: (&str, &str) = (
-    "rrs-run: Could not read byte\n",
-    "rrs-speed: Could not read byte\n",
-);
-
-/// What is said of a file with a byte too much.
-const CANNOT_WRITE: (&str, &str) = (
-    "rrs-run: Could not write byte at address 0x00010000\n",
-    "rrs-speed: Could not write byte at address 0x00010000\n",
-);
+const CANNOT_READ: &str = "rrs-run: Could not read byte\n";
 
 /// The name of each file that is not run, and what is said of it.
-static NOT_RUN: [(&[u8], (&str, &str)); 5] = [
-    (b"missing", CANNOT_OPEN),
+static NOT_RUN: [(&[u8], &str); 5] = [
+    (b"missing", "rrs-run: cannot open file\n"),
     (b"directory", CANNOT_READ),
     (b"cut off", CANNOT_READ),
     (b"full and cut off", CANNOT_READ),
-    (b"too long", CANNOT_WRITE),
+    (
+        b"too long",
+        "rrs-run: Could not write byte at address 0x00010000\n",
+    ),
 ];
 
 #[test]
 fn says_why_a_file_is_not_run(rt: HostRuntime) -> Result<(), Fail> {
     let too_long = vec![in rt.alloc(); 0; 65537]?;
-    for (index, (path, lines)) in NOT_RUN.iter().enumerate() {
+    for (index, (path, line)) in NOT_RUN.iter().enumerate() {
         assert!(rt;
-            both_say_of(rt.alloc(), &too_long, path, *lines),
+            both_say_of(rt.alloc(), &too_long, path, line),
             "at {index}"
         );
     }
@@ -143,14 +226,8 @@ fn says_why_a_file_is_not_run(rt: HostRuntime) -> Result<(), Fail> {
 }
 
 /// What is printed of a file that is run, where there is room for all of it.
-fn whole_account(
-    alloc: Global,
-    program: &Program,
-    path: &[u8],
-    limit: &[u8],
-) -> Result<Vec<u8>, Fail> {
-    let words: [&[u8]; 3] = [b"rrs-run", path, limit];
-    let (status, said, printed) = run(alloc, program, &words, &FILES, 100_000);
+fn whole_account(alloc: Global, program: Program, words: &[&[u8]]) -> Result<Vec<u8>, Fail> {
+    let (status, said, printed) = run(alloc, program, words, &FILES, 100_000);
     if status != ExitCode::SUCCESS || !said.is_empty() {
         return Err(Fail::from("the run with room for all failed"));
     }
@@ -170,46 +247,63 @@ fn lines_in(bytes: &[u8]) -> usize {
     bytes.iter().filter(|byte| **byte == b'\n').count()
 }
 
-/// A program, the file that it is to run and the limit, and the beginning of its account.
-type Case = (&'static Program, &'static [u8], &'static [u8], &'static str);
+/// A program, the words of its command line, and the beginning of its account.
+type Case = (Program, &'static [&'static [u8]], &'static str);
 
-static CASES: [Case; 8] = [
+static CASES: [Case; 9] = [
     (
-        &RRS_RUN,
-        b"program",
-        b"002",
+        Program::Run,
+        &[b"rrs-run", b"program", b"002"],
         "0x00000000: lui x2, 0x1234b000\n0x00000004: lui x3, 0xf387e000\nend: limit, steps 2\n",
     ),
     (
-        &RRS_RUN,
-        b"program",
-        b"999999999",
+        Program::Run,
+        &[b"rrs-run", b"program", b"999999999"],
         "0x00000000: lui x2, 0x1234b000\n0x00000004: lui x3, 0xf387e000\n\
         0x00000008: add x1, x2, x3\n\
         end: IllegalInstruction pc=0x0000000c word=0x00000000, steps 3\n",
     ),
     (
-        &RRS_RUN,
-        b"loop",
-        b"1",
+        Program::Run,
+        &[b"rrs-run", b"loop", b"1"],
         "0x00000000: jal x0, 0x00000000\nend: limit, steps 1\n",
     ),
-    (&RRS_RUN, b"loop", b"0", "end: limit, steps 0\n"),
-    (&RRS_SPEED, b"loop", b"0", "end: limit, steps 0\n"),
-    (&RRS_SPEED, b"loop", b"1", "end: limit, steps 1\n"),
-    (&RRS_SPEED, b"loop", b"100000", "end: limit, steps 100000\n"),
     (
-        &RRS_SPEED,
-        b"program",
-        b"999999999",
+        Program::Rrs,
+        &[b"rrs", b"run", b"loop", b"1"],
+        "0x00000000: jal x0, 0x00000000\nend: limit, steps 1\n",
+    ),
+    (
+        Program::Run,
+        &[b"rrs-run", b"loop", b"0"],
+        "end: limit, steps 0\n",
+    ),
+    (
+        Program::Rrs,
+        &[b"rrs", b"run", b"--quiet", b"loop", b"0"],
+        "end: limit, steps 0\n",
+    ),
+    (
+        Program::Rrs,
+        &[b"rrs", b"run", b"--quiet", b"loop", b"1"],
+        "end: limit, steps 1\n",
+    ),
+    (
+        Program::Rrs,
+        &[b"rrs", b"run", b"--quiet", b"loop", b"100000"],
+        "end: limit, steps 100000\n",
+    ),
+    (
+        Program::Rrs,
+        &[b"rrs", b"run", b"--quiet", b"program", b"999999999"],
         "end: IllegalInstruction pc=0x0000000c word=0x00000000, steps 3\n",
     ),
 ];
 
 #[test]
 fn runs_the_file_that_is_named_up_to_the_limit_that_is_named(rt: HostRuntime) -> Result<(), Fail> {
-    for (program, path, limit, want) in &CASES {
-        let printed = whole_account(rt.alloc(), program, path, limit)?;
+    for &(program, words, want) in &CASES {
+        let printed = whole_account(rt.alloc(), program, words)?;
         assert!(rt; is_account(&printed, want.as_bytes()), "{want}");
     }
     Ok(())
@@ -232,9 +326,9 @@ fn ends_with_room(left: &Left, printed: &[u8], fails: bool) -> bool {
         && left.2.as_slice() == printed
 }
 
-/// Whether a program ends as it has to where there is room for the first bytes of its account.
+/// Whether `rrs-run` ends as it has to where there is room for the first bytes of its account.
 fn ends_with(alloc: Global, words: &[&[u8]], whole: &[u8], room: usize) -> bool {
-    let left = run(alloc, &RRS_RUN, words, &FILES, room);
+    let left = run(alloc, Program::Run, words, &FILES, room);
     match whole.get(..room) {
         Some(printed) => ends_with_room(&left, printed, room < whole.len()),
         None => false,
@@ -248,10 +342,11 @@ static ACCOUNTS: [(&[u8], &[u8]); 2] = [(b"program", b"10"), (b"loop", b"400")];
 #[test]
 fn tells_an_output_that_fails(rt: HostRuntime) -> Result<(), Fail> {
     for &(path, limit) in &ACCOUNTS {
-        let whole = whole_account(rt.alloc(), &RRS_RUN, path, limit)?;
+        let words: [&[u8]; 3] = [b"rrs-run", path, limit];
+        let whole = whole_account(rt.alloc(), Program::Run, &words)?;
         for room in 0..=whole.len() {
             if is_tried(room, whole.len()) {
-                let ends_so = ends_with(rt.alloc(), &[b"rrs-run", path, limit], &whole, room);
+                let ends_so = ends_with(rt.alloc(), &words, &whole, room);
                 assert!(rt; ends_so, "with room for {room}");
             }
         }
@@ -278,54 +373,30 @@ fn fails(alloc: Global, program: Command, fault: RunFault, line: &str) -> bool {
     ends(alloc, program, Err(Failure::Run(fault)), 1, line)
 }
 
-/// Programs, each with what is said where it is called wrongly.
-static USAGES: [(Command, &str); 2] = [
-    (RRS_HELLO, "usage: rrs-hello\n"),
-    (RRS_REPLAY, "usage: rrs-replay\n"),
-];
-
-/// Programs, each with what is said where its output can't be written.
-static UNWRITTEN: [(Command, &str); 2] = [
-    (RRS_HELLO, "rrs-hello: cannot write output\n"),
-    (RRS_REPLAY, "rrs-replay: cannot write output\n"),
-];
-
-/// Asserts what programs say that are called wrongly, or whose output can't be written.
-fn says_its_name(rt: &impl Abort, alloc: Global) {
-    for &(program, line) in &USAGES {
-        assert!(rt;
-            ends(alloc, program, Err(Failure::Usage), 2, line),
-            "{line}"
-        );
-    }
-    for &(program, line) in &UNWRITTEN {
-        assert!(rt; fails(alloc, program, RunFault::Output, line), "{line}");
-    }
-}
-
 #[test]
 fn ends_by_its_name(rt: HostRuntime) {
     let alloc = rt.alloc();
-    says_its_name(&rt, alloc);
-    let cannot_open = Err(Failure::CannotOpen);
-    let output = RunFault::Output;
+    let (cannot_open, usage) = (Err(Failure::CannotOpen), Err(Failure::Usage));
+    let (output, memory) = (RunFault::Output, RunFault::OutOfMemory);
     let ended = [
-        ends(alloc, RRS_HELLO, Ok(()), 0, ""),
-        ends(alloc, RRS_RUN.command, cannot_open, 1, CANNOT_OPEN.0),
-        fails(
+        ends(alloc, RRS_REPLAY, Ok(()), 0, ""),
+        ends(
             alloc,
-            RRS_HELLO,
-            RunFault::OutOfMemory,
-            "rrs-hello: out of memory\n",
+            RRS_RUN,
+            cannot_open,
+            1,
+            "rrs-run: cannot open file\n",
         ),
+        ends(alloc, RRS_REPLAY, usage, 2, "usage: rrs-replay\n"),
         fails(
             alloc,
-            RRS_SPEED.command,
+            RRS_REPLAY,
             output,
-            "rrs-speed: cannot write output\n",
+            "rrs-replay: cannot write output\n",
         ),
+        fails(alloc, RRS_REPLAY, memory, "rrs-replay: out of memory\n"),
     ];
-    assert_eq!(rt; ended, [true; 4]);
+    assert_eq!(rt; ended, [true; 5]);
 }
 
 /// Whether a program that takes no arguments is refused as one that is called wrongly.
@@ -337,9 +408,9 @@ fn is_refused(alloc: Global, words: &[&[u8]]) -> bool {
 /// Words of command lines, each with whether they are refused.
 static ARGUMENTS: [(&[&[u8]], bool); 4] = [
     (&[], false),
-    (&[b"rrs-hello"], false),
-    (&[b"rrs-hello", b""], true),
-    (&[b"rrs-hello", b"\xff"], true),
+    (&[b"rrs-replay"], false),
+    (&[b"rrs-replay", b""], true),
+    (&[b"rrs-replay", b"\xff"], true),
 ];
 
 #[test]

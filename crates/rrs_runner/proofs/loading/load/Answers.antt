@@ -1,17 +1,11 @@
-use Rattle.std.proofs.Common.{◌≡◌, length, arith}
-use Rattle.rrs_runner.proofs.LoadEnds.{refused_at_end, fails_in_time}
+use Rattle.std.proofs.Common.{◌≡◌, ℕ, length, ap, ◌∙◌, arith}
+use Rattle.std.proofs.lemmas.List.{length-replicate}
+use Rattle.rrs_runner.proofs.LoadEnds.{not_to_the_end}
 use Rattle.rrs_runner.proofs.loading.load.Goals as goal
 
-pub returns-in-Err-Refused : goal.returns-in-Err-Refused
-returns-in-Err-Refused g c =
-    let words = c.args.memory.now.mem in
-    let long : length words.items ≡ 16384 = omega (arith, words.ok.0, c.requires) in
-    let ensures = rw c.in-Err-Refused.field-0-is at c.in-Err-Refused.ensures in
-    record { loaded = tt; writable_kept = ensures.writable_kept; fault = refused_at_end _ _ _ _ words.items _ long ensures.loads }
-
-pub returns-in-Err-Reader : goal.returns-in-Err-Reader
-returns-in-Err-Reader g c =
-    let words = c.args.memory.now.mem in
-    let long : length words.items ≡ 16384 = omega (arith, words.ok.0, c.requires) in
-    let ensures = rw c.in-Err-Reader.field-0-is at c.in-Err-Reader.ensures in
-    record { loaded = tt; writable_kept = ensures.writable_kept; fault = fails_in_time _ _ _ _ words.items _ long ensures.loads.loaded ensures.loads.answered }
+pub unreachable-requires : goal.unreachable-requires
+unreachable-requires g c =
+    let loads = (rw c.in-Err-EndOfAddresses.field-0-is at c.in-Err-EndOfAddresses.ensures).loads in
+    let words = c.in_ok-memory.memory.mem.items in
+    let long : length words ≡ c.args.words = ap length c.in_ok-memory.ensures.words ∙ length-replicate {A = ℕ} c.args.words 0 in
+    not_to_the_end words c.args.words (length loads.input) long (omega (arith, loads.answered.0, c.requires)) loads.loaded.writable_there

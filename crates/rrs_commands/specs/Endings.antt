@@ -1,0 +1,35 @@
+-- The status that rrs ends with. rrs exec has the program's own; or one that no program gives by
+-- accident, as the commands timeout and env give them (124 at the limit, 125 where it could not be
+-- run), and as a shell gives it for a program that was killed by a signal (128 and the signal's
+-- number, which is that of signal(7) for the fault).
+use Rattle.std.specs.Prelude.{ℕ, ◌+◌, ◌%◌, Result, Ok, Err}
+use Rattle.rrs_lib.specs.declared.instruction_executor.InstructionException.{InstructionException}
+use Rattle.rrs_lib.specs.declared.instruction_executor.InstructionException.TheVariants.{IllegalInstruction, FetchError, LoadAccessFault, StoreAccessFault, AlignmentFault, EnvironmentCall, Breakpoint}
+use Rattle.rrs_served.specs.declared.Ending.{Ending}
+use Rattle.rrs_served.specs.declared.Ending.TheVariants.{Limit, Fault, Exit}
+use Rattle.rrs_runner.specs.Failures as Failures
+use Rattle.rrs_commands.specs.declared.ending.Refusal.{Refusal}
+use Rattle.rrs_commands.specs.declared.ending.Refusal.TheVariants.{Mistakes, Failed}
+use Rattle.rrs_commands.specs.declared.subcommands.Task.{Task}
+use Rattle.rrs_commands.specs.declared.subcommands.Task.TheVariants.{Run, Execute, Assemble, Help}
+
+abbrev pub signal_of : InstructionException → ℕ
+signal_of (IllegalInstruction pc word) = 4  -- SIGILL
+signal_of (Breakpoint pc) = 5  -- SIGTRAP
+signal_of (AlignmentFault address) = 7  -- SIGBUS
+signal_of (FetchError pc) = 11  -- SIGSEGV
+signal_of (LoadAccessFault address) = 11
+signal_of (StoreAccessFault address) = 11
+signal_of (EnvironmentCall pc) = 31  -- SIGSYS; each call is served
+
+-- where a subcommand refuses what it is asked
+abbrev pub refused_status : Task → Refusal → ℕ
+refused_status Execute refusal = 125
+refused_status task Mistakes = 1
+refused_status task (Failed failure) = Failures.status_of failure
+
+abbrev pub status_of : Task → Result Ending Refusal → ℕ
+status_of task (Ok (Exit status)) = status % 256
+status_of task (Ok Limit) = 124
+status_of task (Ok (Fault fault)) = 128 + signal_of fault
+status_of task (Err refusal) = refused_status task refusal

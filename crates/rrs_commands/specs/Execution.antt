@@ -1,0 +1,34 @@
+-- What it is to run a reader's bytes as a program that makes system calls.
+use Rattle.std.specs.Prelude.{ℕ, ◌^◌, List, ◌∷◌, replicate, Option, Ok}
+use Rattle.rrs_lib.specs.Bytes.{ByteMap}
+use Rattle.rrs_lib.specs.AccessLists.{Access}
+use Rattle.rrs_lib.specs.Machine.{State}
+use Rattle.rrs_lib.specs.VecBytes.{bytes_of_words, lies_in_words}
+use Rattle.rrs_lib.specs.Loading.{Loads}
+use Rattle.rrs_runner.specs.Printed.{zero_words, start_of}
+use Rattle.rrs_served.specs.declared.Ending.{Ending}
+use Rattle.rrs_served.specs.Serving.{Served}
+use Rattle.rrs_linux.specs.declared.Process.{Process}
+use Rattle.rrs_linux.specs.declared.held.Held.{Held}
+use Rattle.rrs_linux.specs.SystemCalls.{Serves}
+
+-- The machine that a program starts in: 1 MiB with these bytes, and a hart all of whose registers
+-- are 0 but x2, which is sp and has the address behind the memory.
+abbrev pub program_start : ByteMap → State
+program_start bytes = start_of 262144 (0 ∷ 2 ^ 20 ∷ replicate 29 0) bytes
+
+-- The bytes of a reader are loaded at address 0, and from there the machine runs and its system
+-- calls are served, and this is how that ends. So what the environment's writers hold then is what
+-- they held, and what each write wrote, in order; and what its reader gave, the calls that read
+-- gave to the program.
+pub record ExecutesProgram {R W E : Type 0} (remaining : R → Option (List ℕ))
+    (contents : W → Option (List ℕ)) (errors_of : E → Option (List ℕ)) (limit : ℕ)
+    (input rest : Option (List ℕ)) (old new : Process R W E Held) (ending : Ending) : Type 0 where
+  pub bytes : ByteMap
+  pub loaded : Loads input rest (bytes_of_words (zero_words 262144)) bytes
+      (lies_in_words (zero_words 262144)) 0 (Ok tt)
+  pub end : State
+  pub steps : ℕ
+  pub accesses : List Access
+  pub served : Served (Serves remaining contents errors_of) ending new end
+      limit old (program_start bytes) steps accesses

@@ -1,0 +1,8 @@
+-- What the subcommands of rrs are asked, what they do, and how rrs ends. Definitions of rrs_runner
+-- and rrs_linux are passed on, since contracts here cite them.
+pub use Rattle.rrs_linux.specs.SystemCalls
+pub use Rattle.rrs_runner.specs.Faults
+pub mod Requests
+pub mod Quiet
+pub mod Execution
+pub mod Endings

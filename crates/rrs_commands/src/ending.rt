@@ -1,0 +1,86 @@
+//! How `rrs` ends: its status, and what it says on standard error.
+
+ghost use Rattle.std.specs.Prelude.{◌≡◌};
+ghost use Rattle.std.specs.Process.{exit_status};
+ghost use Rattle.rrs_commands.specs.Endings.{refused_status, signal_of, status_of};
+
+use crate::subcommands::{Subcommand, Task};
+use rrs_lib::instruction_executor::InstructionException;
+use rrs_runner::command::{Failure, NamedFailure};
+use rrs_served::Ending;
+use std::process::ExitCode;
+
+/// Why a subcommand did not do what it was asked.
+#[derive(Debug, Drop)]
+pub enum Refusal {
+    /// The source has mistakes, which were printed.
+    Mistakes,
+    /// Something else failed.
+    Failed(Failure),
+}
+
+impl From<Failure> for Refusal {
+    fn from(failure: Failure) -> Refusal {
+        Refusal::Failed(failure)
+    }
+}
+
+/// The signal that a program gets on Linux for a fault.
+fn signal_of(fault: &InstructionException) -> u8
+    ensures { result ≡ signal_of fault.now }
+{
+    match fault {
+        InstructionException::IllegalInstruction(_, _) => 4,
+        InstructionException::Breakpoint(_) => 5,
+        InstructionException::AlignmentFault(_) => 7,
+        InstructionException::FetchError(_)
+        | InstructionException::LoadAccessFault(_)
+        | InstructionException::StoreAccessFault(_) => 11,
+        InstructionException::EnvironmentCall(_) => 31,
+    }
+}
+
+/// The status where a subcommand refuses what it is asked.
+fn refused_status(task: Task, refusal: &Refusal) -> u8
+    ensures { result ≡ refused_status task refusal.now }
+{
+    match (task, refusal) {
+        (Task::Execute, _) => 125,
+        (_, Refusal::Mistakes) => 1,
+        (_, Refusal::Failed(failure)) => failure.status(),
+    }
+}
+
+/// The status of `rrs`.
+fn status_of(task: Task, outcome: &Result<Ending, Refusal>) -> u8
+    ensures { result ≡ status_of task outcome.now }
+{
+    match outcome {
+        Ok(Ending::Exit(status)) => (status % 256) as u8,
+        Ok(Ending::Limit) => 124,
+        Ok(Ending::Fault(fault)) => 128 + signal_of(fault),
+        Err(refusal) => refused_status(task, refusal),
+    }
+}
+
+/// Ends `rrs`: where the subcommand, or the program that it ran, did not do what it was to, prints
+/// why as a line on standard error. Gives the status.
+///
+/// Where that line can't be printed the status is the same.
+pub fn conclude<H: Eprint>(
+    rt: &H,
+    subcommand: &Subcommand,
+    outcome: Result<Ending, Refusal>,
+) -> ExitCode
+    ensures { exit_status result ≡ status_of subcommand.now.task outcome }
+{
+    let program = subcommand.command;
+    let status = status_of(subcommand.task, &outcome);
+    let _ = match outcome {
+        Ok(Ending::Exit(_)) | Err(Refusal::Mistakes) => Ok(()),
+        Ok(Ending::Limit) => eprintln!(rt; "{}: limit", program.name),
+        Ok(Ending::Fault(fault)) => eprintln!(rt; "{}: {fault}", program.name),
+        Err(Refusal::Failed(failure)) => rt.eprintln(NamedFailure { program, failure }),
+    };
+    ExitCode::from(status)
+}

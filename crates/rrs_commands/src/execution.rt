@@ -1,0 +1,71 @@
+//! A program that makes system calls of Linux: the memory that it is loaded into, and its run.
+
+ghost use Rattle.std.specs.Prelude.{◌≡◌, IfOk, IfErr, OnErr};
+ghost use Rattle.rrs_runner.specs.Faults.{StopsLoadInto};
+ghost use Rattle.rrs_commands.specs.Execution.{ExecutesProgram};
+
+use rrs_lib::HartState;
+use rrs_lib::instruction_executor::InstructionExecutor;
+use rrs_linux::Linux;
+use rrs_runner::command::{Failure, open_file};
+use rrs_runner::fault::RunFault;
+use rrs_runner::loading::load;
+use rrs_served::{Ending, ServedEnd, run_served};
+use std::alloc::Global;
+use std::io::{Read, Write};
+use std::rt::Files;
+
+/// The number of words of the memory.
+const WORDS: usize = 262_144;
+/// The address behind the memory, where sp starts.
+const MEMORY_END: u32 = 0x0010_0000;
+/// Where a program's break starts.
+pub const HEAP_START: u32 = 0x0008_0000;
+/// The highest break of a program. What lies above is for its stack.
+pub const HEAP_END: u32 = 0x000c_0000;
+
+/// Runs a reader's bytes as a program, and serves its system calls, for `limit` steps or until it
+/// ends or faults.
+///
+/// # Errors
+///
+/// `RunFault::OutOfMemory` before anything is read. `RunFault::Reader` and `RunFault::Refused`
+/// where the bytes can't be loaded. No step is made then, and the environment is as it was.
+pub fn execute<P: Read, R: Read, W: Write, E: Write>(
+    alloc: Global,
+    program: &mut P,
+    limit: u64,
+    environment: &mut Linux<R, W, E>,
+) -> Result<Ending, RunFault>
+    ensures executed { IfOk result (ExecutesProgram R.remaining W.contents E.contents limit
+        (P.remaining program.old) (P.remaining program.new) environment.old environment.new) }
+    ensures fault { IfErr result
+        (StopsLoadInto 262144 (P.remaining program.old) (P.remaining program.new)) }
+    ensures kept { OnErr result (environment.new ≡ environment.old) }
+{
+    let mut memory = load(alloc, WORDS, program)?;
+    let mut hart = HartState::new();
+    hart.registers[2] = MEMORY_END;
+    let mut executor = InstructionExecutor {
+        mem: &mut memory,
+        hart_state: &mut hart,
+    };
+    let ServedEnd { steps: _, ending } = run_served(&mut executor, environment, limit);
+    Ok(ending)
+}
+
+/// Runs the bytes of a file as `execute` does.
+///
+/// # Errors
+///
+/// `Failure::CannotOpen` where the file can't be opened, and `Failure::Run` where it can't be
+/// loaded, or out of memory.
+pub fn execute_file<H: Files + AllocGlobal, R: Read, W: Write, E: Write>(
+    rt: &H,
+    path: &str,
+    limit: u64,
+    environment: &mut Linux<R, W, E>,
+) -> Result<Ending, Failure> {
+    let mut reader = open_file(rt, path)?;
+    execute(rt.alloc(), &mut reader, limit, environment).map_err(Failure::Run)
+}

@@ -1,0 +1,15 @@
+//! What the subcommands of `rrs` do: runs of files, with and without a line for each instruction,
+//! programs that make system calls of Linux, and the assembly of sources.
+//!
+//! `subcommands` has the table of them, and `ending` turns how one ended into its status and its
+//! line on standard error.
+
+#![tactic(auto)]
+
+pub mod assembly;
+pub mod ending;
+pub mod execution;
+pub mod program;
+pub mod quiet;
+pub mod requests;
+pub mod subcommands;

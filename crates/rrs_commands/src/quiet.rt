@@ -1,0 +1,62 @@
+//! A run of which only the end is printed.
+
+ghost use Rattle.std.specs.Prelude.{OnOk, IfErr};
+ghost use Rattle.rrs_commands.specs.Quiet.{QuietAccount, StopsQuietRun};
+
+use rrs_lib::HartState;
+use rrs_lib::instruction_executor::InstructionExecutor;
+use rrs_runner::command::{Failure, open_file, output};
+use rrs_runner::fault::RunFault;
+use rrs_runner::loading::load;
+use rrs_runner::report::print_ending;
+use rrs_runner::simulation::WORDS;
+use std::alloc::Global;
+use std::io::{Read, Write};
+use std::rt::Files;
+
+/// Runs the reader's bytes as `simulate` does, and prints how the run ended and the registers, but
+/// no instruction. The run is one call, by whose table long runs are fast.
+///
+/// # Errors
+///
+/// `RunFault::OutOfMemory` before anything is read or at the end of the run, and
+/// `RunFault::Reader` and `RunFault::Refused` where the bytes can't be loaded: nothing is printed
+/// then. `RunFault::Output` where a write or the flush fails: a beginning of the account is printed
+/// then, up to all of it.
+pub fn simulate_quietly<R: Read, W: Write>(
+    alloc: Global,
+    reader: &mut R,
+    limit: u64,
+    out: &mut W,
+) -> Result<(), RunFault>
+    ensures account { OnOk result (QuietAccount limit
+        (R.remaining reader.old) (R.remaining reader.new)
+        (W.contents out.old) (W.contents out.new)) }
+    ensures fault { IfErr result (StopsQuietRun limit
+        (R.remaining reader.old) (R.remaining reader.new)
+        (W.contents out.old) (W.contents out.new)) }
+{
+    let mut memory = load(alloc, WORDS, reader)?;
+    let mut hart = HartState::new();
+    let mut executor = InstructionExecutor {
+        mem: &mut memory,
+        hart_state: &mut hart,
+    };
+    let end = executor.run(limit);
+    print_ending(alloc, &end, executor.hart_state, out)
+}
+
+/// Runs the bytes of a file, and prints how the run ended and the registers.
+///
+/// # Errors
+///
+/// `Failure::CannotOpen` where the file can't be opened, and else `Failure::Run`.
+pub fn run_file_quietly<H: Files + Print + AllocGlobal>(
+    rt: &H,
+    path: &str,
+    limit: u64,
+) -> Result<(), Failure> {
+    let mut reader = open_file(rt, path)?;
+    let mut out = output(rt)?;
+    simulate_quietly(rt.alloc(), &mut reader, limit, &mut out).map_err(Failure::Run)
+}

@@ -1,0 +1,82 @@
+//! What the words of a command line ask of a subcommand, the subcommand's own word among them.
+
+ghost use Rattle.std.specs.Prelude.{◌≡◌, IfSome, Some, map, string_bytes};
+ghost use Rattle.rrs_runner.specs.Limits.{limit_in};
+ghost use Rattle.rrs_commands.specs.Requests.{AsksToExecute};
+
+use rrs_runner::limits::limit_of;
+use rrs_runner::requests::request_of;
+
+/// A run that is asked for: a file, a limit, and whether its instructions are not to be printed.
+#[derive(Clone, Copy)]
+pub struct RunRequest<'a> {
+    /// The file.
+    pub path: &'a str,
+    /// The most steps that are made.
+    pub limit: u64,
+    /// Whether only the end and the registers are wanted.
+    pub is_quiet: bool,
+}
+
+/// The run that is asked for: `FILE LIMIT`, or `--quiet FILE LIMIT`.
+pub fn run_request_of(words: &[String]) -> Option<RunRequest<'_>> {
+    let is_quiet = match words {
+        [_, option, ..] => option.as_str() == "--quiet",
+        _ => false,
+    };
+    let words = if is_quiet { &words[1..] } else { words };
+    let (path, limit) = request_of(words)?;
+    Some(RunRequest {
+        path,
+        limit,
+        is_quiet,
+    })
+}
+
+/// The file and the limit of a program that is to be run: `--raw FILE --limit N`, in either order.
+pub fn execute_request_of(words: &[String]) -> Option<(&str, u64)>
+    ensures { IfSome result (λ request.
+        AsksToExecute (map string_bytes words.now) request.0.now request.1) }
+{
+    let [_, first, one, second, other] = words else {
+        return None;
+    };
+    match (first.as_str(), second.as_str()) {
+        ("--raw", "--limit") => file_and_limit(one.as_str(), other.as_str()),
+        ("--limit", "--raw") => file_and_limit(other.as_str(), one.as_str()),
+        _ => None,
+    }
+}
+
+/// A file and the limit that a word is.
+fn file_and_limit<'a>(path: &'a str, limit: &str) -> Option<(&'a str, u64)>
+    ensures { IfSome result (λ request. request.0.now ≡ path.now
+        × limit_in limit.now ≡ Some request.1) }
+{
+    let limit = limit_of(limit)?;
+    Some((path, limit))
+}
+
+/// An assembly that is asked for: a file, and how it is to be written.
+#[derive(Clone, Copy)]
+pub struct AssemblyRequest<'a> {
+    /// The file.
+    pub path: &'a str,
+    /// Whether a source for GNU `as` is wanted, and not the bytes.
+    pub is_gnu: bool,
+}
+
+/// The assembly that is asked for: `FILE`, or `--gnu FILE`.
+pub fn assembly_request_of(words: &[String]) -> Option<AssemblyRequest<'_>> {
+    match words {
+        [_, path] => Some(AssemblyRequest {
+            path: path.as_str(),
+            is_gnu: false,
+        }),
+        [_, option, path] if option.as_str() == "--gnu" => Some(AssemblyRequest {
+            path: path.as_str(),
+            is_gnu: true,
+        }),
+        _ => None,
+    }
+}

@@ -1,0 +1,114 @@
+//! The subcommands of `rrs`: how each is called, and what its help says.
+
+use rrs_runner::command::Command;
+
+/// What a subcommand does.
+#[derive(Clone, Copy, Debug, PartialEq)]
+pub enum Task {
+    /// It runs a file, and prints what it does.
+    Run,
+    /// It runs a program that makes system calls.
+    Execute,
+    /// It assembles a source.
+    Assemble,
+    /// It says what the others do.
+    Help,
+}
+
+/// A subcommand.
+#[derive(Clone, Copy, Debug)]
+pub struct Subcommand {
+    /// The word that asks for it.
+    pub word: &'static str,
+    /// What it does.
+    pub task: Task,
+    /// How it is called, and the name before what it says.
+    pub command: Command,
+    /// What it does, in a line of the list of all.
+    pub summary: &'static str,
+    /// What its help says below its usage.
+    pub help: &'static str,
+}
+
+/// The subcommands.
+pub static SUBCOMMANDS: [Subcommand; 3] = [RUN, EXECUTE, ASSEMBLE];
+
+/// The program itself, where it is asked for help or for no subcommand.
+pub static ITSELF: Subcommand = HELP;
+
+/// `rrs run`, which says what `rrs-run` says.
+const RUN: Subcommand = Subcommand {
+    word: "run",
+    task: Task::Run,
+    command: Command {
+        name: "rrs-run",
+        usage: "rrs run [--quiet] FILE LIMIT",
+    },
+    summary: "runs a file's bytes, and prints each instruction and the registers",
+    help: "Puts the bytes of FILE at address 0 of a memory of 64 KiB, starts a hart there whose
+registers are 0, and makes at most LIMIT steps (one to nine digits). Prints each
+instruction before its step, then how the run ended, and the registers. With
+--quiet it prints no instructions, and long runs are fast.
+
+Status: 0, however the run ends; 1 where FILE can't be run; 2 for other words.
+",
+};
+
+/// `rrs exec`.
+const EXECUTE: Subcommand = Subcommand {
+    word: "exec",
+    task: Task::Execute,
+    command: Command {
+        name: "rrs exec",
+        usage: "rrs exec --raw FILE --limit N",
+    },
+    summary: "runs a program that makes system calls of Linux",
+    help: "Puts the bytes of FILE at address 0 of a memory of 1 MiB, starts a hart there with
+sp (x2) at the end of the memory, and makes at most N steps (one to nine digits),
+of which each system call is one. The program has standard input, output and
+error. Both options are required, in either order.
+
+Status: the program's own; 124 at the limit; 125 where it can't be run; 128 and
+the number of a signal for a fault: 132 illegal instruction, 133 breakpoint,
+135 misaligned address, 139 address outside the memory.
+",
+};
+
+/// `rrs as`.
+const ASSEMBLE: Subcommand = Subcommand {
+    word: "as",
+    task: Task::Assemble,
+    command: Command {
+        name: "rrs as",
+        usage: "rrs as [--gnu] FILE",
+    },
+    summary: "assembles a source, and writes the bytes of the program",
+    help: "Writes the bytes of the program to standard output, the first for address 0; with
+--gnu a source of the same bytes that GNU as takes. Each mistake is a line on
+standard error, FILE:LINE:COLUMN: and what is wrong, and nothing is written then.
+
+Status: 0; 1 for mistakes, and where FILE can't be assembled; 2 for other words.
+",
+};
+
+/// `rrs help`.
+const HELP: Subcommand = Subcommand {
+    word: "help",
+    task: Task::Help,
+    command: Command {
+        name: "rrs",
+        usage: "rrs run|exec|as|help ..",
+    },
+    summary: "says this, as --help does",
+    help: "A subcommand's own --help says more, such as rrs run --help. The status is 0, 1
+where something fails, and 2 for other words; rrs exec ends with that of its
+program.
+",
+};
+
+/// The subcommand that a word asks for, if there is one.
+pub fn named(word: &str) -> Option<&'static Subcommand> {
+    SUBCOMMANDS
+        .iter()
+        .find(|subcommand| subcommand.word == word)
+}
