@@ -1,4 +1,4 @@
-# Prints a line by system calls, and exits with the status 0. For rrs-exec.
+# Prints a line by system calls, and exits with the status 0. For rrs exec.
 .equ write, 64
 .equ exit, 93
     j    start
