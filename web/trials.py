@@ -15,8 +15,8 @@ import programs
 
 HERE = pathlib.Path(__file__).resolve().parent
 PAGE = HERE / "out" / "rrs.html"
-SPEED = HERE.parent / "crates" / "rrs_speed"
-EXEC = HERE.parent / "crates" / "rrs_exec" / "data"
+RRS = HERE.parent / "crates" / "rrs"
+EXEC = RRS / "data"
 GENERATED = 100
 SIZE = (1360, 900)
 
@@ -42,7 +42,7 @@ FAULTS = {
                f"{NOTHING}", 1),
 }
 
-# how the page heads each fault that rrs-speed names
+# how the page heads each fault that `rrs run` names
 HEADINGS = {
     "IllegalInstruction": "Illegal instruction",
     "FetchError": "Fetch fault",
@@ -370,7 +370,7 @@ def files(machine):
 
 
 def c_programs(machine):
-    """the C programs of rrs-exec, over 1 MiB with sp at its end"""
+    """the C programs of rrs exec, over 1 MiB with sp at its end"""
     machine.choose("three")
     machine.page.press("e")
     machine.page.choose("#size", "1048576")
@@ -559,20 +559,20 @@ def names(machine):
     machine.page.click("#help [data-close]")
 
 
-# ---- generated programs, as rrs-speed runs them
+# ---- generated programs, as rrs run --quiet runs them
 
 
 def speed_says(path):
-    """What rrs-speed prints: the end, the steps, the registers and the pc."""
-    run = subprocess.run([SPEED / "out" / "rrs_speed", path, "1000000"], capture_output=True,
-                         text=True, check=True)
+    """What rrs run --quiet prints: the end, the steps, the registers and the pc."""
+    words = [RRS / "out" / "rrs", "run", "--quiet", path, "1000000"]
+    run = subprocess.run(words, capture_output=True, text=True, check=True)
     first, *rest = run.stdout.splitlines()
     end, steps = first.removeprefix("end: ").split(", steps ")
     return end, int(steps), dict(line.split() for line in rest)
 
 
 def same_end(machine, end, registers):
-    """Compares the heading and the sentence with an end as rrs-speed tells it."""
+    """Compares the heading and the sentence with an end as rrs run tells it."""
     name, *facts = end.split()
     values = [fact.split("=")[1] for fact in facts]
     heading, sentence = machine.page.text("#heading"), machine.page.text("#sentence")
@@ -590,7 +590,7 @@ def same_end(machine, end, registers):
 
 
 def generated(machine):
-    """generated programs end as rrs-speed ends them, and go back to their first state"""
+    """generated programs end as rrs run ends them, and go back to their first state"""
     made = 0
     machine.choose("three")
     # a small page is drawn sooner

@@ -4,6 +4,7 @@ ghost use Rattle.std.specs.Prelude.{◌≡◌, IfOk, IfErr, OnErr};
 ghost use Rattle.rrs_runner.specs.Faults.{StopsLoadInto};
 ghost use Rattle.rrs_commands.specs.Execution.{ExecutesProgram};
 
+use rrs_fast::DecodeCache;
 use rrs_lib::HartState;
 use rrs_lib::instruction_executor::InstructionExecutor;
 use rrs_linux::Linux;
@@ -50,7 +51,8 @@ pub fn execute<P: Read, R: Read, W: Write, E: Write>(
         mem: &mut memory,
         hart_state: &mut hart,
     };
-    let ServedEnd { steps: _, ending } = run_served(&mut executor, environment, limit);
+    let mut cache = DecodeCache::new();
+    let ServedEnd { steps: _, ending } = run_served(&mut cache, &mut executor, environment, limit);
     Ok(ending)
 }
 

@@ -3,6 +3,7 @@
 ghost use Rattle.std.specs.Prelude.{OnOk, IfErr};
 ghost use Rattle.rrs_commands.specs.Quiet.{QuietAccount, StopsQuietRun};
 
+use rrs_fast::DecodeCache;
 use rrs_lib::HartState;
 use rrs_lib::instruction_executor::InstructionExecutor;
 use rrs_runner::command::{Failure, open_file, output};
@@ -15,7 +16,7 @@ use std::io::{Read, Write};
 use std::rt::Files;
 
 /// Runs the reader's bytes as `simulate` does, and prints how the run ended and the registers, but
-/// no instruction. The run is one call, by whose table long runs are fast.
+/// no instruction. The run is one call, over a cache of decoded words.
 ///
 /// # Errors
 ///
@@ -42,7 +43,7 @@ pub fn simulate_quietly<R: Read, W: Write>(
         mem: &mut memory,
         hart_state: &mut hart,
     };
-    let end = executor.run(limit);
+    let end = DecodeCache::new().run(&mut executor, limit);
     print_ending(alloc, &end, executor.hart_state, out)
 }
 

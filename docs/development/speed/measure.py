@@ -1,16 +1,16 @@
 #!/usr/bin/env python3
-"""Measures rrs-speed beside interpreters in C, and prints a table.
+"""Measures `rrs run --quiet` beside interpreters in C, and prints a table.
 
 usage: measure.py [--counts] [--rounds N] [--peer NAME=BINARY] .. [FILE ..]
 
-Each FILE is a raw program, run from address 0 on to its end; without one it is the file that
-rrs-speed is run on by the gate. Beside these there are programs made here: a loop of so many
+Each FILE is a raw program, run from address 0 on to its end; without one it is primes.bin
+of crates/rrs/data. Beside these there are programs made here: a loop of so many
 different words, and one that changes a word of itself in each turn. The numbers are the least user
 time of the rounds, which take turns, in seconds; with --counts, machine instructions a step by
 valgrind, as the difference of two limits. A peer is called as BINARY FILE LIMIT, and prints
 "steps" with their number; all have to make the same number of steps.
 
-It needs gcc, and rrs-speed built: `rt run` in crates/rrs_speed builds it.
+It needs gcc, and rrs built: `.ci/built program rrs` builds it.
 """
 import argparse
 import os
@@ -22,7 +22,7 @@ import sys
 import tempfile
 
 HERE = os.path.dirname(os.path.abspath(__file__))
-CRATE = os.path.join(HERE, "..", "..", "..", "crates", "rrs_speed")
+CRATE = os.path.join(HERE, "..", "..", "..", "crates", "rrs")
 LIMIT = 20_000_000
 
 
@@ -48,13 +48,15 @@ def changing():
 
 
 def built(room):
-    binaries = {"rrs-speed": os.path.join(CRATE, "out", "rrs_speed")}
-    if not os.access(binaries["rrs-speed"], os.X_OK):
-        sys.exit("measure.py: build rrs-speed first: cd crates/rrs_speed && rt run")
+    rrs = os.path.join(CRATE, "out", "rrs")
+    if not os.access(rrs, os.X_OK):
+        sys.exit("measure.py: build rrs first: .ci/built program rrs")
+    binaries = {"rrs run --quiet": [rrs, "run", "--quiet"]}
     for name, flags in (("C, decoding", []), ("C, a table", ["-DKEEPS"])):
-        binaries[name] = os.path.join(room, name.replace(", ", "-").replace(" ", "-"))
-        subprocess.run(["gcc", "-std=c99", "-O3", *flags, "-o", binaries[name],
+        binary = os.path.join(room, name.replace(", ", "-").replace(" ", "-"))
+        subprocess.run(["gcc", "-std=c99", "-O3", *flags, "-o", binary,
                         os.path.join(HERE, "interpreter.c")], check=True)
+        binaries[name] = [binary]
     return binaries
 
 
@@ -64,13 +66,13 @@ def steps_of(text):
 
 def seconds(binary, file, limit):
     before = resource.getrusage(resource.RUSAGE_CHILDREN)
-    out = subprocess.run([binary, file, str(limit)], capture_output=True, text=True).stdout
+    out = subprocess.run([*binary, file, str(limit)], capture_output=True, text=True).stdout
     after = resource.getrusage(resource.RUSAGE_CHILDREN)
     return after.ru_utime - before.ru_utime, steps_of(out)
 
 
 def instructions(binary, file, limit):
-    words = ["valgrind", "--tool=callgrind", "--callgrind-out-file=/dev/null", binary, file,
+    words = ["valgrind", "--tool=callgrind", "--callgrind-out-file=/dev/null", *binary, file,
              str(limit)]
     said = subprocess.run(words, capture_output=True, text=True)
     return int(re.search(r"Collected : (\d+)", said.stderr).group(1)), steps_of(said.stdout)
@@ -102,9 +104,9 @@ def main():
     given = parser.parse_args()
     with tempfile.TemporaryDirectory() as room:
         binaries = built(room)
-        binaries.update(peer.split("=", 1) for peer in given.peer)
-        data = os.path.join(CRATE, "data")
-        files = given.files or [os.path.join(data, name) for name in sorted(os.listdir(data))]
+        for name, binary in (peer.split("=", 1) for peer in given.peer):
+            binaries[name] = [binary]
+        files = given.files or [os.path.join(CRATE, "data", "primes.bin")]
         programs = [(os.path.basename(file), file, 900_000_000) for file in files]
         made = [(f"a loop of {n} words", loop_of(n)) for n in (500, 1000, 4000, 12000)]
         for name, words in [*made, ("a word changed in each turn", changing())]:

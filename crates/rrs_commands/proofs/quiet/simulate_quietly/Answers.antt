@@ -47,7 +47,7 @@ returns g c =
       last = c.new-hart.ensures.last;
     } in
     let end = c.run-end.result in
-    let last = state_in vec_bytes vec_writable c.run-end.new.self in
+    let last = state_in vec_bytes vec_writable c.run-end.new.executor in
     let made : RunUntil c.args.limit (ready_state new hart) end.steps end.exception last = c.run-end.ensures.run in
     record {
       account = on_ok_weaker c.print_ending.result
