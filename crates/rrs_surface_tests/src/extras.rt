@@ -12,7 +12,9 @@ use rrs_lib::memories::VecMemory;
 use rrs_lib::{Memory, process_instruction};
 use rrs_runner::fault::RunFault;
 use rrs_runner::limits::limit_of;
-use std::alloc::AllocError;
+use rrs_runner::simulation::simulate;
+use std::alloc::{AllocError, Global};
+use std::io::{Read, Write};
 use std::test::Fail;
 
 #[test]
@@ -83,5 +85,35 @@ fn faults_of_a_run_are_printed(rt: HostRuntime) -> Result<(), Fail> {
     let text = format!(in rt.alloc(); "{fault}")?;
     let is_told = text.as_str() == "Could not write byte at address 0x00010000";
     assert!(rt; is_told && kind_of(&fault) == (3, 0x10000));
+    Ok(())
+}
+
+/// The run of a reader's bytes, with its types.
+fn simulated<R: Read, W: Write>(
+    alloc: Global,
+    reader: &mut R,
+    limit: u64,
+    out: &mut W,
+) -> Result<(), RunFault> {
+    simulate::<R, W>(alloc, reader, limit, out)
+}
+
+// lui x2, 0x1234b000; lui x3, 0xf387e000; add x1, x2, x3, and a word of zeros behind them.
+#[test]
+fn a_file_is_simulated(rt: HostRuntime) -> Result<(), Fail> {
+    let mut reader: &[u8] = b"\x37\xb1\x34\x12\xb7\xe1\x87\xf3\xb3\x00\x31\x00";
+    let mut out: Vec<u8> = Vec::new(rt.alloc());
+    let answer: Result<(), RunFault> = simulated(rt.alloc(), &mut reader, 10, &mut out);
+    let beginning: &[u8] = b"0x00000000: lui x2, 0x1234b000
+0x00000004: lui x3, 0xf387e000
+0x00000008: add x1, x2, x3
+end: IllegalInstruction pc=0x0000000c word=0x00000000, steps 3
+x0 0x00000000
+x1 0x05bc9000
+x2 0x1234b000
+x3 0xf387e000
+";
+    assert!(rt; answer.is_ok() && out.as_slice().starts_with(beginning));
+    assert!(rt; out.as_slice().ends_with(b"\npc 0x0000000c\n"));
     Ok(())
 }
