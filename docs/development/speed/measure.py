@@ -3,8 +3,8 @@
 
 usage: measure.py [--counts] [--rounds N] [--peer NAME=BINARY] .. [FILE ..]
 
-Each FILE is a raw program, run from address 0 on to its end; without one it is primes.bin
-of crates/rrs/data. Beside these there are programs made here: a loop of so many
+Each FILE is a raw program, run from address 0 on to its end; without one they are the programs in
+programs/, which gcc made. Beside these there are programs made here: a loop of so many
 different words, and one that changes a word of itself in each turn. The numbers are the least user
 time of the rounds, which take turns, in seconds; with --counts, machine instructions a step by
 valgrind, as the difference of two limits. A peer is called as BINARY FILE LIMIT, and prints
@@ -13,6 +13,7 @@ valgrind, as the difference of two limits. A peer is called as BINARY FILE LIMIT
 It needs gcc, and rrs built: `.ci/built program rrs` builds it.
 """
 import argparse
+import glob
 import os
 import re
 import resource
@@ -106,8 +107,9 @@ def main():
         binaries = built(room)
         for name, binary in (peer.split("=", 1) for peer in given.peer):
             binaries[name] = [binary]
-        files = given.files or [os.path.join(CRATE, "data", "primes.bin")]
-        programs = [(os.path.basename(file), file, 900_000_000) for file in files]
+        files = given.files or sorted(glob.glob(os.path.join(HERE, "programs", "*.bin")))
+        programs = [(os.path.basename(file).removesuffix(".bin"), file, 900_000_000)
+                    for file in files]
         made = [(f"a loop of {n} words", loop_of(n)) for n in (500, 1000, 4000, 12000)]
         for name, words in [*made, ("a word changed in each turn", changing())]:
             file = os.path.join(room, name.replace(" ", "-"))
