@@ -9,7 +9,7 @@ use Rattle.std.specs.Int.Signed.{shr_z}
 use Rattle.rrs_instruction.specs.Words.{floor_mod}
 
 -- z is the number between -h and h - 1 that is v modulo 2 * h
-abbrev Extends : ℤ → ℕ → ℕ → Type 0
+abbrev pub Extends : ℤ → ℕ → ℕ → Type 0
 Extends z v h = (neg_ℤ (pos h) ≤ℤ z) × (z <ℤ pos h) × (floor_mod z (2 * h) ≡ v)
 
 -- a number whose top bit is 0 comes back as it was
@@ -34,11 +34,11 @@ shifted_high v h k d o p s e =
     ∙ ap negsuc (div-mul-add d k (k - 1) (omega arith))
 
 -- a number below h extends to itself
-extends_low : (v h : ℕ) → v < h → Extends (pos v) v h
+pub extends_low : (v h : ℕ) → v < h → Extends (pos v) v h
 extends_low v h p = (omega (arith, ints), omega (arith, ints), mod-eq_of_lt (omega arith))
 
 -- a number from h on extends to itself less 2 * h
-extends_high : (v h d : ℕ) → h ≤ v → v + d + 1 ≡ 2 * h → Extends (negsuc d) v h
+pub extends_high : (v h d : ℕ) → h ≤ v → v + d + 1 ≡ 2 * h → Extends (negsuc d) v h
 extends_high v h d p s =
     let m : d % (2 * h) ≡ d = mod-eq_of_lt (omega arith) in
     (omega (arith, ints), omega (arith, ints), omega arith)
@@ -71,25 +71,18 @@ twice_half width p =
     ap (λ (k : ℕ). 2 ^ k) e ∙ pow-add 2 1 (width - 1)
 
 -- what the code computes from the word that it shifts to the top
-sign_extended_is : (value width : ℕ) (r : ℤ) → 0 < width → width ≤ 32 → value < 2 ^ width → FitsSigned w32 r → r ≡ to_z w32 (value * 2 ^ (32 - width) % 4294967296) → Extends (to_z w32 (of_z w32 (shr_z (to_z w32 (of_z w32 r)) (2 ^ (32 - width))))) value (2 ^ (width - 1))
+abbrev pub shifted_back : ℤ → ℕ → ℤ
+shifted_back r width = to_z w32 (of_z w32 (shr_z (to_z w32 (of_z w32 r)) (2 ^ (32 - width))))
+
+-- it extends the number that was shifted
+pub sign_extended_is : (value width : ℕ) (r : ℤ) → 0 < width → width ≤ 32 → value < 2 ^ width
+    → FitsSigned w32 r → r ≡ to_z w32 (value * 2 ^ (32 - width) % 4294967296)
+    → (neg_ℤ (pos (2 ^ (width - 1))) ≤ℤ shifted_back r width)
+    × (shifted_back r width <ℤ pos (2 ^ (width - 1)))
+    × (floor_mod (shifted_back r width) (2 ^ width) ≡ value)
 sign_extended_is value width r p q v f e =
-    let g : value < 2 * 2 ^ (width - 1) = omega (arith, twice_half width p) in
-    subst (λ (z : ℤ). Extends (to_z w32 (of_z w32 (shr_z z (2 ^ (32 - width))))) value (2 ^ (width - 1)))
-    (sym (to_z-of_z w32 r f ∙ e))
-    (extended value (2 ^ (width - 1)) (2 ^ (32 - width)) (pow_pos (32 - width)) g (half_times_rest width p q))
-
--- it is no less than the least number of `width` bits
-pub shifted_from_least : (value width : ℕ) (r : ℤ) → 0 < width → width ≤ 32 → value < 2 ^ width → FitsSigned w32 r → r ≡ to_z w32 (value * 2 ^ (32 - width) % 4294967296) → neg_ℤ (pos (2 ^ (width - 1))) ≤ℤ to_z w32 (of_z w32 (shr_z (to_z w32 (of_z w32 r)) (2 ^ (32 - width))))
-shifted_from_least value width r p q v f e = (sign_extended_is value width r p q v f e).0
-
--- it is no more than the greatest number of `width` bits
-pub shifted_to_greatest : (value width : ℕ) (r : ℤ) → 0 < width → width ≤ 32 → value < 2 ^ width → FitsSigned w32 r → r ≡ to_z w32 (value * 2 ^ (32 - width) % 4294967296) → to_z w32 (of_z w32 (shr_z (to_z w32 (of_z w32 r)) (2 ^ (32 - width)))) <ℤ pos (2 ^ (width - 1))
-shifted_to_greatest value width r p q v f e = (sign_extended_is value width r p q v f e).1
-
--- its low bits are the number that was extended
-pub shifted_low_bits : (value width : ℕ) (r : ℤ) → 0 < width → width ≤ 32 → value < 2 ^ width → FitsSigned w32 r → r ≡ to_z w32 (value * 2 ^ (32 - width) % 4294967296) → floor_mod (to_z w32 (of_z w32 (shr_z (to_z w32 (of_z w32 r)) (2 ^ (32 - width))))) (2 ^ width) ≡ value
-shifted_low_bits value width r p q v f e =
-    ap (floor_mod (to_z w32 (of_z w32 (shr_z (to_z w32 (of_z w32 r)) (2 ^ (32 - width)))))) (twice_half width p) ∙ (sign_extended_is value width r p q v f e).2
-
--- the three, for the function that computes it
-pub ruleset sign_extension = (shifted_from_least, shifted_to_greatest, shifted_low_bits)
+    let twice = twice_half width p in
+    let is : Extends (to_z w32 (of_z w32 (shr_z (to_z w32 (value * 2 ^ (32 - width) % 4294967296)) (2 ^ (32 - width))))) value (2 ^ (width - 1)) =
+    extended value (2 ^ (width - 1)) (2 ^ (32 - width)) (pow_pos (32 - width)) (omega (arith, twice)) (half_times_rest width p q) in
+    let same = subst (λ z. Extends (to_z w32 (of_z w32 (shr_z z (2 ^ (32 - width))))) value (2 ^ (width - 1))) (sym (to_z-of_z w32 r f ∙ e)) is in
+    (same.0, same.1, ap (floor_mod (shifted_back r width)) twice ∙ same.2)

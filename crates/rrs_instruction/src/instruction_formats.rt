@@ -72,7 +72,6 @@ fn bits(insn: u32, low: u32, count: u32) -> u32
 /// The number that `value`, of `width` bits, stands for in two's complement: the one between
 /// `-2^(width - 1)` and `2^(width - 1) - 1` whose low bits are `value`.
 #[inline]
-#[tactic(auto, using(crate::proofs::SignExtension::sign_extension))]
 fn sign_extended(value: u32, width: u32) -> i32
     requires narrow { (0 < width) × (width ≤ 32) }
     requires fits { value < 2 ^ width }
