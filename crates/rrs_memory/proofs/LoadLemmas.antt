@@ -1,9 +1,8 @@
 -- How a load goes on by one byte.
 use Rattle.std.proofs.Common.{◌≡◌, ◌≢◌, ◌⊎◌, ℕ, ◌+◌, ◌^◌, ◌<◌, ◌≤◌, Bool, true, false, List, [], ◌∷◌, ◌++◌, length, slice_index, Option, Some, is_some, nat_lt, refl, sym, subst, ap, ◌∙◌, arith, inl, inr, below_more}
-use Rattle.std.proofs.lemmas.List.{get_or_append_left}
+use Rattle.std.proofs.lemmas.List.{get_or_append_left, get_or_push, length_push}
 use Rattle.std.proofs.lemmas.Bool.{lt-ltb, le-ltb}
 use Rattle.std.proofs.lemmas.Bool.Decides.{nat_tests}
-use Rattle.std.proofs.lemmas.Grind.{common_steps}
 use Rattle.rrs_memory.specs.declared.MemAccessSize.{MemAccessSize}
 use Rattle.rrs_memory.specs.declared.MemAccessSize.TheVariants.{Byte}
 use Rattle.rrs_memory.specs.Bytes.{ByteMap, store, IsLawful}
@@ -20,10 +19,6 @@ store-there bytes a v b other = grind (arith, nat_tests)
 store-mapped : (bytes : ByteMap) (a v b : ℕ) → is_some (bytes a) ≡ true → is_some (store bytes a 1 v b) ≡ is_some (bytes b)
 store-mapped bytes a v b there = grind (arith, nat_tests)
 
-get_or-append_here : (xs : List ℕ) (x : ℕ) → slice_index (xs ++ x ∷ []) (length xs) ≡ x
-get_or-append_here [] x = refl
-get_or-append_here (y ∷ xs) x = get_or-append_here xs x
-
 -- one byte more, from what a write says
 pub Loaded-next : (old mid new : ByteMap) (writable writable' : ℕ → Bool) (start byte value addr : ℕ) (input : List ℕ) → Loaded old mid writable start input → start + length input ≡ addr → addr < 2 ^ 32 → byte < 256 → value ≡ byte → writable' ≡ writable → true ≡ writable' (addr + 0) → IsLawful mid writable' addr 1 → new ≡ store mid addr 1 value → Loaded old new writable start (input ++ byte ∷ [])
 Loaded-next old mid new writable writable' start byte value addr input so_far placed within small same kept answer lawful written =
@@ -32,12 +27,12 @@ Loaded-next old mid new writable writable' start byte value addr input so_far pl
     let there : is_some (mid (start + length input)) ≡ true = ap (λ a. is_some (mid a)) (sym zero_more) ∙ lawful.mapped 0 (omega arith) (sym answer) in
     let stored : new ≡ store mid (start + length input) 1 byte = written ∙ ap (λ a. store mid a 1 value) (sym placed) ∙ ap (λ v. store mid (start + length input) 1 v) same in
     let at = λ (b : ℕ). ap (λ f. f b) stored in
-    let more : length (input ++ byte ∷ []) ≡ length input + 1 = grind (arith, common_steps) in
+    let more : length (input ++ byte ∷ []) ≡ length input + 1 = length_push input byte in
     record {
       writable_there = λ i h. below_more (λ k. writable (start + k) ≡ true) (length input) so_far.writable_there allowed i (omega (arith, h, more));
       loaded = λ i h. below_more (λ k. new (start + k) ≡ Some (slice_index (input ++ byte ∷ []) k)) (length input)
           (λ k below. at (start + k) ∙ store-there mid (start + length input) byte (start + k) (omega arith) ∙ so_far.loaded k below ∙ ap Some (sym (get_or_append_left input (byte ∷ []) 0 k below)))
-          (at (start + length input) ∙ store-here mid (start + length input) byte small ∙ ap Some (sym (get_or-append_here input byte)))
+          (at (start + length input) ∙ store-here mid (start + length input) byte small ∙ ap Some (sym (get_or_push input byte 0 (length input) refl)))
           i (omega (arith, h, more));
       others = λ a h.
           let apart : (a ≢ start + length input) × ((a < start) ⊎ (start + length input ≤ a)) =
@@ -46,9 +41,6 @@ Loaded-next old mid new writable writable' start byte value addr input so_far pl
       mapped = λ a. ap is_some (at a) ∙ store-mapped mid (start + length input) byte a there ∙ so_far.mapped a;
       in_range = omega (arith, within, placed, more);
     }
-
-pub length-more : (xs : List ℕ) (x start addr : ℕ) → start + length xs ≡ addr → start + length (xs ++ x ∷ []) ≡ addr + 1
-length-more xs x start addr placed = let more : length (xs ++ x ∷ []) ≡ length xs + 1 = grind (arith, common_steps) in omega (arith, more, placed)
 
 -- ---- the writes of a load
 

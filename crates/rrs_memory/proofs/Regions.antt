@@ -32,26 +32,22 @@ OnFalse_then false p f = f p
 -- an address of an aligned access lies at a base or past it exactly where the access begins there
 aligned_from : (base a i : ℕ) (n : MemAccessSize) → base % 4 ≡ 0 → a % width n ≡ 0 → i < width n → base ≤ a + i → base ≤ a
 aligned_from base a i Byte b al below past = omega arith
-aligned_from base a i HalfWord b al below past = omega arith
-aligned_from base a i Word b al below past = omega arith
+aligned_from base a i _ b al below past = omega arith
 
 -- an aligned access that begins below a multiple of 4 ends below it
 pub aligned_below : (end a i : ℕ) (n : MemAccessSize) → end % 4 ≡ 0 → a % width n ≡ 0 → i < width n → a < end → a + i < end
 aligned_below end a i Byte e al below before = omega arith
-aligned_below end a i HalfWord e al below before = omega arith
-aligned_below end a i Word e al below before = omega arith
+aligned_below end a i _ e al below before = omega arith
 
 -- the offset of an aligned access from a multiple of 4 is aligned
 pub aligned_offset : (base a : ℕ) (n : MemAccessSize) → base % 4 ≡ 0 → a % width n ≡ 0 → base ≤ a → (a - base) % width n ≡ 0
 aligned_offset base a Byte b al past = omega arith
-aligned_offset base a HalfWord b al past = omega arith
-aligned_offset base a Word b al past = omega arith
+aligned_offset base a _ b al past = omega arith
 
 -- an access has a first byte
 pub width_pos : (n : MemAccessSize) → 0 < width n
 width_pos Byte = omega arith
-width_pos HalfWord = omega arith
-width_pos Word = omega arith
+width_pos _ = omega arith
 
 module _ {M : Type 0} where
   -- what it means that a region serves an address

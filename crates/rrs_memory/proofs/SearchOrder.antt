@@ -49,10 +49,6 @@ digits_room len n few =
     let all : binary_digits n - 0 ≡ binary_digits n = omega arith in
     rw all (omega (arith, below_digits n, few))
 
--- before the first round nothing is ruled out
-pub none_ruled_out : (len : ℕ) → len + 2 ≤ (len - 0 + 2) * 2 ^ 0
-none_ruled_out len = omega arith
-
 -- a round rules out one and the smaller half of the others at most
 pub one_round : (len n rest c : ℕ) → n ≤ 2 * rest + 2 → len + 2 ≤ (n + 2) * 2 ^ c → len + 2 ≤ (rest + 2) * 2 ^ (c + 1)
 one_round len n rest c half before =
@@ -63,30 +59,15 @@ one_round len n rest c half before =
 
 -- ---- the order
 
--- bases do not fall along the order
-pub later_base : (spans : List (ℕ × ℕ)) (order : List ℕ) (j k : ℕ) → IsSearchOrder spans order → j ≤ k → k < length order → base_at spans (get_or order j 0) ≤ base_at spans (get_or order k 0)
-later_base spans order j k sorted before within =
+-- along the order bases do not fall, nor do ends
+pub along : (spans : List (ℕ × ℕ)) (order : List ℕ) (j k : ℕ) → IsSearchOrder spans order → j ≤ k → k < length order
+    → (base_at spans (get_or order j 0) ≤ base_at spans (get_or order k 0))
+    × (base_at spans (get_or order j 0) + size_at spans (get_or order j 0)
+    ≤ base_at spans (get_or order k 0) + size_at spans (get_or order k 0))
+along spans order j k sorted before within =
     elim (cases_lt j k) [
-      | inl first ↦ omega (arith, sorted.rising j k first within)
-      | inr past ↦ let same : j ≡ k = omega arith in rw same (omega arith)
-    ]
-
--- places after one that begins after an address begin after it too
-pub begins_later : (spans : List (ℕ × ℕ)) (order : List ℕ) (j k a b : ℕ) → IsSearchOrder spans order → j ≤ k → k < length order → base_at spans (get_or order j 0) ≡ b → a < b → a < base_at spans (get_or order k 0)
-begins_later spans order j k a b sorted before within base past =
-    omega (arith, later_base spans order j k sorted before within, base, past)
-
--- places up to one that begins at an address or before it begin there or before it too
-pub begins_earlier : (spans : List (ℕ × ℕ)) (order : List ℕ) (j k a b : ℕ) → IsSearchOrder spans order → j ≤ k → k < length order → base_at spans (get_or order k 0) ≡ b → b ≤ a → base_at spans (get_or order j 0) ≤ a
-begins_earlier spans order j k a b sorted before within base from =
-    omega (arith, later_base spans order j k sorted before within, base, from)
-
--- places up to one that ends at an address or before it end there or before it too
-pub ends_earlier : (spans : List (ℕ × ℕ)) (order : List ℕ) (j k a : ℕ) → IsSearchOrder spans order → j ≤ k → k < length order → base_at spans (get_or order k 0) + size_at spans (get_or order k 0) ≤ a → base_at spans (get_or order j 0) + size_at spans (get_or order j 0) ≤ a
-ends_earlier spans order j k a sorted before within ends =
-    elim (cases_lt j k) [
-      | inl first ↦ omega (arith, sorted.rising j k first within, ends)
-      | inr past ↦ let same : j ≡ k = omega arith in rw same ends
+      | inl first ↦ (omega (arith, sorted.rising j k first within), omega (arith, sorted.rising j k first within))
+      | inr past ↦ let same : j ≡ k = omega arith in rw same (omega arith, omega arith)
     ]
 
 -- ---- one more region
@@ -212,16 +193,12 @@ IsSearchOrder-push_empty spans order span sorted empty = record {
     same j below = get_or_append_left spans (span ∷ []) (0, 0) (get_or order j 0) (sorted.within j below)
 
 module _ {M : Type 0} where
-  -- the base and the size of a region, in the list of both
-  bounds_of : (regions : List (Region M)) (i : ℕ) (d : Region M) → i < length regions → get_or (map bounds regions) i (0, 0) ≡ bounds (get_or regions i d)
-  bounds_of regions i d within = get_or-map bounds regions i d (0, 0) within
-
   -- no region serves an address where each of the order ends before it or begins after it
   pub none_serves : (regions : List (Region M)) (order : List ℕ) (a : ℕ) → IsSearchOrder (map bounds regions) order → ((j : ℕ) → j < length order → base_at (map bounds regions) (get_or order j 0) ≤ a → base_at (map bounds regions) (get_or order j 0) + size_at (map bounds regions) (get_or order j 0) ≤ a) → All (λ r. serves r a ≡ false) regions
   none_serves regions order a sorted apart k d within =
       let r = get_or regions k d in
       let long : length (map bounds regions) ≡ length regions = length-map regions bounds in
-      let here : get_or (map bounds regions) k (0, 0) ≡ bounds r = bounds_of regions k d within in
+      let here : get_or (map bounds regions) k (0, 0) ≡ bounds r = get_or-map bounds regions k d (0, 0) within in
       let base : base_at (map bounds regions) k ≡ r.base = ap (λ p. p.0) here in
       let size : size_at (map bounds regions) k ≡ r.size = ap (λ p. p.1) here in
       false_serves r a (λ past.
@@ -317,7 +294,7 @@ module _ {M : Type 0} where
   pub some_in_order : (regions : List (Region M)) (order : List ℕ) → IsSearchOrder (map bounds regions) order → Any HasAddresses regions → 0 < length order
   some_in_order regions order sorted any =
       let long : length (map bounds regions) ≡ length regions = length-map regions bounds in
-      let size : size_at (map bounds regions) any.0 ≡ (get_or regions any.0 any.1).size = ap (λ p. p.1) (bounds_of regions any.0 any.1 any.2) in
+      let size : size_at (map bounds regions) any.0 ≡ (get_or regions any.0 any.1).size = ap (λ p. p.1) (get_or-map bounds regions any.0 any.1 (0, 0) any.2) in
       let here : (get_or regions any.0 any.1).size ≡ any.1.size = ap (λ r. r.size) any.3 in
       let place = sorted.complete any.0 (omega (arith, long, any.2)) (omega (arith, size, here, any.4)) in
       omega (arith, place.1)
@@ -338,7 +315,7 @@ module _ {M : Type 0} where
       rw (spans_push fields new y e, inserted, last) (IsSearchOrder-insert spans order place (y.base, y.size) sorted fits some before after (λ i within both.
       let inside : i < length (map region_of fields) = omega (arith, more, within) in
       let r = get_or (map region_of fields) i (region_of y) in
-      let here : get_or spans i (0, 0) ≡ bounds r = bounds_of (map region_of fields) i (region_of y) inside in
+      let here : get_or spans i (0, 0) ≡ bounds r = get_or-map bounds (map region_of fields) i (region_of y) (0, 0) inside in
       let overlaps : Overlaps y.base y.size r = (omega (arith, ap (λ p. p.0) here, both.0), omega (arith, ap (λ p. p.0) here, ap (λ p. p.1) here, both.1)) in
       let apart_here : Any (Overlaps y.base y.size) (map region_of fields) → ⊥ = rw (← view) at apart in
       apart_here (i, r, inside, get_or_default (map region_of fields) i r (region_of y) inside, overlaps)))

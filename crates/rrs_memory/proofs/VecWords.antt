@@ -213,5 +213,4 @@ write_stores words a n v low there within = store_by (bytes_of_words words) _ a 
 -- an access at a multiple of its size stays in one word
 pub aligned_in_word : (a : ℕ) (size : MemAccessSize) → a % width size ≡ 0 → a % 4 + width size ≤ 4
 aligned_in_word a Byte aligned = omega arith
-aligned_in_word a HalfWord aligned = omega arith
-aligned_in_word a Word aligned = omega arith
+aligned_in_word a _ aligned = omega arith

@@ -1,6 +1,7 @@
 use Rattle.std.proofs.Common.{◌++◌, [], ◌∷◌, ◌∙◌, arith}
+use Rattle.std.proofs.lemmas.List.{length_push}
 use Rattle.std.proofs.KnownBytes.{Consumes-trans}
-use Rattle.rrs_memory.proofs.LoadLemmas.{Loaded-next, length-more, writes-next, writes-past}
+use Rattle.rrs_memory.proofs.LoadLemmas.{Loaded-next, writes-next, writes-past}
 use Rattle.rrs_memory.proofs.memories.load.read_to_memory.Goals as goal
 
 pub loop-addr-preserved : goal.loop-addr-preserved
@@ -10,7 +11,7 @@ loop-addr-preserved g c =
     let given = rw c.in-Ok-Some.field-0-is at c.in-Ok-Some.ensures in
     record {
       input = so_far.input ++ c.in-Ok-Some.byte ∷ [];
-      placed = length-more so_far.input c.in-Ok-Some.byte _ _ so_far.placed;
+      placed = omega (arith, length_push so_far.input c.in-Ok-Some.byte, so_far.placed);
       loaded = Loaded-next _ _ _ _ _ _ _ _ _ _ so_far.loaded so_far.placed (omega arith) given.0 c.from.ensures so_far.writable_kept wrote.granted wrote.lawful wrote.written;
       consumed = Consumes-trans _ _ _ _ _ so_far.consumed given.1;
       made = writes-next _ _ _ _ _ _ _ _ _ so_far.input _ _ _ so_far.made so_far.placed (omega arith) c.from.ensures so_far.writable_kept wrote.granted c.if-not-write_mem.ensures.did;

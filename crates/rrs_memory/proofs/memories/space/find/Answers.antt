@@ -1,7 +1,7 @@
 use Rattle.std.proofs.Common.{◌≡◌, ◌+◌, ◌-◌, ◌/◌, ◌<◌, length, refl, arith}
 use Rattle.rrs_memory.specs.Spaces.{binary_digits}
 use Rattle.rrs_memory.proofs.RegionFields.{refuted}
-use Rattle.rrs_memory.proofs.SearchOrder.{digits_room, halved, none_ruled_out, one_round, order_few, begins_later, ends_earlier, field_base, field_found, field_ended, none_left}
+use Rattle.rrs_memory.proofs.SearchOrder.{digits_room, halved, one_round, order_few, along, field_base, field_found, field_ended, none_left}
 use Rattle.rrs_memory.proofs.memories.space.find.Goals as goal
 
 pub loop-low-init : goal.loop-low-init
@@ -12,7 +12,7 @@ loop-low-init g c = record {
   digits = omega arith;
   left = digits_room (length c.args.by_base.now) (length c.args.regions.now) (order_few c.args.regions.now c.args.by_base.now c.requires);
   fewer = omega arith;
-  ruled_out = none_ruled_out (length c.args.by_base.now);
+  ruled_out = omega arith;
   some = λ none. omega arith;
 }
 
@@ -33,7 +33,7 @@ loop-low-preserved-then-region-addr g c =
     let ended = field_ended c.args.regions.now c.args.by_base.now middle _ c.args.addr c.index-regions-index.result c.requires within refl c.index-regions-index.is c.if-region-addr.true (refuted _ c.if-contains.false c.contains.ensures) in
     record {
       room = old.room;
-      before = λ j early below. ends_earlier _ c.args.by_base.now j middle c.args.addr c.requires (omega arith) within ended;
+      before = λ j early below. omega (arith, (along _ _ j middle c.requires (omega arith) within).1, ended);
       after = old.after;
       digits = omega (arith, half.0, old.digits);
       left = half.1;
@@ -54,7 +54,7 @@ loop-low-preserved g c =
     record {
       room = omega (arith, within);
       before = old.before;
-      after = λ j late below. begins_later _ c.args.by_base.now middle j c.args.addr _ c.requires late below base c.if-region-addr.false;
+      after = λ j late below. omega (arith, (along _ _ middle j c.requires late below).0, base, c.if-region-addr.false);
       digits = omega (arith, half.0, old.digits);
       left = half.1;
       ruled_out = one_round _ (high - low) _ c.loop-low.compared (omega arith) old.ruled_out;
@@ -65,7 +65,3 @@ loop-low-preserved g c =
 pub returns-clause-region : goal.returns-clause-region
 returns-clause-region g c =
     none_left c.args.regions.now c.args.by_base.now c.loop-low.low c.loop-low.high c.args.addr c.requires c.loop-low-test.false c.loop-low.invariant.before c.loop-low.invariant.after
-
-pub returns-clause-ruled_out : goal.returns-clause-ruled_out
-returns-clause-ruled_out g c = λ none.
-    let ended : c.loop-low.high - c.loop-low.low ≡ 0 = omega (arith, c.loop-low-test.false) in rw ended at c.loop-low.invariant.ruled_out

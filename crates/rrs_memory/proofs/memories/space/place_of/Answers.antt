@@ -1,5 +1,5 @@
 use Rattle.std.proofs.Common.{◌+◌, ◌-◌, ◌/◌, ◌<◌, length, arith}
-use Rattle.rrs_memory.proofs.SearchOrder.{begins_earlier, begins_later, base_read}
+use Rattle.rrs_memory.proofs.SearchOrder.{along, base_read}
 use Rattle.rrs_memory.proofs.memories.space.place_of.Goals as goal
 
 pub loop-low-preserved-then-regions-by_base : goal.loop-low-preserved-then-regions-by_base
@@ -10,7 +10,7 @@ loop-low-preserved-then-regions-by_base g c =
     record {
       order = omega (arith, c.loop-low-test.true);
       room = old.room;
-      before = λ j early. begins_earlier _ c.args.by_base.now j _ c.args.base _ c.requires (omega arith) within base c.if-regions-by_base.true;
+      before = λ j early. omega (arith, (along _ _ j _ c.requires (omega arith) within).0, base, c.if-regions-by_base.true);
       after = old.after;
     }
 
@@ -23,5 +23,5 @@ loop-low-preserved g c =
       order = omega arith;
       room = omega (arith, within);
       before = old.before;
-      after = λ j late below. begins_later _ c.args.by_base.now _ j c.args.base _ c.requires late below base c.if-regions-by_base.false;
+      after = λ j late below. omega (arith, (along _ _ _ j c.requires late below).0, base, c.if-regions-by_base.false);
     }

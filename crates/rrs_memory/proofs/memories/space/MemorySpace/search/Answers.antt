@@ -3,11 +3,6 @@ use Rattle.rrs_memory.specs.SpaceFields.{region_of}
 use Rattle.rrs_memory.proofs.SearchOrder.{counts_search}
 use Rattle.rrs_memory.proofs.memories.space.MemorySpace.search.Goals as goal
 
-pub returns-clause-region : goal.returns-clause-region
-returns-clause-region g c =
-    let view : map region_of c.self.inside.regions.items ≡ c.args.self.now.regions = ap (λ s. s.regions) c.self.view_is in
-    rw (ap (λ xs. map region_of xs) c.deref.ensures.value ∙ view) at c.find-found.ensures.region
-
 pub returns-clause-counts : goal.returns-clause-counts
 returns-clause-counts g c =
     let fields = c.self.inside.regions.items in
