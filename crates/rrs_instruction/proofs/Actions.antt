@@ -4,19 +4,14 @@ use Rattle.rrs_instruction.specs.Table.{Row, Format, InR, InI, InIShamt, InS, In
 
 abbrev pub format_of_action : Action → Format
 format_of_action (OnRegisters op) = InR
-format_of_action (OnImmediate op) = InI
 format_of_action (OnShamt op) = InIShamt
 format_of_action LoadUpper = InU
 format_of_action AddUpperToPc = InU
 format_of_action (BranchIf test) = InB
 format_of_action (BranchUnless test) = InB
-format_of_action (Load n extended) = InI
 format_of_action (Store n) = InS
 format_of_action JumpAndLink = InJ
-format_of_action JumpAndLinkRegister = InI
-format_of_action NoEffect = InI
-format_of_action CallEnvironment = InI
-format_of_action Break = InI
+format_of_action _ = InI
 
 -- it is the format of each row that does it
 pub format_of_row : (row : Row) → (table row).format ≡ format_of_action (table row).action

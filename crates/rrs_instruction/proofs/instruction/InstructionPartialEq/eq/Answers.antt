@@ -8,12 +8,7 @@ use Rattle.rrs_instruction.proofs.instruction.InstructionPartialEq.eq.Goals as g
 
 back : (x : InstructionFields) → in_format (as_fields x) ≡ x
 back (InstructionFields.R f) = refl
-back (InstructionFields.I f) = refl
-back (InstructionFields.IShamt f) = refl
-back (InstructionFields.S f) = refl
-back (InstructionFields.B f) = refl
-back (InstructionFields.U f) = refl
-back (InstructionFields.J f) = refl
+back _ = refl
 
 number_is : (i : Instruction) (n : ℕ) → n ≡ (table (row_of i)).number → n ≡ (numbered i).0
 unfolding numbered
