@@ -2,6 +2,8 @@
 use Rattle.std.proofs.Common.{◌≡◌, ℕ, zero, suc, ◌+◌, ◌-◌, ◌*◌, ◌/◌, ◌%◌, ◌^◌, ◌<◌, ◌≤◌, ◌==◌, ℤ, pos, negsuc, neg_ℤ, ◌≤ℤ◌, Bool, true, false, cond, List, [], ◌∷◌, length, Option, Some, IfSome, refl, subst, arith, replicate, length-append}
 use Rattle.std.proofs.lemmas.List.{length-replicate}
 use Rattle.std.proofs.Math.Nat.{pow-suc}
+use Rattle.std.proofs.lemmas.Bool.{cond_both}
+use Rattle.std.proofs.lemmas.Bool.Decides.{nat_tests}
 use Rattle.std.proofs.lemmas.Fmt.{length-decimal-le}
 use Rattle.std.proofs.lemmas.Int.{ints}
 use Rattle.std.specs.Fmt.{decimal, signed_decimal, digits, digit_glyph, digits_onto}
@@ -28,8 +30,6 @@ name_length _ = omega arith
 
 most_room : (a : Action) → name_room a ≤ 6
 most_room (BranchIf test) = omega arith
-most_room (BranchUnless test) = omega arith
-most_room JumpAndLinkRegister = omega arith
 most_room _ = omega arith
 
 pub short_name : (row : Row) → length (name_of row) ≤ 6
@@ -50,20 +50,11 @@ immediate_length (negsuc n) low high = let d = length-decimal-le 4 (suc n) (omeg
 -- a number below 16 ^ (k + 1) adds at most k + 1 digits to those that stand
 onto_length : (k j n : ℕ) (acc : List ℕ) → n < 16 ^ suc k → length (digits_onto j 16 false n acc) ≤ suc k + length acc
 onto_length k zero n acc small = omega arith
-onto_length zero (suc j) n acc small = either (n / 16 == 0) refl
-  where
-    either : (b : Bool) → (n / 16 == 0) ≡ b → length (cond b (digit_glyph false (n % 16) ∷ acc) (digits_onto j 16 false (n / 16) (digit_glyph false (n % 16) ∷ acc))) ≤ 1 + length acc
-    either true e = omega arith
-    either false e = absurd (grind (arith, e, small))
-onto_length (suc k) (suc j) n acc small = either (n / 16 == 0) (onto_length k j (n / 16) (digit_glyph false (n % 16) ∷ acc) fewer)
-  where
-    fewer : n / 16 < 16 ^ suc k
-    fewer = let e : 16 ^ suc (suc k) ≡ 16 ^ suc k * 16 = pow-suc 16 (suc k) in omega (arith, e, small)
-
-    either : (b : Bool) → length (digits_onto j 16 false (n / 16) (digit_glyph false (n % 16) ∷ acc)) ≤ suc k + length (digit_glyph false (n % 16) ∷ acc)
-        → length (cond b (digit_glyph false (n % 16) ∷ acc) (digits_onto j 16 false (n / 16) (digit_glyph false (n % 16) ∷ acc))) ≤ suc (suc k) + length acc
-    either true h = omega arith
-    either false h = omega (arith, h)
+onto_length zero (suc j) n acc small = let last : (n / 16 == 0) ≡ true = grind (arith, nat_tests, small) in rw last (omega arith)
+onto_length (suc k) (suc j) n acc small =
+    let fewer : n / 16 < 16 ^ suc k = omega (arith, pow-suc 16 (suc k), small) in
+    cond_both (n / 16 == 0) _ _ (λ l. length l ≤ suc (suc k) + length acc) (λ t. omega arith)
+    (λ t. omega (arith, onto_length k j (n / 16) (digit_glyph false (n % 16) ∷ acc) fewer))
 
 digits_length : (x : ℕ) → x < 2 ^ 32 → length (digits 16 false x) ≤ 8
 digits_length x small = subst (λ (l : List ℕ). length l ≤ 8) (digits_onto-nil 16 false x) (onto_length 7 64 x [] small)

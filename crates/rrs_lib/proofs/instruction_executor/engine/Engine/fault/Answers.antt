@@ -1,7 +1,0 @@
-use Rattle.std.proofs.Common.{rules}
-use Rattle.rrs_lib.specs.Engines.{gone_on}
-use Rattle.rrs_lib.proofs.instruction_executor.engine.Engine.fault.Goals as goal
-
-pub returns-clause-gone : goal.returns-clause-gone
-unfolding gone_on
-returns-clause-gone g c = search rules
