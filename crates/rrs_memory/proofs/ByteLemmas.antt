@@ -33,14 +33,6 @@ one_more_byte x n =
 pub store_inside : (bytes : ByteMap) (a n v b : ℕ) → a ≤ b → b < a + n → store bytes a n v b ≡ Some (v / 256 ^ (b - a) % 256)
 store_inside bytes a n v b from to = cond-true (nat_le a b && nat_lt b (a + n)) (Some (v / 256 ^ (b - a) % 256)) (bytes b) (and_from _ _ (le-leb a b from) (lt-ltb b (a + n) to))
 
--- the bytes below those that are stored
-pub store_below : (bytes : ByteMap) (a n v b : ℕ) → b < a → store bytes a n v b ≡ bytes b
-store_below bytes a n v b below = cond-false (nat_le a b && nat_lt b (a + n)) (Some (v / 256 ^ (b - a) % 256)) (bytes b) (and_left _ _ (lt-leb a b below))
-
--- the bytes above those that are stored
-pub store_above : (bytes : ByteMap) (a n v b : ℕ) → a + n ≤ b → store bytes a n v b ≡ bytes b
-store_above bytes a n v b above = cond-false (nat_le a b && nat_lt b (a + n)) (Some (v / 256 ^ (b - a) % 256)) (bytes b) (and_right _ _ (le-ltb b (a + n) above))
-
 -- every other address has what it had
 pub store_outside : (f : ByteMap) (a n v b : ℕ) → (a ≤ b → a + n ≤ b) → store f a n v b ≡ f b
 store_outside f a n v b h =
@@ -52,10 +44,12 @@ pub store_by : (old new : ByteMap) (a n v : ℕ) → ((b : ℕ) → a ≤ b → 
     → ((b : ℕ) → (a ≤ b → a + n ≤ b) → new b ≡ old b) → new ≡ store old a n v
 store_by old new a n v inside outside =
     fun_ext (λ b. elim (cases_lt b a) [
-      | inl below ↦ outside b (λ from. absurd (omega (arith, below, from))) ∙ sym (store_below old a n v b below)
+      | inl below ↦
+          let apart : a ≤ b → a + n ≤ b = λ from. absurd (omega (arith, below, from)) in
+          outside b apart ∙ sym (store_outside old a n v b apart)
       | inr from ↦ elim (cases_lt b (a + n)) [
         | inl to ↦ inside b from to ∙ sym (store_inside old a n v b from to)
-        | inr above ↦ outside b (λ le. above) ∙ sym (store_above old a n v b above)
+        | inr above ↦ outside b (λ le. above) ∙ sym (store_outside old a n v b (λ le. above))
       ]
     ])
 
@@ -126,8 +120,8 @@ write-allowed writable a (suc n) each = and_from _ _ (write-allowed writable a n
 
 -- a byte outside a store is as before
 pub store-outside : (bytes : ByteMap) (a n v b : ℕ) → Outside a n b → store bytes a n v b ≡ bytes b
-store-outside bytes a n v b (inl below) = store_below bytes a n v b below
-store-outside bytes a n v b (inr above) = store_above bytes a n v b above
+store-outside bytes a n v b (inl below) = store_outside bytes a n v b (λ from. absurd (omega (arith, below, from)))
+store-outside bytes a n v b (inr above) = store_outside bytes a n v b (λ le. above)
 
 -- what is read outside a range is as before where all bytes outside it are
 pub read-kept : (old new : ByteMap) (a n b m : ℕ) → ((c : ℕ) → Outside a n c → new c ≡ old c) → ((i : ℕ) → i < m → Outside a n (b + i)) → little_endian new b m ≡ little_endian old b m

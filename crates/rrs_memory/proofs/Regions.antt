@@ -3,7 +3,8 @@ use Rattle.std.proofs.Common.{◌≡◌, ◌⊎◌, ℕ, zero, suc, ◌+◌, ◌
 use Rattle.std.specs.List.{AllPairs, slice_get}
 use Rattle.std.specs.Bool.{OnTrue, OnFalse}
 use Rattle.std.proofs.Math.Path.{fun_ext}
-use Rattle.std.proofs.lemmas.Bool.{false≢true}
+use Rattle.std.proofs.Math.ListN.{get_or-map}
+use Rattle.std.proofs.lemmas.Bool.{false≢true, cases_Bool, OnTrue_at, OnTrue_from, OnFalse_at, OnFalse_from}
 use Rattle.std.proofs.lemmas.Bool.Decides.{nat_tests}
 use Rattle.std.proofs.lemmas.Option.{none-some, same_Some, get_or_from_slice_get, slice_get_within}
 use Rattle.std.proofs.lemmas.List.Quantifiers.{all_pairs_push}
@@ -14,18 +15,6 @@ use Rattle.rrs_memory.specs.declared.MemAccessSize.TheVariants.{Byte, HalfWord, 
 use Rattle.rrs_memory.specs.Bytes.{ByteMap, width, store, IsLawful, EndsAtLastAddress, Reads, Writes}
 pub use Rattle.rrs_memory.proofs.ByteLemmas.{little_endian-moved, all_writable-moved, IsLawful-moved, little_endian-unmapped, all_writable-refused, IsLawful-unmapped, store_inside, store_outside, store_by}
 use Rattle.rrs_memory.specs.Spaces.{Region, Space, serves, served_by, space_bytes, space_writable, space_layout, Overlaps, bounds, IsWordRegion, IsSpace, with_memory, CountsCompared, OthersKept, ServedBecomes, SpaceAccess}
-
--- ---- answers
-
--- what follows from a fact of the answer `true`
-pub OnTrue_then : {P Q : Type 0} (r : Bool) → OnTrue r P → (P → Q) → OnTrue r Q
-OnTrue_then true p f = f p
-OnTrue_then false p f = p
-
--- what follows from a fact of the answer `false`
-pub OnFalse_then : {P Q : Type 0} (r : Bool) → OnFalse r P → (P → Q) → OnFalse r Q
-OnFalse_then true p f = p
-OnFalse_then false p f = f p
 
 -- ---- numbers
 
@@ -68,11 +57,7 @@ module _ {M : Type 0} where
 
   -- whether a region serves an address, in two cases
   pub serves_cases : (r : Region M) (a : ℕ) → (serves r a ≡ true) ⊎ (serves r a ≡ false)
-  serves_cases r a = bool_cases (serves r a)
-    where
-      bool_cases : (b : Bool) → (b ≡ true) ⊎ (b ≡ false)
-      bool_cases true = inl refl
-      bool_cases false = inr refl
+  serves_cases r a = cases_Bool (serves r a)
 
   -- all bytes of an aligned access are served by the region that serves the first
   pub serves_all : (r : Region M) (a i : ℕ) (n : MemAccessSize) → IsWordRegion r → a % width n ≡ 0 → i < width n → serves r a ≡ true → serves r (a + i) ≡ true
@@ -159,11 +144,9 @@ module _ {M : Type 0} where
 
   -- the same at each index
   bounds_at : (regions : List (Region M)) (i k : ℕ) (m : M) (d : Region M) → bounds (get_or (with_memory regions i m) k d) ≡ bounds (get_or regions k d)
-  bounds_at [] i k m d = refl
-  bounds_at (r ∷ regions) zero zero m d = refl
-  bounds_at (r ∷ regions) zero (suc k) m d = refl
-  bounds_at (r ∷ regions) (suc i) zero m d = refl
-  bounds_at (r ∷ regions) (suc i) (suc k) m d = bounds_at regions i k m d
+  bounds_at regions i k m d =
+      sym (get_or-map bounds (with_memory regions i m) k d)
+      ∙ ap (λ xs. get_or xs k (bounds d)) (bounds-with_memory regions i m) ∙ get_or-map bounds regions k d
 
   -- a region of the same bounds is of whole words too
   word_by_bounds : (r s : Region M) → bounds r ≡ bounds s → IsWordRegion s → IsWordRegion r
@@ -374,8 +357,8 @@ module _ {M : Type 0} (bytes : M → ByteMap) (writable : M → ℕ → Bool) (l
     pub writes_there : (v : ℕ) (answer : Bool) → Writes bytes writable layout r.memory m (a - r.base) (width n) v answer → Writes bytes_in writable_in layout_in old new a (width n) v answer
     writes_there v answer laws = record {
       granted = laws.granted ∙ sym (all_writable-moved (writable_in old) (writable r.memory) a (a - r.base) (width n) (offset_at writable false));
-      written = OnTrue_then answer laws.written (stored v);
-      refused = OnFalse_then answer laws.refused (kept bytes None);
+      written = OnTrue_from answer _ (λ t. stored v (OnTrue_at t laws.written));
+      refused = OnFalse_from answer _ (λ f. kept bytes None (OnFalse_at f laws.refused));
       writable_kept = kept writable false laws.writable_kept;
       layout_kept = layout_kept laws.layout_kept;
       lawful = lawful_there laws.lawful;

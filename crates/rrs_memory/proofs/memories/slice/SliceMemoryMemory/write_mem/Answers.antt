@@ -1,10 +1,10 @@
 -- The write is one of the words at its distance from the base.
 use Rattle.std.proofs.Common.{◌≡◌, ◌-◌, ◌≤◌, sym, ap, ◌∙◌, rules, arith}
+use Rattle.std.proofs.lemmas.Bool.{OnTrue_at, OnTrue_from, OnFalse_at, OnFalse_from}
 use Rattle.rrs_memory.specs.Bytes.{width, store, all_writable}
 use Rattle.rrs_memory.specs.VecBytes.{bytes_of_words, lies_in_words}
 use Rattle.rrs_memory.specs.SliceBytes.{word_start, bytes_from}
 use Rattle.rrs_memory.proofs.SliceWords.{writable_from, store_from, lawful_from, ends_from, lies_same}
-use Rattle.rrs_memory.proofs.Regions.{OnTrue_then, OnFalse_then}
 use Rattle.rrs_memory.proofs.memories.slice.SliceMemoryMemory.write_mem.Goals as goal
 
 pub returns-clause-laws : goal.returns-clause-laws
@@ -21,8 +21,8 @@ returns-clause-laws c =
       granted = wrote.answer
           ∙ ap (λ x. all_writable (lies_in_words m.words.now) (a - x) (width n)) start
           ∙ sym (writable_from m.base a n c.requires (omega arith) m.words.now from);
-      written = OnTrue_then _ wrote.written stored;
-      refused = OnFalse_then _ wrote.refused (ap (bytes_from m.base));
+      written = OnTrue_from _ _ (λ t. stored (OnTrue_at t wrote.written));
+      refused = OnFalse_from _ _ (λ f. ap (bytes_from m.base) (OnFalse_at f wrote.refused));
       writable_kept = lies_same m.base _ _ wrote.length_kept;
       layout_kept = search rules;
       lawful = lawful_from m.base m.words.now a (width n);
