@@ -2,17 +2,13 @@
 use Rattle.std.proofs.Common.{◌≡◌, ℕ, zero, suc, ◌+◌, ◌*◌, ◌/◌, ◌%◌, ◌^◌, ◌<◌, ◌⊎◌, max, bit_and, bit_or, sym, refl, inl, inr, arith}
 use Rattle.std.specs.Int.Bits.{bit_xor}
 use Rattle.std.proofs.lemmas.Nat.{mod-pow-add, mod_below, pow_pos, and_block, or_block, xor_block, and_le_l, or_lt, xor_lt}
-use Rattle.std.proofs.Math.Nat.{mod-eq_of_lt, mul_comm}
+use Rattle.std.proofs.Math.Nat.{mod-one, mod-eq_of_lt, mul_comm}
 use Rattle.std.proofs.Math.Numerals.{one-add}
 use Rattle.rrs_instruction.specs.Words.{bit, bit_by_bit, bitwise_and, bitwise_or, bitwise_xor}
 
 -- the lowest n + 1 bits are bit n and the lowest n bits
 low_bits-suc : (x n : ℕ) → x % 2 ^ suc n ≡ bit x n * 2 ^ n + x % 2 ^ n
 low_bits-suc x n = rw (← one-add n) (mod-pow-add x 1 n)
-
--- nothing is left of a number below 1
-mod_one : (x : ℕ) → x % 1 ≡ 0
-mod_one x = omega (arith, mod_below x 1 (omega arith))
 
 -- an operator that works on blocks of bits, and on single bits as `combined` does, combines the bits one by one
 by_blocks : (combined whole : ℕ → ℕ → ℕ)
@@ -21,7 +17,7 @@ by_blocks : (combined whole : ℕ → ℕ → ℕ)
     → whole 0 0 ≡ 0
     → (n x y : ℕ) → bit_by_bit combined n x y ≡ whole (x % 2 ^ n) (y % 2 ^ n)
 unfolding bit_by_bit
-by_blocks combined whole blocks single none zero x y = rw (mod_one x, mod_one y) (sym none)
+by_blocks combined whole blocks single none zero x y = rw (mod-one x, mod-one y) (sym none)
 by_blocks combined whole blocks single none (suc n) x y =
     let a : ℕ = bit x n in
     let b : ℕ = bit y n in
@@ -63,3 +59,6 @@ pub xor-word : (a b : ℕ) → a < 2 ^ 32 → b < 2 ^ 32 → bit_xor a b ≡ bit
 xor-word a b p q =
     rw (by_blocks (λ x y. (x + y) % 2) bit_xor xor_block (at_bits (λ x y. (x + y) % 2) bit_xor refl refl refl refl) refl 32 a b, mod-eq_of_lt p, mod-eq_of_lt q)
     (sym (mod-eq_of_lt (xor_lt 32 a b p q)))
+
+-- the three, for the functions that compute them
+pub ruleset by_bits = (and-word, or-word, xor-word)

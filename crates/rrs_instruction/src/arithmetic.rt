@@ -2,6 +2,8 @@
 //!
 //! `a` is the value of rs1, and `b` that of rs2, the immediate modulo 2^32, or the shift amount.
 
+#![tactic(auto, using(crate::proofs::Bitwise::by_bits))]
+
 ghost use Rattle.std.specs.Prelude.{◌≡◌, ◌<◌, ◌^◌, int_lt};
 ghost use Rattle.rrs_instruction.specs.Words.{word, signed, floor_div};
 ghost use Rattle.rrs_instruction.specs.Results.{sign_extended, plus_immediate as sum_with_immediate, made_even as even_part};
