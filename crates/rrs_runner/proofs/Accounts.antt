@@ -38,12 +38,11 @@ fault_printed limit n s m t e a b c below first last step =
 -- the lines before the next step could not be printed
 pub stopped_before : (limit n : ℕ) (s m : State) (a b c : Option (List ℕ)) (fault : RunFault) → n < limit → AppendsLines (PrintsOk n s m) a b → StopsPrinting (λ _. ⊥) (LinesBefore m) b c fault → StopsPrinting (λ _. ⊥) (PrintsToNext limit s) a c fault
 stopped_before limit n s m a b c OutOfMemory below first last = absurd last.are_lines
-stopped_before limit n s m a b c Reader below first last = last
-stopped_before limit n s m a b c (Refused x) below first last = last
 stopped_before limit n s m a b c Output below first last =
     appends_after (PrintsOk n s m) (IsBeginning (LinesBefore m)) (IsBeginning (PrintsToNext limit s)) a b c
     (λ xs ys p begun. (begun.0, (n, m, xs, ys ++ begun.0, below, p, begun.1, append_assoc xs ys begun.0)))
     first last
+stopped_before limit n s m a b c _ below first last = last
 
 -- ---- the lines before the steps, and then the ending
 
@@ -65,22 +64,16 @@ stopped_in_steps limit s a b fault p =
     (λ lines never. absurd never) (λ lines part. inl part) p
 
 -- the ending could not be printed
-stopped_in_ending : (limit : ℕ) (s : State) (steps : ℕ) (exception : Option InstructionException) (end : State) (a b c : Option (List ℕ)) (fault : RunFault) → AppendsLines (PrintsUntil limit s steps exception end) a b → StopsPrinting (λ lines. lines ≡ []) (λ lines. lines ≡ ending_lines steps exception end) b c fault → StopsPrinting (PrintsRun limit s) (PartOfAccount limit s) a c fault
+pub stopped_in_ending : (limit : ℕ) (s : State) (steps : ℕ) (exception : Option InstructionException) (end : State) (a b c : Option (List ℕ)) (fault : RunFault) → AppendsLines (PrintsUntil limit s steps exception end) a b → StopsPrinting (λ lines. lines ≡ []) (λ lines. lines ≡ ending_lines steps exception end) b c fault → StopsPrinting (PrintsRun limit s) (PartOfAccount limit s) a c fault
 stopped_in_ending limit s steps exception end a b c OutOfMemory p q =
     appends_after _ _ (PrintsRun limit s) a b c
     (λ xs ys made none. (steps, exception, end, subst (PrintsUntil limit s steps exception end) (sym (ap (λ l. xs ++ l) none ∙ append-nil xs)) made))
     p q
-stopped_in_ending limit s steps exception end a b c Reader p q = absurd q
-stopped_in_ending limit s steps exception end a b c (Refused x) p q = absurd q
 stopped_in_ending limit s steps exception end a b c Output p q =
     appends_after _ _ (IsBeginning (PartOfAccount limit s)) a b c
     (λ xs ys made begun. (begun.0, inr (subst (AccountOf limit s) (sym (append_assoc xs ys begun.0)) (with_ending limit s steps exception end xs (ys ++ begun.0) made begun.1))))
     p q
-
--- the same of what a call returned
-pub if_stopped_in_ending : (limit : ℕ) (s : State) (steps : ℕ) (exception : Option InstructionException) (end : State) (a b c : Option (List ℕ)) (r : Result (Unit {0}) RunFault) → AppendsLines (PrintsUntil limit s steps exception end) a b → IfErr r (StopsPrinting (λ lines. lines ≡ []) (λ lines. lines ≡ ending_lines steps exception end) b c) → IfErr r (StopsPrinting (PrintsRun limit s) (PartOfAccount limit s) a c)
-if_stopped_in_ending limit s steps exception end a b c (Ok x) p q = tt
-if_stopped_in_ending limit s steps exception end a b c (Err fault) p q = stopped_in_ending limit s steps exception end a b c fault p q
+stopped_in_ending limit s steps exception end a b c _ p q = absurd q
 
 -- the whole account
 pub whole_printed : (limit : ℕ) (s : State) (steps : ℕ) (exception : Option InstructionException) (end : State) (a b c : Option (List ℕ)) → AppendsLines (PrintsUntil limit s steps exception end) a b → Appends b c (ending_lines steps exception end) → AppendsLines (AccountOf limit s) a c

@@ -2,15 +2,13 @@
 use Rattle.std.proofs.Common.{◌≡◌, ℕ, ◌+◌, ◌-◌, ◌*◌, ◌^◌, ◌<◌, List, [], ◌∷◌, length, take, get_or, None, true, false, ap, ◌∙◌, arith, add-one}
 use Rattle.std.specs.List.{list_all}
 use Rattle.std.specs.Char.{is_ascii_digit}
-use Rattle.std.specs.Fmt.{digits, padded_integral, format_spec}
 use Rattle.std.proofs.lemmas.List.{take_more}
 use Rattle.std.proofs.lemmas.List.Folds.{list_all_at, list_all_more}
 use Rattle.std.proofs.lemmas.Bool.Decides.{nat_tests}
 use Rattle.std.proofs.lemmas.List.Sums.{fold-append}
 use Rattle.std.proofs.Math.Nat.{pow-suc}
-use Rattle.rrs_runner.specs.Limits.{number_of_digits, limit_in}
-use Rattle.rrs_lib.specs.Texts.{hexadecimal}
 use Rattle.rrs_lib.proofs.TextLemmas.{padded_hexadecimal}
+use Rattle.rrs_runner.specs.Limits.{number_of_digits, limit_in}
 
 -- one more digit: ten times the number so far plus the digit
 pub number_of_digits-more : (xs : List ℕ) (i : ℕ) → i < length xs → number_of_digits (take (i + 1) xs) ≡ 10 * number_of_digits (take i xs) + (get_or xs i 0 - 48)
@@ -37,5 +35,4 @@ limit_in-not_digit xs i h bad =
     grind (arith, e)
 
 -- a number that is printed with the options `08x`
-pub padded_eight : (n : ℕ) → padded_integral (format_spec 32 0 4 8 (2 ^ 64 - 1)) false [] (digits 16 false n) ≡ hexadecimal 8 n
-padded_eight n = padded_hexadecimal 8 n
+pub ruleset padded_eight = padded_hexadecimal

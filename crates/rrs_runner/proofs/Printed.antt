@@ -3,6 +3,7 @@ use Rattle.std.proofs.Common.{◌≡◌, ℕ, List, ◌++◌, drop, replicate, B
 use Rattle.std.specs.Io.KnownBytes.{Keeps}
 use Rattle.std.proofs.KnownBytes.{Appends-trans}
 use Rattle.std.proofs.lemmas.List.{length-replicate}
+use Rattle.std.proofs.lemmas.Result.{IfErr-weaker}
 use Rattle.rrs_lib.specs.declared.HartState.{HartState}
 use Rattle.rrs_lib.specs.Bytes.{ByteMap}
 use Rattle.rrs_lib.specs.Machine.{State, state_of}
@@ -31,26 +32,20 @@ appends_after P Q R a b c f p q = record {
 -- what is written already is done, and what is to be written is of another kind
 pub stops_weaker : (P P' Q Q' : List ℕ → Type 0) (a b : Option (List ℕ)) (fault : RunFault) → ((lines : List ℕ) → P lines → P' lines) → ((lines : List ℕ) → Q lines → Q' lines) → StopsPrinting P Q a b fault → StopsPrinting P' Q' a b fault
 stops_weaker P P' Q Q' a b OutOfMemory f g p = appends_weaker P P' a b f p
-stops_weaker P P' Q Q' a b Reader f g p = p
-stops_weaker P P' Q Q' a b (Refused x) f g p = p
 stops_weaker P P' Q Q' a b Output f g p =
     appends_weaker (IsBeginning Q) (IsBeginning Q') a b (λ lines begun. (begun.0, g _ begun.1)) p
+stops_weaker P P' Q Q' a b _ f g p = p
 
 -- the same of what a call returned
 pub if_stops_weaker : {T : Type 0} (P P' Q Q' : List ℕ → Type 0) (a b : Option (List ℕ)) (r : Result T RunFault) → ((lines : List ℕ) → P lines → P' lines) → ((lines : List ℕ) → Q lines → Q' lines) → IfErr r (StopsPrinting P Q a b) → IfErr r (StopsPrinting P' Q' a b)
-if_stops_weaker P P' Q Q' a b (Ok x) f g p = p
-if_stops_weaker P P' Q Q' a b (Err e) f g p = stops_weaker P P' Q Q' a b e f g p
+if_stops_weaker P P' Q Q' a b r f g p = IfErr-weaker r _ _ (λ e. stops_weaker P P' Q Q' a b e f g) p
 
 -- ---- the run of a reader's bytes
 
 -- the state of a hart that begins at address 0
 pub start_is : (count : ℕ) (all registers : List ℕ) (pc : ℕ) (last : Option ℕ) (bytes : ByteMap) (writable : ℕ → Bool) → drop 1 all ≡ registers → pc ≡ 0 → last ≡ None → writable ≡ lies_in_words (zero_words count) → record { registers = drop 1 all; pc = pc; last = last; bytes = bytes; writable = writable } ≡ start_of count registers bytes
 start_is count all registers pc last bytes writable are at none there =
-    let s : List ℕ → ℕ → Option ℕ → (ℕ → Bool) → State = λ rs n o w. record { registers = rs; pc = n; last = o; bytes = bytes; writable = w } in
-    ap (λ rs. s rs pc last writable) are
-    ∙ (ap (λ n. s registers n last writable) at
-    ∙ (ap (λ o. s registers 0 o writable) none
-    ∙ ap (λ w. s registers 0 None w) there))
+    λ i. record { registers = are i; pc = at i; last = none i; bytes = bytes; writable = there i }
 
 -- a memory of zeros was loaded, and a hart is new
 pub record Ready (input rest : Option (List ℕ)) (new : List ℕ) (hart : HartState) : Type 0 where
@@ -74,14 +69,13 @@ run_printed AreLines input rest new hart a b r printed =
 -- what stops the run that starts there
 stops_run : (AreMade ArePart : State → List ℕ → Type 0) (input rest : Option (List ℕ)) (new : List ℕ) (hart : HartState) (a b : Option (List ℕ)) (fault : RunFault) → Ready input rest new hart → StopsPrinting (AreMade (ready_state new hart)) (ArePart (ready_state new hart)) a b fault → StopsRunOf AreMade ArePart input rest a b fault
 stops_run AreMade ArePart input rest new hart a b OutOfMemory r p = inr (run_printed AreMade input rest new hart a b r p)
-stops_run AreMade ArePart input rest new hart a b Reader r p = absurd p
-stops_run AreMade ArePart input rest new hart a b (Refused x) r p = absurd p
 stops_run AreMade ArePart input rest new hart a b Output r p = run_printed (λ s. IsBeginning (ArePart s)) input rest new hart a b r p
+stops_run AreMade ArePart input rest new hart a b _ r p = absurd p
 
 -- the same of what a call returned
 pub if_stops_run : (AreMade ArePart : State → List ℕ → Type 0) (input rest : Option (List ℕ)) (new : List ℕ) (hart : HartState) (a b : Option (List ℕ)) (r : Result (Unit {0}) RunFault) → Ready input rest new hart → IfErr r (StopsPrinting (AreMade (ready_state new hart)) (ArePart (ready_state new hart)) a b) → IfErr r (StopsRunOf AreMade ArePart input rest a b)
-if_stops_run AreMade ArePart input rest new hart a b (Ok x) ready p = tt
-if_stops_run AreMade ArePart input rest new hart a b (Err fault) ready p = stops_run AreMade ArePart input rest new hart a b fault ready p
+if_stops_run AreMade ArePart input rest new hart a b r ready p =
+    IfErr-weaker r _ _ (λ e. stops_run AreMade ArePart input rest new hart a b e ready) p
 
 -- there was no run, and nothing is printed
 keeps_same : (a : Option (List ℕ)) → Keeps a a

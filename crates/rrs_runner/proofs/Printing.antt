@@ -1,6 +1,7 @@
 -- Texts that are written one after another.
 use Rattle.std.proofs.Common.{◌≡◌, ℕ, ◌+◌, ◌-◌, ◌≤◌, List, length, length-drop, arith, ◌∙◌, [], ◌++◌, take, drop, Option, sym, ap, subst, Result, Ok, Err, OnOk, IfErr, append-nil, take-append-drop}
 use Rattle.std.proofs.lemmas.List.{take_rest}
+use Rattle.std.proofs.lemmas.Result.{on_ok_weaker, IfErr-weaker}
 use Rattle.std.proofs.Math.Seq.{take-add}
 use Rattle.std.specs.Io.KnownBytes.{Appends, Keeps}
 use Rattle.std.proofs.KnownBytes.{Appends-trans, Appends-kept}
@@ -16,15 +17,8 @@ pub ruleset appending = Appends-trans
 
 -- all registers, and then the program counter
 pub hart_lines-printed : {E : Type 0} (a b c : Option (List ℕ)) (s : State) (n : ℕ) (r : Result (Unit {0}) E) → n ≡ 32 → Appends a b (register_lines s n) → OnOk r (Appends b c (pc_line s.pc)) → OnOk r (Appends a c (hart_lines s))
-hart_lines-printed a b c s n (Ok x) e first second =
-    let P : ℕ → Type 0 = λ k. Appends a b (register_lines s k) in
-    Appends-trans a b c _ _ (subst P e first) second
-hart_lines-printed a b c s n (Err x) e first second = tt
-
--- a text, and then another where that was printed
-pub appends_second : {E : Type 0} (a b c : Option (List ℕ)) (xs ys : List ℕ) (r : Result (Unit {0}) E) → Appends a b xs → OnOk r (Appends b c ys) → OnOk r (Appends a c (xs ++ ys))
-appends_second a b c xs ys (Ok x) first second = Appends-trans a b c xs ys first second
-appends_second a b c xs ys (Err x) first second = tt
+hart_lines-printed a b c s n r e first second =
+    on_ok_weaker r (Appends-trans a b c _ _ (subst (λ k. Appends a b (register_lines s k)) e first)) second
 
 -- a front of a text was written
 pub text_begun : (text : List ℕ) (n : ℕ) (a b : Option (List ℕ)) → Appends a b (take n text) → AppendsLines (IsBeginning (λ lines. lines ≡ text)) a b
@@ -60,6 +54,5 @@ stopped_in_text text ending a c fault made p =
 
 -- a text was written, and the flush failed
 pub stopped_in_flush : (P : List ℕ → Type 0) (text : List ℕ) (a d : Option (List ℕ)) (r : Result (Unit {0}) RunFault) → IfErr r (λ fault. fault ≡ Output) → Appends a d text → IfErr r (StopsPrinting P (λ lines. lines ≡ text) a d)
-stopped_in_flush P text a d (Ok x) e written = tt
-stopped_in_flush P text a d (Err fault) e written =
-    subst (StopsPrinting P (λ lines. lines ≡ text) a d) (sym e) (record { lines = text; are_lines = ([], append-nil text); appended = written })
+stopped_in_flush P text a d r e written =
+    IfErr-weaker r _ _ (λ fault is. subst (StopsPrinting P (λ lines. lines ≡ text) a d) (sym is) (record { lines = text; are_lines = ([], append-nil text); appended = written })) e

@@ -1,5 +1,5 @@
-use Rattle.std.proofs.lemmas.Result.{err_from_is_err_and, on_ok_weaker}
-use Rattle.rrs_runner.proofs.Accounts.{stopped_in_steps, if_stopped_in_ending, whole_printed}
+use Rattle.std.proofs.lemmas.Result.{err_from_is_err_and, on_ok_weaker, IfErr-weaker}
+use Rattle.rrs_runner.proofs.Accounts.{stopped_in_steps, stopped_in_ending, whole_printed}
 use Rattle.rrs_runner.proofs.simulation.print_account.Goals as goal
 
 pub returns-in_err-end-clause-fault : goal.returns-in_err-end-clause-fault
@@ -14,5 +14,5 @@ returns g c =
     let stopped = c.print_ending.ensures.fault (g.M.Memory.bytes left) (g.M.Memory.writable left) in
     record {
       account = on_ok_weaker c.print_ending.result (whole_printed _ _ _ _ _ _ _ _ c.in_ok-end.ensures.printed) printed;
-      fault = if_stopped_in_ending _ _ _ _ _ _ _ _ c.print_ending.result c.in_ok-end.ensures.printed stopped;
+      fault = IfErr-weaker c.print_ending.result _ _ (λ e. stopped_in_ending _ _ _ _ _ _ _ _ e c.in_ok-end.ensures.printed) stopped;
     }
