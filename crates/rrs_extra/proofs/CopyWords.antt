@@ -1,218 +1,186 @@
 -- The program that copies words, as a run.
-use Rattle.std.proofs.Common.{◌≡◌, ◌≢◌, ◌⊎◌, ℕ, zero, suc, ◌+◌, ◌*◌, ◌%◌, ◌^◌, ◌<◌, ◌≤◌, ◌==◌, List, length, pos, neg_ℤ, not, Bool, true, Option, Some, None, IsTrue, Ok, inl, inr, refl, sym, ap, subst, ◌∙◌, arith}
+use Rattle.std.proofs.Common.{◌≡◌, ◌≢◌, ℕ, zero, suc, ◌+◌, ◌-◌, ◌*◌, ◌%◌, ◌^◌, ◌<◌, ◌≤◌, ◌==◌, List, length, pos, neg_ℤ, not, Bool, true, Option, Some, None, IsTrue, IsSome, inl, inr, refl, sym, ap, subst, ◌∙◌, arith}
 use Rattle.std.proofs.lemmas.Option.{same_Some}
+use Rattle.std.proofs.lemmas.Bool.{cases_lt}
 use Rattle.std.proofs.lemmas.Bool.Decides.{nat_tests}
 use Rattle.rrs_lib.specs.declared.instruction_executor.InstructionException.{InstructionException}
 use Rattle.rrs_lib.specs.declared.instruction_executor.InstructionException.TheVariants.{IllegalInstruction}
 use Rattle.rrs_lib.specs.Words.{word}
-use Rattle.rrs_lib.specs.Bytes.{ByteMap, little_endian, all_writable, store, EndsAtLastAddress}
+use Rattle.rrs_lib.specs.Bytes.{ByteMap, little_endian, store, EndsAtLastAddress}
 use Rattle.rrs_lib.specs.Machine.{State, reg, made_even}
-use Rattle.rrs_lib.specs.Steps.{Step, RunsOk, IsOnlyRunUntil}
+use Rattle.rrs_lib.specs.Steps.{RunsOk, IsOnlyRunUntil}
 use Rattle.rrs_lib.proofs.Programs
 use Rattle.rrs_lib.proofs.Programs.{at, Others, registers_by}
-use Rattle.rrs_lib.proofs.ByteLemmas.{outside_from_none, read-stored, read-kept, store-outside, write-allowed}
-use Rattle.rrs_extra.specs.Programs.{HoldsWords, HasWords, IsMapped, IsWritable, AreApart, CopyWordsStarts, CopiesWords, copy_steps, word_at, copy_words_program}
-use Rattle.rrs_extra.proofs.Words.{word_read, at_word, Chain, ◌▸◌, done, by_registers, read_after, holds_after, mapped-ends, writable-ends, words-end}
+use Rattle.rrs_lib.proofs.ByteLemmas.{read-stored, read-kept, store-outside, write-allowed}
+use Rattle.rrs_extra.specs.Programs.{HoldsWords, HasWords, CopyWordsStarts, CopiesWords, copy_steps, word_at, copy_words_program}
+use Rattle.rrs_extra.proofs.Words.{word_read, at_word, writes, Chain, ◌▸◌, done, by_registers, read_after, holds_after, part, mapped-ends, writable-ends, words-end}
 
--- ---- one round
-
-body : (o : Others) (x1 to from to' from' v x12 x13 x14 x15 p : ℕ) (last : Option ℕ) (bytes : ByteMap) (writable : ℕ → Bool)
-    → HoldsWords bytes p copy_words_program → p % 4 ≡ 0 → p + 36 ≤ 2 ^ 32 → from % 4 ≡ 0 → from < 2 ^ 32 → to % 4 ≡ 0 → to < 2 ^ 32
-    → little_endian bytes from 4 ≡ Some v → all_writable writable to 4 ≡ true → word (pos (to + 4)) ≡ to' → word (pos (from + 4)) ≡ from'
-    → Chain 4 (at (registers_by o x1 to from x12 x13 x14 x15) (p + 12) last bytes writable) (at (registers_by o x1 to' from' x12 x13 x14 (word (pos v))) (p + 28) None (store bytes to 4 (word (pos v))) writable)
-body o x1 to from to' from' v x12 x13 x14 x15 p last bytes writable holds aligned fits from_aligned from_small to_aligned to_small read allowed to_next from_next =
-    Programs.step-loads (p + 16) 4 pos from v (word (pos v)) (at_word holds aligned 3 (omega arith) (omega arith) refl) refl (omega arith) from_aligned read refl (omega arith)
-    ▸ Programs.step-writes (p + 20) 10 from' (pos (from + 4)) (at_word holds aligned 4 (omega arith) (omega arith) refl) refl from_next (omega arith)
-    ▸ Programs.step-writes (p + 24) 9 to' (pos (to + 4)) (at_word holds aligned 5 (omega arith) (omega arith) refl) refl to_next (omega arith)
-    ▸ Programs.step-stores (p + 28) 4 to (word (pos v)) (at_word holds aligned 6 (omega arith) (omega arith) refl) refl (omega arith) refl to_aligned allowed (omega arith)
-    ▸ done
-
-again : (o : Others) (x1 x10 x11 x12 x13 x14 x15 p : ℕ) (bytes : ByteMap) (writable : ℕ → Bool) → HoldsWords bytes p copy_words_program → p % 4 ≡ 0 → p + 36 ≤ 2 ^ 32 → x11 ≢ x14
-    → Step (at (registers_by o x1 x10 x11 x12 x13 x14 x15) (p + 28) None bytes writable) (at (registers_by o x1 x10 x11 x12 x13 x14 x15) (p + 12) None bytes writable) (Ok tt)
-again o x1 x10 x11 x12 x13 x14 x15 p bytes writable holds aligned fits differ =
-    Programs.step-branches (p + 12) (not (x11 == x14)) (neg_ℤ (pos 16)) {registers = registers_by o x1 x10 x11 x12 x13 x14 x15} (at_word holds aligned 7 (omega arith) (omega arith) refl) refl (grind (arith, nat_tests)) (omega arith)
-
-ends_round : (o : Others) (x1 x10 x11 x12 x13 x14 x15 p : ℕ) (bytes : ByteMap) (writable : ℕ → Bool) → HoldsWords bytes p copy_words_program → p % 4 ≡ 0 → p + 36 ≤ 2 ^ 32 → x11 ≡ x14
-    → Step (at (registers_by o x1 x10 x11 x12 x13 x14 x15) (p + 28) None bytes writable) (at (registers_by o x1 x10 x11 x12 x13 x14 x15) (p + 32) None bytes writable) (Ok tt)
-ends_round o x1 x10 x11 x12 x13 x14 x15 p bytes writable holds aligned fits same =
-    Programs.step-stays (p + 32) (not (x11 == x14)) (neg_ℤ (pos 16)) {registers = registers_by o x1 x10 x11 x12 x13 x14 x15} (at_word holds aligned 7 (omega arith) (omega arith) refl) refl (grind (arith, nat_tests)) (omega arith)
-
--- ---- what is copied
-
-copies_none : (bytes : ByteMap) (to from : ℕ) → CopiesWords bytes bytes to from 0
-copies_none bytes to from = record { words = λ i x less. absurd (omega (arith, less)); others = λ a h. refl }
-
--- the first word, and then the others
-first_word : (bytes new : ByteMap) (to from n v x : ℕ) → little_endian bytes from 4 ≡ Some v → CopiesWords (store bytes to 4 (word (pos v))) new (to + 4) (from + 4) n → x < 2 ^ 32 → little_endian bytes from 4 ≡ Some x → little_endian new to 4 ≡ Some x
-first_word bytes new to from n v x read rest small is =
-    let same : v ≡ x = same_Some _ _ (sym read ∙ is) in
-    let value : word (pos v) % 256 ^ 4 ≡ x = omega arith in
-    read-kept (store bytes to 4 (word (pos v))) new (to + 4) (4 * n) to 4 rest.others (λ i h. inl (omega arith)) ∙ read-stored bytes to 4 (word (pos v)) ∙ ap Some value
-
--- a store of the first word changes no other byte to read
-source_kept : (bytes : ByteMap) (to from n v : ℕ) → AreApart to (4 * suc n) from (4 * suc n) → (b count : ℕ) → from ≤ b → b + count ≤ from + 4 * suc n → little_endian (store bytes to 4 v) b count ≡ little_endian bytes b count
-source_kept bytes to from n v apart b count low high =
-    read_after bytes (store bytes to 4 v) to 4 from (4 * suc n) b count (λ c h. store-outside bytes to 4 v c h) (λ i j less less'. apart i j (omega arith) less') low high
-
-words_more : (bytes new : ByteMap) (to from n v i x : ℕ) → little_endian bytes from 4 ≡ Some v → AreApart to (4 * suc n) from (4 * suc n) → CopiesWords (store bytes to 4 (word (pos v))) new (to + 4) (from + 4) n
-    → i < suc n → x < 2 ^ 32 → little_endian bytes (from + 4 * i) 4 ≡ Some x → little_endian new (to + 4 * i) 4 ≡ Some x
-words_more bytes new to from n v zero x read apart rest less small is =
-    let to_is : to + 4 * 0 ≡ to = omega arith in
-    let from_is : from + 4 * 0 ≡ from = omega arith in
-    rw to_is (first_word bytes new to from n v x read rest small (rw from_is at is))
-words_more bytes new to from n v (suc i) x read apart rest less small is =
-    let to_is : to + 4 * suc i ≡ to + 4 + 4 * i = omega arith in
-    let from_is : from + 4 + 4 * i ≡ from + 4 * suc i = omega arith in
-    let kept = source_kept bytes to from n (word (pos v)) apart (from + 4 * suc i) 4 (omega arith) (omega arith) in
-    rw to_is (rest.words i x (omega (arith, less)) small (rw from_is (kept ∙ is)))
-
-others_more : (bytes new : ByteMap) (to n v a : ℕ) → ((b : ℕ) → (b < to + 4) ⊎ (to + 4 + 4 * n ≤ b) → new b ≡ store bytes to 4 v b) → (a < to) ⊎ (to + 4 * suc n ≤ a) → new a ≡ bytes a
-others_more bytes new to n v a others (inl below) = others a (inl (omega arith)) ∙ store-outside bytes to 4 v a (inl below)
-others_more bytes new to n v a others (inr above) = others a (inr (omega arith)) ∙ store-outside bytes to 4 v a (inr (omega arith))
-
-copies_more : (bytes new : ByteMap) (to from n v : ℕ) → little_endian bytes from 4 ≡ Some v → AreApart to (4 * suc n) from (4 * suc n)
-    → CopiesWords (store bytes to 4 (word (pos v))) new (to + 4) (from + 4) n → CopiesWords bytes new to from (suc n)
-copies_more bytes new to from n v read apart rest = record {
-  words = λ i x less small is. words_more bytes new to from n v i x read apart rest less small is;
-  others = λ a outside. others_more bytes new to n (word (pos v)) a rest.others outside;
-}
-
--- ---- all rounds
-
--- what holds before a round, where n words are left
-record Ready (to from n p : ℕ) (bytes : ByteMap) (writable : ℕ → Bool) : Type 0 where
-  holds : HoldsWords bytes p copy_words_program
-  aligned : p % 4 ≡ 0
-  fits : p + 36 ≤ 2 ^ 32
-  to_aligned : to % 4 ≡ 0
-  to_fits : to + 4 * n ≤ 2 ^ 32
-  to_writable : IsWritable writable to (4 * n)
-  from_aligned : from % 4 ≡ 0
-  from_fits : from + 4 * n ≤ 2 ^ 32
-  from_mapped : IsMapped bytes from (4 * n)
-  apart_source : AreApart to (4 * n) from (4 * n)
-  apart_program : AreApart to (4 * n) p 36
-
-still_holds : (to from n p v : ℕ) (bytes : ByteMap) (writable : ℕ → Bool) → Ready to from (suc n) p bytes writable → HoldsWords (store bytes to 4 v) p copy_words_program
-still_holds to from n p v bytes writable ready =
-    holds_after bytes (store bytes to 4 v) to 4 p 36 copy_words_program (λ c h. store-outside bytes to 4 v c h) (λ i j less less'. ready.apart_program i j (omega arith) less') (omega arith) ready.holds
-
--- what was mapped is mapped after a store elsewhere
-mapped_after : (bytes : ByteMap) (to from n v : ℕ) → AreApart to (4 * suc n) from (4 * suc n) → IsMapped bytes from (4 * suc n) → IsMapped (store bytes to 4 v) (from + 4) (4 * n)
-mapped_after bytes to from n v apart mapped i less =
-    let outside = outside_from_none to 4 (from + 4 + i) (λ k below same. apart k (4 + i) (omega arith) (omega arith) (omega (arith, same))) in
-    let there : from + 4 + i ≡ from + (4 + i) = omega arith in
-    rw (store-outside bytes to 4 v (from + 4 + i) outside, there) (mapped (4 + i) (omega arith))
-
-writable_after : (writable : ℕ → Bool) (to n : ℕ) → IsWritable writable to (4 * suc n) → IsWritable writable (to + 4) (4 * n)
-writable_after writable to n allowed i less =
-    let there : to + (4 + i) ≡ to + 4 + i = omega arith in
-    subst (λ (b : ℕ). IsTrue (writable b)) there (allowed (4 + i) (omega arith))
-
-next_ready : (to from n p v : ℕ) (bytes : ByteMap) (writable : ℕ → Bool) → Ready to from (suc n) p bytes writable → Ready (to + 4) (from + 4) n p (store bytes to 4 v) writable
-next_ready to from n p v bytes writable ready = record {
-  holds = still_holds to from n p v bytes writable ready;
-  aligned = ready.aligned;
-  fits = ready.fits;
-  to_aligned = omega (arith, ready.to_aligned);
-  to_fits = omega (arith, ready.to_fits);
-  to_writable = writable_after writable to n ready.to_writable;
-  from_aligned = omega (arith, ready.from_aligned);
-  from_fits = omega (arith, ready.from_fits);
-  from_mapped = mapped_after bytes to from n v ready.apart_source ready.from_mapped;
-  apart_source = λ i j less less' same. ready.apart_source (4 + i) (4 + j) (omega arith) (omega arith) (omega (arith, same));
-  apart_program = λ i j less less' same. ready.apart_program (4 + i) j (omega arith) less' (omega (arith, same));
-}
-
-record Rounds (o : Others) (x1 to from n x12 x13 x14 x15 p : ℕ) (last : Option ℕ) (bytes : ByteMap) (writable : ℕ → Bool) : Type 0 where
-  x10_after : ℕ
-  x11_after : ℕ
-  x15_after : ℕ
-  bytes_after : ByteMap
-  copies : CopiesWords bytes bytes_after to from n
-  runs : RunsOk (5 * n) (at (registers_by o x1 to from x12 x13 x14 x15) (p + 12) last bytes writable) (at (registers_by o x1 x10_after x11_after x12 x13 x14 x15_after) (p + 32) None bytes_after writable)
-
-rounds : (n : ℕ) (o : Others) (x1 to from x12 x13 x14 x15 p : ℕ) (last : Option ℕ) (bytes : ByteMap) (writable : ℕ → Bool)
-    → Ready to from (suc n) p bytes writable → x14 ≡ word (pos (from + 4 * suc n)) → Rounds o x1 to from (suc n) x12 x13 x14 x15 p last bytes writable
-rounds zero o x1 to from x12 x13 x14 x15 p last bytes writable ready end =
-    let v = word_at bytes from in
-    let read : little_endian bytes from 4 ≡ Some v = word_read bytes from ready.from_mapped in
-    let allowed : all_writable writable to 4 ≡ true = write-allowed writable to 4 ready.to_writable in
-    let x10 : ℕ = word (pos (to + 4)) in
-    let x11 : ℕ = word (pos (from + 4)) in
-    let four = body o x1 to from (word (pos (to + 4))) (word (pos (from + 4))) v x12 x13 x14 x15 p last bytes writable ready.holds ready.aligned ready.fits ready.from_aligned (omega (arith, ready.from_fits)) ready.to_aligned (omega (arith, ready.to_fits)) read allowed refl refl in
-    let out = ends_round o x1 (word (pos (to + 4))) (word (pos (from + 4))) x12 x13 x14 (word (pos v)) p (store bytes to 4 (word (pos v))) writable (still_holds to from 0 p (word (pos v)) bytes writable ready) ready.aligned ready.fits (omega (arith, end)) in
+-- a word that is copied is one more
+copies_more : (bytes old : ByteMap) (to from k v : ℕ) → little_endian bytes (from + 4 * k) 4 ≡ Some v
+    → CopiesWords bytes old to from k → CopiesWords bytes (store old (to + 4 * k) 4 (word (pos v))) to from (suc k)
+copies_more bytes old to from k v read before =
+    let stored = store-outside old (to + 4 * k) 4 (word (pos v)) in
     record {
-      x10_after = word (pos (to + 4));
-      x11_after = word (pos (from + 4));
-      x15_after = word (pos v);
-      bytes_after = store bytes to 4 (word (pos v));
-      copies = copies_more bytes (store bytes to 4 (word (pos v))) to from 0 v read ready.apart_source (copies_none _ _ _);
-      runs = Programs.RunsOk-append 4 1 _ _ _ four.runs (Programs.RunsOk-one _ _ out);
-    }
-rounds (suc n) o x1 to from x12 x13 x14 x15 p last bytes writable ready end =
-    let v = word_at bytes from in
-    let read : little_endian bytes from 4 ≡ Some v = word_read bytes from (λ i h. ready.from_mapped i (omega arith)) in
-    let allowed : all_writable writable to 4 ≡ true = write-allowed writable to 4 (λ i h. ready.to_writable i (omega arith)) in
-    let four = body o x1 to from (to + 4) (from + 4) v x12 x13 x14 x15 p last bytes writable ready.holds ready.aligned ready.fits ready.from_aligned (omega (arith, ready.from_fits)) ready.to_aligned (omega (arith, ready.to_fits)) read allowed (omega (arith, ready.to_fits)) (omega (arith, ready.from_fits)) in
-    let differ : from + 4 ≢ x14 = λ same. omega (arith, same, end, ready.from_fits) in
-    let on = again o x1 (to + 4) (from + 4) x12 x13 x14 (word (pos v)) p (store bytes to 4 (word (pos v))) writable (still_holds to from (suc n) p (word (pos v)) bytes writable ready) ready.aligned ready.fits differ in
-    let rest = rounds n o x1 (to + 4) (from + 4) x12 x13 x14 (word (pos v)) p None (store bytes to 4 (word (pos v))) writable (next_ready to from (suc n) p (word (pos v)) bytes writable ready) (end ∙ ap (λ b. word (pos b)) (omega arith)) in
-    let one = Programs.RunsOk-append 4 1 _ _ _ four.runs (Programs.RunsOk-one _ _ on) in
-    record {
-      x10_after = rest.x10_after;
-      x11_after = rest.x11_after;
-      x15_after = rest.x15_after;
-      bytes_after = rest.bytes_after;
-      copies = copies_more bytes rest.bytes_after to from (suc n) v read ready.apart_source rest.copies;
-      runs = Programs.RunsOk-join 5 (5 * suc n) (5 * suc (suc n)) _ _ _ (omega arith) one rest.runs;
+      words = λ i x less small is. elim (cases_lt i k) [
+        | inl earlier ↦
+            read-kept old _ (to + 4 * k) 4 (to + 4 * i) 4 stored (λ j h. inl (omega arith)) ∙ before.words i x earlier small is
+        | inr late ↦
+            let here : i ≡ k = omega arith in
+            let same : v ≡ x = same_Some _ _ (sym read ∙ rw here at is) in
+            let value : word (pos v) % 256 ^ 4 ≡ x = omega arith in
+            rw here (read-stored old (to + 4 * k) 4 (word (pos v)) ∙ ap Some value)
+      ];
+      others = λ a outside. elim outside [
+        | inl below ↦ stored a (inl (omega arith)) ∙ before.others a (inl below)
+        | inr above ↦ stored a (inr (omega arith)) ∙ before.others a (inr (omega arith))
+      ];
     }
 
--- ---- the run
+differs : (a b : ℕ) → a ≢ b → not (a == b) ≡ true
+differs a b apart = grind (arith, nat_tests)
 
-record Called (o : Others) (x1 to from n x12 x13 x14 x15 p : ℕ) (last : Option ℕ) (bytes : ByteMap) (writable : ℕ → Bool) : Type 0 where
+-- the program from its first instruction to its return
+record Called (s : State) (x1 to from n : ℕ) : Type 0 where
   registers_after : List ℕ
   bytes_after : ByteMap
-  copies : CopiesWords bytes bytes_after to from n
-  runs : RunsOk (copy_steps n) (at (registers_by o x1 to from x12 x13 x14 x15) p last bytes writable) (at registers_after x1 None bytes_after writable)
+  copies : CopiesWords s.bytes bytes_after to from n
+  runs : RunsOk (copy_steps n) s (at registers_after x1 None bytes_after s.writable)
 
--- the program returns
-returns : (o : Others) (x1 x10 x11 x12 x13 x14 x15 p : ℕ) (bytes : ByteMap) (writable : ℕ → Bool) → HoldsWords bytes p copy_words_program → p % 4 ≡ 0 → p + 36 ≤ 2 ^ 32 → x1 % 4 ≡ 0 → x1 < 2 ^ 32
-    → Step (at (registers_by o x1 x10 x11 x12 x13 x14 x15) (p + 32) None bytes writable) (at (registers_by o x1 x10 x11 x12 x13 x14 x15) x1 None bytes writable) (Ok tt)
-returns o x1 x10 x11 x12 x13 x14 x15 p bytes writable holds aligned fits return_aligned small =
-    Programs.step-jumps x1 0 (made_even (word (pos (x1 + 0)))) (at_word holds aligned 8 (omega arith) (omega arith) refl) refl (omega arith)
+module _ (o : Others) (x1 to from n x13 x14 x15 p : ℕ) (last : Option ℕ) (bytes : ByteMap) (writable : ℕ → Bool)
+    (starts : CopyWordsStarts (at (registers_by o x1 to from n x13 x14 x15) p last bytes writable))
+    (x1_small : x1 < 2 ^ 32) (to_small : to < 2 ^ 32) (from_small : from < 2 ^ 32) (fits : p + 36 ≤ 2 ^ 32)
+    (to_fits : to + 4 * n ≤ 2 ^ 32) (from_fits : from + 4 * n ≤ 2 ^ 32) where
+  -- the state at the start, and where k words were copied
+  abbrev start : State
+  start = at (registers_by o x1 to from n x13 x14 x15) p last bytes writable
 
--- the three instructions before the first round
-begins : (o : Others) (x1 to from m x13 x14 x15 p : ℕ) (last : Option ℕ) (bytes : ByteMap) (writable : ℕ → Bool) → HoldsWords bytes p copy_words_program → p % 4 ≡ 0 → p + 36 ≤ 2 ^ 32
-    → Chain 3 (at (registers_by o x1 to from (suc m) x13 x14 x15) p last bytes writable) (at (registers_by o x1 to from (word (pos (suc m * 4))) x13 (word (pos (from + 4 * suc m))) x15) (p + 12) (Some 14) bytes writable)
-begins o x1 to from m x13 x14 x15 p last bytes writable holds aligned fits =
-    Programs.step-stays (p + 4) (suc m == 0) (pos 32) (at_word holds aligned 0 (omega arith) (omega arith) refl) refl (grind (arith, nat_tests)) (omega arith)
-    ▸ Programs.step-writes (p + 8) 11 (word (pos (suc m * 4))) (pos (suc m * 4)) (at_word holds aligned 1 (omega arith) (omega arith) refl) refl refl (omega arith)
-    ▸ Programs.step-writes (p + 12) 13 (word (pos (from + 4 * suc m))) (pos (from + word (pos (suc m * 4)))) (at_word holds aligned 2 (omega arith) (omega arith) refl) refl (omega arith) (omega arith)
-    ▸ done
+  abbrev loop : (k x15 pc : ℕ) → Option ℕ → ByteMap → State
+  loop k x15 pc last bytes =
+      at (registers_by o x1 (word (pos (to + 4 * k))) (word (pos (from + 4 * k))) (word (pos (n * 4))) x13
+      (word (pos (from + 4 * n))) x15) pc last bytes writable
 
-calls : (n : ℕ) (o : Others) (x1 to from x13 x14 x15 p : ℕ) (last : Option ℕ) (bytes : ByteMap) (writable : ℕ → Bool)
-    → Ready to from n p bytes writable → x1 % 4 ≡ 0 → x1 < 2 ^ 32 → Called o x1 to from n n x13 x14 x15 p last bytes writable
-calls zero o x1 to from x13 x14 x15 p last bytes writable ready return_aligned small = record {
-  registers_after = registers_by o x1 to from 0 x13 x14 x15;
-  bytes_after = bytes;
-  copies = copies_none bytes to from;
-  runs = (
-      Programs.step-branches (p + 32) true (pos 32) {registers = registers_by o x1 to from 0 x13 x14 x15} (at_word ready.holds ready.aligned 0 (omega arith) (omega arith) refl) refl refl (omega (arith, ready.fits))
-      ▸ returns o x1 to from 0 x13 x14 x15 p bytes writable ready.holds ready.aligned ready.fits return_aligned small
-      ▸ done).runs;
-}
-calls (suc m) o x1 to from x13 x14 x15 p last bytes writable ready return_aligned small =
-    let three = begins o x1 to from m x13 x14 x15 p last bytes writable ready.holds ready.aligned ready.fits in
-    let all = rounds m o x1 to from (word (pos (suc m * 4))) x13 (word (pos (from + 4 * suc m))) x15 p (Some 14) bytes writable ready refl in
-    let holds = holds_after bytes all.bytes_after to (4 * suc m) p 36 copy_words_program all.copies.others ready.apart_program (omega arith) ready.holds in
-    let out = returns o x1 all.x10_after all.x11_after (word (pos (suc m * 4))) x13 (word (pos (from + 4 * suc m))) all.x15_after p all.bytes_after writable holds ready.aligned ready.fits return_aligned small in
-    record {
-      registers_after = _;
-      bytes_after = all.bytes_after;
-      copies = all.copies;
-      runs = Programs.RunsOk-join 3 (5 * suc m + 1) (5 * suc m + 4) _ _ _ (omega arith) three.runs (Programs.RunsOk-append (5 * suc m) 1 _ _ _ all.runs (Programs.RunsOk-one _ _ out));
-    }
+  record Reached (k pc steps : ℕ) : Type 0 where
+    value : ℕ
+    written : Option ℕ
+    now : ByteMap
+    copies : CopiesWords bytes now to from k
+    runs : RunsOk steps start (loop k value pc written now)
+
+  -- the program stands as before
+  holds : (k : ℕ) (now : ByteMap) → k ≤ n → CopiesWords bytes now to from k → HoldsWords now p copy_words_program
+  holds k now less copies =
+      holds_after bytes now to (4 * k) p 36 copy_words_program copies.others
+      (λ i j h h'. starts.apart_from_program i j (omega arith) h') (omega arith) starts.called.program_there
+
+  -- where there is no word, the program returns
+  returns_soon : n ≡ 0 → Called start x1 to from n
+  returns_soon none =
+      let registers = registers_by o x1 to from n x13 x14 x15 in
+      let there = starts.called.program_there in
+      let two : Chain 2 start (at registers x1 None bytes writable) =
+      Programs.step-branches (p + 32) (n == 0) (pos 32) (at_word there starts.called.aligned 0 refl refl) refl
+      (grind (arith, nat_tests)) (omega arith)
+      ▸ Programs.step-jumps x1 0 (made_even (word (pos (x1 + 0)))) {registers = registers}
+      (at_word there starts.called.aligned 8 refl refl) refl (omega (arith, starts.called.return_aligned))
+      ▸ done in
+      record {
+        registers_after = registers;
+        bytes_after = bytes;
+        copies = record { words = λ i x less. absurd (omega arith); others = λ a h. refl };
+        runs = Programs.RunsOk-as _ _ _ _ (ap copy_steps (sym none)) two.runs;
+      }
+
+  -- the four instructions that copy a word
+  body : (k : ℕ) → k < n → Reached k (p + 12) (5 * k + 3) → Reached (suc k) (p + 28) (5 * k + 7)
+  body k less r =
+      let v = word_at bytes (from + 4 * k) in
+      let mapped = part (λ b. IsSome (bytes b)) from (4 * n) (4 * k) 4 starts.from_mapped (omega arith) in
+      let allowed = write-allowed writable (to + 4 * k) 4
+      (part (λ b. IsTrue (writable b)) to (4 * n) (4 * k) 4 starts.to_writable (omega arith)) in
+      let read = read_after bytes r.now to (4 * k) from (4 * n) (from + 4 * k) 4 r.copies.others
+      (λ i j h h'. starts.apart_from_source i j (omega arith) h') (omega arith) (omega arith)
+      ∙ word_read bytes (from + 4 * k) mapped in
+      let aligned = starts.called.aligned in
+      let there = holds k r.now (omega arith) r.copies in
+      let four : Chain 4 (loop k r.value (p + 12) r.written r.now)
+      (loop (suc k) (word (pos v)) (p + 28) None (store r.now (to + 4 * k) 4 (word (pos v)))) =
+      Programs.step-loads (p + 16) 4 pos (from + 4 * k) v (word (pos v)) (at_word there aligned 3 refl refl) refl
+      (omega arith) (omega (arith, starts.from_aligned)) read refl (omega arith)
+      ▸ writes there aligned fits 4 10 _ (pos (word (pos (from + 4 * k)) + 4)) refl refl refl (omega arith)
+      ▸ writes there aligned fits 5 9 _ (pos (word (pos (to + 4 * k)) + 4)) refl refl refl (omega arith)
+      ▸ Programs.step-stores (p + 28) 4 (to + 4 * k) (word (pos v)) (at_word there aligned 6 refl refl) refl
+      (omega arith) refl (omega (arith, starts.to_aligned)) allowed (omega arith)
+      ▸ done in
+      record {
+        value = word (pos v);
+        written = None;
+        now = _;
+        copies = copies_more bytes r.now to from k v (word_read bytes (from + 4 * k) mapped) r.copies;
+        runs = Programs.RunsOk-join (5 * k + 3) 4 (5 * k + 7) _ _ _ (omega arith) r.runs four.runs;
+      }
+
+  -- the three instructions before the first round, and each round but the last
+  head : (k : ℕ) → k < n → Reached k (p + 12) (5 * k + 3)
+  head zero some =
+      let there = starts.called.program_there in
+      let aligned = starts.called.aligned in
+      let to_is : to ≡ word (pos (to + 4 * 0)) = omega arith in
+      let from_is : from ≡ word (pos (from + 4 * 0)) = omega arith in
+      let three : Chain 3 start (at (registers_by o x1 to from (word (pos (n * 4))) x13 (word (pos (from + 4 * n))) x15)
+      (p + 12) (Some 14) bytes writable) =
+      Programs.step-stays (p + 4) (n == 0) (pos 32) (at_word there aligned 0 refl refl) refl (grind (arith, nat_tests))
+      (omega arith)
+      ▸ writes there aligned fits 1 11 _ (pos (n * 4)) refl refl refl refl
+      ▸ writes there aligned fits 2 13 _ (pos (from + word (pos (n * 4)))) refl refl refl (omega arith)
+      ▸ done in
+      record {
+        value = x15;
+        written = Some 14;
+        now = bytes;
+        copies = record { words = λ i x less. absurd (omega arith); others = λ a h. refl };
+        runs = subst (RunsOk 3 start) (λ i. at (registers_by o x1 (to_is i) (from_is i) (word (pos (n * 4))) x13
+            (word (pos (from + 4 * n))) x15) (p + 12) (Some 14) bytes writable) three.runs;
+      }
+  head (suc k) less =
+      let r = body k (omega arith) (head k (omega arith)) in
+      let there = holds (suc k) r.now (omega arith) r.copies in
+      let on = Programs.step-branches (p + 12) (not (word (pos (from + 4 * suc k)) == word (pos (from + 4 * n))))
+      (neg_ℤ (pos 16)) (at_word there starts.called.aligned 7 refl refl) refl
+      (differs _ _ (λ same. omega (arith, same))) (omega arith) in
+      record {
+        value = r.value;
+        written = None;
+        now = r.now;
+        copies = r.copies;
+        runs = Programs.RunsOk-join (5 * k + 7) 1 (5 * suc k + 3) _ _ _ (omega arith) r.runs (Programs.RunsOk-one _ _ on);
+      }
+
+  returns_late : (m : ℕ) → n ≡ suc m → Called start x1 to from n
+  returns_late m is =
+      let r = body m (omega arith) (head m (omega arith)) in
+      let there = holds (suc m) r.now (omega arith) r.copies in
+      let sum : 5 * m + 7 + 2 ≡ 5 * suc m + 4 = omega arith in
+      let two : Chain 2 (loop (suc m) r.value (p + 28) r.written r.now) (loop (suc m) r.value x1 None r.now) =
+      Programs.step-stays (p + 32) (not (word (pos (from + 4 * suc m)) == word (pos (from + 4 * n)))) (neg_ℤ (pos 16))
+      (at_word there starts.called.aligned 7 refl refl) refl (rw is (grind (arith, nat_tests))) (omega arith)
+      ▸ Programs.step-jumps x1 0 (made_even (word (pos (x1 + 0)))) (at_word there starts.called.aligned 8 refl refl)
+      refl (omega (arith, starts.called.return_aligned))
+      ▸ done in
+      record {
+        registers_after = _;
+        bytes_after = r.now;
+        copies = subst (CopiesWords bytes r.now to from) (sym is) r.copies;
+        runs = Programs.RunsOk-join (5 * m + 7) 2 (copy_steps n) start _ (loop (suc m) r.value x1 None r.now)
+            (sum ∙ ap copy_steps (sym is)) r.runs two.runs;
+      }
+
+  calls : Called start x1 to from n
+  calls = elim (cases_lt 0 n) [
+    | inl some ↦ returns_late (n - 1) (omega arith)
+    | inr none ↦ returns_soon (omega arith)
+  ]
+
+-- ---- the run
 
 -- what a call of `run` returned
 pub record Copied (s : State) (steps : ℕ) (e : Option InstructionException) (t : State) : Type 0 where
@@ -232,20 +200,10 @@ copies : (limit steps : ℕ) (e : Option InstructionException) (t : State) (o : 
     → Copies limit steps e t (at (registers_by o x1 to from n x13 x14 x15) p last bytes writable)
 copies limit steps e t o x1 to from n x13 x14 x15 p last bytes writable starts small ends limit_is only =
     let called = starts.called in
-    let ready : Ready to from n p bytes writable = record {
-      holds = called.program_there;
-      aligned = called.aligned;
-      fits = words-end bytes writable p copy_words_program ends called.program_there (omega arith);
-      to_aligned = starts.to_aligned;
-      to_fits = writable-ends bytes writable to (4 * n) ends starts.to_writable (omega arith);
-      to_writable = starts.to_writable;
-      from_aligned = starts.from_aligned;
-      from_fits = mapped-ends bytes writable from (4 * n) ends starts.from_mapped (omega arith);
-      from_mapped = starts.from_mapped;
-      apart_source = starts.apart_from_source;
-      apart_program = starts.apart_from_program;
-    } in
-    let all = calls n o x1 to from x13 x14 x15 p last bytes writable ready called.return_aligned small.0 in
+    let all = calls o x1 to from n x13 x14 x15 p last bytes writable starts small.0 small.1 small.2
+    (words-end bytes writable p copy_words_program ends called.program_there (omega arith))
+    (writable-ends bytes writable to (4 * n) ends starts.to_writable (omega arith))
+    (mapped-ends bytes writable from (4 * n) ends starts.from_mapped (omega arith)) in
     let read = read_after bytes all.bytes_after to (4 * n) x1 4 x1 4 all.copies.others starts.apart_from_return (omega arith) (omega arith) ∙ word_read bytes x1 called.stops.mapped in
     let fault = Programs.step-illegal {registers = all.registers_after} {pc = x1} {last = None} {bytes = all.bytes_after} {writable = writable} called.return_aligned read called.stops.outside in
     let same = Programs.returned only limit_is (Programs.RunUntil-fault (5 * n + 5) (copy_steps n) _ _ _ _ (few_steps n) all.runs fault) in

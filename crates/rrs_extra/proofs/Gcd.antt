@@ -30,11 +30,11 @@ round : (o : Others) (x1 a m p x12 x13 x14 x15 : ℕ) (last : Option ℕ) (bytes
     → HoldsWords bytes p gcd_program → p % 4 ≡ 0 → p + 24 ≤ 2 ^ 32 → suc m < 2 ^ 32
     → Chain 5 (at (registers_by o x1 a (suc m) x12 x13 x14 x15) p last bytes writable) (at (registers_by o x1 (suc m) (a % suc m) x12 x13 x14 (a % suc m)) p None bytes writable)
 round o x1 a m p x12 x13 x14 x15 last bytes writable holds aligned fits small =
-    Programs.step-branches (p + 8) (not (suc m == 0)) (pos 8) (at_word holds aligned 0 (omega arith) (omega arith) refl) refl (grind (arith, nat_tests)) (omega arith)
-    ▸ Programs.step-writes (p + 12) 14 (a % suc m) (remu a (suc m)) (at_word holds aligned 2 (omega arith) (omega arith) refl) refl (remainder a m small) (omega arith)
-    ▸ Programs.step-writes (p + 16) 9 (suc m) (pos (suc m + 0)) (at_word holds aligned 3 (omega arith) (omega arith) refl) refl (omega arith) (omega arith)
-    ▸ Programs.step-writes (p + 20) 10 (a % suc m) (pos (a % suc m + 0)) (at_word holds aligned 4 (omega arith) (omega arith) refl) refl (omega arith) (omega arith)
-    ▸ Programs.step-jumps p 0 (word (pos (p + 20 + 4294967276))) (at_word holds aligned 5 (omega arith) (omega arith) refl) refl (omega arith)
+    Programs.step-branches (p + 8) (not (suc m == 0)) (pos 8) (at_word holds aligned 0 refl refl) refl (grind (arith, nat_tests)) (omega arith)
+    ▸ Programs.step-writes (p + 12) 14 (a % suc m) (remu a (suc m)) (at_word holds aligned 2 refl refl) refl (remainder a m small) (omega arith)
+    ▸ Programs.step-writes (p + 16) 9 (suc m) (pos (suc m + 0)) (at_word holds aligned 3 refl refl) refl (omega arith) (omega arith)
+    ▸ Programs.step-writes (p + 20) 10 (a % suc m) (pos (a % suc m + 0)) (at_word holds aligned 4 refl refl) refl (omega arith) (omega arith)
+    ▸ Programs.step-jumps p 0 (word (pos (p + 20 + 4294967276))) (at_word holds aligned 5 refl refl) refl (omega arith)
     ▸ done
 
 -- ---- all rounds
@@ -78,8 +78,8 @@ leaves : (o : Others) (x1 g p x12 x13 x14 x15 : ℕ) (last : Option ℕ) (bytes 
     → HoldsWords bytes p gcd_program → p % 4 ≡ 0 → p + 24 ≤ 2 ^ 32 → x1 % 4 ≡ 0 → x1 < 2 ^ 32
     → Chain 2 (at (registers_by o x1 g 0 x12 x13 x14 x15) p last bytes writable) (at (registers_by o x1 g 0 x12 x13 x14 x15) x1 None bytes writable)
 leaves o x1 g p x12 x13 x14 x15 last bytes writable holds aligned fits return_aligned small =
-    Programs.step-stays (p + 4) false (pos 8) {registers = registers_by o x1 g 0 x12 x13 x14 x15} (at_word holds aligned 0 (omega arith) (omega arith) refl) refl refl (omega arith)
-    ▸ Programs.step-jumps x1 0 (made_even (word (pos (x1 + 0)))) (at_word holds aligned 1 (omega arith) (omega arith) refl) refl (omega arith)
+    Programs.step-stays (p + 4) false (pos 8) {registers = registers_by o x1 g 0 x12 x13 x14 x15} (at_word holds aligned 0 refl refl) refl refl (omega arith)
+    ▸ Programs.step-jumps x1 0 (made_even (word (pos (x1 + 0)))) (at_word holds aligned 1 refl refl) refl (omega arith)
     ▸ done
 
 -- what a call of `run` returned

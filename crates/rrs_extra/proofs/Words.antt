@@ -1,14 +1,16 @@
 -- Words in a memory.
-use Rattle.std.proofs.Common.{◌≡◌, ℕ, zero, suc, ◌+◌, ◌-◌, ◌*◌, ◌%◌, ◌^◌, ◌<◌, ◌≤◌, ◌==◌, ◌&&◌, Bool, true, false, List, [], ◌∷◌, length, slice_index, Option, Some, None, IsSome, IsTrue, Ok, refl, sym, ap, subst, ◌∙◌, arith}
-use Rattle.std.proofs.lemmas.Bool.{eqb-true, and_parts, false≢true}
+use Rattle.std.proofs.Common.{◌≡◌, ℕ, zero, suc, ◌+◌, ◌-◌, ◌*◌, ◌%◌, ◌^◌, ◌<◌, ◌≤◌, ◌==◌, nat_lt, Bool, true, false, List, length, slice_index, slice_set, ℤ, Option, Some, None, IsSome, IsTrue, Ok, refl, sym, ap, subst, ◌∙◌, arith}
+use Rattle.std.proofs.lemmas.Bool.{agree_below, agree_below_at, eqb-true, ltb-true, lt-ltb, false≢true}
 use Rattle.std.proofs.lemmas.Option.{none-some}
 use Rattle.rrs_lib.specs.Encodings.{Fields}
-use Rattle.rrs_lib.specs.Table.{Row, Decodes}
+use Rattle.rrs_lib.specs.Table.{Row}
 use Rattle.rrs_lib.specs.Bytes.{ByteMap, little_endian, sum_if_both, at_place, EndsAtLastAddress}
 use Rattle.rrs_lib.proofs.ByteLemmas.{Outside, read-mapped, read-kept, outside_from_none}
-use Rattle.rrs_lib.specs.Machine.{State}
+use Rattle.rrs_lib.specs.Machine.{State, execute, result_outcome}
+use Rattle.rrs_lib.specs.Words.{word}
 use Rattle.rrs_lib.specs.Steps.{Step, RunsOk}
 use Rattle.rrs_lib.proofs.Decoder.{decode, decodes}
+use Rattle.rrs_lib.proofs.Programs
 use Rattle.rrs_lib.proofs.Programs.{Fetches, fetches, at, Others, registers_by, opened}
 use Rattle.rrs_extra.specs.Programs.{HoldsWords, IsMapped, IsWritable, AreApart, or_zero, word_at}
 
@@ -64,17 +66,36 @@ words-end bytes writable a words ends holds some =
 
 -- ---- programs
 
--- word i of a program is fetched at its address
-pub instruction : {bytes : ByteMap} {a pc : ℕ} {words : List ℕ} {row : Row} {f : Fields}
-    → HoldsWords bytes a words → a % 4 ≡ 0 → (i : ℕ) → i < length words → a + 4 * i ≡ pc → Decodes (slice_index words i) row f → Fetches bytes pc row f
-instruction {bytes = bytes} {a = a} {pc = pc} {words = words} holds aligned i within there decodes =
-    let P : ℕ → Type 0 = λ b. little_endian bytes b 4 ≡ Some (slice_index words i) in
-    fetches {w = slice_index words i} (omega arith) (subst P there (holds.each i within)) decodes
+-- where word i of a program at p stands
+abbrev pub place : ℕ → ℕ → ℕ
+place p zero = p
+place p (suc i) = p + 4 * suc i
 
--- the same, where the decoder computes the row and the fields
-pub at_word : {bytes : ByteMap} {a pc : ℕ} {words : List ℕ} {row : Row} {f : Fields}
-    → HoldsWords bytes a words → a % 4 ≡ 0 → (i : ℕ) → i < length words → a + 4 * i ≡ pc → decode (slice_index words i) ≡ Some (record { row = row; fields = f }) → Fetches bytes pc row f
-at_word holds aligned i within there is = instruction holds aligned i within there (decodes _ _ _ is)
+place-is : (p i : ℕ) → p + 4 * i ≡ place p i
+place-is p zero = omega arith
+place-is p (suc i) = refl
+
+-- word i of a program is fetched at its place, where the decoder computes the row and the fields
+pub at_word : {bytes : ByteMap} {p : ℕ} {words : List ℕ} {row : Row} {f : Fields}
+    → HoldsWords bytes p words → p % 4 ≡ 0 → (i : ℕ) → nat_lt i (length words) ≡ true
+    → decode (slice_index words i) ≡ Some (record { row = row; fields = f }) → Fetches bytes (place p i) row f
+at_word {bytes = bytes} {p = p} {words = words} holds aligned i within is =
+    let P : ℕ → Type 0 = λ b. little_endian bytes b 4 ≡ Some (slice_index words i) in
+    let there = subst P (place-is p i) (holds.each i (ltb-true i _ within)) in
+    fetches (omega (arith, place-is p i)) there (decodes _ _ _ is)
+
+-- it writes z, which is x modulo 2 ^ 32, to a register that is not x0, and another word is behind it
+pub writes : {bytes : ByteMap} {p : ℕ} {words : List ℕ} {row : Row} {f : Fields} {registers : List ℕ} {last : Option ℕ} {writable : ℕ → Bool}
+    → HoldsWords bytes p words → p % 4 ≡ 0 → p + 4 * length words ≤ 2 ^ 32 → (i r x : ℕ) (z : ℤ)
+    → nat_lt (suc i) (length words) ≡ true → decode (slice_index words i) ≡ Some (record { row = row; fields = f })
+    → execute row f (at registers (place p i) None bytes writable)
+    ≡ Some (result_outcome (suc r) z (at registers (place p i) None bytes writable)) → word z ≡ x
+    → Step (at registers (place p i) last bytes writable)
+    (at (slice_set registers r x) (place p (suc i)) (Some (suc r)) bytes writable) (Ok tt)
+writes {p = p} {words = words} holds aligned fits i r x z within is executes value =
+    let behind = ltb-true (suc i) (length words) within in
+    Programs.step-writes (p + 4 * suc i) r x z (at_word holds aligned i (lt-ltb i _ (omega arith)) is) executes value
+    (omega (arith, place-is p i))
 
 -- a chain of n steps that are all Ok, to be written a line for each
 pub record Chain (n : ℕ) (s t : State) : Type 0 where
@@ -101,6 +122,10 @@ read_after old new a n b m from count others apart low high =
 pub holds_after : (old new : ByteMap) (a n p m : ℕ) (words : List ℕ) → ((c : ℕ) → Outside a n c → new c ≡ old c) → AreApart a n p m → 4 * length words ≤ m → HoldsWords old p words → HoldsWords new p words
 holds_after old new a n p m words others apart fits holds = record { each = λ i h. read_after old new a n p m (p + 4 * i) 4 others apart (omega arith) (omega arith) ∙ holds.each i h }
 
+-- what holds of each of m places holds of each of n of them
+pub part : (P : ℕ → Type 0) (a m k n : ℕ) → ((i : ℕ) → i < m → P (a + i)) → k + n ≤ m → (i : ℕ) → i < n → P (a + k + i)
+part P a m k n all fits i less = let there : a + (k + i) ≡ a + k + i = omega arith in subst P there (all (k + i) (omega arith))
+
 -- ---- premises over memories that are known, by computation
 
 abbrev pub is_value : Option ℕ → ℕ → Bool
@@ -113,22 +138,11 @@ value_is (Some x) w test = ap Some (eqb-true x w test)
 
 -- whether the words stand from a on
 abbrev pub holds_test : ByteMap → ℕ → List ℕ → Bool
-holds_test bytes a [] = true
-holds_test bytes a (w ∷ words) = is_value (little_endian bytes a 4) w && holds_test bytes (a + 4) words
-
--- what holds of the first place holds of all, where it holds of each later one
-pub at_each : (P : ℕ → Type 0) (n : ℕ) → P 0 → ((i : ℕ) → i < n → P (suc i)) → (i : ℕ) → i < suc n → P i
-at_each P n first rest zero less = first
-at_each P n first rest (suc i) less = rest i (omega (arith, less))
+holds_test bytes a words =
+    agree_below (λ i. is_value (little_endian bytes (a + 4 * i) 4) (slice_index words i)) (λ i. true) (length words)
 
 pub holds_by_test : (bytes : ByteMap) (a : ℕ) (words : List ℕ) → holds_test bytes a words ≡ true → HoldsWords bytes a words
-holds_by_test bytes a [] test = record { each = λ i less. absurd (omega (arith, less)) }
-holds_by_test bytes a (w ∷ words) test =
-    let both = and_parts (is_value (little_endian bytes a 4) w) (holds_test bytes (a + 4) words) test in
-    let rest = holds_by_test bytes (a + 4) words both.1 in
-    let Stands : ℕ → Type 0 = λ i. little_endian bytes (a + 4 * i) 4 ≡ Some (slice_index (w ∷ words) i) in
-    let here : a + 4 * 0 ≡ a = omega arith in
-    record {
-      each = at_each Stands (length words) (rw here (value_is (little_endian bytes a 4) w both.0)) (λ i less.
-          let there : a + 4 * suc i ≡ a + 4 + 4 * i = omega arith in rw there (rest.each i less));
-    }
+holds_by_test bytes a words test = record {
+  each = λ i less. value_is (little_endian bytes (a + 4 * i) 4) (slice_index words i)
+      (agree_below_at (λ i. is_value (little_endian bytes (a + 4 * i) 4) (slice_index words i)) (λ i. true) (length words) i test less);
+}

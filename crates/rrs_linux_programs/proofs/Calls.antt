@@ -1,18 +1,23 @@
 -- What the calls of these programs do to an environment, and to its streams.
-use Rattle.std.proofs.Common.{◌≡◌, ℕ, ◌+◌, ◌-◌, ◌%◌, ◌^◌, ◌≤◌, min, List, ◌++◌, length, take, Option, Some, None, IsTrue, Bool, true, false, inl, inr, sym, ap, subst, ◌∙◌, arith, ext_get_or, Vec, vec_capacity}
+use Rattle.std.proofs.Common.{◌≡◌, ℕ, ◌+◌, ◌-◌, ◌%◌, ◌^◌, ◌≤◌, min, List, ◌++◌, length, take, pos, Option, Some, None, IsTrue, Bool, true, false, inl, inr, sym, ap, subst, ◌∙◌, arith, ext_get_or, Vec, vec_capacity}
 use Rattle.std.specs.declared.alloc.Global.{Global}
 use Rattle.std.proofs.lemmas.Option.{none-some, same_Some}
 use Rattle.std.proofs.lemmas.List.{length-take-le}
 use Rattle.std.specs.Io.KnownBytes.{Appends}
 use Rattle.rrs_lib.specs.Bytes.{ByteMap}
 use Rattle.rrs_lib.specs.AccessLists.{Access}
-use Rattle.rrs_lib.specs.Machine.{State, reg}
+use Rattle.rrs_lib.specs.Words.{word}
+use Rattle.rrs_lib.specs.Machine.{State, reg, with_pc}
+use Rattle.rrs_served.specs.declared.Ending.{Ending}
+use Rattle.rrs_served.specs.declared.Ending.TheVariants.{Exit as Exits}
+use Rattle.rrs_served.specs.Serving.{Relation, Served}
+use Rattle.rrs_served.proofs.Following.{Follows, Ended, WentOn}
 use Rattle.rrs_extra.specs.Programs.{IsWritable}
 use Rattle.rrs_linux.specs.declared.Process.{Process}
 use Rattle.rrs_linux.specs.declared.requests.Request.{Request}
 use Rattle.rrs_linux.specs.declared.requests.Request.TheVariants.{Exit, Read, WriteOutput}
-use Rattle.rrs_linux.specs.Requests.{AsksBy, ToExit, ToRead, ToWriteOutput, ToWriteErrors, ToSetBreak, ToClose, OfNoFile, OfNoCall}
-use Rattle.rrs_linux.specs.SystemCalls.{answered, Does, ServesBy, WritesOutput}
+use Rattle.rrs_linux.specs.Requests.{Asks, AsksBy, ToExit, ToRead, ToWriteOutput, ToWriteErrors, ToSetBreak, ToClose, OfNoFile, OfNoCall}
+use Rattle.rrs_linux.specs.SystemCalls.{Does, ServesBy, WritesOutput}
 use Rattle.rrs_linux.specs.Transfers
 use Rattle.rrs_linux.specs.Transfers.{Gives, Takes, Stands, WriteEnds, most_bytes}
 use Rattle.rrs_linux.specs.Recording.{TakingEnds, TakesOutput, GivingEnds}
@@ -21,26 +26,22 @@ use Rattle.rrs_linux.proofs.Written.{Stands-take}
 
 -- ---- what is asked for
 
--- what the calls of these programs ask for
-record Asked (call a0 a1 a2 : ℕ) (request : Request) : Type 0 where
-  exit : call ≡ 93 → request ≡ Exit (a0 % 256)
-  read : call ≡ 63 → a0 ≡ 0 → request ≡ Read a1 a2
-  write : call ≡ 64 → a0 ≡ 1 → request ≡ WriteOutput a1 a2
+-- what the calls of these programs ask for: an exit, a read of the input, and a write to the output
+abbrev Asked : (call a0 a1 a2 : ℕ) → Request → Type 0
+Asked call a0 a1 a2 request =
+    (call ≡ 93 → request ≡ Exit (a0 % 256)) × (call ≡ 63 → a0 ≡ 0 → request ≡ Read a1 a2)
+    × (call ≡ 64 → a0 ≡ 1 → request ≡ WriteOutput a1 a2)
 
 -- none of them is asked for
 none_of : {call a0 a1 a2 : ℕ} {request : Request} → (call ≡ 93 → ⊥) → (call ≡ 63 → a0 ≡ 0 → ⊥)
     → (call ≡ 64 → a0 ≡ 1 → ⊥) → Asked call a0 a1 a2 request
-none_of no_exit no_read no_write =
-    record { exit = λ e. absurd (no_exit e); read = λ e f. absurd (no_read e f); write = λ e f. absurd (no_write e f) }
+none_of no_exit no_read no_write = (λ e. absurd (no_exit e), λ e f. absurd (no_read e f), λ e f. absurd (no_write e f))
 
 asked : {call a0 a1 a2 : ℕ} {request : Request} → AsksBy call a0 a1 a2 request → Asked call a0 a1 a2 request
-asked (ToExit (inl c) is) =
-    record { exit = λ e. is; read = λ e f. absurd (omega arith); write = λ e f. absurd (omega arith) }
+asked (ToExit (inl c) is) = (λ e. is, λ e f. absurd (omega arith), λ e f. absurd (omega arith))
 asked (ToExit (inr c) is) = none_of (λ e. omega arith) (λ e f. omega arith) (λ e f. omega arith)
-asked (ToRead c d is) =
-    record { exit = λ e. absurd (omega arith); read = λ e f. is; write = λ e f. absurd (omega arith) }
-asked (ToWriteOutput c d is) =
-    record { exit = λ e. absurd (omega arith); read = λ e f. absurd (omega arith); write = λ e f. is }
+asked (ToRead c d is) = (λ e. absurd (omega arith), λ e f. is, λ e f. absurd (omega arith))
+asked (ToWriteOutput c d is) = (λ e. absurd (omega arith), λ e f. absurd (omega arith), λ e f. is)
 asked (ToWriteErrors c d is) = none_of (λ e. omega arith) (λ e f. omega arith) (λ e f. omega arith)
 asked (ToSetBreak c is) = none_of (λ e. omega arith) (λ e f. omega arith) (λ e f. omega arith)
 asked (ToClose c d is) = none_of (λ e. omega arith) (λ e f. omega arith) (λ e f. omega arith)
@@ -52,72 +53,72 @@ asked (OfNoFile (inr (inr write)) is) =
     let c = write.0 in none_of (λ e. omega (arith, c)) (λ e f. omega (arith, c)) (λ e f. write.1 f)
 asked (OfNoCall none is) = none_of (λ e. none.3 e) (λ e f. none.1 e) (λ e f. none.2 e)
 
--- ---- what is done, over any streams
+-- ---- what follows a call, over any streams
 
-module _ {R W E K : Type 0} (gives : Gives R K) (takes : Takes W) (old : Process R W E K) (s : State)
-    (new : Process R W E K) (t : State) (end : Option ℕ) (accesses : List Access) where
-  -- an exit ended the program, and changed nothing
-  pub record Exited : Type 0 where
-    pub ends : end ≡ Some (reg s 10 % 256)
-    pub same : new ≡ old
-    pub stays : t ≡ s
+module _ {R W E K : Type 0} (gives : Gives R K) (takes : Takes W) (takes_errors : Takes E) (ending : Ending)
+    (new : Process R W E K) (t : State) where
+  abbrev serves : Relation (Process R W E K)
+  serves = ServesBy gives takes takes_errors
 
-  -- a write was answered
-  pub record Wrote : Type 0 where
-    pub goes_on : end ≡ None
-    pub answer : ℕ
-    pub taken : takes s.bytes (reg s 11) (reg s 12) old.output new.output answer accesses
-    pub others : new ≡ record old { output = new.output }
-    pub after : t ≡ answered s answer
+  -- what is done is what was asked for
+  done : {e d : Process R W E K} {u m : State} {accesses : List Access} {end : Option ℕ} (request : Request)
+      (by : serves e u d m accesses end) → by.request ≡ request
+      → Does gives takes takes_errors request e u d m accesses end
+  done {e = e} {d = d} {u = u} {m = m} {accesses = accesses} {end = end} request by is =
+      subst (λ r. Does gives takes takes_errors r e u d m accesses end) is by.does
 
-  -- a read was answered
-  pub record Got : Type 0 where
-    pub goes_on : end ≡ None
-    pub bytes : ByteMap
-    pub answer : ℕ
-    pub given : gives s.writable s.bytes bytes (reg s 11)
-        (reg s 12) old.input old.held new.input new.held answer accesses
-    pub others : new ≡ record old { input = new.input; held = new.held }
-    pub after : t ≡ answered (record s { bytes = bytes }) answer
+  -- by an exit the program ended, and changed nothing
+  pub record Exited (n steps : ℕ) (e : Process R W E K) (u : State) : Type 0 where
+    pub counted : steps ≡ n + 1
+    pub ends : ending ≡ Exits (reg u 10 % 256)
+    pub same : new ≡ e
+    pub stays : t ≡ u
 
-  module _ (takes_errors : Takes E) (serves : ServesBy gives takes takes_errors old s new t accesses end) where
-    -- it is done, if it is what was asked for
-    done : (request : Request) → serves.request ≡ request
-        → Does gives takes takes_errors request old s new t accesses end
-    done request is = subst (λ r. Does gives takes takes_errors r old s new t accesses end) is serves.does
+  -- a call was answered, and the program goes on behind it
+  pub record Answered (limit n pc steps : ℕ) (e : Process R W E K) (u : State) (request : Request) : Type 0 where
+    pub after : Process R W E K
+    pub there : State
+    pub of_call : List Access
+    pub of_later : List Access
+    pub later : ℕ
+    pub does : Does gives takes takes_errors request e u after there of_call None
+    pub goes_on : Served serves ending new t (limit - (n + 1)) after (with_pc there (word (pos (pc + 4)))) later of_later
+    pub counted : steps ≡ n + 1 + later
 
-    pub exited : reg s 17 ≡ 93 → Exited
-    exited call =
-        let does = done (Exit (reg s 10 % 256)) ((asked serves.asks).exit call) in
-        record { ends = does.0; same = does.1; stays = does.2 }
+  module _ {limit n pc steps : ℕ} {e : Process R W E K} {u : State} where
+    pub exited : reg u 17 ≡ 93 → Follows serves ending new t limit n pc e u steps → Exited n steps e u
+    exited call (Ended status of_call by is made) =
+        let does = done (Exit (reg u 10 % 256)) by ((asked by.asks).0 call) in
+        record { counted = made; ends = is ∙ ap Exits (same_Some _ _ does.0); same = does.1; stays = does.2 }
+    exited call (WentOn d m of_call of_later later by behind made) =
+        absurd (none-some _ (done (Exit (reg u 10 % 256)) by ((asked by.asks).0 call)).0)
 
-    pub wrote : reg s 17 ≡ 64 → reg s 10 ≡ 1 → Wrote
-    wrote call fd =
-        let does = done (WriteOutput (reg s 11) (reg s 12)) ((asked serves.asks).write call fd) in
-        let same : does.1 ≡ new.output = ap (λ e. e.output) (sym does.4) in
-        record {
-          goes_on = does.0;
-          answer = does.2;
-          taken = subst (λ o. takes s.bytes (reg s 11) (reg s 12) old.output o does.2 accesses) same does.3;
-          others = does.4 ∙ (λ i. record old { output = same i });
-          after = does.5;
-        }
+    answers : (request : Request) → ((r : Request) → Asks u r → r ≡ request)
+        → ((d : Process R W E K) (m : State) (accesses : List Access) (status : ℕ)
+        → Does gives takes takes_errors request e u d m accesses (Some status) → ⊥)
+        → Follows serves ending new t limit n pc e u steps → Answered limit n pc steps e u request
+    answers request asks no_end (Ended status of_call by is made) =
+        absurd (no_end new t of_call status (done request by (asks by.request by.asks)))
+    answers request asks no_end (WentOn d m of_call of_later later by behind made) = record {
+      after = d;
+      there = m;
+      of_call = of_call;
+      of_later = of_later;
+      later = later;
+      does = done request by (asks by.request by.asks);
+      goes_on = behind;
+      counted = made;
+    }
 
-    pub got : reg s 17 ≡ 63 → reg s 10 ≡ 0 → Got
-    got call fd =
-        let does = done (Read (reg s 11) (reg s 12)) ((asked serves.asks).read call fd) in
-        let input : does.1 ≡ new.input = ap (λ e. e.input) (sym does.6) in
-        let held : does.2 ≡ new.held = ap (λ e. e.held) (sym does.6) in
-        let P : R → K → Type 0 =
-        λ x k. gives s.writable s.bytes does.3 (reg s 11) (reg s 12) old.input old.held x k does.4 accesses in
-        record {
-          goes_on = does.0;
-          bytes = does.3;
-          answer = does.4;
-          given = subst (λ k. P new.input k) held (subst (λ x. P x does.2) input does.5);
-          others = does.6 ∙ (λ i. record old { input = input i; held = held i });
-          after = does.7;
-        }
+    pub wrote : reg u 17 ≡ 64 → reg u 10 ≡ 1 → Follows serves ending new t limit n pc e u steps
+        → Answered limit n pc steps e u (WriteOutput (reg u 11) (reg u 12))
+    wrote call fd = answers (WriteOutput (reg u 11) (reg u 12)) (λ r asks. (asked asks).2 call fd)
+        (λ d m accesses status does. none-some status (sym does.0))
+
+    pub got : reg u 17 ≡ 63 → reg u 10 ≡ 0 → Follows serves ending new t limit n pc e u steps
+        → Answered limit n pc steps e u (Read (reg u 11) (reg u 12))
+    got call fd = answers (Read (reg u 11) (reg u 12)) (λ r asks. (asked asks).1 call fd)
+        (λ d m accesses status does. none-some status (sym does.0))
 
 -- ---- what a stream does with a text that stands
 

@@ -1,19 +1,16 @@
 -- Runs of these programs, over registers that are written out: 10 to 17 but 16, which a program with a call uses, and
 -- the others by a function of their numbers.
-use Rattle.std.proofs.Common.{◌≡◌, ℕ, suc, ◌+◌, ◌*◌, ◌%◌, ◌^◌, ◌<◌, ◌≤◌, List, ◌∷◌, length, slice_index, slice_set, ℤ, Bool, Option, Some, None, Ok, Err, refl, ap, arith}
-use Rattle.rrs_lib.specs.declared.instruction_executor.InstructionException.{InstructionException}
+use Rattle.std.proofs.Common.{◌≡◌, ℕ, ◌+◌, ◌%◌, ◌<◌, nat_lt, List, ◌∷◌, length, slice_index, Bool, true, Option, Some, None, Err, refl, ap}
 use Rattle.rrs_lib.specs.declared.instruction_executor.InstructionException.TheVariants.{EnvironmentCall}
-use Rattle.rrs_lib.specs.Words.{word}
-use Rattle.rrs_lib.specs.Encodings.{Fields}
 use Rattle.rrs_lib.specs.Table.{Row}
 use Rattle.rrs_lib.specs.Bytes.{ByteMap}
-use Rattle.rrs_lib.specs.Machine.{State, reg, execute, result_outcome}
-use Rattle.rrs_lib.specs.Steps.{Step, RunsOk, RunUntil}
-use Rattle.rrs_lib.proofs.Decoder.{decode, decodes}
+use Rattle.rrs_lib.specs.Machine.{State, reg}
+use Rattle.rrs_lib.specs.Steps.{RunUntil}
+use Rattle.rrs_lib.proofs.Decoder.{decode}
 use Rattle.rrs_lib.proofs.Programs
-use Rattle.rrs_lib.proofs.Programs.{at, listed, opened_all, Fetches}
+use Rattle.rrs_lib.proofs.Programs.{at, listed, opened_all}
 use Rattle.rrs_extra.specs.Programs.{HoldsWords}
-use Rattle.rrs_extra.proofs.Words.{instruction}
+use Rattle.rrs_extra.proofs.Words.{place, at_word, Chain}
 
 abbrev pub registers_by : (ℕ → ℕ) → (x10 x11 x12 x13 x14 x15 x17 : ℕ) → List ℕ
 registers_by r x10 x11 x12 x13 x14 x15 x17 =
@@ -26,36 +23,12 @@ pub opened : (s : State) → length s.registers ≡ 31
     s.pc s.last s.bytes s.writable
 opened s long = opened_all s long
 
--- a step, and n more
-pub next : {s u : State} (n : ℕ) (t : State) → Step s u (Ok tt) → RunsOk n u t → RunsOk (suc n) s t
-next {u = u} n t step rest = (u, step, rest)
-
--- n steps, and one that faults
-pub until : (limit n : ℕ) (s m t : State) (e : InstructionException) → n < limit → RunsOk n s m → Step m t (Err e)
-    → RunUntil limit s n (Some e) t
-until limit n s m t e less steps fault = (less, (m, steps, fault))
-
-module _ {bytes : ByteMap} {p : ℕ} {words : List ℕ} (holds : HoldsWords bytes p words) (aligned : p % 4 ≡ 0) where
-  -- word i of a program
-  pub fetch : {row : Row} {f : Fields} {pc : ℕ} (i : ℕ) → i < length words → p + 4 * i ≡ pc
-      → decode (slice_index words i) ≡ Some (record { row = row; fields = f }) → Fetches bytes pc row f
-  fetch i within there is = instruction holds aligned i within there (decodes _ _ _ is)
-
-  -- it writes a register, and another word is behind it
-  pub writes : {row : Row} {f : Fields} {registers : List ℕ} {last : Option ℕ} {writable : ℕ → Bool}
-      → p + 4 * length words ≤ 2 ^ 32 → (i r x : ℕ) (z : ℤ) → suc i < length words
-      → decode (slice_index words i) ≡ Some (record { row = row; fields = f })
-      → execute row f (at registers (p + 4 * i) None bytes writable)
-      ≡ Some (result_outcome (suc r) z (at registers (p + 4 * i) None bytes writable)) → word z ≡ x
-      → Step (at registers (p + 4 * i) last bytes writable)
-      (at (slice_set registers r x) (p + 4 * suc i) (Some (suc r)) bytes writable) (Ok tt)
-  writes fits i r x z within is executes value =
-      Programs.step-writes (p + 4 * suc i) r x z (fetch i (omega arith) refl is) executes value (omega arith)
-
-  -- it is an ecall
-  pub calls : {registers : List ℕ} {last : Option ℕ} {writable : ℕ → Bool} (i : ℕ) → i < length words
-      → slice_index words i ≡ 0x73 → Step (at registers (p + 4 * i) last bytes writable)
-      (at registers (p + 4 * i) None bytes writable) (Err (EnvironmentCall (p + 4 * i)))
-  calls {registers = registers} {writable = writable} i within is =
-      Programs.step-executed _ (at registers (p + 4 * i) None bytes writable) _ Row.Ecall _
-      (Err (EnvironmentCall (p + 4 * i))) _ (fetch i within refl (ap decode is)) refl refl refl
+-- n steps, and then word i, which is an ecall
+pub to_call : {bytes : ByteMap} {p : ℕ} {words registers : List ℕ} {s : State} {last : Option ℕ} {writable : ℕ → Bool}
+    → HoldsWords bytes p words → p % 4 ≡ 0 → (limit n i : ℕ) → n < limit → nat_lt i (length words) ≡ true
+    → slice_index words i ≡ 0x73 → Chain n s (at registers (place p i) last bytes writable)
+    → RunUntil limit s n (Some (EnvironmentCall (place p i))) (at registers (place p i) None bytes writable)
+to_call {bytes = bytes} {p = p} {registers = registers} {writable = writable} holds aligned limit n i less within is chain =
+    Programs.RunUntil-fault limit n _ _ _ (EnvironmentCall (place p i)) less chain.runs
+    (Programs.step-executed _ (at registers (place p i) None bytes writable) _ Row.Ecall _
+    (Err (EnvironmentCall (place p i))) _ (at_word holds aligned i within (ap decode is)) refl refl refl)

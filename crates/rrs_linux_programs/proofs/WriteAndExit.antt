@@ -1,26 +1,25 @@
 -- The program that writes a text and ends, as a served run over any streams, by what its output does with the text.
 use Rattle.std.proofs.Common.{◌≡◌, ℕ, ◌+◌, ◌-◌, ◌%◌, ◌^◌, ◌<◌, ◌≤◌, List, length, Bool, pos, Option, Some, None, IsSome, refl, sym, ap, subst, ◌∙◌, arith}
-use Rattle.std.proofs.lemmas.Option.{none-some, same_Some}
+use Rattle.std.proofs.lemmas.Option.{none-some}
 use Rattle.rrs_lib.specs.declared.instruction_executor.InstructionException.TheVariants.{EnvironmentCall}
 use Rattle.rrs_lib.specs.Words.{word}
 use Rattle.rrs_lib.specs.Bytes.{ByteMap, EndsAtLastAddress}
 use Rattle.rrs_lib.specs.AccessLists.{Access}
 use Rattle.rrs_lib.specs.Machine.{State, reg, with_pc}
 use Rattle.rrs_lib.specs.Steps.{RunUntil}
-use Rattle.rrs_lib.proofs.Programs
 use Rattle.rrs_lib.proofs.Programs.{at}
 use Rattle.rrs_served.specs.declared.Ending.{Ending}
 use Rattle.rrs_served.specs.declared.Ending.TheVariants.{Exit}
 use Rattle.rrs_served.specs.Serving.{Relation, Served}
-use Rattle.rrs_served.proofs.Following.{Follows, Ended, WentOn, follows}
+use Rattle.rrs_served.proofs.Following.{follows}
 use Rattle.rrs_linux.specs.declared.Process.{Process}
 use Rattle.rrs_linux.specs.SystemCalls.{ServesBy}
 use Rattle.rrs_linux.specs.Transfers.{Gives, Takes, Stands}
 use Rattle.rrs_extra.specs.Programs.{IsMapped}
-use Rattle.rrs_extra.proofs.Words.{words-end, mapped-ends}
+use Rattle.rrs_extra.proofs.Words.{words-end, mapped-ends, writes, ◌▸◌, done}
 use Rattle.rrs_linux_programs.specs.WritingAndExiting.{write_and_exit_program, WriteAndExitStarts}
 use Rattle.rrs_linux_programs.proofs.Calls.{exited, wrote}
-use Rattle.rrs_linux_programs.proofs.Runs.{registers_by, opened, next, until, fetch, writes, calls}
+use Rattle.rrs_linux_programs.proofs.Runs.{registers_by, opened, to_call}
 
 some_is : (o : Option ℕ) (x : ℕ) → o ≡ Some x → IsSome o
 some_is None x is = absurd (none-some x is)
@@ -70,61 +69,50 @@ module _ {R W E K : Type 0} (gives : Gives R K) (takes : Takes W) (takes_errors 
 
     to_write : RunUntil limit start 7 (Some (EnvironmentCall (p + 28))) at_write
     to_write =
-        let holds = starts.program_there in
+        let there = starts.program_there in
         let aligned = starts.aligned in
-        until limit 7 _ _ _ _ (omega arith) (next 6 _ (Programs.step-writes (p + 4) 12 a (pos (a + 0))
-        (fetch holds aligned 0 (omega arith) (omega arith) refl) refl (omega arith) (omega arith))
-        (next 5 _ (writes holds aligned fits 1 13 n (pos (n + 0)) (omega arith) refl refl (omega arith))
-        (next 4 _ (writes holds aligned fits 2 14 status (pos (status + 0)) (omega arith) refl refl (omega arith))
-        (next 3 _ (writes holds aligned fits 3 9 1 (pos 1) (omega arith) refl refl refl)
-        (next 2 _ (writes holds aligned fits 4 10 a (pos (a + 0)) (omega arith) refl refl (omega arith))
-        (next 1 _ (writes holds aligned fits 5 11 n (pos (n + 0)) (omega arith) refl refl (omega arith))
-        (next 0 _ (writes holds aligned fits 6 16 64 (pos 64) (omega arith) refl refl refl) refl)))))))
-        (calls holds aligned 7 (omega arith) refl)
+        to_call there aligned limit 7 7 (omega arith) refl refl (
+        writes there aligned fits 0 12 a (pos (a + 0)) refl refl refl (omega arith)
+        ▸ writes there aligned fits 1 13 n (pos (n + 0)) refl refl refl (omega arith)
+        ▸ writes there aligned fits 2 14 status (pos (status + 0)) refl refl refl (omega arith)
+        ▸ writes there aligned fits 3 9 1 (pos 1) refl refl refl refl
+        ▸ writes there aligned fits 4 10 a (pos (a + 0)) refl refl refl (omega arith)
+        ▸ writes there aligned fits 5 11 n (pos (n + 0)) refl refl refl (omega arith)
+        ▸ writes there aligned fits 6 16 64 (pos 64) refl refl refl refl ▸ done)
 
     to_exit : (x10 : ℕ) → RunUntil (limit - 8) (behind x10) 4 (Some (EnvironmentCall (p + 48))) at_exit
     to_exit x10 =
-        let holds = starts.program_there in
+        let there = starts.program_there in
         let aligned = starts.aligned in
-        until (limit - 8) 4 _ _ _ _ (omega arith)
-        (next 3 _ (writes holds aligned fits 8 10 0 (pos 0) (omega arith) refl refl refl)
-        (next 2 _ (writes holds aligned fits 9 9 status (pos (status + 0)) (omega arith) refl refl (omega arith))
-        (next 1 _ (writes holds aligned fits 10 11 0 (pos 0) (omega arith) refl refl refl)
-        (next 0 _ (writes holds aligned fits 11 16 93 (pos 93) (omega arith) refl refl refl) refl))))
-        (calls holds aligned 12 (omega arith) refl)
+        to_call there aligned (limit - 8) 4 12 (omega arith) refl refl (
+        writes there aligned fits 8 10 0 (pos 0) refl refl refl refl
+        ▸ writes there aligned fits 9 9 status (pos (status + 0)) refl refl refl (omega arith)
+        ▸ writes there aligned fits 10 11 0 (pos 0) refl refl refl refl
+        ▸ writes there aligned fits 11 16 93 (pos 93) refl refl refl refl ▸ done)
 
-    -- what follows the exit
-    after_exit : (e : Process R W E K) (steps later : ℕ) → Left e.output × (e ≡ record old { output = e.output })
-        → steps ≡ 8 + later → Follows serves ending new t (limit - 8) 4 (p + 48) e at_exit later
+    -- the write, and then the exit
+    from_start : (steps : ℕ) (accesses : List Access) → Served serves ending new t limit old start steps accesses
         → WritesAndExits new start t steps ending
-    after_exit e steps later left sum (Ended exit_status of_call served is made) =
-        let exit = exited gives takes e at_exit new t (Some exit_status) of_call takes_errors served refl in
+    from_start steps accesses served =
+        let write = wrote gives takes takes_errors ending new t refl refl
+        (follows serves ending new t limit 7 (p + 28) old start at_write steps accesses to_write served) in
+        let x10 = word (pos write.does.2) in
+        let pc : word (pos (p + 28 + 4)) ≡ p + 32 = omega arith in
+        let here : with_pc write.there (word (pos (p + 28 + 4))) ≡ behind x10 =
+        ap (λ y. with_pc y (word (pos (p + 28 + 4)))) write.does.5 ∙ (λ i. with_pc (behind x10) (pc i)) in
+        let rest = subst (λ y. Served serves ending new t (limit - 8) write.after y write.later write.of_later) here
+        write.goes_on in
+        let exit = exited gives takes takes_errors ending new t refl (follows serves ending new t (limit - 8) 4 (p + 48)
+        write.after (behind x10) at_exit write.later write.of_later (to_exit x10) rest) in
+        let left = leaves bytes a n write.does.2 write.does.1 write.of_call starts.length_given starts.text_there within
+        write.does.3 in
         record {
-          counted = omega arith;
-          ends = is ∙ ap Exit (same_Some _ _ exit.ends);
-          left = subst (λ x. Left x.output × (x ≡ record old { output = x.output })) (sym exit.same) left;
+          counted = omega (arith, write.counted, exit.counted);
+          ends = exit.ends;
+          left = subst (λ x. Left x.output × (x ≡ record old { output = x.output })) (sym (exit.same ∙ write.does.4))
+              (left, refl);
           bytes_kept = ap (λ y. y.bytes) exit.stays;
         }
-    after_exit e steps later left sum (WentOn d m of_call of_later rest served chain made) =
-        absurd (none-some _ (exited gives takes e at_exit d m None of_call takes_errors served refl).ends)
-
-    -- what follows the write
-    after_write : (steps : ℕ) → Follows serves ending new t limit 7 (p + 28) old at_write steps
-        → WritesAndExits new start t steps ending
-    after_write steps (Ended x of_call served is made) =
-        absurd (none-some x (sym (wrote gives takes old at_write new t
-        (Some x) of_call takes_errors served refl refl).goes_on))
-    after_write steps (WentOn d m of_call of_later later served chain made) =
-        let write = wrote gives takes old at_write d m None of_call takes_errors served refl refl in
-        let x10 = word (pos write.answer) in
-        let pc : word (pos (p + 28 + 4)) ≡ p + 32 = omega arith in
-        let here : with_pc m (word (pos (p + 28 + 4))) ≡ behind x10 =
-        ap (λ y. with_pc y (word (pos (p + 28 + 4)))) write.after ∙ (λ i. with_pc (behind x10) (pc i)) in
-        let rest = subst (λ y. Served serves ending new t (limit - 8) d y later of_later) here chain in
-        let left = leaves bytes a n write.answer d.output of_call starts.length_given starts.text_there within
-        write.taken in
-        after_exit d steps later (left, write.others) made
-        (follows serves ending new t (limit - 8) 4 (p + 48) d _ _ later of_later (to_exit x10) rest)
 
   pub writes_and_exits : Leaves
       → (new : Process R W E K) (t : State) (ending : Ending) (limit : ℕ) (s : State) (steps : ℕ)
@@ -138,10 +126,7 @@ module _ {R W E K : Type 0} (gives : Gives R K) (takes : Takes W) (takes_errors 
       let fits = words-end s.bytes s.writable s.pc write_and_exit_program ends starts.program_there (omega arith) in
       let mapped = text_mapped s.bytes (reg s 10) text starts.text_there in
       let within = mapped-ends s.bytes s.writable (reg s 10) (length text) ends mapped (omega (arith, a_small)) in
-      let run = to_write leaves new t ending limit enough (reg s) s.bytes s.writable s.pc (reg s 10) (reg s 11)
-      (reg s 12) (reg s 13) (reg s 14) (reg s 15) (reg s 17) s.last there a_small n_small status_small fits within in
-      let chain = subst (λ x. Served serves ending new t limit old x steps accesses) same served in
-      let follow = follows serves ending new t limit 7 (s.pc + 28) old _ _ steps accesses run chain in
       subst (λ x. WritesAndExits new x t steps ending) (sym same)
-      (after_write leaves new t ending limit enough (reg s) s.bytes s.writable s.pc (reg s 10) (reg s 11) (reg s 12)
-      (reg s 13) (reg s 14) (reg s 15) (reg s 17) s.last there a_small n_small status_small fits within steps follow)
+      (from_start leaves new t ending limit enough (reg s) s.bytes s.writable s.pc (reg s 10) (reg s 11) (reg s 12)
+      (reg s 13) (reg s 14) (reg s 15) (reg s 17) s.last there a_small n_small status_small fits within steps accesses
+      (subst (λ x. Served serves ending new t limit old x steps accesses) same served))
