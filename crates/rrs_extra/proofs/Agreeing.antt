@@ -28,15 +28,6 @@ Step-agree s s' t a agree step =
 pub Run-agree : (s s' t : State) (a : StepAnswer) (answers : List StepAnswer) → Agree s s' → Run s' (a ∷ answers) t → Run s (a ∷ answers) t
 Run-agree s s' t a answers agree run = (run.0, Step-agree s s' run.0 a agree run.1, run.2)
 
--- equal states agree
-Agree-same : (s t : State) → s ≡ t → Agree s t
-Agree-same s t same = record {
-  registers = ap (λ (x : State). x.registers) same;
-  pc = ap (λ (x : State). x.pc) same;
-  bytes = ap (λ (x : State). x.bytes) same;
-  writable = ap (λ (x : State). x.writable) same;
-}
-
 -- what two runs leave: states that agree, and after at least one step equal ones
 pub record EndAlike (n : ℕ) (t t' : State) : Type 0 where
   pub agree : Agree t t'
@@ -44,19 +35,26 @@ pub record EndAlike (n : ℕ) (t t' : State) : Type 0 where
 
 -- by equal states
 alike_from_same : (n : ℕ) (t t' : State) → t ≡ t' → EndAlike n t t'
-alike_from_same n t t' same = record { agree = Agree-same t t' same; same = λ some. same }
+alike_from_same n t t' same = record {
+  agree = record {
+    registers = ap (λ (x : State). x.registers) same;
+    pc = ap (λ (x : State). x.pc) same;
+    bytes = ap (λ (x : State). x.bytes) same;
+    writable = ap (λ (x : State). x.writable) same;
+  };
+  same = λ some. same;
+}
 
 -- by the states before, where nothing was done
-alike_from_none : (n : ℕ) (s s' t t' : State) → n ≡ 0 → Agree s s' → t ≡ s → t' ≡ s' → EndAlike n t t'
-alike_from_none n s s' t t' none agree first second =
-    record {
-      agree = subst (λ (x : State). Agree t x) (sym second) (subst (λ (x : State). Agree x s') (sym first) agree);
-      same = λ some. absurd (omega (arith, some, none));
-    }
+alike_from_none : (s s' t t' : State) → Agree s s' → t ≡ s → t' ≡ s' → EndAlike 0 t t'
+alike_from_none s s' t t' agree first second = record {
+  agree = subst (λ (x : State). Agree t x) (sym second) (subst (λ (x : State). Agree x s') (sym first) agree);
+  same = λ some. absurd (omega arith);
+}
 
 -- runs of one length from states that agree have the same answers
 pub Runs-agree : (s s' t t' : State) (answers answers' : List StepAnswer) → length answers' ≡ length answers → Agree s s' → Run s answers t → IsOnlyRun s answers t → Run s' answers' t' → (answers ≡ answers') × EndAlike (length answers) t t'
-Runs-agree s s' t t' [] [] e agree run only run' = (refl, alike_from_none 0 s s' t t' refl agree run run')
+Runs-agree s s' t t' [] [] e agree run only run' = (refl, alike_from_none s s' t t' agree run run')
 Runs-agree s s' t t' (a ∷ answers) [] e agree run only run' = absurd (omega (arith, e))
 Runs-agree s s' t t' answers (a' ∷ answers') e agree run only run' =
     let same = only (a' ∷ answers') t' e (Run-agree s s' t' a' answers' agree run') in
@@ -85,7 +83,7 @@ pub RunsUntil-agree : (limit : ℕ) (s s' t t' : State) (steps steps' : ℕ) (e 
 RunsUntil-agree zero s s' t t' steps steps' e e' agree run only run' =
     let first = RunUntil-none s steps e t run in
     let second = RunUntil-none s' steps' e' t' run' in
-    (first.0 ∙ sym second.0, first.1 ∙ sym second.1, alike_from_none 0 s s' t t' refl agree first.2 second.2)
+    (first.0 ∙ sym second.0, first.1 ∙ sym second.1, alike_from_none s s' t t' agree first.2 second.2)
 RunsUntil-agree (suc limit) s s' t t' steps steps' e e' agree run only run' =
     let same = only steps' e' t' (RunUntil-agree (suc limit) s s' steps' e' t' (omega arith) agree run') in
     (sym same.0, sym same.1, alike_from_same (suc limit) t t' (sym same.2))
