@@ -83,37 +83,38 @@ mag-imm (negsuc n) low high = omega (arith, ints)
 
 -- ---- texts with one name: they are equal exactly if what they show is
 
+-- two registers and something behind them
+two_registers_and : (name : List ℕ) (a b a' b' : ℕ) (c c' : List ℕ) → a < 2 ^ 5 → b < 2 ^ 5 → a' < 2 ^ 5 → b' < 2 ^ 5
+    → name ++ (32 ∷ register a ++ (44 ∷ 32 ∷ register b ++ (44 ∷ 32 ∷ c)))
+    ≡ name ++ (32 ∷ register a' ++ (44 ∷ 32 ∷ register b' ++ (44 ∷ 32 ∷ c'))) → (a ≡ a') × (b ≡ b') × (c ≡ c')
+two_registers_and name a b a' b' c c' p q p' q' e =
+    let same = three_operands name (register a) (register b) c (register a') (register b') c' (register_piece a p)
+    (register_piece a' p') (register_piece b q) (register_piece b' q') e in
+    (same_register a a' p p' same.0, same_register b b' q q' same.1, same.2)
+
 -- three registers
 pub three-alike : (row : Row) (f g : RType) → IsInRange (R f) → IsInRange (R g)
     → Some (three_registers row f) ≡ Some (three_registers row g) → shown (R f) ≡ shown (R g)
 three-alike row f g p q e =
-    let same = three_operands (table row).name (register f.rd) (register f.rs1) (register f.rs2) (register g.rd) (register g.rs1) (register g.rs2)
-    (register_piece f.rd p.0) (register_piece g.rd q.0) (register_piece f.rs1 p.2) (register_piece g.rs1 q.2) (simp append_assoc at (same_Some _ _ e)) in
-    cc (same_register f.rd g.rd p.0 q.0 same.0, same_register f.rs1 g.rs1 p.2 q.2 same.1, same_register f.rs2 g.rs2 p.3 q.3 same.2)
+    let same = two_registers_and (table row).name f.rd f.rs1 g.rd g.rs1 (register f.rs2) (register g.rs2) p.0 p.2 q.0 q.2
+    (simp append_assoc at (same_Some _ _ e)) in
+    cc (same.0, same.1, same_register f.rs2 g.rs2 p.3 q.3 same.2)
 
 -- two registers and an immediate
 pub two-alike : (row : Row) (f g : IType) → IsInRange (I f) → IsInRange (I g)
     → Some (two_registers row f) ≡ Some (two_registers row g) → shown (I f) ≡ shown (I g)
 two-alike row f g p q e =
-    let same = three_operands (table row).name (register f.rd) (register f.rs1) (signed_decimal f.imm) (register g.rd) (register g.rs1) (signed_decimal g.imm)
-    (register_piece f.rd p.0) (register_piece g.rd q.0) (register_piece f.rs1 p.2) (register_piece g.rs1 q.2) (simp append_assoc at (same_Some _ _ e)) in
-    cc (
-      same_register f.rd g.rd p.0 q.0 same.0,
-      same_register f.rs1 g.rs1 p.2 q.2 same.1,
-      signed_decimal_injective f.imm g.imm (mag-imm f.imm p.3 p.4) (mag-imm g.imm q.3 q.4) same.2,
-    )
+    let same = two_registers_and (table row).name f.rd f.rs1 g.rd g.rs1 (signed_decimal f.imm) (signed_decimal g.imm)
+    p.0 p.2 q.0 q.2 (simp append_assoc at (same_Some _ _ e)) in
+    cc (same.0, same.1, signed_decimal_injective f.imm g.imm (mag-imm f.imm p.3 p.4) (mag-imm g.imm q.3 q.4) same.2)
 
 -- two registers and a shift amount
 pub shift-alike : (row : Row) (f g : ITypeShamt) → IsInRange (IShamt f) → IsInRange (IShamt g)
     → Some (shifted_register row f) ≡ Some (shifted_register row g) → shown (IShamt f) ≡ shown (IShamt g)
 shift-alike row f g p q e =
-    let same = three_operands (table row).name (register f.rd) (register f.rs1) (decimal f.shamt) (register g.rd) (register g.rs1) (decimal g.shamt)
-    (register_piece f.rd p.0) (register_piece g.rd q.0) (register_piece f.rs1 p.2) (register_piece g.rs1 q.2) (simp append_assoc at (same_Some _ _ e)) in
-    cc (
-      same_register f.rd g.rd p.0 q.0 same.0,
-      same_register f.rs1 g.rs1 p.2 q.2 same.1,
-      decimal_injective f.shamt g.shamt (omega (arith, p.3)) (omega (arith, q.3)) same.2,
-    )
+    let same = two_registers_and (table row).name f.rd f.rs1 g.rd g.rs1 (decimal f.shamt) (decimal g.shamt)
+    p.0 p.2 q.0 q.2 (simp append_assoc at (same_Some _ _ e)) in
+    cc (same.0, same.1, decimal_injective f.shamt g.shamt (omega (arith, p.3)) (omega (arith, q.3)) same.2)
 
 -- a word is read back from its hexadecimal digits behind 0x
 same_prefixed : (n : ℕ) (y z : ℤ) → codes "0x" ++ hexadecimal n (word y) ≡ codes "0x" ++ hexadecimal n (word z) → word y ≡ word z
@@ -156,14 +157,10 @@ pub branch-alike : (row : Row) (pc : ℕ) (f g : BType) → IsInRange (B f) → 
 branch-alike row pc f g p q e =
     let y : ℤ = add pc (word f.imm) in
     let z : ℤ = add pc (word g.imm) in
-    let same = three_operands (table row).name (register f.rs1) (register f.rs2) (codes "0x" ++ hexadecimal 8 (word y)) (register g.rs1) (register g.rs2) (codes "0x" ++ hexadecimal 8 (word z))
-    (register_piece f.rs1 p.1) (register_piece g.rs1 q.1) (register_piece f.rs2 p.2) (register_piece g.rs2 q.2) (simp append_assoc at (same_Some _ _ e)) in
+    let same = two_registers_and (table row).name f.rs1 f.rs2 g.rs1 g.rs2 (codes "0x" ++ hexadecimal 8 (word y))
+    (codes "0x" ++ hexadecimal 8 (word z)) p.1 p.2 q.1 q.2 (simp append_assoc at (same_Some _ _ e)) in
     let offset = same_offset pc f.imm g.imm (same_prefixed 8 y z same.2) in
-    cc (
-      same_register f.rs1 g.rs1 p.1 q.1 same.0,
-      same_register f.rs2 g.rs2 p.2 q.2 same.1,
-      same_immediate f.imm g.imm (omega (arith, ints)) (omega (arith, ints)) (omega (arith, ints)) (omega (arith, ints)) offset,
-    )
+    cc (same.0, same.1, same_immediate f.imm g.imm (omega (arith, ints)) (omega (arith, ints)) (omega (arith, ints)) (omega (arith, ints)) offset)
 
 -- a register and a place: loads and stores
 register_and_place-read : (row : Row) (q q' : ℕ) (y z : ℤ) (r r' : ℕ) → q < 2 ^ 5 → q' < 2 ^ 5 → mag y < 2 ^ 63 → mag z < 2 ^ 63 → r < 2 ^ 5 → r' < 2 ^ 5
@@ -193,17 +190,15 @@ jump_operands name a b c a' b' c' p p' q q' e =
     place_operands name a (codes "0x" ++ b) c a' (codes "0x" ++ b') c' p p' q q' (simp append_assoc at e)
 
 -- a register and a place in hexadecimal: jalr
-jump-read : (name : List ℕ) (q q' : ℕ) (y z : ℤ) (r r' : ℕ) → q < 2 ^ 5 → q' < 2 ^ 5 → r < 2 ^ 5 → r' < 2 ^ 5
-    → name ++ codes " " ++ register q ++ codes ", 0x" ++ hexadecimal 3 (word y) ++ codes "(" ++ register r ++ codes ")"
-    ≡ name ++ codes " " ++ register q' ++ codes ", 0x" ++ hexadecimal 3 (word z) ++ codes "(" ++ register r' ++ codes ")"
-    → (q ≡ q') × (word y ≡ word z) × (r ≡ r')
-jump-read name q q' y z r r' a a' c c' e =
-    let same = jump_operands name (register q) (hexadecimal 3 (word y)) (register r) (register q') (hexadecimal 3 (word z)) (register r')
-    (register_piece q a) (register_piece q' a') (prefixed_piece 3 y) (prefixed_piece 3 z) e in
-    (same_register q q' a a' same.0, same_prefixed 3 y z same.1, same_register r r' c c' same.2)
-
 pub jalr-alike : (row : Row) (f g : IType) → IsInRange (I f) → IsInRange (I g)
     → Some (jump_to_place row f) ≡ Some (jump_to_place row g) → shown (I f) ≡ shown (I g)
 jalr-alike row f g p q e =
-    let same = jump-read (table row).name f.rd g.rd f.imm g.imm f.rs1 g.rs1 p.0 q.0 p.2 q.2 (same_Some _ _ e) in
-    cc (same.0, same.2, same_immediate f.imm g.imm (omega (arith, ints)) (omega (arith, ints)) (omega (arith, ints)) (omega (arith, ints)) same.1)
+    let same = jump_operands (table row).name (register f.rd) (hexadecimal 3 (word f.imm)) (register f.rs1)
+    (register g.rd) (hexadecimal 3 (word g.imm)) (register g.rs1) (register_piece f.rd p.0) (register_piece g.rd q.0)
+    (prefixed_piece 3 f.imm) (prefixed_piece 3 g.imm) (same_Some _ _ e) in
+    cc (
+      same_register f.rd g.rd p.0 q.0 same.0,
+      same_register f.rs1 g.rs1 p.2 q.2 same.2,
+      same_immediate f.imm g.imm (omega (arith, ints)) (omega (arith, ints)) (omega (arith, ints)) (omega (arith, ints))
+          (same_prefixed 3 f.imm g.imm same.1),
+    )
