@@ -181,39 +181,33 @@ module _ {old new : List Page} {k : ℕ} {p q : Contents} (r : Replaced old new 
         ]
       ]
 
-  -- what is no byte of the page has the bytes that it had
-  kept_outside : (b : ℕ) → (b / 4096 ≡ k → ⊥) → paged_bytes new b ≡ paged_bytes old b
-  kept_outside b apart =
-      ap (λ o. option_map (λ word. word / 256 ^ (b % 4) % 256) (option_map (λ (x : Contents). slice_index x.words (place_of b)) o)) (r.others (b / 4096) apart)
+  -- what is said of a page stays where it stays of the one that was replaced
+  said_kept : {T : Type 0} (says : Option Contents → T) (b : ℕ) → (b / 4096 ≡ k → says (Some q) ≡ says (Some p))
+      → says (page_at new (b / 4096)) ≡ says (page_at old (b / 4096))
+  said_kept says b inside =
+      elim (cases_eq (b / 4096) k) [
+        | inl same ↦ ap says (ap (page_at new) same ∙ r.becomes) ∙ inside same ∙ sym (ap says (ap (page_at old) same ∙ r.was))
+        | inr apart ↦ ap says (r.others (b / 4096) apart)
+      ]
 
   -- bytes that were stored in one word of the page are stored in the memory
   pub written_in_page : (a n v : ℕ) → a / 4096 ≡ k → a % 4 + n ≤ 4 → bytes_of_words q.words ≡ store (bytes_of_words p.words) (a % 4096) n v → paged_bytes new ≡ store (paged_bytes old) a n v
   written_in_page a n v here within stored =
       fun_ext (λ b. elim (cases_eq (b / 4096) k) [
         | inl same ↦ written_inside a n v b here within stored same
-        | inr apart ↦ kept_outside b apart ∙ sym (store_outside (paged_bytes old) a n v b (λ le. omega arith))
+        | inr apart ↦
+            said_kept (λ o. option_map (λ word. word / 256 ^ (b % 4) % 256) (option_map (λ (x : Contents). slice_index x.words (place_of b)) o))
+            b (λ same. absurd (apart same)) ∙ sym (store_outside (paged_bytes old) a n v b (λ le. omega arith))
       ])
 
   -- what is writable stays
   pub writable_kept : paged_writable new ≡ paged_writable old
   writable_kept =
-      fun_ext (λ b. elim (cases_eq (b / 4096) k) [
-        | inl same ↦
-            let after : page_at new (b / 4096) ≡ Some q = ap (page_at new) same ∙ r.becomes in
-            let before : page_at old (b / 4096) ≡ Some p = ap (page_at old) same ∙ r.was in
-            rw (after, before) (ap (λ xs. unwrap_or (option_map not (slice_get xs (b % 4096 / 4))) false) r.marks_kept)
-        | inr apart ↦
-            ap (λ o. unwrap_or (option_map not (option_and_then (λ (x : Contents). slice_get x.read_only (place_of b)) o)) false) (r.others (b / 4096) apart)
-      ])
+      fun_ext (λ b. said_kept (λ o. unwrap_or (option_map not (option_and_then (λ (x : Contents). slice_get x.read_only (place_of b)) o)) false)
+      b (λ same. ap (λ xs. unwrap_or (option_map not (slice_get xs (place_of b))) false) r.marks_kept))
 
   -- the words stay, but one of the page
   pub words_kept : (a b : ℕ) → a / 4096 ≡ k → ((i : ℕ) → (i ≡ a % 4096 / 4 → ⊥) → slice_index q.words i ≡ slice_index p.words i) → (b / 4 ≡ a / 4 → ⊥) → word_at new b ≡ word_at old b
   words_kept a b here others apart =
-      elim (cases_eq (b / 4096) k) [
-        | inl same ↦
-            let after : page_at new (b / 4096) ≡ Some q = ap (page_at new) same ∙ r.becomes in
-            let before : page_at old (b / 4096) ≡ Some p = ap (page_at old) same ∙ r.was in
-            rw (after, before) (ap Some (others (b % 4096 / 4) (λ e. omega arith)))
-        | inr elsewhere ↦
-            ap (λ o. option_map (λ (x : Contents). slice_index x.words (place_of b)) o) (r.others (b / 4096) elsewhere)
-      ]
+      said_kept (λ o. option_map (λ (x : Contents). slice_index x.words (place_of b)) o) b
+      (λ same. ap Some (others (b % 4096 / 4) (λ e. omega arith)))
