@@ -16,10 +16,10 @@ known c i before is =
     words.1 c.requires.string.below_256 is (c.put_string.ensures.printed exactly.accesses exactly.these) exactly.made
 
 pub returns-clause-taken : goal.returns-clause-taken
-returns-clause-taken c = λ i before is. let took = known c i before is in (took.port, took.is, took.takes)
+returns-clause-taken c = known c
 
 pub returns-clause-log : goal.returns-clause-log
 returns-clause-log c = λ i before after is is' room.
     let took = known c i before is in
     let P : PrintPort → Type 0 = λ port. port.log.items ≡ before.log.items ++ c.args.text.now in
-    subst P (same_port _ i _ took.port after took.is is') (logged c.args.text.now before took.port took.takes room)
+    subst P (same_port _ i _ took.0 after took.1 is') (logged c.args.text.now before took.0 took.2 room)
