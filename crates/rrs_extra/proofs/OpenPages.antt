@@ -29,33 +29,24 @@ get_right (x ∷ xs) ys i =
 
 -- ---- the words
 
--- what two lists that are equal begin with, and go on with
-first_same : (x y : ℕ) (xs ys : List ℕ) → x ∷ xs ≡ y ∷ ys → x ≡ y
-first_same x y xs ys e = cc
-
-rest_same : (x y : ℕ) (xs ys : List ℕ) → x ∷ xs ≡ y ∷ ys → xs ≡ ys
-rest_same x y xs ys e = cc
-
-empty_not_more : (y : ℕ) (xs ys : List ℕ) → y ∷ ys ≡ [] → ⊥
-empty_not_more y xs ys e = cc
-
 -- word i of page n + d, of pages from n on without a gap, is word 1024 d + i of all
 word_of_page : (pages : List Page) (n k d i : ℕ) → All IsFull (values_of pages) → paged_layout pages ≡ range_with_len n k → i < 1024 → option_map (λ p. slice_index p.words i) (page_at pages (n + d)) ≡ slice_get (words_of pages) (1024 * d + i)
 word_of_page [] n k d i full numbers within = refl
-word_of_page (p ∷ pages) n zero d i full numbers within = absurd (empty_not_more _ [] _ numbers)
+word_of_page (p ∷ pages) n zero d i full numbers within = absurd (cc)
 word_of_page (p ∷ pages) n (suc k) zero i full numbers within =
     let is = All-head IsFull p.1 (values_of pages) full in
-    let number = first_same _ _ _ _ numbers in
+    let number : p.0 ≡ n = cc in
     let start : 1024 * 0 + i ≡ i = omega arith in
     let word_here : slice_get (words_of (p ∷ pages)) (1024 * 0 + i) ≡ Some (slice_index p.1.words i) = ap (slice_get (words_of (p ∷ pages))) start ∙ get_left p.1.words (words_of pages) i (omega (arith, is.words_long, within)) in
     ap (option_map (λ p. slice_index p.words i)) (page_first p pages (n + 0) (omega (arith, number))) ∙ sym word_here
 word_of_page (p ∷ pages) n (suc k) (suc d) i full numbers within =
     let is = All-head IsFull p.1 (values_of pages) full in
-    let number = first_same _ _ _ _ numbers in
+    let number : p.0 ≡ n = cc in
     let place : 1024 * suc d + i ≡ length p.1.words + (1024 * d + i) = omega (arith, is.words_long) in
     let next : n + suc d ≡ n + 1 + d = omega arith in
+    let rest : paged_layout pages ≡ range_with_len (n + 1) k = cc in
     ap (option_map (λ p. slice_index p.words i)) (page_later p pages (n + suc d) (λ same. omega (arith, number, same)) ∙ ap (page_at pages) next)
-    ∙ word_of_page pages (n + 1) k d i (All-tail IsFull p.1 (values_of pages) full) (rest_same _ _ _ _ numbers) within
+    ∙ word_of_page pages (n + 1) k d i (All-tail IsFull p.1 (values_of pages) full) rest within
     ∙ sym (ap (slice_get (words_of (p ∷ pages))) place ∙ get_right p.1.words (words_of pages) (1024 * d + i))
 
 -- a byte of words, by the word
