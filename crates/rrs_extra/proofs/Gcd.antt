@@ -37,42 +37,6 @@ round o x1 a m p x12 x13 x14 x15 last bytes writable holds aligned fits small =
     ▸ Programs.step-jumps p 0 (word (pos (p + 20 + 4294967276))) (at_word holds aligned 5 refl refl) refl (omega arith)
     ▸ done
 
--- ---- all rounds
-
-record Rounds (o : Others) (x1 a b p x12 x13 x14 x15 : ℕ) (last : Option ℕ) (bytes : ByteMap) (writable : ℕ → Bool) : Type 0 where
-  count : ℕ
-  at_most : count ≤ b
-  divisor : ℕ
-  small : divisor < 2 ^ 32
-  is_gcd : IsGcd a b divisor
-  value : ℕ
-  last_after : Option ℕ
-  runs : RunsOk (5 * count) (at (registers_by o x1 a b x12 x13 x14 x15) p last bytes writable) (at (registers_by o x1 divisor 0 x12 x13 x14 value) p last_after bytes writable)
-
--- the count of rounds is bounded by the divisor of the first one, since each remainder is below its divisor
-rounds : (bound b : ℕ) → b ≤ bound → (o : Others) (x1 a p x12 x13 x14 x15 : ℕ) (last : Option ℕ) (bytes : ByteMap) (writable : ℕ → Bool)
-    → HoldsWords bytes p gcd_program → p % 4 ≡ 0 → p + 24 ≤ 2 ^ 32 → a < 2 ^ 32 → b < 2 ^ 32
-    → Rounds o x1 a b p x12 x13 x14 x15 last bytes writable
-rounds bound zero within o x1 a p x12 x13 x14 x15 last bytes writable holds aligned fits small_a small_b =
-    record { count = 0; at_most = omega arith; divisor = a; small = small_a; is_gcd = IsGcd-from_zero a 0 refl; value = x15; last_after = last; runs = refl }
-rounds zero (suc m) within o x1 a p x12 x13 x14 x15 last bytes writable holds aligned fits small_a small_b = absurd (omega (arith, within))
-rounds (suc bound) (suc m) within o x1 a p x12 x13 x14 x15 last bytes writable holds aligned fits small_a small_b =
-    let less : a % suc m < suc m = omega arith in
-    let rest = rounds bound (a % suc m) (omega arith) o x1 (suc m) p x12 x13 x14 (a % suc m) None bytes writable holds aligned fits small_b (omega arith) in
-    let one = round o x1 a m p x12 x13 x14 x15 last bytes writable holds aligned fits small_b in
-    record {
-      count = suc rest.count;
-      at_most = omega (arith, rest.at_most, less);
-      divisor = rest.divisor;
-      small = rest.small;
-      is_gcd = IsGcd-from_mod a (suc m) rest.divisor rest.is_gcd;
-      value = rest.value;
-      last_after = rest.last_after;
-      runs = Programs.RunsOk-join 5 (5 * rest.count) (5 * suc rest.count) _ _ _ (omega arith) one.runs rest.runs;
-    }
-
--- ---- the run
-
 -- where there is nothing to divide by, the program returns
 leaves : (o : Others) (x1 g p x12 x13 x14 x15 : ℕ) (last : Option ℕ) (bytes : ByteMap) (writable : ℕ → Bool)
     → HoldsWords bytes p gcd_program → p % 4 ≡ 0 → p + 24 ≤ 2 ^ 32 → x1 % 4 ≡ 0 → x1 < 2 ^ 32
@@ -81,6 +45,39 @@ leaves o x1 g p x12 x13 x14 x15 last bytes writable holds aligned fits return_al
     Programs.step-stays (p + 4) false (pos 8) {registers = registers_by o x1 g 0 x12 x13 x14 x15} (at_word holds aligned 0 refl refl) refl refl (omega arith)
     ▸ Programs.step-jumps x1 0 (made_even (word (pos (x1 + 0)))) (at_word holds aligned 1 refl refl) refl (omega arith)
     ▸ done
+
+-- ---- all rounds, and the return
+
+record Rounds (o : Others) (x1 a b p x12 x13 x14 x15 : ℕ) (last : Option ℕ) (bytes : ByteMap) (writable : ℕ → Bool) : Type 0 where
+  count : ℕ
+  at_most : count ≤ b
+  divisor : ℕ
+  is_gcd : IsGcd a b divisor
+  value : ℕ
+  runs : RunsOk (5 * count + 2) (at (registers_by o x1 a b x12 x13 x14 x15) p last bytes writable) (at (registers_by o x1 divisor 0 x12 x13 x14 value) x1 None bytes writable)
+
+-- the count of rounds is bounded by the divisor of the first one, since each remainder is below its divisor
+rounds : (bound b : ℕ) → b ≤ bound → (o : Others) (x1 a p x12 x13 x14 x15 : ℕ) (last : Option ℕ) (bytes : ByteMap) (writable : ℕ → Bool)
+    → HoldsWords bytes p gcd_program → p % 4 ≡ 0 → p + 24 ≤ 2 ^ 32 → x1 % 4 ≡ 0 → x1 < 2 ^ 32 → b < 2 ^ 32
+    → Rounds o x1 a b p x12 x13 x14 x15 last bytes writable
+rounds bound zero within o x1 a p x12 x13 x14 x15 last bytes writable holds aligned fits return_aligned x1_small small =
+    let out = leaves o x1 a p x12 x13 x14 x15 last bytes writable holds aligned fits return_aligned x1_small in
+    record { count = 0; at_most = omega arith; divisor = a; is_gcd = IsGcd-from_zero a 0 refl; value = x15; runs = out.runs }
+rounds zero (suc m) within o x1 a p x12 x13 x14 x15 last bytes writable holds aligned fits return_aligned x1_small small =
+    absurd (omega (arith, within))
+rounds (suc bound) (suc m) within o x1 a p x12 x13 x14 x15 last bytes writable holds aligned fits return_aligned x1_small small =
+    let less : a % suc m < suc m = omega arith in
+    let one = round o x1 a m p x12 x13 x14 x15 last bytes writable holds aligned fits small in
+    let rest = rounds bound (a % suc m) (omega arith) o x1 (suc m) p x12 x13 x14 (a % suc m) None bytes writable holds
+    aligned fits return_aligned x1_small (omega arith) in
+    record {
+      count = suc rest.count;
+      at_most = omega (arith, rest.at_most, less);
+      divisor = rest.divisor;
+      is_gcd = IsGcd-from_mod a (suc m) rest.divisor rest.is_gcd;
+      value = rest.value;
+      runs = Programs.RunsOk-join 5 (5 * rest.count + 2) (5 * suc rest.count + 2) _ _ _ (omega arith) one.runs rest.runs;
+    }
 
 -- what a call of `run` returned
 pub record Divided (s : State) (steps : ℕ) (e : Option InstructionException) (t : State) : Type 0 where
@@ -97,11 +94,10 @@ divides : (limit steps : ℕ) (e : Option InstructionException) (t : State) (o :
     → Divides limit steps e t (at (registers_by o x1 a b x12 x13 x14 x15) p last bytes writable)
 divides limit steps e t o x1 a b x12 x13 x14 x15 p last bytes writable called words ends limit_is only =
     let fits = words-end bytes writable p gcd_program ends called.program_there (omega arith) in
-    let all = rounds b b (omega arith) o x1 a p x12 x13 x14 x15 last bytes writable called.program_there called.aligned fits words.1 words.2 in
-    let out = leaves o x1 all.divisor p x12 x13 x14 all.value all.last_after bytes writable called.program_there called.aligned fits called.return_aligned words.0 in
-    let chain = Programs.RunsOk-append (5 * all.count) 2 _ _ _ all.runs out.runs in
+    let all = rounds b b (omega arith) o x1 a p x12 x13 x14 x15 last bytes writable called.program_there called.aligned fits
+    called.return_aligned words.0 words.2 in
     let fault = Programs.step-illegal {registers = registers_by o x1 all.divisor 0 x12 x13 x14 all.value} {pc = x1} {last = None} {bytes = bytes} {writable = writable} called.return_aligned (word_read bytes x1 called.stops.mapped) called.stops.outside in
-    let same = Programs.returned only limit_is (Programs.RunUntil-fault (5 * b + 3) (5 * all.count + 2) _ _ _ _ (omega (arith, all.at_most)) chain fault) in
+    let same = Programs.returned only limit_is (Programs.RunUntil-fault (5 * b + 3) (5 * all.count + 2) _ _ _ _ (omega (arith, all.at_most)) all.runs fault) in
     record { steps_made = (all.count, all.at_most, same.0); fault = same.1; divisor = rw same.2 all.is_gcd; bytes_kept = ap (λ x. x.bytes) same.2 }
 
 pub divided : (s t : State) (limit steps : ℕ) (e : Option InstructionException) → 15 ≤ length s.registers → Divides limit steps e t s
