@@ -29,24 +29,21 @@ pub value-small : (bytes : ByteMap) (writable : ℕ → Bool) (b x : ℕ) → En
 value-small bytes writable b x ends is =
     let past : 2 ^ 32 ≤ b → ⊥ = λ from. none-some x (sym (ends b from).0 ∙ is) in omega arith
 
--- what is writable lies below
-writable-small : (bytes : ByteMap) (writable : ℕ → Bool) (b : ℕ) → EndsAtLastAddress bytes writable → IsTrue (writable b) → b < 2 ^ 32
-writable-small bytes writable b ends test =
-    let past : 2 ^ 32 ≤ b → ⊥ = λ from. false≢true (sym (ends b from).1 ∙ test) in omega arith
+-- n places from a on, where nothing is so at 2 ^ 32 or past it
+ends_by : (P : ℕ → Type 0) (a n : ℕ) → ((b : ℕ) → 2 ^ 32 ≤ b → P b → ⊥) → ((i : ℕ) → i < n → P (a + i)) → a ≤ 2 ^ 32 → a + n ≤ 2 ^ 32
+ends_by P a zero none all small = omega (arith, small)
+ends_by P a (suc n) none all small =
+    let past : 2 ^ 32 ≤ a + n → ⊥ = λ from. none (a + n) from (all n (omega arith)) in omega (arith, past)
 
 -- n bytes that are mapped end there at the latest
 pub mapped-ends : (bytes : ByteMap) (writable : ℕ → Bool) (a n : ℕ) → EndsAtLastAddress bytes writable → IsMapped bytes a n → a ≤ 2 ^ 32 → a + n ≤ 2 ^ 32
-mapped-ends bytes writable a zero ends mapped small = omega (arith, small)
-mapped-ends bytes writable a (suc n) ends mapped small =
-    let less = value-small bytes writable (a + n) _ ends (is_its_value (bytes (a + n)) (mapped n (omega arith))) in
-    omega (arith, less)
+mapped-ends bytes writable a n ends =
+    ends_by (λ b. IsSome (bytes b)) a n (λ b from mapped. none-some _ (sym (ends b from).0 ∙ is_its_value (bytes b) mapped))
 
 -- so do n bytes that are writable
 pub writable-ends : (bytes : ByteMap) (writable : ℕ → Bool) (a n : ℕ) → EndsAtLastAddress bytes writable → IsWritable writable a n → a ≤ 2 ^ 32 → a + n ≤ 2 ^ 32
-writable-ends bytes writable a zero ends all small = omega (arith, small)
-writable-ends bytes writable a (suc n) ends all small =
-    let less = writable-small bytes writable (a + n) ends (all n (omega arith)) in
-    omega (arith, less)
+writable-ends bytes writable a n ends =
+    ends_by (λ b. IsTrue (writable b)) a n (λ b from test. false≢true (sym (ends b from).1 ∙ test))
 
 sum-none : (o : Option ℕ) → sum_if_both o None ≡ None
 sum-none None = refl

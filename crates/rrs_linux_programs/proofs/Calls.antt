@@ -1,6 +1,7 @@
 -- What the calls of these programs do to an environment, and to its streams.
-use Rattle.std.proofs.Common.{◌≡◌, ℕ, ◌+◌, ◌-◌, ◌%◌, ◌^◌, ◌≤◌, min, List, ◌++◌, length, take, pos, Option, Some, None, IsTrue, Bool, true, false, inl, inr, sym, ap, subst, ◌∙◌, arith, ext_get_or, Vec, vec_capacity}
+use Rattle.std.proofs.Common.{◌≡◌, ℕ, ◌+◌, ◌-◌, ◌%◌, ◌^◌, ◌≤◌, min, List, ◌++◌, length, take, pos, Option, Some, None, Bool, inl, inr, sym, ap, subst, ◌∙◌, arith, ext_get_or, Vec, vec_capacity}
 use Rattle.std.specs.declared.alloc.Global.{Global}
+use Rattle.std.proofs.lemmas.Bool.{false≢true}
 use Rattle.std.proofs.lemmas.Option.{none-some, same_Some}
 use Rattle.std.proofs.lemmas.List.{length-take-le}
 use Rattle.std.specs.Io.KnownBytes.{Appends}
@@ -180,10 +181,6 @@ took_some contents bytes a count text old new answer accesses known stands write
 
 -- ---- bytes of the input that are given to a buffer that is writable
 
-closed : (b : Bool) → IsTrue b → b ≡ false → ⊥
-closed true yes_is no_is = cc
-closed false yes_is no_is = cc
-
 -- as many are given as there are and were asked for
 pub given_all : (writable : ℕ → Bool) (a count answer : ℕ) (left text : List ℕ) (accesses : List Access)
     → IsWritable writable a count → a + count ≤ 2 ^ 32 → GivingEnds writable a count left text accesses answer
@@ -192,6 +189,6 @@ given_all writable a count answer left text accesses open_there fits (Recording.
     (long, answers)
 given_all writable a count answer left text accesses open_there fits
     (Recording.IsRefused byte rest fits' short is refused are answers) =
-    absurd (closed (writable (a + length text)) (open_there (length text) (omega arith)) refused)
+    absurd (false≢true (sym refused ∙ open_there (length text) (omega arith)))
 given_all writable a count answer left text accesses open_there fits (Recording.PassesEnd past none are answers) =
     absurd (omega arith)

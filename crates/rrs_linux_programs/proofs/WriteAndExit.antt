@@ -1,6 +1,5 @@
 -- The program that writes a text and ends, as a served run over any streams, by what its output does with the text.
 use Rattle.std.proofs.Common.{◌≡◌, ℕ, ◌+◌, ◌-◌, ◌%◌, ◌^◌, ◌<◌, ◌≤◌, List, length, Bool, pos, Option, Some, None, IsSome, refl, sym, ap, subst, ◌∙◌, arith}
-use Rattle.std.proofs.lemmas.Option.{none-some}
 use Rattle.rrs_lib.specs.declared.instruction_executor.InstructionException.TheVariants.{EnvironmentCall}
 use Rattle.rrs_lib.specs.Words.{word}
 use Rattle.rrs_lib.specs.Bytes.{ByteMap, EndsAtLastAddress}
@@ -21,13 +20,9 @@ use Rattle.rrs_linux_programs.specs.WritingAndExiting.{write_and_exit_program, W
 use Rattle.rrs_linux_programs.proofs.Calls.{exited, wrote}
 use Rattle.rrs_linux_programs.proofs.Runs.{registers_by, opened, to_call}
 
-some_is : (o : Option ℕ) (x : ℕ) → o ≡ Some x → IsSome o
-some_is None x is = absurd (none-some x is)
-some_is (Some y) x is = refl
-
 -- a text that stands is mapped
 text_mapped : (bytes : ByteMap) (a : ℕ) (text : List ℕ) → Stands bytes a text → IsMapped bytes a (length text)
-text_mapped bytes a text stands = λ i less. some_is (bytes (a + i)) _ (stands i less)
+text_mapped bytes a text stands = λ i less. subst (λ (o : Option ℕ). IsSome o) (sym (stands i less)) refl
 
 module _ {R W E K : Type 0} (gives : Gives R K) (takes : Takes W) (takes_errors : Takes E) (text : List ℕ)
     (old : Process R W E K)
