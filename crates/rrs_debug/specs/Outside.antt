@@ -1,12 +1,12 @@
 -- An access that is made outside of the machine: what the instruction at the program counter asks
 -- of a memory, and what a hart is left as once the answer is known (RISC-V unprivileged
 -- specification, RV32I, "Load and Store Instructions").
-use Rattle.std.specs.Prelude.{◌≡◌, ℕ, ◌%◌, ◌^◌, List, [], ◌∷◌, ◌++◌, ℤ, ◌==◌, Bool, true, false, if◌then◌else◌, Option, Some, None, is_some, option_map, IfSome, IsSomeAnd, Result, Ok, Err}
+use Rattle.std.specs.Prelude.{◌≡◌, ◌≢◌, ℕ, ◌%◌, ◌^◌, List, [], ◌∷◌, ◌++◌, ℤ, ◌==◌, Bool, true, false, if◌then◌else◌, Option, Some, None, is_some, option_map, IfSome, IsSomeAnd, Result, Ok, Err}
 use Rattle.rrs_lib.specs.declared.MemAccessSize.{MemAccessSize}
 use Rattle.rrs_lib.specs.declared.MemAccessSize.TheVariants.{Word}
 use Rattle.rrs_lib.specs.declared.HartState.{HartState}
 use Rattle.rrs_lib.specs.declared.instruction_executor.InstructionException.{InstructionException}
-use Rattle.rrs_lib.specs.declared.instruction_executor.InstructionException.TheVariants.{AlignmentFault, EnvironmentCall, Breakpoint}
+use Rattle.rrs_lib.specs.declared.instruction_executor.InstructionException.TheVariants.{AlignmentFault, LoadAccessFault, StoreAccessFault, EnvironmentCall, Breakpoint}
 use Rattle.rrs_instruction.specs.declared.instruction_formats.IType.{IType}
 use Rattle.rrs_instruction.specs.declared.instruction_formats.SType.{SType}
 use Rattle.rrs_lib.specs.declared.instruction.Instruction.{Instruction}
@@ -14,9 +14,9 @@ use Rattle.rrs_lib.specs.Encodings.{Fields, I, S}
 use Rattle.rrs_lib.specs.Instructions.{row_of, fields_of, IsInstruction}
 use Rattle.rrs_lib.specs.Table.{Row, table, Action, Load, Store, CallEnvironment, Break, Decodes}
 use Rattle.rrs_lib.specs.Bytes.{ByteMap, width, little_endian, store}
-use Rattle.rrs_lib.specs.Machine.{State, reg, put, state_of, plus_immediate, Answer, Executes}
+use Rattle.rrs_lib.specs.Machine.{State, reg, put, state_of, plus_immediate, Answer, Outcome, outcome, fault_outcome, outcome_by, Executes}
 use Rattle.rrs_lib.specs.Steps.{Step, StepAnswer, next_word, cleared, advanced, answered}
-use Rattle.rrs_lib.specs.Accesses.{Access, Read, Write, AccessesOf, read_in, write_in, read_if_aligned, size_of, accesses_of_row}
+use Rattle.rrs_lib.specs.Accesses.{Access, Read, Write, AccessesOf, read_in, write_in, read_if_aligned, size_of}
 use Rattle.rrs_debug.specs.declared.outside.DataRequest.{DataRequest}
 
 -- ---- what is asked
@@ -141,6 +141,28 @@ answer_to (Some request) e =
 abbrev pub answer_by : Action → Fields → State → RequestAnswer
 answer_by action f s = answer_to (request_by action f s) (call_fault action s.pc)
 
+-- the fault of an access that is refused
+abbrev pub refusal : DataRequest → InstructionException
+refusal (DataRequest.Load a size) = LoadAccessFault a
+refusal (DataRequest.Store a size value) = StoreAccessFault a
+
+abbrev pub is_load : DataRequest → Bool
+is_load (DataRequest.Load a size) = true
+is_load (DataRequest.Store a size value) = false
+
+-- What an action with fields comes to, by what it asks and by what is given, in a state that has
+-- the bytes after a store already.
+abbrev pub outcome_given : Action → Fields → RequestAnswer → Option ℕ → State → Option Outcome
+outcome_given action f (Err e) given s = Some (fault_outcome e s)
+outcome_given action f (Ok None) given s = outcome_by action f s
+outcome_given action f (Ok (Some request)) None s = Some (fault_outcome (refusal request) s)
+outcome_given action f (Ok (Some request)) (Some value) s =
+    Some (outcome (loaded action f value s) (Ok false))
+
+-- a step that leaves t and has this answer is an outcome that was gone on from
+abbrev pub GoesTo : State → StepAnswer → Option Outcome → Type 0
+GoesTo t answer o = IfSome o (λ x. (t ≡ advanced x.after x.answer) × (answer ≡ answered x.answer))
+
 -- a row with its fields is executed, and the hart goes on to the next instruction
 pub record StepsAlone (row : Row) (f : Fields) (s t : State) (answer : StepAnswer) : Type 0 where
   pub after : State
@@ -155,10 +177,14 @@ pub record FindsAccess (s : State) (found : Option (Instruction × DataRequest))
   pub stands : IfSome found (λ x. IsSomeAnd (next_word s) (λ w. IsInstruction w x.0))
   pub asks : IfSome found (λ x.
       answer_by (table (row_of x.0)).action (fields_of x.0) s ≡ Ok (Some x.1))
-  pub only : (w : ℕ) (row : Row) (f : Fields) (request : DataRequest)
-      → next_word s ≡ Some w → Decodes w row f
-      → answer_by (table row).action f s ≡ Ok (Some request)
-      → IsSomeAnd found (λ x. x.1 ≡ request)
+  pub none : (w : ℕ) (row : Row) (f : Fields) (request : DataRequest)
+      → found ≡ None → next_word s ≡ Some w → Decodes w row f
+      → answer_by (table row).action f s ≢ Ok (Some request)
+
+-- the load at the program counter was given a value, or the store there was carried out
+abbrev pub GoesBehind : Bool → ℕ → State → State → Type 0
+GoesBehind true value s t = LoadsGiven value s t
+GoesBehind false value s t = StoresElsewhere s t
 
 -- of a row with its fields a hart asks this, whatever the memory
 pub record Asks (row : Row) (f : Fields) (hart : HartState) (answer : RequestAnswer) : Type 0 where
@@ -175,13 +201,16 @@ pub record Advances (old new : HartState) : Type 0 where
   pub advances : (bytes : ByteMap) (writable : ℕ → Bool) → state_of new bytes writable
       ≡ advanced (state_of old bytes writable) (Ok false)
 
--- With each memory that answers the access of a row with its fields by what is given, the hart goes
--- from old to new by that row, and on to the next instruction.
+-- the one, and then the other
+pub record Grants (row : Row) (f : Fields) (value : ℕ) (old new : HartState) : Type 0 where
+  pub grants : (bytes : ByteMap) (writable : ℕ → Bool) → state_of new bytes writable
+      ≡ advanced (loaded (table row).action f value (state_of old bytes writable)) (Ok false)
+
+-- With each memory that answers the request of a row with its fields by what is given, the hart
+-- goes from old to new by that row, and on to the next instruction.
 pub record Performs (row : Row) (f : Fields) (given : Option ℕ) (old new : HartState)
     (answer : StepAnswer) : Type 0 where
-  pub performs : (bytes : ByteMap) (writable : ℕ → Bool) (u : State) (a : Answer)
-      → Executes row f (state_of old bytes writable) u a
-      → AnsweredBy given (accesses_of_row row f (state_of old bytes writable))
-      → (state_of new
-      (bytes_after (accesses_of_row row f (state_of old bytes writable)) bytes) writable
-      ≡ advanced u a) × (answer ≡ answered a)
+  pub request : RequestAnswer
+  pub asks : Asks row f old request
+  pub performs : (bytes : ByteMap) (writable : ℕ → Bool) → GoesTo (state_of new bytes writable)
+      answer (outcome_given (table row).action f request given (state_of old bytes writable))

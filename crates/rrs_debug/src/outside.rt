@@ -14,13 +14,12 @@ ghost use Rattle.rrs_lib.specs.Instructions.{row_of, fields_of};
 ghost use Rattle.rrs_lib.specs.Machine.{State, state_of, reg, plus_immediate, put};
 ghost use Rattle.rrs_lib.specs.Words.{word};
 ghost use Rattle.rrs_lib.specs.Executor.{state_in, KeepsTheRest};
-ghost use Rattle.rrs_lib.specs.Accesses.{read_if_aligned, Makes};
-ghost use Rattle.rrs_debug.specs.Outside.{requested, AccessesAfterFetch, Foretells, WithEachMemory, Completes, LoadsGiven, StoresElsewhere, request_by, call_fault, address_of, size_asked, FindsAccess, Asks, Loads, Advances, StepsAlone, Performs};
+ghost use Rattle.rrs_lib.specs.Accesses.{read_if_aligned, Makes, size_of};
+ghost use Rattle.rrs_debug.specs.Outside.{requested, AccessesAfterFetch, Foretells, WithEachMemory, Completes, LoadsGiven, StoresElsewhere, request_by, call_fault, answer_to, address_of, size_asked, FindsAccess, GoesBehind, Asks, Loads, Advances, Grants, StepsAlone, Performs};
 
 use rrs_instruction::arithmetic;
-use rrs_lib::instruction::{Instruction, decode};
+use rrs_lib::instruction::{DataAccess, Instruction, decode};
 use rrs_lib::instruction_executor::{InstructionException, InstructionExecutor};
-use rrs_lib::instruction_formats::{IType, SType};
 use rrs_lib::{HartState, InstructionHandler, MemAccessSize, Memory};
 
 /// The load or the store that an instruction makes. The address is a multiple of the size.
@@ -145,6 +144,32 @@ fn access_at_pc<M: Memory>(
     }
 }
 
+/// Goes on behind the load or the store at the pc, with the value that a load was given, and
+/// returns whether there is one.
+fn go_behind<M: Memory>(executor: &mut InstructionExecutor<M>, is_load: bool, value: u32) -> bool
+    ensures behind { OnTrue result (GoesBehind is_load value
+        (state_in M.bytes M.writable executor.old) (state_in M.bytes M.writable executor.new)) }
+    ensures none { OnFalse result ((t : State)
+        → ¬ GoesBehind is_load value (state_in M.bytes M.writable executor.old) t) }
+    ensures kept { OnFalse result (state_in M.bytes M.writable executor.new
+        ≡ state_in M.bytes M.writable executor.old) }
+    ensures rest { KeepsTheRest M.layout executor.old executor.new }
+    ensures makes { Makes M.reads M.writes
+        (read_if_aligned (state_in M.bytes M.writable executor.old)
+        executor.old.hart_state.now.pc MemAccessSize.Word)
+        executor.old.mem.now executor.new.mem.now }
+{
+    let Some((instruction, request)) = access_at_pc(executor) else {
+        return false;
+    };
+    if matches!(request, DataRequest::Load(..)) != is_load {
+        return false;
+    }
+    executor.hart_state.last_register_write = None;
+    grant(executor.hart_state, &instruction, value);
+    true
+}
+
 /// Executes the load at the pc with a value that the caller's device gave, as if the memory had
 /// given it, and returns whether there is one.
 ///
@@ -166,16 +191,7 @@ pub fn complete_load<M: Memory>(executor: &mut InstructionExecutor<M>, value: u3
         executor.old.hart_state.now.pc MemAccessSize.Word)
         executor.old.mem.now executor.new.mem.now }
 {
-    match access_at_pc(executor) {
-        Some((instruction, DataRequest::Load(_address, _size))) => {
-            executor.hart_state.last_register_write = None;
-            load_given(executor.hart_state, &instruction, value);
-            advance(executor.hart_state);
-            true
-        }
-        Some((_instruction, DataRequest::Store(_address, _size, _value))) => false,
-        None => false,
-    }
+    go_behind(executor, true, value)
 }
 
 /// Goes on behind the store at the pc, which the caller carried out, and returns whether there is
@@ -198,42 +214,7 @@ pub fn complete_store<M: Memory>(executor: &mut InstructionExecutor<M>) -> bool
         executor.old.hart_state.now.pc MemAccessSize.Word)
         executor.old.mem.now executor.new.mem.now }
 {
-    match access_at_pc(executor) {
-        Some((_instruction, DataRequest::Store(_address, _size, _value))) => {
-            executor.hart_state.last_register_write = None;
-            advance(executor.hart_state);
-            true
-        }
-        Some((_instruction, DataRequest::Load(_address, _size))) => false,
-        None => false,
-    }
-}
-
-/// The request of a load.
-#[inline]
-fn load_request(hart: &HartState, fields: IType, size: MemAccessSize) -> DataRequest
-    requires { fields.rs1 < 32 }
-    ensures { (bytes : ByteMap) (writable : ℕ → Bool) → result
-        ≡ DataRequest.Load
-        (plus_immediate (reg (state_of hart.now bytes writable) fields.rs1) fields.imm) size }
-{
-    let base = hart.read_register(fields.rs1);
-    DataRequest::Load(arithmetic::plus_immediate(base, fields.imm), size)
-}
-
-/// The request of a store.
-#[inline]
-fn store_request(hart: &HartState, fields: SType, size: MemAccessSize) -> DataRequest
-    requires first { fields.rs1 < 32 }
-    requires second { fields.rs2 < 32 }
-    ensures { (bytes : ByteMap) (writable : ℕ → Bool) → result
-        ≡ DataRequest.Store
-        (plus_immediate (reg (state_of hart.now bytes writable) fields.rs1) fields.imm)
-        size (reg (state_of hart.now bytes writable) fields.rs2) }
-{
-    let base = hart.read_register(fields.rs1);
-    let value = hart.read_register(fields.rs2);
-    DataRequest::Store(arithmetic::plus_immediate(base, fields.imm), size, value)
+    go_behind(executor, false, 0)
 }
 
 /// What an instruction asks of the memory, whether or not the address is aligned.
@@ -244,30 +225,42 @@ fn access_of(hart: &HartState, instruction: &Instruction) -> Option<DataRequest>
         ≡ request_by (table (row_of instruction.now)).action (fields_of instruction.now)
         (state_of hart.now bytes writable) }
 {
-    match *instruction {
-        Instruction::Lb(fields) | Instruction::Lbu(fields) => {
-            Some(load_request(hart, fields, MemAccessSize::Byte))
+    let access = instruction.access()?;
+    let base = hart.read_register(instruction.rs1()?);
+    let address = arithmetic::plus_immediate(base, instruction.immediate()?);
+    match access {
+        DataAccess::Load(bytes) => Some(DataRequest::Load(address, size_of(bytes))),
+        DataAccess::Store(bytes) => {
+            let value = hart.read_register(instruction.rs2()?);
+            Some(DataRequest::Store(address, size_of(bytes), value))
         }
-        Instruction::Lh(fields) | Instruction::Lhu(fields) => {
-            Some(load_request(hart, fields, MemAccessSize::HalfWord))
-        }
-        Instruction::Lw(fields) => Some(load_request(hart, fields, MemAccessSize::Word)),
-        Instruction::Sb(fields) => Some(store_request(hart, fields, MemAccessSize::Byte)),
-        Instruction::Sh(fields) => Some(store_request(hart, fields, MemAccessSize::HalfWord)),
-        Instruction::Sw(fields) => Some(store_request(hart, fields, MemAccessSize::Word)),
-        _ => None,
     }
 }
 
-/// The fault of `ecall` and `ebreak`.
+/// The size of an access of 1, 2 or 4 bytes.
 #[inline]
-fn fault_of_call(pc: u32, instruction: &Instruction) -> Option<InstructionException>
-    ensures { result ≡ call_fault (table (row_of instruction.now)).action pc }
+fn size_of(bytes: u32) -> MemAccessSize
+    ensures { result ≡ size_of bytes }
+{
+    match bytes {
+        1 => MemAccessSize::Byte,
+        2 => MemAccessSize::HalfWord,
+        _ => MemAccessSize::Word,
+    }
+}
+
+/// The answer for an instruction that accesses nothing: the fault of `ecall` and `ebreak`.
+#[inline]
+fn answer_of_call(
+    pc: u32,
+    instruction: &Instruction,
+) -> Result<Option<DataRequest>, InstructionException>
+    ensures { result ≡ answer_to None (call_fault (table (row_of instruction.now)).action pc) }
 {
     match instruction {
-        Instruction::Ecall(_) => Some(InstructionException::EnvironmentCall(pc)),
-        Instruction::Ebreak(_) => Some(InstructionException::Breakpoint(pc)),
-        _ => None,
+        Instruction::Ecall(_) => Err(InstructionException::EnvironmentCall(pc)),
+        Instruction::Ebreak(_) => Err(InstructionException::Breakpoint(pc)),
+        _ => Ok(None),
     }
 }
 
@@ -280,10 +273,7 @@ fn request_of(
     ensures { Asks (row_of instruction.now) (fields_of instruction.now) hart.now result }
 {
     let Some(request) = access_of(hart, instruction) else {
-        return match fault_of_call(hart.pc, instruction) {
-            Some(fault) => Err(fault),
-            None => Ok(None),
-        };
+        return answer_of_call(hart.pc, instruction);
     };
     let address = request.address();
     if request.size().is_aligned(address) {
@@ -380,6 +370,18 @@ fn load_given(hart: &mut HartState, instruction: &Instruction, value: u32)
     }
 }
 
+/// Executes a load with a value that was read, or a store that was carried out, and goes on to the
+/// next instruction.
+fn grant(hart: &mut HartState, instruction: &Instruction, value: u32)
+    requires { HasRegisters (fields_of instruction.now) }
+    ensures grants { Grants (row_of instruction.now) (fields_of instruction.now) value
+        hart.old hart.new }
+    ensures entry_zero { slice_index hart.new.registers 0 ≡ slice_index hart.old.registers 0 }
+{
+    load_given(hart, instruction, value);
+    advance(hart);
+}
+
 /// Executes an instruction with the answer to its access, on a hart that has written no register.
 fn perform(
     hart: &mut HartState,
@@ -391,22 +393,15 @@ fn perform(
         hart.old hart.new result }
     ensures entry_zero { slice_index hart.new.registers 0 ≡ slice_index hart.old.registers 0 }
 {
-    match (request_of(hart, instruction)?, given) {
-        (None, _) => step_alone(hart, instruction),
-        (Some(DataRequest::Load(address, _size)), None) => {
-            Err(InstructionException::LoadAccessFault(address))
-        }
-        (Some(DataRequest::Load(_address, _size)), Some(value)) => {
-            load_given(hart, instruction, value);
-            advance(hart);
-            Ok(())
-        }
-        (Some(DataRequest::Store(address, _size, _value)), None) => {
-            Err(InstructionException::StoreAccessFault(address))
-        }
-        (Some(DataRequest::Store(_address, _size, _value)), Some(_)) => {
-            advance(hart);
-            Ok(())
-        }
-    }
+    let Some(request) = request_of(hart, instruction)? else {
+        return step_alone(hart, instruction);
+    };
+    let Some(value) = given else {
+        return Err(match request {
+            DataRequest::Load(address, _) => InstructionException::LoadAccessFault(address),
+            DataRequest::Store(address, _, _) => InstructionException::StoreAccessFault(address),
+        });
+    };
+    grant(hart, instruction, value);
+    Ok(())
 }

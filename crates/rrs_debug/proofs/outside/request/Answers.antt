@@ -1,6 +1,7 @@
 -- The accesses and the fault of a row, and of a word outside the table.
-use Rattle.std.proofs.Common.{rules}
-use Rattle.rrs_debug.proofs.OutsideSteps.{requests_row, foretells_row, foretells_illegal}
+use Rattle.std.proofs.Common.{◌≡◌, ◌%◌, refl, rules}
+use Rattle.rrs_lib.specs.Steps.{Illegal}
+use Rattle.rrs_debug.proofs.OutsideSteps.{requests_row, foretells_row}
 use Rattle.rrs_debug.proofs.outside.request.Goals as goal
 
 pub returns-in-Some-clause-access : goal.returns-in-Some-clause-access
@@ -12,5 +13,6 @@ returns-in-Some-clause-foretold c =
     foretells_row c.args.hart.now _ _ _ _ (search rules) c.in-Some.ensures.decoded c.request_of.ensures
 
 pub returns-in-None-clause-foretold : goal.returns-in-None-clause-foretold
-returns-in-None-clause-foretold c =
-    foretells_illegal c.args.hart.now _ (search rules) c.in-None.ensures.outside
+returns-in-None-clause-foretold c = λ bytes writable has.
+    let aligned : c.args.hart.now.pc % 4 ≡ 0 = search rules in
+    Illegal _ aligned (has aligned) c.in-None.ensures.outside refl refl
