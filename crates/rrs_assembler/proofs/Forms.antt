@@ -1,22 +1,19 @@
 -- The rows of the list are those of the table.
-use Rattle.std.proofs.Common.{◌≡◌, ◌≢◌, ◌⊎◌, inl, inr, ℕ, zero, suc, ◌-◌, ◌<◌, ◌≤◌, Bool, true, false, ◌==◌, ◌&&◌, ◌||◌, nat_lt, if◌then◌else◌, List, [], ◌∷◌, ◌++◌, length, get_or, map, refl, sym, ap, subst, ◌∙◌, arith, eq-eqb}
+use Rattle.std.proofs.Common.{◌≡◌, ◌≢◌, ◌⊎◌, inl, inr, ℕ, zero, suc, ◌-◌, ◌<◌, Bool, true, false, ◌==◌, ◌&&◌, ◌||◌, nat_lt, if◌then◌else◌, List, [], ◌∷◌, ◌++◌, length, get_or, map, refl, sym, ap, subst, ◌∙◌, arith, eq-eqb}
 use Rattle.std.specs.List.{AllByRecursion}
-use Rattle.std.proofs.lemmas.Bool.{and_parts, eqb-true, ltb-true, cases_eq}
+use Rattle.std.proofs.lemmas.Bool.{and_parts, eqb-true, ltb-true}
 use Rattle.rrs_lib.specs.Table.{Row, table, all_rows}
 use Rattle.rrs_assembler.specs.declared.rows.Shape.TheVariants.{Alone}
-use Rattle.rrs_assembler.specs.Assembling.{common_length}
 use Rattle.rrs_assembler.specs.Shapes.{Form, form_of_row, all_forms, opening_of, shape_of, last_of, funct_of, IsAmong}
-use Rattle.rrs_assembler.proofs.Lengths.{common-same, common-other}
 
 -- each form of the list is that of a row
-row_at : (before after : List Form) (form : Form) (rows : List Row) → before ++ (form ∷ after) ≡ map form_of_row rows → (row : Row) × (form ≡ form_of_row row)
-row_at [] after form [] e = absurd (cc)
-row_at [] after form (row ∷ rows) e = (row, (cc))
-row_at (b ∷ before) after form [] e = absurd (cc)
-row_at (b ∷ before) after form (row ∷ rows) e = row_at before after form rows (cc)
+row_at : (form : Form) (rows : List Row) → IsAmong (map form_of_row rows) form → (row : Row) × (form ≡ form_of_row row)
+row_at form [] is = absurd is
+row_at form (row ∷ rows) (inl same) = (row, sym same)
+row_at form (row ∷ rows) (inr is) = row_at form rows is
 
 pub row_of_form : (form : Form) → IsAmong all_forms form → (row : Row) × (form ≡ form_of_row row)
-row_of_form form is = row_at is.0 is.1 form all_rows (sym is.2)
+row_of_form form is = row_at form all_rows is
 
 -- ---- what holds of each row of a list holds of each row
 
@@ -36,13 +33,14 @@ number_below _ = refl
 pub each_row : (P : Row → Type 0) (row : Row) → AllByRecursion P all_rows → P row
 each_row P row all = subst P (numbered row) (all_get P all_rows ((table row).number - 1) all (ltb-true _ _ (number_below row)))
 
-all_from_map : (P : Form → Type 0) (rows : List Row) → AllByRecursion P (map form_of_row rows) → AllByRecursion (λ row. P (form_of_row row)) rows
-all_from_map P [] all = tt
-all_from_map P (row ∷ rows) all = (all.0, all_from_map P rows all.1)
+-- and that of each row is one
+form_at : (rows : List Row) (i : ℕ) → i < length rows → IsAmong (map form_of_row rows) (form_of_row (get_or rows i Row.Add))
+form_at [] i less = absurd (omega (arith, less))
+form_at (row ∷ rows) zero less = inl refl
+form_at (row ∷ rows) (suc i) less = inr (form_at rows i (omega (arith, less)))
 
--- what holds of each form of the list holds of each row
-pub each_form : (P : Form → Type 0) (row : Row) → AllByRecursion P all_forms → P (form_of_row row)
-each_form P row all = each_row (λ r. P (form_of_row r)) row (all_from_map P all_rows all)
+pub form_among : (row : Row) → IsAmong all_forms (form_of_row row)
+form_among row = subst (λ r. IsAmong all_forms (form_of_row r)) (numbered row) (form_at all_rows ((table row).number - 1) (ltb-true _ _ (number_below row)))
 
 -- ---- no opening begins with another
 
@@ -88,18 +86,13 @@ test_there false x y d e test same = absurd (neq x y e same)
     neq : (x y : ℕ) → (x == y) ≡ false → x ≡ y → ⊥
     neq x y e same = let self = eq-eqb x y same in (cc)
 
--- texts that begin so are not equal, and have no more in common than the first
-pub differ-common : (a b y x : List ℕ) → differ a b ≡ true → (common_length (a ++ y) (b ++ x) ≤ length a) × (a ++ y ≢ b ++ x)
-differ-common [] b y x e = absurd (cc)
-differ-common (c ∷ a) [] y x e = absurd (cc)
-differ-common (c ∷ a) (d ∷ b) y x e = elim (cases_eq c d) [
-  | inl same ↦
-      let rest = differ-common a b y x (test_there (c == d) c d (differ a b) refl e same) in
-      let more = common-same c d (a ++ y) (b ++ x) same in
-      let there = rest.0 in
-      (omega (arith, more, there), λ whole. rest.1 (cc))
-  | inr other ↦ (let none = common-other c d (a ++ y) (b ++ x) other in omega (arith, none), λ whole. other (cc))
-]
+-- texts that begin so are not equal
+pub differ-apart : (a b y x : List ℕ) → differ a b ≡ true → a ++ y ≢ b ++ x
+differ-apart [] b y x e = absurd (cc)
+differ-apart (c ∷ a) [] y x e = absurd (cc)
+differ-apart (c ∷ a) (d ∷ b) y x e = λ whole.
+    let same : c ≡ d = cc in
+    differ-apart a b y x (test_there (c == d) c d (differ a b) refl e same) (cc)
 
 -- ---- the fields that rows fix
 

@@ -1,5 +1,4 @@
-pub mod Lengths
-pub mod Pieces
+pub mod Stopping
 pub mod Decimals
 pub mod Digits
 pub mod Offsets

@@ -1,139 +1,81 @@
 -- The numbers that hexadecimal digits show: offsets, and the targets that are their sums with an address.
-use Rattle.std.proofs.Common.{◌≡◌, ◌≢◌, inl, inr, ℕ, zero, suc, ◌+◌, ◌-◌, ◌*◌, ◌/◌, ◌%◌, ◌^◌, ◌<◌, ◌≤◌, ℤ, pos, negsuc, neg_ℤ, ◌≤ℤ◌, ◌-ℤ◌, Bool, true, false, if◌then◌else◌, ◌==◌, List, [], ◌∷◌, ◌++◌, length, replicate, refl, sym, ap, subst, ◌∙◌, arith, eq-eqb}
+use Rattle.std.proofs.Common.{◌≡◌, ◌≢◌, inl, inr, ℕ, zero, suc, ◌+◌, ◌-◌, ◌*◌, ◌/◌, ◌%◌, ◌^◌, ◌<◌, ◌≤◌, ℤ, pos, negsuc, neg_ℤ, ◌≤ℤ◌, ◌-ℤ◌, Bool, true, false, if◌then◌else◌, ◌==◌, List, [], ◌∷◌, ◌++◌, length, get_or, replicate, refl, sym, ap, subst, ◌∙◌, arith}
 use Rattle.std.specs.Prelude.{◌<ℤ◌}
 use Rattle.std.specs.Fmt.{digit_glyph, digits, digits_onto}
-use Rattle.std.proofs.lemmas.Bool.{cases_lt, eqb-true}
+use Rattle.std.proofs.lemmas.Bool.{cases_lt, eqb-true, eqb-false}
 use Rattle.std.proofs.lemmas.Bool.Decides.{nat_tests}
 use Rattle.std.proofs.lemmas.Int.{ints}
-use Rattle.std.proofs.lemmas.List.{append-nil, append_assoc, length-append, replicate-append-replicate}
-use Rattle.std.proofs.Math.Nat.{one-le-pow, pow-succ'}
+use Rattle.std.proofs.lemmas.List.{append-nil, append_assoc, replicate-append-replicate}
+use Rattle.std.proofs.Math.Nat.{pow-succ'}
 use Rattle.rrs_lib.specs.Words.{word, floor_mod}
 use Rattle.rrs_lib.specs.Results.{plus_immediate}
 use Rattle.rrs_lib.specs.Texts.{hexadecimal}
-use Rattle.rrs_assembler.specs.Readers.{FailsPiece, IsRead, IsWithin, IsDigits, IsOffset, IsTarget, IsReach, IsJumpOffset, digits_of, BeginsOtherwise}
-use Rattle.rrs_assembler.proofs.Lengths.{AreApart, otherwise-apart}
-use Rattle.rrs_assembler.proofs.Decimals.{AreSame, Either, IsApart, read_same, fails_same, read_either, fails_either}
+use Rattle.rrs_assembler.specs.Readers.{BeginAlike, FailsPiece, IsRead, IsWithin, IsDigits, IsOffset, IsTarget, IsReach, IsJumpOffset, digits_of, BeginsOtherwise}
+use Rattle.rrs_assembler.proofs.Stopping.{Narrows, fails_kind, read_kind, not_alike}
+use Rattle.rrs_assembler.proofs.Digits.{first_digit, digits_read}
 
 -- ---- the digits that are printed
 
--- the last n digits, from the last on
-abbrev right : ℕ → ℕ → List ℕ
-right zero x = []
-right (suc n) x = right n (x / 16) ++ (digit_glyph false (x % 16) ∷ [])
-
-right-zero : (n : ℕ) → right n 0 ≡ replicate n 48
-right-zero zero = refl
-right-zero (suc n) =
+digits-zero : (n : ℕ) → digits_of n 0 ≡ replicate n 48
+unfolding digits_of
+digits-zero zero = refl
+digits-zero (suc n) =
     let more : n + 1 ≡ suc n = omega arith in
-    ap (λ (l : List ℕ). l ++ (48 ∷ [])) (right-zero n) ∙ replicate-append-replicate n 1 48 ∙ ap (λ m. replicate m 48) more
+    ap (λ (l : List ℕ). l ++ (48 ∷ [])) (digits-zero n) ∙ replicate-append-replicate n 1 48 ∙ ap (λ m. replicate m 48) more
 
-test_true : (t : Bool) (x : ℕ) (a b : List ℕ) → (x == 0) ≡ t → x ≡ 0 → (if t then a else b) ≡ a
-test_true true x a b e zero_there = refl
-test_true false x a b e zero_there = let test = eq-eqb x 0 zero_there in absurd (cc)
+-- digits in front of others, with zeros in front, are all digits of the number in front of the others
+abbrev ArePadded : ℕ → ℕ → List ℕ → List ℕ → Type 0
+ArePadded n x acc l = replicate (n + length acc - length l) 48 ++ l ≡ digits_of n x ++ acc
 
-test_false : (t : Bool) (x : ℕ) (a b : List ℕ) → (x == 0) ≡ t → x ≢ 0 → (if t then a else b) ≡ b
-test_false true x a b e some = absurd (some (eqb-true x 0 e))
-test_false false x a b e some = refl
+printed : (n k x : ℕ) (acc : List ℕ) → x < 16 ^ suc n → n < k → ArePadded (suc n) x acc (digits_onto k 16 false x acc)
+unfolding digits_of
+printed n zero x acc small less = absurd (omega (arith, less))
+printed zero (suc k) x acc small less = by_test (x / 16 == 0) refl
+  where
+    by_test : (t : Bool) → (x / 16 == 0) ≡ t → ArePadded 1 x acc (if t then digit_glyph false (x % 16) ∷ acc else digits_onto k 16 false (x / 16) (digit_glyph false (x % 16) ∷ acc))
+    by_test true e = let none : 1 + length acc - suc (length acc) ≡ 0 = omega arith in ap (λ m. replicate m 48 ++ (digit_glyph false (x % 16) ∷ acc)) none
+    by_test false e = let some : x / 16 ≢ 0 = eqb-false (x / 16) 0 e in absurd (some (omega (arith, small)))
+printed (suc n) (suc k) x acc small less =
+    let power = pow-succ' 16 (suc n) in
+    by_test (x / 16 == 0) refl (printed n k (x / 16) (digit_glyph false (x % 16) ∷ acc) (omega (arith, small, power)) (omega (arith, less)))
+  where
+    shown : (digits_of (suc n) (x / 16) ++ (digit_glyph false (x % 16) ∷ [])) ++ acc ≡ digits_of (suc n) (x / 16) ++ (digit_glyph false (x % 16) ∷ acc)
+    shown = append_assoc (digits_of (suc n) (x / 16)) (digit_glyph false (x % 16) ∷ []) acc
 
--- what is printed of a number below 16 ^ (m + 1)
-record Printed (m k x : ℕ) : Type 0 where
-  text : List ℕ
-  shown : (acc : List ℕ) → digits_onto k 16 false x acc ≡ text ++ acc
-  few : length text ≤ suc m
-  full : 16 ^ m ≤ x → length text ≡ suc m
-  padded : replicate (suc m - length text) 48 ++ text ≡ right (suc m) x
+    by_test : (t : Bool) → (x / 16 == 0) ≡ t → ArePadded (suc n) (x / 16) (digit_glyph false (x % 16) ∷ acc) (digits_onto k 16 false (x / 16) (digit_glyph false (x % 16) ∷ acc))
+        → ArePadded (suc (suc n)) x acc (if t then digit_glyph false (x % 16) ∷ acc else digits_onto k 16 false (x / 16) (digit_glyph false (x % 16) ∷ acc))
+    by_test true e more =
+        let count : suc (suc n) + length acc - suc (length acc) ≡ suc n = omega arith in
+        let zeros : digits_of (suc n) (x / 16) ≡ replicate (suc n) 48 = ap (digits_of (suc n)) (eqb-true (x / 16) 0 e) ∙ digits-zero (suc n) in
+        ap (λ m. replicate m 48 ++ (digit_glyph false (x % 16) ∷ acc)) count ∙ ap (λ (l : List ℕ). l ++ (digit_glyph false (x % 16) ∷ acc)) (sym zeros) ∙ sym shown
+    by_test false e more =
+        let l : List ℕ = digits_onto k 16 false (x / 16) (digit_glyph false (x % 16) ∷ acc) in
+        let count : suc (suc n) + length acc - length l ≡ suc n + suc (length acc) - length l = omega arith in
+        ap (λ m. replicate m 48 ++ l) count ∙ more ∙ sym shown
 
-full_one : (m x : ℕ) → x < 16 → 16 ^ m ≤ x → 1 ≡ suc m
-full_one zero x small high = refl
-full_one (suc m) x small high =
-    let power = pow-succ' 16 m in
-    let one = one-le-pow m 16 (omega arith) in
-    absurd (omega (arith, power, one, high, small))
-
-printed_one : (m k x : ℕ) → x < 16 → Printed m (suc k) x
-printed_one m k x small =
-    let digit : ℕ = digit_glyph false (x % 16) in
-    let none : x / 16 ≡ 0 = omega arith in
-    let count : suc m - 1 ≡ m = omega arith in
-    record {
-      text = digit ∷ [];
-      shown = λ acc. test_true (x / 16 == 0) (x / 16) _ _ refl none;
-      few = omega arith;
-      full = λ high. full_one m x small high;
-      padded = ap (λ n. replicate n 48 ++ (digit ∷ [])) count ∙ ap (λ (l : List ℕ). l ++ (digit ∷ [])) (sym (right-zero m) ∙ ap (right m) (sym none));
-    }
-
-printed_more : (m k x : ℕ) → 16 ≤ x → Printed m k (x / 16) → Printed (suc m) (suc k) x
-printed_more m k x high front =
-    let digit : ℕ = digit_glyph false (x % 16) in
-    let some : x / 16 ≢ 0 = omega arith in
-    let longer : length (front.text ++ (digit ∷ [])) ≡ length front.text + 1 = length-append front.text (digit ∷ []) in
-    let few = front.few in
-    let count : suc (suc m) - length (front.text ++ (digit ∷ [])) ≡ suc m - length front.text = omega (arith, longer, few) in
-    record {
-      text = front.text ++ (digit ∷ []);
-      shown = λ acc. test_false (x / 16 == 0) (x / 16) _ _ refl some ∙ front.shown (digit ∷ acc) ∙ sym (append_assoc front.text (digit ∷ []) acc);
-      few = omega (arith, longer, few);
-      full = λ above.
-          let power = pow-succ' 16 m in
-          let same = front.full (omega (arith, above, power)) in
-          omega (arith, same, longer);
-      padded = ap (λ n. replicate n 48 ++ (front.text ++ (digit ∷ []))) count ∙ sym (append_assoc (replicate (suc m - length front.text) 48) front.text (digit ∷ [])) ∙ ap (λ (l : List ℕ). l ++ (digit ∷ [])) front.padded;
-    }
-
-printed : (m k x : ℕ) → x < 16 ^ suc m → m < k → Printed m k x
-printed m zero x small less = absurd (omega (arith, less))
-printed zero (suc k) x small less = printed_one zero k x (omega (arith, small))
-printed (suc m) (suc k) x small less = elim (cases_lt x 16) [
-  | inl low ↦ printed_one (suc m) k x low
-  | inr high ↦
-      let power = pow-succ' 16 (suc m) in
-      printed_more m k x high (printed m k (x / 16) (omega (arith, small, power)) (omega (arith, less)))
-]
-
-digits-printed : (m x : ℕ) (front : Printed m 64 x) → digits 16 false x ≡ front.text
+hexadecimal-digits : (n x : ℕ) → x < 16 ^ suc n → n < 64 → hexadecimal (suc n) x ≡ digits_of (suc n) x
 unfolding digits
-digits-printed m x front = front.shown [] ∙ append-nil front.text
+hexadecimal-digits n x small less =
+    let l : List ℕ = digits 16 false x in
+    let count : suc n - length l ≡ suc n + 0 - length l = omega arith in
+    ap (λ m. replicate m 48 ++ l) count ∙ printed n 64 x [] small less ∙ append-nil (digits_of (suc n) x)
 
-hexadecimal-right : (m x : ℕ) → x < 16 ^ suc m → m < 64 → hexadecimal (suc m) x ≡ right (suc m) x
-hexadecimal-right m x small less =
-    let front = printed m 64 x small less in
-    ap (λ (l : List ℕ). replicate (suc m - length l) 48 ++ l) (digits-printed m x front) ∙ front.padded
+first_of : (n d z x : ℕ) → d < 16 → z < 16 ^ n → x ≡ 16 ^ n * d + z → digits_of (suc n) x ≡ digit_glyph false d ∷ digits_of n z
+first_of n d z x small low e = ap (digits_of (suc n)) e ∙ first_digit n d z small low
 
--- 8 digits are printed also where 3 are asked for
-hexadecimal-long : (x : ℕ) → 16 ^ 7 ≤ x → x < 16 ^ 8 → hexadecimal 3 x ≡ hexadecimal 8 x
-hexadecimal-long x high small =
-    let front = printed 7 64 x small (omega arith) in
-    let long : length (digits 16 false x) ≡ 8 = ap length (digits-printed 7 x front) ∙ front.full high in
-    let none : 3 - length (digits 16 false x) ≡ 8 - length (digits 16 false x) = omega (arith, long) in
-    ap (λ n. replicate n 48 ++ digits 16 false x) none
+-- 8 digits are printed also where 3 are asked for, if the first is no 0
+no_zeros : (k : ℕ) (l z : List ℕ) → replicate k 48 ++ l ≡ 102 ∷ z → k ≡ 0
+no_zeros zero l z e = refl
+no_zeros (suc k) l z e = let first : 48 ≡ 102 = ap (λ (m : List ℕ). get_or m 0 0) e in absurd (omega (arith, first))
 
-right-digits_3 : (x : ℕ) → x < 16 ^ 3 → right 3 x ≡ digits_of 3 x
-unfolding digits_of
-right-digits_3 x small =
-    let e0 : ((x / 16) / 16) % 16 ≡ x / 256 = omega arith in
-    let e1 : (x / 16) % 16 ≡ (x % 256) / 16 = omega arith in
-    let e2 : x % 16 ≡ ((x % 256) % 16) / 1 = omega arith in
-    λ i. digit_glyph false (e0 i) ∷ digit_glyph false (e1 i) ∷ digit_glyph false (e2 i) ∷ []
+eight : (l d z : List ℕ) → replicate (8 - length l) 48 ++ l ≡ d → d ≡ 102 ∷ z → replicate (3 - length l) 48 ++ l ≡ d
+eight l d z shown first =
+    let none = no_zeros (8 - length l) l z (shown ∙ first) in
+    let same : 3 - length l ≡ 8 - length l = omega (arith, none) in
+    ap (λ n. replicate n 48 ++ l) same ∙ shown
 
-right-digits_8 : (x : ℕ) → x < 16 ^ 8 → right 8 x ≡ digits_of 8 x
-unfolding digits_of
-right-digits_8 x small =
-    let e0 : (((((((x / 16) / 16) / 16) / 16) / 16) / 16) / 16) % 16 ≡ x / 268435456 = omega arith in
-    let e1 : ((((((x / 16) / 16) / 16) / 16) / 16) / 16) % 16 ≡ (x % 268435456) / 16777216 = omega arith in
-    let e2 : (((((x / 16) / 16) / 16) / 16) / 16) % 16 ≡ ((x % 268435456) % 16777216) / 1048576 = omega arith in
-    let e3 : ((((x / 16) / 16) / 16) / 16) % 16 ≡ (((x % 268435456) % 16777216) % 1048576) / 65536 = omega arith in
-    let e4 : (((x / 16) / 16) / 16) % 16 ≡ ((((x % 268435456) % 16777216) % 1048576) % 65536) / 4096 = omega arith in
-    let e5 : ((x / 16) / 16) % 16 ≡ (((((x % 268435456) % 16777216) % 1048576) % 65536) % 4096) / 256 = omega arith in
-    let e6 : (x / 16) % 16 ≡ ((((((x % 268435456) % 16777216) % 1048576) % 65536) % 4096) % 256) / 16 = omega arith in
-    let e7 : x % 16 ≡ (((((((x % 268435456) % 16777216) % 1048576) % 65536) % 4096) % 256) % 16) / 1 = omega arith in
-    λ i. digit_glyph false (e0 i) ∷ digit_glyph false (e1 i) ∷ digit_glyph false (e2 i) ∷ digit_glyph false (e3 i) ∷ digit_glyph false (e4 i) ∷ digit_glyph false (e5 i) ∷ digit_glyph false (e6 i) ∷ digit_glyph false (e7 i) ∷ []
-
-hexadecimal-digits_3 : (x : ℕ) → x < 16 ^ 3 → hexadecimal 3 x ≡ digits_of 3 x
-hexadecimal-digits_3 x small = hexadecimal-right 2 x small (omega arith) ∙ right-digits_3 x small
-
-hexadecimal-digits_8 : (x : ℕ) → x < 16 ^ 8 → hexadecimal 8 x ≡ digits_of 8 x
-hexadecimal-digits_8 x small = hexadecimal-right 7 x small (omega arith) ∙ right-digits_8 x small
+hexadecimal-long : (x z : ℕ) → z < 16 ^ 7 → x ≡ 16 ^ 7 * 15 + z → hexadecimal 3 x ≡ digits_of 8 x
+hexadecimal-long x z low e = eight (digits 16 false x) (digits_of 8 x) (digits_of 7 z) (hexadecimal-digits 7 x (omega (arith, low, e)) (omega arith)) (first_of 7 15 z x (omega arith) low e)
 
 -- ---- targets
 
@@ -194,7 +136,7 @@ target_from_digits base reach step y small kind is =
     let same : y - 0 ≡ y = omega arith in (
       there.0,
       (range.0, range.1, (step_offset reach step there.0 z kind there.1).0 is.among.1),
-      ap (digits_of 8) same ∙ sym (hexadecimal-digits_8 y below) ∙ ap (hexadecimal 8) (sym sum),
+      ap (digits_of 8) same ∙ sym (hexadecimal-digits 7 y below (omega arith)) ∙ ap (hexadecimal 8) (sym sum),
       there.2,
     )
 
@@ -213,14 +155,14 @@ digits_from_target base reach step imm small kind is =
         most = omega (arith, below);
         among = (omega (arith, behind, less), ap (λ n. n % step) behind ∙ (step_offset reach step imm count.0 kind count.1).1 is.2);
       },
-      hexadecimal-digits_8 y below ∙ ap (digits_of 8) same,
+      hexadecimal-digits 7 y below (omega arith) ∙ ap (digits_of 8) same,
     )
 
-pub targets : (base reach step : ℕ) → base < 2 ^ 32 → IsReach reach step → AreSame (IsDigits ((base + (2 ^ 32 - reach)) % 2 ^ 32) (2 * reach) step 8 0) (IsTarget base reach step)
-targets base reach step small kind = (
-  λ p h. let made = target_from_digits base reach step h.0 small kind h.1 in (made.0, made.1, h.2 ∙ made.2),
-  λ p h. let made = digits_from_target base reach step h.0 small kind h.1 in (made.0, made.1, h.2 ∙ made.2),
-)
+pub target_up : (base reach step : ℕ) → base < 2 ^ 32 → IsReach reach step → (p : List ℕ) → IsDigits ((base + (2 ^ 32 - reach)) % 2 ^ 32) (2 * reach) step 8 0 p → IsTarget base reach step p
+target_up base reach step small kind p h = let made = target_from_digits base reach step h.0 small kind h.1 in (made.0, made.1, h.2 ∙ made.2)
+
+pub target_down : (base reach step : ℕ) → base < 2 ^ 32 → IsReach reach step → (text : List ℕ) → Narrows (IsTarget base reach step) (IsDigits ((base + (2 ^ 32 - reach)) % 2 ^ 32) (2 * reach) step 8 0) text
+target_down base reach step small kind text p x t h alike e = let made = digits_from_target base reach step h.0 small kind h.1 in (made.0, made.1, h.2 ∙ made.2)
 
 -- 0 is an offset, so there is a target
 pub some_target : (base reach step : ℕ) → base < 2 ^ 32 → IsReach reach step → (y : ℕ) × IsWithin ((base + (2 ^ 32 - reach)) % 2 ^ 32) (2 * reach) step 0 (16 ^ 8) y
@@ -247,8 +189,7 @@ short_offset y is =
     let high = is.most in
     let small : y < 2048 = omega (arith, among, high) in
     let same : y - 0 ≡ word (pos y) = omega (arith, small) in
-    let itself : word (pos y) < 16 ^ 3 = omega (arith, small) in
-    (small, ap (digits_of 3) same ∙ sym (hexadecimal-digits_3 (word (pos y)) itself))
+    (small, ap (digits_of 3) same ∙ sym (hexadecimal-digits 2 (word (pos y)) (omega (arith, small)) (omega arith)))
 
 pub long_offset : (y : ℕ) → IsWithin 4294965248 2048 1 0 4294967296 y → (2 ^ 32 - 2048 ≤ y) × (y < 2 ^ 32) × (digits_of 8 (y - 0) ≡ hexadecimal 3 (word (negsuc (2 ^ 32 - 1 - y))))
 long_offset y is =
@@ -257,81 +198,77 @@ long_offset y is =
     let low : 2 ^ 32 - 2048 ≤ y = omega (arith, among, high) in
     let w : ℕ = word (negsuc (2 ^ 32 - 1 - y)) in
     let same : y - 0 ≡ w = omega (arith, low, high) in
-    let small : w < 16 ^ 8 = omega (arith, low, high) in
-    let above : 16 ^ 7 ≤ w = omega (arith, low, high) in
-    (low, omega (arith, high), ap (digits_of 8) same ∙ sym (hexadecimal-digits_8 w small) ∙ sym (hexadecimal-long w above small))
+    (low, omega (arith, high), ap (digits_of 8) same ∙ sym (hexadecimal-long w (y - 15 * 16 ^ 7) (omega (arith, high)) (omega (arith, low, high))))
 
-offset_piece : (p : List ℕ) → Either IsShort IsLong p → IsJumpOffset p
-offset_piece p (inl h) =
+short_up : (p : List ℕ) → IsShort p → IsJumpOffset p
+short_up p h =
     let made = short_offset h.0 h.1 in
     let small = made.0 in
     (pos h.0, omega (arith, ints), omega (arith, ints, small), h.2 ∙ made.1)
-offset_piece p (inr h) =
+
+long_up : (p : List ℕ) → IsLong p → IsJumpOffset p
+long_up p h =
     let made = long_offset h.0 h.1 in
     let low = made.0 in
     let high = made.1 in
     (negsuc (2 ^ 32 - 1 - h.0), omega (arith, ints, low, high), omega (arith, ints), h.2 ∙ made.2)
 
-digits_of_offset : (imm : ℤ) → neg_ℤ (pos 2048) ≤ℤ imm → imm ≤ℤ pos 2047 → Either IsShort IsLong (hexadecimal 3 (word imm))
-digits_of_offset (pos a) low high =
+-- the digits of an offset, and the first of them
+short_of : (a : ℕ) → pos a ≤ℤ pos 2047 → (d : ℕ) × (z : List ℕ) × (d < 8) × (hexadecimal 3 (word (pos a)) ≡ digit_glyph false d ∷ z) × IsShort (hexadecimal 3 (word (pos a)))
+short_of a high =
     let small : a < 2048 = omega (arith, ints, high) in
     let is : IsWithin 0 2048 1 0 4096 a = record { least = omega arith; most = omega (arith, small); among = (omega (arith, small), omega arith) } in
-    inl (a, is, sym (short_offset a is).1)
-digits_of_offset (negsuc a) low high =
+    let shown = short_offset a is in
+    (a / 256, _, omega (arith, small), sym shown.1 ∙ first_of 2 (a / 256) (a % 256) (a - 0) (omega (arith, small)) (omega arith) (omega arith), (a, is, sym shown.1))
+
+long_of : (a : ℕ) → neg_ℤ (pos 2048) ≤ℤ negsuc a → (z : List ℕ) × (hexadecimal 3 (word (negsuc a)) ≡ 102 ∷ z) × IsLong (hexadecimal 3 (word (negsuc a)))
+long_of a low =
     let small : a < 2048 = omega (arith, ints, low) in
     let y : ℕ = 2 ^ 32 - 1 - a in
     let is : IsWithin 4294965248 2048 1 0 4294967296 y = record { least = omega arith; most = omega (arith, small); among = (omega (arith, small), omega arith) } in
     let back : 2 ^ 32 - 1 - y ≡ a = omega (arith, small) in
-    inr (y, is, ap (λ n. hexadecimal 3 (word (negsuc n))) (sym back) ∙ sym (long_offset y is).2)
+    let shown = ap (λ n. hexadecimal 3 (word (negsuc n))) (sym back) ∙ sym (long_offset y is).2 in
+    (_, shown ∙ first_of 7 15 (y - 15 * 16 ^ 7) (y - 0) (omega arith) (omega (arith, small)) (omega (arith, small)), (y, is, shown))
 
-pub offsets : AreSame (Either IsShort IsLong) IsJumpOffset
-offsets = (offset_piece, λ p h. subst (Either IsShort IsLong) (sym h.3) (digits_of_offset h.0 h.1 h.2))
-
-pub offsets_back : AreSame (Either IsLong IsShort) IsJumpOffset
-offsets_back = (
-  λ p h. offset_piece p (elim h [ inl a ↦ inr a | inr b ↦ inl b ]),
-  λ p h. elim (offsets.1 p h) [ inl a ↦ inr a | inr b ↦ inl b ],
-)
-
--- which of them it is shows in the first digit
 low_digit : (d : ℕ) → d < 8 → digit_glyph false d ≢ 102
 low_digit d small = λ e. grind (arith, nat_tests)
 
-pub short_apart : (text rest : List ℕ) → text ≡ 102 ∷ rest → IsApart IsShort text
-unfolding digits_of
-short_apart text rest e q x h =
-    let small = (short_offset h.0 h.1).0 in
-    let first : (h.0 - 0) / 16 ^ 2 < 8 = omega (arith, small) in
-    let other : 102 ≢ digit_glyph false ((h.0 - 0) / 16 ^ 2) = λ same. low_digit ((h.0 - 0) / 16 ^ 2) first (sym same) in
-    subst (λ (l : List ℕ). AreApart text (l ++ x)) (sym h.2) (subst (λ (l : List ℕ). AreApart l (digits_of 3 (h.0 - 0) ++ x)) (sym e) other)
+-- which of them it is shows in the first digit
+short_down : (text : List ℕ) → BeginsOtherwise 102 text → Narrows IsJumpOffset IsShort text
+short_down text no_f q x t h alike e = by_sign h.0 h.1 h.2 h.3
+  where
+    by_sign : (imm : ℤ) → neg_ℤ (pos 2048) ≤ℤ imm → imm ≤ℤ pos 2047 → q ≡ hexadecimal 3 (word imm) → IsShort q
+    by_sign (pos a) low high f = subst IsShort (sym f) (short_of a high).4
+    by_sign (negsuc a) low high f = let made = long_of a low in absurd (not_alike 102 text t _ no_f alike (e ∙ ap (λ (l : List ℕ). l ++ x) (f ∙ made.1)))
 
-pub long_apart : (text : List ℕ) → BeginsOtherwise 102 text → IsApart IsLong text
-unfolding digits_of
-long_apart text no_f q x h =
-    let made = long_offset h.0 h.1 in
-    let low = made.0 in
-    let high = made.1 in
-    let first : (h.0 - 0) / 16 ^ 7 ≡ 15 = omega (arith, low, high) in
-    let shown : digits_of 8 (h.0 - 0) ≡ 102 ∷ digits_of 7 ((h.0 - 0) % 16 ^ 7) = ap (λ d. digit_glyph false d ∷ digits_of 7 ((h.0 - 0) % 16 ^ 7)) first in
-    otherwise-apart 102 text (digits_of 7 ((h.0 - 0) % 16 ^ 7)) q x no_f (h.2 ∙ shown)
+long_down : (text rest : List ℕ) → text ≡ 102 ∷ rest → Narrows IsJumpOffset IsLong text
+long_down text rest is_f q x t h alike e = by_sign h.0 h.1 h.2 h.3
+  where
+    by_sign : (imm : ℤ) → neg_ℤ (pos 2048) ≤ℤ imm → imm ≤ℤ pos 2047 → q ≡ hexadecimal 3 (word imm) → IsLong q
+    by_sign (pos a) low high f =
+        let made = short_of a high in
+        let shown : t ≡ digit_glyph false made.0 ∷ (made.1 ++ x) = e ∙ ap (λ (l : List ℕ). l ++ x) (f ∙ made.3) in
+        let same : 102 ≡ digit_glyph false made.0 = subst (BeginAlike (102 ∷ rest)) shown (subst (λ (l : List ℕ). BeginAlike l t) is_f alike) in
+        absurd (low_digit made.0 made.2 (sym same))
+    by_sign (negsuc a) low high f = subst IsLong (sym f) (long_of a low).2
 
-pub short_read : (y : ℕ) (text rest : List ℕ) → IsWithin 0 2048 1 0 4096 y → BeginsOtherwise 102 text → IsRead IsShort (digits_of 3 (y - 0)) text rest
+pub short_read : (y : ℕ) (text rest : List ℕ) → IsWithin 0 2048 1 0 4096 y → BeginsOtherwise 102 text → text ≡ digits_of 3 (y - 0) ++ rest
     → (neg_ℤ (pos 2048) ≤ℤ pos y) × (pos y ≤ℤ pos 2047) × IsRead IsJumpOffset (hexadecimal 3 (word (pos y))) text rest
-short_read y text rest is no_f read =
+short_read y text rest is no_f e =
     let made = short_offset y is in
     let small = made.0 in
-    (omega (arith, ints), omega (arith, ints, small), subst (λ (l : List ℕ). IsRead IsJumpOffset l text rest) made.1 (read_same (Either IsShort IsLong) IsJumpOffset (digits_of 3 (y - 0)) text rest offsets (read_either IsShort IsLong (digits_of 3 (y - 0)) text rest (long_apart text no_f) read)))
+    (omega (arith, ints), omega (arith, ints, small), subst (λ (l : List ℕ). IsRead IsJumpOffset l text rest) made.1 (read_kind IsShort IsJumpOffset (digits_of 3 (y - 0)) text rest short_up (short_down text no_f) (digits_read 0 2048 1 3 0 y text rest is e)))
 
-pub long_read : (y : ℕ) (text digits rest : List ℕ) → IsWithin 4294965248 2048 1 0 4294967296 y → text ≡ 102 ∷ digits → IsRead IsLong (digits_of 8 (y - 0)) text rest
+pub long_read : (y : ℕ) (text digits rest : List ℕ) → IsWithin 4294965248 2048 1 0 4294967296 y → text ≡ 102 ∷ digits → text ≡ digits_of 8 (y - 0) ++ rest
     → (neg_ℤ (pos 2048) ≤ℤ negsuc (2 ^ 32 - 1 - y)) × (negsuc (2 ^ 32 - 1 - y) ≤ℤ pos 2047) × IsRead IsJumpOffset (hexadecimal 3 (word (negsuc (2 ^ 32 - 1 - y)))) text rest
-long_read y text digits rest is e read =
+long_read y text digits rest is f e =
     let made = long_offset y is in
     let low = made.0 in
     let high = made.1 in
-    (omega (arith, ints, low, high), omega (arith, ints), subst (λ (l : List ℕ). IsRead IsJumpOffset l text rest) made.2 (read_same (Either IsLong IsShort) IsJumpOffset (digits_of 8 (y - 0)) text rest offsets_back (read_either IsLong IsShort (digits_of 8 (y - 0)) text rest (short_apart text digits e) read)))
+    (omega (arith, ints, low, high), omega (arith, ints), subst (λ (l : List ℕ). IsRead IsJumpOffset l text rest) made.2 (read_kind IsLong IsJumpOffset (digits_of 8 (y - 0)) text rest long_up (long_down text digits f) (digits_read 4294965248 2048 1 8 0 y text rest is e)))
 
 pub short_fails : (text : List ℕ) (left : ℕ) → BeginsOtherwise 102 text → FailsPiece IsShort text left → FailsPiece IsJumpOffset text left
-short_fails text left no_f fails = fails_same (Either IsShort IsLong) IsJumpOffset text left offsets (fails_either IsShort IsLong text left (long_apart text no_f) fails)
+short_fails text left no_f = fails_kind IsShort IsJumpOffset text left short_up (short_down text no_f)
 
 pub long_fails : (text digits : List ℕ) (left : ℕ) → text ≡ 102 ∷ digits → FailsPiece IsLong text left → FailsPiece IsJumpOffset text left
-long_fails text digits left e fails = fails_same (Either IsLong IsShort) IsJumpOffset text left offsets_back (fails_either IsLong IsShort text left (short_apart text digits e) fails)
+long_fails text digits left f = fails_kind IsLong IsJumpOffset text left long_up (long_down text digits f)

@@ -15,7 +15,7 @@ use Rattle.rrs_assembler.specs.declared.Stop.{Stop}
 use Rattle.rrs_assembler.specs.declared.rows.Shape.TheVariants.{ThreeRegisters, Immediate, Shamt, Upper, UpperToPc, Branch, LoadFrom, StoreTo, Jump, JumpTo, Alone}
 use Rattle.rrs_assembler.specs.Readers.{Fails, Then, IsEnd, IsRegister, IsImmediate, IsShamt, IsJumpOffset, IsTarget}
 use Rattle.rrs_assembler.specs.Shapes.{Shows, IsOperands, ReadsOperands}
-use Rattle.rrs_assembler.proofs.Decimals.{AreSame}
+use Rattle.rrs_assembler.proofs.Stopping.{behind}
 
 -- ---- pieces
 
@@ -56,7 +56,7 @@ pub an_immediate : Some_of IsImmediate
 an_immediate = (signed_decimal (pos 0), (pos 0, omega (arith, ints), omega (arith, ints), refl))
 
 pub a_shamt : Some_of IsShamt
-a_shamt = (decimal 0, (0, omega arith, refl))
+a_shamt = (decimal 0, (0, omega arith, omega arith, refl))
 
 pub an_offset : Some_of IsJumpOffset
 an_offset = (hexadecimal 3 (word (pos 0)), (pos 0, omega (arith, ints), omega (arith, ints), refl))
@@ -95,6 +95,10 @@ above imm low high a b = omega (arith, ints, a, b)
 
 -- ---- shapes
 
+abbrev pub AreSame : (List ℕ → Type 0) → (List ℕ → Type 0) → Type 0
+AreSame First Second =
+    ((p : List ℕ) → First p → Second p) × ((p : List ℕ) → Second p → First p)
+
 abbrev pub ThreeRegisters_texts : ℕ → List ℕ → Type 0
 ThreeRegisters_texts pc = Then IsRegister (codes ", ") (Then IsRegister (codes ", ") (IsRegister))
 
@@ -128,10 +132,10 @@ Shamt_texts pc = Then IsRegister (codes ", ") (Then IsRegister (codes ", ") (IsS
 
 shamt_to : (funct3 last pc : ℕ) (text : List ℕ) → funct3 < 8 → last < 128 → Shamt_texts pc text → IsOperands Shamt funct3 last pc text
 shamt_to funct3 last pc text three seven h =
-    (IShamt (record { funct7 = last; shamt = h.3.3.0; rs1 = h.3.2.0; funct3 = funct3; rd = h.2.0 }), ((h.2.1, three, h.3.2.1, h.3.3.1, seven), refl, refl, (shown_then _ _ _ _ _ (codes ", ") h.4 h.2.2 (shown_then _ _ _ _ _ (codes ", ") h.3.4 h.3.2.2 h.3.3.2))))
+    (IShamt (record { funct7 = last; shamt = h.3.3.0; rs1 = h.3.2.0; funct3 = funct3; rd = h.2.0 }), ((h.2.1, three, h.3.2.1, omega (arith, h.3.3.2), seven), refl, refl, (shown_then _ _ _ _ _ (codes ", ") h.4 h.2.2 (shown_then _ _ _ _ _ (codes ", ") h.3.4 h.3.2.2 h.3.3.3))))
 
 shamt_from : (funct3 last pc : ℕ) (text : List ℕ) (f : Fields) → Shows Shamt funct3 last pc text f → Shamt_texts pc text
-shamt_from funct3 last pc text (IShamt f) h = (register f.rd, register f.rs1 ++ (codes ", " ++ decimal f.shamt), (f.rd, h.0.0, refl), (register f.rs1, decimal f.shamt, (f.rs1, h.0.2, refl), (f.shamt, h.0.3, refl), refl), h.3)
+shamt_from funct3 last pc text (IShamt f) h = (register f.rd, register f.rs1 ++ (codes ", " ++ decimal f.shamt), (f.rd, h.0.0, refl), (register f.rs1, decimal f.shamt, (f.rs1, h.0.2, refl), (f.shamt, omega arith, omega (arith, h.0.3), refl), refl), h.3)
 shamt_from funct3 last pc text f h = elim h [ ]
 
 pub shamt_same : (funct3 last pc : ℕ) → funct3 < 8 → last < 128 → AreSame (Shamt_texts pc) (IsOperands Shamt funct3 last pc)
@@ -235,11 +239,7 @@ alone_same funct3 last pc three seven = (λ text. alone_to funct3 last pc text t
 -- ---- from the pieces to the operands
 
 pub fails_as : (First Second : List ℕ → Type 0) (text : List ℕ) (left : ℕ) → AreSame First Second → Fails First text left → Fails Second text left
-fails_as First Second text left same fails = record {
-  over = λ t is. fails.over t (same.1 t is);
-  reached = (fails.reached.0, same.0 fails.reached.0 fails.reached.1, fails.reached.2);
-  none = λ t is. fails.none t (same.1 t is);
-}
+fails_as First Second text left same = behind Second Second First First [] text text left refl same.0 (λ t alike. same.1 t)
 
 -- lui shows the sum with 0
 sum_with_zero : (imm : ℤ) → plus_immediate 0 imm ≡ word imm

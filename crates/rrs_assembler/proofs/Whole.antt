@@ -1,5 +1,5 @@
 -- Where a whole text goes wrong, by where its opening or its operands do.
-use Rattle.std.proofs.Common.{◌≡◌, ◌≢◌, ◌⊎◌, inl, inr, ℕ, ◌+◌, ◌*◌, ◌^◌, ◌-◌, ◌<◌, ◌≤◌, pos, List, [], ◌++◌, length, refl, sym, ap, subst, ◌∙◌, arith}
+use Rattle.std.proofs.Common.{◌≡◌, inl, inr, ℕ, ◌+◌, ◌*◌, ◌^◌, ◌-◌, ◌<◌, ◌≤◌, pos, List, [], ◌++◌, length, refl, sym, ap, subst, ◌∙◌, arith}
 use Rattle.std.specs.Prelude.{codes}
 use Rattle.std.proofs.lemmas.Int.{ints}
 use Rattle.std.proofs.lemmas.Bool.{ltb-true}
@@ -12,11 +12,10 @@ use Rattle.rrs_extra.proofs.SameWords.{words_faithful}
 use Rattle.rrs_assembler.specs.declared.rows.Shape.{Shape}
 use Rattle.rrs_assembler.specs.declared.rows.Shape.TheVariants.{ThreeRegisters, Immediate, Shamt, Upper, UpperToPc, Branch, LoadFrom, StoreTo, Jump, JumpTo, Alone}
 use Rattle.rrs_assembler.specs.Assembling.{common_length, HasText, IsFurthest}
-use Rattle.rrs_assembler.specs.Readers.{Fails}
-use Rattle.rrs_assembler.specs.Shapes.{Form, all_forms, opening_of, shape_of, last_of, funct_of, IsOperands, FailsOpenings, IsTextOfSome, IsAssembled, Shows}
-use Rattle.rrs_assembler.proofs.Lengths.{common-append}
-use Rattle.rrs_assembler.proofs.Forms.{row_of_form, each_form, rows_apart, differ-common, three_small, last_small}
-use Rattle.rrs_assembler.proofs.Openings.{IsOtherThan}
+use Rattle.rrs_assembler.specs.Readers.{Fails, Before, IsAny}
+use Rattle.rrs_assembler.specs.Shapes.{Form, form_of_row, all_forms, IsOpening, opening_of, shape_of, last_of, funct_of, IsOperands, FailsOpenings, IsTextOfSome, IsAssembled, Shows}
+use Rattle.rrs_assembler.proofs.Stopping.{behind, going_on, common_within, common_read}
+use Rattle.rrs_assembler.proofs.Forms.{row_of_form, form_among, rows_apart, differ-apart, three_small, last_small}
 use Rattle.rrs_assembler.proofs.RowTexts.{LastFits, not_alone, alone_fits, has_text, parts_of_text}
 
 -- each shape has operands
@@ -44,64 +43,44 @@ text_of_rest row pc x is = (_, has_text row pc x is.0 is.1)
 
 -- the text begins with no opening
 pub no_opening : (pc : ℕ) (text : List ℕ) (left : ℕ) → FailsOpenings all_forms text left → Fails (IsTextOfSome pc) text left
-no_opening pc text left fails =
-    let other : (row : Row) (x : List ℕ) → (common_length text (opening_of row ++ x) + left ≤ length text) × (text ≢ opening_of row ++ x) =
-    λ row. each_form (IsOtherThan text left) row fails.over in
-    let reached = row_of_form fails.reached.0 fails.reached.1 in
-    let row : Row = reached.0 in
+no_opening pc text left = going_on (IsTextOfSome pc) (IsTextOfSome pc) (IsOpening all_forms) (Before (IsOpening all_forms) IsAny) text left
+    (λ p h.
+    let found = row_of_form h.0 h.1 in
+    let row : Row = found.0 in
     let some = some_operands (shape_of row) (funct_of (table row).funct3) (last_of row) pc (ltb-true _ _ (three_small row)) (last_small row) in
-    let opening : fails.reached.0.0 ≡ opening_of row = ap (λ (f : Form). f.0) reached.1 in
-    record {
-      over = λ t h.
-          let made = parts_of_text h.0 pc t h.1 in
-          subst (λ (l : List ℕ). common_length text l + left ≤ length text) (sym made.2) (other made.0 made.1).0;
-      reached = (opening_of row ++ some.0, text_of_rest row pc some.0 some.1, subst (λ (l : List ℕ). common_length text (l ++ some.0) + left ≡ length text) opening (fails.reached.2 some.0));
-      none = λ t h e. let made = parts_of_text h.0 pc t h.1 in (other made.0 made.1).1 (e ∙ made.2);
-    }
+    (some.0, subst (λ (l : List ℕ). IsTextOfSome pc (l ++ some.0)) (sym (h.2 ∙ ap (λ (f : Form). f.0) found.1)) (text_of_rest row pc some.0 some.1)))
+    (λ t h. let made = parts_of_text h.0 pc t h.1 in (opening_of made.0, made.1, (form_of_row made.0, form_among made.0, refl), tt, made.2))
 
 -- it begins with the opening of this row, and its operands go wrong
 pub no_operands : (row : Row) (pc : ℕ) (text rest : List ℕ) (left : ℕ) → text ≡ opening_of row ++ rest → Fails (IsRest row pc) rest left → Fails (IsTextOfSome pc) text left
-no_operands row pc text rest left e fails =
-    let whole : length text ≡ length (opening_of row) + length rest = ap length e ∙ length-append (opening_of row) rest in
-    let few : left ≤ length rest = let there = fails.reached.2 in omega (arith, there) in
-    let behind : (x : List ℕ) → common_length text (opening_of row ++ x) ≡ length (opening_of row) + common_length rest x =
-    λ x. ap (λ (l : List ℕ). common_length l (opening_of row ++ x)) e ∙ common-append (opening_of row) rest x in
-    let split : (other : Row) (x : List ℕ) → (other ≡ row) ⊎ ((common_length text (opening_of other ++ x) ≤ length (opening_of row)) × (text ≢ opening_of other ++ x)) =
-    λ other x. elim (rows_apart row other) [
-      | inl same ↦ inl same
-      | inr apart ↦ inr (subst (λ (l : List ℕ). (common_length l (opening_of other ++ x) ≤ length (opening_of row)) × (l ≢ opening_of other ++ x)) (sym e) (differ-common (opening_of row) (opening_of other) rest x apart))
-    ] in
-    record {
-      over = λ t h.
-          let made = parts_of_text h.0 pc t h.1 in
-          subst (λ (l : List ℕ). common_length text l + left ≤ length text) (sym made.2) (elim (split made.0 made.1) [
-            | inl same ↦
-                let at_row : IsRest row pc made.1 = subst (λ r. IsRest r pc made.1) same made.3 in
-                let there = fails.over made.1 at_row in
-                let shown : common_length text (opening_of made.0 ++ made.1) ≡ length (opening_of row) + common_length rest made.1 = ap (λ r. common_length text (opening_of r ++ made.1)) same ∙ behind made.1 in
-                omega (arith, there, shown, whole)
-            | inr less ↦ let low = less.0 in omega (arith, low, few, whole)
-          ]);
-      reached = (opening_of row ++ fails.reached.0, text_of_rest row pc fails.reached.0 fails.reached.1, (let there = fails.reached.2 in let here = behind fails.reached.0 in omega (arith, there, here, whole)));
-      none = λ t h same_text.
-          let made = parts_of_text h.0 pc t h.1 in
-          elim (split made.0 made.1) [
-            | inl same ↦
-                let at_row : IsRest row pc made.1 = subst (λ r. IsRest r pc made.1) same made.3 in
-                let shown : opening_of row ++ rest ≡ opening_of row ++ made.1 = sym e ∙ same_text ∙ made.2 ∙ ap (λ r. opening_of r ++ made.1) same in
-                fails.none made.1 at_row (append_cancel_left (opening_of row) rest made.1 shown)
-            | inr less ↦ less.1 (same_text ∙ made.2)
-          ];
-    }
+no_operands row pc text rest left e = behind (IsTextOfSome pc) (IsTextOfSome pc) (IsRest row pc) (IsRest row pc) (opening_of row) text rest left e
+    (λ t is. text_of_rest row pc t is)
+    (λ t alike h.
+    let made = parts_of_text h.0 pc (opening_of row ++ t) h.1 in
+    elim (rows_apart row made.0) [
+      | inl same ↦
+          let shown : opening_of row ++ t ≡ opening_of row ++ made.1 = made.2 ∙ ap (λ r. opening_of r ++ made.1) same in
+          subst (λ (x : List ℕ). IsRest row pc x) (sym (append_cancel_left (opening_of row) t made.1 shown)) (subst (λ r. IsRest r pc made.1) same made.3)
+      | inr apart ↦ absurd (differ-apart (opening_of row) (opening_of made.0) t made.1 apart made.2)
+    ])
 
 -- the place as a byte
 pub furthest : (pc : ℕ) (text : List ℕ) (left : ℕ) → Fails (IsTextOfSome pc) text left → IsFurthest pc text (length text - left)
 furthest pc text left fails =
-    let there = fails.reached.2 in
-    let few : left ≤ length text = omega (arith, there) in
+    let place : length text - left ≡ length fails.read = (let whole = ap length fails.whole ∙ length-append fails.read fails.rest in let count = fails.count in omega (arith, whole, count)) in
+    let within : (other : List ℕ) → IsTextOfSome pc other → common_length text other ≤ length text - left =
+    λ other is.
+    let less = common_within fails.read fails.rest other (λ t alike e. fails.none t alike (subst (IsTextOfSome pc) e is)) in
+    let here : common_length text other ≡ common_length (fails.read ++ fails.rest) other = ap (λ (l : List ℕ). common_length l other) fails.whole in
+    omega (arith, place, less, here)
+    in
+    let other : List ℕ = fails.read ++ fails.some.0 in
+    let most = within other fails.some.1 in
+    let least = common_read fails.read fails.rest fails.some.0 in
+    let here : common_length text other ≡ common_length (fails.read ++ fails.rest) other = ap (λ (l : List ℕ). common_length l other) fails.whole in
     record {
-      over = λ w other h. let here = fails.over other (w, h) in omega (arith, here, few);
-      reached = (fails.reached.1.0, fails.reached.0, fails.reached.1.1, omega (arith, there, few));
+      over = λ w other h. within other (w, h);
+      reached = (fails.some.1.0, other, fails.some.1.1, omega (arith, place, most, least, here));
     }
 
 -- ---- the word that is made
@@ -127,12 +106,10 @@ pub fence_only : (pc w : ℕ) (text : List ℕ) → IsAssembled pc text w → te
 fence_only pc w text is fence =
     elim (rows_apart Row.Fence is.row) [
       | inl same ↦ is.encoded ∙ fence_row is.row pc is.rest is.fields same is.shows
-      | inr apart ↦ absurd ((differ-common (opening_of Row.Fence) (opening_of is.row) [] is.rest apart).1 (sym fence ∙ is.whole))
+      | inr apart ↦ absurd (differ-apart (opening_of Row.Fence) (opening_of is.row) [] is.rest apart (sym fence ∙ is.whole))
     ]
 
 -- and it is one
-pub fence_is_text : (pc : ℕ) (text : List ℕ) (left : ℕ) → Fails (IsTextOfSome pc) text left → text ≢ codes "fence"
+pub fence_is_text : (pc : ℕ) → IsTextOfSome pc (codes "fence")
 unfolding some_operands
-fence_is_text pc text left fails e =
-    let some = text_of_rest Row.Fence pc [] (some_operands Alone 0 255 pc (omega arith) (inr (refl, omega arith))).1 in
-    fails.none (codes "fence") some e
+fence_is_text pc = text_of_rest Row.Fence pc [] (some_operands Alone 0 255 pc (omega arith) (inr (refl, omega arith))).1

@@ -6,14 +6,34 @@ use Rattle.std.specs.Fmt.{decimal, signed_decimal, digit_glyph}
 use Rattle.rrs_lib.specs.Words.{word, floor_mod}
 use Rattle.rrs_lib.specs.Results.{plus_immediate}
 use Rattle.rrs_lib.specs.Texts.{register, hexadecimal}
-use Rattle.rrs_assembler.specs.Assembling.{common_length}
 
--- No text of the set is this one, none has more in common with it than what stands before the
--- bytes that are left, and one has that.
-pub record Fails (Texts : List ℕ → Type 0) (text : List ℕ) (left : ℕ) : Type 0 where
-  pub over : (t : List ℕ) → Texts t → common_length text t + left ≤ length text
-  pub reached : (t : List ℕ) × Texts t × (common_length text t + left ≡ length text)
-  pub none : (t : List ℕ) → Texts t → text ≢ t
+-- two texts begin with the same byte, or both are over
+abbrev pub BeginAlike : List ℕ → List ℕ → Type 0
+BeginAlike [] [] = Unit {0}
+BeginAlike [] (d ∷ ds) = ⊥
+BeginAlike (c ∷ cs) [] = ⊥
+BeginAlike (c ∷ cs) (d ∷ ds) = c ≡ d
+
+-- What is read of the text begins one of the first set, but none of the second goes on as the text
+-- does there.
+pub record Stops (Starts Texts : List ℕ → Type 0) (text : List ℕ) (left : ℕ) : Type 0 where
+  pub read : List ℕ
+  pub rest : List ℕ
+  pub whole : text ≡ read ++ rest
+  pub count : left ≡ length rest
+  pub some : (t : List ℕ) × Starts (read ++ t)
+  pub none : (t : List ℕ) → BeginAlike rest t → Texts (read ++ t) → ⊥
+
+-- here the text stops to be one of the set
+abbrev pub Fails : (List ℕ → Type 0) → List ℕ → ℕ → Type 0
+Fails Texts = Stops Texts Texts
+
+-- a text of one set, and then one of another
+abbrev pub Before : (List ℕ → Type 0) → (List ℕ → Type 0) → List ℕ → Type 0
+Before Piece Rest t = (p : List ℕ) × (x : List ℕ) × Piece p × Rest x × (t ≡ p ++ x)
+
+abbrev pub IsAny : List ℕ → Type 0
+IsAny t = Unit {0}
 
 -- nothing, or a separator: a blank, a comma or a parenthesis, all below the bytes of operands
 abbrev pub IsPastPiece : List ℕ → Type 0
@@ -21,37 +41,29 @@ IsPastPiece [] = Unit {0}
 IsPastPiece (c ∷ cs) = c < 45
 
 -- the same of a piece of a text, whatever follows past it
-pub record FailsPiece (Piece : List ℕ → Type 0) (text : List ℕ) (left : ℕ) : Type 0 where
-  pub over : (p x : List ℕ) → Piece p → IsPastPiece x
-      → common_length text (p ++ x) + left ≤ length text
-  pub reached : (p : List ℕ) × Piece p
-      × ((x : List ℕ) → IsPastPiece x → common_length text (p ++ x) + left ≡ length text)
-  pub none : (p x : List ℕ) → Piece p → IsPastPiece x → text ≢ p ++ x
+abbrev pub FailsPiece : (List ℕ → Type 0) → List ℕ → ℕ → Type 0
+FailsPiece Piece = Stops Piece (Before Piece IsPastPiece)
 
 -- the same of one text, whatever follows it
-pub record FailsLiteral (literal text : List ℕ) (left : ℕ) : Type 0 where
-  pub reached : (x : List ℕ) → common_length text (literal ++ x) + left ≡ length text
-  pub none : (x : List ℕ) → text ≢ literal ++ x
-
--- the same of a piece and a separator, whatever follows
-pub record FailsBefore (Piece : List ℕ → Type 0) (separator text : List ℕ) (left : ℕ) : Type 0 where
-  pub over : (p x : List ℕ) → Piece p
-      → common_length text (p ++ (separator ++ x)) + left ≤ length text
-  pub reached : (p : List ℕ) × Piece p
-      × ((x : List ℕ) → common_length text (p ++ (separator ++ x)) + left ≡ length text)
-  pub none : (p x : List ℕ) → Piece p → text ≢ p ++ (separator ++ x)
-
--- the text is this piece and the rest, and no other piece reaches into the rest
-pub record IsRead (Piece : List ℕ → Type 0) (p text rest : List ℕ) : Type 0 where
-  pub piece : Piece p
-  pub whole : text ≡ p ++ rest
-  pub settled : (q x : List ℕ) → Piece q → IsPastPiece x
-      → (q ≡ p) ⊎ ((common_length text (q ++ x) ≤ length p) × (text ≢ q ++ x))
+abbrev pub FailsLiteral : List ℕ → List ℕ → ℕ → Type 0
+FailsLiteral literal = Stops (λ p. p ≡ literal) (Before (λ p. p ≡ literal) IsAny)
 
 -- a piece, a separator, and a text of another set
 abbrev pub Then : (List ℕ → Type 0) → List ℕ → (List ℕ → Type 0) → List ℕ → Type 0
 Then Piece separator Texts t =
     (p : List ℕ) × (x : List ℕ) × Piece p × Texts x × (t ≡ p ++ (separator ++ x))
+
+-- the same of a piece and a separator, whatever follows
+abbrev pub FailsBefore : (List ℕ → Type 0) → List ℕ → List ℕ → ℕ → Type 0
+FailsBefore Piece separator =
+    Stops (Before Piece (λ x. x ≡ separator)) (Then Piece separator IsAny)
+
+-- the text is this piece and the rest, and no other piece goes on as the rest does
+pub record IsRead (Piece : List ℕ → Type 0) (p text rest : List ℕ) : Type 0 where
+  pub piece : Piece p
+  pub whole : text ≡ p ++ rest
+  pub settled : (q x t : List ℕ) → Piece q → IsPastPiece x → BeginAlike rest t
+      → p ++ t ≡ q ++ x → q ≡ p
 
 abbrev pub IsEnd : List ℕ → Type 0
 IsEnd t = t ≡ []
@@ -70,7 +82,7 @@ IsImmediate p =
     (imm : ℤ) × (neg_ℤ (pos 2048) ≤ℤ imm) × (imm ≤ℤ pos 2047) × (p ≡ signed_decimal imm)
 
 abbrev pub IsShamt : List ℕ → Type 0
-IsShamt p = (n : ℕ) × (n < 2 ^ 5) × (p ≡ decimal n)
+IsShamt = IsDecimal 0 31
 
 -- an immediate of 12 bits, as jalr shows it
 abbrev pub IsJumpOffset : List ℕ → Type 0
@@ -89,10 +101,10 @@ IsTarget base reach step p =
 
 -- ---- hexadecimal digits
 
--- the n hexadecimal digits of a number below 16 ^ n
+-- the last n hexadecimal digits of a number
 unfoldable pub digits_of : ℕ → ℕ → List ℕ
 digits_of zero z = []
-digits_of (suc n) z = digit_glyph false (z / 16 ^ n) ∷ digits_of n (z % 16 ^ n)
+digits_of (suc n) z = digits_of n (z / 16) ++ (digit_glyph false (z % 16) ∷ [])
 
 -- a word that lies so far behind the first that it is one of the steps below a total
 abbrev pub IsAmong : ℕ → ℕ → ℕ → ℕ → Type 0

@@ -1,7 +1,6 @@
 -- The operands of each row as they stand in its text, behind its name and a blank.
-use Rattle.std.specs.Prelude.{◌≡◌, ◌≢◌, ℕ, ◌+◌, ◌≤◌, List, [], ◌∷◌, ◌++◌, length, map, codes, pos, Result, MatchResult}
+use Rattle.std.specs.Prelude.{◌≡◌, ◌⊎◌, ℕ, List, [], ◌∷◌, ◌++◌, map, codes, pos, Result, MatchResult}
 use Rattle.rrs_assembler.specs.declared.rows.RowForm.{RowForm}
-use Rattle.std.specs.List.{AllByRecursion}
 use Rattle.std.specs.Fmt.{decimal, signed_decimal}
 use Rattle.rrs_lib.specs.Words.{word}
 use Rattle.rrs_lib.specs.Encodings.{Fields, R, I, IShamt, S, B, U, J, IsInRange, encode}
@@ -12,8 +11,8 @@ use Rattle.rrs_lib.specs.Instructions.{as_fields}
 use Rattle.rrs_lib.specs.declared.instruction.InstructionFields.{InstructionFields}
 use Rattle.rrs_assembler.specs.declared.Stop.{Stop}
 use Rattle.rrs_assembler.specs.declared.rows.Shape.{Shape}
-use Rattle.rrs_assembler.specs.Assembling.{common_length, HasText}
-use Rattle.rrs_assembler.specs.Readers.{Fails}
+use Rattle.rrs_assembler.specs.Assembling.{HasText}
+use Rattle.rrs_assembler.specs.Readers.{Stops, Fails, Before, IsAny}
 use Rattle.rrs_assembler.specs.declared.rows.Shape.TheVariants.{ThreeRegisters, Immediate, Shamt, Upper, UpperToPc, Branch, LoadFrom, StoreTo, Jump, JumpTo, Alone}
 
 abbrev pub shape_by : Action → Shape
@@ -124,14 +123,15 @@ all_forms = map form_of_row all_rows
 
 -- the form is of this list
 abbrev pub IsAmong : List Form → Form → Type 0
-IsAmong forms form = (before : List Form) × (after : List Form) × (forms ≡ before ++ (form ∷ after))
+IsAmong [] form = ⊥
+IsAmong (first ∷ forms) form = (first ≡ form) ⊎ IsAmong forms form
+
+abbrev pub IsOpening : List Form → List ℕ → Type 0
+IsOpening forms p = (form : Form) × IsAmong forms form × (p ≡ form.0)
 
 -- where a text stops to begin with one of these openings
-pub record FailsOpenings (forms : List Form) (text : List ℕ) (left : ℕ) : Type 0 where
-  pub over : AllByRecursion (λ form. (x : List ℕ)
-      → (common_length text (form.0 ++ x) + left ≤ length text) × (text ≢ form.0 ++ x)) forms
-  pub reached : (form : Form) × IsAmong forms form
-      × ((x : List ℕ) → common_length text (form.0 ++ x) + left ≡ length text)
+abbrev pub FailsOpenings : List Form → List ℕ → ℕ → Type 0
+FailsOpenings forms = Stops (IsOpening forms) (Before (IsOpening forms) IsAny)
 
 -- some word has this text at this address
 abbrev pub IsTextOfSome : ℕ → List ℕ → Type 0

@@ -70,8 +70,7 @@ fn hexadecimal(
     requires some { (y : ℕ) × IsWithin targets.first targets.total targets.step low size y }
     ensures { MatchResult result
         (λ read. IsWithin targets.first targets.total targets.step low size read.0
-        × IsRead (IsDigits targets.first targets.total targets.step count low)
-        (digits_of count (read.0 - low)) text.now read.1.now)
+        × (text.now ≡ digits_of count (read.0 - low) ++ read.1.now))
         (λ stop. FailsPiece (IsDigits targets.first targets.total targets.step count low)
         text.now stop.left) }
 {

@@ -161,15 +161,6 @@ fn immediate(text: &[u8]) -> Result<(i32, &[u8]), Stop>
     }
 }
 
-/// A shift amount, and what follows it.
-fn shift_amount(text: &[u8]) -> Result<(u32, &[u8]), Stop>
-    ensures { MatchResult result
-        (λ read. (read.0 < 32) × IsRead IsShamt (decimal read.0) text.now read.1.now)
-        (λ stop. FailsPiece IsShamt text.now stop.left) }
-{
-    decimal(text, 0, 31)
-}
-
 /// A register and a separator, and what follows them.
 pub fn register_before<'a>(text: &'a [u8], wanted: &[u8]) -> Result<(usize, &'a [u8]), Stop>
     requires { CanFollow wanted.now }
@@ -222,7 +213,7 @@ pub fn last_shift_amount(text: &[u8]) -> Result<u32, Stop>
     ensures { MatchResult result (λ n. (n < 32) × (text.now ≡ decimal n))
         (λ stop. Fails IsShamt text.now stop.left) }
 {
-    let (amount, rest) = shift_amount(text)?;
+    let (amount, rest) = decimal(text, 0, 31)?;
     end(rest)?;
     Ok(amount)
 }

@@ -1,4 +1,6 @@
-use Rattle.std.proofs.Common.{ap, refl, Ok}
+use Rattle.std.proofs.Common.{ap, sym, subst, Ok}
+use Rattle.rrs_assembler.specs.Shapes.{IsTextOfSome}
+use Rattle.rrs_assembler.proofs.Stopping.{is_none}
 use Rattle.rrs_assembler.proofs.Whole.{furthest, assembled_text, only_word, fence_only, fence_is_text}
 use Rattle.rrs_assembler.proofs.assemble.Goals as goal
 
@@ -12,10 +14,10 @@ pub returns-in-Ok-clause-fence : goal.returns-in-Ok-clause-fence
 returns-in-Ok-clause-fence c = λ e. ap Ok (fence_only c.args.pc _ c.args.text.now c.in-Ok.ensures e)
 
 pub returns-in-Err-clause-none : goal.returns-in-Err-clause-none
-returns-in-Err-clause-none c = λ w has. c.in-Err.ensures.none c.args.text.now (w, has) refl
+returns-in-Err-clause-none c = λ w has. is_none _ _ _ _ c.in-Err.ensures (w, has)
 
 pub returns-in-Err-clause-fence : goal.returns-in-Err-clause-fence
-returns-in-Err-clause-fence c = λ e. absurd (fence_is_text c.args.pc c.args.text.now c.in-Err.stop.left c.in-Err.ensures e)
+returns-in-Err-clause-fence c = λ e. absurd (is_none _ _ _ _ c.in-Err.ensures (subst (IsTextOfSome c.args.pc) (sym e) (fence_is_text c.args.pc)))
 
 pub returns-in-Err-clause-at : goal.returns-in-Err-clause-at
 returns-in-Err-clause-at c = furthest c.args.pc c.args.text.now c.in-Err.stop.left c.in-Err.ensures

@@ -2,7 +2,7 @@ use Rattle.std.proofs.Common.{rules}
 use Rattle.rrs_lib.specs.Texts.{hexadecimal}
 use Rattle.rrs_lib.specs.Words.{word}
 use Rattle.rrs_assembler.specs.Readers.{FailsBefore, IsJumpOffset}
-use Rattle.rrs_assembler.proofs.Pieces.{before_piece, before_separator}
+use Rattle.rrs_assembler.proofs.Stopping.{before_piece, before_separator}
 use Rattle.rrs_assembler.proofs.hexadecimal.jump_offset_before.Goals as goal
 
 pub returns-in_err-imm : goal.returns-in_err-imm

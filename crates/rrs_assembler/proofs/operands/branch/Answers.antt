@@ -5,7 +5,7 @@ use Rattle.rrs_assembler.specs.declared.rows.Shape.TheVariants.{Branch}
 use Rattle.rrs_assembler.specs.Readers.{Fails, Then, IsRegister, IsTarget}
 use Rattle.rrs_assembler.specs.Shapes.{IsOperands}
 use Rattle.rrs_assembler.proofs.OperandTexts.{fails_as, branch_same, a_register, a_branch, and_then, register_pieces, register_is}
-use Rattle.rrs_assembler.proofs.Pieces.{then_first, then_rest}
+use Rattle.rrs_assembler.proofs.Stopping.{then_first, then_rest}
 use Rattle.rrs_assembler.proofs.operands.branch.Goals as goal
 
 pub returns-in_err-rs1 : goal.returns-in_err-rs1

@@ -5,7 +5,7 @@ use Rattle.rrs_assembler.specs.declared.rows.Shape.TheVariants.{Jump}
 use Rattle.rrs_assembler.specs.Readers.{Fails, IsRegister, IsTarget}
 use Rattle.rrs_assembler.specs.Shapes.{IsOperands}
 use Rattle.rrs_assembler.proofs.OperandTexts.{fails_as, jump_same, a_jump, register_pieces, register_is}
-use Rattle.rrs_assembler.proofs.Pieces.{then_first, then_rest}
+use Rattle.rrs_assembler.proofs.Stopping.{then_first, then_rest}
 use Rattle.rrs_assembler.proofs.operands.jump.Goals as goal
 
 pub returns-in_err-rd : goal.returns-in_err-rd

@@ -6,7 +6,7 @@ use Rattle.rrs_assembler.specs.declared.rows.Shape.TheVariants.{JumpTo}
 use Rattle.rrs_assembler.specs.Readers.{Fails, Then, IsEnd, IsRegister, IsJumpOffset}
 use Rattle.rrs_assembler.specs.Shapes.{IsOperands}
 use Rattle.rrs_assembler.proofs.OperandTexts.{fails_as, jump_to_same, a_register, an_offset, an_end, and_then, register_pieces, offset_pieces, register_is, offset_is}
-use Rattle.rrs_assembler.proofs.Pieces.{then_first, then_rest}
+use Rattle.rrs_assembler.proofs.Stopping.{then_first, then_rest}
 use Rattle.rrs_assembler.proofs.operands.jump_to.Goals as goal
 
 pub returns-in_err-rd : goal.returns-in_err-rd

@@ -5,7 +5,7 @@ use Rattle.rrs_assembler.specs.declared.rows.Shape.TheVariants.{Immediate}
 use Rattle.rrs_assembler.specs.Readers.{Fails, Then, IsRegister, IsImmediate}
 use Rattle.rrs_assembler.specs.Shapes.{IsOperands}
 use Rattle.rrs_assembler.proofs.OperandTexts.{fails_as, immediate_same, a_register, an_immediate, and_then, register_pieces, register_is}
-use Rattle.rrs_assembler.proofs.Pieces.{then_first, then_rest}
+use Rattle.rrs_assembler.proofs.Stopping.{then_first, then_rest}
 use Rattle.rrs_assembler.proofs.operands.register_and_immediate.Goals as goal
 
 pub returns-in_err-rd : goal.returns-in_err-rd

@@ -5,7 +5,7 @@ use Rattle.rrs_assembler.specs.declared.rows.Shape.TheVariants.{Shamt}
 use Rattle.rrs_assembler.specs.Readers.{Fails, Then, IsRegister, IsShamt}
 use Rattle.rrs_assembler.specs.Shapes.{IsOperands}
 use Rattle.rrs_assembler.proofs.OperandTexts.{fails_as, shamt_same, a_register, a_shamt, and_then, register_pieces, register_is}
-use Rattle.rrs_assembler.proofs.Pieces.{then_first, then_rest}
+use Rattle.rrs_assembler.proofs.Stopping.{then_first, then_rest}
 use Rattle.rrs_assembler.proofs.operands.shift.Goals as goal
 
 pub returns-in_err-rd : goal.returns-in_err-rd

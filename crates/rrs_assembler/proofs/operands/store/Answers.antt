@@ -6,7 +6,7 @@ use Rattle.rrs_assembler.specs.declared.rows.Shape.TheVariants.{StoreTo}
 use Rattle.rrs_assembler.specs.Readers.{Fails, Then, IsEnd, IsRegister, IsImmediate}
 use Rattle.rrs_assembler.specs.Shapes.{IsOperands}
 use Rattle.rrs_assembler.proofs.OperandTexts.{fails_as, store_to_same, a_register, an_immediate, an_end, and_then, register_pieces, immediate_pieces, register_is, immediate_is}
-use Rattle.rrs_assembler.proofs.Pieces.{then_first, then_rest}
+use Rattle.rrs_assembler.proofs.Stopping.{then_first, then_rest}
 use Rattle.rrs_assembler.proofs.operands.store.Goals as goal
 
 pub returns-in_err-rs2 : goal.returns-in_err-rs2

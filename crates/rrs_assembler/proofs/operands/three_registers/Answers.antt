@@ -5,7 +5,7 @@ use Rattle.rrs_assembler.specs.declared.rows.Shape.TheVariants.{ThreeRegisters}
 use Rattle.rrs_assembler.specs.Readers.{Fails, Then, IsRegister}
 use Rattle.rrs_assembler.specs.Shapes.{IsOperands}
 use Rattle.rrs_assembler.proofs.OperandTexts.{fails_as, three_registers_same, a_register, and_then, register_pieces, register_is}
-use Rattle.rrs_assembler.proofs.Pieces.{then_first, then_rest}
+use Rattle.rrs_assembler.proofs.Stopping.{then_first, then_rest}
 use Rattle.rrs_assembler.proofs.operands.three_registers.Goals as goal
 
 pub returns-in_err-rd : goal.returns-in_err-rd

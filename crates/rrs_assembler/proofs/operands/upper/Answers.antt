@@ -5,7 +5,7 @@ use Rattle.rrs_assembler.specs.declared.rows.Shape.TheVariants.{UpperToPc}
 use Rattle.rrs_assembler.specs.Readers.{Fails, IsRegister, IsTarget}
 use Rattle.rrs_assembler.specs.Shapes.{IsOperands}
 use Rattle.rrs_assembler.proofs.OperandTexts.{fails_as, upper_to_pc_same, an_upper, register_pieces, register_is}
-use Rattle.rrs_assembler.proofs.Pieces.{then_first, then_rest}
+use Rattle.rrs_assembler.proofs.Stopping.{then_first, then_rest}
 use Rattle.rrs_assembler.proofs.operands.upper.Goals as goal
 
 pub returns-in_err-rd : goal.returns-in_err-rd

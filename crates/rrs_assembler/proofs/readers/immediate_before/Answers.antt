@@ -1,7 +1,7 @@
 use Rattle.std.proofs.Common.{rules}
 use Rattle.std.specs.Fmt.{signed_decimal}
 use Rattle.rrs_assembler.specs.Readers.{FailsBefore, IsImmediate}
-use Rattle.rrs_assembler.proofs.Pieces.{before_piece, before_separator}
+use Rattle.rrs_assembler.proofs.Stopping.{before_piece, before_separator}
 use Rattle.rrs_assembler.proofs.readers.immediate_before.Goals as goal
 
 pub returns-in_err-imm : goal.returns-in_err-imm

@@ -1,7 +1,7 @@
 use Rattle.std.proofs.Common.{rules}
 use Rattle.std.specs.Fmt.{signed_decimal}
 use Rattle.rrs_assembler.specs.Readers.{Fails, IsImmediate}
-use Rattle.rrs_assembler.proofs.Pieces.{last_piece, last_end}
+use Rattle.rrs_assembler.proofs.Stopping.{last_piece, last_end}
 use Rattle.rrs_assembler.proofs.readers.last_immediate.Goals as goal
 
 pub returns-in_err-imm : goal.returns-in_err-imm

@@ -1,7 +1,7 @@
 use Rattle.std.proofs.Common.{rules}
 use Rattle.rrs_lib.specs.Texts.{register}
 use Rattle.rrs_assembler.specs.Readers.{Fails, IsRegister}
-use Rattle.rrs_assembler.proofs.Pieces.{last_piece, last_end}
+use Rattle.rrs_assembler.proofs.Stopping.{last_piece, last_end}
 use Rattle.rrs_assembler.proofs.readers.last_register.Goals as goal
 
 pub returns-in_err-register : goal.returns-in_err-register

@@ -1,7 +1,7 @@
 use Rattle.std.proofs.Common.{rules}
 use Rattle.rrs_lib.specs.Texts.{register}
 use Rattle.rrs_assembler.specs.Readers.{FailsBefore, IsRegister}
-use Rattle.rrs_assembler.proofs.Pieces.{before_piece, before_separator}
+use Rattle.rrs_assembler.proofs.Stopping.{before_piece, before_separator}
 use Rattle.rrs_assembler.proofs.readers.register_before.Goals as goal
 
 pub returns-in_err-register : goal.returns-in_err-register
