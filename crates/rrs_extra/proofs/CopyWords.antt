@@ -23,7 +23,7 @@ copies_more bytes old to from k v read before =
     record {
       words = λ i x less small is. elim (cases_lt i k) [
         | inl earlier ↦
-            read-kept old _ (to + 4 * k) 4 (to + 4 * i) 4 stored (λ j h. inl (omega arith)) ∙ before.words i x earlier small is
+            read-kept old _ _ 4 (to + 4 * i) 4 stored (λ j h. inl (omega arith)) ∙ before.words i x earlier small is
         | inr late ↦
             let here : i ≡ k = omega arith in
             let same : v ≡ x = same_Some _ _ (sym read ∙ rw here at is) in
@@ -152,7 +152,7 @@ module _ (o : Others) (x1 to from n x13 x14 x15 p : ℕ) (last : Option ℕ) (by
         written = None;
         now = r.now;
         copies = r.copies;
-        runs = Programs.RunsOk-join (5 * k + 7) 1 (5 * suc k + 3) _ _ _ (omega arith) r.runs (Programs.RunsOk-one _ _ on);
+        runs = Programs.RunsOk-join (5 * k + 7) 1 _ _ _ _ (omega arith) r.runs (Programs.RunsOk-one _ _ on);
       }
 
   returns_late : (m : ℕ) → n ≡ suc m → Called start x1 to from n

@@ -60,23 +60,23 @@ record Rounds (o : Others) (x1 a b p x12 x13 x14 x15 : ℕ) (last : Option ℕ) 
 rounds : (bound b : ℕ) → b ≤ bound → (o : Others) (x1 a p x12 x13 x14 x15 : ℕ) (last : Option ℕ) (bytes : ByteMap) (writable : ℕ → Bool)
     → HoldsWords bytes p gcd_program → p % 4 ≡ 0 → p + 24 ≤ 2 ^ 32 → x1 % 4 ≡ 0 → x1 < 2 ^ 32 → b < 2 ^ 32
     → Rounds o x1 a b p x12 x13 x14 x15 last bytes writable
-rounds bound zero within o x1 a p x12 x13 x14 x15 last bytes writable holds aligned fits return_aligned x1_small small =
-    let out = leaves o x1 a p x12 x13 x14 x15 last bytes writable holds aligned fits return_aligned x1_small in
+rounds bound zero within o x1 a p x12 x13 x14 x15 last bytes writable holds aligned fits even x1_small small =
+    let out = leaves o x1 a p x12 x13 x14 x15 last bytes writable holds aligned fits even x1_small in
     record { count = 0; at_most = omega arith; divisor = a; is_gcd = IsGcd-from_zero a 0 refl; value = x15; runs = out.runs }
-rounds zero (suc m) within o x1 a p x12 x13 x14 x15 last bytes writable holds aligned fits return_aligned x1_small small =
+rounds zero (suc m) within o x1 a p x12 x13 x14 x15 last bytes writable holds aligned fits even x1_small small =
     absurd (omega (arith, within))
-rounds (suc bound) (suc m) within o x1 a p x12 x13 x14 x15 last bytes writable holds aligned fits return_aligned x1_small small =
+rounds (suc bound) (suc m) within o x1 a p x12 x13 x14 x15 last bytes writable holds aligned fits even x1_small small =
     let less : a % suc m < suc m = omega arith in
     let one = round o x1 a m p x12 x13 x14 x15 last bytes writable holds aligned fits small in
     let rest = rounds bound (a % suc m) (omega arith) o x1 (suc m) p x12 x13 x14 (a % suc m) None bytes writable holds
-    aligned fits return_aligned x1_small (omega arith) in
+    aligned fits even x1_small (omega arith) in
     record {
       count = suc rest.count;
       at_most = omega (arith, rest.at_most, less);
       divisor = rest.divisor;
       is_gcd = IsGcd-from_mod a (suc m) rest.divisor rest.is_gcd;
       value = rest.value;
-      runs = Programs.RunsOk-join 5 (5 * rest.count + 2) (5 * suc rest.count + 2) _ _ _ (omega arith) one.runs rest.runs;
+      runs = Programs.RunsOk-join 5 (5 * rest.count + 2) _ _ _ _ (omega arith) one.runs rest.runs;
     }
 
 -- what a call of `run` returned

@@ -96,8 +96,8 @@ two_registers_and name a b a' b' c c' p q p' q' e =
 pub three-alike : (row : Row) (f g : RType) → IsInRange (R f) → IsInRange (R g)
     → Some (three_registers row f) ≡ Some (three_registers row g) → shown (R f) ≡ shown (R g)
 three-alike row f g p q e =
-    let same = two_registers_and (table row).name f.rd f.rs1 g.rd g.rs1 (register f.rs2) (register g.rs2) p.0 p.2 q.0 q.2
-    (simp append_assoc at (same_Some _ _ e)) in
+    let same = two_registers_and (table row).name f.rd f.rs1 g.rd g.rs1 (register f.rs2) (register g.rs2)
+    p.0 p.2 q.0 q.2 (simp append_assoc at (same_Some _ _ e)) in
     cc (same.0, same.1, same_register f.rs2 g.rs2 p.3 q.3 same.2)
 
 -- two registers and an immediate

@@ -186,7 +186,8 @@ module _ {old new : List Page} {k : ℕ} {p q : Contents} (r : Replaced old new 
       → says (page_at new (b / 4096)) ≡ says (page_at old (b / 4096))
   said_kept says b inside =
       elim (cases_eq (b / 4096) k) [
-        | inl same ↦ ap says (ap (page_at new) same ∙ r.becomes) ∙ inside same ∙ sym (ap says (ap (page_at old) same ∙ r.was))
+        | inl same ↦ ap says (ap (page_at new) same ∙ r.becomes) ∙ inside same
+            ∙ sym (ap says (ap (page_at old) same ∙ r.was))
         | inr apart ↦ ap says (r.others (b / 4096) apart)
       ]
 

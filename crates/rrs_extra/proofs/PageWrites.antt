@@ -73,7 +73,8 @@ module _ (old new : List Page) (a : ℕ) (size : MemAccessSize) (value : ℕ) (a
       let test = is_at (nat_cmp (a / 4096)) in
       let within = aligned_in_word a size aligned in
       let was = holds_at IsFull old (a / 4096) c pages.full found in
-      let full : IsFull d = record { words_long = wrote.long; marks_long = ap length wrote.marks_same ∙ was.marks_long } in
+      let marks_long = ap length wrote.marks_same ∙ was.marks_long in
+      let full : IsFull d = record { words_long = wrote.long; marks_long = marks_long } in
       let replaced : Replaced old new (a / 4096) c d = record {
         was = found;
         becomes = ap (λ xs. page_at xs (a / 4096)) set ∙ set_here old (a / 4096) c d found;
@@ -83,7 +84,8 @@ module _ (old new : List Page) (a : ℕ) (size : MemAccessSize) (value : ℕ) (a
         marks_kept = wrote.marks_same;
       } in
       let marks_of : Contents → List Bool = λ x. x.read_only in
-      did_by (wrote.granted ∙ sym (all_writable_in_page old c a (width size) found was.marks_long (width_pos size) within))
+      did_by (wrote.granted
+      ∙ sym (all_writable_in_page old c a (width size) found was.marks_long (width_pos size) within))
       (λ granted. written_in_page replaced a (width size) value refl within (OnTrue_at granted wrote.written))
       (λ no_answer. set ∙ set_value_same test old d (found ∙ ap Some (sym (OnFalse_at no_answer wrote.refused))))
       (writable_kept replaced) (ap paged_layout set ∙ keys-set_value test old d)

@@ -53,7 +53,8 @@ port_read old new i address a size answer port is did =
     elim (serves_cases is.region a) [
       | inl served ↦ port_of new.regions i address port port old.regions is after (did.served i is.region after.0 is.stands served after.1 ∙ is.is_port)
       | inr other ↦
-          port_of new.regions i address port port old.regions is (is.region, did.others_kept i is.region is.stands other, refl) is.is_port
+          port_of new.regions i address port port old.regions is
+          (is.region, did.others_kept i is.region is.stands other, refl) is.is_port
     ]
 
 -- a port that took a byte
@@ -80,7 +81,8 @@ port_write old new i address byte before fits small is did =
 
 -- a port that took a text
 abbrev pub TookText : (regions : List (Region RamOrPort)) (i address : ℕ) → PrintPort → List ℕ → Type 0
-TookText regions i address before text = (port : PrintPort) × IsPortAt regions i address port × TakesText before text port
+TookText regions i address before text =
+    (port : PrintPort) × IsPortAt regions i address port × TakesText before text port
 
 pub took_text : (accesses : List Access) (text : List ℕ) (old new : Space RamOrPort) (i address : ℕ) (before : PrintPort) → address < 2 ^ 32 → ((k : ℕ) → k < length text → slice_index text k < 256)
     → IsPortAt old.regions i address before → writes_of accesses ≡ writes_to address text → Makes space_reads space_writes accesses old new → TookText new.regions i address before text

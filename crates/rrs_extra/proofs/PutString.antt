@@ -59,9 +59,11 @@ prints_join m n k s u t first later together one more = record {
 }
 
 -- the string after its first byte
-string_after : (bytes : ByteMap) (a b : ℕ) (text : List ℕ) → HoldsString bytes a (b ∷ text) → HoldsString bytes (a + 1) text
+string_after : (bytes : ByteMap) (a b : ℕ) (text : List ℕ) → HoldsString bytes a (b ∷ text)
+    → HoldsString bytes (a + 1) text
 string_after bytes a b text string = record {
-  each = λ i less. let there : a + 1 + i ≡ a + suc i = omega arith in rw there (string.each (suc i) (omega (arith, less)));
+  each = λ i less. let there : a + 1 + i ≡ a + suc i = omega arith in
+      rw there (string.each (suc i) (omega (arith, less)));
   not_zero = λ i less. string.not_zero (suc i) (omega (arith, less));
   below_256 = λ i less. string.below_256 (suc i) (omega (arith, less));
   ended = let there : a + 1 + length text ≡ a + length (b ∷ text) = omega arith in rw there string.ended;
@@ -82,7 +84,8 @@ module _ (o : Others) (x1 port x12 x13 x14 p : ℕ) (bytes : ByteMap) (writable 
   stands : (now : ByteMap) → Stays now → HoldsWords now p put_string_program
   stands now stays = holds_after bytes now port 1 p 24 put_string_program stays apart (omega arith) holds
 
-  first_read : (now : ByteMap) (a c : ℕ) → Stays now → a + 0 ≢ port → bytes (a + 0) ≡ Some c → little_endian now a 1 ≡ Some c
+  first_read : (now : ByteMap) (a c : ℕ) → Stays now → a + 0 ≢ port → bytes (a + 0) ≡ Some c
+      → little_endian now a 1 ≡ Some c
   first_read now a c stays other is =
       let outside = outside_from_none port 1 (a + 0) (λ i less same. other (omega (arith, less, same))) in
       ap (λ o. sum_if_both (Some 0) (at_place 0 o)) (stays (a + 0) outside ∙ is) ∙ ap Some (omega arith)
@@ -94,21 +97,22 @@ module _ (o : Others) (x1 port x12 x13 x14 p : ℕ) (bytes : ByteMap) (writable 
       → little_endian now a 1 ≡ Some c
       → Printing 5 (loop a x15 p last now) (loop (a + 1) c p None (store now port 1 c)) (Write port Byte c true ∷ [])
   round a c x15 last now stays small some byte read =
-      let there = stands now stays in
-      let there' = stands (store now port 1 c) (stays_more now c stays) in
+      let held = stands now stays in
+      let held' = stands (store now port 1 c) (stays_more now c stays) in
       record {
         each = _ ∷ _ ∷ _ ∷ _ ∷ _ ∷ [];
         count = refl;
         makes =
-            making-loads (p + 4) Byte pos a c c (at_word there aligned 0 refl refl) refl refl (omega arith) (omega arith)
+            making-loads (p + 4) Byte pos a c c (at_word held aligned 0 refl refl) refl refl (omega arith) (omega arith)
             read (omega arith) (omega arith)
-            ▹ making (at_word there aligned 1 refl refl)
-            (λ f. Programs.step-branches (p + 12) (not (c == 0)) (pos 8) f refl (grind (arith, nat_tests)) (omega arith)) refl
-            ▹ making (at_word there aligned 3 refl refl)
+            ▹ making (at_word held aligned 1 refl refl)
+            (λ f. Programs.step-branches (p + 12) (not (c == 0)) (pos 8) f refl (grind (arith, nat_tests))
+            (omega arith)) refl
+            ▹ making (at_word held aligned 3 refl refl)
             (λ f. Programs.step-writes (p + 16) 10 (a + 1) (pos (a + 1)) f refl (omega arith) (omega arith)) refl
-            ▹ making-stores (p + 20) Byte port c (at_word there aligned 4 refl refl) refl refl (omega arith) refl
+            ▹ making-stores (p + 20) Byte port c (at_word held aligned 4 refl refl) refl refl (omega arith) refl
             (omega arith) allowed (omega arith)
-            ▹ making (at_word there' aligned 5 refl refl)
+            ▹ making (at_word held' aligned 5 refl refl)
             (λ f. Programs.step-jumps p 0 (word (pos (p + 20 + 4294967276))) f refl (omega arith)) refl
             ▹ no_more;
         printed = refl;
@@ -118,16 +122,16 @@ module _ (o : Others) (x1 port x12 x13 x14 p : ℕ) (bytes : ByteMap) (writable 
   returns : (a x15 : ℕ) (last : Option ℕ) (now : ByteMap) → Stays now → a < 2 ^ 32 → little_endian now a 1 ≡ Some 0
       → Printing 3 (loop a x15 p last now) (loop a 0 x1 None now) []
   returns a x15 last now stays small read =
-      let there = stands now stays in
+      let held = stands now stays in
       record {
         each = _ ∷ _ ∷ _ ∷ [];
         count = refl;
         makes =
-            making-loads (p + 4) Byte pos a 0 0 (at_word there aligned 0 refl refl) refl refl (omega arith) (omega arith)
+            making-loads (p + 4) Byte pos a 0 0 (at_word held aligned 0 refl refl) refl refl (omega arith) (omega arith)
             read refl (omega arith)
-            ▹ making (at_word there aligned 1 refl refl) (λ f. Programs.step-stays (p + 8) false (pos 8)
+            ▹ making (at_word held aligned 1 refl refl) (λ f. Programs.step-stays (p + 8) false (pos 8)
             {registers = registers_by o x1 port a x12 x13 x14 0} f refl refl (omega arith)) refl
-            ▹ making (at_word there aligned 2 refl refl)
+            ▹ making (at_word held aligned 2 refl refl)
             (λ f. Programs.step-jumps x1 0 (made_even (word (pos (x1 + 0)))) f refl (omega arith)) refl
             ▹ no_more;
         printed = refl;
@@ -153,7 +157,8 @@ module _ (o : Others) (x1 port x12 x13 x14 p : ℕ) (bytes : ByteMap) (writable 
       let read = first_read now a c stays (others 0 (omega arith)) (string.each 0 (omega arith)) in
       let one = round a c x15 last now stays (omega arith) (string.not_zero 0 (omega arith))
       (string.below_256 0 (omega arith)) read in
-      let rest = prints text (a + 1) c None (store now port 1 c) (stays_more now c stays) (string_after bytes a c text string)
+      let rest = prints text (a + 1) c None (store now port 1 c) (stays_more now c stays) (string_after bytes a c text
+      string)
       (omega arith) (λ i less same. others (suc i) (omega (arith, less)) (omega (arith, same))) in
       record {
         registers_after = rest.registers_after;
@@ -181,10 +186,12 @@ puts : (text : List ℕ) (limit steps : ℕ) (e : Option InstructionException) (
 puts text limit steps e t o x1 port a x12 x13 x14 x15 p last bytes writable starts words ends limit_is only =
     let called = starts.called in
     let allowed = write-allowed writable port 1 (λ i less.
-    let there : port ≡ port + i = omega (arith, less) in subst (λ (x : ℕ). IsTrue (writable x)) there starts.port_writable) in
+    let there : port ≡ port + i = omega (arith, less) in subst (λ (x : ℕ). IsTrue (writable x)) there
+    starts.port_writable) in
     let all = prints o x1 port x12 x13 x14 p bytes writable called.aligned
-    (words-end bytes writable p put_string_program ends called.program_there (omega arith)) words.0 called.return_aligned
-    words.1 called.program_there starts.apart_from_program allowed text a x15 last bytes (λ b outside. refl) starts.string
+    (words-end bytes writable p put_string_program ends called.program_there (omega arith)) words.0
+    called.return_aligned words.1 called.program_there starts.apart_from_program allowed text a x15 last bytes
+    (λ b outside. refl) starts.string
     (value-small bytes writable (a + length text) 0 ends starts.string.ended)
     (λ i less same. starts.apart_from_text 0 i (omega arith) less (omega (arith, same))) in
     let read = read_after bytes all.bytes_after port 1 x1 4 x1 4 all.stay starts.apart_from_return (omega arith) (omega arith) ∙ word_read bytes x1 called.stops.mapped in
@@ -199,7 +206,8 @@ puts text limit steps e t o x1 port a x12 x13 x14 x15 p last bytes writable star
     record {
       steps_made = same.0;
       fault = same.1;
-      bytes_kept = rw same.2 (λ b other. all.stay b (outside_from_none port 1 b (λ i less same. other (omega (arith, less, same)))));
+      bytes_kept = rw same.2 (λ b other. all.stay b (outside_from_none port 1 b (λ i less same. other
+          (omega (arith, less, same)))));
       printed = λ accesses made. ap writes_of (AccessesOfRun-unique one_row_at_most s (answers_of_run steps e) accesses _ made (subst (λ d. AccessesOfRun s d (joined all.runs.each ++ (fetch m ∷ []))) answers makes))
           ∙ writes_of-append (joined all.runs.each) (fetch m ∷ []) ∙ append-nil _ ∙ all.runs.printed;
     }

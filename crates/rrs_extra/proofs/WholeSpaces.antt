@@ -52,4 +52,5 @@ module _ (m whole : VecMemory) (size : ℕ) (long : size ≡ 4 * length m.mem.it
   nested_bytes = nested_region vec_bytes None size m (no_byte_past m.mem.items size long) ∙ ap bytes_of_words same
 
   pub nested_writable : space_writable (space_writable vec_writable) (region 0 size (region 0 size m ∷ []) ∷ []) ≡ vec_writable whole
-  nested_writable = nested_region vec_writable false size m (not_writable_past m.mem.items size long) ∙ ap lies_in_words same
+  nested_writable = nested_region vec_writable false size m (not_writable_past m.mem.items size long)
+      ∙ ap lies_in_words same

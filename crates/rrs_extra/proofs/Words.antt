@@ -30,7 +30,8 @@ value-small bytes writable b x ends is =
     let past : 2 ^ 32 ≤ b → ⊥ = λ from. none-some x (sym (ends b from).0 ∙ is) in omega arith
 
 -- n places from a on, where nothing is so at 2 ^ 32 or past it
-ends_by : (P : ℕ → Type 0) (a n : ℕ) → ((b : ℕ) → 2 ^ 32 ≤ b → P b → ⊥) → ((i : ℕ) → i < n → P (a + i)) → a ≤ 2 ^ 32 → a + n ≤ 2 ^ 32
+ends_by : (P : ℕ → Type 0) (a n : ℕ) → ((b : ℕ) → 2 ^ 32 ≤ b → P b → ⊥) → ((i : ℕ) → i < n → P (a + i)) → a ≤ 2 ^ 32
+    → a + n ≤ 2 ^ 32
 ends_by P a zero none all small = omega (arith, small)
 ends_by P a (suc n) none all small =
     let past : 2 ^ 32 ≤ a + n → ⊥ = λ from. none (a + n) from (all n (omega arith)) in omega (arith, past)
@@ -38,7 +39,8 @@ ends_by P a (suc n) none all small =
 -- n bytes that are mapped end there at the latest
 pub mapped-ends : (bytes : ByteMap) (writable : ℕ → Bool) (a n : ℕ) → EndsAtLastAddress bytes writable → IsMapped bytes a n → a ≤ 2 ^ 32 → a + n ≤ 2 ^ 32
 mapped-ends bytes writable a n ends =
-    ends_by (λ b. IsSome (bytes b)) a n (λ b from mapped. none-some _ (sym (ends b from).0 ∙ is_its_value (bytes b) mapped))
+    ends_by (λ b. IsSome (bytes b)) a n (λ b from mapped. none-some _ (sym (ends b from).0
+    ∙ is_its_value (bytes b) mapped))
 
 -- so do n bytes that are writable
 pub writable-ends : (bytes : ByteMap) (writable : ℕ → Bool) (a n : ℕ) → EndsAtLastAddress bytes writable → IsWritable writable a n → a ≤ 2 ^ 32 → a + n ≤ 2 ^ 32
@@ -82,7 +84,8 @@ at_word {bytes = bytes} {p = p} {words = words} holds aligned i within is =
     fetches (omega (arith, place-is p i)) there (decodes _ _ _ is)
 
 -- it writes z, which is x modulo 2 ^ 32, to a register that is not x0, and another word is behind it
-pub writes : {bytes : ByteMap} {p : ℕ} {words : List ℕ} {row : Row} {f : Fields} {registers : List ℕ} {last : Option ℕ} {writable : ℕ → Bool}
+pub writes : {bytes : ByteMap} {p : ℕ} {words : List ℕ} {row : Row} {f : Fields} {registers : List ℕ}
+    {last : Option ℕ} {writable : ℕ → Bool}
     → HoldsWords bytes p words → p % 4 ≡ 0 → p + 4 * length words ≤ 2 ^ 32 → (i r x : ℕ) (z : ℤ)
     → nat_lt (suc i) (length words) ≡ true → decode (slice_index words i) ≡ Some (record { row = row; fields = f })
     → execute row f (at registers (place p i) None bytes writable)
@@ -121,7 +124,8 @@ holds_after old new a n p m words others apart fits holds = record { each = λ i
 
 -- what holds of each of m places holds of each of n of them
 pub part : (P : ℕ → Type 0) (a m k n : ℕ) → ((i : ℕ) → i < m → P (a + i)) → k + n ≤ m → (i : ℕ) → i < n → P (a + k + i)
-part P a m k n all fits i less = let there : a + (k + i) ≡ a + k + i = omega arith in subst P there (all (k + i) (omega arith))
+part P a m k n all fits i less = let there : a + (k + i) ≡ a + k + i = omega arith in subst P there
+    (all (k + i) (omega arith))
 
 -- ---- premises over memories that are known, by computation
 
@@ -141,5 +145,6 @@ holds_test bytes a words =
 pub holds_by_test : (bytes : ByteMap) (a : ℕ) (words : List ℕ) → holds_test bytes a words ≡ true → HoldsWords bytes a words
 holds_by_test bytes a words test = record {
   each = λ i less. value_is (little_endian bytes (a + 4 * i) 4) (slice_index words i)
-      (agree_below_at (λ i. is_value (little_endian bytes (a + 4 * i) 4) (slice_index words i)) (λ i. true) (length words) i test less);
+      (agree_below_at (λ i. is_value (little_endian bytes (a + 4 * i) 4) (slice_index words i)) (λ i. true)
+      (length words) i test less);
 }

@@ -83,7 +83,8 @@ module _ {R W E K : Type 0} (gives : Gives R K) (takes : Takes W) (takes_errors 
     pub of_later : List Access
     pub later : ℕ
     pub does : Does gives takes takes_errors request e u after there of_call None
-    pub goes_on : Served serves ending new t (limit - (n + 1)) after (with_pc there (word (pos (pc + 4)))) later of_later
+    pub goes_on : Served serves ending new t (limit - (n + 1)) after (with_pc there (word (pos (pc + 4)))) later
+        of_later
     pub counted : steps ≡ n + 1 + later
 
   module _ {limit n pc steps : ℕ} {e : Process R W E K} {u : State} where

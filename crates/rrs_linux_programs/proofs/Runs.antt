@@ -28,7 +28,8 @@ pub to_call : {bytes : ByteMap} {p : ℕ} {words registers : List ℕ} {s : Stat
     → HoldsWords bytes p words → p % 4 ≡ 0 → (limit n i : ℕ) → n < limit → nat_lt i (length words) ≡ true
     → slice_index words i ≡ 0x73 → Chain n s (at registers (place p i) last bytes writable)
     → RunUntil limit s n (Some (EnvironmentCall (place p i))) (at registers (place p i) None bytes writable)
-to_call {bytes = bytes} {p = p} {registers = registers} {writable = writable} holds aligned limit n i less within is chain =
+to_call {bytes = bytes} {p = p} {registers = registers} {writable = writable} holds aligned limit n i less within is
+    chain =
     Programs.RunUntil-fault limit n _ _ _ (EnvironmentCall (place p i)) less chain.runs
     (Programs.step-executed _ (at registers (place p i) None bytes writable) _ Row.Ecall _
     (Err (EnvironmentCall (place p i))) _ (at_word holds aligned i within (ap decode is)) refl refl refl)
