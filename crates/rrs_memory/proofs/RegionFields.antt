@@ -22,9 +22,8 @@ module _ {M : Type 0} where
   -- a region that stands in the code's list stands in the contract's
   pub stands_of : (fields : List (MemoryRegion M)) (old : List (Region M)) (i : ℕ) (x : MemoryRegion M) → map region_of fields ≡ old → i < length old → x ≡ get_or fields i x → (slice_get fields i ≡ Some x) × (slice_get old i ≡ Some (region_of x))
   stands_of fields old i x view within read =
-      let long : length (map region_of fields) ≡ length fields = length-map fields region_of in
-      let long_old : length (map region_of fields) ≡ length old = ap length view in
-      let at_fields : slice_get fields i ≡ Some x = slice_get_read fields (length fields) i x refl (omega (arith, long, long_old, within)) read in
+      let inside : i < length fields = omega (arith, length-map fields region_of, ap length view, within) in
+      let at_fields : slice_get fields i ≡ Some x = slice_get_read fields (length fields) i x refl inside read in
       (at_fields, ap (λ xs. slice_get xs i) (sym view) ∙ slice_get-map region_of fields i ∙ rw at_fields refl)
 
   -- the region of the code that was found for an address, at its place in the list of the contract
@@ -37,8 +36,7 @@ module _ {M : Type 0} where
   -- a region that serves an address is one of the code's list
   pub served_within : (fields : List (MemoryRegion M)) (old : List (Region M)) (i a : ℕ) → map region_of fields ≡ old → IsServedAt old a i → i < length fields
   served_within fields old i a view found =
-      let long_old : length (map region_of fields) ≡ length old = ap length view in
-      omega (arith, length-map fields region_of, long_old, slice_get_within old i found.region found.stands)
+      omega (arith, length-map fields region_of, ap length view, slice_get_within old i found.region found.stands)
 
   -- the region that was read at a served index
   pub served_field : (fields : List (MemoryRegion M)) (old : List (Region M)) (i : ℕ) (x : MemoryRegion M) (a : ℕ) → map region_of fields ≡ old → IsServedAt old a i → x ≡ get_or fields i x → Found fields old i x a

@@ -1,7 +1,6 @@
 -- What the regions of an address space say of an address, and what replacing one region's memory changes of that.
 use Rattle.std.proofs.Common.{◌≡◌, ◌⊎◌, ℕ, zero, suc, ◌+◌, ◌-◌, ◌/◌, ◌%◌, ◌^◌, ◌<◌, ◌≤◌, List, [], ◌∷◌, ◌++◌, length, map, get_or, Option, Some, None, Bool, true, false, All, Any, inl, inr, refl, sym, ap, subst, ◌∙◌, arith}
 use Rattle.std.specs.List.{AllPairs, slice_get}
-use Rattle.std.specs.Bool.{OnTrue, OnFalse}
 use Rattle.std.proofs.Math.Path.{fun_ext}
 use Rattle.std.proofs.Math.ListN.{get_or-map}
 use Rattle.std.proofs.lemmas.Bool.{false≢true, cases_Bool, OnTrue_at, OnTrue_from, OnFalse_at, OnFalse_from}
@@ -11,7 +10,7 @@ use Rattle.std.proofs.lemmas.List.Quantifiers.{all_pairs_push}
 use Rattle.std.proofs.lemmas.List.Elements.{All-push}
 use Rattle.std.proofs.lemmas.List.{get_or_default}
 use Rattle.rrs_memory.specs.declared.MemAccessSize.{MemAccessSize}
-use Rattle.rrs_memory.specs.declared.MemAccessSize.TheVariants.{Byte, HalfWord, Word}
+use Rattle.rrs_memory.specs.declared.MemAccessSize.TheVariants.{Byte}
 use Rattle.rrs_memory.specs.Bytes.{ByteMap, width, store, IsLawful, EndsAtLastAddress, Reads, Writes}
 pub use Rattle.rrs_memory.proofs.ByteLemmas.{little_endian-moved, all_writable-moved, IsLawful-moved, little_endian-unmapped, all_writable-refused, IsLawful-unmapped, store_inside, store_outside, store_by}
 use Rattle.rrs_memory.specs.Spaces.{Region, Space, serves, served_by, space_bytes, space_writable, space_layout, Overlaps, bounds, IsWordRegion, IsSpace, with_memory, CountsCompared, OthersKept, ServedBecomes, SpaceAccess}

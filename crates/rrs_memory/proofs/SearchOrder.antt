@@ -197,14 +197,13 @@ module _ {M : Type 0} where
   pub none_serves : (regions : List (Region M)) (order : List ℕ) (a : ℕ) → IsSearchOrder (map bounds regions) order → ((j : ℕ) → j < length order → base_at (map bounds regions) (get_or order j 0) ≤ a → base_at (map bounds regions) (get_or order j 0) + size_at (map bounds regions) (get_or order j 0) ≤ a) → All (λ r. serves r a ≡ false) regions
   none_serves regions order a sorted apart k d within =
       let r = get_or regions k d in
-      let long : length (map bounds regions) ≡ length regions = length-map regions bounds in
       let here : get_or (map bounds regions) k (0, 0) ≡ bounds r = get_or-map bounds regions k d (0, 0) within in
       let base : base_at (map bounds regions) k ≡ r.base = ap (λ p. p.0) here in
       let size : size_at (map bounds regions) k ≡ r.size = ap (λ p. p.1) here in
       false_serves r a (λ past.
       elim (cases_lt 0 r.size) [
         | inl some ↦
-            let place = sorted.complete k (omega arith) (omega arith) in
+            let place = sorted.complete k (omega (arith, length-map regions bounds)) (omega arith) in
             let far = rw (place.2) at (apart place.0 place.1) in
             omega (arith, far (omega arith))
         | inr none ↦ omega arith
@@ -215,16 +214,13 @@ module _ {M : Type 0} where
   -- the base and the size of a region of the code, in the list of both
   pub span_of_field : (fields : List (MemoryRegion M)) (i : ℕ) (d : MemoryRegion M) → i < length fields → get_or (map bounds (map region_of fields)) i (0, 0) ≡ bounds (region_of (get_or fields i d))
   span_of_field fields i d within =
-      let long : length (map region_of fields) ≡ length fields = length-map fields region_of in
-      get_or-map bounds (map region_of fields) i (region_of d) (0, 0) (omega arith)
+      get_or-map bounds (map region_of fields) i (region_of d) (0, 0) (omega (arith, length-map fields region_of))
       ∙ ap bounds (get_or-map region_of fields i d (region_of d) within)
 
   -- an index of the order is that of a region
   pub order_within : (fields : List (MemoryRegion M)) (order : List ℕ) (j : ℕ) → IsSearchOrder (map bounds (map region_of fields)) order → j < length order → get_or order j 0 < length fields
   order_within fields order j sorted within =
-      let long : length (map region_of fields) ≡ length fields = length-map fields region_of in
-      let more : length (map bounds (map region_of fields)) ≡ length (map region_of fields) = length-map (map region_of fields) bounds in
-      omega (arith, sorted.within j within)
+      omega (arith, length-map fields region_of, length-map (map region_of fields) bounds, sorted.within j within)
 
   -- the base that is read at a place of the order is the one that stands there
   pub base_read : (fields : List (MemoryRegion M)) (order : List ℕ) (j : ℕ) (d : MemoryRegion M) → IsSearchOrder (map bounds (map region_of fields)) order → j < length order → base_at (map bounds (map region_of fields)) (get_or order j 0) ≡ (get_or fields (get_or order j 0) d).base
@@ -234,9 +230,7 @@ module _ {M : Type 0} where
   -- there is no longer order than there are regions
   pub order_few : (fields : List (MemoryRegion M)) (order : List ℕ) → IsSearchOrder (map bounds (map region_of fields)) order → length order ≤ length fields
   order_few fields order sorted =
-      let long : length (map region_of fields) ≡ length fields = length-map fields region_of in
-      let more : length (map bounds (map region_of fields)) ≡ length (map region_of fields) = length-map (map region_of fields) bounds in
-      omega (arith, sorted.few)
+      omega (arith, length-map fields region_of, length-map (map region_of fields) bounds, sorted.few)
 
   -- a region with another memory leaves a space, and its order
   pub region_replaced : (fields : List (MemoryRegion M)) (old : List (Region M)) (order : List ℕ) (i : ℕ) (x y : MemoryRegion M) → map region_of fields ≡ old → slice_get fields i ≡ Some x → y ≡ with_inner x y.memory → IsSpace old → IsSearchOrder (map bounds (map region_of fields)) order → IsSpace (map region_of (set fields i y)) × IsSearchOrder (map bounds (map region_of (set fields i y))) order
@@ -263,8 +257,7 @@ module _ {M : Type 0} where
   -- the region of the code that contains the address serves it
   pub field_at : (fields : List (MemoryRegion M)) (index a : ℕ) (x : MemoryRegion M) → index < length fields → x ≡ get_or fields index x → x.base ≤ a → a < x.base + x.size → a < 2 ^ 32 → IsServedAt (map region_of fields) a index
   field_at fields index a x inside read from before fits =
-      let long : length (map region_of fields) ≡ length fields = length-map fields region_of in
-      let stands = stands_of fields (map region_of fields) index x refl (omega (arith, inside, long)) read in
+      let stands = stands_of fields (map region_of fields) index x refl (omega (arith, inside, length-map fields region_of)) read in
       record { region = region_of x; stands = stands.1; serves_it = true_serves (region_of x) a from before fits }
 
   -- the same of the region of a place in the order
@@ -293,10 +286,9 @@ module _ {M : Type 0} where
   -- where a region has addresses, it stands in the order
   pub some_in_order : (regions : List (Region M)) (order : List ℕ) → IsSearchOrder (map bounds regions) order → Any HasAddresses regions → 0 < length order
   some_in_order regions order sorted any =
-      let long : length (map bounds regions) ≡ length regions = length-map regions bounds in
       let size : size_at (map bounds regions) any.0 ≡ (get_or regions any.0 any.1).size = ap (λ p. p.1) (get_or-map bounds regions any.0 any.1 (0, 0) any.2) in
       let here : (get_or regions any.0 any.1).size ≡ any.1.size = ap (λ r. r.size) any.3 in
-      let place = sorted.complete any.0 (omega (arith, long, any.2)) (omega (arith, size, here, any.4)) in
+      let place = sorted.complete any.0 (omega (arith, length-map regions bounds, any.2)) (omega (arith, size, here, any.4)) in
       omega (arith, place.1)
 
   -- ---- a region appended
@@ -309,9 +301,8 @@ module _ {M : Type 0} where
   pub order_inserted : (fields new : List (MemoryRegion M)) (old : List (Region M)) (order new_order : List ℕ) (place index : ℕ) (y : MemoryRegion M) → map region_of fields ≡ old → IsSearchOrder (map bounds (map region_of fields)) order → (Any (Overlaps y.base y.size) old → ⊥) → new ≡ fields ++ y ∷ [] → new_order ≡ insert order place index → index ≡ length fields → 0 < y.size → place ≤ length order → ((j : ℕ) → j < place → base_at (map bounds (map region_of fields)) (get_or order j 0) ≤ y.base) → ((j : ℕ) → place ≤ j → j < length order → y.base < base_at (map bounds (map region_of fields)) (get_or order j 0)) → IsSearchOrder (map bounds (map region_of new)) new_order
   order_inserted fields new old order new_order place index y view sorted apart e inserted at some fits before after =
       let spans = map bounds (map region_of fields) in
-      let long : length (map region_of fields) ≡ length fields = length-map fields region_of in
       let more : length spans ≡ length (map region_of fields) = length-map (map region_of fields) bounds in
-      let last : index ≡ length spans = omega arith in
+      let last : index ≡ length spans = omega (arith, length-map fields region_of) in
       rw (spans_push fields new y e, inserted, last) (IsSearchOrder-insert spans order place (y.base, y.size) sorted fits some before after (λ i within both.
       let inside : i < length (map region_of fields) = omega (arith, more, within) in
       let r = get_or (map region_of fields) i (region_of y) in

@@ -8,7 +8,7 @@ use Rattle.std.proofs.Math.Pow.{pow_mono}
 use Rattle.std.proofs.lemmas.Bool.{lt-ltb, le-ltb, and_from, and_left, cond-true, cond-false, cases_lt, cases_eq}
 use Rattle.std.proofs.lemmas.List.{length-set, get_or-set_same, get_or-set_other}
 use Rattle.rrs_memory.specs.declared.MemAccessSize.{MemAccessSize}
-use Rattle.rrs_memory.specs.declared.MemAccessSize.TheVariants.{Byte, HalfWord, Word}
+use Rattle.rrs_memory.specs.declared.MemAccessSize.TheVariants.{Byte}
 use Rattle.rrs_memory.specs.Bytes.{width, little_endian, store, sum_if_both, at_place}
 use Rattle.rrs_memory.specs.VecBytes.{bytes_of_words, lies_in_words}
 use Rattle.rrs_memory.proofs.ByteLemmas.{pow-256, pow-256_pos, one_more_byte, store_by}

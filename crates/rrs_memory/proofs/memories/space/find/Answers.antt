@@ -1,4 +1,4 @@
-use Rattle.std.proofs.Common.{◌≡◌, ◌+◌, ◌-◌, ◌/◌, ◌<◌, length, refl, arith}
+use Rattle.std.proofs.Common.{◌+◌, ◌-◌, ◌/◌, ◌<◌, length, refl, arith}
 use Rattle.rrs_memory.specs.Spaces.{binary_digits}
 use Rattle.rrs_memory.proofs.RegionFields.{refuted}
 use Rattle.rrs_memory.proofs.SearchOrder.{digits_room, halved, one_round, order_few, along, field_base, field_found, field_ended, none_left}
