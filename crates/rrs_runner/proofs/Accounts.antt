@@ -1,12 +1,12 @@
 -- Accounts of runs, put together from what is printed before each step.
-use Rattle.std.proofs.Common.{◌≡◌, ℕ, ◌+◌, ◌<◌, List, [], ◌++◌, Option, Some, Result, Ok, Err, IfErr, refl, sym, ap, ◌∙◌, subst, add-one, append_assoc, append-nil, inl, inr}
+use Rattle.std.proofs.Common.{◌≡◌, ℕ, ◌+◌, ◌<◌, List, [], ◌++◌, Option, Some, Ok, Err, refl, sym, ap, ◌∙◌, subst, add-one, append_assoc, append-nil, inl, inr}
 use Rattle.std.specs.Io.KnownBytes.{Appends}
 use Rattle.std.proofs.KnownBytes.{Appends-trans}
 use Rattle.rrs_lib.specs.declared.instruction_executor.InstructionException.{InstructionException}
 use Rattle.rrs_lib.specs.Machine.{State}
 use Rattle.rrs_lib.specs.Steps.{Step, next_word}
 use Rattle.rrs_runner.specs.declared.fault.RunFault.{RunFault}
-use Rattle.rrs_runner.specs.declared.fault.RunFault.TheVariants.{OutOfMemory, Reader, Refused, Output}
+use Rattle.rrs_runner.specs.declared.fault.RunFault.TheVariants.{OutOfMemory, Output}
 use Rattle.rrs_runner.specs.Texts.{ending_lines}
 use Rattle.rrs_runner.specs.Faults.{StopsPrinting}
 use Rattle.rrs_runner.specs.Printed.{AppendsLines, IsBeginning}

@@ -1,5 +1,5 @@
 -- What is printed, put together, and the state that a run of a reader's bytes starts in.
-use Rattle.std.proofs.Common.{◌≡◌, ℕ, List, ◌++◌, drop, replicate, Bool, Option, Some, None, Result, Ok, Err, IfErr, refl, ap, ◌∙◌, subst, inl, inr}
+use Rattle.std.proofs.Common.{◌≡◌, ℕ, List, ◌++◌, drop, replicate, Bool, Option, Some, None, Result, Ok, IfErr, refl, ap, subst, inl, inr}
 use Rattle.std.specs.Io.KnownBytes.{Keeps}
 use Rattle.std.proofs.KnownBytes.{Appends-trans}
 use Rattle.std.proofs.lemmas.List.{length-replicate}

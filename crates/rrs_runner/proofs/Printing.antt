@@ -1,5 +1,5 @@
 -- Texts that are written one after another.
-use Rattle.std.proofs.Common.{◌≡◌, ℕ, ◌+◌, ◌-◌, ◌≤◌, List, length, length-drop, arith, ◌∙◌, [], ◌++◌, take, drop, Option, sym, ap, subst, Result, Ok, Err, OnOk, IfErr, append-nil, take-append-drop}
+use Rattle.std.proofs.Common.{◌≡◌, ℕ, ◌+◌, ◌-◌, ◌≤◌, List, length, length-drop, arith, ◌∙◌, [], ◌++◌, take, drop, Option, sym, ap, subst, Result, OnOk, IfErr, append-nil, take-append-drop}
 use Rattle.std.proofs.lemmas.List.{take_rest}
 use Rattle.std.proofs.lemmas.Result.{on_ok_weaker, IfErr-weaker}
 use Rattle.std.proofs.Math.Seq.{take-add}
