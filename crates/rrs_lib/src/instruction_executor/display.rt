@@ -11,21 +11,15 @@ impl fmt::Display for InstructionException {
 
     fn fmt<W: fmt::Write>(&self, f: &mut fmt::Formatter<W>) -> fmt::Result {
         match *self {
-            InstructionException::IllegalInstruction(pc, word) => {
+            Self::IllegalInstruction(pc, word) => {
                 write!(f, "IllegalInstruction pc=0x{pc:08x} word=0x{word:08x}")
             }
-            InstructionException::FetchError(pc) => write!(f, "FetchError pc=0x{pc:08x}"),
-            InstructionException::LoadAccessFault(addr) => {
-                write!(f, "LoadAccessFault addr=0x{addr:08x}")
-            }
-            InstructionException::StoreAccessFault(addr) => {
-                write!(f, "StoreAccessFault addr=0x{addr:08x}")
-            }
-            InstructionException::AlignmentFault(addr) => {
-                write!(f, "AlignmentFault addr=0x{addr:08x}")
-            }
-            InstructionException::EnvironmentCall(pc) => write!(f, "EnvironmentCall pc=0x{pc:08x}"),
-            InstructionException::Breakpoint(pc) => write!(f, "Breakpoint pc=0x{pc:08x}"),
+            Self::FetchError(pc) => write!(f, "FetchError pc=0x{pc:08x}"),
+            Self::LoadAccessFault(addr) => write!(f, "LoadAccessFault addr=0x{addr:08x}"),
+            Self::StoreAccessFault(addr) => write!(f, "StoreAccessFault addr=0x{addr:08x}"),
+            Self::AlignmentFault(addr) => write!(f, "AlignmentFault addr=0x{addr:08x}"),
+            Self::EnvironmentCall(pc) => write!(f, "EnvironmentCall pc=0x{pc:08x}"),
+            Self::Breakpoint(pc) => write!(f, "Breakpoint pc=0x{pc:08x}"),
         }
     }
 }
