@@ -1,6 +1,6 @@
 -- Which format each kind of action has.
 use Rattle.std.proofs.Common.{◌≡◌, refl}
-use Rattle.rrs_instruction.specs.Table.{Row, Format, InR, InI, InIShamt, InS, InB, InU, InJ, table, Action, OnRegisters, OnImmediate, OnShamt, LoadUpper, AddUpperToPc, BranchIf, BranchUnless, Load, Store, JumpAndLink, JumpAndLinkRegister, NoEffect, CallEnvironment, Break}
+use Rattle.rrs_instruction.specs.Table.{Row, Format, InR, InI, InIShamt, InS, InB, InU, InJ, table, Action, OnRegisters, OnShamt, LoadUpper, AddUpperToPc, BranchIf, BranchUnless, Store, JumpAndLink}
 
 abbrev pub format_of_action : Action → Format
 format_of_action (OnRegisters op) = InR

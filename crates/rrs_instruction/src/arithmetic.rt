@@ -1,6 +1,5 @@
-//! The results of the integer instructions, on words.
-//!
-//! `a` is the value of rs1, and `b` that of rs2, the immediate modulo 2^32, or the shift amount.
+//! The results of the integer instructions, on words: `a` is the value of rs1, and `b` that of rs2,
+//! the immediate modulo 2^32, or the shift amount.
 
 #![tactic(auto, using(crate::proofs::Bitwise::by_bits))]
 
