@@ -1,7 +1,6 @@
 pub mod Actions
 pub mod Bitwise
 pub mod Decoder
-pub mod Examples
 pub mod Fields
 pub mod Formats
 pub mod Instructions

@@ -1,7 +1,6 @@
 -- Lemmas of the crates below that proofs of programs and of memories cite.
 pub use Rattle.rrs_instruction.proofs.Actions
 pub use Rattle.rrs_instruction.proofs.Decoder
-pub use Rattle.rrs_instruction.proofs.Examples
 pub use Rattle.rrs_instruction.proofs.Fields
 pub use Rattle.rrs_instruction.proofs.Formats
 pub use Rattle.rrs_instruction.proofs.Instructions
@@ -17,7 +16,6 @@ pub mod AccessChains
 pub mod Accesses
 pub mod ComputedSteps
 pub mod Engines
-pub mod ExampleRows
 pub mod Keeping
 pub mod Making
 pub mod Programs
