@@ -7,7 +7,7 @@ use Rattle.rrs_instruction.specs.Words.{floor_mod}
 use Rattle.rrs_instruction.specs.Encodings.{immediate_bits}
 
 -- a number below h is its own remainder modulo 2 * h
-below_modulus : (h n : ℕ) → n < h → n % (2 * h) ≡ n
+pub below_modulus : (h n : ℕ) → n < h → n % (2 * h) ≡ n
 below_modulus h n p = mod-eq_of_lt (omega arith)
 
 -- an integer from -h to h - 1 is determined by its remainder modulo 2 * h
