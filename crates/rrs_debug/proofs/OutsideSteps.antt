@@ -1,5 +1,5 @@
 -- An access that is made outside of the machine: what an action does where the memory answers so, and the step that it is.
-use Rattle.std.proofs.Common.{◌≡◌, ℕ, zero, suc, ◌%◌, ◌==◌, ℤ, List, [], ◌∷◌, ◌++◌, Bool, true, false, if◌then◌else◌, Option, Some, None, option_map, Ok, Err, refl, sym, ap, subst, ◌∙◌, eq-eqb, IfSome, IsSomeAnd}
+use Rattle.std.proofs.Common.{◌≡◌, ℕ, zero, suc, ◌%◌, ◌==◌, ℤ, List, [], ◌∷◌, ◌++◌, Bool, true, false, if◌then◌else◌, Option, Some, None, option_map, Ok, Err, refl, sym, ap, subst, ◌∙◌, eq-eqb, IsSomeAnd}
 use Rattle.std.proofs.lemmas.Option.{none-some, same_Some}
 use Rattle.std.proofs.lemmas.Bool.{cond-true, eqb-true, false≢true, true≢false}
 use Rattle.rrs_lib.specs.declared.MemAccessSize.{MemAccessSize}
@@ -32,9 +32,13 @@ over bytes writable s = record s { bytes = bytes; writable = writable }
 abbrev over_outcome : ByteMap → (ℕ → Bool) → Outcome → Outcome
 over_outcome bytes writable o = outcome (over bytes writable o.after) o.answer
 
+abbrev answer_in : Option Outcome → StepAnswer
+answer_in None = Ok tt
+answer_in (Some o) = answered o.answer
+
 -- over another memory it leaves the same, and it is no fault
 abbrev Plain : ByteMap → (ℕ → Bool) → Option Outcome → Option Outcome → Type 0
-Plain b w o o' = (o ≡ option_map (over_outcome b w) o') × IfSome o' (λ x. answered x.answer ≡ Ok tt)
+Plain b w o o' = (o ≡ option_map (over_outcome b w) o') × (answer_in o' ≡ Ok tt)
 
 put-over : (b : ByteMap) (w : ℕ → Bool) (s : State) (rd : ℕ) (z : ℤ)
     → put (over b w s) rd z ≡ over b w (put s rd z)
@@ -72,7 +76,7 @@ plain AddUpperToPc (U f) b w s h = (simp put-over, refl)
 plain JumpAndLink (J f) b w s h = (simp put-over, refl)
 plain JumpAndLinkRegister (I f) b w s h = (simp (reg-over, put-over), refl)
 plain NoEffect (I f) b w s h = (refl, refl)
-plain _ _ b w s h = (refl, tt)
+plain _ _ b w s h = (refl, refl)
 
 advanced-over : (b : ByteMap) (w : ℕ → Bool) (u : State) (a : Answer)
     → advanced (over b w u) a ≡ over b w (advanced u a)
@@ -82,22 +86,18 @@ advanced-over b w u (Err e) = refl
 
 -- ---- an action whose access is answered
 
--- a row accesses 1, 2 or 4 bytes
+-- how many bytes an action accesses, if it does: a row accesses 1, 2 or 4
+abbrev bytes_of : Action → ℕ
+bytes_of (Load n extended) = n
+bytes_of (Store n) = n
+bytes_of _ = 4
+
 abbrev SizeKnown : Action → Type 0
-SizeKnown (Load n extended) = width (size_of n) ≡ n
-SizeKnown (Store n) = width (size_of n) ≡ n
-SizeKnown _ = Unit {0}
+SizeKnown action = width (size_of (bytes_of action)) ≡ bytes_of action
 
 row_size : (row : Row) → SizeKnown (table row).action
 row_size Row.Lb = refl
-row_size Row.Lbu = refl
-row_size Row.Lh = refl
-row_size Row.Lhu = refl
-row_size Row.Lw = refl
-row_size Row.Sb = refl
-row_size Row.Sh = refl
-row_size Row.Sw = refl
-row_size _ = tt
+row_size _ = refl
 
 -- where the request is answered by what is given, the outcome is the one that was computed from it
 abbrev Answers : Action → Fields → Option ℕ → State → RequestAnswer → Outcome → Type 0
@@ -242,8 +242,6 @@ asked_by : (action : Action) (f : Fields) (s : State)
     → accesses_by action f (cleared s) ≡ requested s (answer_by action f (cleared s))
 asked_by (Load n extended) (I f) s = choice_asked _ _ s _ _ refl
 asked_by (Store n) (S f) s = choice_asked _ _ s _ _ refl
-asked_by CallEnvironment _ s = refl
-asked_by Break _ s = refl
 asked_by _ _ s = refl
 
 asked : (s : State) (w : ℕ) (row : Row) (f : Fields) (r : RequestAnswer) → s.pc % 4 ≡ 0
@@ -284,8 +282,7 @@ foretold : (s : State) (w : ℕ) (row : Row) (f : Fields) (r : RequestAnswer) (o
     → Answers (table row).action f None s r o → Foretells s r
 foretold s w row f (Ok None) o aligned read decodes executes is answers =
     let calm = (plain (table row).action f s.bytes s.writable (cleared s) (sym is)).1 in
-    let ok : answered o.answer ≡ Ok tt =
-    subst (λ (x : Option Outcome). IfSome x (λ y. answered y.answer ≡ Ok tt)) executes calm in
+    let ok : answered o.answer ≡ Ok tt = sym (ap answer_in executes) ∙ calm in
     (advanced o.after o.answer, Legal w row f o.after o.answer aligned read decodes executes refl (sym ok))
 foretold s w row f (Ok (Some q)) o aligned read decodes executes is answers = tt
 foretold s w row f (Err e) o aligned read decodes executes is answers =
@@ -382,8 +379,6 @@ behind_by (Store n) (S f) s q w row v known is fetched decoded asks =
       aligned = subst (λ m. address % m ≡ 0) known found.0;
       after = refl;
     })
-behind_by CallEnvironment _ s q w row v known is fetched decoded asks = cc
-behind_by Break _ s q w row v known is fetched decoded asks = cc
 behind_by _ _ s q w row v known is fetched decoded asks = cc
 
 -- what was found stands there
