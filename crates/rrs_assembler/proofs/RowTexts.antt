@@ -1,19 +1,20 @@
 -- The texts of a row are its opening and its operands.
-use Rattle.std.proofs.Common.{◌≡◌, ◌≢◌, ◌⊎◌, inl, inr, ℕ, ◌<◌, pos, List, [], ◌++◌, Some, refl, sym, ap, ◌∙◌, arith}
-use Rattle.std.specs.Prelude.{codes}
+use Rattle.std.proofs.Common.{◌≡◌, ℕ, ◌^◌, ◌<◌, ℤ, pos, neg_ℤ, ◌≤ℤ◌, List, [], ◌++◌, Some, refl, sym, ap, ◌∙◌, arith}
+use Rattle.std.specs.Prelude.{codes, ◌<ℤ◌}
 use Rattle.std.proofs.lemmas.Int.{ints}
-use Rattle.std.proofs.lemmas.Bool.{ltb-true}
 use Rattle.std.proofs.lemmas.List.{append-nil, append_assoc}
 use Rattle.std.proofs.lemmas.Option.{same_Some}
+use Rattle.rrs_lib.specs.declared.instruction_formats.BType.{BType}
 use Rattle.rrs_lib.specs.Encodings.{Fields, R, I, IShamt, S, B, U, J, IsInRange, encode}
 use Rattle.rrs_lib.specs.Table.{Row, table, Constraint, Exactly, Absent, Meets, MeetsFuncts, MeetsOperands, format_of, Action, OnRegisters, OnImmediate, OnShamt, LoadUpper, AddUpperToPc, BranchIf, BranchUnless, Load, Store, JumpAndLink, JumpAndLinkRegister, NoEffect, CallEnvironment, Break}
-use Rattle.rrs_lib.specs.Texts.{name_of, text_by}
+use Rattle.rrs_lib.specs.Results.{plus_immediate}
+use Rattle.rrs_lib.specs.Texts.{hexadecimal, name_of, register_and_word, branch_to, register_and_place, text_by}
 use Rattle.rrs_lib.proofs.Actions.{format_of_action, format_of_row}
-use Rattle.rrs_assembler.specs.declared.rows.Shape.{Shape}
-use Rattle.rrs_assembler.specs.declared.rows.Shape.TheVariants.{ThreeRegisters, Shamt, Alone}
+use Rattle.rrs_assembler.specs.declared.rows.Shape.TheVariants.{Branch, LoadFrom}
 use Rattle.rrs_assembler.specs.Assembling.{HasText}
-use Rattle.rrs_assembler.specs.Shapes.{shape_by, shape_of, opening_by, opening_of, funct_of, last_by, last_of, Shows, IsOperands}
-use Rattle.rrs_assembler.proofs.Forms.{three_small, last_small}
+use Rattle.rrs_assembler.specs.Readers.{IsTarget}
+use Rattle.rrs_assembler.specs.Shapes.{shape_by, shape_of, opening_by, opening_of, funct_of, last_by, last_of, Shows, Texts}
+use Rattle.rrs_assembler.proofs.OperandTexts.{then_is, sum_with_zero}
 
 -- ---- from operands to the text
 
@@ -21,7 +22,7 @@ text_shown : (a : Action) (row : Row) (funct3 last pc : ℕ) (x : List ℕ) (f :
 text_shown (OnRegisters op) row funct3 last pc x (R f) h = ap Some (simp append_assoc refl ∙ ap (λ (l : List ℕ). (name_of row ++ codes " ") ++ l) (sym h.3))
 text_shown (OnImmediate op) row funct3 last pc x (I f) h = ap Some (simp append_assoc refl ∙ ap (λ (l : List ℕ). (name_of row ++ codes " ") ++ l) (sym h.2))
 text_shown (OnShamt op) row funct3 last pc x (IShamt f) h = ap Some (simp append_assoc refl ∙ ap (λ (l : List ℕ). (name_of row ++ codes " ") ++ l) (sym h.3))
-text_shown LoadUpper row funct3 last pc x (U f) h = ap Some (simp append_assoc refl ∙ ap (λ (l : List ℕ). (name_of row ++ codes " ") ++ l) (sym h.1))
+text_shown LoadUpper row funct3 last pc x (U f) h = ap Some (ap (λ w. register_and_word row f.rd w) (sum_with_zero f.imm) ∙ simp append_assoc refl ∙ ap (λ (l : List ℕ). (name_of row ++ codes " ") ++ l) (sym h.1))
 text_shown AddUpperToPc row funct3 last pc x (U f) h = ap Some (simp append_assoc refl ∙ ap (λ (l : List ℕ). (name_of row ++ codes " ") ++ l) (sym h.1))
 text_shown (BranchIf test) row funct3 last pc x (B f) h = ap Some (simp append_assoc refl ∙ ap (λ (l : List ℕ). (name_of row ++ codes " ") ++ l) (sym h.2))
 text_shown (BranchUnless test) row funct3 last pc x (B f) h = ap Some (simp append_assoc refl ∙ ap (λ (l : List ℕ). (name_of row ++ codes " ") ++ l) (sym h.2))
@@ -87,58 +88,85 @@ fields_in_range row pc x f h = (fields_shown (table row).action (table row).func
 
 -- ---- from the text to operands
 
-abbrev pub LastFits : Shape → ℕ → Type 0
-LastFits shape last = (last < 128) ⊎ ((shape ≡ Alone) × (last < 256))
+abbrev Parts : Action → Row → ℕ → List ℕ → Type 0
+Parts a row pc t = (x : List ℕ) × (t ≡ opening_by (shape_by a) (name_of row) ++ x) × Texts (shape_by a) pc x
 
-pub not_alone : (shape : Shape) (last : ℕ) → shape ≢ Alone → LastFits shape last → last < 128
-not_alone shape last ne (inl less) = less
-not_alone shape last ne (inr other) = absurd (ne other.0)
+below : (imm : ℤ) (low high : ℕ) → imm ≤ℤ pos low → low < high → imm <ℤ pos high
+below imm low high a b = omega (arith, ints, a, b)
 
-pub alone_fits : (shape : Shape) (last : ℕ) → LastFits shape last → last < 256
-alone_fits shape last (inl less) = omega (arith, less)
-alone_fits shape last (inr other) = other.1
+-- the text of the operands, which the row's text has behind its opening
+branch_parts : (row : Row) (pc : ℕ) (t : List ℕ) (f : BType) → IsInRange (B f) → branch_to row f pc ≡ t
+    → (x : List ℕ) × (t ≡ (name_of row ++ codes " ") ++ x) × Texts Branch pc x
+branch_parts row pc t f p e =
+    let target : IsTarget pc 4096 2 (hexadecimal 8 (plus_immediate pc f.imm)) =
+    (f.imm, (p.3, below f.imm 4094 4096 p.4 (omega arith), p.5), refl) in (
+      _,
+      sym e ∙ simp append_assoc refl,
+      then_is _ _ _ _ _ (f.rs1, p.1, refl) (then_is _ _ _ _ _ (f.rs2, p.2, refl) target),
+    )
 
-abbrev Parts : Action → Row → ℕ → ℕ → ℕ → List ℕ → Type 0
-Parts a row funct3 last pc t = (x : List ℕ) × (t ≡ opening_by (shape_by a) (name_of row) ++ x) × IsOperands (shape_by a) funct3 last pc x
+place_parts : (row : Row) (pc : ℕ) (t : List ℕ) (r : ℕ) (imm : ℤ) (base : ℕ) → r < 32 → base < 32
+    → neg_ℤ (pos 2048) ≤ℤ imm → imm ≤ℤ pos 2047 → register_and_place row r imm base ≡ t
+    → (x : List ℕ) × (t ≡ (name_of row ++ codes " ") ++ x) × Texts LoadFrom pc x
+place_parts row pc t r imm base a b low high e = (
+  _,
+  sym e ∙ simp append_assoc refl,
+  then_is _ _ _ _ _ (r, a, refl) (then_is _ _ _ _ _ (imm, low, high, refl) (then_is _ _ _ _ _ (base, b, refl) refl)),
+)
 
--- the text that fields show is that of any with the same operands
-shown_parts : (a : Action) (row : Row) (funct3 last pc : ℕ) (t x : List ℕ) (f g : Fields) → Shows (shape_by a) funct3 last pc x g → text_by a row f pc ≡ text_by a row g pc → text_by a row f pc ≡ Some t → Parts a row funct3 last pc t
-shown_parts a row funct3 last pc t x f g h same e =
-    (x, sym (same_Some (opening_by (shape_by a) (name_of row) ++ x) t (sym (text_shown a row funct3 last pc x g h) ∙ sym same ∙ e)), (g, h))
-
-parts : (a : Action) (row : Row) (funct3 last pc : ℕ) (t : List ℕ) (f : Fields) → funct3 < 8 → LastFits (shape_by a) last → format_of f ≡ format_of_action a → IsInRange f → text_by a row f pc ≡ Some t → Parts a row funct3 last pc t
-parts (OnRegisters op) row funct3 last pc t (R f) three seven k p e =
-    shown_parts (OnRegisters op) row funct3 last pc t _ (R f) (R (record { funct7 = last; rs2 = f.rs2; rs1 = f.rs1; funct3 = funct3; rd = f.rd })) ((p.0, three, p.2, p.3, not_alone ThreeRegisters last (λ x. (cc)) seven), refl, refl, refl) refl e
-parts (OnImmediate op) row funct3 last pc t (I f) three seven k p e =
-    shown_parts (OnImmediate op) row funct3 last pc t _ (I f) (I (record { imm = f.imm; rs1 = f.rs1; funct3 = funct3; rd = f.rd })) ((p.0, three, p.2, p.3, p.4), refl, refl) refl e
-parts (OnShamt op) row funct3 last pc t (IShamt f) three seven k p e =
-    shown_parts (OnShamt op) row funct3 last pc t _ (IShamt f) (IShamt (record { funct7 = last; shamt = f.shamt; rs1 = f.rs1; funct3 = funct3; rd = f.rd })) ((p.0, three, p.2, p.3, not_alone Shamt last (λ x. (cc)) seven), refl, refl, refl) refl e
-parts LoadUpper row funct3 last pc t (U f) three seven k p e = shown_parts LoadUpper row funct3 last pc t _ (U f) (U f) (p, refl) refl e
-parts AddUpperToPc row funct3 last pc t (U f) three seven k p e = shown_parts AddUpperToPc row funct3 last pc t _ (U f) (U f) (p, refl) refl e
-parts (BranchIf test) row funct3 last pc t (B f) three seven k p e =
-    shown_parts (BranchIf test) row funct3 last pc t _ (B f) (B (record { imm = f.imm; rs2 = f.rs2; rs1 = f.rs1; funct3 = funct3 })) ((three, p.1, p.2, p.3, p.4, p.5), refl, refl) refl e
-parts (BranchUnless test) row funct3 last pc t (B f) three seven k p e =
-    shown_parts (BranchUnless test) row funct3 last pc t _ (B f) (B (record { imm = f.imm; rs2 = f.rs2; rs1 = f.rs1; funct3 = funct3 })) ((three, p.1, p.2, p.3, p.4, p.5), refl, refl) refl e
-parts (Load n extended) row funct3 last pc t (I f) three seven k p e =
-    shown_parts (Load n extended) row funct3 last pc t _ (I f) (I (record { imm = f.imm; rs1 = f.rs1; funct3 = funct3; rd = f.rd })) ((p.0, three, p.2, p.3, p.4), refl, refl) refl e
-parts (Store n) row funct3 last pc t (S f) three seven k p e =
-    shown_parts (Store n) row funct3 last pc t _ (S f) (S (record { imm = f.imm; rs2 = f.rs2; rs1 = f.rs1; funct3 = funct3 })) ((three, p.1, p.2, p.3, p.4), refl, refl) refl e
-parts JumpAndLink row funct3 last pc t (J f) three seven k p e = shown_parts JumpAndLink row funct3 last pc t _ (J f) (J f) (p, refl) refl e
-parts JumpAndLinkRegister row funct3 last pc t (I f) three seven k p e =
-    shown_parts JumpAndLinkRegister row funct3 last pc t _ (I f) (I (record { imm = f.imm; rs1 = f.rs1; funct3 = funct3; rd = f.rd })) ((p.0, three, p.2, p.3, p.4), refl, refl) refl e
-parts NoEffect row funct3 last pc t (I f) three seven k p e =
-    let less = alone_fits Alone last seven in
-    shown_parts NoEffect row funct3 last pc t [] (I f) (I (record { imm = pos last; rs1 = 0; funct3 = funct3; rd = 0 })) ((omega arith, three, omega arith, omega (arith, ints), omega (arith, ints, less)), refl, refl, refl, refl, refl) refl e
-parts CallEnvironment row funct3 last pc t (I f) three seven k p e =
-    let less = alone_fits Alone last seven in
-    shown_parts CallEnvironment row funct3 last pc t [] (I f) (I (record { imm = pos last; rs1 = 0; funct3 = funct3; rd = 0 })) ((omega arith, three, omega arith, omega (arith, ints), omega (arith, ints, less)), refl, refl, refl, refl, refl) refl e
-parts Break row funct3 last pc t (I f) three seven k p e =
-    let less = alone_fits Alone last seven in
-    shown_parts Break row funct3 last pc t [] (I f) (I (record { imm = pos last; rs1 = 0; funct3 = funct3; rd = 0 })) ((omega arith, three, omega arith, omega (arith, ints), omega (arith, ints, less)), refl, refl, refl, refl, refl) refl e
-parts _ row funct3 last pc t _ three seven k p e = absurd (cc)
+parts : (a : Action) (row : Row) (pc : ℕ) (t : List ℕ) (f : Fields) → format_of f ≡ format_of_action a → IsInRange f → text_by a row f pc ≡ Some t → Parts a row pc t
+parts (OnRegisters op) row pc t (R f) k p e = (
+  _,
+  sym (same_Some _ t e) ∙ simp append_assoc refl,
+  then_is _ _ _ _ _ (f.rd, p.0, refl) (then_is _ _ _ _ _ (f.rs1, p.2, refl) (f.rs2, p.3, refl)),
+)
+parts (OnImmediate op) row pc t (I f) k p e = (
+  _,
+  sym (same_Some _ t e) ∙ simp append_assoc refl,
+  then_is _ _ _ _ _ (f.rd, p.0, refl) (then_is _ _ _ _ _ (f.rs1, p.2, refl) (f.imm, p.3, p.4, refl)),
+)
+parts (OnShamt op) row pc t (IShamt f) k p e =
+    let small = p.3 in (
+      _,
+      sym (same_Some _ t e) ∙ simp append_assoc refl,
+      then_is _ _ _ _ _ (f.rd, p.0, refl)
+          (then_is _ _ _ _ _ (f.rs1, p.2, refl) (f.shamt, omega arith, omega (arith, small), refl)),
+    )
+parts LoadUpper row pc t (U f) k p e =
+    let sum = ap (λ w. register_and_word row f.rd w) (sum_with_zero f.imm) in (
+      _,
+      sym (same_Some _ t e) ∙ sum ∙ simp append_assoc refl,
+      then_is _ _ _ _ _ (f.rd, p.0, refl) (f.imm, (p.1, below f.imm 2147479552 (2 ^ 31) p.2 (omega arith), p.3), refl),
+    )
+parts AddUpperToPc row pc t (U f) k p e = (
+  _,
+  sym (same_Some _ t e) ∙ simp append_assoc refl,
+  then_is _ _ _ _ _ (f.rd, p.0, refl) (f.imm, (p.1, below f.imm 2147479552 (2 ^ 31) p.2 (omega arith), p.3), refl),
+)
+parts (BranchIf test) row pc t (B f) k p e = branch_parts row pc t f p (same_Some _ t e)
+parts (BranchUnless test) row pc t (B f) k p e = branch_parts row pc t f p (same_Some _ t e)
+parts (Load n extended) row pc t (I f) k p e =
+    place_parts row pc t f.rd f.imm f.rs1 p.0 p.2 p.3 p.4 (same_Some _ t e)
+parts (Store n) row pc t (S f) k p e =
+    place_parts row pc t f.rs2 f.imm f.rs1 p.2 p.1 p.3 p.4 (same_Some _ t e)
+parts JumpAndLink row pc t (J f) k p e = (
+  _,
+  sym (same_Some _ t e) ∙ simp append_assoc refl,
+  then_is _ _ _ _ _ (f.rd, p.0, refl) (f.imm, (p.1, below f.imm 1048574 (2 ^ 20) p.2 (omega arith), p.3), refl),
+)
+parts JumpAndLinkRegister row pc t (I f) k p e = (
+  _,
+  sym (same_Some _ t e) ∙ simp append_assoc refl,
+  then_is _ _ _ _ _ (f.rd, p.0, refl)
+      (then_is _ _ _ _ _ (f.imm, p.3, p.4, refl) (then_is _ _ _ _ _ (f.rs1, p.2, refl) refl)),
+)
+parts NoEffect row pc t (I f) k p e = ([], sym (same_Some _ t e) ∙ sym (append-nil (name_of row)), refl)
+parts CallEnvironment row pc t (I f) k p e = ([], sym (same_Some _ t e) ∙ sym (append-nil (name_of row)), refl)
+parts Break row pc t (I f) k p e = ([], sym (same_Some _ t e) ∙ sym (append-nil (name_of row)), refl)
+parts _ row pc t _ k p e = absurd (cc)
 
 -- the text of a word is the opening of a row and operands of its shape
-pub parts_of_text : (w pc : ℕ) (t : List ℕ) → HasText pc w t → (row : Row) × (x : List ℕ) × (t ≡ opening_of row ++ x) × IsOperands (shape_of row) (funct_of (table row).funct3) (last_of row) pc x
+pub parts_of_text : (w pc : ℕ) (t : List ℕ) → HasText pc w t → (row : Row) × (x : List ℕ) × (t ≡ opening_of row ++ x) × Texts (shape_of row) pc x
 parts_of_text w pc t has =
-    let made = parts (table has.row).action has.row (funct_of (table has.row).funct3) (last_of has.row) pc t has.fields (ltb-true _ _ (three_small has.row)) (last_small has.row) (has.is.format ∙ format_of_row has.row) has.is.in_range has.holds in
+    let made = parts (table has.row).action has.row pc t has.fields (has.is.format ∙ format_of_row has.row) has.is.in_range has.holds in
     (has.row, made.0, made.1, made.2)

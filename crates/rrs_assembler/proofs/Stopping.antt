@@ -3,7 +3,7 @@ use Rattle.std.proofs.Common.{◌≡◌, ◌≢◌, ℕ, suc, ◌≤◌, Bool, t
 use Rattle.std.proofs.lemmas.Bool.{eqb-true}
 use Rattle.std.proofs.lemmas.List.{append-nil, append_assoc, append_cancel_left}
 use Rattle.rrs_assembler.specs.Assembling.{common_length}
-use Rattle.rrs_assembler.specs.Readers.{BeginAlike, Stops, Fails, Before, IsAny, FailsPiece, FailsLiteral, FailsBefore, IsRead, IsPastPiece, Then, IsEnd, CanFollow, BeginsOtherwise}
+use Rattle.rrs_assembler.specs.Readers.{BeginAlike, Stops, Fails, Before, IsAny, FailsPiece, FailsLiteral, FailsBefore, ReadsBefore, IsRead, IsPastPiece, Then, IsEnd, CanFollow, BeginsOtherwise}
 use Rattle.rrs_extra.proofs.Reading.{IsPiece, same_pieces}
 
 pub alike_behind : (p a t : List ℕ) → BeginAlike a t → BeginAlike (p ++ a) (p ++ t)
@@ -100,19 +100,39 @@ read_kind A C p text rest up down read = record {
 pub before_piece : (Piece : List ℕ → Type 0) (separator text : List ℕ) (left : ℕ) → CanFollow separator
     → FailsPiece Piece text left → FailsBefore Piece separator text left
 before_piece Piece separator text left can =
-    going_on (Before Piece (λ x. x ≡ separator)) (Then Piece separator IsAny) Piece (Before Piece IsPastPiece) text left
-    (λ p is. (separator, (p, separator, is, refl, refl)))
-    (λ t h. (h.0, separator ++ h.1, h.2, past_separator separator h.1 can, h.4))
+    going_on (Then Piece separator IsEnd) (Then Piece separator IsAny) Piece (Before Piece IsPastPiece) text left
+    (λ p is.
+    let e : p ++ separator ≡ p ++ (separator ++ []) = ap (λ (l : List ℕ). p ++ l) (sym (append-nil separator)) in
+    (separator, record { front = p; back = []; piece = is; others = refl; shown = e }))
+    (λ t h. (h.front, separator ++ h.back, h.piece, past_separator separator h.back can, h.shown))
 
 pub before_separator : (Piece : List ℕ → Type 0) (separator p text rest : List ℕ) (left : ℕ) → CanFollow separator
     → IsRead Piece p text rest → FailsLiteral separator rest left → FailsBefore Piece separator text left
 before_separator Piece separator p text rest left can read =
-    behind (Before Piece (λ x. x ≡ separator)) (Then Piece separator IsAny) (λ x. x ≡ separator) (Before (λ x. x ≡ separator) IsAny) p text rest left read.whole
-    (λ t e. (p, t, read.piece, e, refl))
+    let Literal : List ℕ → Type 0 = λ x. x ≡ separator in
+    behind (Then Piece separator IsEnd) (Then Piece separator IsAny) Literal (Before Literal IsAny)
+    p text rest left read.whole
+    (λ t e.
+    let shown : p ++ t ≡ p ++ (separator ++ []) = ap (λ (l : List ℕ). p ++ l) (e ∙ sym (append-nil separator)) in
+    record { front = p; back = []; piece = read.piece; others = refl; shown = shown })
     (λ t alike h.
-    let same = read.settled h.0 (separator ++ h.1) t h.2 (past_separator separator h.1 can) alike h.4 in
-    let parts : p ++ t ≡ p ++ (separator ++ h.1) = h.4 ∙ ap (λ (l : List ℕ). l ++ (separator ++ h.1)) same in
-    (separator, h.1, refl, tt, append_cancel_left p t (separator ++ h.1) parts))
+    let past = past_separator separator h.back can in
+    let same = read.settled h.front (separator ++ h.back) t h.piece past alike h.shown in
+    let parts = h.shown ∙ ap (λ (l : List ℕ). l ++ (separator ++ h.back)) same in
+    (separator, h.back, refl, tt, append_cancel_left p t (separator ++ h.back) parts))
+
+pub reads_before : (Piece : List ℕ → Type 0) (separator p text rest following : List ℕ) → CanFollow separator
+    → ((q : List ℕ) → Piece q → IsPiece q) → IsRead Piece p text rest → rest ≡ separator ++ following
+    → ReadsBefore Piece separator p text following
+reads_before Piece [] p text rest following can pieces read e = elim can [ ]
+reads_before Piece (s ∷ ss) p text rest following can pieces read e = record {
+  piece = read.piece;
+  whole = read.whole ∙ ap (λ (l : List ℕ). p ++ l) e;
+  settled = λ t h.
+      let same = same_pieces s h.front p (ss ++ h.back) (ss ++ t) can
+      (pieces h.front h.piece) (pieces p read.piece) (sym h.shown) in
+      append_cancel_left ss h.back t same.1;
+}
 
 pub last_piece : (Piece : List ℕ → Type 0) (text : List ℕ) (left : ℕ) → FailsPiece Piece text left → Fails Piece text left
 last_piece Piece text left = behind Piece Piece Piece (Before Piece IsPastPiece) [] text text left refl (λ t is. is)
@@ -132,25 +152,32 @@ end_fails (c ∷ cs) ne = stops_here IsEnd IsEnd (c ∷ cs) [] refl (λ t alike 
 
 -- ---- texts of a piece, a separator and more
 
-pub then_first : (Piece : List ℕ → Type 0) (separator text : List ℕ) (left : ℕ) (Texts : List ℕ → Type 0) (t : List ℕ) → FailsBefore Piece separator text left → Texts t → Fails (Then Piece separator Texts) text left
-then_first Piece separator text left Texts t fails is =
-    going_on (Then Piece separator Texts) (Then Piece separator Texts) (Before Piece (λ x. x ≡ separator)) (Then Piece separator IsAny) text left
-    (λ p h. (t, (h.0, t, h.2, is, ap (λ (l : List ℕ). l ++ t) (h.4 ∙ ap (λ (l : List ℕ). h.0 ++ l) h.3) ∙ append_assoc h.0 separator t)))
-    (λ u h. (h.0, h.1, h.2, tt, h.4)) fails
+pub then_first : (Piece : List ℕ → Type 0) (separator text : List ℕ) (left : ℕ) (Texts : List ℕ → Type 0)
+    → FailsBefore Piece separator text left → (t : List ℕ) × Texts t → Fails (Then Piece separator Texts) text left
+then_first Piece separator text left Texts fails some =
+    going_on (Then Piece separator Texts) (Then Piece separator Texts)
+    (Then Piece separator IsEnd) (Then Piece separator IsAny) text left
+    (λ p h.
+    let whole = h.shown ∙ ap (λ (l : List ℕ). h.front ++ (separator ++ l)) h.others in
+    let all : h.front ++ (separator ++ []) ≡ h.front ++ separator =
+    ap (λ (l : List ℕ). h.front ++ l) (append-nil separator) in
+    let shown = ap (λ (l : List ℕ). l ++ some.0) (whole ∙ all) ∙ append_assoc h.front separator some.0 in
+    (some.0, record { front = h.front; back = some.0; piece = h.piece; others = some.1; shown = shown }))
+    (λ t h. record { front = h.front; back = h.back; piece = h.piece; others = tt; shown = h.shown })
+    fails
 
 -- they are there, and what follows is wrong
-pub then_rest : (Piece : List ℕ → Type 0) (separator p text rest : List ℕ) (left : ℕ) (Texts : List ℕ → Type 0) → CanFollow separator → ((q : List ℕ) → Piece q → IsPiece q)
-    → Piece p → text ≡ p ++ (separator ++ rest) → Fails Texts rest left → Fails (Then Piece separator Texts) text left
-then_rest Piece [] p text rest left Texts can pieces is e fails = elim can [ ]
-then_rest Piece (s ∷ ss) p text rest left Texts can pieces is e fails =
-    behind (Then Piece (s ∷ ss) Texts) (Then Piece (s ∷ ss) Texts) Texts Texts (p ++ (s ∷ ss)) text rest left
-    (e ∙ sym (append_assoc p (s ∷ ss) rest))
-    (λ t h. (p, t, is, h, append_assoc p (s ∷ ss) t))
+pub then_rest : (Piece : List ℕ → Type 0) (separator p text rest : List ℕ) (left : ℕ) (Texts : List ℕ → Type 0)
+    → ReadsBefore Piece separator p text rest → Fails Texts rest left → Fails (Then Piece separator Texts) text left
+then_rest Piece separator p text rest left Texts read =
+    behind (Then Piece separator Texts) (Then Piece separator Texts) Texts Texts (p ++ separator) text rest left
+    (read.whole ∙ sym (append_assoc p separator rest))
+    (λ t is. record { front = p; back = t; piece = read.piece; others = is; shown = append_assoc p separator t })
     (λ t alike h.
-    let parts = sym (append_assoc p (s ∷ ss) t) ∙ h.4 in
-    let same = same_pieces s p h.0 (ss ++ t) (ss ++ h.1) can (pieces p is) (pieces h.0 h.2) parts in
-    subst Texts (sym (append_cancel_left ss t h.1 same.1)) h.3)
-    fails
+    let parts = sym (append_assoc p separator t) ∙ h.shown in
+    let other : Then Piece separator IsAny (p ++ (separator ++ t)) =
+    record { front = h.front; back = h.back; piece = h.piece; others = tt; shown = parts } in
+    subst Texts (read.settled t other) h.others)
 
 -- ---- how many bytes two texts have in common
 

@@ -1,45 +1,31 @@
 -- Where a whole text goes wrong, by where its opening or its operands do.
-use Rattle.std.proofs.Common.{◌≡◌, inl, inr, ℕ, ◌+◌, ◌*◌, ◌^◌, ◌-◌, ◌<◌, ◌≤◌, pos, List, [], ◌++◌, length, refl, sym, ap, subst, ◌∙◌, arith}
+use Rattle.std.proofs.Common.{◌≡◌, inl, inr, ℕ, ◌+◌, ◌*◌, ◌^◌, ◌-◌, ◌≤◌, List, [], ◌++◌, length, refl, sym, ap, subst, ◌∙◌, arith}
 use Rattle.std.specs.Prelude.{codes}
-use Rattle.std.proofs.lemmas.Int.{ints}
 use Rattle.std.proofs.lemmas.Bool.{ltb-true}
 use Rattle.std.proofs.lemmas.List.{append_cancel_left, length-append}
 use Rattle.rrs_lib.specs.Words.{floor_mod}
-use Rattle.rrs_lib.specs.Encodings.{Fields, R, I, IShamt, S, B, U, J, encode}
+use Rattle.rrs_lib.specs.Encodings.{Fields, I, encode}
 use Rattle.rrs_lib.specs.Table.{Row, table}
 use Rattle.rrs_extra.specs.Showing.{AreOneOrFences}
 use Rattle.rrs_extra.proofs.SameWords.{words_faithful}
-use Rattle.rrs_assembler.specs.declared.rows.Shape.{Shape}
-use Rattle.rrs_assembler.specs.declared.rows.Shape.TheVariants.{ThreeRegisters, Immediate, Shamt, Upper, UpperToPc, Branch, LoadFrom, StoreTo, Jump, JumpTo, Alone}
+use Rattle.rrs_assembler.specs.declared.rows.Shape.TheVariants.{Alone}
 use Rattle.rrs_assembler.specs.Assembling.{common_length, HasText, IsFurthest}
 use Rattle.rrs_assembler.specs.Readers.{Fails, Before, IsAny}
-use Rattle.rrs_assembler.specs.Shapes.{Form, form_of_row, all_forms, IsOpening, opening_of, shape_of, last_of, funct_of, IsOperands, FailsOpenings, IsTextOfSome, IsAssembled, Shows}
+use Rattle.rrs_assembler.specs.Shapes.{Form, form_of_row, all_forms, IsOpening, opening_of, shape_of, last_of, funct_of, FailsOpenings, IsTextOfSome, IsAssembled, Shows, Texts}
 use Rattle.rrs_assembler.proofs.Stopping.{behind, going_on, common_within, common_read}
 use Rattle.rrs_assembler.proofs.Forms.{row_of_form, form_among, rows_apart, differ-apart, three_small, last_small}
-use Rattle.rrs_assembler.proofs.RowTexts.{LastFits, not_alone, alone_fits, has_text, parts_of_text}
-
--- each shape has operands
-some_operands : (shape : Shape) (funct3 last pc : ℕ) → funct3 < 8 → LastFits shape last → (x : List ℕ) × IsOperands shape funct3 last pc x
-some_operands ThreeRegisters funct3 last pc three seven = (_, (R (record { funct7 = last; rs2 = 0; rs1 = 0; funct3 = funct3; rd = 0 }), ((omega arith, three, omega arith, omega arith, not_alone ThreeRegisters last (λ x. (cc)) seven), refl, refl, refl)))
-some_operands Immediate funct3 last pc three seven = (_, (I (record { imm = pos 0; rs1 = 0; funct3 = funct3; rd = 0 }), ((omega arith, three, omega arith, omega (arith, ints), omega (arith, ints)), refl, refl)))
-some_operands Shamt funct3 last pc three seven = (_, (IShamt (record { funct7 = last; shamt = 0; rs1 = 0; funct3 = funct3; rd = 0 }), ((omega arith, three, omega arith, omega arith, not_alone Shamt last (λ x. (cc)) seven), refl, refl, refl)))
-some_operands Upper funct3 last pc three seven = (_, (U (record { imm = pos 0; rd = 0 }), ((omega arith, omega (arith, ints), omega (arith, ints), refl), refl)))
-some_operands UpperToPc funct3 last pc three seven = (_, (U (record { imm = pos 0; rd = 0 }), ((omega arith, omega (arith, ints), omega (arith, ints), refl), refl)))
-some_operands Branch funct3 last pc three seven = (_, (B (record { imm = pos 0; rs2 = 0; rs1 = 0; funct3 = funct3 }), ((three, omega arith, omega arith, omega (arith, ints), omega (arith, ints), refl), refl, refl)))
-some_operands LoadFrom funct3 last pc three seven = (_, (I (record { imm = pos 0; rs1 = 0; funct3 = funct3; rd = 0 }), ((omega arith, three, omega arith, omega (arith, ints), omega (arith, ints)), refl, refl)))
-some_operands StoreTo funct3 last pc three seven = (_, (S (record { imm = pos 0; rs2 = 0; rs1 = 0; funct3 = funct3 }), ((three, omega arith, omega arith, omega (arith, ints), omega (arith, ints)), refl, refl)))
-some_operands Jump funct3 last pc three seven = (_, (J (record { imm = pos 0; rd = 0 }), ((omega arith, omega (arith, ints), omega (arith, ints), refl), refl)))
-some_operands JumpTo funct3 last pc three seven = (_, (I (record { imm = pos 0; rs1 = 0; funct3 = funct3; rd = 0 }), ((omega arith, three, omega arith, omega (arith, ints), omega (arith, ints)), refl, refl)))
-some_operands Alone funct3 last pc three seven =
-    let less = alone_fits Alone last seven in
-    ([], (I (record { imm = pos last; rs1 = 0; funct3 = funct3; rd = 0 }), ((omega arith, three, omega arith, omega (arith, ints), omega (arith, ints, less)), refl, refl, refl, refl, refl)))
+use Rattle.rrs_assembler.proofs.OperandTexts.{shown, some_text}
+use Rattle.rrs_assembler.proofs.RowTexts.{has_text, parts_of_text}
 
 -- operands of a row's shape make a text of the row
 abbrev pub IsRest : Row → ℕ → List ℕ → Type 0
-IsRest row pc x = IsOperands (shape_of row) (funct_of (table row).funct3) (last_of row) pc x
+IsRest row pc x = Texts (shape_of row) pc x
 
 text_of_rest : (row : Row) (pc : ℕ) (x : List ℕ) → IsRest row pc x → IsTextOfSome pc (opening_of row ++ x)
-text_of_rest row pc x is = (_, has_text row pc x is.0 is.1)
+text_of_rest row pc x is =
+    let fields = shown (shape_of row) (funct_of (table row).funct3) (last_of row) pc x
+    (ltb-true _ _ (three_small row)) (last_small row) is in
+    (_, has_text row pc x fields.0 fields.1)
 
 -- the text begins with no opening
 pub no_opening : (pc : ℕ) (text : List ℕ) (left : ℕ) → FailsOpenings all_forms text left → Fails (IsTextOfSome pc) text left
@@ -47,7 +33,7 @@ no_opening pc text left = going_on (IsTextOfSome pc) (IsTextOfSome pc) (IsOpenin
     (λ p h.
     let found = row_of_form h.0 h.1 in
     let row : Row = found.0 in
-    let some = some_operands (shape_of row) (funct_of (table row).funct3) (last_of row) pc (ltb-true _ _ (three_small row)) (last_small row) in
+    let some = some_text (shape_of row) pc in
     (some.0, subst (λ (l : List ℕ). IsTextOfSome pc (l ++ some.0)) (sym (h.2 ∙ ap (λ (f : Form). f.0) found.1)) (text_of_rest row pc some.0 some.1)))
     (λ t h. let made = parts_of_text h.0 pc t h.1 in (opening_of made.0, made.1, (form_of_row made.0, form_among made.0, refl), tt, made.2))
 
@@ -111,5 +97,4 @@ fence_only pc w text is fence =
 
 -- and it is one
 pub fence_is_text : (pc : ℕ) → IsTextOfSome pc (codes "fence")
-unfolding some_operands
-fence_is_text pc = text_of_rest Row.Fence pc [] (some_operands Alone 0 255 pc (omega arith) (inr (refl, omega arith))).1
+fence_is_text pc = text_of_rest Row.Fence pc [] refl

@@ -1,7 +1,7 @@
 -- What the readers of a text's parts say: where a text stops to be one of a set of texts. A place
 -- is given by the number of bytes that are left there, which stays as it is where the same text is
 -- seen with more in front.
-use Rattle.std.specs.Prelude.{◌≡◌, ◌≢◌, ◌⊎◌, ℕ, zero, suc, ◌+◌, ◌-◌, ◌/◌, ◌%◌, ◌^◌, ◌<◌, ◌≤◌, false, List, [], ◌∷◌, ◌++◌, length, ℤ, pos, neg_ℤ, ◌≤ℤ◌, ◌<ℤ◌}
+use Rattle.std.specs.Prelude.{◌≡◌, ◌≢◌, ◌⊎◌, ℕ, zero, suc, ◌+◌, ◌-◌, ◌/◌, ◌%◌, ◌^◌, ◌<◌, ◌≤◌, false, List, [], ◌∷◌, ◌++◌, length, codes, ℤ, pos, neg_ℤ, ◌≤ℤ◌, ◌<ℤ◌}
 use Rattle.std.specs.Fmt.{decimal, signed_decimal, digit_glyph}
 use Rattle.rrs_lib.specs.Words.{word, floor_mod}
 use Rattle.rrs_lib.specs.Results.{plus_immediate}
@@ -35,6 +35,9 @@ Before Piece Rest t = (p : List ℕ) × (x : List ℕ) × Piece p × Rest x × (
 abbrev pub IsAny : List ℕ → Type 0
 IsAny t = Unit {0}
 
+abbrev pub IsEnd : List ℕ → Type 0
+IsEnd t = t ≡ []
+
 -- nothing, or a separator: a blank, a comma or a parenthesis, all below the bytes of operands
 abbrev pub IsPastPiece : List ℕ → Type 0
 IsPastPiece [] = Unit {0}
@@ -49,14 +52,23 @@ abbrev pub FailsLiteral : List ℕ → List ℕ → ℕ → Type 0
 FailsLiteral literal = Stops (λ p. p ≡ literal) (Before (λ p. p ≡ literal) IsAny)
 
 -- a piece, a separator, and a text of another set
-abbrev pub Then : (List ℕ → Type 0) → List ℕ → (List ℕ → Type 0) → List ℕ → Type 0
-Then Piece separator Texts t =
-    (p : List ℕ) × (x : List ℕ) × Piece p × Texts x × (t ≡ p ++ (separator ++ x))
+pub record Then (Piece : List ℕ → Type 0) (separator : List ℕ) (Texts : List ℕ → Type 0) (t : List ℕ) : Type 0 where
+  pub front : List ℕ
+  pub back : List ℕ
+  pub piece : Piece front
+  pub others : Texts back
+  pub shown : t ≡ front ++ (separator ++ back)
 
 -- the same of a piece and a separator, whatever follows
 abbrev pub FailsBefore : (List ℕ → Type 0) → List ℕ → List ℕ → ℕ → Type 0
-FailsBefore Piece separator =
-    Stops (Before Piece (λ x. x ≡ separator)) (Then Piece separator IsAny)
+FailsBefore Piece separator = Stops (Then Piece separator IsEnd) (Then Piece separator IsAny)
+
+-- the text is this piece, the separator and the rest, and no other piece and separator go on so
+pub record ReadsBefore (Piece : List ℕ → Type 0) (separator p text rest : List ℕ) : Type 0 where
+  pub piece : Piece p
+  pub whole : text ≡ p ++ (separator ++ rest)
+  pub settled : (t : List ℕ) (other : Then Piece separator IsAny (p ++ (separator ++ t)))
+      → other.back ≡ t
 
 -- the text is this piece and the rest, and no other piece goes on as the rest does
 pub record IsRead (Piece : List ℕ → Type 0) (p text rest : List ℕ) : Type 0 where
@@ -65,9 +77,6 @@ pub record IsRead (Piece : List ℕ → Type 0) (p text rest : List ℕ) : Type 
   pub settled : (q x t : List ℕ) → Piece q → IsPastPiece x → BeginAlike rest t
       → p ++ t ≡ q ++ x → q ≡ p
 
-abbrev pub IsEnd : List ℕ → Type 0
-IsEnd t = t ≡ []
-
 -- ---- pieces
 
 abbrev pub IsDecimal : ℕ → ℕ → List ℕ → Type 0
@@ -75,6 +84,10 @@ IsDecimal least limit p = (n : ℕ) × (least ≤ n) × (n ≤ limit) × (p ≡ 
 
 abbrev pub IsRegister : List ℕ → Type 0
 IsRegister p = (r : ℕ) × (r < 2 ^ 5) × (p ≡ register r)
+
+-- a register and a parenthesis, at the end
+abbrev pub IsBase : List ℕ → Type 0
+IsBase = Then IsRegister (codes ")") IsEnd
 
 -- an immediate of 12 bits
 abbrev pub IsImmediate : List ℕ → Type 0
@@ -110,6 +123,12 @@ digits_of (suc n) z = digits_of n (z / 16) ++ (digit_glyph false (z % 16) ∷ []
 abbrev pub IsAmong : ℕ → ℕ → ℕ → ℕ → Type 0
 IsAmong first total step y =
     ((y + (2 ^ 32 - first)) % 2 ^ 32 < total) × ((y + (2 ^ 32 - first)) % 2 ^ 32 % step ≡ 0)
+
+-- what readers ask of such words: they are told apart by a few steps alone
+abbrev pub AreTargets : ℕ → ℕ → ℕ → Type 0
+AreTargets first total step =
+    (first < 2 ^ 32) × (0 < total) × (total ≤ 2 ^ 32)
+    × ((step ≡ 1) ⊎ (step ≡ 2) ⊎ (step ≡ 4096))
 
 -- such a word among the `size` words from `low` on
 pub record IsWithin (first total step low size y : ℕ) : Type 0 where

@@ -1,5 +1,5 @@
 -- The operands of each row as they stand in its text, behind its name and a blank.
-use Rattle.std.specs.Prelude.{◌≡◌, ◌⊎◌, ℕ, List, [], ◌∷◌, ◌++◌, map, codes, pos, Result, MatchResult}
+use Rattle.std.specs.Prelude.{◌≡◌, ◌⊎◌, ℕ, ◌^◌, List, [], ◌∷◌, ◌++◌, map, codes, pos, Result, MatchResult}
 use Rattle.rrs_assembler.specs.declared.rows.RowForm.{RowForm}
 use Rattle.std.specs.Fmt.{decimal, signed_decimal}
 use Rattle.rrs_lib.specs.Words.{word}
@@ -12,7 +12,7 @@ use Rattle.rrs_lib.specs.declared.instruction.InstructionFields.{InstructionFiel
 use Rattle.rrs_assembler.specs.declared.Stop.{Stop}
 use Rattle.rrs_assembler.specs.declared.rows.Shape.{Shape}
 use Rattle.rrs_assembler.specs.Assembling.{HasText}
-use Rattle.rrs_assembler.specs.Readers.{Stops, Fails, Before, IsAny}
+use Rattle.rrs_assembler.specs.Readers.{Stops, Fails, Before, IsAny, Then, IsEnd, IsRegister, IsBase, IsImmediate, IsShamt, IsJumpOffset, IsTarget}
 use Rattle.rrs_assembler.specs.declared.rows.Shape.TheVariants.{ThreeRegisters, Immediate, Shamt, Upper, UpperToPc, Branch, LoadFrom, StoreTo, Jump, JumpTo, Alone}
 
 abbrev pub shape_by : Action → Shape
@@ -70,7 +70,8 @@ Shows Shamt funct3 last pc text (IShamt f) =
     IsInRange (IShamt f) × (f.funct3 ≡ funct3) × (f.funct7 ≡ last)
     × (text ≡ register f.rd ++ (codes ", " ++ (register f.rs1 ++ (codes ", " ++ decimal f.shamt))))
 Shows Upper funct3 last pc text (U f) =
-    IsInRange (U f) × (text ≡ register f.rd ++ (codes ", 0x" ++ hexadecimal 8 (word f.imm)))
+    IsInRange (U f)
+    × (text ≡ register f.rd ++ (codes ", 0x" ++ hexadecimal 8 (plus_immediate 0 f.imm)))
 Shows UpperToPc funct3 last pc text (U f) =
     IsInRange (U f)
     × (text ≡ register f.rd ++ (codes ", 0x" ++ hexadecimal 8 (plus_immediate pc f.imm)))
@@ -94,15 +95,26 @@ Shows Alone funct3 last pc text (I f) =
     × (text ≡ [])
 Shows _ funct3 last pc text f = ⊥
 
--- a text that shows some fields so
-abbrev pub IsOperands : Shape → ℕ → ℕ → ℕ → List ℕ → Type 0
-IsOperands shape funct3 last pc text = (f : Fields) × Shows shape funct3 last pc text f
+-- the texts of the operands of a shape
+abbrev pub Texts : Shape → ℕ → List ℕ → Type 0
+Texts ThreeRegisters pc = Then IsRegister (codes ", ") (Then IsRegister (codes ", ") IsRegister)
+Texts Immediate pc = Then IsRegister (codes ", ") (Then IsRegister (codes ", ") IsImmediate)
+Texts Shamt pc = Then IsRegister (codes ", ") (Then IsRegister (codes ", ") IsShamt)
+Texts Upper pc = Then IsRegister (codes ", 0x") (IsTarget 0 (2 ^ 31) 4096)
+Texts UpperToPc pc = Then IsRegister (codes ", 0x") (IsTarget pc (2 ^ 31) 4096)
+Texts Branch pc =
+    Then IsRegister (codes ", ") (Then IsRegister (codes ", 0x") (IsTarget pc 4096 2))
+Texts LoadFrom pc = Then IsRegister (codes ", ") (Then IsImmediate (codes "(") IsBase)
+Texts StoreTo pc = Then IsRegister (codes ", ") (Then IsImmediate (codes "(") IsBase)
+Texts Jump pc = Then IsRegister (codes ", 0x") (IsTarget pc (2 ^ 20) 2)
+Texts JumpTo pc = Then IsRegister (codes ", 0x") (Then IsJumpOffset (codes "(") IsBase)
+Texts Alone pc = IsEnd
 
 -- what a reader of operands answers
 abbrev pub ReadsOperands : Shape → ℕ → ℕ → ℕ → List ℕ → Result InstructionFields Stop → Type 0
 ReadsOperands shape funct3 last pc text answer = MatchResult answer
     (λ fields. Shows shape funct3 last pc text (as_fields fields))
-    (λ stop. Fails (IsOperands shape funct3 last pc) text stop.left)
+    (λ stop. Fails (Texts shape pc) text stop.left)
 
 -- ---- the list of rows
 

@@ -5,7 +5,7 @@ ghost use Rattle.std.specs.Fmt.{digit_glyph};
 ghost use Rattle.rrs_lib.specs.Words.{word};
 ghost use Rattle.rrs_lib.specs.Results.{plus_immediate};
 ghost use Rattle.rrs_lib.specs.Texts.{hexadecimal as hexadecimal_text};
-ghost use Rattle.rrs_assembler.specs.Readers.{Fails, FailsPiece, FailsBefore, IsRead, IsJumpOffset, IsOffset, IsTarget, IsWithin, IsDigits, digits_of, BeginsOtherwise, CanFollow, IsReach};
+ghost use Rattle.rrs_assembler.specs.Readers.{Fails, FailsPiece, FailsBefore, ReadsBefore, IsRead, IsJumpOffset, IsOffset, IsTarget, AreTargets, IsWithin, IsDigits, digits_of, BeginsOtherwise, CanFollow, IsReach};
 
 use crate::readers::{after, end, first, separator};
 use crate::{Mistake, Stop};
@@ -24,9 +24,7 @@ struct Targets {
 
 /// Whether one of the targets is among `size` words from `low` on.
 fn has_any(targets: Targets, low: u64, size: u64) -> bool
-    requires first { targets.first < 2 ^ 32 }
-    requires total { (0 < targets.total) × (targets.total ≤ 2 ^ 32) }
-    requires step { (targets.step ≡ 1) ⊎ (targets.step ≡ 2) ⊎ (targets.step ≡ 4096) }
+    requires targets { AreTargets targets.first targets.total targets.step }
     requires words { (0 < size) × (low + size ≤ 2 ^ 32) }
     ensures { MatchBool result
         ((y : ℕ) × IsWithin targets.first targets.total targets.step low size y)
@@ -62,9 +60,7 @@ fn hexadecimal(
     low: u64,
     targets: Targets,
 ) -> Result<(u64, &[u8]), Stop>
-    requires first { targets.first < 2 ^ 32 }
-    requires total { (0 < targets.total) × (targets.total ≤ 2 ^ 32) }
-    requires step { (targets.step ≡ 1) ⊎ (targets.step ≡ 2) ⊎ (targets.step ≡ 4096) }
+    requires targets { AreTargets targets.first targets.total targets.step }
     requires size { size ≡ 16 ^ count }
     requires words { low + size ≤ 2 ^ 32 }
     requires some { (y : ℕ) × IsWithin targets.first targets.total targets.step low size y }
@@ -121,7 +117,8 @@ pub fn jump_offset_before<'a>(text: &'a [u8], wanted: &[u8]) -> Result<(i32, &'a
     requires { CanFollow wanted.now }
     ensures { MatchResult result
         (λ read. (neg_ℤ (pos 2048) ≤ℤ read.0) × (read.0 ≤ℤ pos 2047)
-        × (text.now ≡ hexadecimal_text 3 (word read.0) ++ (wanted.now ++ read.1.now)))
+        × ReadsBefore IsJumpOffset wanted.now (hexadecimal_text 3 (word read.0))
+        text.now read.1.now)
         (λ stop. FailsBefore IsJumpOffset wanted.now text.now stop.left) }
 {
     let (imm, rest) = jump_offset(text)?;

@@ -1,7 +1,11 @@
 //! Readers of operands, one for each way in which rows are written.
 
-ghost use Rattle.std.specs.Prelude.{◌≡◌, ◌⊎◌, ◌<◌, ◌^◌};
-ghost use Rattle.rrs_assembler.specs.Shapes.{ReadsOperands};
+ghost use Rattle.std.specs.Prelude.{◌≡◌, ◌⊎◌, ◌<◌, ◌^◌, ◌++◌, [], codes, MatchResult};
+ghost use Rattle.rrs_lib.specs.Encodings.{I};
+ghost use Rattle.rrs_lib.specs.Results.{plus_immediate};
+ghost use Rattle.rrs_lib.specs.Texts.{register, hexadecimal};
+ghost use Rattle.rrs_assembler.specs.Readers.{Fails, Then, IsRegister, IsBase, IsTarget, IsOffset, IsReach};
+ghost use Rattle.rrs_assembler.specs.Shapes.{Shows, Texts, ReadsOperands};
 
 use crate::Stop;
 use crate::hexadecimal::{jump_offset_before, last_target};
@@ -40,9 +44,20 @@ pub fn fields_of(
         Shape::Upper => upper(text, 0),
         Shape::UpperToPc => upper(text, pc),
         Shape::Branch => branch(text, funct3, pc),
-        Shape::LoadFrom => load(text, funct3),
-        Shape::StoreTo => store(text, funct3),
-        Shape::Jump => jump(text, pc),
+        Shape::LoadFrom => Ok(InstructionFields::I(load(text, funct3)?)),
+        Shape::StoreTo => {
+            let place = load(text, funct3)?;
+            Ok(InstructionFields::S(SType {
+                imm: place.imm,
+                rs2: place.rd,
+                rs1: place.rs1,
+                funct3,
+            }))
+        }
+        Shape::Jump => {
+            let (rd, imm) = target(text, pc, JUMP_REACH, 2)?;
+            Ok(InstructionFields::J(JType { imm, rd }))
+        }
         Shape::JumpTo => jump_to(text, funct3),
         Shape::Alone => alone(text, funct3, last),
     }
@@ -100,13 +115,25 @@ fn shift(text: &[u8], funct3: u32, funct7: u32) -> Result<InstructionFields, Sto
     }))
 }
 
-/// Those of `lui`, where the base is 0, and of `auipc`, where it is the pc: `x3, 0x12345100`, of
-/// which the last is the base plus the immediate.
+/// A register and a target: `x3, 0x12345100`, of which the last is the base plus the immediate.
+fn target(text: &[u8], base: u32, reach: u32, step: u32) -> Result<(usize, i32), Stop>
+    requires { IsReach reach step }
+    ensures { MatchResult result
+        (λ read. (read.0 < 2 ^ 5) × IsOffset reach step read.1 × (text.now ≡ register read.0
+        ++ (codes ", 0x" ++ hexadecimal 8 (plus_immediate base read.1))))
+        (λ stop. Fails (Then IsRegister (codes ", 0x") (IsTarget base reach step))
+        text.now stop.left) }
+{
+    let (rd, rest) = register_before(text, b", 0x")?;
+    let imm = last_target(rest, base, reach, step)?;
+    Ok((rd, imm))
+}
+
+/// Those of `lui`, where the base is 0, and of `auipc`, where it is the pc.
 fn upper(text: &[u8], base: u32) -> Result<InstructionFields, Stop>
     ensures { ReadsOperands Shape.UpperToPc 0 0 base text.now result }
 {
-    let (rd, rest) = register_before(text, b", 0x")?;
-    let imm = last_target(rest, base, UPPER_REACH, 4096)?;
+    let (rd, imm) = target(text, base, UPPER_REACH, 4096)?;
     Ok(InstructionFields::U(UType { imm, rd }))
 }
 
@@ -126,47 +153,32 @@ fn branch(text: &[u8], funct3: u32, pc: u32) -> Result<InstructionFields, Stop>
     }))
 }
 
-/// Those of a load: `x3, -4(x1)`.
-fn load(text: &[u8], funct3: u32) -> Result<InstructionFields, Stop>
+/// The register that an immediate is added to, and a parenthesis, at the end: `x1)`.
+fn base_register(text: &[u8]) -> Result<usize, Stop>
+    ensures { MatchResult result
+        (λ r. (r < 2 ^ 5) × (text.now ≡ register r ++ (codes ")" ++ [])))
+        (λ stop. Fails IsBase text.now stop.left) }
+{
+    let (rs1, rest) = register_before(text, b")")?;
+    end(rest)?;
+    Ok(rs1)
+}
+
+/// Those of a load: `x3, -4(x1)`. Those of a store are written so too.
+fn load(text: &[u8], funct3: u32) -> Result<IType, Stop>
     requires { funct3 < 2 ^ 3 }
-    ensures { ReadsOperands Shape.LoadFrom funct3 0 0 text.now result }
+    ensures { MatchResult result (λ fields. Shows Shape.LoadFrom funct3 0 0 text.now (I fields))
+        (λ stop. Fails (Texts Shape.LoadFrom 0) text.now stop.left) }
 {
     let (rd, rest) = register_before(text, b", ")?;
     let (imm, rest) = immediate_before(rest, b"(")?;
-    let (rs1, rest) = register_before(rest, b")")?;
-    end(rest)?;
-    Ok(InstructionFields::I(IType {
+    let rs1 = base_register(rest)?;
+    Ok(IType {
         imm,
         rs1,
         funct3,
         rd,
-    }))
-}
-
-/// Those of a store: `x2, 8(x1)`.
-fn store(text: &[u8], funct3: u32) -> Result<InstructionFields, Stop>
-    requires { funct3 < 2 ^ 3 }
-    ensures { ReadsOperands Shape.StoreTo funct3 0 0 text.now result }
-{
-    let (rs2, rest) = register_before(text, b", ")?;
-    let (imm, rest) = immediate_before(rest, b"(")?;
-    let (rs1, rest) = register_before(rest, b")")?;
-    end(rest)?;
-    Ok(InstructionFields::S(SType {
-        imm,
-        rs2,
-        rs1,
-        funct3,
-    }))
-}
-
-/// Those of `jal`: `x3, 0x00000110`, of which the last is the target.
-fn jump(text: &[u8], pc: u32) -> Result<InstructionFields, Stop>
-    ensures { ReadsOperands Shape.Jump 0 0 pc text.now result }
-{
-    let (rd, rest) = register_before(text, b", 0x")?;
-    let imm = last_target(rest, pc, JUMP_REACH, 2)?;
-    Ok(InstructionFields::J(JType { imm, rd }))
+    })
 }
 
 /// Those of `jalr`: `x3, 0x014(x1)`.
@@ -176,8 +188,7 @@ fn jump_to(text: &[u8], funct3: u32) -> Result<InstructionFields, Stop>
 {
     let (rd, rest) = register_before(text, b", 0x")?;
     let (imm, rest) = jump_offset_before(rest, b"(")?;
-    let (rs1, rest) = register_before(rest, b")")?;
-    end(rest)?;
+    let rs1 = base_register(rest)?;
     Ok(InstructionFields::I(IType {
         imm,
         rs1,

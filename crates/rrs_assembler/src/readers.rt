@@ -5,7 +5,7 @@ ghost use Rattle.std.specs.Fmt.{decimal, signed_decimal};
 ghost use Rattle.rrs_lib.specs.Words.{word, floor_mod};
 ghost use Rattle.rrs_lib.specs.Results.{plus_immediate};
 ghost use Rattle.rrs_lib.specs.Texts.{register as register_text, hexadecimal as hexadecimal_text};
-ghost use Rattle.rrs_assembler.specs.Readers.{Fails, FailsPiece, FailsLiteral, FailsBefore, IsRead, IsEnd, IsDecimal, IsRegister, IsImmediate, IsShamt, IsJumpOffset, IsOffset, IsTarget, IsWithin, IsDigits, digits_of, BeginsWithDigit, BeginsOtherwise, CanFollow};
+ghost use Rattle.rrs_assembler.specs.Readers.{Fails, FailsPiece, FailsLiteral, FailsBefore, ReadsBefore, IsRead, IsEnd, IsDecimal, IsRegister, IsImmediate, IsShamt, IsJumpOffset, IsOffset, IsTarget, IsWithin, IsDigits, digits_of, BeginsWithDigit, BeginsOtherwise, CanFollow};
 
 use crate::{Mistake, Stop};
 
@@ -166,7 +166,7 @@ pub fn register_before<'a>(text: &'a [u8], wanted: &[u8]) -> Result<(usize, &'a 
     requires { CanFollow wanted.now }
     ensures { MatchResult result
         (λ read. (read.0 < 32)
-        × (text.now ≡ register_text read.0 ++ (wanted.now ++ read.1.now)))
+        × ReadsBefore IsRegister wanted.now (register_text read.0) text.now read.1.now)
         (λ stop. FailsBefore IsRegister wanted.now text.now stop.left) }
 {
     let (register, rest) = register(text)?;
@@ -179,7 +179,7 @@ pub fn immediate_before<'a>(text: &'a [u8], wanted: &[u8]) -> Result<(i32, &'a [
     requires { CanFollow wanted.now }
     ensures { MatchResult result
         (λ read. (neg_ℤ (pos 2048) ≤ℤ read.0) × (read.0 ≤ℤ pos 2047)
-        × (text.now ≡ signed_decimal read.0 ++ (wanted.now ++ read.1.now)))
+        × ReadsBefore IsImmediate wanted.now (signed_decimal read.0) text.now read.1.now)
         (λ stop. FailsBefore IsImmediate wanted.now text.now stop.left) }
 {
     let (imm, rest) = immediate(text)?;

@@ -5,9 +5,10 @@ use Rattle.rrs_lib.specs.Instructions.{as_fields}
 use Rattle.rrs_lib.specs.Table.{Row}
 use Rattle.rrs_lib.proofs.Rows.{small_opcode}
 use Rattle.rrs_assembler.specs.Readers.{Fails}
-use Rattle.rrs_assembler.specs.Shapes.{Form, form_of, form_of_row, IsTextOfSome, IsOperands, Shows, opening_of}
+use Rattle.rrs_assembler.specs.Shapes.{Form, form_of, form_of_row, IsTextOfSome, Texts, Shows, opening_of}
 use Rattle.rrs_assembler.proofs.Forms.{row_of_form, three_small, last_small}
-use Rattle.rrs_assembler.proofs.RowTexts.{LastFits, fields_in_range}
+use Rattle.rrs_assembler.proofs.OperandTexts.{LastFits}
+use Rattle.rrs_assembler.proofs.RowTexts.{fields_in_range}
 use Rattle.rrs_assembler.proofs.Whole.{IsRest, no_opening, no_operands}
 use Rattle.rrs_assembler.proofs.word_of_text.Goals as goal
 
@@ -34,7 +35,7 @@ pub returns-in_err-fields : goal.returns-in_err-fields
 returns-in_err-fields c =
     let found = row_of_form _ c.in_ok-row.ensures.0 in
     let rest : Fails (IsRest found.0 c.args.pc) c.in_ok-row.rest.now c.in_err-fields.field-0.0.left =
-    subst (λ (f : Form). Fails (IsOperands f.1 f.3 f.4 c.args.pc) c.in_ok-row.rest.now c.in_err-fields.field-0.0.left) found.1 c.in_err-fields.ensures in
+    subst (λ (f : Form). Fails (Texts f.1 c.args.pc) c.in_ok-row.rest.now c.in_err-fields.field-0.0.left) found.1 c.in_err-fields.ensures in
     let h : Fails (IsTextOfSome c.args.pc) c.args.text.now c.in_err-fields.field-0.0.left =
     no_operands found.0 c.args.pc c.args.text.now c.in_ok-row.rest.now _ (begins (form_of c.in_ok-row.row) found.0 _ _ found.1 c.in_ok-row.ensures.1) rest in
     search rules

@@ -1,7 +1,5 @@
-use Rattle.std.proofs.Common.{◌≡◌, inl, inr, arith, sym, ◌∙◌, subst}
+use Rattle.std.proofs.Common.{◌≡◌, inl, inr, arith, sym, ◌∙◌}
 use Rattle.rrs_assembler.specs.declared.rows.Shape.TheVariants.{ThreeRegisters, Shamt, Alone}
-use Rattle.rrs_assembler.specs.Shapes.{ReadsOperands}
-use Rattle.rrs_assembler.proofs.OperandTexts.{upper_reads}
 use Rattle.rrs_assembler.proofs.operands.fields_of.Goals as goal
 
 pub three_registers-requires-clause-funct7 : goal.three_registers-requires-clause-funct7
@@ -12,7 +10,3 @@ shift-requires-clause-funct7 c = elim c.requires.last [ inl small ↦ small | in
 
 pub alone-requires-clause-imm : goal.alone-requires-clause-imm
 alone-requires-clause-imm c = elim c.requires.last [ inl small ↦ omega (arith, small) | inr other ↦ other.1 ]
-
-pub returns-in-Upper : goal.returns-in-Upper
-returns-in-Upper c =
-    subst (λ s. ReadsOperands s c.args.funct3 c.args.last c.args.pc c.args.text.now c.upper.result) (sym c.in-Upper.is) (upper_reads c.args.funct3 c.args.last c.args.pc c.args.text.now c.upper.result c.upper.ensures)
