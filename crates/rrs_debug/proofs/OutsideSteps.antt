@@ -353,7 +353,8 @@ behind_by : (action : Action) (f : Fields) (s : State) (q : DataRequest) (w : �
 behind_by (Load n extended) (I f) s q w row v known is fetched decoded asks =
     let address = plus_immediate (reg s f.rs1) f.imm in
     let found = chosen (width (size_of n)) address _ q _ asks in
-    subst (λ x. GoesBehind (is_load x) v s (advanced (loaded (Load n extended) (I f) v (cleared s)) (Ok false))) found.1 (record {
+    subst (λ x. GoesBehind (is_load x) v s
+    (advanced (loaded (Load n extended) (I f) v (cleared s)) (Ok false))) found.1 (record {
       w = w;
       row = row;
       fields = f;

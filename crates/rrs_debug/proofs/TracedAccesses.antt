@@ -54,15 +54,18 @@ module _ {M : Type 0} (reads : M → ℕ → MemAccessSize → M → Option ℕ 
     keeps : (new.insn, new.access) ≡ kept xs old.is_fetch old.insn old.access
 
   one_more : (x : Access) (xs : List Access) (old mid new : TracedMemory M)
-      → (Makes reads writes xs mid.memory.now new.memory.now → Makes reads writes (x ∷ xs) old.memory.now new.memory.now)
+      → (Makes reads writes xs mid.memory.now new.memory.now
+      → Makes reads writes (x ∷ xs) old.memory.now new.memory.now)
       → Traces x old mid → Kept xs mid new → Kept (x ∷ xs) old new
   one_more x xs old mid new goes t rest = record {
     inner = goes rest.inner;
     same_memory = rest.same_memory ∙ t.same_memory;
-    keeps = rest.keeps ∙ (λ i. kept xs (t.past_fetch i) (t.insn i) (t.latest i)) ∙ kept_one x xs old.is_fetch old.insn old.access;
+    keeps = rest.keeps ∙ (λ i. kept xs (t.past_fetch i) (t.insn i) (t.latest i))
+        ∙ kept_one x xs old.is_fetch old.insn old.access;
   }
 
-  makes_kept : (xs : List Access) (old new : TracedMemory M) → Makes (traced_reads reads) (traced_writes writes) xs old new → Kept xs old new
+  makes_kept : (xs : List Access) (old new : TracedMemory M)
+      → Makes (traced_reads reads) (traced_writes writes) xs old new → Kept xs old new
   makes_kept [] old new made = record {
     inner = ap (λ m. m.memory.now) made;
     same_memory = ap (λ m. m.memory.ghost_name) made;
@@ -73,7 +76,8 @@ module _ {M : Type 0} (reads : M → ℕ → MemAccessSize → M → Option ℕ 
   makes_kept (Write a size value answer ∷ xs) old new (mid, did, made) =
       one_more _ xs old mid new (λ rest. (mid.memory.now, did.0, rest)) did.1 (makes_kept xs mid new made)
 
-  module _ (P : List Access → Type 0) (old new : TracedMemory M) (exactly : MakesExactly (traced_reads reads) (traced_writes writes) P old new) where
+  module _ (P : List Access → Type 0) (old new : TracedMemory M)
+      (exactly : MakesExactly (traced_reads reads) (traced_writes writes) P old new) where
     -- the memory that is lent makes the same accesses, and stays the one that is lent
     pub inner_exactly : MakesExactly reads writes P old.memory.now new.memory.now
     inner_exactly = record {

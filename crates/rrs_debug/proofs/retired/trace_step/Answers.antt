@@ -5,14 +5,17 @@ use Rattle.rrs_debug.proofs.retired.trace_step.Goals as goal
 
 pub returns-clause-insn : goal.returns-clause-insn
 returns-clause-insn g c = λ last.
-    (step_kept _ _ _ _ c.requires.first c.requires.no_word c.requires.no_access _ (c.step_traced.ensures.accesses last)).0
+    (step_kept _ _ _ _ c.requires.first c.requires.no_word c.requires.no_access _
+    (c.step_traced.ensures.accesses last)).0
 
 pub returns-clause-access : goal.returns-clause-access
 returns-clause-access g c = λ last.
-    (step_kept _ _ _ _ c.requires.first c.requires.no_word c.requires.no_access _ (c.step_traced.ensures.accesses last)).1
+    (step_kept _ _ _ _ c.requires.first c.requires.no_word c.requires.no_access _
+    (c.step_traced.ensures.accesses last)).1
 
 pub returns-clause-accesses : goal.returns-clause-accesses
 returns-clause-accesses g c = λ last. inner_exactly _ _ _ _ _ (c.step_traced.ensures.accesses last)
 
 pub returns-clause-same_memory : goal.returns-clause-same_memory
-returns-clause-same_memory g c = still_lent g.M.Memory.reads g.M.Memory.writes _ _ _ (c.step_traced.ensures.accesses None)
+returns-clause-same_memory g c =
+    still_lent g.M.Memory.reads g.M.Memory.writes _ _ _ (c.step_traced.ensures.accesses None)
