@@ -91,13 +91,13 @@ decimal_read least limit n text rest small low high e stops = record {
 
 pub no_digit_fails : (least limit : ℕ) (text : List ℕ) → limit < 2 ^ 64 → least ≤ limit → (BeginsWithDigit text → ⊥) → FailsPiece (IsDecimal least limit) text (length text)
 no_digit_fails least limit text small some stops =
-    stops_here (IsDecimal least limit) (Before (IsDecimal least limit) IsPastPiece) text (decimal least) (least, omega arith, some, refl)
+    stops_here _ _ text (decimal least) (least, omega arith, some, refl)
     (λ t alike h. no_digit text stops (alike_digit 48 text t (subst (BeginsFrom 48) (sym h.4) (begins h.2.0 h.0 h.1 (omega (arith, h.2.2)) h.2.3)) alike))
 
 -- a 0, where the least number is 1
 pub zero_fails : (least limit d : ℕ) (text rest : List ℕ) → limit < 2 ^ 64 → least ≤ limit → least ≤ 1 → d < least → text ≡ (48 + d) ∷ rest → FailsPiece (IsDecimal least limit) text (length text)
 zero_fails least limit d text rest small some one less e =
-    stops_here (IsDecimal least limit) (Before (IsDecimal least limit) IsPastPiece) text (decimal least) (least, omega arith, some, refl)
+    stops_here _ _ text (decimal least) (least, omega arith, some, refl)
     (λ t alike h.
     let low = h.2.1 in
     let first = alike_digit 49 text t (subst (BeginsFrom 49) (sym h.4) (begins_high h.2.0 h.0 h.1 (omega (arith, low, less)) (omega (arith, h.2.2)) h.2.3)) alike in
@@ -195,26 +195,20 @@ read_behind Piece c p text digits rest e read = record {
 
 pub fails_behind : (Piece : List ℕ → Type 0) (c : ℕ) (text digits : List ℕ) (left : ℕ) → text ≡ c ∷ digits → FailsPiece Piece digits left → FailsPiece (IsBehind c Piece) text left
 fails_behind Piece c text digits left e =
-    behind (IsBehind c Piece) (Before (IsBehind c Piece) IsPastPiece) Piece (Before Piece IsPastPiece) (c ∷ []) text digits left e (λ t is. (t, is, refl))
+    behind _ _ _ _ (c ∷ []) text digits left e (λ t is. (t, is, refl))
     (λ t alike h.
     let both : c ∷ t ≡ c ∷ (h.2.0 ++ h.1) = h.4 ∙ ap (λ (l : List ℕ). l ++ h.1) h.2.2 in
     (h.2.0, h.1, h.2.1, h.3, (cc)))
 
-register_up : (p : List ℕ) → IsBehind 120 (IsDecimal 0 31) p → IsRegister p
+pub register_up : (p : List ℕ) → IsBehind 120 (IsDecimal 0 31) p → IsRegister p
 register_up p h = (h.1.0, omega (arith, h.1.2), h.2 ∙ ap (λ (l : List ℕ). 120 ∷ l) h.1.3)
 
-register_down : (text : List ℕ) → Narrows IsRegister (IsBehind 120 (IsDecimal 0 31)) text
+pub register_down : (text : List ℕ) → Narrows IsRegister (IsBehind 120 (IsDecimal 0 31)) text
 register_down text p x t h alike e = (decimal h.0, (h.0, omega arith, omega (arith, h.1), refl), h.2)
-
-pub register_read : (r : ℕ) (text digits rest : List ℕ) → text ≡ 120 ∷ digits → IsRead (IsDecimal 0 31) (decimal r) digits rest → IsRead IsRegister (register r) text rest
-register_read r text digits rest e read = read_kind (IsBehind 120 (IsDecimal 0 31)) IsRegister (120 ∷ decimal r) text rest register_up (register_down text) (read_behind (IsDecimal 0 31) 120 (decimal r) text digits rest e read)
-
-pub register_fails : (text digits : List ℕ) (left : ℕ) → text ≡ 120 ∷ digits → FailsPiece (IsDecimal 0 31) digits left → FailsPiece IsRegister text left
-register_fails text digits left e fails = fails_kind (IsBehind 120 (IsDecimal 0 31)) IsRegister text left register_up (register_down text) (fails_behind (IsDecimal 0 31) 120 text digits left e fails)
 
 pub no_register_fails : (text : List ℕ) → BeginsOtherwise 120 text → FailsPiece IsRegister text (length text)
 no_register_fails text other =
-    stops_here IsRegister (Before IsRegister IsPastPiece) text (register 0) (0, omega arith, refl)
+    stops_here _ _ text (register 0) (0, omega arith, refl)
     (λ t alike h. not_alike 120 text t _ other alike (h.4 ∙ ap (λ (l : List ℕ). l ++ h.1) h.2.2))
 
 -- ---- immediates
@@ -222,27 +216,27 @@ no_register_fails text other =
 abbrev pub IsNegative : List ℕ → Type 0
 IsNegative = IsBehind 45 (IsDecimal 1 2048)
 
-negative_text : (n : ℕ) → 1 ≤ n → (signed_decimal (neg_ℤ (pos n)) ≡ 45 ∷ decimal n)
+pub negative_text : (n : ℕ) → 1 ≤ n → (signed_decimal (neg_ℤ (pos n)) ≡ 45 ∷ decimal n)
 negative_text zero h = absurd (omega (arith, h))
 negative_text (suc n) h = refl
 
-positive_up : (p : List ℕ) → IsDecimal 0 2047 p → IsImmediate p
+pub positive_up : (p : List ℕ) → IsDecimal 0 2047 p → IsImmediate p
 positive_up p h = (pos h.0, omega (arith, ints), omega (arith, ints, h.2), h.3)
 
-negative_up : (p : List ℕ) → IsNegative p → IsImmediate p
+pub negative_up : (p : List ℕ) → IsNegative p → IsImmediate p
 negative_up p h =
     let n : ℕ = h.1.0 in
     (neg_ℤ (pos n), omega (arith, ints, h.1.1, h.1.2), omega (arith, ints, h.1.1), h.2 ∙ ap (λ (l : List ℕ). 45 ∷ l) h.1.3 ∙ sym (negative_text n h.1.1))
 
 -- a text with no minus in front is no negative number, and one with a minus no other
-positive_down : (text : List ℕ) → BeginsOtherwise 45 text → Narrows IsImmediate (IsDecimal 0 2047) text
+pub positive_down : (text : List ℕ) → BeginsOtherwise 45 text → Narrows IsImmediate (IsDecimal 0 2047) text
 positive_down text other q x t h alike e = by_sign h.0 h.1 h.2 h.3
   where
     by_sign : (imm : ℤ) → neg_ℤ (pos 2048) ≤ℤ imm → imm ≤ℤ pos 2047 → q ≡ signed_decimal imm → IsDecimal 0 2047 q
     by_sign (pos n) low high f = (n, omega arith, omega (arith, ints, high), f)
     by_sign (negsuc n) low high f = absurd (not_alike 45 text t _ other alike (e ∙ ap (λ (l : List ℕ). l ++ x) f))
 
-negative_down : (text digits : List ℕ) → text ≡ 45 ∷ digits → Narrows IsImmediate IsNegative text
+pub negative_down : (text digits : List ℕ) → text ≡ 45 ∷ digits → Narrows IsImmediate IsNegative text
 negative_down text digits minus q x t h alike e = by_sign h.0 h.1 h.2 h.3
   where
     by_sign : (imm : ℤ) → neg_ℤ (pos 2048) ≤ℤ imm → imm ≤ℤ pos 2047 → q ≡ signed_decimal imm → IsNegative q
@@ -252,21 +246,3 @@ negative_down text digits minus q x t h alike e = by_sign h.0 h.1 h.2 h.3
         let above = first.3 in
         absurd (omega (arith, same, above))
     by_sign (negsuc n) low high f = (decimal (suc n), (suc n, omega arith, omega (arith, ints, low), refl), f)
-
--- what the reader returns
-pub positive_read : (v : ℕ) (text rest : List ℕ) → v ≤ 2047 → BeginsOtherwise 45 text → IsRead (IsDecimal 0 2047) (decimal v) text rest
-    → (neg_ℤ (pos 2048) ≤ℤ pos v) × (pos v ≤ℤ pos 2047) × IsRead IsImmediate (signed_decimal (pos v)) text rest
-positive_read v text rest high other read =
-    (omega (arith, ints), omega (arith, ints, high), read_kind (IsDecimal 0 2047) IsImmediate (decimal v) text rest positive_up (positive_down text other) read)
-
-pub negative_read : (v : ℕ) (text digits rest : List ℕ) → 1 ≤ v → v ≤ 2048 → text ≡ 45 ∷ digits → IsRead (IsDecimal 1 2048) (decimal v) digits rest
-    → (neg_ℤ (pos 2048) ≤ℤ neg_ℤ (pos v)) × (neg_ℤ (pos v) ≤ℤ pos 2047) × IsRead IsImmediate (signed_decimal (neg_ℤ (pos v))) text rest
-negative_read v text digits rest low high e read =
-    let here = read_kind IsNegative IsImmediate (45 ∷ decimal v) text rest negative_up (negative_down text digits e) (read_behind (IsDecimal 1 2048) 45 (decimal v) text digits rest e read) in
-    (omega (arith, ints, high), omega (arith, ints), subst (λ (l : List ℕ). IsRead IsImmediate l text rest) (sym (negative_text v low)) here)
-
-pub positive_fails : (text : List ℕ) (left : ℕ) → BeginsOtherwise 45 text → FailsPiece (IsDecimal 0 2047) text left → FailsPiece IsImmediate text left
-positive_fails text left other = fails_kind (IsDecimal 0 2047) IsImmediate text left positive_up (positive_down text other)
-
-pub negative_fails : (text digits : List ℕ) (left : ℕ) → text ≡ 45 ∷ digits → FailsPiece (IsDecimal 1 2048) digits left → FailsPiece IsImmediate text left
-negative_fails text digits left e fails = fails_kind IsNegative IsImmediate text left negative_up (negative_down text digits e) (fails_behind (IsDecimal 1 2048) 45 text digits left e fails)

@@ -113,21 +113,24 @@ counted_range : (reach : ℕ) (imm : ℤ) (z : ℕ) → IsCounted reach imm z �
 counted_range reach (pos a) z is less = (omega (arith, ints), omega (arith, ints, is, less))
 counted_range reach (negsuc a) z is less = (omega (arith, ints, is), omega (arith, ints))
 
+abbrev first_of_reach : ℕ → ℕ → ℕ
+first_of_reach base reach = (base + (2 ^ 32 - reach)) % 2 ^ 32
+
 -- the word that lies so far behind the first is the sum of the base and the immediate
-sum_of : (base reach y z : ℕ) (imm : ℤ) → base < 2 ^ 32 → reach ≤ 2 ^ 31 → y < 2 ^ 32 → IsCounted reach imm z → z < 2 * reach → (y + (2 ^ 32 - (base + (2 ^ 32 - reach)) % 2 ^ 32)) % 2 ^ 32 ≡ z → plus_immediate base imm ≡ y
+sum_of : (base reach y z : ℕ) (imm : ℤ) → base < 2 ^ 32 → reach ≤ 2 ^ 31 → y < 2 ^ 32 → IsCounted reach imm z → z < 2 * reach → (y + (2 ^ 32 - first_of_reach base reach)) % 2 ^ 32 ≡ z → plus_immediate base imm ≡ y
 sum_of base reach y z (pos a) small low high is less e = omega (arith, small, low, high, is, less, e)
 sum_of base reach y z (negsuc a) small low high is less e = omega (arith, small, low, high, is, less, e)
 
-behind_of : (base reach z : ℕ) (imm : ℤ) → base < 2 ^ 32 → reach ≤ 2 ^ 31 → IsCounted reach imm z → z < 2 * reach → (plus_immediate base imm + (2 ^ 32 - (base + (2 ^ 32 - reach)) % 2 ^ 32)) % 2 ^ 32 ≡ z
+behind_of : (base reach z : ℕ) (imm : ℤ) → base < 2 ^ 32 → reach ≤ 2 ^ 31 → IsCounted reach imm z → z < 2 * reach → (plus_immediate base imm + (2 ^ 32 - first_of_reach base reach)) % 2 ^ 32 ≡ z
 behind_of base reach z (pos a) small low is less = omega (arith, small, low, is, less)
 behind_of base reach z (negsuc a) small low is less = omega (arith, small, low, is, less)
 
 -- what the digits of a target are
-pub target_from_digits : (base reach step y : ℕ) → base < 2 ^ 32 → IsReach reach step → IsWithin ((base + (2 ^ 32 - reach)) % 2 ^ 32) (2 * reach) step 0 (16 ^ 8) y
+pub target_from_digits : (base reach step y : ℕ) → base < 2 ^ 32 → IsReach reach step → IsWithin (first_of_reach base reach) (2 * reach) step 0 (16 ^ 8) y
     → (imm : ℤ) × IsOffset reach step imm × (digits_of 8 (y - 0) ≡ hexadecimal 8 (plus_immediate base imm))
-    × (imm ≡ pos ((y + (2 ^ 32 - (base + (2 ^ 32 - reach)) % 2 ^ 32)) % 2 ^ 32) -ℤ pos reach)
+    × (imm ≡ pos ((y + (2 ^ 32 - first_of_reach base reach)) % 2 ^ 32) -ℤ pos reach)
 target_from_digits base reach step y small kind is =
-    let z : ℕ = (y + (2 ^ 32 - (base + (2 ^ 32 - reach)) % 2 ^ 32)) % 2 ^ 32 in
+    let z : ℕ = (y + (2 ^ 32 - first_of_reach base reach)) % 2 ^ 32 in
     let high = is.most in
     let below : y < 2 ^ 32 = omega (arith, high) in
     let there = counted reach z in
@@ -141,7 +144,7 @@ target_from_digits base reach step y small kind is =
     )
 
 pub digits_from_target : (base reach step : ℕ) (imm : ℤ) → base < 2 ^ 32 → IsReach reach step → IsOffset reach step imm
-    → (y : ℕ) × IsWithin ((base + (2 ^ 32 - reach)) % 2 ^ 32) (2 * reach) step 0 (16 ^ 8) y × (hexadecimal 8 (plus_immediate base imm) ≡ digits_of 8 (y - 0))
+    → (y : ℕ) × IsWithin (first_of_reach base reach) (2 * reach) step 0 (16 ^ 8) y × (hexadecimal 8 (plus_immediate base imm) ≡ digits_of 8 (y - 0))
 digits_from_target base reach step imm small kind is =
     let count = count_of reach imm is.0 is.1 in
     let y : ℕ = plus_immediate base imm in
@@ -158,14 +161,14 @@ digits_from_target base reach step imm small kind is =
       hexadecimal-digits 7 y below (omega arith) ∙ ap (digits_of 8) same,
     )
 
-pub target_up : (base reach step : ℕ) → base < 2 ^ 32 → IsReach reach step → (p : List ℕ) → IsDigits ((base + (2 ^ 32 - reach)) % 2 ^ 32) (2 * reach) step 8 0 p → IsTarget base reach step p
+pub target_up : (base reach step : ℕ) → base < 2 ^ 32 → IsReach reach step → (p : List ℕ) → IsDigits (first_of_reach base reach) (2 * reach) step 8 0 p → IsTarget base reach step p
 target_up base reach step small kind p h = let made = target_from_digits base reach step h.0 small kind h.1 in (made.0, made.1, h.2 ∙ made.2)
 
-pub target_down : (base reach step : ℕ) → base < 2 ^ 32 → IsReach reach step → (text : List ℕ) → Narrows (IsTarget base reach step) (IsDigits ((base + (2 ^ 32 - reach)) % 2 ^ 32) (2 * reach) step 8 0) text
+pub target_down : (base reach step : ℕ) → base < 2 ^ 32 → IsReach reach step → (text : List ℕ) → Narrows (IsTarget base reach step) (IsDigits (first_of_reach base reach) (2 * reach) step 8 0) text
 target_down base reach step small kind text p x t h alike e = let made = digits_from_target base reach step h.0 small kind h.1 in (made.0, made.1, h.2 ∙ made.2)
 
 -- 0 is an offset, so there is a target
-pub some_target : (base reach step : ℕ) → base < 2 ^ 32 → IsReach reach step → (y : ℕ) × IsWithin ((base + (2 ^ 32 - reach)) % 2 ^ 32) (2 * reach) step 0 (16 ^ 8) y
+pub some_target : (base reach step : ℕ) → base < 2 ^ 32 → IsReach reach step → (y : ℕ) × IsWithin (first_of_reach base reach) (2 * reach) step 0 (16 ^ 8) y
 some_target base reach step small kind =
     let no_remainder : floor_mod (pos 0) step ≡ 0 = elim kind.2 [
       | inl two ↦ subst (λ s. floor_mod (pos 0) s ≡ 0) (sym two.0) refl
@@ -200,13 +203,13 @@ long_offset y is =
     let same : y - 0 ≡ w = omega (arith, low, high) in
     (low, omega (arith, high), ap (digits_of 8) same ∙ sym (hexadecimal-long w (y - 15 * 16 ^ 7) (omega (arith, high)) (omega (arith, low, high))))
 
-short_up : (p : List ℕ) → IsShort p → IsJumpOffset p
+pub short_up : (p : List ℕ) → IsShort p → IsJumpOffset p
 short_up p h =
     let made = short_offset h.0 h.1 in
     let small = made.0 in
     (pos h.0, omega (arith, ints), omega (arith, ints, small), h.2 ∙ made.1)
 
-long_up : (p : List ℕ) → IsLong p → IsJumpOffset p
+pub long_up : (p : List ℕ) → IsLong p → IsJumpOffset p
 long_up p h =
     let made = long_offset h.0 h.1 in
     let low = made.0 in
@@ -234,14 +237,14 @@ low_digit : (d : ℕ) → d < 8 → digit_glyph false d ≢ 102
 low_digit d small = λ e. grind (arith, nat_tests)
 
 -- which of them it is shows in the first digit
-short_down : (text : List ℕ) → BeginsOtherwise 102 text → Narrows IsJumpOffset IsShort text
+pub short_down : (text : List ℕ) → BeginsOtherwise 102 text → Narrows IsJumpOffset IsShort text
 short_down text no_f q x t h alike e = by_sign h.0 h.1 h.2 h.3
   where
     by_sign : (imm : ℤ) → neg_ℤ (pos 2048) ≤ℤ imm → imm ≤ℤ pos 2047 → q ≡ hexadecimal 3 (word imm) → IsShort q
     by_sign (pos a) low high f = subst IsShort (sym f) (short_of a high).4
     by_sign (negsuc a) low high f = let made = long_of a low in absurd (not_alike 102 text t _ no_f alike (e ∙ ap (λ (l : List ℕ). l ++ x) (f ∙ made.1)))
 
-long_down : (text rest : List ℕ) → text ≡ 102 ∷ rest → Narrows IsJumpOffset IsLong text
+pub long_down : (text rest : List ℕ) → text ≡ 102 ∷ rest → Narrows IsJumpOffset IsLong text
 long_down text rest is_f q x t h alike e = by_sign h.0 h.1 h.2 h.3
   where
     by_sign : (imm : ℤ) → neg_ℤ (pos 2048) ≤ℤ imm → imm ≤ℤ pos 2047 → q ≡ hexadecimal 3 (word imm) → IsLong q
@@ -251,24 +254,3 @@ long_down text rest is_f q x t h alike e = by_sign h.0 h.1 h.2 h.3
         let same : 102 ≡ digit_glyph false made.0 = subst (BeginAlike (102 ∷ rest)) shown (subst (λ (l : List ℕ). BeginAlike l t) is_f alike) in
         absurd (low_digit made.0 made.2 (sym same))
     by_sign (negsuc a) low high f = subst IsLong (sym f) (long_of a low).2
-
-pub short_read : (y : ℕ) (text rest : List ℕ) → IsWithin 0 2048 1 0 4096 y → BeginsOtherwise 102 text → text ≡ digits_of 3 (y - 0) ++ rest
-    → (neg_ℤ (pos 2048) ≤ℤ pos y) × (pos y ≤ℤ pos 2047) × IsRead IsJumpOffset (hexadecimal 3 (word (pos y))) text rest
-short_read y text rest is no_f e =
-    let made = short_offset y is in
-    let small = made.0 in
-    (omega (arith, ints), omega (arith, ints, small), subst (λ (l : List ℕ). IsRead IsJumpOffset l text rest) made.1 (read_kind IsShort IsJumpOffset (digits_of 3 (y - 0)) text rest short_up (short_down text no_f) (digits_read 0 2048 1 3 0 y text rest is e)))
-
-pub long_read : (y : ℕ) (text digits rest : List ℕ) → IsWithin 4294965248 2048 1 0 4294967296 y → text ≡ 102 ∷ digits → text ≡ digits_of 8 (y - 0) ++ rest
-    → (neg_ℤ (pos 2048) ≤ℤ negsuc (2 ^ 32 - 1 - y)) × (negsuc (2 ^ 32 - 1 - y) ≤ℤ pos 2047) × IsRead IsJumpOffset (hexadecimal 3 (word (negsuc (2 ^ 32 - 1 - y)))) text rest
-long_read y text digits rest is f e =
-    let made = long_offset y is in
-    let low = made.0 in
-    let high = made.1 in
-    (omega (arith, ints, low, high), omega (arith, ints), subst (λ (l : List ℕ). IsRead IsJumpOffset l text rest) made.2 (read_kind IsLong IsJumpOffset (digits_of 8 (y - 0)) text rest long_up (long_down text digits f) (digits_read 4294965248 2048 1 8 0 y text rest is e)))
-
-pub short_fails : (text : List ℕ) (left : ℕ) → BeginsOtherwise 102 text → FailsPiece IsShort text left → FailsPiece IsJumpOffset text left
-short_fails text left no_f = fails_kind IsShort IsJumpOffset text left short_up (short_down text no_f)
-
-pub long_fails : (text digits : List ℕ) (left : ℕ) → text ≡ 102 ∷ digits → FailsPiece IsLong text left → FailsPiece IsJumpOffset text left
-long_fails text digits left f = fails_kind IsLong IsJumpOffset text left long_up (long_down text digits f)

@@ -49,7 +49,7 @@ either_stops Starts A B text a b s r = elim (cases_lt b a) [
   | inl less ↦
       let least : b ≡ min a b = omega arith in
       let other = both_stop Starts B A text b a (omega (arith, less)) r s in
-      subst (Stops Starts (Either A B) text) least (narrower Starts (Either A B) (Either B A) text b (λ t h. elim h [ inl x ↦ inr x | inr y ↦ inl y ]) other)
+      subst (Stops Starts (Either A B) text) least (narrower _ _ (Either B A) text b (λ t h. elim h [ inl x ↦ inr x | inr y ↦ inl y ]) other)
   | inr less ↦ let least : a ≡ min a b = omega arith in subst (Stops Starts (Either A B) text) least (both_stop Starts A B text a b less s r)
 ]
 
@@ -70,17 +70,17 @@ abbrev pub StopsSeen : List Form → List Form → List ℕ → ℕ → Type 0
 StopsSeen forms seen = Stops (IsOpening forms) (Before (IsOpening seen) IsAny)
 
 pub none_seen : (form : Form) (forms : List Form) (text : List ℕ) → StopsSeen (form ∷ forms) [] text (length text)
-none_seen form forms text = stops_here (IsOpening (form ∷ forms)) (Before (IsOpening []) IsAny) text form.0 (form, inl refl, refl) (λ t alike h. h.2.1)
+none_seen form forms text = stops_here _ _ text form.0 (form, inl refl, refl) (λ t alike h. h.2.1)
 
 pub one_more : (forms seen others : List Form) (form : Form) (text : List ℕ) (left here : ℕ) → forms ≡ seen ++ (form ∷ others) → StopsSeen forms seen text left → FailsLiteral form.0 text here
     → StopsSeen forms (seen ++ (form ∷ [])) text (min left here)
 one_more forms seen others form text left here e so_far fails =
     let Literal : List ℕ → Type 0 = Before (λ p. p ≡ form.0) IsAny in
     let among : IsAmong forms form = subst (λ (l : List Form). IsAmong l form) (sym e) (among_at seen others form) in
-    let this : Stops (IsOpening forms) Literal text here = behind (IsOpening forms) Literal (λ p. p ≡ form.0) Literal [] text text here refl (λ p same. (form, among, same)) (λ t alike h. h) fails in
-    narrower (IsOpening forms) (Before (IsOpening (seen ++ (form ∷ []))) IsAny) (Either (Before (IsOpening seen) IsAny) Literal) text (min left here)
+    let this : Stops (IsOpening forms) Literal text here = behind _ _ _ _ [] text text here refl (λ p same. (form, among, same)) (λ t alike h. h) fails in
+    narrower _ (Before (IsOpening (seen ++ (form ∷ []))) IsAny) (Either (Before (IsOpening seen) IsAny) Literal) text (min left here)
     (λ t h. elim (among_more seen form h.2.0 h.2.1) [
       | inl before ↦ inl (h.0, h.1, (h.2.0, before, h.2.2), h.3, h.4)
       | inr same ↦ inr (h.0, h.1, h.2.2 ∙ ap (λ (f : Form). f.0) (sym same), h.3, h.4)
     ])
-    (either_stops (IsOpening forms) (Before (IsOpening seen) IsAny) Literal text left here so_far this)
+    (either_stops _ _ _ text left here so_far this)

@@ -83,7 +83,7 @@ Narrows C A text = (q x t : List ℕ) → C q → BeginAlike text t → t ≡ q 
 
 pub fails_kind : (A C : List ℕ → Type 0) (text : List ℕ) (left : ℕ) → ((p : List ℕ) → A p → C p)
     → Narrows C A text → FailsPiece A text left → FailsPiece C text left
-fails_kind A C text left up down = behind C (Before C IsPastPiece) A (Before A IsPastPiece) [] text text left refl up
+fails_kind A C text left up down = behind _ _ _ _ [] text text left refl up
     (λ t alike h. (h.0, h.1, down h.0 h.1 t h.2 alike h.4, h.3, h.4))
 
 pub read_kind : (A C : List ℕ → Type 0) (p text rest : List ℕ) → ((p : List ℕ) → A p → C p)
@@ -100,7 +100,7 @@ read_kind A C p text rest up down read = record {
 pub before_piece : (Piece : List ℕ → Type 0) (separator text : List ℕ) (left : ℕ) → CanFollow separator
     → FailsPiece Piece text left → FailsBefore Piece separator text left
 before_piece Piece separator text left can =
-    going_on (Then Piece separator IsEnd) (Then Piece separator IsAny) Piece (Before Piece IsPastPiece) text left
+    going_on _ _ _ _ text left
     (λ p is.
     let e : p ++ separator ≡ p ++ (separator ++ []) = ap (λ (l : List ℕ). p ++ l) (sym (append-nil separator)) in
     (separator, record { front = p; back = []; piece = is; others = refl; shown = e }))
@@ -109,9 +109,7 @@ before_piece Piece separator text left can =
 pub before_separator : (Piece : List ℕ → Type 0) (separator p text rest : List ℕ) (left : ℕ) → CanFollow separator
     → IsRead Piece p text rest → FailsLiteral separator rest left → FailsBefore Piece separator text left
 before_separator Piece separator p text rest left can read =
-    let Literal : List ℕ → Type 0 = λ x. x ≡ separator in
-    behind (Then Piece separator IsEnd) (Then Piece separator IsAny) Literal (Before Literal IsAny)
-    p text rest left read.whole
+    behind _ _ _ _ p text rest left read.whole
     (λ t e.
     let shown : p ++ t ≡ p ++ (separator ++ []) = ap (λ (l : List ℕ). p ++ l) (e ∙ sym (append-nil separator)) in
     record { front = p; back = []; piece = read.piece; others = refl; shown = shown })
@@ -135,11 +133,11 @@ reads_before Piece (s ∷ ss) p text rest following can pieces read e = record {
 }
 
 pub last_piece : (Piece : List ℕ → Type 0) (text : List ℕ) (left : ℕ) → FailsPiece Piece text left → Fails Piece text left
-last_piece Piece text left = behind Piece Piece Piece (Before Piece IsPastPiece) [] text text left refl (λ t is. is)
+last_piece Piece text left = behind _ _ _ _ [] text text left refl (λ t is. is)
     (λ t alike is. (t, [], is, tt, sym (append-nil t)))
 
 pub last_end : (Piece : List ℕ → Type 0) (p text rest : List ℕ) (left : ℕ) → IsRead Piece p text rest → Fails IsEnd rest left → Fails Piece text left
-last_end Piece p text rest left read = behind Piece Piece IsEnd IsEnd p text rest left read.whole
+last_end Piece p text rest left read = behind _ _ _ _ p text rest left read.whole
     (λ t e. subst Piece (sym (append-nil p) ∙ ap (λ (l : List ℕ). p ++ l) (sym e)) read.piece)
     (λ t alike is.
     let same = read.settled (p ++ t) [] t is tt alike (sym (append-nil (p ++ t))) in
@@ -155,8 +153,7 @@ end_fails (c ∷ cs) ne = stops_here IsEnd IsEnd (c ∷ cs) [] refl (λ t alike 
 pub then_first : (Piece : List ℕ → Type 0) (separator text : List ℕ) (left : ℕ) (Texts : List ℕ → Type 0)
     → FailsBefore Piece separator text left → (t : List ℕ) × Texts t → Fails (Then Piece separator Texts) text left
 then_first Piece separator text left Texts fails some =
-    going_on (Then Piece separator Texts) (Then Piece separator Texts)
-    (Then Piece separator IsEnd) (Then Piece separator IsAny) text left
+    going_on _ _ _ _ text left
     (λ p h.
     let whole = h.shown ∙ ap (λ (l : List ℕ). h.front ++ (separator ++ l)) h.others in
     let all : h.front ++ (separator ++ []) ≡ h.front ++ separator =
@@ -170,7 +167,7 @@ then_first Piece separator text left Texts fails some =
 pub then_rest : (Piece : List ℕ → Type 0) (separator p text rest : List ℕ) (left : ℕ) (Texts : List ℕ → Type 0)
     → ReadsBefore Piece separator p text rest → Fails Texts rest left → Fails (Then Piece separator Texts) text left
 then_rest Piece separator p text rest left Texts read =
-    behind (Then Piece separator Texts) (Then Piece separator Texts) Texts Texts (p ++ separator) text rest left
+    behind _ _ _ _ (p ++ separator) text rest left
     (read.whole ∙ sym (append_assoc p separator rest))
     (λ t is. record { front = p; back = t; piece = read.piece; others = is; shown = append_assoc p separator t })
     (λ t alike h.

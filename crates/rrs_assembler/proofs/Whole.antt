@@ -29,7 +29,7 @@ text_of_rest row pc x is =
 
 -- the text begins with no opening
 pub no_opening : (pc : ℕ) (text : List ℕ) (left : ℕ) → FailsOpenings all_forms text left → Fails (IsTextOfSome pc) text left
-no_opening pc text left = going_on (IsTextOfSome pc) (IsTextOfSome pc) (IsOpening all_forms) (Before (IsOpening all_forms) IsAny) text left
+no_opening pc text left = going_on _ _ _ _ text left
     (λ p h.
     let found = row_of_form h.0 h.1 in
     let row : Row = found.0 in
@@ -39,7 +39,7 @@ no_opening pc text left = going_on (IsTextOfSome pc) (IsTextOfSome pc) (IsOpenin
 
 -- it begins with the opening of this row, and its operands go wrong
 pub no_operands : (row : Row) (pc : ℕ) (text rest : List ℕ) (left : ℕ) → text ≡ opening_of row ++ rest → Fails (IsRest row pc) rest left → Fails (IsTextOfSome pc) text left
-no_operands row pc text rest left e = behind (IsTextOfSome pc) (IsTextOfSome pc) (IsRest row pc) (IsRest row pc) (opening_of row) text rest left e
+no_operands row pc text rest left e = behind _ _ _ _ (opening_of row) text rest left e
     (λ t is. text_of_rest row pc t is)
     (λ t alike h.
     let made = parts_of_text h.0 pc (opening_of row ++ t) h.1 in
