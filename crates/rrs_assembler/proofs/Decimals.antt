@@ -31,7 +31,8 @@ digit_after [] y c h = h.0
 digit_after (d ∷ p) y c h = digit_after p y c h.1
 
 -- digits with which a text of a numeral and what is past it begins are those of the numeral
-digits_front : (ds q t x : List ℕ) → AreDigits ds → IsPastPiece x → ds ++ t ≡ q ++ x → (y : List ℕ) × (q ≡ ds ++ y) × (t ≡ y ++ x)
+digits_front : (ds q t x : List ℕ) → AreDigits ds → IsPastPiece x → ds ++ t ≡ q ++ x
+    → (y : List ℕ) × (q ≡ ds ++ y) × (t ≡ y ++ x)
 digits_front [] q t x a past e = (q, refl, e)
 digits_front (d ∷ ds) [] t [] a past e = absurd (cc)
 digits_front (d ∷ ds) [] t (s ∷ x) a past e = let same : d ≡ s = cc in absurd (omega (arith, same, a.0, past))
@@ -44,14 +45,16 @@ digits_front (d ∷ ds) (c ∷ q) t x a past e =
 abbrev BeginsFrom : ℕ → List ℕ → Type 0
 BeginsFrom low text = (c : ℕ) × (x : List ℕ) × (text ≡ c ∷ x) × (low ≤ c) × (c ≤ 57)
 
-first_of_digits : (low : ℕ) (ds x : List ℕ) → AreDigits ds → 0 < length ds → low ≤ get_or ds 0 0 → BeginsFrom low (ds ++ x)
+first_of_digits : (low : ℕ) (ds x : List ℕ) → AreDigits ds → 0 < length ds → low ≤ get_or ds 0 0
+    → BeginsFrom low (ds ++ x)
 first_of_digits low [] x a some high = absurd (omega (arith, some))
 first_of_digits low (d ∷ ds) x a some high = (d, ds ++ x, refl, high, a.0.1)
 
 begins : (n : ℕ) (q x : List ℕ) → n < 2 ^ 64 → q ≡ decimal n → BeginsFrom 48 (q ++ x)
 begins n q x small e =
     let first : 48 ≤ get_or (decimal n) 0 0 = high (decimal n) (decimal_digits n small) (decimal_nonempty n small) in
-    subst (λ (l : List ℕ). BeginsFrom 48 (l ++ x)) (sym e) (first_of_digits 48 (decimal n) x (decimal_digits n small) (decimal_nonempty n small) first)
+    subst (λ (l : List ℕ). BeginsFrom 48 (l ++ x)) (sym e)
+        (first_of_digits 48 (decimal n) x (decimal_digits n small) (decimal_nonempty n small) first)
   where
     high : (ds : List ℕ) → AreDigits ds → 0 < length ds → 48 ≤ get_or ds 0 0
     high [] a some = absurd (omega (arith, some))
@@ -60,17 +63,21 @@ begins n q x small e =
 begins_high : (n : ℕ) (q x : List ℕ) → 0 < n → n < 2 ^ 64 → q ≡ decimal n → BeginsFrom 49 (q ++ x)
 begins_high n q x some small e =
     let first = first_decimal n some small in
-    subst (λ (l : List ℕ). BeginsFrom 49 (l ++ x)) (sym e) (first_of_digits 49 (decimal n) x (decimal_digits n small) (decimal_nonempty n small) (omega (arith, first)))
+    subst (λ (l : List ℕ). BeginsFrom 49 (l ++ x)) (sym e)
+        (first_of_digits 49 (decimal n) x (decimal_digits n small) (decimal_nonempty n small) (omega (arith, first)))
 
-alike_digit : (low : ℕ) (text t : List ℕ) → BeginsFrom low t → BeginAlike text t → (c : ℕ) × (x : List ℕ) × (text ≡ c ∷ x) × (low ≤ c) × (c ≤ 57)
+alike_digit : (low : ℕ) (text t : List ℕ) → BeginsFrom low t → BeginAlike text t
+    → (c : ℕ) × (x : List ℕ) × (text ≡ c ∷ x) × (low ≤ c) × (c ≤ 57)
 alike_digit low [] [] h alike = h
 alike_digit low [] (d ∷ t) h alike = elim alike [ ]
 alike_digit low (c ∷ text) [] h alike = elim alike [ ]
-alike_digit low (c ∷ text) (d ∷ t) h alike = let same : d ≡ h.0 = (let e : d ∷ t ≡ h.0 ∷ h.1 = h.2 in cc) in (c, text, refl, omega (arith, same, alike, h.3), omega (arith, same, alike, h.4))
+alike_digit low (c ∷ text) (d ∷ t) h alike = let same : d ≡ h.0 = (let e : d ∷ t ≡ h.0 ∷ h.1 = h.2 in cc) in
+    (c, text, refl, omega (arith, same, alike, h.3), omega (arith, same, alike, h.4))
 
 no_digit : (text : List ℕ) → (BeginsWithDigit text → ⊥) → BeginsFrom 48 text → ⊥
 no_digit [] stops h = let e : [] ≡ h.0 ∷ h.1 = h.2 in cc
-no_digit (c ∷ text) stops h = let e : c ∷ text ≡ h.0 ∷ h.1 = h.2 in let same : c ≡ h.0 = cc in stops (omega (arith, same, h.3), omega (arith, same, h.4))
+no_digit (c ∷ text) stops h = let e : c ∷ text ≡ h.0 ∷ h.1 = h.2 in let same : c ≡ h.0 = cc in
+    stops (omega (arith, same, h.3), omega (arith, same, h.4))
 
 -- ---- the numbers of a range
 
@@ -92,7 +99,8 @@ decimal_read least limit n text rest small low high e stops = record {
 pub no_digit_fails : (least limit : ℕ) (text : List ℕ) → limit < 2 ^ 64 → least ≤ limit → (BeginsWithDigit text → ⊥) → FailsPiece (IsDecimal least limit) text (length text)
 no_digit_fails least limit text small some stops =
     stops_here _ _ text (decimal least) (least, omega arith, some, refl)
-    (λ t alike h. no_digit text stops (alike_digit 48 text t (subst (BeginsFrom 48) (sym h.4) (begins h.2.0 h.0 h.1 (omega (arith, h.2.2)) h.2.3)) alike))
+    (λ t alike h. no_digit text stops (alike_digit 48 text t
+        (subst (BeginsFrom 48) (sym h.4) (begins h.2.0 h.0 h.1 (omega (arith, h.2.2)) h.2.3)) alike))
 
 -- a 0, where the least number is 1
 pub zero_fails : (least limit d : ℕ) (text rest : List ℕ) → limit < 2 ^ 64 → least ≤ limit → least ≤ 1 → d < least → text ≡ (48 + d) ∷ rest → FailsPiece (IsDecimal least limit) text (length text)
@@ -100,7 +108,8 @@ zero_fails least limit d text rest small some one less e =
     stops_here _ _ text (decimal least) (least, omega arith, some, refl)
     (λ t alike h.
     let low = h.2.1 in
-    let first = alike_digit 49 text t (subst (BeginsFrom 49) (sym h.4) (begins_high h.2.0 h.0 h.1 (omega (arith, low, less)) (omega (arith, h.2.2)) h.2.3)) alike in
+    let first = alike_digit 49 text t (subst (BeginsFrom 49) (sym h.4)
+        (begins_high h.2.0 h.0 h.1 (omega (arith, low, less)) (omega (arith, h.2.2)) h.2.3)) alike in
     let same : 48 + d ≡ first.0 = (let both : (48 + d) ∷ rest ≡ first.0 ∷ first.1 = sym e ∙ first.2 in cc) in
     let high = first.3 in
     omega (arith, same, high, less, one))
@@ -117,18 +126,23 @@ last_digit v d small some bound =
     decimal_step (v * 10 + d) (omega arith) (omega arith) ∙ (λ i. decimal (front i) ++ ((48 + back i) ∷ []))
 
 -- a digit behind a number and more is the longer number and more
-longer_digits : (v d : ℕ) (x : List ℕ) → d < 10 → 0 < v → v < 2 ^ 32 → decimal v ++ ((48 + d) ∷ x) ≡ decimal (v * 10 + d) ++ x
-longer_digits v d x small some bound = sym (append_assoc (decimal v) ((48 + d) ∷ []) x) ∙ ap (λ (l : List ℕ). l ++ x) (sym (last_digit v d small some bound))
+longer_digits : (v d : ℕ) (x : List ℕ) → d < 10 → 0 < v → v < 2 ^ 32
+    → decimal v ++ ((48 + d) ∷ x) ≡ decimal (v * 10 + d) ++ x
+longer_digits v d x small some bound = sym (append_assoc (decimal v) ((48 + d) ∷ []) x)
+    ∙ ap (λ (l : List ℕ). l ++ x) (sym (last_digit v d small some bound))
 
 pub next_digit : (v d : ℕ) (text rest following : List ℕ) → d < 10 → 0 < v → v < 2 ^ 32 → text ≡ decimal v ++ rest → rest ≡ (48 + d) ∷ following → text ≡ decimal (v * 10 + d) ++ following
-next_digit v d text rest following small some bound e e' = e ∙ ap (λ (l : List ℕ). decimal v ++ l) e' ∙ longer_digits v d following small some bound
+next_digit v d text rest following small some bound e e' = e ∙ ap (λ (l : List ℕ). decimal v ++ l) e'
+    ∙ longer_digits v d following small some bound
 
 -- a number that goes on with a digit is at least the longer one
-goes_on-le : (n v d : ℕ) (y : List ℕ) → n < 2 ^ 64 → d < 10 → 0 < v → v < 2 ^ 32 → decimal n ≡ decimal v ++ ((48 + d) ∷ y) → v * 10 + d ≤ n
+goes_on-le : (n v d : ℕ) (y : List ℕ) → n < 2 ^ 64 → d < 10 → 0 < v → v < 2 ^ 32
+    → decimal n ≡ decimal v ++ ((48 + d) ∷ y) → v * 10 + d ≤ n
 goes_on-le n v d y small digit some bound e =
     let longer : ℕ = v * 10 + d in
     let split : decimal n ≡ decimal longer ++ y = e ∙ longer_digits v d y digit some bound in
-    let front : take (length (decimal longer)) (decimal n) ≡ decimal longer = ap (take (length (decimal longer))) split ∙ take_at (decimal longer) y _ refl in
+    let front : take (length (decimal longer)) (decimal n) ≡ decimal longer =
+        ap (take (length (decimal longer))) split ∙ take_at (decimal longer) y _ refl in
     let less = digits_value-take-le 10 (decimal n) (length (decimal longer)) (omega arith) in
     let value : digits_value 10 (decimal n) ≡ n = (decimal_is_IsNumeral n small).1 in
     let front_value : digits_value 10 (decimal longer) ≡ longer = (decimal_is_IsNumeral longer (omega arith)).1 in
@@ -159,7 +173,8 @@ longer_fails least limit v d text rest following small low high digit e e' why =
   some = ([], (v, low, high, append-nil (decimal v)));
   none = λ t alike h.
       let front = digits_front (decimal v) h.0 t h.1 (decimal_digits v (omega arith)) h.3 h.4 in
-      goes_on h.2.0 t h.1 front.0 h.2.2 (subst (λ (l : List ℕ). BeginAlike l t) e' alike) h.3 (sym h.2.3 ∙ front.1) front.2;
+      goes_on h.2.0 t h.1 front.0 h.2.2 (subst (λ (l : List ℕ). BeginAlike l t) e' alike) h.3 (sym h.2.3
+          ∙ front.1) front.2;
 }
   where
     too_long : (n : ℕ) (y : List ℕ) → n ≤ limit → decimal n ≡ decimal v ++ ((48 + d) ∷ y) → ⊥
@@ -170,7 +185,8 @@ longer_fails least limit v d text rest following small low high digit e e' why =
           elim why [ inl z ↦ ne (sym z) | inr past ↦ omega (arith, longer, past, within) ]
     ]
 
-    goes_on : (n : ℕ) (t x y : List ℕ) → n ≤ limit → BeginAlike ((48 + d) ∷ following) t → IsPastPiece x → decimal n ≡ decimal v ++ y → t ≡ y ++ x → ⊥
+    goes_on : (n : ℕ) (t x y : List ℕ) → n ≤ limit → BeginAlike ((48 + d) ∷ following) t → IsPastPiece x
+        → decimal n ≡ decimal v ++ y → t ≡ y ++ x → ⊥
     goes_on n [] x y within alike past more f = alike
     goes_on n (c ∷ t) [] [] within alike past more f = (cc)
     goes_on n (c ∷ t) (s ∷ x) [] within alike past more f = let same : c ≡ s = cc in omega (arith, same, alike, past)
@@ -241,7 +257,8 @@ negative_down text digits minus q x t h alike e = by_sign h.0 h.1 h.2 h.3
   where
     by_sign : (imm : ℤ) → neg_ℤ (pos 2048) ≤ℤ imm → imm ≤ℤ pos 2047 → q ≡ signed_decimal imm → IsNegative q
     by_sign (pos n) low high f =
-        let first = alike_digit 48 text t (subst (BeginsFrom 48) (sym e) (begins n q x (omega (arith, ints, high)) f)) alike in
+        let first = alike_digit 48 text t (subst (BeginsFrom 48) (sym e) (begins n q x (omega (arith, ints, high)) f))
+            alike in
         let same : 45 ≡ first.0 = (let both : 45 ∷ digits ≡ first.0 ∷ first.1 = sym minus ∙ first.2 in cc) in
         let above = first.3 in
         absurd (omega (arith, same, above))

@@ -34,13 +34,15 @@ pub each_row : (P : Row → Type 0) (row : Row) → AllByRecursion P all_rows �
 each_row P row all = subst P (numbered row) (all_get P all_rows ((table row).number - 1) all (ltb-true _ _ (number_below row)))
 
 -- and that of each row is one
-form_at : (rows : List Row) (i : ℕ) → i < length rows → IsAmong (map form_of_row rows) (form_of_row (get_or rows i Row.Add))
+form_at : (rows : List Row) (i : ℕ) → i < length rows → IsAmong (map form_of_row rows)
+    (form_of_row (get_or rows i Row.Add))
 form_at [] i less = absurd (omega (arith, less))
 form_at (row ∷ rows) zero less = inl refl
 form_at (row ∷ rows) (suc i) less = inr (form_at rows i (omega (arith, less)))
 
 pub form_among : (row : Row) → IsAmong all_forms (form_of_row row)
-form_among row = subst (λ r. IsAmong all_forms (form_of_row r)) (numbered row) (form_at all_rows ((table row).number - 1) (ltb-true _ _ (number_below row)))
+form_among row = subst (λ r. IsAmong all_forms (form_of_row r)) (numbered row)
+    (form_at all_rows ((table row).number - 1) (ltb-true _ _ (number_below row)))
 
 -- ---- no opening begins with another
 

@@ -21,7 +21,8 @@ unfolding digits_of
 digits-zero zero = refl
 digits-zero (suc n) =
     let more : n + 1 ≡ suc n = omega arith in
-    ap (λ (l : List ℕ). l ++ (48 ∷ [])) (digits-zero n) ∙ replicate-append-replicate n 1 48 ∙ ap (λ m. replicate m 48) more
+    ap (λ (l : List ℕ). l ++ (48 ∷ [])) (digits-zero n) ∙ replicate-append-replicate n 1 48
+        ∙ ap (λ m. replicate m 48) more
 
 -- digits in front of others, with zeros in front, are all digits of the number in front of the others
 abbrev ArePadded : ℕ → ℕ → List ℕ → List ℕ → Type 0
@@ -32,22 +33,31 @@ unfolding digits_of
 printed n zero x acc small less = absurd (omega (arith, less))
 printed zero (suc k) x acc small less = by_test (x / 16 == 0) refl
   where
-    by_test : (t : Bool) → (x / 16 == 0) ≡ t → ArePadded 1 x acc (if t then digit_glyph false (x % 16) ∷ acc else digits_onto k 16 false (x / 16) (digit_glyph false (x % 16) ∷ acc))
-    by_test true e = let none : 1 + length acc - suc (length acc) ≡ 0 = omega arith in ap (λ m. replicate m 48 ++ (digit_glyph false (x % 16) ∷ acc)) none
+    by_test : (t : Bool) → (x / 16 == 0) ≡ t → ArePadded 1 x acc
+        (if t then digit_glyph false (x % 16) ∷ acc else digits_onto k 16 false (x / 16)
+        (digit_glyph false (x % 16) ∷ acc))
+    by_test true e = let none : 1 + length acc - suc (length acc) ≡ 0 = omega arith in
+        ap (λ m. replicate m 48 ++ (digit_glyph false (x % 16) ∷ acc)) none
     by_test false e = let some : x / 16 ≢ 0 = eqb-false (x / 16) 0 e in absurd (some (omega (arith, small)))
 printed (suc n) (suc k) x acc small less =
     let power = pow-succ' 16 (suc n) in
-    by_test (x / 16 == 0) refl (printed n k (x / 16) (digit_glyph false (x % 16) ∷ acc) (omega (arith, small, power)) (omega (arith, less)))
+    by_test (x / 16 == 0) refl (printed n k (x / 16) (digit_glyph false (x % 16) ∷ acc) (omega (arith, small, power))
+        (omega (arith, less)))
   where
-    shown : (digits_of (suc n) (x / 16) ++ (digit_glyph false (x % 16) ∷ [])) ++ acc ≡ digits_of (suc n) (x / 16) ++ (digit_glyph false (x % 16) ∷ acc)
+    shown : (digits_of (suc n) (x / 16) ++ (digit_glyph false (x % 16) ∷ [])) ++ acc ≡ digits_of (suc n) (x / 16) ++
+        (digit_glyph false (x % 16) ∷ acc)
     shown = append_assoc (digits_of (suc n) (x / 16)) (digit_glyph false (x % 16) ∷ []) acc
 
-    by_test : (t : Bool) → (x / 16 == 0) ≡ t → ArePadded (suc n) (x / 16) (digit_glyph false (x % 16) ∷ acc) (digits_onto k 16 false (x / 16) (digit_glyph false (x % 16) ∷ acc))
-        → ArePadded (suc (suc n)) x acc (if t then digit_glyph false (x % 16) ∷ acc else digits_onto k 16 false (x / 16) (digit_glyph false (x % 16) ∷ acc))
+    by_test : (t : Bool) → (x / 16 == 0) ≡ t → ArePadded (suc n) (x / 16) (digit_glyph false (x % 16) ∷ acc)
+        (digits_onto k 16 false (x / 16) (digit_glyph false (x % 16) ∷ acc))
+        → ArePadded (suc (suc n)) x acc (if t then digit_glyph false (x % 16) ∷ acc else digits_onto k 16 false
+            (x / 16) (digit_glyph false (x % 16) ∷ acc))
     by_test true e more =
         let count : suc (suc n) + length acc - suc (length acc) ≡ suc n = omega arith in
-        let zeros : digits_of (suc n) (x / 16) ≡ replicate (suc n) 48 = ap (digits_of (suc n)) (eqb-true (x / 16) 0 e) ∙ digits-zero (suc n) in
-        ap (λ m. replicate m 48 ++ (digit_glyph false (x % 16) ∷ acc)) count ∙ ap (λ (l : List ℕ). l ++ (digit_glyph false (x % 16) ∷ acc)) (sym zeros) ∙ sym shown
+        let zeros : digits_of (suc n) (x / 16) ≡ replicate (suc n) 48 = ap (digits_of (suc n)) (eqb-true (x / 16) 0 e)
+            ∙ digits-zero (suc n) in
+        ap (λ m. replicate m 48 ++ (digit_glyph false (x % 16) ∷ acc)) count
+            ∙ ap (λ (l : List ℕ). l ++ (digit_glyph false (x % 16) ∷ acc)) (sym zeros) ∙ sym shown
     by_test false e more =
         let l : List ℕ = digits_onto k 16 false (x / 16) (digit_glyph false (x % 16) ∷ acc) in
         let count : suc (suc n) + length acc - length l ≡ suc n + suc (length acc) - length l = omega arith in
@@ -60,7 +70,8 @@ hexadecimal-digits n x small less =
     let count : suc n - length l ≡ suc n + 0 - length l = omega arith in
     ap (λ m. replicate m 48 ++ l) count ∙ printed n 64 x [] small less ∙ append-nil (digits_of (suc n) x)
 
-first_of : (n d z x : ℕ) → d < 16 → z < 16 ^ n → x ≡ 16 ^ n * d + z → digits_of (suc n) x ≡ digit_glyph false d ∷ digits_of n z
+first_of : (n d z x : ℕ) → d < 16 → z < 16 ^ n → x ≡ 16 ^ n * d + z
+    → digits_of (suc n) x ≡ digit_glyph false d ∷ digits_of n z
 first_of n d z x small low e = ap (digits_of (suc n)) e ∙ first_digit n d z small low
 
 -- 8 digits are printed also where 3 are asked for, if the first is no 0
@@ -75,7 +86,8 @@ eight l d z shown first =
     ap (λ n. replicate n 48 ++ l) same ∙ shown
 
 hexadecimal-long : (x z : ℕ) → z < 16 ^ 7 → x ≡ 16 ^ 7 * 15 + z → hexadecimal 3 x ≡ digits_of 8 x
-hexadecimal-long x z low e = eight (digits 16 false x) (digits_of 8 x) (digits_of 7 z) (hexadecimal-digits 7 x (omega (arith, low, e)) (omega arith)) (first_of 7 15 z x (omega arith) low e)
+hexadecimal-long x z low e = eight (digits 16 false x) (digits_of 8 x) (digits_of 7 z)
+    (hexadecimal-digits 7 x (omega (arith, low, e)) (omega arith)) (first_of 7 15 z x (omega arith) low e)
 
 -- ---- targets
 
@@ -117,16 +129,19 @@ abbrev first_of_reach : ℕ → ℕ → ℕ
 first_of_reach base reach = (base + (2 ^ 32 - reach)) % 2 ^ 32
 
 -- the word that lies so far behind the first is the sum of the base and the immediate
-sum_of : (base reach y z : ℕ) (imm : ℤ) → base < 2 ^ 32 → reach ≤ 2 ^ 31 → y < 2 ^ 32 → IsCounted reach imm z → z < 2 * reach → (y + (2 ^ 32 - first_of_reach base reach)) % 2 ^ 32 ≡ z → plus_immediate base imm ≡ y
+sum_of : (base reach y z : ℕ) (imm : ℤ) → base < 2 ^ 32 → reach ≤ 2 ^ 31 → y < 2 ^ 32 → IsCounted reach imm z
+    → z < 2 * reach → (y + (2 ^ 32 - first_of_reach base reach)) % 2 ^ 32 ≡ z → plus_immediate base imm ≡ y
 sum_of base reach y z (pos a) small low high is less e = omega (arith, small, low, high, is, less, e)
 sum_of base reach y z (negsuc a) small low high is less e = omega (arith, small, low, high, is, less, e)
 
-behind_of : (base reach z : ℕ) (imm : ℤ) → base < 2 ^ 32 → reach ≤ 2 ^ 31 → IsCounted reach imm z → z < 2 * reach → (plus_immediate base imm + (2 ^ 32 - first_of_reach base reach)) % 2 ^ 32 ≡ z
+behind_of : (base reach z : ℕ) (imm : ℤ) → base < 2 ^ 32 → reach ≤ 2 ^ 31 → IsCounted reach imm z → z < 2 * reach
+    → (plus_immediate base imm + (2 ^ 32 - first_of_reach base reach)) % 2 ^ 32 ≡ z
 behind_of base reach z (pos a) small low is less = omega (arith, small, low, is, less)
 behind_of base reach z (negsuc a) small low is less = omega (arith, small, low, is, less)
 
 -- what the digits of a target are
-pub target_from_digits : (base reach step y : ℕ) → base < 2 ^ 32 → IsReach reach step → IsWithin (first_of_reach base reach) (2 * reach) step 0 (16 ^ 8) y
+pub target_from_digits : (base reach step y : ℕ) → base < 2 ^ 32 → IsReach reach step
+    → IsWithin (first_of_reach base reach) (2 * reach) step 0 (16 ^ 8) y
     → (imm : ℤ) × IsOffset reach step imm × (digits_of 8 (y - 0) ≡ hexadecimal 8 (plus_immediate base imm))
     × (imm ≡ pos ((y + (2 ^ 32 - first_of_reach base reach)) % 2 ^ 32) -ℤ pos reach)
 target_from_digits base reach step y small kind is =
@@ -144,7 +159,8 @@ target_from_digits base reach step y small kind is =
     )
 
 pub digits_from_target : (base reach step : ℕ) (imm : ℤ) → base < 2 ^ 32 → IsReach reach step → IsOffset reach step imm
-    → (y : ℕ) × IsWithin (first_of_reach base reach) (2 * reach) step 0 (16 ^ 8) y × (hexadecimal 8 (plus_immediate base imm) ≡ digits_of 8 (y - 0))
+    → (y : ℕ) × IsWithin (first_of_reach base reach) (2 * reach) step 0 (16 ^ 8) y
+        × (hexadecimal 8 (plus_immediate base imm) ≡ digits_of 8 (y - 0))
 digits_from_target base reach step imm small kind is =
     let count = count_of reach imm is.0 is.1 in
     let y : ℕ = plus_immediate base imm in
@@ -161,14 +177,19 @@ digits_from_target base reach step imm small kind is =
       hexadecimal-digits 7 y below (omega arith) ∙ ap (digits_of 8) same,
     )
 
-pub target_up : (base reach step : ℕ) → base < 2 ^ 32 → IsReach reach step → (p : List ℕ) → IsDigits (first_of_reach base reach) (2 * reach) step 8 0 p → IsTarget base reach step p
-target_up base reach step small kind p h = let made = target_from_digits base reach step h.0 small kind h.1 in (made.0, made.1, h.2 ∙ made.2)
+pub target_up : (base reach step : ℕ) → base < 2 ^ 32 → IsReach reach step → (p : List ℕ)
+    → IsDigits (first_of_reach base reach) (2 * reach) step 8 0 p → IsTarget base reach step p
+target_up base reach step small kind p h = let made = target_from_digits base reach step h.0 small kind h.1 in
+    (made.0, made.1, h.2 ∙ made.2)
 
-pub target_down : (base reach step : ℕ) → base < 2 ^ 32 → IsReach reach step → (text : List ℕ) → Narrows (IsTarget base reach step) (IsDigits (first_of_reach base reach) (2 * reach) step 8 0) text
-target_down base reach step small kind text p x t h alike e = let made = digits_from_target base reach step h.0 small kind h.1 in (made.0, made.1, h.2 ∙ made.2)
+pub target_down : (base reach step : ℕ) → base < 2 ^ 32 → IsReach reach step → (text : List ℕ)
+    → Narrows (IsTarget base reach step) (IsDigits (first_of_reach base reach) (2 * reach) step 8 0) text
+target_down base reach step small kind text p x t h alike e = let made =
+    digits_from_target base reach step h.0 small kind h.1 in (made.0, made.1, h.2 ∙ made.2)
 
 -- 0 is an offset, so there is a target
-pub some_target : (base reach step : ℕ) → base < 2 ^ 32 → IsReach reach step → (y : ℕ) × IsWithin (first_of_reach base reach) (2 * reach) step 0 (16 ^ 8) y
+pub some_target : (base reach step : ℕ) → base < 2 ^ 32 → IsReach reach step
+    → (y : ℕ) × IsWithin (first_of_reach base reach) (2 * reach) step 0 (16 ^ 8) y
 some_target base reach step small kind =
     let no_remainder : floor_mod (pos 0) step ≡ 0 = elim kind.2 [
       | inl two ↦ subst (λ s. floor_mod (pos 0) s ≡ 0) (sym two.0) refl
@@ -201,7 +222,8 @@ long_offset y is =
     let low : 2 ^ 32 - 2048 ≤ y = omega (arith, among, high) in
     let w : ℕ = word (negsuc (2 ^ 32 - 1 - y)) in
     let same : y - 0 ≡ w = omega (arith, low, high) in
-    (low, omega (arith, high), ap (digits_of 8) same ∙ sym (hexadecimal-long w (y - 15 * 16 ^ 7) (omega (arith, high)) (omega (arith, low, high))))
+    (low, omega (arith, high), ap (digits_of 8) same ∙ sym
+        (hexadecimal-long w (y - 15 * 16 ^ 7) (omega (arith, high)) (omega (arith, low, high))))
 
 pub short_up : (p : List ℕ) → IsShort p → IsJumpOffset p
 short_up p h =
@@ -217,21 +239,25 @@ long_up p h =
     (negsuc (2 ^ 32 - 1 - h.0), omega (arith, ints, low, high), omega (arith, ints), h.2 ∙ made.2)
 
 -- the digits of an offset, and the first of them
-short_of : (a : ℕ) → pos a ≤ℤ pos 2047 → (d : ℕ) × (z : List ℕ) × (d < 8) × (hexadecimal 3 (word (pos a)) ≡ digit_glyph false d ∷ z) × IsShort (hexadecimal 3 (word (pos a)))
+short_of : (a : ℕ) → pos a ≤ℤ pos 2047 → (d : ℕ) × (z : List ℕ) × (d < 8)
+    × (hexadecimal 3 (word (pos a)) ≡ digit_glyph false d ∷ z) × IsShort (hexadecimal 3 (word (pos a)))
 short_of a high =
     let small : a < 2048 = omega (arith, ints, high) in
     let is : IsWithin 0 2048 1 0 4096 a = record { least = omega arith; most = omega (arith, small); among = (omega (arith, small), omega arith) } in
     let shown = short_offset a is in
-    (a / 256, _, omega (arith, small), sym shown.1 ∙ first_of 2 (a / 256) (a % 256) (a - 0) (omega (arith, small)) (omega arith) (omega arith), (a, is, sym shown.1))
+    (a / 256, _, omega (arith, small), sym shown.1 ∙ first_of 2 (a / 256) (a % 256) (a - 0) (omega (arith, small))
+        (omega arith) (omega arith), (a, is, sym shown.1))
 
-long_of : (a : ℕ) → neg_ℤ (pos 2048) ≤ℤ negsuc a → (z : List ℕ) × (hexadecimal 3 (word (negsuc a)) ≡ 102 ∷ z) × IsLong (hexadecimal 3 (word (negsuc a)))
+long_of : (a : ℕ) → neg_ℤ (pos 2048) ≤ℤ negsuc a → (z : List ℕ) × (hexadecimal 3 (word (negsuc a)) ≡ 102 ∷ z)
+    × IsLong (hexadecimal 3 (word (negsuc a)))
 long_of a low =
     let small : a < 2048 = omega (arith, ints, low) in
     let y : ℕ = 2 ^ 32 - 1 - a in
     let is : IsWithin 4294965248 2048 1 0 4294967296 y = record { least = omega arith; most = omega (arith, small); among = (omega (arith, small), omega arith) } in
     let back : 2 ^ 32 - 1 - y ≡ a = omega (arith, small) in
     let shown = ap (λ n. hexadecimal 3 (word (negsuc n))) (sym back) ∙ sym (long_offset y is).2 in
-    (_, shown ∙ first_of 7 15 (y - 15 * 16 ^ 7) (y - 0) (omega arith) (omega (arith, small)) (omega (arith, small)), (y, is, shown))
+    (_, shown ∙ first_of 7 15 (y - 15 * 16 ^ 7) (y - 0) (omega arith) (omega (arith, small)) (omega (arith, small)),
+        (y, is, shown))
 
 low_digit : (d : ℕ) → d < 8 → digit_glyph false d ≢ 102
 low_digit d small = λ e. grind (arith, nat_tests)
@@ -242,7 +268,8 @@ short_down text no_f q x t h alike e = by_sign h.0 h.1 h.2 h.3
   where
     by_sign : (imm : ℤ) → neg_ℤ (pos 2048) ≤ℤ imm → imm ≤ℤ pos 2047 → q ≡ hexadecimal 3 (word imm) → IsShort q
     by_sign (pos a) low high f = subst IsShort (sym f) (short_of a high).4
-    by_sign (negsuc a) low high f = let made = long_of a low in absurd (not_alike 102 text t _ no_f alike (e ∙ ap (λ (l : List ℕ). l ++ x) (f ∙ made.1)))
+    by_sign (negsuc a) low high f = let made = long_of a low in
+        absurd (not_alike 102 text t _ no_f alike (e ∙ ap (λ (l : List ℕ). l ++ x) (f ∙ made.1)))
 
 pub long_down : (text rest : List ℕ) → text ≡ 102 ∷ rest → Narrows IsJumpOffset IsLong text
 long_down text rest is_f q x t h alike e = by_sign h.0 h.1 h.2 h.3
@@ -251,6 +278,7 @@ long_down text rest is_f q x t h alike e = by_sign h.0 h.1 h.2 h.3
     by_sign (pos a) low high f =
         let made = short_of a high in
         let shown : t ≡ digit_glyph false made.0 ∷ (made.1 ++ x) = e ∙ ap (λ (l : List ℕ). l ++ x) (f ∙ made.3) in
-        let same : 102 ≡ digit_glyph false made.0 = subst (BeginAlike (102 ∷ rest)) shown (subst (λ (l : List ℕ). BeginAlike l t) is_f alike) in
+        let same : 102 ≡ digit_glyph false made.0 = subst (BeginAlike (102 ∷ rest)) shown
+            (subst (λ (l : List ℕ). BeginAlike l t) is_f alike) in
         absurd (low_digit made.0 made.2 (sym same))
     by_sign (negsuc a) low high f = subst IsLong (sym f) (long_of a low).2

@@ -88,7 +88,8 @@ some_text Upper pc = and_then _ _ _ a_register (a_target 0 (2 ^ 31) 4096 high_re
 some_text UpperToPc pc = and_then _ _ _ a_register (a_target pc (2 ^ 31) 4096 high_reach)
 some_text Branch pc =
     and_then _ _ _ a_register (and_then _ _ _ a_register (a_branch pc))
-some_text Jump pc = and_then _ _ _ a_register (a_target pc (2 ^ 20) 2 (even_reach (2 ^ 20) (omega arith) (omega arith) refl))
+some_text Jump pc = and_then _ _ _ a_register (a_target pc (2 ^ 20) 2
+    (even_reach (2 ^ 20) (omega arith) (omega arith) refl))
 some_text JumpTo pc = and_then _ _ _ a_register (and_then _ _ _ an_offset a_base)
 some_text Alone pc = an_end
 some_text _ pc = and_then _ _ _ a_register (and_then _ _ _ an_immediate a_base)
@@ -129,7 +130,8 @@ shown ThreeRegisters funct3 last pc x three seven h =
     let rest = shown_then _ _ _ _ _ (codes ", ") o o.piece.2 o.others.2 in
     let seven = not_alone ThreeRegisters last (λ e. (cc)) seven in (
       R (record { funct7 = last; rs2 = o.others.0; rs1 = o.piece.0; funct3 = funct3; rd = h.piece.0 }),
-      ((h.piece.1, three, o.piece.1, o.others.1, seven), refl, refl, shown_then _ _ _ _ _ (codes ", ") h h.piece.2 rest),
+      ((h.piece.1, three, o.piece.1, o.others.1, seven), refl, refl,
+          shown_then _ _ _ _ _ (codes ", ") h h.piece.2 rest),
     )
 shown Immediate funct3 last pc x three seven h =
     let o = h.others in
@@ -143,17 +145,20 @@ shown Shamt funct3 last pc x three seven h =
     let small = o.others.2 in
     let seven = not_alone Shamt last (λ e. (cc)) seven in (
       IShamt (record { funct7 = last; shamt = o.others.0; rs1 = o.piece.0; funct3 = funct3; rd = h.piece.0 }),
-      ((h.piece.1, three, o.piece.1, omega (arith, small), seven), refl, refl, shown_then _ _ _ _ _ (codes ", ") h h.piece.2 rest),
+      ((h.piece.1, three, o.piece.1, omega (arith, small), seven), refl, refl,
+          shown_then _ _ _ _ _ (codes ", ") h h.piece.2 rest),
     )
 shown Upper funct3 last pc x three seven h =
     let is = h.others.1 in (
       U (record { imm = h.others.0; rd = h.piece.0 }),
-      ((h.piece.1, is.0, below_upper h.others.0 is.1 is.2, is.2), shown_then _ _ _ _ _ (codes ", 0x") h h.piece.2 h.others.2),
+      ((h.piece.1, is.0, below_upper h.others.0 is.1 is.2, is.2),
+          shown_then _ _ _ _ _ (codes ", 0x") h h.piece.2 h.others.2),
     )
 shown UpperToPc funct3 last pc x three seven h =
     let is = h.others.1 in (
       U (record { imm = h.others.0; rd = h.piece.0 }),
-      ((h.piece.1, is.0, below_upper h.others.0 is.1 is.2, is.2), shown_then _ _ _ _ _ (codes ", 0x") h h.piece.2 h.others.2),
+      ((h.piece.1, is.0, below_upper h.others.0 is.1 is.2, is.2),
+          shown_then _ _ _ _ _ (codes ", 0x") h h.piece.2 h.others.2),
     )
 shown Branch funct3 last pc x three seven h =
     let o = h.others in
@@ -170,13 +175,15 @@ shown LoadFrom funct3 last pc x three seven h =
     let o = h.others in
     let rest = shown_then _ _ _ _ _ (codes "(") o o.piece.3 (base_shown _ o.others) in (
       I (record { imm = o.piece.0; rs1 = o.others.piece.0; funct3 = funct3; rd = h.piece.0 }),
-      ((h.piece.1, three, o.others.piece.1, o.piece.1, o.piece.2), refl, shown_then _ _ _ _ _ (codes ", ") h h.piece.2 rest),
+      ((h.piece.1, three, o.others.piece.1, o.piece.1, o.piece.2), refl,
+          shown_then _ _ _ _ _ (codes ", ") h h.piece.2 rest),
     )
 shown StoreTo funct3 last pc x three seven h =
     let o = h.others in
     let rest = shown_then _ _ _ _ _ (codes "(") o o.piece.3 (base_shown _ o.others) in (
       S (record { imm = o.piece.0; rs2 = h.piece.0; rs1 = o.others.piece.0; funct3 = funct3 }),
-      ((three, o.others.piece.1, h.piece.1, o.piece.1, o.piece.2), refl, shown_then _ _ _ _ _ (codes ", ") h h.piece.2 rest),
+      ((three, o.others.piece.1, h.piece.1, o.piece.1, o.piece.2), refl,
+          shown_then _ _ _ _ _ (codes ", ") h h.piece.2 rest),
     )
 shown Jump funct3 last pc x three seven h =
     let is = h.others.1 in (
@@ -190,7 +197,8 @@ shown JumpTo funct3 last pc x three seven h =
     let o = h.others in
     let rest = shown_then _ _ _ _ _ (codes "(") o o.piece.3 (base_shown _ o.others) in (
       I (record { imm = o.piece.0; rs1 = o.others.piece.0; funct3 = funct3; rd = h.piece.0 }),
-      ((h.piece.1, three, o.others.piece.1, o.piece.1, o.piece.2), refl, shown_then _ _ _ _ _ (codes ", 0x") h h.piece.2 rest),
+      ((h.piece.1, three, o.others.piece.1, o.piece.1, o.piece.2), refl,
+          shown_then _ _ _ _ _ (codes ", 0x") h h.piece.2 rest),
     )
 shown Alone funct3 last pc x three seven h =
     let less = alone_fits Alone last seven in (

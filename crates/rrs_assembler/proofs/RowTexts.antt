@@ -22,7 +22,9 @@ text_shown : (a : Action) (row : Row) (funct3 last pc : ℕ) (x : List ℕ) (f :
 text_shown (OnRegisters op) row funct3 last pc x (R f) h = ap Some (simp append_assoc refl ∙ ap (λ (l : List ℕ). (name_of row ++ codes " ") ++ l) (sym h.3))
 text_shown (OnImmediate op) row funct3 last pc x (I f) h = ap Some (simp append_assoc refl ∙ ap (λ (l : List ℕ). (name_of row ++ codes " ") ++ l) (sym h.2))
 text_shown (OnShamt op) row funct3 last pc x (IShamt f) h = ap Some (simp append_assoc refl ∙ ap (λ (l : List ℕ). (name_of row ++ codes " ") ++ l) (sym h.3))
-text_shown LoadUpper row funct3 last pc x (U f) h = ap Some (ap (λ w. register_and_word row f.rd w) (sum_with_zero f.imm) ∙ simp append_assoc refl ∙ ap (λ (l : List ℕ). (name_of row ++ codes " ") ++ l) (sym h.1))
+text_shown LoadUpper row funct3 last pc x (U f) h = ap Some
+    (ap (λ w. register_and_word row f.rd w) (sum_with_zero f.imm) ∙ simp append_assoc refl
+    ∙ ap (λ (l : List ℕ). (name_of row ++ codes " ") ++ l) (sym h.1))
 text_shown AddUpperToPc row funct3 last pc x (U f) h = ap Some (simp append_assoc refl ∙ ap (λ (l : List ℕ). (name_of row ++ codes " ") ++ l) (sym h.1))
 text_shown (BranchIf test) row funct3 last pc x (B f) h = ap Some (simp append_assoc refl ∙ ap (λ (l : List ℕ). (name_of row ++ codes " ") ++ l) (sym h.2))
 text_shown (BranchUnless test) row funct3 last pc x (B f) h = ap Some (simp append_assoc refl ∙ ap (λ (l : List ℕ). (name_of row ++ codes " ") ++ l) (sym h.2))
@@ -114,7 +116,8 @@ place_parts row pc t r imm base a b low high e = (
   then_is _ _ _ _ _ (r, a, refl) (then_is _ _ _ _ _ (imm, low, high, refl) (then_is _ _ _ _ _ (base, b, refl) refl)),
 )
 
-parts : (a : Action) (row : Row) (pc : ℕ) (t : List ℕ) (f : Fields) → format_of f ≡ format_of_action a → IsInRange f → text_by a row f pc ≡ Some t → Parts a row pc t
+parts : (a : Action) (row : Row) (pc : ℕ) (t : List ℕ) (f : Fields) → format_of f ≡ format_of_action a → IsInRange f
+    → text_by a row f pc ≡ Some t → Parts a row pc t
 parts (OnRegisters op) row pc t (R f) k p e = (
   _,
   sym (same_Some _ t e) ∙ simp append_assoc refl,
@@ -166,7 +169,9 @@ parts Break row pc t (I f) k p e = ([], sym (same_Some _ t e) ∙ sym (append-ni
 parts _ row pc t _ k p e = absurd (cc)
 
 -- the text of a word is the opening of a row and operands of its shape
-pub parts_of_text : (w pc : ℕ) (t : List ℕ) → HasText pc w t → (row : Row) × (x : List ℕ) × (t ≡ opening_of row ++ x) × Texts (shape_of row) pc x
+pub parts_of_text : (w pc : ℕ) (t : List ℕ) → HasText pc w t
+    → (row : Row) × (x : List ℕ) × (t ≡ opening_of row ++ x) × Texts (shape_of row) pc x
 parts_of_text w pc t has =
-    let made = parts (table has.row).action has.row pc t has.fields (has.is.format ∙ format_of_row has.row) has.is.in_range has.holds in
+    let made = parts (table has.row).action has.row pc t has.fields (has.is.format
+        ∙ format_of_row has.row) has.is.in_range has.holds in
     (has.row, made.0, made.1, made.2)

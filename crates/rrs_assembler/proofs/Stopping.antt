@@ -42,7 +42,8 @@ behind Starts Texts Starts' Texts' p text rest left e up down s = record {
   count = s.count;
   some = (s.some.0, subst Starts (sym (append_assoc p s.read s.some.0)) (up _ s.some.1));
   none = λ t alike h.
-      let there = subst (λ (l : List ℕ). BeginAlike l (s.read ++ t)) (sym s.whole) (alike_behind s.read s.rest t alike) in
+      let there = subst (λ (l : List ℕ). BeginAlike l (s.read ++ t)) (sym s.whole)
+          (alike_behind s.read s.rest t alike) in
       s.none t alike (down (s.read ++ t) there (subst Texts (append_assoc p s.read t) h));
 }
 
@@ -67,7 +68,8 @@ alike_same [] = tt
 alike_same (c ∷ a) = refl
 
 -- the text is none of those that it stops to be
-pub is_none : (Starts Texts : List ℕ → Type 0) (text : List ℕ) (left : ℕ) → Stops Starts Texts text left → Texts text → ⊥
+pub is_none : (Starts Texts : List ℕ → Type 0) (text : List ℕ) (left : ℕ) → Stops Starts Texts text left → Texts text
+    → ⊥
 is_none Starts Texts text left s is = s.none s.rest (alike_same s.rest) (subst Texts s.whole is)
 
 -- ---- pieces
@@ -193,15 +195,21 @@ by_test false x y n test none = refl
 common-none : (a b : List ℕ) → (BeginAlike a b → ⊥) → common_length a b ≡ 0
 common-none [] b apart = refl
 common-none (x ∷ xs) [] apart = refl
-common-none (x ∷ xs) (y ∷ ys) apart = by_test (x == y) x y (suc (common_length xs ys)) refl (λ same. absurd (apart same))
+common-none (x ∷ xs) (y ∷ ys) apart = by_test (x == y) x y (suc (common_length xs ys)) refl
+    (λ same. absurd (apart same))
 
--- a text has no more in common with one that does not go on alike than what was read, and all of that with one that does
-pub common_within : (read rest other : List ℕ) → ((t : List ℕ) → BeginAlike rest t → other ≢ read ++ t) → common_length (read ++ rest) other ≤ length read
-common_within [] rest other none = let zero = common-none rest other (λ alike. none other alike refl) in omega (arith, zero)
+-- a text has no more in common with one that does not go on alike than what was read, and all of
+-- that with one that does
+pub common_within : (read rest other : List ℕ) → ((t : List ℕ) → BeginAlike rest t → other ≢ read ++ t)
+    → common_length (read ++ rest) other ≤ length read
+common_within [] rest other none = let zero = common-none rest other (λ alike. none other alike refl) in
+    omega (arith, zero)
 common_within (c ∷ read) rest [] none = omega arith
-common_within (c ∷ read) rest (d ∷ other) none = by_head (c == d) refl (λ same. common_within read rest other (λ t alike e. none t alike (cc)))
+common_within (c ∷ read) rest (d ∷ other) none = by_head (c == d) refl
+    (λ same. common_within read rest other (λ t alike e. none t alike (cc)))
   where
-    by_head : (t : Bool) → (c == d) ≡ t → (c ≡ d → common_length (read ++ rest) other ≤ length read) → (if t then suc (common_length (read ++ rest) other) else 0) ≤ suc (length read)
+    by_head : (t : Bool) → (c == d) ≡ t → (c ≡ d → common_length (read ++ rest) other ≤ length read)
+        → (if t then suc (common_length (read ++ rest) other) else 0) ≤ suc (length read)
     by_head true test more = let there = more (eqb-true c d test) in omega (arith, there)
     by_head false test more = omega arith
 

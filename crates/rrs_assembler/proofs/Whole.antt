@@ -34,8 +34,10 @@ no_opening pc text left = going_on _ _ _ _ text left
     let found = row_of_form h.0 h.1 in
     let row : Row = found.0 in
     let some = some_text (shape_of row) pc in
-    (some.0, subst (λ (l : List ℕ). IsTextOfSome pc (l ++ some.0)) (sym (h.2 ∙ ap (λ (f : Form). f.0) found.1)) (text_of_rest row pc some.0 some.1)))
-    (λ t h. let made = parts_of_text h.0 pc t h.1 in (opening_of made.0, made.1, (form_of_row made.0, form_among made.0, refl), tt, made.2))
+    (some.0, subst (λ (l : List ℕ). IsTextOfSome pc (l ++ some.0)) (sym (h.2 ∙ ap (λ (f : Form). f.0) found.1))
+        (text_of_rest row pc some.0 some.1)))
+    (λ t h. let made = parts_of_text h.0 pc t h.1 in (opening_of made.0, made.1,
+        (form_of_row made.0, form_among made.0, refl), tt, made.2))
 
 -- it begins with the opening of this row, and its operands go wrong
 pub no_operands : (row : Row) (pc : ℕ) (text rest : List ℕ) (left : ℕ) → text ≡ opening_of row ++ rest → Fails (IsRest row pc) rest left → Fails (IsTextOfSome pc) text left
@@ -46,24 +48,30 @@ no_operands row pc text rest left e = behind _ _ _ _ (opening_of row) text rest 
     elim (rows_apart row made.0) [
       | inl same ↦
           let shown : opening_of row ++ t ≡ opening_of row ++ made.1 = made.2 ∙ ap (λ r. opening_of r ++ made.1) same in
-          subst (λ (x : List ℕ). IsRest row pc x) (sym (append_cancel_left (opening_of row) t made.1 shown)) (subst (λ r. IsRest r pc made.1) same made.3)
+          subst (λ (x : List ℕ). IsRest row pc x) (sym (append_cancel_left (opening_of row) t made.1 shown))
+              (subst (λ r. IsRest r pc made.1) same made.3)
       | inr apart ↦ absurd (differ-apart (opening_of row) (opening_of made.0) t made.1 apart made.2)
     ])
 
 -- the place as a byte
 pub furthest : (pc : ℕ) (text : List ℕ) (left : ℕ) → Fails (IsTextOfSome pc) text left → IsFurthest pc text (length text - left)
 furthest pc text left fails =
-    let place : length text - left ≡ length fails.read = (let whole = ap length fails.whole ∙ length-append fails.read fails.rest in let count = fails.count in omega (arith, whole, count)) in
+    let place : length text - left ≡ length fails.read =
+        (let whole = ap length fails.whole ∙ length-append fails.read fails.rest in let count = fails.count in
+        omega (arith, whole, count)) in
     let within : (other : List ℕ) → IsTextOfSome pc other → common_length text other ≤ length text - left =
     λ other is.
-    let less = common_within fails.read fails.rest other (λ t alike e. fails.none t alike (subst (IsTextOfSome pc) e is)) in
-    let here : common_length text other ≡ common_length (fails.read ++ fails.rest) other = ap (λ (l : List ℕ). common_length l other) fails.whole in
+    let less = common_within fails.read fails.rest other
+        (λ t alike e. fails.none t alike (subst (IsTextOfSome pc) e is)) in
+    let here : common_length text other ≡ common_length (fails.read ++ fails.rest) other =
+        ap (λ (l : List ℕ). common_length l other) fails.whole in
     omega (arith, place, less, here)
     in
     let other : List ℕ = fails.read ++ fails.some.0 in
     let most = within other fails.some.1 in
     let least = common_read fails.read fails.rest fails.some.0 in
-    let here : common_length text other ≡ common_length (fails.read ++ fails.rest) other = ap (λ (l : List ℕ). common_length l other) fails.whole in
+    let here : common_length text other ≡ common_length (fails.read ++ fails.rest) other =
+        ap (λ (l : List ℕ). common_length l other) fails.whole in
     record {
       over = λ w other h. within other (w, h);
       reached = (fails.some.1.0, other, fails.some.1.1, omega (arith, place, most, least, here));
@@ -92,7 +100,8 @@ pub fence_only : (pc w : ℕ) (text : List ℕ) → IsAssembled pc text w → te
 fence_only pc w text is fence =
     elim (rows_apart Row.Fence is.row) [
       | inl same ↦ is.encoded ∙ fence_row is.row pc is.rest is.fields same is.shows
-      | inr apart ↦ absurd (differ-apart (opening_of Row.Fence) (opening_of is.row) [] is.rest apart (sym fence ∙ is.whole))
+      | inr apart ↦ absurd (differ-apart (opening_of Row.Fence) (opening_of is.row) [] is.rest apart (sym fence
+          ∙ is.whole))
     ]
 
 -- and it is one

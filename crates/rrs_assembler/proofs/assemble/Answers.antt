@@ -17,7 +17,8 @@ pub returns-in-Err-clause-none : goal.returns-in-Err-clause-none
 returns-in-Err-clause-none c = λ w has. is_none _ _ _ _ c.in-Err.ensures (w, has)
 
 pub returns-in-Err-clause-fence : goal.returns-in-Err-clause-fence
-returns-in-Err-clause-fence c = λ e. absurd (is_none _ _ _ _ c.in-Err.ensures (subst (IsTextOfSome c.args.pc) (sym e) (fence_is_text c.args.pc)))
+returns-in-Err-clause-fence c = λ e. absurd (is_none _ _ _ _ c.in-Err.ensures
+    (subst (IsTextOfSome c.args.pc) (sym e) (fence_is_text c.args.pc)))
 
 pub returns-in-Err-clause-at : goal.returns-in-Err-clause-at
 returns-in-Err-clause-at c = furthest c.args.pc c.args.text.now c.in-Err.stop.left c.in-Err.ensures

@@ -4,7 +4,8 @@ use Rattle.rrs_assembler.proofs.Stopping.{not_alike}
 use Rattle.rrs_assembler.proofs.readers.literal.Goals as goal
 
 -- one byte more is behind
-further : (p text rest following : List ℕ) (c : ℕ) → text ≡ p ++ rest → rest ≡ c ∷ following → text ≡ (p ++ (c ∷ [])) ++ following
+further : (p text rest following : List ℕ) (c : ℕ) → text ≡ p ++ rest → rest ≡ c ∷ following
+    → text ≡ (p ++ (c ∷ [])) ++ following
 further p text rest following c e f = e ∙ ap (λ (l : List ℕ). p ++ l) f ∙ sym (append_assoc p (c ∷ []) following)
 
 pub loop-byte-preserved : goal.loop-byte-preserved
@@ -26,6 +27,8 @@ returns-in-None c =
       count = refl;
       some = (c.loop-byte.wanted.now, sym whole);
       none = λ t alike h.
-          let shown = append_cancel_left p t (c.loop-byte.wanted.now ++ h.1) (h.4 ∙ ap (λ (l : List ℕ). l ++ h.1) (h.2 ∙ whole) ∙ append_assoc p c.loop-byte.wanted.now h.1) in
-          not_alike c.in-Some.byte c.loop-byte.rest.now t _ c.in-None.ensures alike (shown ∙ ap (λ (l : List ℕ). l ++ h.1) c.in-Some.ensures);
+          let shown = append_cancel_left p t (c.loop-byte.wanted.now ++ h.1) (h.4
+              ∙ ap (λ (l : List ℕ). l ++ h.1) (h.2 ∙ whole) ∙ append_assoc p c.loop-byte.wanted.now h.1) in
+          not_alike c.in-Some.byte c.loop-byte.rest.now t _ c.in-None.ensures alike (shown
+              ∙ ap (λ (l : List ℕ). l ++ h.1) c.in-Some.ensures);
     }

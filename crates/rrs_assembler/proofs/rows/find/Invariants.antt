@@ -4,7 +4,8 @@ use Rattle.rrs_assembler.proofs.Openings.{StopsSeen}
 use Rattle.rrs_assembler.proofs.rows.find.Given as goal
 
 abbrev pub invariant-loop-row : goal.invariant-loop-row
-invariant-loop-row l = (seen : List Form) × (map form_of l.rows ≡ seen ++ map form_of l.rest) × StopsSeen (map form_of l.rows) seen l.text l.left
+invariant-loop-row l = (seen : List Form) × (map form_of l.rows ≡ seen ++ map form_of l.rest)
+    × StopsSeen (map form_of l.rows) seen l.text l.left
 
 abbrev pub decreases-loop-row : goal.decreases-loop-row
 decreases-loop-row l = length l.rest
