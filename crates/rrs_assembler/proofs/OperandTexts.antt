@@ -12,7 +12,7 @@ use Rattle.rrs_extra.proofs.Reading.{IsPiece, register_piece, signed_piece, hexa
 use Rattle.rrs_assembler.specs.declared.rows.Shape.{Shape}
 use Rattle.rrs_assembler.specs.declared.rows.Shape.TheVariants.{ThreeRegisters, Immediate, Shamt, Upper, UpperToPc, Branch, LoadFrom, StoreTo, Jump, JumpTo, Alone}
 use Rattle.rrs_assembler.specs.Readers.{Then, IsEnd, IsRegister, IsBase, IsImmediate, IsShamt, IsJumpOffset, IsTarget, IsReach}
-use Rattle.rrs_assembler.specs.Shapes.{Shows, Texts}
+use Rattle.rrs_assembler.specs.Shapes.{Shows, Texts, last_limit}
 
 -- ---- pieces
 
@@ -112,23 +112,12 @@ shown_then Piece Rest t a b separator h f g = h.shown ∙ (λ i. f i ++ (separat
 base_shown : (t : List ℕ) (h : IsBase t) → t ≡ register h.piece.0 ++ (codes ")" ++ [])
 base_shown t h = shown_then _ _ t _ _ (codes ")") h h.piece.2 h.others
 
-abbrev pub LastFits : Shape → ℕ → Type 0
-LastFits shape last = (last < 128) ⊎ ((shape ≡ Alone) × (last < 256))
-
-not_alone : (shape : Shape) (last : ℕ) → shape ≢ Alone → LastFits shape last → last < 128
-not_alone shape last ne (inl less) = less
-not_alone shape last ne (inr other) = absurd (ne other.0)
-
-pub alone_fits : (shape : Shape) (last : ℕ) → LastFits shape last → last < 256
-alone_fits shape last (inl less) = omega (arith, less)
-alone_fits shape last (inr other) = other.1
-
-pub shown : (shape : Shape) (funct3 last pc : ℕ) (x : List ℕ) → funct3 < 8 → LastFits shape last
+pub shown : (shape : Shape) (funct3 last pc : ℕ) (x : List ℕ) → funct3 < 8 → last < last_limit shape
     → Texts shape pc x → (f : Fields) × Shows shape funct3 last pc x f
 shown ThreeRegisters funct3 last pc x three seven h =
     let o = h.others in
     let rest = shown_then _ _ _ _ _ (codes ", ") o o.piece.2 o.others.2 in
-    let seven = not_alone ThreeRegisters last (λ e. (cc)) seven in (
+    (
       R (record { funct7 = last; rs2 = o.others.0; rs1 = o.piece.0; funct3 = funct3; rd = h.piece.0 }),
       ((h.piece.1, three, o.piece.1, o.others.1, seven), refl, refl,
           shown_then _ _ _ _ _ (codes ", ") h h.piece.2 rest),
@@ -143,7 +132,7 @@ shown Shamt funct3 last pc x three seven h =
     let o = h.others in
     let rest = shown_then _ _ _ _ _ (codes ", ") o o.piece.2 o.others.3 in
     let small = o.others.2 in
-    let seven = not_alone Shamt last (λ e. (cc)) seven in (
+    (
       IShamt (record { funct7 = last; shamt = o.others.0; rs1 = o.piece.0; funct3 = funct3; rd = h.piece.0 }),
       ((h.piece.1, three, o.piece.1, omega (arith, small), seven), refl, refl,
           shown_then _ _ _ _ _ (codes ", ") h h.piece.2 rest),
@@ -201,9 +190,9 @@ shown JumpTo funct3 last pc x three seven h =
           shown_then _ _ _ _ _ (codes ", 0x") h h.piece.2 rest),
     )
 shown Alone funct3 last pc x three seven h =
-    let less = alone_fits Alone last seven in (
+    (
       I (record { imm = pos last; rs1 = 0; funct3 = funct3; rd = 0 }),
-      ((omega arith, three, omega arith, omega (arith, ints), omega (arith, ints, less)), refl, refl, refl, refl, h),
+      ((omega arith, three, omega arith, omega (arith, ints), omega (arith, ints, seven)), refl, refl, refl, refl, h),
     )
 
 -- lui shows the sum with 0

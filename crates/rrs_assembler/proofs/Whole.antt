@@ -13,7 +13,7 @@ use Rattle.rrs_assembler.specs.Assembling.{common_length, HasText, IsFurthest}
 use Rattle.rrs_assembler.specs.Readers.{Fails, Before, IsAny}
 use Rattle.rrs_assembler.specs.Shapes.{Form, form_of_row, all_forms, IsOpening, opening_of, shape_of, last_of, funct_of, FailsOpenings, IsTextOfSome, IsAssembled, Shows, Texts}
 use Rattle.rrs_assembler.proofs.Stopping.{behind, going_on, common_within, common_read}
-use Rattle.rrs_assembler.proofs.Forms.{row_of_form, form_among, rows_apart, differ-apart, three_small, last_small}
+use Rattle.rrs_assembler.proofs.Forms.{row_of_form, form_among, same_row, three_small, last_small}
 use Rattle.rrs_assembler.proofs.OperandTexts.{shown, some_text}
 use Rattle.rrs_assembler.proofs.RowTexts.{has_text, parts_of_text}
 
@@ -24,7 +24,7 @@ IsRest row pc x = Texts (shape_of row) pc x
 text_of_rest : (row : Row) (pc : ℕ) (x : List ℕ) → IsRest row pc x → IsTextOfSome pc (opening_of row ++ x)
 text_of_rest row pc x is =
     let fields = shown (shape_of row) (funct_of (table row).funct3) (last_of row) pc x
-    (ltb-true _ _ (three_small row)) (last_small row) is in
+    (ltb-true _ _ (three_small row)) (ltb-true _ _ (last_small row)) is in
     (_, has_text row pc x fields.0 fields.1)
 
 -- the text begins with no opening
@@ -45,13 +45,11 @@ no_operands row pc text rest left e = behind _ _ _ _ (opening_of row) text rest 
     (λ t is. text_of_rest row pc t is)
     (λ t alike h.
     let made = parts_of_text h.0 pc (opening_of row ++ t) h.1 in
-    elim (rows_apart row made.0) [
-      | inl same ↦
-          let shown : opening_of row ++ t ≡ opening_of row ++ made.1 = made.2 ∙ ap (λ r. opening_of r ++ made.1) same in
-          subst (λ (x : List ℕ). IsRest row pc x) (sym (append_cancel_left (opening_of row) t made.1 shown))
-              (subst (λ r. IsRest r pc made.1) same made.3)
-      | inr apart ↦ absurd (differ-apart (opening_of row) (opening_of made.0) t made.1 apart made.2)
-    ])
+    let same : made.0 ≡ row = sym (same_row row made.0 t made.1 made.2) in
+    let shown : opening_of row ++ t ≡ opening_of row ++ made.1 =
+    made.2 ∙ ap (λ r. opening_of r ++ made.1) same in
+    let here : IsRest row pc made.1 = subst (λ r. IsRest r pc made.1) same made.3 in
+    subst (IsRest row pc) (sym (append_cancel_left (opening_of row) t made.1 shown)) here)
 
 -- the place as a byte
 pub furthest : (pc : ℕ) (text : List ℕ) (left : ℕ) → Fails (IsTextOfSome pc) text left → IsFurthest pc text (length text - left)
@@ -98,11 +96,8 @@ fence_row row pc x f e shows =
 -- of the words of fence it is this one
 pub fence_only : (pc w : ℕ) (text : List ℕ) → IsAssembled pc text w → text ≡ codes "fence" → w ≡ 0x0ff0000f
 fence_only pc w text is fence =
-    elim (rows_apart Row.Fence is.row) [
-      | inl same ↦ is.encoded ∙ fence_row is.row pc is.rest is.fields same is.shows
-      | inr apart ↦ absurd (differ-apart (opening_of Row.Fence) (opening_of is.row) [] is.rest apart (sym fence
-          ∙ is.whole))
-    ]
+    let same = sym (same_row Row.Fence is.row [] is.rest (sym fence ∙ is.whole)) in
+    is.encoded ∙ fence_row is.row pc is.rest is.fields same is.shows
 
 -- and it is one
 pub fence_is_text : (pc : ℕ) → IsTextOfSome pc (codes "fence")

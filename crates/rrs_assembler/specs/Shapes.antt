@@ -58,6 +58,11 @@ last_by _ funct7 = funct_of funct7
 abbrev pub last_of : Row → ℕ
 last_of row = last_by (table row).action (table row).funct7
 
+-- the last is below this
+abbrev pub last_limit : Shape → ℕ
+last_limit Alone = 2 ^ 8
+last_limit _ = 2 ^ 7
+
 -- the text shows these fields as its operands, and funct3 and the last are these
 abbrev pub Shows : Shape → ℕ → ℕ → ℕ → List ℕ → Fields → Type 0
 Shows ThreeRegisters funct3 last pc text (R f) =

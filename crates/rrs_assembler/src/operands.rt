@@ -5,7 +5,7 @@ ghost use Rattle.rrs_lib.specs.Encodings.{I};
 ghost use Rattle.rrs_lib.specs.Results.{plus_immediate};
 ghost use Rattle.rrs_lib.specs.Texts.{register, hexadecimal};
 ghost use Rattle.rrs_assembler.specs.Readers.{Fails, Then, IsRegister, IsBase, IsTarget, IsOffset, IsReach};
-ghost use Rattle.rrs_assembler.specs.Shapes.{Shows, Texts, ReadsOperands};
+ghost use Rattle.rrs_assembler.specs.Shapes.{Shows, Texts, ReadsOperands, last_limit};
 
 use crate::Stop;
 use crate::hexadecimal::{jump_offset_before, last_target};
@@ -34,7 +34,7 @@ pub fn fields_of(
     pc: u32,
 ) -> Result<InstructionFields, Stop>
     requires funct3 { funct3 < 2 ^ 3 }
-    requires last { (last < 2 ^ 7) ⊎ ((shape ≡ Shape.Alone) × (last < 2 ^ 8)) }
+    requires last { last < last_limit shape }
     ensures { ReadsOperands shape funct3 last pc text.now result }
 {
     match shape {

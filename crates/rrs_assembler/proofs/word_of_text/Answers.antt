@@ -5,9 +5,8 @@ use Rattle.rrs_lib.specs.Instructions.{as_fields}
 use Rattle.rrs_lib.specs.Table.{Row}
 use Rattle.rrs_lib.proofs.Rows.{small_opcode}
 use Rattle.rrs_assembler.specs.Readers.{Fails}
-use Rattle.rrs_assembler.specs.Shapes.{Form, form_of, form_of_row, IsTextOfSome, Texts, Shows, opening_of}
+use Rattle.rrs_assembler.specs.Shapes.{Form, form_of, form_of_row, IsTextOfSome, Texts, Shows, last_limit, opening_of}
 use Rattle.rrs_assembler.proofs.Forms.{row_of_form, three_small, last_small}
-use Rattle.rrs_assembler.proofs.OperandTexts.{LastFits}
 use Rattle.rrs_assembler.proofs.RowTexts.{fields_in_range}
 use Rattle.rrs_assembler.proofs.Whole.{IsRest, no_opening, no_operands}
 use Rattle.rrs_assembler.proofs.word_of_text.Goals as goal
@@ -25,7 +24,7 @@ fields_of-requires-clause-funct3 c =
 pub fields_of-requires-clause-last : goal.fields_of-requires-clause-last
 fields_of-requires-clause-last c =
     let found = row_of_form _ c.in_ok-row.ensures.0 in
-    subst (λ (f : Form). LastFits f.1 f.4) (sym found.1) (last_small found.0)
+    subst (λ (f : Form). f.4 < last_limit f.1) (sym found.1) (ltb-true _ _ (last_small found.0))
 
 -- the text as the row's opening and what follows
 begins : (form : Form) (row : Row) (text rest : List ℕ) → form ≡ form_of_row row → text ≡ form.0 ++ rest → text ≡ opening_of row ++ rest
