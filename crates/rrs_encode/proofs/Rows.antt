@@ -3,12 +3,10 @@ use Rattle.std.proofs.Common.{◌≡◌, ℕ, Option, Some, ◌==◌, refl, sym,
 use Rattle.std.specs.List.{find}
 use Rattle.std.proofs.lemmas.Option.{same_Some}
 use Rattle.rrs_instruction.specs.declared.instruction.Instruction.{Instruction}
-use Rattle.rrs_instruction.specs.Encodings.{Fields, R, I, IShamt, S, B, U, J, IsInRange, encode}
+use Rattle.rrs_instruction.specs.Encodings.{Fields, IsInRange, encode}
 use Rattle.rrs_instruction.specs.Table.{Row, table, all_rows, Decodes, format_of}
 use Rattle.rrs_instruction.specs.Instructions.{row_of, fields_of, IsInstruction}
 use Rattle.rrs_instruction.proofs.Rows.{small_opcode, same_fields_of}
-use Rattle.rrs_encode.specs.declared.operands.Operands.{Operands}
-use Rattle.rrs_encode.specs.Operands.{with_operands}
 
 row_numbered : ℕ → Option Row
 row_numbered n = find (λ row. (table row).number == n) all_rows
@@ -21,20 +19,6 @@ row_numbered-number _ = refl
 same_row : (row row' : Row) → (table row).number ≡ (table row').number → row ≡ row'
 same_row row row' e =
     same_Some _ _ (sym (row_numbered-number row) ∙ ap row_numbered e ∙ row_numbered-number row')
-
--- the fields of an instruction are of its row's format, and so with other operands
-pub own_format : (i : Instruction) → format_of (fields_of i) ≡ (table (row_of i)).format
-own_format (Instruction.Add f) = refl
-own_format _ = refl
-
-pub kept_format : (f : Fields) (o : Operands) → format_of (with_operands f o) ≡ format_of f
-kept_format (R f) o = refl
-kept_format (I f) o = refl
-kept_format (IShamt f) o = refl
-kept_format (S f) o = refl
-kept_format (B f) o = refl
-kept_format (U f) o = refl
-kept_format (J f) o = refl
 
 -- a word that is made of these fields, and is an instruction of this row, has these fields
 pub decodes_with : (w : ℕ) (row : Row) (f : Fields) (found : Instruction)
