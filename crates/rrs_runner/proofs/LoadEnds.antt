@@ -16,7 +16,8 @@ lies_past_all : (words : List ℕ) (n a : ℕ) → length words ≡ n → 4 * n 
 lies_past_all words n a long past = grind (arith, nat_tests)
 
 -- a load into less than 2^30 words does not come to the last address
-pub not_to_the_end : (words : List ℕ) (n k : ℕ) → length words ≡ n → ((i : ℕ) → i < k → lies_in_words words (0 + i) ≡ true) → 4 * n < k → ⊥
+pub not_to_the_end : (words : List ℕ) (n k : ℕ) → length words ≡ n
+    → ((i : ℕ) → i < k → lies_in_words words (0 + i) ≡ true) → 4 * n < k → ⊥
 not_to_the_end words n k long writable past =
     false≢true (sym (lies_past_all words n (0 + 4 * n) long (omega arith)) ∙ writable (4 * n) past)
 
