@@ -10,8 +10,8 @@ use Rattle.std.proofs.lemmas.Bool.{cases_eq}
 use Rattle.std.proofs.lemmas.List.{append-nil, append_assoc, take_at}
 use Rattle.std.proofs.lemmas.Fmt.{decimal_is_IsNumeral, decimal_digit, decimal_step, first_decimal, decimal_nonempty}
 use Rattle.std.proofs.lemmas.Str.Parse.{digit_from_value, digits_value-take-le}
-use Rattle.rrs_assembler.specs.Readers.{BeginAlike, Before, FailsPiece, IsRead, IsPastPiece, IsDecimal, BeginsWithDigit, IsRegister, IsImmediate, BeginsOtherwise}
-use Rattle.rrs_assembler.proofs.Stopping.{not_alike, stops_here, behind, Narrows, fails_kind, read_kind}
+use Rattle.rrs_assembler.specs.Readers.{BeginAlike, FailsPiece, IsRead, IsPastPiece, IsDecimal, BeginsWithDigit, IsRegister, IsImmediate, BeginsOtherwise}
+use Rattle.rrs_assembler.proofs.Stopping.{not_alike, stops_here, behind, Narrows}
 
 -- ---- digits
 
@@ -41,43 +41,26 @@ digits_front (d ∷ ds) (c ∷ q) t x a past e =
     let tail : q ≡ ds ++ more.0 = more.1 in
     (more.0, (cc), more.2)
 
--- what a numeral begins with
-abbrev BeginsFrom : ℕ → List ℕ → Type 0
-BeginsFrom low text = (c : ℕ) × (x : List ℕ) × (text ≡ c ∷ x) × (low ≤ c) × (c ≤ 57)
+alike_cons : (text t : List ℕ) (c : ℕ) → BeginAlike text (c ∷ t) → (x : List ℕ) × (text ≡ c ∷ x)
+alike_cons [] t c alike = elim alike [ ]
+alike_cons (d ∷ text) t c alike = (text, ap (λ b. b ∷ text) alike)
 
-first_of_digits : (low : ℕ) (ds x : List ℕ) → AreDigits ds → 0 < length ds → low ≤ get_or ds 0 0
-    → BeginsFrom low (ds ++ x)
-first_of_digits low [] x a some high = absurd (omega (arith, some))
-first_of_digits low (d ∷ ds) x a some high = (d, ds ++ x, refl, high, a.0.1)
+-- what a text begins with that begins as a numeral does
+abbrev FirstDigit : ℕ → List ℕ → Type 0
+FirstDigit n text = (c : ℕ) × (x : List ℕ) × (text ≡ c ∷ x) × (48 ≤ c) × (c ≤ 57) × (0 < n → 48 < c)
 
-begins : (n : ℕ) (q x : List ℕ) → n < 2 ^ 64 → q ≡ decimal n → BeginsFrom 48 (q ++ x)
-begins n q x small e =
-    let first : 48 ≤ get_or (decimal n) 0 0 = high (decimal n) (decimal_digits n small) (decimal_nonempty n small) in
-    subst (λ (l : List ℕ). BeginsFrom 48 (l ++ x)) (sym e)
-        (first_of_digits 48 (decimal n) x (decimal_digits n small) (decimal_nonempty n small) first)
+first_byte : (n : ℕ) (text t q x : List ℕ) → n < 2 ^ 64 → q ≡ decimal n → t ≡ q ++ x → BeginAlike text t
+    → FirstDigit n text
+first_byte n text t q x small e f alike =
+    let there = subst (BeginAlike text) (f ∙ ap (λ (l : List ℕ). l ++ x) e) alike in
+    by_list (decimal n) (decimal_digits n small) (decimal_nonempty n small) (λ some. first_decimal n some small) there
   where
-    high : (ds : List ℕ) → AreDigits ds → 0 < length ds → 48 ≤ get_or ds 0 0
-    high [] a some = absurd (omega (arith, some))
-    high (d ∷ ds) a some = a.0.0
-
-begins_high : (n : ℕ) (q x : List ℕ) → 0 < n → n < 2 ^ 64 → q ≡ decimal n → BeginsFrom 49 (q ++ x)
-begins_high n q x some small e =
-    let first = first_decimal n some small in
-    subst (λ (l : List ℕ). BeginsFrom 49 (l ++ x)) (sym e)
-        (first_of_digits 49 (decimal n) x (decimal_digits n small) (decimal_nonempty n small) (omega (arith, first)))
-
-alike_digit : (low : ℕ) (text t : List ℕ) → BeginsFrom low t → BeginAlike text t
-    → (c : ℕ) × (x : List ℕ) × (text ≡ c ∷ x) × (low ≤ c) × (c ≤ 57)
-alike_digit low [] [] h alike = h
-alike_digit low [] (d ∷ t) h alike = elim alike [ ]
-alike_digit low (c ∷ text) [] h alike = elim alike [ ]
-alike_digit low (c ∷ text) (d ∷ t) h alike = let same : d ≡ h.0 = (let e : d ∷ t ≡ h.0 ∷ h.1 = h.2 in cc) in
-    (c, text, refl, omega (arith, same, alike, h.3), omega (arith, same, alike, h.4))
-
-no_digit : (text : List ℕ) → (BeginsWithDigit text → ⊥) → BeginsFrom 48 text → ⊥
-no_digit [] stops h = let e : [] ≡ h.0 ∷ h.1 = h.2 in cc
-no_digit (c ∷ text) stops h = let e : c ∷ text ≡ h.0 ∷ h.1 = h.2 in let same : c ≡ h.0 = cc in
-    stops (omega (arith, same, h.3), omega (arith, same, h.4))
+    by_list : (ds : List ℕ) → AreDigits ds → 0 < length ds → (0 < n → 48 < get_or ds 0 0)
+        → BeginAlike text (ds ++ x) → FirstDigit n text
+    by_list [] a some first alike = absurd (omega (arith, some))
+    by_list (d ∷ ds) a some first alike =
+        let e = alike_cons text (ds ++ x) d alike in
+        (d, e.0, e.1, a.0.0, a.0.1, first)
 
 -- ---- the numbers of a range
 
@@ -94,13 +77,15 @@ decimal_read least limit n text rest small low high e stops = record {
     over q t x [] a alike e' f = e' ∙ append-nil (decimal n)
     over q t x (c ∷ y) a alike e' f =
         let digit = digit_after (decimal n) y c (subst AreDigits e' a) in
-        absurd (no_digit rest stops (alike_digit 48 rest t (c, y ++ x, f, digit.0, digit.1) alike))
+        let first = alike_cons rest (y ++ x) c (subst (BeginAlike rest) f alike) in
+        absurd (stops (subst BeginsWithDigit (sym first.1) digit))
 
 pub no_digit_fails : (least limit : ℕ) (text : List ℕ) → limit < 2 ^ 64 → least ≤ limit → (BeginsWithDigit text → ⊥) → FailsPiece (IsDecimal least limit) text (length text)
 no_digit_fails least limit text small some stops =
     stops_here _ _ text (decimal least) (least, omega arith, some, refl)
-    (λ t alike h. no_digit text stops (alike_digit 48 text t
-        (subst (BeginsFrom 48) (sym h.4) (begins h.2.0 h.0 h.1 (omega (arith, h.2.2)) h.2.3)) alike))
+    (λ t alike h.
+    let first = first_byte h.2.0 text t h.0 h.1 (omega (arith, h.2.2)) h.2.3 h.4 alike in
+    stops (subst BeginsWithDigit (sym first.2) (first.3, first.4)))
 
 -- a 0, where the least number is 1
 pub zero_fails : (least limit d : ℕ) (text rest : List ℕ) → limit < 2 ^ 64 → least ≤ limit → least ≤ 1 → d < least → text ≡ (48 + d) ∷ rest → FailsPiece (IsDecimal least limit) text (length text)
@@ -108,10 +93,9 @@ zero_fails least limit d text rest small some one less e =
     stops_here _ _ text (decimal least) (least, omega arith, some, refl)
     (λ t alike h.
     let low = h.2.1 in
-    let first = alike_digit 49 text t (subst (BeginsFrom 49) (sym h.4)
-        (begins_high h.2.0 h.0 h.1 (omega (arith, low, less)) (omega (arith, h.2.2)) h.2.3)) alike in
+    let first = first_byte h.2.0 text t h.0 h.1 (omega (arith, h.2.2)) h.2.3 h.4 alike in
     let same : 48 + d ≡ first.0 = (let both : (48 + d) ∷ rest ≡ first.0 ∷ first.1 = sym e ∙ first.2 in cc) in
-    let high = first.3 in
+    let high = first.5 (omega (arith, low, less)) in
     omega (arith, same, high, less, one))
 
 -- ---- one more digit
@@ -142,7 +126,7 @@ goes_on-le n v d y small digit some bound e =
     let longer : ℕ = v * 10 + d in
     let split : decimal n ≡ decimal longer ++ y = e ∙ longer_digits v d y digit some bound in
     let front : take (length (decimal longer)) (decimal n) ≡ decimal longer =
-        ap (take (length (decimal longer))) split ∙ take_at (decimal longer) y _ refl in
+    ap (take (length (decimal longer))) split ∙ take_at (decimal longer) y _ refl in
     let less = digits_value-take-le 10 (decimal n) (length (decimal longer)) (omega arith) in
     let value : digits_value 10 (decimal n) ≡ n = (decimal_is_IsNumeral n small).1 in
     let front_value : digits_value 10 (decimal longer) ≡ longer = (decimal_is_IsNumeral longer (omega arith)).1 in
@@ -174,7 +158,7 @@ longer_fails least limit v d text rest following small low high digit e e' why =
   none = λ t alike h.
       let front = digits_front (decimal v) h.0 t h.1 (decimal_digits v (omega arith)) h.3 h.4 in
       goes_on h.2.0 t h.1 front.0 h.2.2 (subst (λ (l : List ℕ). BeginAlike l t) e' alike) h.3 (sym h.2.3
-          ∙ front.1) front.2;
+      ∙ front.1) front.2;
 }
   where
     too_long : (n : ℕ) (y : List ℕ) → n ≤ limit → decimal n ≡ decimal v ++ ((48 + d) ∷ y) → ⊥
@@ -257,8 +241,7 @@ negative_down text digits minus q x t h alike e = by_sign h.0 h.1 h.2 h.3
   where
     by_sign : (imm : ℤ) → neg_ℤ (pos 2048) ≤ℤ imm → imm ≤ℤ pos 2047 → q ≡ signed_decimal imm → IsNegative q
     by_sign (pos n) low high f =
-        let first = alike_digit 48 text t (subst (BeginsFrom 48) (sym e) (begins n q x (omega (arith, ints, high)) f))
-            alike in
+        let first = first_byte n text t q x (omega (arith, ints, high)) f e alike in
         let same : 45 ≡ first.0 = (let both : 45 ∷ digits ≡ first.0 ∷ first.1 = sym minus ∙ first.2 in cc) in
         let above = first.3 in
         absurd (omega (arith, same, above))

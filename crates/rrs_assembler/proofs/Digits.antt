@@ -6,7 +6,7 @@ use Rattle.std.proofs.lemmas.Bool.Decides.{nat_tests}
 use Rattle.std.proofs.lemmas.List.{length-append}
 use Rattle.std.proofs.Math.Nat.{div-add-mod, mod-lt, mul_assoc, mul-le-mul_left, one-le-pow, pow-succ'}
 use Rattle.rrs_assembler.specs.declared.Stop.{Stop}
-use Rattle.rrs_assembler.specs.Readers.{BeginAlike, Before, IsPastPiece, FailsPiece, IsRead, IsWithin, IsDigits, digits_of, BeginsOtherwise}
+use Rattle.rrs_assembler.specs.Readers.{BeginAlike, FailsPiece, IsRead, IsWithin, IsDigits, digits_of, BeginsOtherwise}
 use Rattle.rrs_assembler.proofs.Stopping.{not_alike, stops_here, behind}
 
 glyph_injective : (c d : ℕ) → c < 16 → d < 16 → digit_glyph false c ≡ digit_glyph false d → c ≡ d
@@ -29,7 +29,7 @@ first_digit (suc n) d z small low =
     let front : (16 ^ suc n * d + z) / 16 ≡ 16 ^ n * d + z / 16 = omega (arith, more) in
     let last : (16 ^ suc n * d + z) % 16 ≡ z % 16 = omega (arith, more) in
     let digits : digits_of (suc n) ((16 ^ suc n * d + z) / 16) ≡ digit_glyph false d ∷ digits_of n (z / 16) =
-        ap (digits_of (suc n)) front ∙ first_digit n d (z / 16) small (omega (arith, low, power)) in
+    ap (digits_of (suc n)) front ∙ first_digit n d (z / 16) small (omega (arith, low, power)) in
     λ i. digits i ++ (digit_glyph false (last i) ∷ [])
 
 digits_join : (n low d y : ℕ) → d < 16 → low + d * 16 ^ n ≤ y → y < low + d * 16 ^ n + 16 ^ n
@@ -155,7 +155,7 @@ module _ (first total step : ℕ) where
   digit_read n low d y text rest following small e within f =
       let joined = piece_join n low d _ small (y, within, refl) in
       let shown : text ≡ (digit_glyph false d ∷ digits_of n (y - (low + d * 16 ^ n))) ++ following = e
-          ∙ ap (λ (l : List ℕ). digit_glyph false d ∷ l) f in
+      ∙ ap (λ (l : List ℕ). digit_glyph false d ∷ l) f in
       (joined.1, shown ∙ ap (λ (l : List ℕ). l ++ following) joined.2)
 
   -- a text that begins with this digit is a piece that does
@@ -164,7 +164,7 @@ module _ (first total step : ℕ) where
   split_at n low d q x t small is e =
       let split = piece_split n low q is in
       let both : digit_glyph false d ∷ t ≡ digit_glyph false split.0 ∷ (split.1 ++ x) = e
-          ∙ ap (λ (l : List ℕ). l ++ x) split.4 in
+      ∙ ap (λ (l : List ℕ). l ++ x) split.4 in
       let same : split.0 ≡ d = glyph_injective split.0 d split.2 small (cc) in
       (split.1, subst (λ k. Piece n (low + k * 16 ^ n) split.1) same split.3, (cc))
 
@@ -192,38 +192,46 @@ module _ (first total step : ℕ) where
   -- no digit is there
   no_glyph_fails : (n low : ℕ) (text : List ℕ) → ((y : ℕ) × Within low (16 ^ suc n) y)
       → ((d : ℕ) → d < 16 → BeginsOtherwise (digit_glyph false d) text)
-          → FailsPiece (Piece (suc n) low) text (length text)
+      → FailsPiece (Piece (suc n) low) text (length text)
   no_glyph_fails n low text some never =
       stops_here _ _ text _ (some.0, some.1, refl)
       (λ t alike h.
       let split = piece_split n low h.0 h.2 in
       not_alike (digit_glyph false split.0) text t _ (never split.0 split.2) alike (h.4
-          ∙ ap (λ (l : List ℕ). l ++ h.1) split.4))
+      ∙ ap (λ (l : List ℕ). l ++ h.1) split.4))
 
   -- ---- targets
 
   pub target_near : (low size from gap : ℕ) → first < 2 ^ 32 → total ≤ 2 ^ 32 → IsStep step → low + size ≤ 2 ^ 32
       → from ≡ (low + (2 ^ 32 - first)) % 2 ^ 32 → gap ≡ (step - from % step) % step → gap < size → from + gap < total
-          → Within low size (low + gap)
+      → Within low size (low + gap)
   target_near low size from gap a b kind c e e' less short =
       let at : (low + gap + (2 ^ 32 - first)) % 2 ^ 32 ≡ from + gap = omega (arith, a, b, c, e, less, short) in
       let multiple = each_step (λ s. gap ≡ (s - from % s) % s
-          → (from + gap) % s ≡ 0) step kind (λ h. omega (arith, h)) (λ h. omega (arith, h))
-          (λ h. omega (arith, h)) e' in
-      record { least = omega arith; most = omega arith; among =
-          (omega (arith, at, short), ap (λ z. z % step) at ∙ multiple) }
+      → (from + gap) % s ≡ 0) step kind (λ h. omega (arith, h)) (λ h. omega (arith, h))
+      (λ h. omega (arith, h)) e' in
+      record {
+        least = omega arith;
+        most = omega arith;
+        among =
+            (omega (arith, at, short), ap (λ z. z % step) at ∙ multiple);
+      }
 
   pub target_wraps : (low size from : ℕ) → first < 2 ^ 32 → 0 < total → IsStep step → low + size ≤ 2 ^ 32
       → from ≡ (low + (2 ^ 32 - first)) % 2 ^ 32 → 2 ^ 32 < from + size → Within low size (low + (2 ^ 32 - from))
   target_wraps low size from a some kind c e past =
       let at : (low + (2 ^ 32 - from) + (2 ^ 32 - first)) % 2 ^ 32 ≡ 0 = omega (arith, a, c, e, past) in
       let nothing = each_step (λ s. 0 % s ≡ 0) step kind refl refl refl in
-      record { least = omega arith; most = omega (arith, e, past); among =
-          (omega (arith, at, some), ap (λ z. z % step) at ∙ nothing) }
+      record {
+        least = omega arith;
+        most = omega (arith, e, past);
+        among =
+            (omega (arith, at, some), ap (λ z. z % step) at ∙ nothing);
+      }
 
   pub no_target : (low size from gap : ℕ) → first < 2 ^ 32 → IsStep step → low + size ≤ 2 ^ 32
       → from ≡ (low + (2 ^ 32 - first)) % 2 ^ 32 → gap ≡ (step - from % step) % step
-          → (size ≤ gap) ⊎ (total ≤ from + gap) → from + size ≤ 2 ^ 32
+      → (size ≤ gap) ⊎ (total ≤ from + gap) → from + size ≤ 2 ^ 32
       → (y : ℕ) → Within low size y → ⊥
   no_target low size from gap a kind c e e' far within y is =
       let least = is.least in
@@ -233,8 +241,8 @@ module _ (first total step : ℕ) where
       let multiple : (from + (y - low)) % step ≡ 0 = ap (λ z. z % step) (sym at) ∙ is.among.1 in
       -- a multiple of the step from `from` on is no nearer than the gap
       let near = each_step (λ s. gap ≡ (s - from % s) % s → (from + (y - low)) % s ≡ 0
-          → gap ≤ y - low) step kind (λ h k. omega (arith, h, k)) (λ h k. omega (arith, h, k))
-          (λ h k. omega (arith, h, k)) e' multiple in
+      → gap ≤ y - low) step kind (λ h k. omega (arith, h, k)) (λ h k. omega (arith, h, k))
+      (λ h k. omega (arith, h, k)) e' multiple in
       elim far [ inl wide ↦ omega (arith, near, wide, least, most) | inr past ↦ omega (arith, near, past, short, at) ]
 
   -- ---- one call of the reader
@@ -259,32 +267,32 @@ module _ (first total step : ℕ) where
       → Answers (count - 1) (size / 16) (low + d * (size / 16)) rest answer → Answers count size low text answer
   answers count size low d text rest answer some e small shown =
       at_step (λ count size n part. Answers n part (low + d * part) rest answer
-          → Answers count size low text answer) count size some e
+      → Answers count size low text answer) count size some e
       (λ n. step_answers n low d text rest answer small shown)
 
   pub no_glyph : (count size low : ℕ) (text : List ℕ) → (count ≡ 0 → ⊥) → size ≡ 16 ^ count
       → ((y : ℕ) × Within low size y)
       → ((d : ℕ) → d < 16 → BeginsOtherwise (digit_glyph false d) text)
-          → FailsPiece (Piece count low) text (length text)
+      → FailsPiece (Piece count low) text (length text)
   no_glyph count size low text some e there never =
       at_step (λ count size n part. ((y : ℕ) × Within low size y)
-          → FailsPiece (Piece count low) text (length text)) count size some e
+      → FailsPiece (Piece count low) text (length text)) count size some e
       (λ n there. no_glyph_fails n low text there never) there
 
   pub no_number : (count size low d : ℕ) (text rest : List ℕ) → (count ≡ 0 → ⊥) → size ≡ 16 ^ count → d < 16
       → text ≡ digit_glyph false d ∷ rest
       → ((y : ℕ) × Within low size y) → ((y : ℕ) → Within (low + d * (size / 16)) (size / 16) y → ⊥)
-          → FailsPiece (Piece count low) text (length text)
+      → FailsPiece (Piece count low) text (length text)
   no_number count size low d text rest some e small shown there never =
       at_step (λ count size n part. ((y : ℕ) × Within low size y) → ((y : ℕ) → Within (low + d * part) part y → ⊥)
-          → FailsPiece (Piece count low) text (length text)) count size some e
+      → FailsPiece (Piece count low) text (length text)) count size some e
       (λ n. none_fails n low d text rest small shown) there never
 
   pub no_count : (count size low : ℕ) (text : List ℕ) → count ≡ 0 → size ≡ 16 ^ count → ((y : ℕ) × Within low size y)
       → Within low size low × (text ≡ digits_of count (low - low) ++ text)
   no_count count size low text none e there =
       let P : ℕ → ℕ → Type 0 = λ count size. ((y : ℕ) × Within low size y)
-          → Within low size low × (text ≡ digits_of count (low - low) ++ text) in
+      → Within low size low × (text ≡ digits_of count (low - low) ++ text) in
       let one : 16 ^ count ≡ 1 = ap (λ n. 16 ^ n) none in
       subst (λ size. P count size) (sym (e ∙ one)) (subst (λ count. P count 1) (sym none) (no_digits_read low text))
-          there
+      there

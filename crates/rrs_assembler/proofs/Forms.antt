@@ -1,9 +1,8 @@
 -- The rows of the list are those of the table.
-use Rattle.std.proofs.Common.{◌≡◌, ◌≢◌, ◌⊎◌, inl, inr, ℕ, zero, suc, ◌-◌, ◌<◌, Bool, true, false, ◌==◌, ◌&&◌, ◌||◌, nat_lt, if◌then◌else◌, List, [], ◌∷◌, ◌++◌, Option, Some, ◌++◌, length, get_or, map, refl, sym, ap, subst, ◌∙◌, arith, eq-eqb}
+use Rattle.std.proofs.Common.{◌≡◌, inl, inr, ℕ, zero, suc, ◌-◌, ◌<◌, Bool, true, false, ◌==◌, nat_lt, if◌then◌else◌, List, [], ◌∷◌, ◌++◌, Option, Some, ◌++◌, length, get_or, map, refl, sym, ap, subst, arith}
 use Rattle.std.specs.List.{find}
-use Rattle.std.proofs.lemmas.Bool.{and_parts, eqb-true, ltb-true}
+use Rattle.std.proofs.lemmas.Bool.{ltb-true}
 use Rattle.rrs_lib.specs.Table.{Row, table, all_rows}
-use Rattle.rrs_assembler.specs.declared.rows.Shape.TheVariants.{Alone}
 use Rattle.rrs_assembler.specs.Shapes.{Form, form_of_row, all_forms, opening_of, shape_of, last_of, last_limit, funct_of, IsAmong}
 
 -- each form of the list is that of a row

@@ -10,9 +10,9 @@ use Rattle.std.proofs.Math.Nat.{pow-succ'}
 use Rattle.rrs_lib.specs.Words.{word, floor_mod}
 use Rattle.rrs_lib.specs.Results.{plus_immediate}
 use Rattle.rrs_lib.specs.Texts.{hexadecimal}
-use Rattle.rrs_assembler.specs.Readers.{BeginAlike, FailsPiece, IsRead, IsWithin, IsDigits, IsOffset, IsTarget, IsReach, IsJumpOffset, digits_of, BeginsOtherwise}
-use Rattle.rrs_assembler.proofs.Stopping.{Narrows, fails_kind, read_kind, not_alike}
-use Rattle.rrs_assembler.proofs.Digits.{first_digit, digits_read}
+use Rattle.rrs_assembler.specs.Readers.{BeginAlike, IsWithin, IsDigits, IsOffset, IsTarget, IsReach, IsJumpOffset, digits_of, BeginsOtherwise}
+use Rattle.rrs_assembler.proofs.Stopping.{Narrows, not_alike}
+use Rattle.rrs_assembler.proofs.Digits.{first_digit}
 
 -- ---- the digits that are printed
 
@@ -22,7 +22,7 @@ digits-zero zero = refl
 digits-zero (suc n) =
     let more : n + 1 ≡ suc n = omega arith in
     ap (λ (l : List ℕ). l ++ (48 ∷ [])) (digits-zero n) ∙ replicate-append-replicate n 1 48
-        ∙ ap (λ m. replicate m 48) more
+    ∙ ap (λ m. replicate m 48) more
 
 -- digits in front of others, with zeros in front, are all digits of the number in front of the others
 abbrev ArePadded : ℕ → ℕ → List ℕ → List ℕ → Type 0
@@ -42,7 +42,7 @@ printed zero (suc k) x acc small less = by_test (x / 16 == 0) refl
 printed (suc n) (suc k) x acc small less =
     let power = pow-succ' 16 (suc n) in
     by_test (x / 16 == 0) refl (printed n k (x / 16) (digit_glyph false (x % 16) ∷ acc) (omega (arith, small, power))
-        (omega (arith, less)))
+    (omega (arith, less)))
   where
     shown : (digits_of (suc n) (x / 16) ++ (digit_glyph false (x % 16) ∷ [])) ++ acc ≡ digits_of (suc n) (x / 16) ++
         (digit_glyph false (x % 16) ∷ acc)
@@ -51,13 +51,13 @@ printed (suc n) (suc k) x acc small less =
     by_test : (t : Bool) → (x / 16 == 0) ≡ t → ArePadded (suc n) (x / 16) (digit_glyph false (x % 16) ∷ acc)
         (digits_onto k 16 false (x / 16) (digit_glyph false (x % 16) ∷ acc))
         → ArePadded (suc (suc n)) x acc (if t then digit_glyph false (x % 16) ∷ acc else digits_onto k 16 false
-            (x / 16) (digit_glyph false (x % 16) ∷ acc))
+        (x / 16) (digit_glyph false (x % 16) ∷ acc))
     by_test true e more =
         let count : suc (suc n) + length acc - suc (length acc) ≡ suc n = omega arith in
         let zeros : digits_of (suc n) (x / 16) ≡ replicate (suc n) 48 = ap (digits_of (suc n)) (eqb-true (x / 16) 0 e)
-            ∙ digits-zero (suc n) in
+        ∙ digits-zero (suc n) in
         ap (λ m. replicate m 48 ++ (digit_glyph false (x % 16) ∷ acc)) count
-            ∙ ap (λ (l : List ℕ). l ++ (digit_glyph false (x % 16) ∷ acc)) (sym zeros) ∙ sym shown
+        ∙ ap (λ (l : List ℕ). l ++ (digit_glyph false (x % 16) ∷ acc)) (sym zeros) ∙ sym shown
     by_test false e more =
         let l : List ℕ = digits_onto k 16 false (x / 16) (digit_glyph false (x % 16) ∷ acc) in
         let count : suc (suc n) + length acc - length l ≡ suc n + suc (length acc) - length l = omega arith in
@@ -160,7 +160,7 @@ target_from_digits base reach step y small kind is =
 
 pub digits_from_target : (base reach step : ℕ) (imm : ℤ) → base < 2 ^ 32 → IsReach reach step → IsOffset reach step imm
     → (y : ℕ) × IsWithin (first_of_reach base reach) (2 * reach) step 0 (16 ^ 8) y
-        × (hexadecimal 8 (plus_immediate base imm) ≡ digits_of 8 (y - 0))
+    × (hexadecimal 8 (plus_immediate base imm) ≡ digits_of 8 (y - 0))
 digits_from_target base reach step imm small kind is =
     let count = count_of reach imm is.0 is.1 in
     let y : ℕ = plus_immediate base imm in
@@ -221,9 +221,12 @@ long_offset y is =
     let high = is.most in
     let low : 2 ^ 32 - 2048 ≤ y = omega (arith, among, high) in
     let w : ℕ = word (negsuc (2 ^ 32 - 1 - y)) in
-    let same : y - 0 ≡ w = omega (arith, low, high) in
-    (low, omega (arith, high), ap (digits_of 8) same ∙ sym
-        (hexadecimal-long w (y - 15 * 16 ^ 7) (omega (arith, high)) (omega (arith, low, high))))
+    let same : y - 0 ≡ w = omega (arith, low, high) in (
+      low,
+      omega (arith, high),
+      ap (digits_of 8) same ∙ sym
+          (hexadecimal-long w (y - 15 * 16 ^ 7) (omega (arith, high)) (omega (arith, low, high))),
+    )
 
 pub short_up : (p : List ℕ) → IsShort p → IsJumpOffset p
 short_up p h =
@@ -244,9 +247,14 @@ short_of : (a : ℕ) → pos a ≤ℤ pos 2047 → (d : ℕ) × (z : List ℕ) �
 short_of a high =
     let small : a < 2048 = omega (arith, ints, high) in
     let is : IsWithin 0 2048 1 0 4096 a = record { least = omega arith; most = omega (arith, small); among = (omega (arith, small), omega arith) } in
-    let shown = short_offset a is in
-    (a / 256, _, omega (arith, small), sym shown.1 ∙ first_of 2 (a / 256) (a % 256) (a - 0) (omega (arith, small))
-        (omega arith) (omega arith), (a, is, sym shown.1))
+    let shown = short_offset a is in (
+      a / 256,
+      _,
+      omega (arith, small),
+      sym shown.1 ∙ first_of 2 (a / 256) (a % 256) (a - 0) (omega (arith, small))
+          (omega arith) (omega arith),
+      (a, is, sym shown.1),
+    )
 
 long_of : (a : ℕ) → neg_ℤ (pos 2048) ≤ℤ negsuc a → (z : List ℕ) × (hexadecimal 3 (word (negsuc a)) ≡ 102 ∷ z)
     × IsLong (hexadecimal 3 (word (negsuc a)))
@@ -255,9 +263,11 @@ long_of a low =
     let y : ℕ = 2 ^ 32 - 1 - a in
     let is : IsWithin 4294965248 2048 1 0 4294967296 y = record { least = omega arith; most = omega (arith, small); among = (omega (arith, small), omega arith) } in
     let back : 2 ^ 32 - 1 - y ≡ a = omega (arith, small) in
-    let shown = ap (λ n. hexadecimal 3 (word (negsuc n))) (sym back) ∙ sym (long_offset y is).2 in
-    (_, shown ∙ first_of 7 15 (y - 15 * 16 ^ 7) (y - 0) (omega arith) (omega (arith, small)) (omega (arith, small)),
-        (y, is, shown))
+    let shown = ap (λ n. hexadecimal 3 (word (negsuc n))) (sym back) ∙ sym (long_offset y is).2 in (
+      _,
+      shown ∙ first_of 7 15 (y - 15 * 16 ^ 7) (y - 0) (omega arith) (omega (arith, small)) (omega (arith, small)),
+      (y, is, shown),
+    )
 
 low_digit : (d : ℕ) → d < 8 → digit_glyph false d ≢ 102
 low_digit d small = λ e. grind (arith, nat_tests)
@@ -279,6 +289,6 @@ long_down text rest is_f q x t h alike e = by_sign h.0 h.1 h.2 h.3
         let made = short_of a high in
         let shown : t ≡ digit_glyph false made.0 ∷ (made.1 ++ x) = e ∙ ap (λ (l : List ℕ). l ++ x) (f ∙ made.3) in
         let same : 102 ≡ digit_glyph false made.0 = subst (BeginAlike (102 ∷ rest)) shown
-            (subst (λ (l : List ℕ). BeginAlike l t) is_f alike) in
+        (subst (λ (l : List ℕ). BeginAlike l t) is_f alike) in
         absurd (low_digit made.0 made.2 (sym same))
     by_sign (negsuc a) low high f = subst IsLong (sym f) (long_of a low).2

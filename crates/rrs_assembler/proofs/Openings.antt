@@ -29,7 +29,7 @@ both_stop : (Starts A B : List ℕ → Type 0) (text : List ℕ) (a b : ℕ) →
     → Stops Starts B text b → Stops Starts (Either A B) text a
 both_stop Starts A B text a b less s r =
     let whole : length s.read + length s.rest ≡ length r.read + length r.rest = sym (length-append s.read s.rest)
-        ∙ ap length (sym s.whole ∙ r.whole) ∙ length-append r.read r.rest in
+    ∙ ap length (sym s.whole ∙ r.whole) ∙ length-append r.read r.rest in
     let here = s.count in
     let there = r.count in
     let more = longer s.read r.read s.rest r.rest (sym s.whole ∙ r.whole) (omega (arith, less, whole, here, there)) in
@@ -43,9 +43,9 @@ both_stop Starts A B text a b less s r =
         | inl is ↦ s.none t alike is
         | inr is ↦
             let at_rest = subst (λ (l : List ℕ). BeginAlike l (more.0 ++ t)) (sym more.2)
-                (alike_behind more.0 s.rest t alike) in
+            (alike_behind more.0 s.rest t alike) in
             r.none (more.0 ++ t) at_rest (subst B (ap (λ (l : List ℕ). l ++ t) more.1
-                ∙ append_assoc r.read more.0 t) is)
+            ∙ append_assoc r.read more.0 t) is)
       ];
     }
 
@@ -56,7 +56,7 @@ either_stops Starts A B text a b s r = elim (cases_lt b a) [
       let least : b ≡ min a b = omega arith in
       let other = both_stop Starts B A text b a (omega (arith, less)) r s in
       subst (Stops Starts (Either A B) text) least (narrower _ _ (Either B A) text b
-          (λ t h. elim h [ inl x ↦ inr x | inr y ↦ inl y ]) other)
+      (λ t h. elim h [ inl x ↦ inr x | inr y ↦ inl y ]) other)
   | inr less ↦ let least : a ≡ min a b = omega arith in
       subst (Stops Starts (Either A B) text) least (both_stop Starts A B text a b less s r)
 ]
@@ -68,8 +68,11 @@ among_more : (seen : List Form) (last form : Form) → IsAmong (seen ++ (last �
 among_more [] last form (inl same) = inr same
 among_more [] last form (inr none) = absurd none
 among_more (f ∷ seen) last form (inl same) = inl (inl same)
-among_more (f ∷ seen) last form (inr is) = elim (among_more seen last form is) [ inl there ↦ inl
-    (inr there) | inr same ↦ inr same ]
+among_more (f ∷ seen) last form (inr is) = elim (among_more seen last form is) [
+  | inl there ↦ inl
+      (inr there)
+  | inr same ↦ inr same
+]
 
 pub among_at : (seen others : List Form) (form : Form) → IsAmong (seen ++ (form ∷ others)) form
 among_at [] others form = inl refl
@@ -89,9 +92,9 @@ one_more forms seen others form text left here e so_far fails =
     let Literal : List ℕ → Type 0 = Before (λ p. p ≡ form.0) IsAny in
     let among : IsAmong forms form = subst (λ (l : List Form). IsAmong l form) (sym e) (among_at seen others form) in
     let this : Stops (IsOpening forms) Literal text here =
-        behind _ _ _ _ [] text text here refl (λ p same. (form, among, same)) (λ t alike h. h) fails in
+    behind _ _ _ _ [] text text here refl (λ p same. (form, among, same)) (λ t alike h. h) fails in
     narrower _ (Before (IsOpening (seen ++ (form ∷ []))) IsAny) (Either (Before (IsOpening seen) IsAny) Literal) text
-        (min left here)
+    (min left here)
     (λ t h. elim (among_more seen form h.2.0 h.2.1) [
       | inl before ↦ inl (h.0, h.1, (h.2.0, before, h.2.2), h.3, h.4)
       | inr same ↦ inr (h.0, h.1, h.2.2 ∙ ap (λ (f : Form). f.0) (sym same), h.3, h.4)

@@ -1,5 +1,5 @@
 -- The operands of each shape are pieces and separators, one behind the other.
-use Rattle.std.proofs.Common.{◌≡◌, ◌≢◌, ◌⊎◌, inl, inr, ℕ, ◌-◌, ◌%◌, ◌^◌, ◌<◌, ◌≤◌, ℤ, pos, negsuc, neg_ℤ, ◌≤ℤ◌, List, [], ◌++◌, refl, sym, subst, ◌∙◌, arith}
+use Rattle.std.proofs.Common.{◌≡◌, inl, inr, ℕ, ◌-◌, ◌%◌, ◌^◌, ◌<◌, ◌≤◌, ℤ, pos, negsuc, neg_ℤ, ◌≤ℤ◌, List, [], ◌++◌, refl, sym, subst, ◌∙◌, arith}
 use Rattle.std.specs.Prelude.{codes, ◌<ℤ◌}
 use Rattle.std.specs.Fmt.{decimal, signed_decimal}
 use Rattle.std.specs.Int.Signed.{mag}
@@ -116,11 +116,14 @@ pub shown : (shape : Shape) (funct3 last pc : ℕ) (x : List ℕ) → funct3 < 8
     → Texts shape pc x → (f : Fields) × Shows shape funct3 last pc x f
 shown ThreeRegisters funct3 last pc x three seven h =
     let o = h.others in
-    let rest = shown_then _ _ _ _ _ (codes ", ") o o.piece.2 o.others.2 in
-    (
+    let rest = shown_then _ _ _ _ _ (codes ", ") o o.piece.2 o.others.2 in (
       R (record { funct7 = last; rs2 = o.others.0; rs1 = o.piece.0; funct3 = funct3; rd = h.piece.0 }),
-      ((h.piece.1, three, o.piece.1, o.others.1, seven), refl, refl,
-          shown_then _ _ _ _ _ (codes ", ") h h.piece.2 rest),
+      (
+        (h.piece.1, three, o.piece.1, o.others.1, seven),
+        refl,
+        refl,
+        shown_then _ _ _ _ _ (codes ", ") h h.piece.2 rest,
+      ),
     )
 shown Immediate funct3 last pc x three seven h =
     let o = h.others in
@@ -131,23 +134,30 @@ shown Immediate funct3 last pc x three seven h =
 shown Shamt funct3 last pc x three seven h =
     let o = h.others in
     let rest = shown_then _ _ _ _ _ (codes ", ") o o.piece.2 o.others.3 in
-    let small = o.others.2 in
-    (
+    let small = o.others.2 in (
       IShamt (record { funct7 = last; shamt = o.others.0; rs1 = o.piece.0; funct3 = funct3; rd = h.piece.0 }),
-      ((h.piece.1, three, o.piece.1, omega (arith, small), seven), refl, refl,
-          shown_then _ _ _ _ _ (codes ", ") h h.piece.2 rest),
+      (
+        (h.piece.1, three, o.piece.1, omega (arith, small), seven),
+        refl,
+        refl,
+        shown_then _ _ _ _ _ (codes ", ") h h.piece.2 rest,
+      ),
     )
 shown Upper funct3 last pc x three seven h =
     let is = h.others.1 in (
       U (record { imm = h.others.0; rd = h.piece.0 }),
-      ((h.piece.1, is.0, below_upper h.others.0 is.1 is.2, is.2),
-          shown_then _ _ _ _ _ (codes ", 0x") h h.piece.2 h.others.2),
+      (
+        (h.piece.1, is.0, below_upper h.others.0 is.1 is.2, is.2),
+        shown_then _ _ _ _ _ (codes ", 0x") h h.piece.2 h.others.2,
+      ),
     )
 shown UpperToPc funct3 last pc x three seven h =
     let is = h.others.1 in (
       U (record { imm = h.others.0; rd = h.piece.0 }),
-      ((h.piece.1, is.0, below_upper h.others.0 is.1 is.2, is.2),
-          shown_then _ _ _ _ _ (codes ", 0x") h h.piece.2 h.others.2),
+      (
+        (h.piece.1, is.0, below_upper h.others.0 is.1 is.2, is.2),
+        shown_then _ _ _ _ _ (codes ", 0x") h h.piece.2 h.others.2,
+      ),
     )
 shown Branch funct3 last pc x three seven h =
     let o = h.others in
@@ -164,15 +174,21 @@ shown LoadFrom funct3 last pc x three seven h =
     let o = h.others in
     let rest = shown_then _ _ _ _ _ (codes "(") o o.piece.3 (base_shown _ o.others) in (
       I (record { imm = o.piece.0; rs1 = o.others.piece.0; funct3 = funct3; rd = h.piece.0 }),
-      ((h.piece.1, three, o.others.piece.1, o.piece.1, o.piece.2), refl,
-          shown_then _ _ _ _ _ (codes ", ") h h.piece.2 rest),
+      (
+        (h.piece.1, three, o.others.piece.1, o.piece.1, o.piece.2),
+        refl,
+        shown_then _ _ _ _ _ (codes ", ") h h.piece.2 rest,
+      ),
     )
 shown StoreTo funct3 last pc x three seven h =
     let o = h.others in
     let rest = shown_then _ _ _ _ _ (codes "(") o o.piece.3 (base_shown _ o.others) in (
       S (record { imm = o.piece.0; rs2 = h.piece.0; rs1 = o.others.piece.0; funct3 = funct3 }),
-      ((three, o.others.piece.1, h.piece.1, o.piece.1, o.piece.2), refl,
-          shown_then _ _ _ _ _ (codes ", ") h h.piece.2 rest),
+      (
+        (three, o.others.piece.1, h.piece.1, o.piece.1, o.piece.2),
+        refl,
+        shown_then _ _ _ _ _ (codes ", ") h h.piece.2 rest,
+      ),
     )
 shown Jump funct3 last pc x three seven h =
     let is = h.others.1 in (
@@ -186,14 +202,16 @@ shown JumpTo funct3 last pc x three seven h =
     let o = h.others in
     let rest = shown_then _ _ _ _ _ (codes "(") o o.piece.3 (base_shown _ o.others) in (
       I (record { imm = o.piece.0; rs1 = o.others.piece.0; funct3 = funct3; rd = h.piece.0 }),
-      ((h.piece.1, three, o.others.piece.1, o.piece.1, o.piece.2), refl,
-          shown_then _ _ _ _ _ (codes ", 0x") h h.piece.2 rest),
+      (
+        (h.piece.1, three, o.others.piece.1, o.piece.1, o.piece.2),
+        refl,
+        shown_then _ _ _ _ _ (codes ", 0x") h h.piece.2 rest,
+      ),
     )
-shown Alone funct3 last pc x three seven h =
-    (
-      I (record { imm = pos last; rs1 = 0; funct3 = funct3; rd = 0 }),
-      ((omega arith, three, omega arith, omega (arith, ints), omega (arith, ints, seven)), refl, refl, refl, refl, h),
-    )
+shown Alone funct3 last pc x three seven h = (
+  I (record { imm = pos last; rs1 = 0; funct3 = funct3; rd = 0 }),
+  ((omega arith, three, omega arith, omega (arith, ints), omega (arith, ints, seven)), refl, refl, refl, refl, h),
+)
 
 -- lui shows the sum with 0
 pub sum_with_zero : (imm : ℤ) → word imm ≡ plus_immediate 0 imm

@@ -173,5 +173,5 @@ pub parts_of_text : (w pc : ℕ) (t : List ℕ) → HasText pc w t
     → (row : Row) × (x : List ℕ) × (t ≡ opening_of row ++ x) × Texts (shape_of row) pc x
 parts_of_text w pc t has =
     let made = parts (table has.row).action has.row pc t has.fields (has.is.format
-        ∙ format_of_row has.row) has.is.in_range has.holds in
+    ∙ format_of_row has.row) has.is.in_range has.holds in
     (has.row, made.0, made.1, made.2)

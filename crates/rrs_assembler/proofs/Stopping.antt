@@ -3,7 +3,7 @@ use Rattle.std.proofs.Common.{◌≡◌, ◌≢◌, ℕ, suc, ◌≤◌, Bool, t
 use Rattle.std.proofs.lemmas.Bool.{eqb-true}
 use Rattle.std.proofs.lemmas.List.{append-nil, append_assoc, append_cancel_left}
 use Rattle.rrs_assembler.specs.Assembling.{common_length}
-use Rattle.rrs_assembler.specs.Readers.{BeginAlike, Stops, Fails, Before, IsAny, FailsPiece, FailsLiteral, FailsBefore, ReadsBefore, IsRead, IsPastPiece, Then, IsEnd, CanFollow, BeginsOtherwise}
+use Rattle.rrs_assembler.specs.Readers.{BeginAlike, Stops, Fails, IsAny, FailsPiece, FailsLiteral, FailsBefore, ReadsBefore, IsRead, IsPastPiece, Then, IsEnd, CanFollow, BeginsOtherwise}
 use Rattle.rrs_extra.proofs.Reading.{IsPiece, same_pieces}
 
 pub alike_behind : (p a t : List ℕ) → BeginAlike a t → BeginAlike (p ++ a) (p ++ t)
@@ -43,7 +43,7 @@ behind Starts Texts Starts' Texts' p text rest left e up down s = record {
   some = (s.some.0, subst Starts (sym (append_assoc p s.read s.some.0)) (up _ s.some.1));
   none = λ t alike h.
       let there = subst (λ (l : List ℕ). BeginAlike l (s.read ++ t)) (sym s.whole)
-          (alike_behind s.read s.rest t alike) in
+      (alike_behind s.read s.rest t alike) in
       s.none t alike (down (s.read ++ t) there (subst Texts (append_assoc p s.read t) h));
 }
 

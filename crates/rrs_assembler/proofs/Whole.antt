@@ -1,5 +1,5 @@
 -- Where a whole text goes wrong, by where its opening or its operands do.
-use Rattle.std.proofs.Common.{◌≡◌, inl, inr, ℕ, ◌+◌, ◌*◌, ◌^◌, ◌-◌, ◌≤◌, List, [], ◌++◌, length, refl, sym, ap, subst, ◌∙◌, arith}
+use Rattle.std.proofs.Common.{◌≡◌, ℕ, ◌+◌, ◌*◌, ◌^◌, ◌-◌, ◌≤◌, List, [], ◌++◌, length, refl, sym, ap, subst, ◌∙◌, arith}
 use Rattle.std.specs.Prelude.{codes}
 use Rattle.std.proofs.lemmas.Bool.{ltb-true}
 use Rattle.std.proofs.lemmas.List.{append_cancel_left, length-append}
@@ -10,8 +10,8 @@ use Rattle.rrs_extra.specs.Showing.{AreOneOrFences}
 use Rattle.rrs_extra.proofs.SameWords.{words_faithful}
 use Rattle.rrs_assembler.specs.declared.rows.Shape.TheVariants.{Alone}
 use Rattle.rrs_assembler.specs.Assembling.{common_length, HasText, IsFurthest}
-use Rattle.rrs_assembler.specs.Readers.{Fails, Before, IsAny}
-use Rattle.rrs_assembler.specs.Shapes.{Form, form_of_row, all_forms, IsOpening, opening_of, shape_of, last_of, funct_of, FailsOpenings, IsTextOfSome, IsAssembled, Shows, Texts}
+use Rattle.rrs_assembler.specs.Readers.{Fails}
+use Rattle.rrs_assembler.specs.Shapes.{Form, form_of_row, all_forms, opening_of, shape_of, last_of, funct_of, FailsOpenings, IsTextOfSome, IsAssembled, Shows, Texts}
 use Rattle.rrs_assembler.proofs.Stopping.{behind, going_on, common_within, common_read}
 use Rattle.rrs_assembler.proofs.Forms.{row_of_form, form_among, same_row, three_small, last_small}
 use Rattle.rrs_assembler.proofs.OperandTexts.{shown, some_text}
@@ -33,11 +33,18 @@ no_opening pc text left = going_on _ _ _ _ text left
     (λ p h.
     let found = row_of_form h.0 h.1 in
     let row : Row = found.0 in
-    let some = some_text (shape_of row) pc in
-    (some.0, subst (λ (l : List ℕ). IsTextOfSome pc (l ++ some.0)) (sym (h.2 ∙ ap (λ (f : Form). f.0) found.1))
-        (text_of_rest row pc some.0 some.1)))
-    (λ t h. let made = parts_of_text h.0 pc t h.1 in (opening_of made.0, made.1,
-        (form_of_row made.0, form_among made.0, refl), tt, made.2))
+    let some = some_text (shape_of row) pc in (
+      some.0,
+      subst (λ (l : List ℕ). IsTextOfSome pc (l ++ some.0)) (sym (h.2 ∙ ap (λ (f : Form). f.0) found.1))
+          (text_of_rest row pc some.0 some.1),
+    ))
+    (λ t h. let made = parts_of_text h.0 pc t h.1 in (
+      opening_of made.0,
+      made.1,
+      (form_of_row made.0, form_among made.0, refl),
+      tt,
+      made.2,
+    ))
 
 -- it begins with the opening of this row, and its operands go wrong
 pub no_operands : (row : Row) (pc : ℕ) (text rest : List ℕ) (left : ℕ) → text ≡ opening_of row ++ rest → Fails (IsRest row pc) rest left → Fails (IsTextOfSome pc) text left
@@ -55,21 +62,21 @@ no_operands row pc text rest left e = behind _ _ _ _ (opening_of row) text rest 
 pub furthest : (pc : ℕ) (text : List ℕ) (left : ℕ) → Fails (IsTextOfSome pc) text left → IsFurthest pc text (length text - left)
 furthest pc text left fails =
     let place : length text - left ≡ length fails.read =
-        (let whole = ap length fails.whole ∙ length-append fails.read fails.rest in let count = fails.count in
-        omega (arith, whole, count)) in
+    (let whole = ap length fails.whole ∙ length-append fails.read fails.rest in let count = fails.count in
+    omega (arith, whole, count)) in
     let within : (other : List ℕ) → IsTextOfSome pc other → common_length text other ≤ length text - left =
     λ other is.
     let less = common_within fails.read fails.rest other
-        (λ t alike e. fails.none t alike (subst (IsTextOfSome pc) e is)) in
+    (λ t alike e. fails.none t alike (subst (IsTextOfSome pc) e is)) in
     let here : common_length text other ≡ common_length (fails.read ++ fails.rest) other =
-        ap (λ (l : List ℕ). common_length l other) fails.whole in
+    ap (λ (l : List ℕ). common_length l other) fails.whole in
     omega (arith, place, less, here)
     in
     let other : List ℕ = fails.read ++ fails.some.0 in
     let most = within other fails.some.1 in
     let least = common_read fails.read fails.rest fails.some.0 in
     let here : common_length text other ≡ common_length (fails.read ++ fails.rest) other =
-        ap (λ (l : List ℕ). common_length l other) fails.whole in
+    ap (λ (l : List ℕ). common_length l other) fails.whole in
     record {
       over = λ w other h. within other (w, h);
       reached = (fails.some.1.0, other, fails.some.1.1, omega (arith, place, most, least, here));

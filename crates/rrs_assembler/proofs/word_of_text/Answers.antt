@@ -35,7 +35,7 @@ returns-in_err-fields c =
     let found = row_of_form _ c.in_ok-row.ensures.0 in
     let rest : Fails (IsRest found.0 c.args.pc) c.in_ok-row.rest.now c.in_err-fields.field-0.0.left =
     subst (λ (f : Form). Fails (Texts f.1 c.args.pc) c.in_ok-row.rest.now c.in_err-fields.field-0.0.left) found.1
-        c.in_err-fields.ensures in
+    c.in_err-fields.ensures in
     let h : Fails (IsTextOfSome c.args.pc) c.args.text.now c.in_err-fields.field-0.0.left =
     no_operands found.0 c.args.pc c.args.text.now c.in_ok-row.rest.now _ (begins (form_of c.in_ok-row.row) found.0 _ _ found.1 c.in_ok-row.ensures.1) rest in
     search rules

@@ -19,9 +19,10 @@ returns-then-not-has_any t c =
 
 pub hexadecimal-requires : goal.hexadecimal-requires
 hexadecimal-requires t c =
-    let fits = part_fits c.args.count c.args.size c.args.low c.in-Some.digit c.if-count-eq0.false c.requires.size c.requires.words c.in-Some.ensures.0 in
-    (let some = c.if-count-eq0.false in omega (arith, some),
-        (c.requires.targets, (fits.2, (fits.1, c.if-not-has_any.ensures))))
+    let fits = part_fits c.args.count c.args.size c.args.low c.in-Some.digit c.if-count-eq0.false c.requires.size c.requires.words c.in-Some.ensures.0 in (
+      let some = c.if-count-eq0.false in omega (arith, some),
+      (c.requires.targets, (fits.2, (fits.1, c.if-not-has_any.ensures))),
+    )
 
 pub returns : goal.returns
 returns t c =

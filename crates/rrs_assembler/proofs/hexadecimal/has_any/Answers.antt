@@ -6,10 +6,12 @@ use Rattle.rrs_assembler.proofs.hexadecimal.has_any.Goals as goal
 use Rattle.rrs_assembler.proofs.hexadecimal.has_any.Goals.{else-gap-size-via-then-gap-size+else-from-gap, else-gap-size-via-else-gap-size}
 
 pub returns-then-from-gap : goal.returns-then-from-gap
-returns-then-from-gap c =
-    (_, target_near c.args.targets.first c.args.targets.total c.args.targets.step c.args.low c.args.size _ _
-        c.requires.targets.0 c.requires.targets.2 c.requires.targets.3 c.requires.words.1 refl refl c.if-gap-size.true
-        c.if-from-gap.true)
+returns-then-from-gap c = (
+  _,
+  target_near c.args.targets.first c.args.targets.total c.args.targets.step c.args.low c.args.size _ _
+      c.requires.targets.0 c.requires.targets.2 c.requires.targets.3 c.requires.words.1 refl refl c.if-gap-size.true
+      c.if-from-gap.true,
+)
 
 last_test : (first total step low size : ℕ) (test : Bool) → first < 2 ^ 32 → 0 < total → (step ≡ 1) ⊎ (step ≡ 2) ⊎ (step ≡ 4096) → low + size ≤ 2 ^ 32
     → nat_lt (2 ^ 32) ((low + (2 ^ 32 - first)) % 2 ^ 32 + size) ≡ test
@@ -23,7 +25,7 @@ last_test first total step low size false a some kind fits e far =
 pub returns : goal.returns
 returns c =
     last_test c.args.targets.first c.args.targets.total c.args.targets.step c.args.low c.args.size _
-        c.requires.targets.0 c.requires.targets.1 c.requires.targets.3 c.requires.words.1 refl
+    c.requires.targets.0 c.requires.targets.1 c.requires.targets.3 c.requires.words.1 refl
     (elim c.else-gap-size.branch [
       | else-gap-size-via-then-gap-size+else-from-gap w ↦ inr w.if-from-gap.false
       | else-gap-size-via-else-gap-size w ↦ inl w.if-gap-size.false

@@ -29,9 +29,9 @@ returns-in_ok-value-in-Some c =
     let low = made.0 in
     let high = made.1 in
     let read = read_kind _ IsJumpOffset _ _ _ long_up (long_down _ _ c.in-Some.ensures)
-      (digits_read _ _ _ 8 0 step.value _ _ step.ensures.0 step.ensures.1) in
+    (digits_read _ _ _ 8 0 step.value _ _ step.ensures.0 step.ensures.1) in
     let P : ℤ → Type 0 = λ z. (neg_ℤ (pos 2048) ≤ℤ z) × (z ≤ℤ pos 2047)
-      × IsRead IsJumpOffset (hexadecimal 3 (word z)) c.args.text.now step.rest.now in
+    × IsRead IsJumpOffset (hexadecimal 3 (word z)) c.args.text.now step.rest.now in
     let there = subst (λ l. IsRead IsJumpOffset l c.args.text.now step.rest.now) made.2 read in
     let here : P (negsuc (2 ^ 32 - 1 - step.value)) =
     (omega (arith, ints, low, high), omega (arith, ints), there) in
@@ -43,9 +43,9 @@ returns-in_ok-value-in-None c =
     let made = short_offset step.value step.ensures.0 in
     let small = made.0 in
     let read = read_kind _ IsJumpOffset _ _ _ short_up (short_down _ c.in-None.ensures)
-      (digits_read _ _ _ 3 0 step.value _ _ step.ensures.0 step.ensures.1) in
+    (digits_read _ _ _ 3 0 step.value _ _ step.ensures.0 step.ensures.1) in
     let P : ℤ → Type 0 = λ z. (neg_ℤ (pos 2048) ≤ℤ z) × (z ≤ℤ pos 2047)
-      × IsRead IsJumpOffset (hexadecimal 3 (word z)) c.args.text.now step.rest.now in
+    × IsRead IsJumpOffset (hexadecimal 3 (word z)) c.args.text.now step.rest.now in
     let there = subst (λ l. IsRead IsJumpOffset l c.args.text.now step.rest.now) made.1 read in
     let here : P (pos step.value) = (omega (arith, ints), omega (arith, ints, small), there) in
     subst P (omega (arith, ints, small)) here

@@ -18,5 +18,5 @@ returns-in_err-imm c =
 pub returns-in_err-rs1 : goal.returns-in_err-rs1
 returns-in_err-rs1 c =
     let h = then_rest _ _ _ _ _ _ _ c.in_ok-rd.ensures.1
-        (then_rest _ _ _ _ _ _ _ c.in_ok-imm.ensures.2 c.in_err-rs1.ensures) in
+    (then_rest _ _ _ _ _ _ _ c.in_ok-imm.ensures.2 c.in_err-rs1.ensures) in
     search rules

@@ -18,5 +18,5 @@ returns-in_err-rs1 c =
 pub returns-in_err-shamt : goal.returns-in_err-shamt
 returns-in_err-shamt c =
     let h = then_rest _ _ _ _ _ _ _ c.in_ok-rd.ensures.1
-        (then_rest _ _ _ _ _ _ _ c.in_ok-rs1.ensures.1 c.in_err-shamt.ensures) in
+    (then_rest _ _ _ _ _ _ _ c.in_ok-rs1.ensures.1 c.in_err-shamt.ensures) in
     search rules

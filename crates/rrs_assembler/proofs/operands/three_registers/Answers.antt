@@ -8,7 +8,7 @@ use Rattle.rrs_assembler.proofs.operands.three_registers.Goals as goal
 pub returns-in_err-rd : goal.returns-in_err-rd
 returns-in_err-rd c =
     let h = then_first _ _ _ _ _ c.in_err-rd.ensures (and_then IsRegister
-        (codes ", ") IsRegister a_register a_register) in
+    (codes ", ") IsRegister a_register a_register) in
     search rules
 
 pub returns-in_err-rs1 : goal.returns-in_err-rs1
@@ -19,5 +19,5 @@ returns-in_err-rs1 c =
 pub returns-in_err-rs2 : goal.returns-in_err-rs2
 returns-in_err-rs2 c =
     let h = then_rest _ _ _ _ _ _ _ c.in_ok-rd.ensures.1
-        (then_rest _ _ _ _ _ _ _ c.in_ok-rs1.ensures.1 c.in_err-rs2.ensures) in
+    (then_rest _ _ _ _ _ _ _ c.in_ok-rs1.ensures.1 c.in_err-rs2.ensures) in
     search rules

@@ -10,7 +10,7 @@ pub returns-in_err-magnitude-in-Some : goal.returns-in_err-magnitude-in-Some
 returns-in_err-magnitude-in-Some c =
     let minus = c.in-Some.ensures in
     let h = fails_kind _ _ _ _ negative_up (negative_down _ _ minus)
-      (fails_behind _ 45 _ _ _ minus c.in_err-magnitude-in-Some.ensures) in
+    (fails_behind _ 45 _ _ _ minus c.in_err-magnitude-in-Some.ensures) in
     search rules
 
 pub returns-in_err-value-in-None : goal.returns-in_err-value-in-None
@@ -25,11 +25,11 @@ returns-in_ok-magnitude-in-Some c =
     let high = step.ensures.1 in
     let minus = c.in-Some.ensures in
     let read = read_kind _ IsImmediate _ _ _ negative_up (negative_down _ _ minus)
-      (read_behind _ 45 _ _ _ _ minus step.ensures.2) in
+    (read_behind _ 45 _ _ _ _ minus step.ensures.2) in
     let P : ℤ → Type 0 = λ z. (neg_ℤ (pos 2048) ≤ℤ z) × (z ≤ℤ pos 2047)
-      × IsRead IsImmediate (signed_decimal z) c.args.text.now step.rest.now in
+    × IsRead IsImmediate (signed_decimal z) c.args.text.now step.rest.now in
     let there = subst (λ l. IsRead IsImmediate l c.args.text.now step.rest.now)
-      (sym (negative_text step.magnitude low)) read in
+    (sym (negative_text step.magnitude low)) read in
     subst P (omega (arith, ints, high)) (omega (arith, ints, high), omega (arith, ints), there)
 
 pub returns-in_ok-value-in-None : goal.returns-in_ok-value-in-None
@@ -38,6 +38,6 @@ returns-in_ok-value-in-None c =
     let high = step.ensures.1 in
     let read = read_kind _ IsImmediate _ _ _ positive_up (positive_down _ c.in-None.ensures) step.ensures.2 in
     let P : ℤ → Type 0 = λ z. (neg_ℤ (pos 2048) ≤ℤ z) × (z ≤ℤ pos 2047)
-      × IsRead IsImmediate (signed_decimal z) c.args.text.now step.rest.now in
+    × IsRead IsImmediate (signed_decimal z) c.args.text.now step.rest.now in
     let here : P (pos step.value) = (omega (arith, ints), omega (arith, ints, high), read) in
     subst P (omega (arith, ints, high)) here

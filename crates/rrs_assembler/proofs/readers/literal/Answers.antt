@@ -28,7 +28,7 @@ returns-in-None c =
       some = (c.loop-byte.wanted.now, sym whole);
       none = λ t alike h.
           let shown = append_cancel_left p t (c.loop-byte.wanted.now ++ h.1) (h.4
-              ∙ ap (λ (l : List ℕ). l ++ h.1) (h.2 ∙ whole) ∙ append_assoc p c.loop-byte.wanted.now h.1) in
+          ∙ ap (λ (l : List ℕ). l ++ h.1) (h.2 ∙ whole) ∙ append_assoc p c.loop-byte.wanted.now h.1) in
           not_alike c.in-Some.byte c.loop-byte.rest.now t _ c.in-None.ensures alike (shown
-              ∙ ap (λ (l : List ℕ). l ++ h.1) c.in-Some.ensures);
+          ∙ ap (λ (l : List ℕ). l ++ h.1) c.in-Some.ensures);
     }

@@ -4,10 +4,11 @@ use Rattle.rrs_assembler.proofs.Stopping.{read_kind, fails_kind}
 use Rattle.rrs_assembler.proofs.readers.register.Goals as goal
 
 pub returns-in-Ok : goal.returns-in-Ok
-returns-in-Ok c =
-    (let high = c.in-Ok.ensures.1 in omega (arith, high),
-        read_kind _ _ _ _ _ register_up (register_down _)
-            (read_behind _ 120 _ _ _ _ c.in-Some.ensures c.in-Ok.ensures.2))
+returns-in-Ok c = (
+  let high = c.in-Ok.ensures.1 in omega (arith, high),
+  read_kind _ _ _ _ _ register_up (register_down _)
+      (read_behind _ 120 _ _ _ _ c.in-Some.ensures c.in-Ok.ensures.2),
+)
 
 pub returns-in-Err : goal.returns-in-Err
 returns-in-Err c =

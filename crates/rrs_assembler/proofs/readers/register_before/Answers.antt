@@ -15,7 +15,7 @@ pub returns-in_err-rest : goal.returns-in_err-rest
 returns-in_err-rest c =
     let h : FailsBefore IsRegister c.args.wanted.now c.args.text.now c.in_err-rest.field-0.0.left =
     before_separator IsRegister c.args.wanted.now (register c.in_ok-register.register) _ _ _ c.requires
-        c.in_ok-register.ensures.1 c.in_err-rest.ensures in
+    c.in_ok-register.ensures.1 c.in_err-rest.ensures in
     search rules
 
 pub returns : goal.returns

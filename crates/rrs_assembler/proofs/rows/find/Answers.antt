@@ -29,14 +29,16 @@ loop-row-preserved c =
 pub returns-in-Ok : goal.returns-in-Ok
 returns-in-Ok c =
     let seen = c.loop-row.invariant.0 in
-    let e = c.loop-row.invariant.1 ∙ ap (λ (l : List RowForm). seen ++ map form_of l) c.in-Some.ensures in
-    (subst (λ (l : List Form). IsAmong l (form_of c.in-Some.row)) (sym e)
-        (among_at seen (map form_of c.in-Some.others.now) (form_of c.in-Some.row)), c.in-Ok.ensures)
+    let e = c.loop-row.invariant.1 ∙ ap (λ (l : List RowForm). seen ++ map form_of l) c.in-Some.ensures in (
+      subst (λ (l : List Form). IsAmong l (form_of c.in-Some.row)) (sym e)
+          (among_at seen (map form_of c.in-Some.others.now) (form_of c.in-Some.row)),
+      c.in-Ok.ensures,
+    )
 
 pub returns : goal.returns
 returns c =
     let seen = c.loop-row.invariant.0 in
     let all = c.loop-row.invariant.1 ∙ ap (λ (l : List RowForm). seen ++ map form_of l) c.in_default.ensures
-        ∙ append-nil seen in
+    ∙ append-nil seen in
     subst (λ (l : List Form). StopsSeen (map form_of c.args.rows.now) l c.args.text.now c.loop-row.left)
-        (sym all) c.loop-row.invariant.2
+    (sym all) c.loop-row.invariant.2
