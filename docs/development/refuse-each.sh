@@ -7,7 +7,7 @@
 # are older than their sources. They run with refuse.c preloaded, which the C compiler `cc` makes:
 # the first allocation is refused, then the second alone, and so on up to the last that the test
 # makes. With no arguments it does so for the tests below, which are written to hold whichever
-# allocation is refused; docs/PROVED.md says what each holds to. The status is 0 where each run
+# allocation is refused; docs/SURFACE.md says what each shows. The status is 0 where each run
 # passed, 1 where one did not, and 2 where there is no such test or no C compiler, or for wrong
 # arguments. Where CI is true a missing compiler is installed.
 

@@ -1,0 +1,205 @@
+"""The counts that pages may give before a marker, as functions of the sources."""
+
+import re
+
+from pages import SPAN
+
+MARKER = re.compile(r"([\w,]*\w)?[`*]*\s*<!--\s*count\s+([\w:-]*)\s*-->")
+WORDS = ("no one two three four five six seven eight nine ten eleven twelve thirteen fourteen "
+         "fifteen sixteen seventeen eighteen nineteen twenty").split()
+
+
+class Sources:
+    """What the counts are taken of."""
+
+    def __init__(self, root, files, crates):
+        self.root, self.files, self.crates = root, files, crates
+
+    def named(self, pattern):
+        """The files whose names are of this form."""
+        return [name for name in self.files if re.fullmatch(pattern, name)]
+
+    def text(self, name):
+        return (self.root / name).read_text()
+
+    def lines(self, pattern):
+        """How many lines the files of this form have together."""
+        return sum(len(self.text(name).splitlines()) for name in self.named(pattern))
+
+    def matches(self, name, pattern):
+        """How often a form stands in a file."""
+        return len(re.findall(pattern, self.text(name), re.M))
+
+    def items(self):
+        """All items of the sources."""
+        waiting = [item for crate in self.crates for items in crate.files.values()
+                   for item in items]
+        while waiting:
+            item = waiting.pop()
+            waiting += item.items
+            yield item
+
+
+TABLE = "crates/rrs_instruction/specs/Table.antt"
+HEADER = "crates/rrs_c/include/rrs.h"
+TESTS = r"crates/(?:\w+_tests/.*|rrs_examples/.*|\w+/src/tests)\.rt"
+
+
+def row_names(sources):
+    """The constructors of the rows of the table, with their names."""
+    return re.findall(r"^table Row\.(\w+) =[^\"]*\"(\w+)\"", sources.text(TABLE), re.M)
+
+
+def row_files(sources):
+    """How many sources name every row: those that an added row has to be written into."""
+    return len(files_of_rows(sources))
+
+
+def files_of_rows(sources):
+    """The sources in which each row stands, by its constructor, its name or its function."""
+    found = sources.named(r"crates/\w+/(src|specs|proofs)/.*")
+    for one, name in row_names(sources):
+        words = [one, name, f"process_{'sltui' if name == 'sltiu' else name}"]
+        form = re.compile(rf"\b({'|'.join(words)})\b")
+        found = [file for file in found if form.search(sources.text(file))]
+    return found
+
+
+def constant(sources, name):
+    """The value of a constant of the sources."""
+    values = {item.head.split(" = ")[-1] for item in sources.items()
+              if item.kind == "const" and item.name == name}
+    numbers = {int(value.replace("_", ""), 0) for value in values
+               if re.fullmatch(r"(0x)?[\da-fA-F_]+", value)}
+    return numbers.pop() if len(numbers) == 1 else None
+
+
+def variants(sources, name):
+    """The number of variants of an enum."""
+    found = [item for item in sources.items() if item.kind == "enum" and item.name == name]
+    if len(found) != 1:
+        return None
+    body = re.sub(r"//[^\n]*|\([^()]*\)|\{[^{}]*\}", "", found[0].body[1:-1])
+    return len(re.findall(r"^\s*\w+", body, re.M))
+
+
+def constructors(sources, name):
+    """The number of constructors of a definition."""
+    for file in sources.named(r"crates/\w+/specs/.*\.antt"):
+        found = re.search(rf"^(?:pub )?data {name}\b.*\n((?:[ \t].*\n|\n)*)", sources.text(file),
+                          re.M)
+        if found:
+            return len(re.findall(r"^  (?:pub )?\w+ :", found[1], re.M))
+    return None
+
+
+def crates_of(sources, wanted):
+    """How many crates are of a kind."""
+    return sum(bool(wanted(crate)) for crate in sources.crates)
+
+
+def cache_bytes(sources):
+    """What a cache of decoded words takes: a key of 4 bytes and an entry of 16 at each place."""
+    return 20 * constant(sources, "ENTRIES")
+
+
+def given_questions(sources):
+    """The stored questions whose answers come from elsewhere: those before the empty line."""
+    return sources.text("crates/rrs_replay/stdin").split("\n\n")[0].count("\n") + 1
+
+
+def definition_lines(sources, crate=r"\w+"):
+    return sources.lines(rf"crates/(?:{crate})/specs/.*\.antt")
+
+
+def code_lines(sources, crate=r"\w+"):
+    return sources.lines(rf"(?!{TESTS})crates/(?:{crate})/src/.*\.rt")
+
+
+def proof_lines(sources, crate=r"\w+"):
+    return sources.lines(rf"crates/(?:{crate})/proofs/.*\.antt")
+
+
+def edits(sources, crate=r"\w+"):
+    return len(sources.named(rf"crates/(?:{crate})/must-fail/.*\.edit"))
+
+
+def tests(sources, crate=r"\w+"):
+    return sum(sources.matches(name, r"^\s*#\[test\]")
+               for name in sources.named(rf"crates/(?:{crate})/src/.*\.rt"))
+
+
+KIT = "rrs_lib|rrs_memory|rrs_instruction"
+
+# Each count: what gives it, and to what it may be rounded. One with a colon takes what stands
+# behind the colon as its second argument.
+COUNTS = {
+    "rows": (lambda s: len(row_names(s)), 1),
+    "row-files": (row_files, 1),
+    "row-files-with-result": (lambda s: row_files(s) + 2, 1),
+    "action-kinds": (lambda s: constructors(s, "Action"), 1),
+    "exports": (lambda s: s.matches(HEADER, r"^[a-z]\w*[\w ]*[ *]rrs_\w+\("), 1),
+    "header-lines": (lambda s: s.lines(re.escape(HEADER)), 1),
+    "answers": (lambda s: len(s.text("crates/rrs_replay/stdout").splitlines()), 1),
+    "answers-from-elsewhere": (given_questions, 1),
+    "screens": (lambda s: s.matches("examples/rrs/screens", r"^\$ rrs"), 1),
+    "crates": (lambda s: len(s.crates), 1),
+    "libraries": (lambda s: crates_of(s, lambda crate: crate.is_library()), 1),
+    "programs": (lambda s: crates_of(s, lambda crate: not crate.is_library()), 1),
+    "test-crates": (lambda s: crates_of(s, lambda crate: crate.name.endswith("_tests")), 1),
+    "edits": (edits, 1),
+    "edits:": (edits, 1),
+    "kit-edits": (lambda s: edits(s, KIT), 1),
+    "tests": (tests, 1),
+    "tests:": (tests, 1),
+    "code-lines": (code_lines, 100),
+    "code-lines:": (code_lines, 100),
+    "test-lines": (lambda s: s.lines(TESTS), 100),
+    "definition-lines": (definition_lines, 100),
+    "definition-lines:": (definition_lines, 10),
+    "kit-definition-lines": (lambda s: definition_lines(s, KIT), 100),
+    "proof-lines": (proof_lines, 100),
+    "proof-lines:": (proof_lines, 100),
+    "cache-bytes": (cache_bytes, 1),
+    "cache-kib": (lambda s: cache_bytes(s) // 1024, 1),
+    "const:": (constant, 1),
+    "variants:": (variants, 1),
+    "constructors:": (constructors, 1),
+}
+
+
+def counted(sources, name):
+    """What the sources give for a name, and to what it may be rounded; or None."""
+    before, colon, argument = name.partition(":")
+    if before + colon not in COUNTS:
+        return None, 1
+    count, step = COUNTS[before + colon]
+    return (count(sources, argument) if colon else count(sources)), step
+
+
+def number_of(word):
+    """The number that a word is, with commas or spelled out, or None."""
+    word = (word or "").lower()
+    if word in WORDS:
+        return WORDS.index(word)
+    plain = word.replace(",", "").replace("_", "")
+    return int(plain) if plain.isdigit() else None
+
+
+def agrees(number, count, step):
+    """Whether a number is a count, or is what it is rounded to."""
+    return number == count or step > 1 and number == (count + step // 2) // step * step
+
+
+def check_counts(page, sources):
+    """The numbers before markers that are not what the sources give."""
+    for line, text in enumerate(page.lines, 1):
+        shown = SPAN.sub(lambda span: "" if "<!--" in span[0] else span[0], text)
+        for found in MARKER.finditer(shown):
+            number, (count, step) = number_of(found[1]), counted(sources, found[2])
+            if count is None:
+                yield line, f"there is no count `{found[2]}`"
+            elif number is None:
+                yield line, f"no number before the marker of `{found[2]}`, which is {count}"
+            elif not agrees(number, count, step):
+                yield line, f"`{found[2]}` is {count}, and not {found[1]}"
