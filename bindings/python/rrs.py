@@ -180,7 +180,7 @@ class Machine:
 
     def __init__(self, program, base=0, size=None):
         if _word_of(base) % 4:
-            raise ValueError("base is no multiple of 4")
+            raise ValueError("base is misaligned")
         if isinstance(program, (bytes, bytearray, memoryview)):
             data = bytes(program)
             data += bytes(-len(data) % 4)
@@ -244,7 +244,7 @@ class Machine:
 
 
 def decode(word):
-    """The Instruction that a word is, and None for a word outside the table."""
+    """The Instruction that a word is, and None for an illegal instruction."""
     instruction = _decode(_word_of(word))
     if not instruction.row:
         return None

@@ -46,7 +46,7 @@ impl<'a> Memory<'a> {
 /// Why a step could not be made. It leaves the hart as it was, but that `last` is 0.
 #[derive(Clone, Copy, Debug, PartialEq, Eq)]
 pub enum Fault {
-    /// The word at the pc is outside the table: the pc and the word.
+    /// The word at the pc is an illegal instruction: the pc and the word.
     IllegalInstruction(u32, u32),
     /// The pc is past the words.
     Fetch(u32),
@@ -54,7 +54,7 @@ pub enum Fault {
     LoadAccess(u32),
     /// A store's bytes are past the words: the data address.
     StoreAccess(u32),
-    /// The pc is no multiple of 4, or a data address none of the size.
+    /// The pc, or the data address of a load or a store, is misaligned: that address.
     Alignment(u32),
     /// The instruction is `ecall`: the pc.
     EnvironmentCall(u32),
@@ -323,7 +323,7 @@ impl Hart {
     }
 }
 
-/// The instruction that a word is, and `None` for a word outside the table.
+/// The instruction that a word is, and `None` for an illegal instruction.
 pub fn decode(word: u32) -> Option<Instruction> {
     let instruction = unsafe { sys::rrs_decode(word) };
     (instruction.row != 0).then_some(instruction)

@@ -8,8 +8,9 @@
  *
  * - Ownership. The caller owns every value, and no function keeps a pointer after it returns. None
  *   allocates, prints, calls back, or ends the process.
- * - Pointers. None may be NULL, also not one to an array of length 0. What two of them point to
- *   must not overlap. Nothing else is asked: every hart, word and address has an answer.
+ * - Pointers. Each is aligned for its type and points to a value of the caller. None may be NULL,
+ *   also not one to an array of length 0. What two of them point to must not overlap. Nothing
+ *   checks this. Every hart, word, address and limit is allowed.
  * - Threads. There is no state but the caller's, so calls on different values may run at the same
  *   time. Two calls on the same hart or the same words must not.
  *
@@ -47,53 +48,54 @@ typedef struct rrs_hart {
                      * As input any other number says none too. */
 } rrs_hart;
 
-/* Why a step, or a run, ended. */
+/* The exception that ended a step or a run. */
 enum rrs_fault_kind {
-    RRS_OK = 0,                  /* No fault. */
-    RRS_ILLEGAL_INSTRUCTION = 1, /* The word at the pc is outside the table. */
+    RRS_OK = 0,                  /* No exception. */
+    RRS_ILLEGAL_INSTRUCTION = 1, /* The word at the pc is not implemented. */
     RRS_FETCH_FAULT = 2,         /* The pc is past the words. */
     RRS_LOAD_FAULT = 3,          /* A load's bytes are past the words. */
     RRS_STORE_FAULT = 4,         /* A store's bytes are past the words. */
-    RRS_MISALIGNED = 5,          /* The pc is no multiple of 4, or an address none of the size. */
+    RRS_MISALIGNED = 5,          /* The pc, or the address of a load or a store, is misaligned. */
     RRS_ECALL = 6,               /* The instruction is ecall: C serves it, and sets the pc. */
     RRS_EBREAK = 7               /* The instruction is ebreak. */
 };
 
-/* After a fault the registers, the pc and memory are as before the step, and `last` is 0. */
+/* After an exception the registers, the pc and memory are as before the step, and `last` is 0. */
 typedef struct rrs_fault {
     uint32_t kind;    /* One of enum rrs_fault_kind. */
-    uint32_t address; /* The pc, or of a load or a store the data address; 0 for no fault. */
+    uint32_t address; /* The pc, or of a load or a store the data address; 0 for RRS_OK. */
     uint32_t word;    /* The word of RRS_ILLEGAL_INSTRUCTION, else 0. */
 } rrs_fault;
 
 /* How a run ended. Where fault.kind and at_stop are 0, it made as many steps as its limit. */
 typedef struct rrs_end {
-    uint64_t steps;   /* How many steps were made. The one that faulted is not counted. */
-    rrs_fault fault;  /* The fault that ended the run, if one did. */
+    uint64_t steps;   /* How many steps were made, without one that raised an exception. */
+    rrs_fault fault;  /* The exception that ended the run, if one did. */
     uint32_t at_stop; /* 1 where the run ended at a stop, else 0. rrs_run always gives 0. */
 } rrs_end;
 
-/* Executes the instruction at the pc, and returns its fault, or kind RRS_OK. */
+/* Executes the instruction at the pc, and returns its exception, or kind RRS_OK. */
 rrs_fault rrs_step(rrs_hart *hart, uint32_t *words, size_t count, uint32_t base);
 
-/* Makes steps until `limit` were made, or one faults. A run of 2,000 steps or more keeps a table of
- * 20 KiB on the stack. */
+/* Makes steps until `limit` were made, or one raises an exception. With a limit of 2,000 or more it
+ * keeps a table of 20 KiB on the stack. */
 rrs_end rrs_run(rrs_hart *hart, uint32_t *words, size_t count, uint32_t base, uint64_t limit);
 
 /* Makes steps until the pc is one of the `stop_count` addresses at `stops`, `limit` were made, or
- * one faults. It ends before the instruction at a stop. The first step is made wherever the pc is,
- * so a run that ended at a stop goes on by the same call. */
+ * one raises an exception. It ends before the instruction at a stop. The first step is made even at
+ * a stop, so the same call goes on from there. */
 rrs_end rrs_run_until(rrs_hart *hart, uint32_t *words, size_t count, uint32_t base, uint64_t limit,
                       const uint32_t *stops, size_t stop_count);
 
 /* What a step retired, in the shape of RVFI, the RISC-V Formal Interface (NRET 1, ILEN and XLEN
- * 32). A step that faulted has a record too, with trap 1. The interface's halt, intr, mode and ixl
- * are the same in each step of this machine: 0, 0, 3 and 1. docs/C.md says what else differs. */
+ * 32). A step that raised an exception has a record too, with trap 1. The interface's halt, intr,
+ * mode and ixl are the same in each step of this machine: 0, 0, 3 and 1. docs/C.md says what else
+ * differs. */
 typedef struct rrs_retired {
     uint64_t order;     /* The number that the caller gave. */
     uint32_t insn;      /* The word at the pc, or 0 where none was fetched. */
     uint32_t fetched;   /* 1 where a word was fetched, else 0. */
-    uint32_t trap;      /* 1 where the step faulted, else 0. */
+    uint32_t trap;      /* 1 where the step raised an exception, else 0. */
     uint32_t pc_rdata;  /* The pc before. */
     uint32_t pc_wdata;  /* The pc after. */
     uint32_t rs1_addr;  /* The first source register, 0 where the word's format has none. */
@@ -115,8 +117,8 @@ rrs_fault rrs_step_rvfi(rrs_hart *hart, uint32_t *words, size_t count, uint32_t 
 
 /* An instruction. A field that its format does not have is 0. */
 typedef struct rrs_instruction {
-    uint32_t row;   /* The number of its row in the table, 1 (add) to 48 (ebreak), or 0 for a word
-                     * outside the table. */
+    uint32_t row;   /* The number of its row in the table, 1 (add) to 48 (ebreak), or 0 for an
+                     * illegal instruction. */
     uint32_t rd;    /* The register that is written, by the format. */
     uint32_t rs1;   /* The first register that is read. */
     uint32_t rs2;   /* The second register that is read. */
@@ -134,12 +136,12 @@ rrs_instruction rrs_decode(uint32_t word);
 /* Writes the text of the instruction that a word is at the address `pc`, and a 0 after it, as
  * "addi x1, x2, -3", where the `size` bytes at `text` have room for both, and else nothing. Returns
  * the length of the text without the 0, whether it had room or not: at most RRS_TEXT_SIZE - 1, and
- * 0 for a word outside the table. What follows the 0 in the buffer is left as it was. */
+ * 0 for an illegal instruction. What follows the 0 in the buffer is left as it was. */
 size_t rrs_disassemble(uint32_t word, uint32_t pc, char *text, size_t size);
 
 /* Memory and devices that the caller keeps, in place of words: C reads the word at the pc, asks
  * which access its instruction makes, makes it, and completes the step with what came of it. No
- * call back is made. A word that C can't read is a fetch fault, which C tells itself. */
+ * function is called back. A word that C can't fetch is RRS_FETCH_FAULT, which C reports itself. */
 enum rrs_access_kind {
     RRS_NO_ACCESS = 0,
     RRS_LOAD = 1,
@@ -147,7 +149,7 @@ enum rrs_access_kind {
 };
 
 typedef struct rrs_access {
-    rrs_fault fault;  /* The fault before any access, or RRS_OK. rrs_complete gives the same. */
+    rrs_fault fault;  /* The exception before any access, or RRS_OK. rrs_complete gives the same. */
     uint32_t kind;    /* One of enum rrs_access_kind. */
     uint32_t address; /* The address of the first byte, a multiple of the size. */
     uint32_t size;    /* 1, 2 or 4 bytes, and 0 where there is no access. */
@@ -157,8 +159,9 @@ typedef struct rrs_access {
 /* The access that `word` makes, which is the word at the pc. Nothing changes. */
 rrs_access rrs_request(const rrs_hart *hart, uint32_t word);
 
-/* Executes `word`, the word at the pc, and returns its fault, or kind RRS_OK. `granted` is 0 where
- * the access is refused, which is a load or a store fault, and any other number where it was made.
+/* Executes `word`, the word at the pc, and returns its exception, or kind RRS_OK. `granted` is 0
+ * where the access is refused, which is RRS_LOAD_FAULT or RRS_STORE_FAULT, and any other number
+ * where it was made.
  * `value` is what a load read, lowest byte first: its `size` low bytes count, and they are extended
  * here. Of a store, and where there is no access, `value` is not looked at; where there is none
  * `granted` isn't either. */

@@ -12,7 +12,7 @@ use rrs_lib::instruction::Instruction;
 #[repr(C)]
 #[derive(Clone, Copy)]
 pub struct RrsInstruction {
-    /// The number of the row, or 0 for a word outside the table.
+    /// The number of the row, or 0 for an illegal instruction.
     pub row: u32,
     /// The destination register.
     pub rd: u32,
@@ -26,7 +26,7 @@ pub struct RrsInstruction {
     pub imm: i32,
 }
 
-/// What a word outside the table is.
+/// What an illegal instruction is.
 #[inline]
 pub(crate) fn nothing() -> RrsInstruction
     ensures { result ≡ no_instruction }

@@ -1,9 +1,9 @@
 //! The kit for C: functions over a hart and words of memory that the caller owns.
 //!
-//! `include/rrs.h` declares them as a C programmer reads them, and `docs/C.md` says how to take
-//! them. Each function is total: it asks nothing but that its pointers are to values that the
-//! caller owns and that do not overlap. None allocates, keeps anything between two calls, or calls
-//! back.
+//! `include/rrs.h` declares them for C, and `docs/C.md` says how to build and call them. Each
+//! function is total. It requires of its pointers that they are aligned, that each points to a
+//! value of the caller, and that no two of these overlap. None allocates, keeps anything between
+//! two calls, or calls back.
 //!
 //! The contracts are those of the kit's own calls, over `state_in_c`: the hart, and the words from
 //! the base on, all writable.
@@ -148,8 +148,8 @@ pub extern "C" fn rrs_step_rvfi(
     fault_of_answer(end.answer)
 }
 
-/// The instruction that a word is: the number of its row and its fields, and row 0 for a word
-/// outside the table.
+/// The instruction that a word is: the number of its row and its fields, and row 0 for an illegal
+/// instruction.
 #[unsafe(no_mangle)]
 pub extern "C" fn rrs_decode(word: u32) -> RrsInstruction
     ensures listed { (row : Row) (f : Fields) → Decodes word row f → Lists row f result }
@@ -163,7 +163,7 @@ pub extern "C" fn rrs_decode(word: u32) -> RrsInstruction
 
 /// Writes the text of the instruction that a word is at an address, and a 0 after it, where the
 /// buffer has room for both. Returns the length of the text without the 0, at most 25, whether it
-/// had room or not, and 0 for a word outside the table.
+/// had room or not, and 0 for an illegal instruction.
 #[unsafe(no_mangle)]
 pub extern "C" fn rrs_disassemble(word: u32, pc: u32, buffer: &mut [u8]) -> usize
     ensures { Disassembles word pc buffer.old buffer.new result }

@@ -1,7 +1,7 @@
--- The status that rrs ends with. rrs exec has the program's own; or one that no program gives by
--- accident, as the commands timeout and env give them (124 at the limit, 125 where it could not be
--- run), and as a shell gives it for a program that was killed by a signal (128 and the signal's
--- number, which is that of signal(7) for the fault).
+-- The status that rrs ends with. rrs exec ends with the status of the program. Otherwise it ends as
+-- the commands timeout and env do (124 at the limit, 125 where the program could not be run), or,
+-- after an exception, as a shell reports a program that a signal killed (128 and the number of the
+-- signal, as in signal(7)). A program may also end with one of these statuses itself.
 use Rattle.std.specs.Prelude.{ℕ, ◌+◌, ◌%◌, Result, Ok, Err}
 use Rattle.rrs_lib.specs.declared.instruction_executor.InstructionException.{InstructionException}
 use Rattle.rrs_lib.specs.declared.instruction_executor.InstructionException.TheVariants.{IllegalInstruction, FetchError, LoadAccessFault, StoreAccessFault, AlignmentFault, EnvironmentCall, Breakpoint}

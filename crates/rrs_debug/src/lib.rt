@@ -5,8 +5,8 @@
 //! [TracedMemory] is the memory under both, which keeps the latest access that is no fetch.
 //! [run_until] makes steps until the pc is one of some addresses. [request] and [complete] execute
 //! an instruction whose load or store the caller makes, outside of the machine, and
-//! [complete_load] and [complete_store] the one at which a run faulted. A [Snapshot] keeps the state
-//! of a hart.
+//! [complete_load] and [complete_store] the one at which a run ended with an access fault. A
+//! [Snapshot] keeps the state of a hart.
 //!
 //! What a step retires is written in `specs/Retired.antt`, what a run that stops is in
 //! `specs/Stops.antt`, and what is asked and completed in `specs/Outside.antt`.

@@ -21,7 +21,7 @@ pub fn decode_of_encode(instruction: &Instruction) -> Option<Option<Instruction>
 
 /// What the instruction of a word is encoded to.
 ///
-/// The answer is `None` exactly where the word is outside the table. Else it is `Some` of what
+/// The answer is `None` exactly for an illegal instruction. Otherwise it is `Some` of what
 /// `encode` returned for its instruction, and that is the word again.
 pub fn encode_of_decode(word: u32) -> Option<Option<u32>>
     ensures same { IfSome result (λ again. again ≡ Some word) }

@@ -4,7 +4,7 @@
 //! [instruction_named] and [with_operands] make the instruction of a row from its name and its
 //! operands. [laws] has encoding and decoding, the one after the other.
 //!
-//! Who only decodes and executes needs none of it, so it stands above the decoder.
+//! Decoding and executing need none of it, so this crate is above the decoder.
 
 #![tactic(auto)]
 

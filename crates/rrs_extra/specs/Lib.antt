@@ -7,7 +7,7 @@ pub use Rattle.rrs_lib.specs.Machine
 pub use Rattle.rrs_lib.specs.Steps
 pub use Rattle.rrs_lib.specs.Executor
 pub use Rattle.rrs_lib.specs.Accesses
--- Processors: a row's number, and counts of rows.
+-- A processor: the number of a row.
 pub mod Numbering
 -- A memory of pages.
 pub mod Pages

@@ -34,7 +34,7 @@ pub record HoldsWords (bytes : ByteMap) (a : ℕ) (words : List ℕ) : Type 0 wh
   pub each : (i : ℕ) → i < length words
       → little_endian bytes (a + 4 * i) 4 ≡ Some (slice_index words i)
 
--- a word outside the table stands at a: a step there faults
+-- an illegal instruction is at a: a step there raises the exception
 pub record HoldsIllegal (bytes : ByteMap) (a : ℕ) : Type 0 where
   pub mapped : IsMapped bytes a 4
   pub outside : IsIllegal (word_at bytes a)
@@ -45,7 +45,7 @@ pub record HoldsIllegal (bytes : ByteMap) (a : ℕ) : Type 0 where
 abbrev pub HasWords : State → Type 0
 HasWords s = (reg s 1 < 2 ^ 32) × (reg s 10 < 2 ^ 32) × (reg s 11 < 2 ^ 32)
 
--- The program stands from the program counter on, and a word outside the table where it returns to.
+-- The program is at the program counter, and an illegal instruction where it returns to.
 pub record IsCalled (program : List ℕ) (s : State) : Type 0 where
   pub program_there : HoldsWords s.bytes s.pc program
   pub aligned : s.pc % 4 ≡ 0
@@ -71,7 +71,7 @@ sum_loop_program =
     ∷ 0xfedff06f  -- jal x0, 20 bytes back
     ∷ []
 
--- The program is at 0, and a word outside the table behind it; x10 has the address of as many
+-- The program is at 0, and an illegal instruction behind it; x10 has the address of as many
 -- words as x11 says.
 pub record SumLoopStarts (s : State) : Type 0 where
   pub pc : s.pc ≡ 0

@@ -15,8 +15,8 @@ use crate::{InstructionHandler, InstructionProcessor};
 
 /// The instruction that a word is, or `None` where it is none of the table.
 ///
-/// A word whose funct3 or funct7 is not the row's is outside the table. `ecall` and `ebreak` are
-/// one word each.
+/// A word whose funct3 or funct7 is not the row's is an illegal instruction. `ecall` and `ebreak`
+/// are one word each.
 ///
 /// The clauses: at `Some` the word is that instruction (`decoded`), and at `None` it is no row
 /// (`outside`); whichever row and fields the word is known to be, they are those of the instruction
@@ -62,7 +62,7 @@ impl InstructionHandler for Decoder {
 /// The rows of the table are RV32I and the M extension; of the SYSTEM instructions, `ecall` and
 /// `ebreak` alone. A word that is a row's is passed, as the decoded fields, to that row's
 /// function, which is called once, and the result is `Some` of what it returns. A word is one row's
-/// at most. The result is `None` exactly for the words outside the table, and the processor is then
+/// at most. The result is `None` exactly for illegal instructions, and the processor is then
 /// unchanged.
 ///
 /// The clauses: at `Some` the word is some row with some fields, and the processor did that
@@ -70,8 +70,8 @@ impl InstructionHandler for Decoder {
 /// the word is no row (`outside`) and the processor is what it was (`unchanged`); no word is two
 /// rows or has two tuples of fields (`unique`).
 ///
-/// A word whose funct3 or funct7 is not the row's is outside the table. `ecall` and `ebreak` are
-/// one word each.
+/// A word whose funct3 or funct7 is not the row's is an illegal instruction. `ecall` and `ebreak`
+/// are one word each.
 ///
 /// # Examples
 ///

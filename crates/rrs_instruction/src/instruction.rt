@@ -177,7 +177,7 @@ const NAMES: [(&str, &str); ROW_COUNT] = [
 
 /// The fields of an instruction, whatever its row: one variant for each format.
 ///
-/// Who does the same with all rows of a format matches on this, and needs no line for each row.
+/// Code that treats all rows of a format alike matches on this, and needs no line for each row.
 #[derive(PartialEq, Clone, Copy)]
 pub enum InstructionFields {
     /// Of an operation on two registers.

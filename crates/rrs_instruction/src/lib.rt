@@ -3,7 +3,8 @@
 //! `process_instruction` decodes a word and calls a function of an [InstructionProcessor], which an
 //! [InstructionHandler] is in one function; `instruction` has the instructions as values,
 //! `instruction_formats` their fields, and `arithmetic` their results on words. `rrs_lib` passes on
-//! all but the results, and a user names `rrs_lib` alone.
+//! all but the results. A crate that cites `ROW_COUNT` in a clause, or calls `arithmetic`, lists
+//! `rrs_instruction` as well.
 //!
 //! What the rows of the table are, which words they are and what their results are is written in
 //! `specs/`, in the terms of the RISC-V unprivileged specification. The contracts of the calls cite
@@ -30,7 +31,7 @@ pub use decode::process_instruction;
 /// fields, whose register numbers are below 32; immediates, shift amounts, funct3 and funct7 may be
 /// anything. An implementation says what it does by its relation `did`, and each function meets it.
 ///
-/// Who has an [InstructionHandler], a processor in one function, has these too.
+/// Every [InstructionHandler], a processor in one function, implements this too.
 pub trait InstructionProcessor {
     /// What each function returns.
     type InstructionResult;

@@ -2,10 +2,10 @@
 //! to end.
 //!
 //! [Process] is an [Environment] of `run_served`, over three streams that are the program's
-//! standard input, output and error. What each call does is written in `specs/SystemCalls.antt`, by what the
-//! streams do with the bytes of a buffer ([Input], [Output]). No call allocates. The streams of
-//! [Linux] are a reader and two writers of the host (`specs/Transfers.antt`); those of [Recorder]
-//! are bytes in the host's memory (`specs/Recording.antt`).
+//! standard input, output and error. What each call does is written in `specs/SystemCalls.antt`, by
+//! what the streams do with the bytes of a buffer ([Input], [Output]). No call allocates. The
+//! streams of [Linux] are a reader and two writers of the host (`specs/Transfers.antt`); those of
+//! [Recorder] are bytes in the host's memory (`specs/Recording.antt`).
 
 #![tactic(auto)]
 

@@ -1,4 +1,4 @@
--- How the texts that are printed piece by piece are the texts of instructions.
+-- The digits of numbers in hexadecimal, as the texts of errors and exceptions have them.
 use Rattle.std.proofs.Common.{◌≡◌, ℕ, ◌-◌, ◌^◌, false, [], length, refl, arith}
 use Rattle.std.proofs.lemmas.List.{append-nil}
 use Rattle.std.specs.Fmt.{digits, padded_integral, char_count, format_spec}

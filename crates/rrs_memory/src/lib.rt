@@ -1,7 +1,7 @@
 //! Memories for a RISC-V instruction set simulator.
 //!
 //! A [Memory] is a map from addresses to bytes, which a simulator reads and writes; `memories` has
-//! memories and a loader. `rrs_lib` passes all of this on, and a user names `rrs_lib` alone.
+//! memories and a loader. `rrs_lib` passes all of this on.
 //!
 //! What a read and a write of any memory do is written in `specs/Bytes.antt`, and what each memory
 //! here keeps in the other modules of `specs/`. The contracts of the calls cite these definitions.
@@ -88,10 +88,10 @@ pub trait Memory {
             self.old self.new addr (width size) store_data result }
         ensures did { writes self.old addr size store_data self.new result };
 
-    /// Whether a read does nothing, by the relation `reads`: so one may be left out. A long run
-    /// over such a memory fetches each word once, until a store changes it.
+    /// Whether a read does nothing, by the relation `reads`: so one may be left out. A run over a
+    /// cache of `rrs_fast` leaves out the fetch of a word that it knows.
     ///
-    /// `false` is always right, and is what an implementation answers that says nothing of it.
+    /// `false` is always right, and is the default.
     fn reads_are_pure(&self) -> bool
         ensures pure { OnTrue result (ReadsArePure bytes reads) }
     {

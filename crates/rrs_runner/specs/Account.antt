@@ -15,7 +15,7 @@ use Rattle.rrs_runner.specs.Texts.{instruction_line, ending_lines}
 -- ---- the lines before the steps
 
 -- What is printed of a word at an address: the line of its text where it is a row, and nothing
--- where it is outside the table.
+-- for an illegal instruction.
 pub data LinesOfWord (pc w : ℕ) (lines : List ℕ) : Type 0 where
   Inside : (row : Row) (f : Fields) (text : List ℕ) → Decodes w row f → text_of row f pc ≡ Some text
       → lines ≡ instruction_line pc text → LinesOfWord pc w lines

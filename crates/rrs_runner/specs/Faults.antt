@@ -1,4 +1,4 @@
--- What is printed of a fault of a run, and what a fault says of the reader and of what is printed.
+-- What is printed of an error of a run, and what an error says of the reader and of the output.
 use Rattle.std.specs.Prelude.{◌≡◌, ◌⊎◌, ℕ, ◌≤◌, List, length, codes, Option, Err}
 use Rattle.std.specs.Io.KnownBytes.{Consumes, Keeps}
 use Rattle.std.specs.declared.io.Error.{Error}
@@ -12,8 +12,8 @@ use Rattle.rrs_lib.specs.VecBytes.{bytes_of_words, lies_in_words}
 use Rattle.rrs_lib.specs.Loading.{Loads}
 use Rattle.rrs_runner.specs.Printed.{AppendsLines, IsBeginning, PrintsOfRun, zero_words}
 
--- the text of a fault: those of a load are the loader's, of which that of a failed read names no
--- error and so is given here again
+-- the text of an error: those of a load are the loader's, but that of a failed read names no error,
+-- and so it is given here again
 abbrev pub fault_text : RunFault → List ℕ
 fault_text OutOfMemory = codes "out of memory"
 fault_text Reader = codes "Could not read byte"
@@ -34,8 +34,8 @@ StopsLoadInto words input rest (Refused a) =
 StopsLoadInto words input rest Output = ⊥
 
 -- What stops a load into 16,384 words, by the reader's bytes before and after it, where these are
--- known: a read failed, at the end of the memory at the latest; or one byte more was read than there
--- are addresses, and the byte for address 65536 was refused.
+-- known. A read failed, at the end of the memory at the latest. Or one byte more was read than
+-- there are addresses, and the byte for address 65536 was refused.
 abbrev pub StopsLoad : Option (List ℕ) → Option (List ℕ) → RunFault → Type 0
 StopsLoad input rest OutOfMemory = ⊥
 StopsLoad input rest Reader = (read : List ℕ) × Consumes input rest read × (length read ≤ 65536)

@@ -11,7 +11,7 @@ use std::alloc::{AllocError, Global};
 
 /// The texts of two words at one address.
 ///
-/// Each of the two answers is `None` exactly where that word is outside the table. Otherwise it is
+/// Each of the two answers is `None` exactly for an illegal instruction. Otherwise it is
 /// `Some` of the text of the word's row with its fields at `insn_pc`, or of the error when out of
 /// memory.
 ///
@@ -48,7 +48,7 @@ pub fn both_texts(
     )
 }
 
-/// The text of a word at an address, or `None` where the word is outside the table.
+/// The text of a word at an address, or `None` for an illegal instruction.
 fn text_at(alloc: Global, insn_pc: u32, word: u32) -> Option<Result<String, AllocError>>
     ensures text { IfSome result (λ answer. IsRowAnd word
         (λ row f. IfOk answer (λ text. text_of row f insn_pc ≡ Some (string_bytes text)))) }
