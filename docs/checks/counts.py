@@ -42,6 +42,7 @@ class Sources:
 
 TABLE = "crates/rrs_instruction/specs/Table.antt"
 HEADER = "crates/rrs_c/include/rrs.h"
+TEXTS = "crates/rrs_lib/src/disassembly.rt"
 TESTS = r"crates/(?:\w+_tests/.*|rrs_examples/.*|\w+/src/tests)\.rt"
 
 
@@ -63,6 +64,26 @@ def files_of_rows(sources):
         form = re.compile(rf"\b({'|'.join(words)})\b")
         found = [file for file in found if form.search(sources.text(file))]
     return found
+
+
+LISTED = re.compile(r"^\| `(crates/[^`]*)` \| (\d+)(, and the import[^|]*)? \|", re.M)
+RESULTS = ("specs/Results.antt", "src/arithmetic.rt")
+
+
+def row_places(sources, with_result):
+    """The places that the table of docs/ADDING.md has for an added row. Those of a new result are
+    its formula, its function, and their import."""
+    places = 0
+    for file, count, imported in LISTED.findall(sources.text("docs/ADDING.md")):
+        if with_result or not file.endswith(RESULTS):
+            places += int(count) + bool(imported and with_result)
+    return places
+
+
+def unlisted_files(sources):
+    """The sources with each row that the table of docs/ADDING.md does not list."""
+    listed = [file for file, _, _ in LISTED.findall(sources.text("docs/ADDING.md"))]
+    return [file for file in files_of_rows(sources) if file not in listed]
 
 
 def constant(sources, name):
@@ -103,9 +124,19 @@ def cache_bytes(sources):
     return 20 * constant(sources, "ENTRIES")
 
 
+def answers(sources):
+    """The stored answers of rrs-replay."""
+    return len(sources.text("crates/rrs_replay/stdout").splitlines())
+
+
 def given_questions(sources):
     """The stored questions whose answers come from elsewhere: those before the empty line."""
     return sources.text("crates/rrs_replay/stdin").split("\n\n")[0].count("\n") + 1
+
+
+def own_answers(sources):
+    """The stored answers that do not come from elsewhere."""
+    return answers(sources) - given_questions(sources)
 
 
 def definition_lines(sources, crate=r"\w+"):
@@ -124,6 +155,12 @@ def edits(sources, crate=r"\w+"):
     return len(sources.named(rf"crates/(?:{crate})/must-fail/.*\.edit"))
 
 
+def bodies_tried_alone(sources):
+    """The wrong bodies that docs/development/wrong-bodies tries."""
+    return sum(sources.matches(name, r"^part: ")
+               for name in sources.named(r"crates/\w+/must-fail/tried-alone\.md"))
+
+
 def tests(sources, crate=r"\w+"):
     return sum(sources.matches(name, r"^\s*#\[test\]")
                for name in sources.named(rf"crates/(?:{crate})/src/.*\.rt"))
@@ -136,12 +173,16 @@ KIT = "rrs_lib|rrs_memory|rrs_instruction"
 COUNTS = {
     "rows": (lambda s: len(row_names(s)), 1),
     "row-files": (row_files, 1),
-    "row-files-with-result": (lambda s: row_files(s) + 2, 1),
+    "row-files-with-result": (lambda s: row_files(s) + len(RESULTS), 1),
+    "row-places": (lambda s: row_places(s, False), 1),
+    "row-places-with-result": (lambda s: row_places(s, True), 1),
+    "name-clauses": (lambda s: s.matches(TEXTS, r"length (name\.now|result\.bytes) ≤ 6\b"), 1),
     "action-kinds": (lambda s: constructors(s, "Action"), 1),
     "exports": (lambda s: s.matches(HEADER, r"^[a-z]\w*[\w ]*[ *]rrs_\w+\("), 1),
     "header-lines": (lambda s: s.lines(re.escape(HEADER)), 1),
-    "answers": (lambda s: len(s.text("crates/rrs_replay/stdout").splitlines()), 1),
+    "answers": (answers, 1),
     "answers-from-elsewhere": (given_questions, 1),
+    "own-answers": (own_answers, 1),
     "screens": (lambda s: s.matches("examples/rrs/screens", r"^\$ rrs"), 1),
     "crates": (lambda s: len(s.crates), 1),
     "libraries": (lambda s: crates_of(s, lambda crate: crate.is_library()), 1),
@@ -149,6 +190,7 @@ COUNTS = {
     "test-crates": (lambda s: crates_of(s, lambda crate: crate.name.endswith("_tests")), 1),
     "edits": (edits, 1),
     "edits:": (edits, 1),
+    "bodies-tried-alone": (bodies_tried_alone, 1),
     "kit-edits": (lambda s: edits(s, KIT), 1),
     "tests": (tests, 1),
     "tests:": (tests, 1),
@@ -203,3 +245,10 @@ def check_counts(page, sources):
                 yield line, f"no number before the marker of `{found[2]}`, which is {count}"
             elif not agrees(number, count, step):
                 yield line, f"`{found[2]}` is {count}, and not {found[1]}"
+
+
+def check_rows(page, sources):
+    """The sources with each row that docs/ADDING.md does not list."""
+    if page.name == "docs/ADDING.md":
+        for file in unlisted_files(sources):
+            yield 1, f"no line of the table lists {file}, which names each row"
