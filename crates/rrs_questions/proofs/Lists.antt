@@ -1,8 +1,7 @@
 -- Lists of entries, read one after another.
-use Rattle.std.proofs.Common.{◌≡◌, ℕ, ◌+◌, ◌<◌, ◌≤◌, List, [], ◌∷◌, ◌++◌, length, drop, replicate, get_or, slice_set, Option, Some, None, true, false, nat_lt, refl, sym, ap, ◌∙◌, append_assoc, append-nil, arith}
+use Rattle.std.proofs.Common.{◌≡◌, ℕ, ◌+◌, ◌<◌, ◌≤◌, List, [], ◌∷◌, ◌++◌, length, drop, get_or, slice_set, Option, Some, None, true, false, nat_lt, refl, sym, ap, ◌∙◌, append_assoc, append-nil, arith}
 use Rattle.std.proofs.lemmas.Bool.Decides.{nat_tests}
-use Rattle.std.specs.Prelude.{codes, option_map}
-use Rattle.std.specs.Str.{bytes_eq}
+use Rattle.std.specs.Prelude.{option_map}
 use Rattle.std.proofs.lemmas.List.{at_drop_more, at_drop_all}
 use Rattle.rrs_questions.specs.Numerals.{word_of}
 use Rattle.rrs_questions.specs.Questions.{entries, entry_of, memory_of, registers_of, registers_with, words_of}
@@ -17,16 +16,9 @@ IsEntry es i x = (i < length es) × (x ≡ get_or es i x)
 abbrev pub words_from : List ℕ → List ℕ → ℕ → Option (List ℕ)
 words_from text memory i = option_map (λ ws. memory ++ ws) (words_of (drop i (entries text)))
 
-put_before_nothing : (o : Option (List ℕ)) → option_map (λ ws. [] ++ ws) o ≡ o
-put_before_nothing None = refl
-put_before_nothing (Some ws) = refl
-
 put_before_both : (xs : List ℕ) (w : ℕ) (o : Option (List ℕ)) → option_map (λ ws. xs ++ ws) (option_map (λ ws. w ∷ ws) o) ≡ option_map (λ ws. (xs ++ w ∷ []) ++ ws) o
 put_before_both xs w None = refl
 put_before_both xs w (Some ws) = ap Some (sym (append_assoc xs (w ∷ []) ws))
-
-pub memory_start : (text memory : List ℕ) → bytes_eq text (codes "-") ≡ false → memory ≡ [] → memory_of text ≡ words_from text memory 0
-memory_start text memory list empty = rw (list, empty) (sym (put_before_nothing (words_of (entries text))))
 
 pub memory_more : (text memory : List ℕ) (i w : ℕ) (x : List ℕ) → IsEntry (entries text) i x → word_of x ≡ Some w → memory_of text ≡ words_from text memory i → memory_of text ≡ words_from text (memory ++ w ∷ []) (i + 1)
 memory_more text memory i w x next is before =
@@ -47,9 +39,6 @@ memory_end text memory i all before =
 -- what the entries from i on make of the registers so far
 abbrev pub registers_from : List ℕ → ℕ → List ℕ → ℕ → Option (List ℕ)
 registers_from text least registers i = registers_with least registers (drop i (entries text))
-
-pub registers_start : (text : List ℕ) → bytes_eq text (codes "-") ≡ false → registers_of text ≡ registers_from text 0 (replicate 32 0) 0
-registers_start text list = rw list refl
 
 pub registers_more : (text : List ℕ) (least : ℕ) (registers : List ℕ) (i r v : ℕ) (x : List ℕ) → IsEntry (entries text) i x → entry_of x ≡ Some (r, v) → least ≤ r → registers_of text ≡ registers_from text least registers i → registers_of text ≡ registers_from text (r + 1) (slice_set registers r v) (i + 1)
 registers_more text least registers i r v x next is order before =

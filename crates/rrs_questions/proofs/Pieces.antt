@@ -4,12 +4,11 @@ use Rattle.std.specs.List.{All, position_or_len, before_first, after_first}
 use Rattle.std.proofs.lemmas.List.Splits.{slice_split_first, slice_split_none, length-slice_split}
 use Rattle.std.proofs.lemmas.List.Sums.{fails_before_first}
 use Rattle.std.proofs.lemmas.Grind.{common_steps}
-use Rattle.rrs_questions.specs.Questions.{Asked, AsksRow, AsksText, words, reads, ends, reads_steps, reads_question, WhereMalformed}
+use Rattle.rrs_questions.specs.Questions.{Asked, words, reads, ends, WhereMalformed}
 use Rattle.rrs_questions.specs.Taking.{words_left, TakesAs, TakesNone}
-use Rattle.rrs_questions.specs.Numerals.{word_of}
 use Rattle.rrs_questions.specs.declared.questions.ParseError.{ParseError}
 use Rattle.rrs_questions.specs.declared.questions.ParseError.TheVariants.{Malformed, OutOfMemory}
-use Rattle.std.specs.Prelude.{IsErr, IsErrAnd, codes, is_some}
+use Rattle.std.specs.Prelude.{IsErr, IsErrAnd, is_some}
 
 -- a text with a space
 pub words_cut : (text before after : List ℕ) → (before ≡ before_first (λ b. b == 32) text) × (after ≡ after_first (λ b. b == 32) text) × (position_or_len (λ b. b == 32) text < length text) → words text ≡ before ∷ words after
@@ -34,17 +33,6 @@ reads_none read follows [] none = refl
 reads_none read follows (w ∷ ws) none =
     let e : read w ≡ None = none w ws refl in
     rw e refl
-
--- ---- questions
-
-pub reads_decode : (follows : Asked → List (List ℕ) → Option Asked) (ws : List (List ℕ)) (w : List ℕ) (rest : List (List ℕ)) → ws ≡ w ∷ rest → w ≡ codes "decode" → reads_question follows ws ≡ reads word_of (λ word. follows (AsksRow word)) rest
-reads_decode follows ws w rest e is = rw (e, is) refl
-
-pub reads_text : (follows : Asked → List (List ℕ) → Option Asked) (ws : List (List ℕ)) (w : List ℕ) (rest : List (List ℕ)) → ws ≡ w ∷ rest → w ≡ codes "text" → reads_question follows ws ≡ reads word_of (λ pc. reads word_of (λ word. follows (AsksText pc word))) rest
-reads_text follows ws w rest e is = rw (e, is) refl
-
-pub reads_steps_question : (follows : Asked → List (List ℕ) → Option Asked) (ws : List (List ℕ)) (w : List ℕ) (rest : List (List ℕ)) → ws ≡ w ∷ rest → w ≡ codes "steps" → reads_question follows ws ≡ reads_steps follows rest
-reads_steps_question follows ws w rest e is = rw (e, is) refl
 
 -- a text has a word at least
 has_word : (ws : List (List ℕ)) (x : Asked) → 0 < length ws → ends x ws ≡ None
