@@ -52,7 +52,8 @@ abbrev pub FailsLiteral : List ℕ → List ℕ → ℕ → Type 0
 FailsLiteral literal = Stops (λ p. p ≡ literal) (Before (λ p. p ≡ literal) IsAny)
 
 -- a piece, a separator, and a text of another set
-pub record Then (Piece : List ℕ → Type 0) (separator : List ℕ) (Texts : List ℕ → Type 0) (t : List ℕ) : Type 0 where
+pub record Then (Piece : List ℕ → Type 0) (separator : List ℕ) (Texts : List ℕ → Type 0)
+    (t : List ℕ) : Type 0 where
   pub front : List ℕ
   pub back : List ℕ
   pub piece : Piece front

@@ -55,7 +55,7 @@ pub fn fields_of(
             }))
         }
         Shape::Jump => {
-            let (rd, imm) = target(text, pc, JUMP_REACH, 2)?;
+            let (rd, imm) = register_and_target(text, pc, JUMP_REACH, 2)?;
             Ok(InstructionFields::J(JType { imm, rd }))
         }
         Shape::JumpTo => jump_to(text, funct3),
@@ -116,7 +116,7 @@ fn shift(text: &[u8], funct3: u32, funct7: u32) -> Result<InstructionFields, Sto
 }
 
 /// A register and a target: `x3, 0x12345100`, of which the last is the base plus the immediate.
-fn target(text: &[u8], base: u32, reach: u32, step: u32) -> Result<(usize, i32), Stop>
+fn register_and_target(text: &[u8], base: u32, reach: u32, step: u32) -> Result<(usize, i32), Stop>
     requires { IsReach reach step }
     ensures { MatchResult result
         (λ read. (read.0 < 2 ^ 5) × IsOffset reach step read.1 × (text.now ≡ register read.0
@@ -133,7 +133,7 @@ fn target(text: &[u8], base: u32, reach: u32, step: u32) -> Result<(usize, i32),
 fn upper(text: &[u8], base: u32) -> Result<InstructionFields, Stop>
     ensures { ReadsOperands Shape.UpperToPc 0 0 base text.now result }
 {
-    let (rd, imm) = target(text, base, UPPER_REACH, 4096)?;
+    let (rd, imm) = register_and_target(text, base, UPPER_REACH, 4096)?;
     Ok(InstructionFields::U(UType { imm, rd }))
 }
 

@@ -10,7 +10,8 @@ returns-in_default t c = no_glyph _ _ _ c.args.count c.args.size c.args.low c.ar
 
 pub has_any-requires-clause-words : goal.has_any-requires-clause-words
 has_any-requires-clause-words t c =
-    let fits = part_fits c.args.count c.args.size c.args.low c.in-Some.digit c.if-count-eq0.false c.requires.size c.requires.words c.in-Some.ensures.0 in
+    let fits = part_fits c.args.count c.args.size c.args.low c.in-Some.digit c.if-count-eq0.false
+    c.requires.size c.requires.words c.in-Some.ensures.0 in
     (fits.0, fits.1)
 
 pub returns-then-not-has_any : goal.returns-then-not-has_any
@@ -19,7 +20,8 @@ returns-then-not-has_any t c =
 
 pub hexadecimal-requires : goal.hexadecimal-requires
 hexadecimal-requires t c =
-    let fits = part_fits c.args.count c.args.size c.args.low c.in-Some.digit c.if-count-eq0.false c.requires.size c.requires.words c.in-Some.ensures.0 in (
+    let fits = part_fits c.args.count c.args.size c.args.low c.in-Some.digit c.if-count-eq0.false
+    c.requires.size c.requires.words c.in-Some.ensures.0 in (
       let some = c.if-count-eq0.false in omega (arith, some),
       (c.requires.targets, (fits.2, (fits.1, c.if-not-has_any.ensures))),
     )
