@@ -3,7 +3,7 @@ use Rattle.std.proofs.Common.{◌≡◌, ℕ, ◌+◌, ◌-◌, ◌≤◌, List,
 use Rattle.std.proofs.lemmas.Option.{none-some, same_Some}
 use Rattle.rrs_lib.specs.declared.MemAccessSize.{MemAccessSize}
 use Rattle.rrs_lib.specs.declared.instruction_executor.InstructionException.{InstructionException}
-use Rattle.rrs_lib.specs.declared.instruction_executor.InstructionException.TheVariants.{EnvironmentCall, IllegalInstruction, FetchError, LoadAccessFault, StoreAccessFault, AlignmentFault, Breakpoint}
+use Rattle.rrs_lib.specs.declared.instruction_executor.InstructionException.TheVariants.{EnvironmentCall}
 use Rattle.rrs_served.specs.declared.Ending.{Ending}
 use Rattle.rrs_served.specs.declared.Ending.TheVariants.{Fault, Exit}
 use Rattle.rrs_lib.specs.Machine.{State}
@@ -18,22 +18,11 @@ use Rattle.rrs_served.specs.Serving.{Relation, resumed, EndsBy, Called, Served, 
 
 pub ends_by_fault : (x : InstructionException) → ((pc : ℕ) → x ≡ EnvironmentCall pc → ⊥) → EndsBy (Some x) (Fault x)
 ends_by_fault (EnvironmentCall pc) other = other pc refl
-ends_by_fault (IllegalInstruction pc w) other = refl
-ends_by_fault (FetchError pc) other = refl
-ends_by_fault (LoadAccessFault a) other = refl
-ends_by_fault (StoreAccessFault a) other = refl
-ends_by_fault (AlignmentFault a) other = refl
-ends_by_fault (Breakpoint pc) other = refl
+ends_by_fault _ other = refl
 
 EndsBy-unique : (x : Option InstructionException) (a b : Ending) → EndsBy x a → EndsBy x b → a ≡ b
-EndsBy-unique None a b p q = p ∙ sym q
 EndsBy-unique (Some (EnvironmentCall pc)) a b p q = absurd p
-EndsBy-unique (Some (IllegalInstruction pc w)) a b p q = p ∙ sym q
-EndsBy-unique (Some (FetchError pc)) a b p q = p ∙ sym q
-EndsBy-unique (Some (LoadAccessFault x)) a b p q = p ∙ sym q
-EndsBy-unique (Some (StoreAccessFault x)) a b p q = p ∙ sym q
-EndsBy-unique (Some (AlignmentFault x)) a b p q = p ∙ sym q
-EndsBy-unique (Some (Breakpoint pc)) a b p q = p ∙ sym q
+EndsBy-unique _ a b p q = p ∙ sym q
 
 -- ---- rounds
 
@@ -130,26 +119,24 @@ module _ {E : Type 0} (serves : Relation E) (determined : IsDetermined serves) w
 
   pub Served-unique : (ending ending' : Ending) (d d' : E) (t t' : State) (limit : ℕ) (e : E) (s : State) (k k' : ℕ) (a a' : List Access)
       → Served serves ending d t limit e s k a → Served serves ending' d' t' limit e s k' a' → (k' ≡ k) × (ending' ≡ ending) × (d' ≡ d) × (t' ≡ t)
-  Served-unique ending ending' d d' t t' limit e s k k' a a' (Last _ _ _ _ _ x run _ ends same) (Last _ _ _ _ _ x' run' _ ends' same') =
-      let one = RunUntil-unique one_row_at_most limit s k' k x' x t' t run' run in
-      (one.0, EndsBy-unique x ending' ending (subst (λ y. EndsBy y ending') one.1 ends') ends, same' ∙ sym same, one.2)
-  Served-unique ending ending' d d' t t' limit e s k k' a a' (Last _ _ _ _ _ x run _ ends same) (Exits _ _ _ _ _ status' c' is') =
-      absurd (last_or_call limit e d' s t t' k k' x ending (Some status') a' run ends c')
-  Served-unique ending ending' d d' t t' limit e s k _ a _ (Last _ _ _ _ _ x run _ ends same) (GoesOn _ _ _ first' later' b' _ p' m' c' rest') =
-      absurd (last_or_call limit e p' s t m' k first' x ending None b' run ends c')
-  Served-unique ending ending' d d' t t' limit e s k k' a a' (Exits _ _ _ _ _ status c is) (Last _ _ _ _ _ x' run' _ ends' same') =
-      absurd (last_or_call limit e d s t' t k' k x' ending' (Some status) a run' ends' c)
-  Served-unique ending ending' d d' t t' limit e s k k' a a' (Exits _ _ _ _ _ status c is) (Exits _ _ _ _ _ status' c' is') =
-      let one = Called-unique limit e d' d s t' t k' k (Some status') (Some status) a' a c' c in
+  Served-unique _ ending' _ _ _ _ limit e s k k' _ _ (Last _ _ _ _ _ x run _ ends same) (Last _ _ _ _ _ x' run' _ ends' same') =
+      let one = RunUntil-unique one_row_at_most limit s k' k x' x _ _ run' run in
+      (one.0, EndsBy-unique x ending' _ (subst (λ y. EndsBy y ending') one.1 ends') ends, same' ∙ sym same, one.2)
+  Served-unique _ _ _ _ _ _ _ _ _ _ _ _ _ (Last _ _ _ _ _ x run _ ends _) (Exits _ _ _ _ _ _ c _) =
+      absurd (last_or_call _ _ _ _ _ _ _ _ x _ _ _ run ends c)
+  Served-unique _ _ _ _ _ _ _ _ _ _ _ _ _ (Last _ _ _ _ _ x run _ ends _) (GoesOn _ _ _ _ _ _ _ _ _ c _) =
+      absurd (last_or_call _ _ _ _ _ _ _ _ x _ _ _ run ends c)
+  Served-unique _ _ _ _ _ _ _ _ _ _ _ _ _ (Exits _ _ _ _ _ _ c _) (Last _ _ _ _ _ x run _ ends _) =
+      absurd (last_or_call _ _ _ _ _ _ _ _ x _ _ _ run ends c)
+  Served-unique _ _ _ _ _ _ _ _ _ _ _ _ _ (GoesOn _ _ _ _ _ _ _ _ _ c _) (Last _ _ _ _ _ x run _ ends _) =
+      absurd (last_or_call _ _ _ _ _ _ _ _ x _ _ _ run ends c)
+  Served-unique _ _ _ _ _ _ _ _ _ _ _ _ _ (Exits _ _ _ _ _ status c is) (Exits _ _ _ _ _ status' c' is') =
+      let one = Called-unique _ _ _ _ _ _ _ _ _ _ _ _ _ c' c in
       (one.0, is' ∙ ap Exit (same_Some _ _ one.1) ∙ sym is, one.2, one.3)
-  Served-unique ending ending' d d' t t' limit e s k _ a _ (Exits _ _ _ _ _ status c is) (GoesOn _ _ _ first' later' b' _ p' m' c' rest') =
-      let one = Called-unique limit e p' d s m' t first' k None (Some status) b' a c' c in
-      absurd (none-some status one.1)
-  Served-unique ending ending' d d' t t' limit e s _ k' _ a' (GoesOn _ _ _ first later b _ p m c rest) (Last _ _ _ _ _ x' run' _ ends' same') =
-      absurd (last_or_call limit e p s t' m k' first x' ending' None b run' ends' c)
-  Served-unique ending ending' d d' t t' limit e s _ k' _ a' (GoesOn _ _ _ first later b _ p m c rest) (Exits _ _ _ _ _ status' c' is') =
-      let one = Called-unique limit e p d' s m t' first k' None (Some status') b a' c c' in
-      absurd (none-some status' one.1)
+  Served-unique _ _ _ _ _ _ _ _ _ _ _ _ _ (Exits _ _ _ _ _ _ c _) (GoesOn _ _ _ _ _ _ _ _ _ c' _) =
+      absurd (none-some _ (Called-unique _ _ _ _ _ _ _ _ _ _ _ _ _ c' c).1)
+  Served-unique _ _ _ _ _ _ _ _ _ _ _ _ _ (GoesOn _ _ _ _ _ _ _ _ _ c _) (Exits _ _ _ _ _ _ c' _) =
+      absurd (none-some _ (Called-unique _ _ _ _ _ _ _ _ _ _ _ _ _ c c').1)
   Served-unique ending ending' d d' t t' limit e s _ _ _ _ (GoesOn _ _ _ first later b bl p m c rest) (GoesOn _ _ _ first' later' b' bl' p' m' c' rest') =
       let one = Called-unique limit e p' p s m' m first' first None None b' b c' c in
       let moved : Served serves ending' d' t' (limit - first) p m later' bl' =
