@@ -14,11 +14,9 @@ returns-then-taken-copied-clause-taken g c =
     let chunk = c.copy_chunk-copied in
     let taken = c.write_once-taken in
     let reading = min c.min-wanted.result (chunk.result + 1) in
-    let written = chunk_written (g.W.Write.contents taken.new.out) chunk.new.chunk chunk.result reading taken.result
-    chunk.new.memory so_far.written so_far.so_far so_far.bytes_kept taken.ensures.within chunk.ensures.stands
-    taken.ensures.appended chunk.ensures.read in
-    let long = chunk_length so_far.text chunk.new.chunk c.chunks.done chunk.result taken.result so_far.so_far
-    taken.ensures.within in
+    let written = chunk_written _ _ _ reading _ _ so_far.written so_far.so_far so_far.bytes_kept taken.ensures.within
+    chunk.ensures.stands taken.ensures.appended chunk.ensures.read in
+    let long = chunk_length so_far.text chunk.new.chunk _ chunk.result _ so_far.so_far taken.ensures.within in
     let fewer : length so_far.text + taken.result < c.chunks.done + reading =
     omega (arith, so_far.so_far, c.if-taken-copied.true, chunk.ensures.within) in
     let within : c.chunks.done + reading ≤ min c.args.count most_bytes =
@@ -33,11 +31,9 @@ returns-then-copied-wanted-clause-taken g c =
     let chunk = c.copy_chunk-copied in
     let taken = c.write_once-taken in
     let reading = min c.min-wanted.result (chunk.result + 1) in
-    let written = chunk_written (g.W.Write.contents taken.new.out) chunk.new.chunk chunk.result reading taken.result
-    chunk.new.memory so_far.written so_far.so_far so_far.bytes_kept taken.ensures.within chunk.ensures.stands
-    taken.ensures.appended chunk.ensures.read in
-    let long = chunk_length so_far.text chunk.new.chunk c.chunks.done chunk.result taken.result so_far.so_far
-    taken.ensures.within in
+    let written = chunk_written _ _ _ reading _ _ so_far.written so_far.so_far so_far.bytes_kept taken.ensures.within
+    chunk.ensures.stands taken.ensures.appended chunk.ensures.read in
+    let long = chunk_length so_far.text chunk.new.chunk _ chunk.result _ so_far.so_far taken.ensures.within in
     let text = so_far.text ++ take taken.result (take chunk.result chunk.new.chunk) in
     let all = copied_all chunk.result chunk.new.chunk taken.result taken.ensures.within c.if-taken-copied.false in
     let fewer : length text < min c.args.count most_bytes =
@@ -57,11 +53,9 @@ chunks-preserved g c =
     let chunk = c.copy_chunk-copied in
     let taken = c.write_once-taken in
     let reading = min c.min-wanted.result (chunk.result + 1) in
-    let written = chunk_written (g.W.Write.contents taken.new.out) chunk.new.chunk chunk.result reading taken.result
-    chunk.new.memory so_far.written so_far.so_far so_far.bytes_kept taken.ensures.within chunk.ensures.stands
-    taken.ensures.appended chunk.ensures.read in
-    let long = chunk_length so_far.text chunk.new.chunk c.chunks.done chunk.result taken.result so_far.so_far
-    taken.ensures.within in
+    let written = chunk_written _ _ _ reading _ _ so_far.written so_far.so_far so_far.bytes_kept taken.ensures.within
+    chunk.ensures.stands taken.ensures.appended chunk.ensures.read in
+    let long = chunk_length so_far.text chunk.new.chunk _ chunk.result _ so_far.so_far taken.ensures.within in
     let all = copied_all chunk.result chunk.new.chunk taken.result taken.ensures.within c.if-taken-copied.false in
     let read : reading ≡ taken.result = omega (arith, all, chunk.ensures.within, c.if-copied-wanted.false) in
     record {
