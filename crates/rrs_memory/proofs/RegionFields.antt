@@ -75,10 +75,6 @@ module _ {M : Type 0} where
   IsSpace-after_push fields new old y view space word apart e =
       rw (e, map_push) (IsSpace-push (map region_of fields) (region_of y) space word (rw (← view) at apart))
 
-  -- the two lists are of one length
-  pub shown_length : (fields shown : List (MemoryRegion M)) (old : List (Region M)) → map region_of fields ≡ old → shown ≡ fields → length old ≡ length shown
-  shown_length fields shown old view same = ap length (sym view) ∙ length-map fields region_of ∙ ap length (sym same)
-
   -- an answer that is told of the regions of the code is told of those that the contract sees
   pub any_overlaps : (fields : List (MemoryRegion M)) (old : List (Region M)) (base size : ℕ) (answer : Bool) → map region_of fields ≡ old → MatchBool answer ((k : ℕ) × (k < length fields) × HoldsAt (λ x. Overlaps base size (region_of x)) fields k) (AllWithin (λ x. Overlaps base size (region_of x) → ⊥) fields 0 (length fields)) → IsTrue answer ↔ Any (Overlaps base size) old
   any_overlaps fields old base size true view found =

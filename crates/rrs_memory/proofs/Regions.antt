@@ -8,7 +8,7 @@ use Rattle.std.proofs.lemmas.Bool.Decides.{nat_tests}
 use Rattle.std.proofs.lemmas.Option.{none-some, same_Some, get_or_from_slice_get, slice_get_within}
 use Rattle.std.proofs.lemmas.List.Quantifiers.{all_pairs_push}
 use Rattle.std.proofs.lemmas.List.Elements.{All-push}
-use Rattle.std.proofs.lemmas.List.{get_or_default}
+use Rattle.std.proofs.lemmas.List.{get_or_default, length-map}
 use Rattle.rrs_memory.specs.declared.MemAccessSize.{MemAccessSize}
 use Rattle.rrs_memory.specs.declared.MemAccessSize.TheVariants.{Byte}
 use Rattle.rrs_memory.specs.Bytes.{ByteMap, width, store, IsLawful, EndsAtLastAddress, Reads, Writes}
@@ -82,24 +82,21 @@ module _ {M : Type 0} where
 
   -- ---- what the list says of an address
 
-  -- no region serves an address from 2 ^ 32 on
-  unserved_from_end : {T : Type 0} (says : M → ℕ → T) (default : T) (regions : List (Region M)) (a : ℕ) → 2 ^ 32 ≤ a → served_by says default regions a ≡ default
-  unserved_from_end says default [] a past = refl
-  unserved_from_end says default (r ∷ regions) a past =
-      let miss : serves r a ≡ false = grind (arith, nat_tests) in
-      rw miss (unserved_from_end says default regions a past)
-
-  -- a space ends at 2 ^ 32
-  pub space_ends : (bytes : M → ByteMap) (writable : M → ℕ → Bool) (regions : List (Region M)) → EndsAtLastAddress (space_bytes bytes regions) (space_writable writable regions)
-  space_ends bytes writable regions a past =
-      (unserved_from_end bytes None regions a past, unserved_from_end writable false regions a past)
-
   -- where no region serves an address, the list says the default
   pub served_nowhere : {T : Type 0} (says : M → ℕ → T) (default : T) (regions : List (Region M)) (a : ℕ) → All (λ r. serves r a ≡ false) regions → served_by says default regions a ≡ default
   served_nowhere says default [] a h = refl
   served_nowhere says default (r ∷ regions) a h =
       let miss : serves r a ≡ false = h 0 r (omega arith) in
       rw miss (served_nowhere says default regions a (λ k d below. h (suc k) d (omega arith)))
+
+  -- a space ends at 2 ^ 32
+  pub space_ends : (bytes : M → ByteMap) (writable : M → ℕ → Bool) (regions : List (Region M)) → EndsAtLastAddress (space_bytes bytes regions) (space_writable writable regions)
+  space_ends bytes writable regions a past =
+      let miss : All (λ r. serves r a ≡ false) regions = λ k d within. past_end (get_or regions k d) in
+      (served_nowhere bytes None regions a miss, served_nowhere writable false regions a miss)
+    where
+      past_end : (r : Region M) → serves r a ≡ false
+      past_end r = grind (arith, nat_tests)
 
   -- of apart regions, the one that serves an address is the one that the list asks
   pub served_at : {T : Type 0} (says : M → ℕ → T) (default : T) (regions : List (Region M)) (a i : ℕ) (r : Region M) → slice_get regions i ≡ Some r → serves r a ≡ true → AllPairs (λ r s. Overlaps s.base s.size r → ⊥) regions → served_by says default regions a ≡ says r.memory (a - r.base)
@@ -129,17 +126,16 @@ module _ {M : Type 0} where
 
   -- ---- a memory replaced
 
-  -- the list keeps its length
-  pub length-with_memory : (regions : List (Region M)) (i : ℕ) (m : M) → length (with_memory regions i m) ≡ length regions
-  length-with_memory [] i m = refl
-  length-with_memory (r ∷ regions) zero m = refl
-  length-with_memory (r ∷ regions) (suc i) m = ap (λ n. suc n) (length-with_memory regions i m)
-
   -- all bounds stay
   pub bounds-with_memory : (regions : List (Region M)) (i : ℕ) (m : M) → map bounds (with_memory regions i m) ≡ map bounds regions
   bounds-with_memory [] i m = refl
   bounds-with_memory (r ∷ regions) zero m = refl
   bounds-with_memory (r ∷ regions) (suc i) m = ap (λ xs. (r.base, r.size) ∷ xs) (bounds-with_memory regions i m)
+
+  -- the list keeps its length
+  pub length-with_memory : (regions : List (Region M)) (i : ℕ) (m : M) → length (with_memory regions i m) ≡ length regions
+  length-with_memory regions i m =
+      omega (arith, length-map (with_memory regions i m) bounds, length-map regions bounds, ap length (bounds-with_memory regions i m))
 
   -- the same at each index
   bounds_at : (regions : List (Region M)) (i k : ℕ) (m : M) (d : Region M) → bounds (get_or (with_memory regions i m) k d) ≡ bounds (get_or regions k d)
@@ -147,42 +143,27 @@ module _ {M : Type 0} where
       sym (get_or-map bounds (with_memory regions i m) k d)
       ∙ ap (λ xs. get_or xs k (bounds d)) (bounds-with_memory regions i m) ∙ get_or-map bounds regions k d
 
-  -- a region of the same bounds is of whole words too
-  word_by_bounds : (r s : Region M) → bounds r ≡ bounds s → IsWordRegion s → IsWordRegion r
-  word_by_bounds r s e word =
-      let base : r.base ≡ s.base = ap (λ p. p.0) e in
-      let size : r.size ≡ s.size = ap (λ p. p.1) e in
-      record {
-        aligned = (rw base word.aligned.0, rw size word.aligned.1);
-        base_fits = rw base word.base_fits;
-        size_fits = rw size word.size_fits;
-      }
-
-  -- regions of the same bounds are apart too
-  apart_by_bounds : (r r' s s' : Region M) → bounds r ≡ bounds r' → bounds s ≡ bounds s' → (Overlaps s'.base s'.size r' → ⊥) → Overlaps s.base s.size r → ⊥
-  apart_by_bounds r r' s s' e f apart both =
-      let base_r : r.base ≡ r'.base = ap (λ p. p.0) e in
-      let size_r : r.size ≡ r'.size = ap (λ p. p.1) e in
-      let base_s : s.base ≡ s'.base = ap (λ p. p.0) f in
-      let size_s : s.size ≡ s'.size = ap (λ p. p.1) f in
-      apart (omega (arith, both.0), omega (arith, both.1))
-
   -- it stays an address space
   pub IsSpace-with_memory : (regions : List (Region M)) (i : ℕ) (m : M) → IsSpace regions → IsSpace (with_memory regions i m)
-  IsSpace-with_memory regions i m space =
-      let long : length (with_memory regions i m) ≡ length regions = length-with_memory regions i m in
-      record {
-        words = λ k d below. word_by_bounds (get_or (with_memory regions i m) k d) (get_or regions k d) (bounds_at regions i k m d) (space.words k d (omega arith));
-        apart = λ j k d first below.
-            apart_by_bounds
-            (get_or (with_memory regions i m) j d)
-            (get_or regions j d)
-            (get_or (with_memory regions i m) k d)
-            (get_or regions k d)
-            (bounds_at regions i j m d)
-            (bounds_at regions i k m d)
-            (space.apart j k d first (omega arith));
-      }
+  IsSpace-with_memory regions i m space = record {
+    words = λ k d below.
+        let word = space.words k d (omega (arith, length-with_memory regions i m)) in
+        record {
+          aligned = (rw (base k d) word.aligned.0, rw (size k d) word.aligned.1);
+          base_fits = rw (base k d) word.base_fits;
+          size_fits = rw (size k d) word.size_fits;
+        };
+    apart = λ j k d first below both. space.apart j k d first (omega (arith, length-with_memory regions i m)) (
+      omega (arith, base j d, base k d, size k d, both.0),
+      omega (arith, base j d, size j d, base k d, both.1),
+    );
+  }
+    where
+      base : (k : ℕ) (d : Region M) → (get_or (with_memory regions i m) k d).base ≡ (get_or regions k d).base
+      base k d = ap (λ p. p.0) (bounds_at regions i k m d)
+
+      size : (k : ℕ) (d : Region M) → (get_or (with_memory regions i m) k d).size ≡ (get_or regions k d).size
+      size k d = ap (λ p. p.1) (bounds_at regions i k m d)
 
   -- the region stands where it stood, with the other memory
   pub stands-with_memory : (regions : List (Region M)) (i : ℕ) (r : Region M) (m : M) → slice_get regions i ≡ Some r → slice_get (with_memory regions i m) i ≡ Some (record r { memory = m })
@@ -248,18 +229,17 @@ module _ {M : Type 0} where
 
   -- ---- a region appended
 
-  -- a list of regions with one more, which overlaps none of them, is an address space
-  pub IsSpace-push : (regions : List (Region M)) (r : Region M) → IsSpace regions → IsWordRegion r → (Any (Overlaps r.base r.size) regions → ⊥) → IsSpace (regions ++ r ∷ [])
-  IsSpace-push regions r space word apart = record {
-    words = All-push IsWordRegion regions r space.words word;
-    apart = all_pairs_push (λ r s. Overlaps s.base s.size r → ⊥) regions r space.apart (λ k d within both.
-        apart (k, get_or regions k d, within, get_or_default regions k _ d within, both));
-  }
-
   -- where no region overlaps, each is apart
   pub all_apart : (regions : List (Region M)) (base size : ℕ) → (Any (Overlaps base size) regions → ⊥) → All (λ r. Overlaps base size r → ⊥) regions
   all_apart regions base size none k d within both =
       none (k, get_or regions k d, within, get_or_default regions k _ d within, both)
+
+  -- a list of regions with one more, which overlaps none of them, is an address space
+  pub IsSpace-push : (regions : List (Region M)) (r : Region M) → IsSpace regions → IsWordRegion r → (Any (Overlaps r.base r.size) regions → ⊥) → IsSpace (regions ++ r ∷ [])
+  IsSpace-push regions r space word apart = record {
+    words = All-push IsWordRegion regions r space.words word;
+    apart = all_pairs_push (λ r s. Overlaps s.base s.size r → ⊥) regions r space.apart (all_apart regions r.base r.size apart);
+  }
 
 -- ---- an aligned access to a space
 

@@ -11,7 +11,7 @@ use Rattle.rrs_memory.specs.declared.memories.space.MemoryRegion.{MemoryRegion}
 use Rattle.rrs_memory.specs.SpaceFields.{region_of, with_inner, base_at, size_at, IsSearchOrder}
 use Rattle.rrs_memory.specs.Spaces.{Region, Space, serves, bounds, Overlaps, HasAddresses, IsSpace, IsServedAt, CountsCompared, digits_after, binary_digits}
 use Rattle.rrs_memory.proofs.Regions.{true_serves, false_serves, bounds-with_memory, IsSpace-with_memory}
-use Rattle.rrs_memory.proofs.RegionFields.{set_is_with_memory, with_memory_of, stands_of, shown_length}
+use Rattle.rrs_memory.proofs.RegionFields.{set_is_with_memory, with_memory_of, stands_of}
 
 -- ---- digits
 
@@ -260,11 +260,6 @@ module _ {M : Type 0} where
       let stands = stands_of fields (map region_of fields) index x refl (omega (arith, inside, length-map fields region_of)) read in
       record { region = region_of x; stands = stands.1; serves_it = true_serves (region_of x) a from before fits }
 
-  -- the same of the region of a place in the order
-  pub field_found : (fields : List (MemoryRegion M)) (order : List ℕ) (middle index a : ℕ) (x : MemoryRegion M) → IsSearchOrder (map bounds (map region_of fields)) order → middle < length order → index ≡ get_or order middle 0 → x ≡ get_or fields index x → x.base ≤ a → a < x.base + x.size → a < 2 ^ 32 → IsServedAt (map region_of fields) a index
-  field_found fields order middle index a x sorted within at read from before fits =
-      field_at fields index a x (rw at (order_within fields order middle sorted within)) read from before fits
-
   -- a region of the code that begins in time and does not contain the address has ended
   pub field_ended : (fields : List (MemoryRegion M)) (order : List ℕ) (middle index a : ℕ) (x : MemoryRegion M) → IsSearchOrder (map bounds (map region_of fields)) order → middle < length order → index ≡ get_or order middle 0 → x ≡ get_or fields index x → x.base ≤ a → ((x.base ≤ a) × (a < x.base + x.size) → ⊥) → base_at (map bounds (map region_of fields)) (get_or order middle 0) + size_at (map bounds (map region_of fields)) (get_or order middle 0) ≤ a
   field_ended fields order middle index a x sorted within at read from outside =
@@ -321,7 +316,7 @@ module _ {M : Type 0} where
   -- what a search compared is added
   pub counts_search : (old new : Space M) (fields : List (MemoryRegion M)) (order : List ℕ) (counted compared : ℕ) → map region_of fields ≡ old.regions → IsSearchOrder (map bounds (map region_of fields)) order → counted ≡ old.looked_at → new.looked_at ≡ min (counted + compared) (2 ^ 64 - 1) → compared ≤ binary_digits (length fields) + 1 → (0 < length order → 0 < compared) → CountsCompared old new
   counts_search old new fields order counted compared view sorted before after few some =
-      let long : length old.regions ≡ length fields = shown_length fields fields old.regions view refl in
+      let long : length old.regions ≡ length fields = omega (arith, ap length view, length-map fields region_of) in
       let seen : IsSearchOrder (map bounds old.regions) order = rw (← view) sorted in
       record {
         compared = compared;

@@ -14,12 +14,9 @@ use Rattle.rrs_memory.proofs.Regions.{aligned_below, width_pos}
 is_from_true : (base a : ℕ) → word_start base ≤ a → a < 2 ^ 32 → is_from base a ≡ true
 is_from_true base a from low = grind (arith, nat_tests)
 
--- below it, and from the end of all addresses on
+-- below it
 is_from_below : (base a : ℕ) → a < word_start base → is_from base a ≡ false
 is_from_below base a below = grind (arith, nat_tests)
-
-is_from_end : (base a : ℕ) → 2 ^ 32 ≤ a → is_from base a ≡ false
-is_from_end base a past = grind (arith, nat_tests)
 
 module _ (base a : ℕ) (size : MemAccessSize) (aligned : a % width size ≡ 0) (low : a < 2 ^ 32) where
   -- the bytes of an access from the base on
@@ -68,25 +65,12 @@ module _ (base a : ℕ) (size : MemAccessSize) (aligned : a % width size ≡ 0) 
 -- the bytes are lawful everywhere, since all of them are
 pub lawful_from : (base : ℕ) (words : List ℕ) (a n : ℕ) → IsLawful (bytes_from base words) (lies_from base words) a n
 lawful_from base words a n = record {
-  values = λ i byte below e. byte_below (is_from base (a + i)) (lies_in_words words (a + i - word_start base)) _ byte e;
-  mapped = λ i below t. is_mapped (is_from base (a + i)) (lies_in_words words (a + i - word_start base)) _ t;
+  values = λ i byte below e. grind (arith, nat_tests);
+  mapped = λ i below t. grind (arith, nat_tests);
 }
-  where
-    byte_below : (first second : Bool) (x byte : ℕ) → (if first then (if second then Some (x % 256) else None) else None) ≡ Some byte → byte < 256
-    byte_below true true x byte e = omega (arith, same_Some _ _ e)
-    byte_below true false x byte e = absurd (none-some _ e)
-    byte_below false second x byte e = absurd (none-some _ e)
-
-    is_mapped : (first second : Bool) (x : ℕ) → IsTrue (if first then second else false) → IsSome (if first then (if second then Some x else None) else None)
-    is_mapped true true x t = refl
-    is_mapped true false x t = t
-    is_mapped false second x t = t
 
 pub ends_from : (base : ℕ) (words : List ℕ) → EndsAtLastAddress (bytes_from base words) (lies_from base words)
-ends_from base words a past = (
-  cond-false (is_from base a) (bytes_of_words words (a - word_start base)) None (is_from_end base a past),
-  cond-false (is_from base a) (lies_in_words words (a - word_start base)) false (is_from_end base a past),
-)
+ends_from base words a past = (grind (arith, nat_tests), grind (arith, nat_tests))
 
 -- as many words lie at the same addresses
 pub lies_same : (base : ℕ) (words words' : List ℕ) → length words' ≡ length words → lies_from base words' ≡ lies_from base words

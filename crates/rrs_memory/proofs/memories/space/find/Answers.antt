@@ -1,7 +1,7 @@
 use Rattle.std.proofs.Common.{◌+◌, ◌-◌, ◌/◌, ◌<◌, length, refl, arith}
 use Rattle.rrs_memory.specs.Spaces.{binary_digits}
 use Rattle.rrs_memory.proofs.RegionFields.{refuted}
-use Rattle.rrs_memory.proofs.SearchOrder.{digits_room, halved, one_round, order_few, along, field_base, field_found, field_ended, none_left}
+use Rattle.rrs_memory.proofs.SearchOrder.{digits_room, halved, one_round, order_few, along, field_base, field_at, order_within, field_ended, none_left}
 use Rattle.rrs_memory.proofs.memories.space.find.Goals as goal
 
 pub loop-low-init : goal.loop-low-init
@@ -20,7 +20,7 @@ pub returns-then-contains-clause-region : goal.returns-then-contains-clause-regi
 returns-then-contains-clause-region g c =
     let within : c.loop-low.low + (c.loop-low.high - c.loop-low.low - 1) / 2 < length c.args.by_base.now = omega (arith, c.loop-low.invariant.room, c.loop-low-test.true) in
     let lies = c.contains.ensures.0 c.if-contains.true in
-    field_found c.args.regions.now c.args.by_base.now _ _ c.args.addr c.index-regions-index.result c.requires within refl c.index-regions-index.is lies.0 lies.1 (omega arith)
+    field_at c.args.regions.now _ c.args.addr c.index-regions-index.result (order_within _ _ _ c.requires within) c.index-regions-index.is lies.0 lies.1 (omega arith)
 
 pub loop-low-preserved-then-region-addr : goal.loop-low-preserved-then-region-addr
 loop-low-preserved-then-region-addr g c =
