@@ -89,8 +89,8 @@ all_writable-refused f a (suc (suc n)) p e = rw (all_writable-refused f a (suc n
 -- an access of which no byte is mapped or writable is lawful
 pub IsLawful-unmapped : (f : ByteMap) (w : ℕ → Bool) (a n : ℕ) → ((i : ℕ) → i < n → f (a + i) ≡ None) → ((i : ℕ) → i < n → w (a + i) ≡ false) → IsLawful f w a n
 IsLawful-unmapped f w a n no_byte not_writable = record {
-  values = λ i byte below e. absurd (none-some _ (sym (no_byte i below) ∙ e));
-  mapped = λ i below t. absurd (false≢true (sym (not_writable i below) ∙ t));
+  values = λ i byte below e. grind (arith, no_byte i below);
+  mapped = λ i below t. grind (arith, not_writable i below);
 }
 
 -- ---- reads and writes
@@ -129,11 +129,7 @@ read-kept old new a n b m others outside = same_bytes old new b m (λ i h. other
 
 -- an address lies outside a range that has no address equal to it
 pub outside_from_none : (a n b : ℕ) → ((i : ℕ) → i < n → a + i ≢ b) → Outside a n b
-outside_from_none a n b none =
-    elim (cases_lt b a) [
-      | inl below ↦ inl below
-      | inr from ↦ elim (cases_lt b (a + n)) [ inl to ↦ absurd (none (b - a) (omega arith) (omega arith)) | inr above ↦ inr above ]
-    ]
+outside_from_none a n b none = grind (arith, none (b - a))
 
 -- what is read of a store, from its lowest byte on
 read-low : (bytes : ByteMap) (a n v m : ℕ) → m ≤ n → little_endian (store bytes a n v) a m ≡ Some (v % 256 ^ m)

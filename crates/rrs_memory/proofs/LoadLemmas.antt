@@ -1,5 +1,5 @@
 -- How a load goes on by one byte.
-use Rattle.std.proofs.Common.{◌≡◌, ◌≢◌, ◌⊎◌, ℕ, ◌+◌, ◌^◌, ◌<◌, ◌≤◌, Bool, true, false, List, [], ◌∷◌, ◌++◌, length, slice_index, Option, Some, is_some, nat_lt, refl, sym, subst, ap, ◌∙◌, arith, inl, inr, below_more}
+use Rattle.std.proofs.Common.{◌≡◌, ◌≢◌, ◌⊎◌, ℕ, ◌+◌, ◌^◌, ◌<◌, ◌≤◌, Bool, true, false, List, [], ◌∷◌, ◌++◌, length, slice_index, Option, Some, is_some, nat_lt, if◌then◌else◌, refl, sym, subst, ap, ◌∙◌, arith, inl, inr, below_more}
 use Rattle.std.proofs.lemmas.List.{get_or_append_left, get_or_push, length_push}
 use Rattle.std.proofs.lemmas.Bool.{lt-ltb, le-ltb}
 use Rattle.std.proofs.lemmas.Bool.Decides.{nat_tests}
@@ -46,10 +46,9 @@ Loaded-next old mid new writable writable' start byte value addr input so_far pl
 
 -- a byte that is read past the last address is not written
 byte_writes-past : (writable : ℕ → Bool) (a byte : ℕ) (input : List ℕ) → a + length input ≡ 2 ^ 32 → byte_writes writable a (input ++ byte ∷ []) ≡ byte_writes writable a input
-byte_writes-past writable a byte [] past = let high : nat_lt a (2 ^ 32) ≡ false = le-ltb a (2 ^ 32) (omega arith) in rw high refl
+byte_writes-past writable a byte [] past = grind (arith, nat_tests)
 byte_writes-past writable a byte (x ∷ input) past =
-    let low : nat_lt a (2 ^ 32) ≡ true = lt-ltb a (2 ^ 32) (omega arith) in
-    rw low (ap (λ xs. Write a Byte x (writable a) ∷ xs) (byte_writes-past writable (a + 1) byte input (omega arith)))
+    ap (λ rest. if nat_lt a (2 ^ 32) then Write a Byte x (writable a) ∷ rest else []) (byte_writes-past writable (a + 1) byte input (omega arith))
 
 module _ {M : Type 0} (reads : M → ℕ → MemAccessSize → M → Option ℕ → Type 0) (writes : M → ℕ → MemAccessSize → ℕ → M → Bool → Type 0) (writable : ℕ → Bool) where
   -- one write more

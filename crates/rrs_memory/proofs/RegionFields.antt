@@ -57,8 +57,7 @@ module _ {M : Type 0} where
 
   -- the same, where the list was seen before
   pub with_memory_of : (fields : List (MemoryRegion M)) (old : List (Region M)) (i : ℕ) (x y : MemoryRegion M) → map region_of fields ≡ old → slice_get fields i ≡ Some x → y ≡ with_inner x y.memory → map region_of (set fields i y) ≡ with_memory old i y.memory
-  with_memory_of fields old i x y view stands e =
-      set_is_with_memory fields i x y stands e ∙ ap (λ xs. with_memory xs i y.memory) view
+  with_memory_of fields old i x y view stands e = rw (← view) (set_is_with_memory fields i x y stands e)
 
   -- the same of the whole space
   pub with_region_memory_of : (fields : List (MemoryRegion M)) (looked_at : ℕ) (old : Space M) (i : ℕ) (x y : MemoryRegion M) → record { regions = map region_of fields; looked_at = looked_at } ≡ old → slice_get fields i ≡ Some x → y ≡ with_inner x y.memory → record { regions = map region_of (set fields i y); looked_at = looked_at } ≡ with_region_memory old i y.memory

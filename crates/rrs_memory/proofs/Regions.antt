@@ -1,5 +1,5 @@
 -- What the regions of an address space say of an address, and what replacing one region's memory changes of that.
-use Rattle.std.proofs.Common.{◌≡◌, ◌⊎◌, ℕ, zero, suc, ◌+◌, ◌-◌, ◌/◌, ◌%◌, ◌^◌, ◌<◌, ◌≤◌, List, [], ◌∷◌, ◌++◌, length, map, get_or, Option, Some, None, Bool, true, false, All, Any, inl, inr, refl, sym, ap, subst, ◌∙◌, arith}
+use Rattle.std.proofs.Common.{◌≡◌, ◌⊎◌, ℕ, zero, suc, ◌+◌, ◌-◌, ◌/◌, ◌%◌, ◌^◌, ◌<◌, ◌≤◌, if◌then◌else◌, List, [], ◌∷◌, ◌++◌, length, map, get_or, Option, Some, None, Bool, true, false, All, Any, inl, inr, refl, sym, ap, subst, ◌∙◌, arith}
 use Rattle.std.specs.List.{AllPairs, slice_get}
 use Rattle.std.proofs.Math.Path.{fun_ext}
 use Rattle.std.proofs.Math.ListN.{get_or-map}
@@ -75,10 +75,7 @@ module _ {M : Type 0} where
 
   -- two regions that serve one address overlap
   serve_both : (r s : Region M) (a : ℕ) → serves r a ≡ true → serves s a ≡ true → Overlaps s.base s.size r
-  serve_both r s a p q =
-      let t = serves_true r a p in
-      let u = serves_true s a q in
-      (omega (arith, t.0, u.1), omega (arith, t.1, u.0))
+  serve_both r s a p q = grind (arith, nat_tests)
 
   -- ---- what the list says of an address
 
@@ -135,7 +132,7 @@ module _ {M : Type 0} where
   -- the list keeps its length
   pub length-with_memory : (regions : List (Region M)) (i : ℕ) (m : M) → length (with_memory regions i m) ≡ length regions
   length-with_memory regions i m =
-      omega (arith, length-map (with_memory regions i m) bounds, length-map regions bounds, ap length (bounds-with_memory regions i m))
+      omega (arith, ap length (bounds-with_memory regions i m), length-map (with_memory regions i m) bounds, length-map regions bounds)
 
   -- the same at each index
   bounds_at : (regions : List (Region M)) (i k : ℕ) (m : M) (d : Region M) → bounds (get_or (with_memory regions i m) k d) ≡ bounds (get_or regions k d)
@@ -191,15 +188,9 @@ module _ {M : Type 0} where
   served-with_memory says default (x ∷ regions) zero r m a stands same =
       let P : Region M → Type 0 = λ y. serves y a ≡ true → says m (a - y.base) ≡ says y.memory (a - y.base) in
       let same_x : serves x a ≡ true → says m (a - x.base) ≡ says x.memory (a - x.base) = subst P (sym (same_Some x r stands)) same in
-      elim (serves_cases x a) [
-        | inl hit ↦ rw hit (same_x hit)
-        | inr miss ↦ rw miss refl
-      ]
+      grind (arith, same_x)
   served-with_memory says default (x ∷ regions) (suc i) r m a stands same =
-      elim (serves_cases x a) [
-        | inl hit ↦ rw hit refl
-        | inr miss ↦ rw miss (served-with_memory says default regions i r m a stands same)
-      ]
+      ap (λ rest. if serves x a then says x.memory (a - x.base) else rest) (served-with_memory says default regions i r m a stands same)
 
   -- the list says the same of every address where the two memories do
   pub served_same : {T : Type 0} (says : M → ℕ → T) (default : T) (regions : List (Region M)) (i : ℕ) (r : Region M) (m : M) → slice_get regions i ≡ Some r → says m ≡ says r.memory → served_by says default (with_memory regions i m) ≡ served_by says default regions

@@ -17,15 +17,7 @@ use Rattle.rrs_memory.proofs.RegionFields.{set_is_with_memory, with_memory_of, s
 
 -- one more number, one more digit where it is a power of 2
 digits_step : (n d : ℕ) → n < 2 ^ d → suc n < 2 ^ digits_after (suc n) d
-digits_step n d below =
-    elim (cases_eq (suc n) (2 ^ d)) [
-      | inl same ↦
-          let test : digits_after (suc n) d ≡ suc d = grind (arith, nat_tests) in
-          rw test (omega (arith, pow-succ' 2 d, below, same, pow_pos d))
-      | inr other ↦
-          let test : digits_after (suc n) d ≡ d = grind (arith, nat_tests) in
-          rw test (omega (arith, below, other))
-    ]
+digits_step n d below = grind (arith, nat_tests, pow-succ' 2 d, pow_pos d)
 
 -- a number is below 2 to the power of its digits
 pub below_digits : (n : ℕ) → n < 2 ^ binary_digits n
@@ -34,14 +26,7 @@ below_digits (suc n) = digits_step n (binary_digits n) (below_digits n)
 
 -- what is left after more than a half was ruled out needs one digit less
 pub halved : (n rest digits compared : ℕ) → 0 < n → n < 2 ^ (digits - compared) → rest ≤ n / 2 → (compared < digits) × (rest < 2 ^ (digits - (compared + 1)))
-halved n rest digits compared some room half =
-    elim (cases_lt compared digits) [
-      | inl less ↦
-          let left : digits - compared ≡ suc (digits - (compared + 1)) = omega arith in
-          let room = rw left at room in
-          (less, omega (arith, pow-succ' 2 (digits - (compared + 1)), room, half))
-      | inr none ↦ let left : digits - compared ≡ 0 = omega arith in absurd (omega (arith, rw left at room))
-    ]
+halved n rest digits compared some room half = grind (arith, pow-succ' 2 (digits - (compared + 1)))
 
 -- the digits of the number of all have room for a part of them
 pub digits_room : (len n : ℕ) → len ≤ n → len - 0 < 2 ^ (binary_digits n - 0)
@@ -64,11 +49,7 @@ pub along : (spans : List (ℕ × ℕ)) (order : List ℕ) (j k : ℕ) → IsSea
     → (base_at spans (get_or order j 0) ≤ base_at spans (get_or order k 0))
     × (base_at spans (get_or order j 0) + size_at spans (get_or order j 0)
     ≤ base_at spans (get_or order k 0) + size_at spans (get_or order k 0))
-along spans order j k sorted before within =
-    elim (cases_lt j k) [
-      | inl first ↦ (omega (arith, sorted.rising j k first within), omega (arith, sorted.rising j k first within))
-      | inr past ↦ let same : j ≡ k = omega arith in rw same (omega arith, omega arith)
-    ]
+along spans order j k sorted before within = grind (arith, sorted.rising j k)
 
 -- ---- one more region
 
@@ -148,15 +129,12 @@ module _ (spans : List (ℕ × ℕ)) (order : List ℕ) (place : ℕ) (span : �
       -- the new region begins where those before it have ended
       ends_before : (j : ℕ) → j < place → base_at spans (get_or order j 0) + size_at spans (get_or order j 0) ≤ span.0
       ends_before j early =
-          let inside = sorted.within j (omega arith) in
-          let over : span.0 < base_at spans (get_or order j 0) + size_at spans (get_or order j 0) → ⊥ = λ past. apart (get_or order j 0) inside (omega (arith, before j early, some), past) in
-          omega arith
+          grind (arith, apart (get_or order j 0) (sorted.within j (omega arith)), before j early, some)
 
       -- it ends where those after it begin
       ends_in_time : (j : ℕ) → place ≤ j → j < length order → span.0 + span.1 ≤ base_at spans (get_or order j 0)
       ends_in_time j late below =
-          let over : base_at spans (get_or order j 0) < span.0 + span.1 → ⊥ = λ past. apart (get_or order j 0) (sorted.within j below) (past, omega (arith, after j late below)) in
-          omega arith
+          grind (arith, apart (get_or order j 0) (sorted.within j below), after j late below)
 
       rising : (j k : ℕ) → j < k → k < length order + 1 → Stands j → Stands k → base_at spans' (get_or order' j 0) + size_at spans' (get_or order' j 0) ≤ base_at spans' (get_or order' k 0)
       rising j k first below (Early early _ is) (Early early_k _ is_k) = omega (arith, ap (λ p. p.0) is, ap (λ p. p.1) is, ap (λ p. p.0) is_k, sorted.rising j k first (omega arith))
@@ -200,14 +178,7 @@ module _ {M : Type 0} where
       let here : get_or (map bounds regions) k (0, 0) ≡ bounds r = get_or-map bounds regions k d (0, 0) within in
       let base : base_at (map bounds regions) k ≡ r.base = ap (λ p. p.0) here in
       let size : size_at (map bounds regions) k ≡ r.size = ap (λ p. p.1) here in
-      false_serves r a (λ past.
-      elim (cases_lt 0 r.size) [
-        | inl some ↦
-            let place = sorted.complete k (omega (arith, length-map regions bounds)) (omega arith) in
-            let far = rw (place.2) at (apart place.0 place.1) in
-            omega (arith, far (omega arith))
-        | inr none ↦ omega arith
-      ])
+      false_serves r a (λ past. grind (arith, sorted.complete k, apart, length-map regions bounds))
 
   -- ---- the fields of the code
 
@@ -264,19 +235,13 @@ module _ {M : Type 0} where
   pub field_ended : (fields : List (MemoryRegion M)) (order : List ℕ) (middle index a : ℕ) (x : MemoryRegion M) → IsSearchOrder (map bounds (map region_of fields)) order → middle < length order → index ≡ get_or order middle 0 → x ≡ get_or fields index x → x.base ≤ a → ((x.base ≤ a) × (a < x.base + x.size) → ⊥) → base_at (map bounds (map region_of fields)) (get_or order middle 0) + size_at (map bounds (map region_of fields)) (get_or order middle 0) ≤ a
   field_ended fields order middle index a x sorted within at read from outside =
       let span = field_span fields order middle index x sorted within at read in
-      elim (cases_lt a (x.base + x.size)) [
-        | inl below ↦ absurd (outside (from, below))
-        | inr past ↦ omega (arith, ap (λ p. p.0) span, ap (λ p. p.1) span, past)
-      ]
+      let past : x.base + x.size ≤ a = grind (arith, outside) in
+      omega (arith, ap (λ p. p.0) span, ap (λ p. p.1) span, past)
 
   -- where none of the order is left, none serves the address
   pub none_left : (fields : List (MemoryRegion M)) (order : List ℕ) (low high a : ℕ) → IsSearchOrder (map bounds (map region_of fields)) order → high ≤ low → ((j : ℕ) → j < low → j < length order → base_at (map bounds (map region_of fields)) (get_or order j 0) + size_at (map bounds (map region_of fields)) (get_or order j 0) ≤ a) → ((j : ℕ) → high ≤ j → j < length order → a < base_at (map bounds (map region_of fields)) (get_or order j 0)) → All (λ r. serves r a ≡ false) (map region_of fields)
   none_left fields order low high a sorted met before after =
-      none_serves (map region_of fields) order a sorted (λ j below from.
-      elim (cases_lt j low) [
-        | inl early ↦ before j early below
-        | inr late ↦ absurd (omega (arith, after j (omega arith) below, from))
-      ])
+      none_serves (map region_of fields) order a sorted (λ j below from. grind (arith, before j, after j))
 
   -- where a region has addresses, it stands in the order
   pub some_in_order : (regions : List (Region M)) (order : List ℕ) → IsSearchOrder (map bounds regions) order → Any HasAddresses regions → 0 < length order

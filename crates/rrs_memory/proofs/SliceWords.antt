@@ -25,14 +25,10 @@ module _ (base a : ℕ) (size : MemAccessSize) (aligned : a % width size ≡ 0) 
     inside i below = is_from_true base (a + i) (omega (arith, from)) (aligned_below (2 ^ 32) a i size (omega arith) aligned below low)
 
     byte_moved : (i : ℕ) → i < width size → bytes_from base words (a + i) ≡ bytes_of_words words (a - word_start base + i)
-    byte_moved i below =
-        cond-true (is_from base (a + i)) (bytes_of_words words (a + i - word_start base)) None (inside i below)
-        ∙ ap (λ x. bytes_of_words words x) (omega (arith, from))
+    byte_moved i below = rw (inside i below) (ap (bytes_of_words words) (omega (arith, from)))
 
     lies_moved : (i : ℕ) → i < width size → lies_from base words (a + i) ≡ lies_in_words words (a - word_start base + i)
-    lies_moved i below =
-        cond-true (is_from base (a + i)) (lies_in_words words (a + i - word_start base)) false (inside i below)
-        ∙ ap (λ x. lies_in_words words x) (omega (arith, from))
+    lies_moved i below = rw (inside i below) (ap (lies_in_words words) (omega (arith, from)))
 
     pub value_from : little_endian (bytes_from base words) a (width size) ≡ little_endian (bytes_of_words words) (a - word_start base) (width size)
     value_from = little_endian-moved (bytes_from base words) (bytes_of_words words) a (a - word_start base) (width size) byte_moved

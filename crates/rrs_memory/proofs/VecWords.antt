@@ -6,6 +6,7 @@ use Rattle.std.proofs.lemmas.Nat.{pow-add, and_mask, and-not, or_shifted, or_blo
 use Rattle.std.proofs.lemmas.Nat.Bits.{and_high}
 use Rattle.std.proofs.Math.Pow.{pow_mono}
 use Rattle.std.proofs.lemmas.Bool.{lt-ltb, le-ltb, and_from, and_left, cond-true, cond-false, cases_lt, cases_eq}
+use Rattle.std.proofs.lemmas.Bool.Decides.{nat_tests}
 use Rattle.std.proofs.lemmas.List.{length-set, get_or-set_same, get_or-set_other}
 use Rattle.rrs_memory.specs.declared.MemAccessSize.{MemAccessSize}
 use Rattle.rrs_memory.specs.declared.MemAccessSize.TheVariants.{Byte}
@@ -146,9 +147,7 @@ pub byte_on : (words : List ℕ) (a j : ℕ) → a < 2 ^ 32 → a / 4 < length w
 byte_on words a j low there within =
     let same_word : (a + j) / 4 ≡ a / 4 = omega arith in
     let place : (a + j) % 4 ≡ a % 4 + j = omega arith in
-    byte_at words (a + j) (omega arith) (omega arith)
-    ∙ ap (λ x. Some (slice_index words x / 256 ^ ((a + j) % 4) % 256)) same_word
-    ∙ ap (λ x. Some (slice_index words (a / 4) / 256 ^ x % 256)) place
+    rw (← same_word, ← place) (byte_at words (a + j) (omega arith) (omega arith))
 
 -- the value of n bytes of one word
 pub value_of_bytes : (words : List ℕ) (a n : ℕ) → a < 2 ^ 32 → a / 4 < length words → a % 4 + n ≤ 4
@@ -171,9 +170,7 @@ byte_of_other words i x b other =
 
 -- a byte of the word that was set
 pub byte_of_set : (words : List ℕ) (i x b : ℕ) → b < 2 ^ 32 → i < length words → b / 4 ≡ i → bytes_of_words (slice_set words i x) b ≡ Some (x / 256 ^ (b % 4) % 256)
-byte_of_set words i x b low there same =
-    byte_at (slice_set words i x) b low (omega (arith, length-set words i x))
-    ∙ ap (λ w. Some (w / 256 ^ (b % 4) % 256)) (ap (λ j. slice_index (slice_set words i x) j) same ∙ get_or-set_same words i x 0 there)
+byte_of_set words i x b low there same = grind (arith, nat_tests, length-set, get_or-set_same)
 
 -- replacing n bytes of the word at a stores them
 pub write_stores : (words : List ℕ) (a n v : ℕ) → a < 2 ^ 32 → a / 4 < length words → a % 4 + n ≤ 4
@@ -191,13 +188,7 @@ write_stores words a n v low there within = store_by (bytes_of_words words) _ a 
         ∙ ap Some (byte_inside w v n (a % 4) (b - a) (omega arith))
 
     kept : (j : ℕ) → (a % 4 ≤ j → n + a % 4 ≤ j) → with_bytes w v n (a % 4) / 256 ^ j % 256 ≡ w / 256 ^ j % 256
-    kept j apart =
-        elim (cases_lt j (a % 4)) [
-          | inl below ↦ byte_below w v n (a % 4) j below
-          | inr above ↦
-              let place : n + a % 4 + (j - (n + a % 4)) ≡ j = omega (arith, apart, above) in
-              rw place at (byte_above w v n (a % 4) (j - (n + a % 4)))
-        ]
+    kept j apart = grind (arith, byte_below w v n (a % 4) j, byte_above w v n (a % 4) (j - (n + a % 4)))
 
     outside : (b : ℕ) → (a ≤ b → a + n ≤ b) → bytes_of_words (slice_set words (a / 4) (with_bytes w v n (a % 4))) b ≡ bytes_of_words words b
     outside b apart =
