@@ -42,16 +42,7 @@ store_outside f a n v b h =
 -- a map is what a store leaves where it has the stored bytes, and all others as before
 pub store_by : (old new : ByteMap) (a n v : ℕ) → ((b : ℕ) → a ≤ b → b < a + n → new b ≡ Some (v / 256 ^ (b - a) % 256))
     → ((b : ℕ) → (a ≤ b → a + n ≤ b) → new b ≡ old b) → new ≡ store old a n v
-store_by old new a n v inside outside =
-    fun_ext (λ b. elim (cases_lt b a) [
-      | inl below ↦
-          let apart : a ≤ b → a + n ≤ b = λ from. absurd (omega (arith, below, from)) in
-          outside b apart ∙ sym (store_outside old a n v b apart)
-      | inr from ↦ elim (cases_lt b (a + n)) [
-        | inl to ↦ inside b from to ∙ sym (store_inside old a n v b from to)
-        | inr above ↦ outside b (λ le. above) ∙ sym (store_outside old a n v b (λ le. above))
-      ]
-    ])
+store_by old new a n v inside outside = fun_ext (λ b. grind (arith, nat_tests, inside b, outside b))
 
 -- ---- the bytes of an access in two maps
 

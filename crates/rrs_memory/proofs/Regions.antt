@@ -61,17 +61,12 @@ module _ {M : Type 0} where
   -- all bytes of an aligned access are served by the region that serves the first
   pub serves_all : (r : Region M) (a i : ℕ) (n : MemAccessSize) → IsWordRegion r → a % width n ≡ 0 → i < width n → serves r a ≡ true → serves r (a + i) ≡ true
   serves_all r a i n word al below e =
-      let t = serves_true r a e in
-      let whole : (r.base + r.size) % 4 ≡ 0 = omega (arith, word.aligned.0, word.aligned.1) in
-      true_serves r (a + i) (omega (arith, t.0)) (aligned_below (r.base + r.size) a i n whole al below t.1) (aligned_below (2 ^ 32) a i n (omega arith) al below t.2)
+      grind (arith, nat_tests, word.aligned, aligned_below (r.base + r.size) a i n, aligned_below (2 ^ 32) a i n)
 
   -- no byte of an aligned access is served by a region that does not serve the first
   pub serves_none : (r : Region M) (a i : ℕ) (n : MemAccessSize) → IsWordRegion r → a % width n ≡ 0 → i < width n → a < 2 ^ 32 → serves r a ≡ false → serves r (a + i) ≡ false
   serves_none r a i n word al below fits e =
-      let whole : (r.base + r.size) % 4 ≡ 0 = omega (arith, word.aligned.0, word.aligned.1) in
-      false_serves r (a + i) (λ past.
-      let from : r.base ≤ a = aligned_from r.base a i n word.aligned.0 al below past in
-      omega (arith, serves_false r a fits e from))
+      grind (arith, nat_tests, aligned_from r.base a i n word.aligned.0 al below)
 
   -- two regions that serve one address overlap
   serve_both : (r s : Region M) (a : ℕ) → serves r a ≡ true → serves s a ≡ true → Overlaps s.base s.size r

@@ -50,10 +50,7 @@ module _ (base a : ℕ) (size : MemAccessSize) (aligned : a % width size ≡ 0) 
         ∙ ap (λ x. Some (value / 256 ^ x % 256)) (omega (arith, from))
 
     byte_kept : (b : ℕ) → (a ≤ b → a + width size ≤ b) → bytes_from base words' b ≡ bytes_from base words b
-    byte_kept b apart = elim (cases_lt b (word_start base)) [
-      | inl before ↦ rw (is_from_below base b before) refl
-      | inr past ↦ rw (ap (λ f. f (b - word_start base)) wrote ∙ store_outside (bytes_of_words words) (a - word_start base) (width size) value (b - word_start base) (λ p. omega (arith, apart, from, past, p))) refl
-    ]
+    byte_kept b apart = grind (arith, nat_tests, ap (λ f. f (b - word_start base)) wrote)
 
     pub store_from : bytes_from base words' ≡ store (bytes_from base words) a (width size) value
     store_from = store_by (bytes_from base words) (bytes_from base words') a (width size) value byte_stored byte_kept

@@ -191,15 +191,7 @@ write_stores words a n v low there within = store_by (bytes_of_words words) _ a 
     kept j apart = grind (arith, byte_below w v n (a % 4) j, byte_above w v n (a % 4) (j - (n + a % 4)))
 
     outside : (b : ℕ) → (a ≤ b → a + n ≤ b) → bytes_of_words (slice_set words (a / 4) (with_bytes w v n (a % 4))) b ≡ bytes_of_words words b
-    outside b apart =
-        elim (cases_eq (b / 4) (a / 4)) [
-          | inl same ↦
-              byte_of_set words (a / 4) (with_bytes w v n (a % 4)) b (omega arith) there same
-              ∙ ap Some (kept (b % 4) (λ le. omega arith))
-              ∙ ap (λ i. Some (slice_index words i / 256 ^ (b % 4) % 256)) (sym same)
-              ∙ sym (byte_at words b (omega arith) (omega arith))
-          | inr other ↦ byte_of_other words (a / 4) (with_bytes w v n (a % 4)) b other
-        ]
+    outside b apart = grind (arith, nat_tests, length-set, get_or-set_same, get_or-set_other, kept (b % 4))
 
 -- an access at a multiple of its size stays in one word
 pub aligned_in_word : (a : ℕ) (size : MemAccessSize) → a % width size ≡ 0 → a % 4 + width size ≤ 4
