@@ -4,9 +4,8 @@ use Rattle.std.proofs.Math.Path.{fun_ext}
 use Rattle.std.proofs.Math.Nat.{pow-suc, pow-succ', mod-one}
 use Rattle.std.proofs.Math.Arith.{mod-mul}
 use Rattle.std.proofs.lemmas.Nat.{pow-add, pow_pos}
-use Rattle.std.proofs.lemmas.Bool.{lt-ltb, le-leb, and_from, cond-true, cases_lt, false≢true}
+use Rattle.std.proofs.lemmas.Bool.{lt-ltb, le-leb, and_from, cond-true}
 use Rattle.std.proofs.lemmas.Bool.Decides.{nat_tests}
-use Rattle.std.proofs.lemmas.Option.{none-some}
 use Rattle.rrs_memory.specs.Bytes.{ByteMap, little_endian, all_writable, store, sum_if_both, at_place, IsLawful}
 
 -- ---- powers of 256

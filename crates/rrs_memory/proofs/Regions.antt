@@ -127,7 +127,8 @@ module _ {M : Type 0} where
   -- the list keeps its length
   pub length-with_memory : (regions : List (Region M)) (i : ℕ) (m : M) → length (with_memory regions i m) ≡ length regions
   length-with_memory regions i m =
-      omega (arith, ap length (bounds-with_memory regions i m), length-map (with_memory regions i m) bounds, length-map regions bounds)
+      let same = ap length (bounds-with_memory regions i m) in
+      omega (arith, same, length-map (with_memory regions i m) bounds, length-map regions bounds)
 
   -- the same at each index
   bounds_at : (regions : List (Region M)) (i k : ℕ) (m : M) (d : Region M) → bounds (get_or (with_memory regions i m) k d) ≡ bounds (get_or regions k d)

@@ -1,13 +1,12 @@
 -- The bytes of words from a base on are those of the words from 0 on, moved.
-use Rattle.std.proofs.Common.{◌≡◌, ℕ, ◌+◌, ◌-◌, ◌*◌, ◌/◌, ◌%◌, ◌^◌, ◌<◌, ◌≤◌, List, length, Bool, true, false, ◌&&◌, nat_lt, Some, None, IsTrue, IsSome, if◌then◌else◌, inl, inr, refl, ap, ◌∙◌, arith}
-use Rattle.std.proofs.lemmas.Bool.{cases_lt, cond-true, cond-false}
+use Rattle.std.proofs.Common.{◌≡◌, ℕ, ◌+◌, ◌-◌, ◌*◌, ◌/◌, ◌%◌, ◌^◌, ◌<◌, ◌≤◌, List, length, true, false, ◌&&◌, nat_lt, Some, None, if◌then◌else◌, ap, ◌∙◌, arith}
+use Rattle.std.proofs.lemmas.Bool.{cond-true}
 use Rattle.std.proofs.lemmas.Bool.Decides.{nat_tests}
-use Rattle.std.proofs.lemmas.Option.{none-some, same_Some}
 use Rattle.rrs_memory.specs.declared.MemAccessSize.{MemAccessSize}
 use Rattle.rrs_memory.specs.Bytes.{width, little_endian, all_writable, store, IsLawful, EndsAtLastAddress}
 use Rattle.rrs_memory.specs.VecBytes.{bytes_of_words, lies_in_words}
 use Rattle.rrs_memory.specs.SliceBytes.{word_start, is_from, bytes_from, lies_from}
-use Rattle.rrs_memory.proofs.ByteLemmas.{little_endian-moved, all_writable-moved, store_inside, store_outside, store_by}
+use Rattle.rrs_memory.proofs.ByteLemmas.{little_endian-moved, all_writable-moved, store_inside, store_by}
 use Rattle.rrs_memory.proofs.Regions.{aligned_below, width_pos}
 
 -- where the words begin, and past it
