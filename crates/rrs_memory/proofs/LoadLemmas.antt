@@ -48,7 +48,8 @@ Loaded-next old mid new writable writable' start byte value addr input so_far pl
 byte_writes-past : (writable : ℕ → Bool) (a byte : ℕ) (input : List ℕ) → a + length input ≡ 2 ^ 32 → byte_writes writable a (input ++ byte ∷ []) ≡ byte_writes writable a input
 byte_writes-past writable a byte [] past = grind (arith, nat_tests)
 byte_writes-past writable a byte (x ∷ input) past =
-    ap (λ rest. if nat_lt a (2 ^ 32) then Write a Byte x (writable a) ∷ rest else []) (byte_writes-past writable (a + 1) byte input (omega arith))
+    ap (λ rest. if nat_lt a (2 ^ 32) then Write a Byte x (writable a) ∷ rest else [])
+    (byte_writes-past writable (a + 1) byte input (omega arith))
 
 module _ {M : Type 0} (reads : M → ℕ → MemAccessSize → M → Option ℕ → Type 0) (writes : M → ℕ → MemAccessSize → ℕ → M → Bool → Type 0) (writable : ℕ → Bool) where
   -- one write more

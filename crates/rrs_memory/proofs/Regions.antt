@@ -186,7 +186,8 @@ module _ {M : Type 0} where
       let same_x : serves x a ≡ true → says m (a - x.base) ≡ says x.memory (a - x.base) = subst P (sym (same_Some x r stands)) same in
       grind (arith, same_x)
   served-with_memory says default (x ∷ regions) (suc i) r m a stands same =
-      ap (λ rest. if serves x a then says x.memory (a - x.base) else rest) (served-with_memory says default regions i r m a stands same)
+      ap (λ rest. if serves x a then says x.memory (a - x.base) else rest)
+      (served-with_memory says default regions i r m a stands same)
 
   -- the list says the same of every address where the two memories do
   pub served_same : {T : Type 0} (says : M → ℕ → T) (default : T) (regions : List (Region M)) (i : ℕ) (r : Region M) (m : M) → slice_get regions i ≡ Some r → says m ≡ says r.memory → served_by says default (with_memory regions i m) ≡ served_by says default regions

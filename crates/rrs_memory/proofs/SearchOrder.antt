@@ -152,7 +152,8 @@ pub IsSearchOrder-push_empty : (spans : List (ℕ × ℕ)) (order : List ℕ) (s
 IsSearchOrder-push_empty spans order span sorted empty = record {
   within = λ j below. omega (arith, more, sorted.within j below);
   nonempty = λ j below. omega (arith, ap (λ p. p.1) (same j below), sorted.nonempty j below);
-  complete = λ i inside large. grind (arith, sorted.complete i, get_or_append_left spans (span ∷ []) (0, 0) i, get_or_push spans span (0, 0) i, more);
+  complete = λ i inside large.
+      grind (arith, sorted.complete i, more, get_or_append_left spans (span ∷ []) (0, 0) i, get_or_push spans span (0, 0) i);
   rising = λ j k first below.
       omega (arith, ap (λ p. p.0) (same j (omega (arith, first, below))), ap (λ p. p.1) (same j (omega (arith, first, below))), ap (λ p. p.0) (same k below), sorted.rising j k first below);
   few = omega (arith, more, sorted.few);

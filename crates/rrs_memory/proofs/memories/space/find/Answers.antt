@@ -20,7 +20,8 @@ pub returns-then-contains-clause-region : goal.returns-then-contains-clause-regi
 returns-then-contains-clause-region g c =
     let within : c.loop-low.low + (c.loop-low.high - c.loop-low.low - 1) / 2 < length c.args.by_base.now = omega (arith, c.loop-low.invariant.room, c.loop-low-test.true) in
     let lies = c.contains.ensures.0 c.if-contains.true in
-    field_at c.args.regions.now _ c.args.addr c.index-regions-index.result (order_within _ _ _ c.requires within) c.index-regions-index.is lies.0 lies.1 (omega arith)
+    let inside = order_within _ _ _ c.requires within in
+    field_at c.args.regions.now _ c.args.addr c.index-regions-index.result inside c.index-regions-index.is lies.0 lies.1 (omega arith)
 
 pub loop-low-preserved-then-region-addr : goal.loop-low-preserved-then-region-addr
 loop-low-preserved-then-region-addr g c =
