@@ -638,15 +638,30 @@ def there_and_back(machine):
 # ---- the page itself
 
 
-def pictures(machine, folder):
-    """pictures in light and dark, wide and narrow; nothing is wider than the page"""
-    page = machine.page
+def show_fibonacci(machine):
+    """Runs an example to a breakpoint twice, and makes a few steps more."""
     machine.choose("fibonacci")
-    page.click("#line-13 .gutter")
+    machine.page.click("#line-13 .gutter")
     machine.leave_fields()
     machine.run()
     machine.run()
     machine.keys("ssss")
+
+
+def picture(browser, path):
+    """the picture of the page for README, of a page that was opened anew"""
+    machine = opened(browser, PAGE.as_uri())
+    show_fibonacci(machine)
+    machine.page.resize(1360, 900)
+    machine.page.prefer(False)
+    machine.page.ask("scrollTo(0, 0)")
+    machine.page.picture(path)
+
+
+def pictures(machine, folder):
+    """pictures in light and dark, wide and narrow; nothing is wider than the page"""
+    page = machine.page
+    show_fibonacci(machine)
     for name, width, height, dark in (
         ("wide-light", 1360, 900, False), ("wide-dark", 1360, 900, True),
         ("middle-light", 900, 900, False),
