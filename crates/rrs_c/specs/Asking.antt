@@ -3,8 +3,8 @@ use Rattle.std.specs.Prelude.{◌≡◌, ◌≢◌, ◌<◌, ℕ, ◌==◌, if�
 use Rattle.rrs_lib.specs.declared.instruction_executor.InstructionException.{InstructionException}
 use Rattle.rrs_lib.specs.Bytes.{width}
 use Rattle.rrs_lib.specs.Accesses.{size_of}
-use Rattle.rrs_debug.specs.declared.outside.DataRequest.{DataRequest}
-use Rattle.rrs_debug.specs.Outside.{RequestAnswer}
+use Rattle.rrs_trace.specs.declared.outside.DataRequest.{DataRequest}
+use Rattle.rrs_trace.specs.Outside.{RequestAnswer}
 use Rattle.rrs_c.specs.declared.access.RrsAccess.{RrsAccess}
 use Rattle.rrs_c.specs.Harts.{exception_of, IsFault}
 
@@ -28,8 +28,8 @@ abbrev pub asked_or : Option DataRequest → Option InstructionException → Req
 asked_or request None = Ok request
 asked_or request (Some e) = Err e
 
-abbrev pub request_of : RrsAccess → RequestAnswer
-request_of a = asked_or (data_request a) (exception_of a.fault)
+abbrev pub request_answer : RrsAccess → RequestAnswer
+request_answer a = asked_or (data_request a) (exception_of a.fault)
 
 -- what C gives: nothing where it refuses
 abbrev pub given : ℕ → ℕ → Option ℕ

@@ -4,9 +4,9 @@ pub use Rattle.rrs_lib.specs.Table
 pub use Rattle.rrs_lib.specs.Machine
 pub use Rattle.rrs_lib.specs.Steps
 pub use Rattle.rrs_lib.specs.Texts
-pub use Rattle.rrs_debug.specs.Retired
-pub use Rattle.rrs_debug.specs.Stops
-pub use Rattle.rrs_debug.specs.Outside
+pub use Rattle.rrs_trace.specs.Retired
+pub use Rattle.rrs_trace.specs.Stops
+pub use Rattle.rrs_trace.specs.Outside
 -- What C has, as the kit has it.
 pub mod Harts
 pub mod Listing

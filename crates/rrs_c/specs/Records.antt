@@ -1,7 +1,7 @@
 -- What a step retired, as C has it.
 use Rattle.std.specs.Prelude.{◌≡◌, ◌<◌, ◌==◌, if◌then◌else◌, Some, None}
-use Rattle.rrs_debug.specs.declared.traced.MemoryAccess.{MemoryAccess}
-use Rattle.rrs_debug.specs.declared.retired.Retired.{Retired}
+use Rattle.rrs_trace.specs.declared.traced.MemoryAccess.{MemoryAccess}
+use Rattle.rrs_trace.specs.declared.retired.Retired.{Retired}
 use Rattle.rrs_c.specs.declared.retired.RrsRetired.{RrsRetired}
 
 -- the load or the store

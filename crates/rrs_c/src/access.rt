@@ -2,12 +2,12 @@
 
 ghost use Rattle.std.specs.Prelude.{◌≡◌, Ok};
 ghost use Rattle.rrs_lib.specs.Bytes.{width};
-ghost use Rattle.rrs_c.specs.Asking.{request_of, IsAccess, given};
+ghost use Rattle.rrs_c.specs.Asking.{request_answer, IsAccess, given};
 
 use crate::hart::{RrsFault, fault_of};
-use rrs_debug::DataRequest;
 use rrs_lib::MemAccessSize;
 use rrs_lib::instruction_executor::InstructionException;
+use rrs_trace::DataRequest;
 
 /// What an instruction asks of memory, or the fault before it asks.
 #[repr(C)]
@@ -40,7 +40,7 @@ fn bytes_of(size: MemAccessSize) -> u32
 /// A load, a store, or nothing.
 #[inline]
 fn access_of(request: Option<DataRequest>) -> RrsAccess
-    ensures same { request_of result ≡ Ok request }
+    ensures same { request_answer result ≡ Ok request }
     ensures told { IsAccess result }
 {
     let (kind, address, size, value) = match request {
@@ -62,7 +62,7 @@ fn access_of(request: Option<DataRequest>) -> RrsAccess
 pub(crate) fn access_or_fault(
     answer: Result<Option<DataRequest>, InstructionException>,
 ) -> RrsAccess
-    ensures same { request_of result ≡ answer }
+    ensures same { request_answer result ≡ answer }
     ensures told { IsAccess result }
 {
     match answer {

@@ -4,9 +4,9 @@ ghost use Rattle.std.specs.Prelude.{◌≡◌, ◌<◌, Some, slice_index};
 ghost use Rattle.rrs_lib.specs.Steps.{LastIsRegister};
 ghost use Rattle.rrs_c.specs.Harts.{register_in, hart_in, exception_of, IsFault, IsEnd, answer_of, reason_of};
 
-use rrs_debug::{StopEnd, StopReason};
 use rrs_lib::HartState;
 use rrs_lib::instruction_executor::{InstructionException, RunEnd};
+use rrs_trace::{StopEnd, StopReason};
 
 /// A hart, owned by the caller.
 #[repr(C)]

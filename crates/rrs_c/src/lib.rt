@@ -21,14 +21,14 @@ ghost use Rattle.std.specs.Prelude.{◌≡◌, ◌<◌, List, length, slice_inde
 ghost use Rattle.rrs_lib.specs.Encodings.{Fields};
 ghost use Rattle.rrs_lib.specs.Table.{Row, Decodes, IsIllegal};
 ghost use Rattle.rrs_lib.specs.Steps.{Step, IsOnlyStep, ChangesLittle, RunUntil, IsOnlyRunUntil, cleared};
-ghost use Rattle.rrs_debug.specs.Retired.{Retires};
-ghost use Rattle.rrs_debug.specs.Stops.{RunsToStop, IsOnlyRunToStop};
+ghost use Rattle.rrs_trace.specs.Retired.{Retires};
+ghost use Rattle.rrs_trace.specs.Stops.{RunsToStop, IsOnlyRunToStop};
 ghost use Rattle.rrs_c.specs.Harts.{hart_in, state_in_c, exception_of, IsFault, IsEnd, answer_of, reason_of};
 ghost use Rattle.rrs_c.specs.Listing.{Lists, no_instruction};
 ghost use Rattle.rrs_c.specs.Records.{retired_in, IsRecord};
 ghost use Rattle.rrs_c.specs.Buffers.{Disassembles};
-ghost use Rattle.rrs_debug.specs.Outside.{WithEachMemory, AccessesAfterFetch, requested, Foretells, Completes};
-ghost use Rattle.rrs_c.specs.Asking.{request_of, IsAccess, given};
+ghost use Rattle.rrs_trace.specs.Outside.{WithEachMemory, AccessesAfterFetch, requested, Foretells, Completes};
+ghost use Rattle.rrs_c.specs.Asking.{request_answer, IsAccess, given};
 
 use access::{RrsAccess, access_or_fault, given_by};
 use hart::{
@@ -37,10 +37,10 @@ use hart::{
 use instruction::{RrsInstruction, listed, nothing};
 use lent::{run_lent, run_until_lent, step_lent, step_retired_lent};
 use retired::{RrsRetired, written_out};
-use rrs_debug::{complete, request};
 use rrs_lib::disassembly::Disassembled;
 use rrs_lib::instruction::decode;
 use rrs_lib::memories::SliceMemory;
+use rrs_trace::{complete, request};
 use text::put_text;
 
 /// The version of this interface, 65536 times the major number plus 256 times the minor one plus
@@ -181,9 +181,9 @@ pub extern "C" fn rrs_disassemble(word: u32, pc: u32, buffer: &mut [u8]) -> usiz
 #[unsafe(no_mangle)]
 pub extern "C" fn rrs_request(hart: &RrsHart, word: u32) -> RrsAccess
     ensures access { WithEachMemory (hart_in hart.now) word (λ s.
-        AccessesAfterFetch s (requested s (request_of result))) }
+        AccessesAfterFetch s (requested s (request_answer result))) }
     ensures foretold { WithEachMemory (hart_in hart.now) word (λ s.
-        Foretells s (request_of result)) }
+        Foretells s (request_answer result)) }
     ensures told { IsAccess result }
 {
     access_or_fault(request(&opened(hart), word))

@@ -1,10 +1,10 @@
 //! What a step retired, as C has it.
 
 ghost use Rattle.std.specs.Prelude.{◌≡◌, ◌<◌, ◌==◌, Some, None, if◌then◌else◌};
-ghost use Rattle.rrs_debug.specs.Retired.{HasRegisterNumbers};
+ghost use Rattle.rrs_trace.specs.Retired.{HasRegisterNumbers};
 ghost use Rattle.rrs_c.specs.Records.{retired_in, IsRecord};
 
-use rrs_debug::Retired;
+use rrs_trace::Retired;
 
 /// What a step retired, under the names of RVFI.
 #[repr(C)]

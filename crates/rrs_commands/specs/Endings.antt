@@ -5,9 +5,9 @@
 use Rattle.std.specs.Prelude.{ℕ, ◌+◌, ◌%◌, Result, Ok, Err}
 use Rattle.rrs_lib.specs.declared.instruction_executor.InstructionException.{InstructionException}
 use Rattle.rrs_lib.specs.declared.instruction_executor.InstructionException.TheVariants.{IllegalInstruction, FetchError, LoadAccessFault, StoreAccessFault, AlignmentFault, EnvironmentCall, Breakpoint}
-use Rattle.rrs_served.specs.declared.Ending.{Ending}
-use Rattle.rrs_served.specs.declared.Ending.TheVariants.{Limit, Fault, Exit}
-use Rattle.rrs_runner.specs.Failures as Failures
+use Rattle.rrs_env.specs.declared.Ending.{Ending}
+use Rattle.rrs_env.specs.declared.Ending.TheVariants.{Limit, Fault, Exit}
+use Rattle.rrs_cli.specs.Failures as Failures
 use Rattle.rrs_commands.specs.declared.ending.Refusal.{Refusal}
 use Rattle.rrs_commands.specs.declared.ending.Refusal.TheVariants.{Mistakes, Failed}
 use Rattle.rrs_commands.specs.declared.subcommands.Task.{Task}

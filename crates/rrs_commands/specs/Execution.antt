@@ -5,11 +5,11 @@ use Rattle.rrs_lib.specs.AccessLists.{Access}
 use Rattle.rrs_lib.specs.Machine.{State}
 use Rattle.rrs_lib.specs.VecBytes.{bytes_of_words, lies_in_words}
 use Rattle.rrs_lib.specs.Loading.{Loads}
-use Rattle.rrs_runner.specs.Printed.{zero_words, start_of}
-use Rattle.rrs_served.specs.declared.Ending.{Ending}
-use Rattle.rrs_served.specs.Serving.{Served}
+use Rattle.rrs_cli.specs.Printed.{zero_words, start_of}
+use Rattle.rrs_env.specs.declared.Ending.{Ending}
+use Rattle.rrs_env.specs.Serving.{Served}
 use Rattle.rrs_linux.specs.declared.Process.{Process}
-use Rattle.rrs_linux.specs.declared.held.Held.{Held}
+use Rattle.rrs_linux.specs.declared.input_buffer.InputBuffer.{InputBuffer}
 use Rattle.rrs_linux.specs.SystemCalls.{Serves}
 
 -- The machine that a program starts in: 1 MiB with these bytes, and a hart all of whose registers
@@ -23,7 +23,7 @@ program_start bytes = start_of 262144 (0 ∷ 2 ^ 20 ∷ replicate 29 0) bytes
 -- gave to the program.
 pub record ExecutesProgram {R W E : Type 0} (remaining : R → Option (List ℕ))
     (contents : W → Option (List ℕ)) (errors_of : E → Option (List ℕ)) (limit : ℕ)
-    (input rest : Option (List ℕ)) (old new : Process R W E Held) (ending : Ending) : Type 0 where
+    (input rest : Option (List ℕ)) (old new : Process R W E InputBuffer) (ending : Ending) : Type 0 where
   pub bytes : ByteMap
   pub loaded : Loads input rest (bytes_of_words (zero_words 262144)) bytes
       (lies_in_words (zero_words 262144)) 0 (Ok tt)

@@ -3,10 +3,10 @@ use Rattle.std.specs.Prelude.{◌≡◌, ℕ, List, [], Option}
 use Rattle.rrs_lib.specs.declared.instruction_executor.InstructionException.{InstructionException}
 use Rattle.rrs_lib.specs.Machine.{State}
 use Rattle.rrs_lib.specs.Steps.{RunUntil}
-use Rattle.rrs_runner.specs.declared.fault.RunFault.{RunFault}
-use Rattle.rrs_runner.specs.Faults.{StopsRunOf}
-use Rattle.rrs_runner.specs.Printed.{PrintsOfRun}
-use Rattle.rrs_runner.specs.Texts.{ending_lines}
+use Rattle.rrs_cli.specs.declared.fault.RunFault.{RunFault}
+use Rattle.rrs_cli.specs.Faults.{StopsRunOf}
+use Rattle.rrs_cli.specs.Printed.{PrintsOfRun}
+use Rattle.rrs_cli.specs.Texts.{ending_lines}
 
 -- a run from s is made up to its end, and nothing is printed
 abbrev pub IsMadeQuietly : ℕ → State → List ℕ → Type 0

@@ -1,6 +1,6 @@
 -- Which words ask rrs exec to run a program.
 use Rattle.std.specs.Prelude.{◌≡◌, ◌⊎◌, ℕ, List, [], ◌∷◌, codes, Some}
-use Rattle.rrs_runner.specs.Limits.{limit_in}
+use Rattle.rrs_cli.specs.Limits.{limit_in}
 
 -- These are two options, the first with this file and the second with this limit.
 abbrev pub NamesFile : List ℕ → List ℕ → List ℕ → List ℕ → List ℕ → ℕ → Type 0

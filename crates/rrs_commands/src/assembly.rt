@@ -1,15 +1,15 @@
 //! What is written of a source of RISC-V.
 
 ghost use Rattle.std.specs.Prelude.{◌≡◌, List, false, IfOk};
-ghost use Rattle.rrs_source.specs.declared.output.Placed.{Placed};
-ghost use Rattle.rrs_source.specs.Statements.{LaysOut};
+ghost use Rattle.rrs_asm.specs.declared.output.Placed.{Placed};
+ghost use Rattle.rrs_asm.specs.Statements.{LaysOut};
 
 use crate::ending::Refusal;
 use crate::requests::AssemblyRequest;
-use rrs_runner::command::Failure;
-use rrs_runner::fault::RunFault;
-use rrs_runner::report::{flush, write_text};
-use rrs_source::{SourceError, SourceFault, assemble_source, gnu_text};
+use rrs_asm::{SourceError, SourceFault, assemble_source, gnu_text};
+use rrs_cli::command::Failure;
+use rrs_cli::fault::RunFault;
+use rrs_cli::report::{flush, write_text};
 use std::io::ErrorKind;
 use std::rt::Files;
 use std::{fs, io};
@@ -27,9 +27,9 @@ pub fn assembled_text<H: Eprint + AllocGlobal>(
     let bytes = match assemble_source(rt.alloc(), source, 0) {
         Ok(made) => made.bytes,
         Err(SourceFault::OutOfMemory) => return Err(failed(RunFault::OutOfMemory)),
-        Err(SourceFault::Mistakes(errors)) => {
+        Err(SourceFault::Errors(errors)) => {
             print_mistakes(rt, request.path, &errors);
-            return Err(Refusal::Mistakes);
+            return Err(Refusal::SourceErrors);
         }
     };
     if !request.is_gnu {
@@ -52,7 +52,7 @@ fn print_mistakes<H: Eprint>(rt: &H, path: &str, errors: &[SourceError]) {
 ///
 /// # Errors
 ///
-/// `Refusal::Mistakes` where the source has mistakes, which were printed: nothing is written then.
+/// `Refusal::SourceErrors` where the source has mistakes, which were printed: nothing is written then.
 /// `Refusal::Failed` where the file can't be read, for a write that fails, and out of memory.
 pub fn assemble_file<H: Files + Print + Eprint + AllocGlobal>(
     rt: &H,

@@ -5,9 +5,9 @@ ghost use Rattle.std.specs.Process.{exit_status};
 ghost use Rattle.rrs_commands.specs.Endings.{refused_status, signal_of, status_of};
 
 use crate::subcommands::{Subcommand, Task};
+use rrs_cli::command::{Failure, NamedFailure};
+use rrs_env::Ending;
 use rrs_lib::instruction_executor::InstructionException;
-use rrs_runner::command::{Failure, NamedFailure};
-use rrs_served::Ending;
 use std::process::ExitCode;
 
 /// Why a subcommand did not do what it was asked.
@@ -46,7 +46,7 @@ fn refused_status(task: Task, refusal: &Refusal) -> u8
 {
     match (task, refusal) {
         (Task::Execute, _) => 125,
-        (_, Refusal::Mistakes) => 1,
+        (_, Refusal::SourceErrors) => 1,
         (_, Refusal::Failed(failure)) => failure.status(),
     }
 }
@@ -77,7 +77,7 @@ pub fn conclude<H: Eprint>(
     let program = subcommand.command;
     let status = status_of(subcommand.task, &outcome);
     let _ = match outcome {
-        Ok(Ending::Exit(_)) | Err(Refusal::Mistakes) => Ok(()),
+        Ok(Ending::Exit(_)) | Err(Refusal::SourceErrors) => Ok(()),
         Ok(Ending::Limit) => eprintln!(rt; "{}: limit", program.name),
         Ok(Ending::Fault(fault)) => eprintln!(rt; "{}: {fault}", program.name),
         Err(Refusal::Failed(failure)) => rt.eprintln(NamedFailure { program, failure }),

@@ -1,17 +1,17 @@
 //! A program that makes system calls of Linux: the memory that it is loaded into, and its run.
 
 ghost use Rattle.std.specs.Prelude.{◌≡◌, IfOk, IfErr, OnErr};
-ghost use Rattle.rrs_runner.specs.Faults.{StopsLoadInto};
+ghost use Rattle.rrs_cli.specs.Faults.{StopsLoadInto};
 ghost use Rattle.rrs_commands.specs.Execution.{ExecutesProgram};
 
+use rrs_cli::command::{Failure, open_file};
+use rrs_cli::fault::RunFault;
+use rrs_cli::loading::load;
+use rrs_env::{Ending, ServedEnd, run_served};
 use rrs_fast::DecodeCache;
 use rrs_lib::HartState;
 use rrs_lib::instruction_executor::InstructionExecutor;
 use rrs_linux::Linux;
-use rrs_runner::command::{Failure, open_file};
-use rrs_runner::fault::RunFault;
-use rrs_runner::loading::load;
-use rrs_served::{Ending, ServedEnd, run_served};
 use std::alloc::Global;
 use std::io::{Read, Write};
 use std::rt::Files;

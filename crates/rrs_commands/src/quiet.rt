@@ -3,14 +3,14 @@
 ghost use Rattle.std.specs.Prelude.{OnOk, IfErr};
 ghost use Rattle.rrs_commands.specs.Quiet.{QuietAccount, StopsQuietRun};
 
+use rrs_cli::command::{Failure, open_file, output};
+use rrs_cli::fault::RunFault;
+use rrs_cli::loading::load;
+use rrs_cli::report::print_ending;
+use rrs_cli::simulation::WORDS;
 use rrs_fast::DecodeCache;
 use rrs_lib::HartState;
 use rrs_lib::instruction_executor::InstructionExecutor;
-use rrs_runner::command::{Failure, open_file, output};
-use rrs_runner::fault::RunFault;
-use rrs_runner::loading::load;
-use rrs_runner::report::print_ending;
-use rrs_runner::simulation::WORDS;
 use std::alloc::Global;
 use std::io::{Read, Write};
 use std::rt::Files;

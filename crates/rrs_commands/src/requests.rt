@@ -1,11 +1,11 @@
 //! What the words of a command line ask of a subcommand, the subcommand's own word among them.
 
 ghost use Rattle.std.specs.Prelude.{◌≡◌, IfSome, Some, map, string_bytes};
-ghost use Rattle.rrs_runner.specs.Limits.{limit_in};
+ghost use Rattle.rrs_cli.specs.Limits.{limit_in};
 ghost use Rattle.rrs_commands.specs.Requests.{AsksToExecute};
 
-use rrs_runner::limits::limit_of;
-use rrs_runner::requests::request_of;
+use rrs_cli::limits::limit_of;
+use rrs_cli::requests::file_and_limit;
 
 /// A run that is asked for: a file, a limit, and whether its instructions are not to be printed.
 #[derive(Clone, Copy)]
@@ -25,7 +25,7 @@ pub fn run_request_of(words: &[String]) -> Option<RunRequest<'_>> {
         _ => false,
     };
     let words = if is_quiet { &words[1..] } else { words };
-    let (path, limit) = request_of(words)?;
+    let (path, limit) = file_and_limit(words)?;
     Some(RunRequest {
         path,
         limit,

@@ -1,6 +1,6 @@
 //! The subcommands of `rrs`: how each is called, and what its help says.
 
-use rrs_runner::command::Command;
+use rrs_cli::command::Command;
 
 /// What a subcommand does.
 #[derive(Clone, Copy, Debug, PartialEq)]

@@ -6,8 +6,8 @@ use Rattle.rrs_extra.specs.Programs.{HoldsWords}
 use Rattle.rrs_extra.proofs.PutString.{string_by_test}
 use Rattle.rrs_extra.proofs.Words.{holds_by_test}
 use Rattle.rrs_linux.specs.Transfers.{Stands}
-use Rattle.rrs_linux_programs.specs.WritingAndExiting.{write_and_exit_program}
-use Rattle.rrs_linux_programs.specs.Echoing.{echo_program}
+use Rattle.rrs_programs.specs.WritingAndExiting.{write_and_exit_program}
+use Rattle.rrs_programs.specs.Echoing.{echo_program}
 use Rattle.rrs_examples.specs.ServedExamples.{words_to_write, words_to_echo}
 
 pub holds_write_and_exit : (words : List ℕ) → words ≡ words_to_write → HoldsWords (bytes_of_words words) 0 write_and_exit_program

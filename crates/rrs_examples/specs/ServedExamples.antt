@@ -1,7 +1,7 @@
 -- Memories of the tests of the programs that make system calls.
 use Rattle.std.specs.Prelude.{ℕ, List, [], ◌∷◌, ◌++◌}
-use Rattle.rrs_linux_programs.specs.WritingAndExiting.{write_and_exit_program}
-use Rattle.rrs_linux_programs.specs.Echoing.{echo_program}
+use Rattle.rrs_programs.specs.WritingAndExiting.{write_and_exit_program}
+use Rattle.rrs_programs.specs.Echoing.{echo_program}
 
 -- the program that writes and ends, and "Hello, RISC-V!" with a 0
 abbrev pub words_to_write : List ℕ

@@ -1,7 +1,7 @@
 //! Texts that are assembled, and texts that are refused.
 
 use crate::rows::ROWS;
-use rrs_assembler::{AssembleError, Mistake, assemble};
+use rrs_text::{AssembleError, AssembleErrorKind, assemble};
 use std::process::Abort;
 
 /// Asserts what a text is assembled to.
@@ -46,44 +46,49 @@ fn ends_of_ranges_are_assembled(rt: HostRuntime) {
 }
 
 /// Addresses and texts, each with its mistake and the byte where it is.
-static OTHER_TEXTS: [(u32, &str, Mistake, usize); 31] = [
-    (0, "", Mistake::Mnemonic, 0),
-    (0, "add", Mistake::Mnemonic, 3),
-    (0, "addx x1, x2, x3", Mistake::Mnemonic, 3),
-    (0, "fenc", Mistake::Mnemonic, 4),
-    (0, "ADD x1, x2, x3", Mistake::Mnemonic, 0),
-    (0, "add  x1, x2, x3", Mistake::Register, 4),
-    (0, "add x32, x2, x3", Mistake::Register, 6),
-    (0, "add x01, x2, x3", Mistake::Register, 6),
-    (0, "add x1,x2, x3", Mistake::Separator, 7),
-    (0, "add x1, x2", Mistake::Separator, 10),
-    (0, "add x1, x2, x3 ", Mistake::More, 14),
-    (0, "fence 0", Mistake::More, 5),
-    (0, "addi x3, x1, 2048", Mistake::Range, 16),
-    (0, "addi x3, x1, -2049", Mistake::Range, 17),
-    (0, "addi x3, x1, -0", Mistake::Range, 14),
-    (0, "addi x3, x1, 007", Mistake::Range, 14),
-    (0, "addi x3, x1, +7", Mistake::Number, 13),
-    (0, "srai x3, x1, 32", Mistake::Range, 14),
-    (0, "lui x3, 0x12345678", Mistake::Range, 15),
-    (0, "lui x3, 0x1234500", Mistake::Number, 17),
-    (0, "lui x3, 0x1234F000", Mistake::Number, 14),
-    (0, "lui x3, 12345000", Mistake::Separator, 8),
-    (0, "beq x1, x2, 0x00001000", Mistake::Range, 18),
-    (0, "beq x1, x2, 0x00000107", Mistake::Range, 21),
-    (0x101, "beq x1, x2, 0x00000108", Mistake::Range, 21),
-    (0, "jal x1, 0x001", Mistake::Range, 12),
-    (0, "lw x1, 4(x2", Mistake::Separator, 11),
-    (0, "lw x1, (x2)", Mistake::Number, 7),
-    (0, "jalr x1, 0x0014(x2)", Mistake::Separator, 14),
-    (0, "jalr x1, 0x800(x2)", Mistake::Range, 11),
-    (0, "jalr x1, 0xfff(x2)", Mistake::Number, 14),
+static OTHER_TEXTS: [(u32, &str, AssembleErrorKind, usize); 31] = [
+    (0, "", AssembleErrorKind::Mnemonic, 0),
+    (0, "add", AssembleErrorKind::Mnemonic, 3),
+    (0, "addx x1, x2, x3", AssembleErrorKind::Mnemonic, 3),
+    (0, "fenc", AssembleErrorKind::Mnemonic, 4),
+    (0, "ADD x1, x2, x3", AssembleErrorKind::Mnemonic, 0),
+    (0, "add  x1, x2, x3", AssembleErrorKind::Register, 4),
+    (0, "add x32, x2, x3", AssembleErrorKind::Register, 6),
+    (0, "add x01, x2, x3", AssembleErrorKind::Register, 6),
+    (0, "add x1,x2, x3", AssembleErrorKind::Separator, 7),
+    (0, "add x1, x2", AssembleErrorKind::Separator, 10),
+    (0, "add x1, x2, x3 ", AssembleErrorKind::More, 14),
+    (0, "fence 0", AssembleErrorKind::More, 5),
+    (0, "addi x3, x1, 2048", AssembleErrorKind::Range, 16),
+    (0, "addi x3, x1, -2049", AssembleErrorKind::Range, 17),
+    (0, "addi x3, x1, -0", AssembleErrorKind::Range, 14),
+    (0, "addi x3, x1, 007", AssembleErrorKind::Range, 14),
+    (0, "addi x3, x1, +7", AssembleErrorKind::Number, 13),
+    (0, "srai x3, x1, 32", AssembleErrorKind::Range, 14),
+    (0, "lui x3, 0x12345678", AssembleErrorKind::Range, 15),
+    (0, "lui x3, 0x1234500", AssembleErrorKind::Number, 17),
+    (0, "lui x3, 0x1234F000", AssembleErrorKind::Number, 14),
+    (0, "lui x3, 12345000", AssembleErrorKind::Separator, 8),
+    (0, "beq x1, x2, 0x00001000", AssembleErrorKind::Range, 18),
+    (0, "beq x1, x2, 0x00000107", AssembleErrorKind::Range, 21),
+    (
+        0x101,
+        "beq x1, x2, 0x00000108",
+        AssembleErrorKind::Range,
+        21,
+    ),
+    (0, "jal x1, 0x001", AssembleErrorKind::Range, 12),
+    (0, "lw x1, 4(x2", AssembleErrorKind::Separator, 11),
+    (0, "lw x1, (x2)", AssembleErrorKind::Number, 7),
+    (0, "jalr x1, 0x0014(x2)", AssembleErrorKind::Separator, 14),
+    (0, "jalr x1, 0x800(x2)", AssembleErrorKind::Range, 11),
+    (0, "jalr x1, 0xfff(x2)", AssembleErrorKind::Number, 14),
 ];
 
 /// Each mistake, and the byte where it is.
 #[test]
 fn other_texts_are_refused(rt: HostRuntime) {
-    for &(pc, text, mistake, at) in &OTHER_TEXTS {
-        same_answer(&rt, text, pc, Err(AssembleError { mistake, at }));
+    for &(pc, text, kind, at) in &OTHER_TEXTS {
+        same_answer(&rt, text, pc, Err(AssembleError { kind, at }));
     }
 }

@@ -4,10 +4,10 @@ ghost use Rattle.std.specs.Prelude.{◌≡◌};
 ghost use Rattle.rrs_examples.specs.Consoles.{Serves};
 
 use crate::served_programs::{exit_at, served_over};
+use rrs_env::Environment;
 use rrs_lib::instruction_executor::InstructionExecutor;
 use rrs_lib::memories::VecMemory;
 use rrs_lib::{HartState, MemAccessSize, Memory};
-use rrs_served::Environment;
 use std::test::Fail;
 
 /// What a call answers whose address is not mapped: -14.

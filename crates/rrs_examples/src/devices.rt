@@ -2,10 +2,10 @@
 //! a cell of a space between runs. `docs/MEMORIES.md` shows both.
 
 use crate::machines::{hart_of, run_over};
-use rrs_debug::{DataRequest, complete, complete_load, complete_store, request};
 use rrs_lib::instruction_executor::{InstructionException, InstructionExecutor};
 use rrs_lib::memories::{MemorySpace, VecMemory};
 use rrs_lib::{HartState, MemAccessSize, Memory};
+use rrs_trace::{DataRequest, complete, complete_load, complete_store, request};
 use std::test::Fail;
 
 /// Where the clock is. Nothing is mapped there.

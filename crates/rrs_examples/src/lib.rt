@@ -1,8 +1,8 @@
-//! The examples of the pages under `docs/`, and the tests of `rrs_extra`, `rrs_debug`,
-//! `rrs_served`, `rrs_linux` and `rrs_assembler`.
+//! The examples of the pages under `docs/`, and the tests of `rrs_extra`, `rrs_trace`,
+//! `rrs_env`, `rrs_linux` and `rrs_text`.
 //!
-//! They are written as a user's crate would be: over what `rrs_lib`, `rrs_extra`, `rrs_debug`,
-//! `rrs_served`, `rrs_linux` and `rrs_assembler` offer to every crate. The processor `call_counter`
+//! They are written as a user's crate would be: over what `rrs_lib`, `rrs_extra`, `rrs_trace`,
+//! `rrs_env`, `rrs_linux` and `rrs_text` offer to every crate. The processor `call_counter`
 //! and its use in `coverage` are those of `docs/PROCESSORS.md`, `count_down` is the program that
 //! `docs/PROGRAMS.md` proves step by step, `tracing`, `calls` and `console` have the examples of
 //! `docs/HOSTS.md`, and `devices` two of `docs/MEMORIES.md`, which speaks of `greeting` too. All

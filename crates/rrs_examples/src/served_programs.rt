@@ -5,17 +5,17 @@ ghost use Rattle.std.specs.Prelude.{◌≡◌, ◌+◌, ◌*◌, ◌<◌, ◌≤
 ghost use Rattle.rrs_examples.specs.ServedExamples.{words_to_write, words_to_echo};
 ghost use Rattle.rrs_extra.specs.Programs.{HoldsWords, IsWritable};
 ghost use Rattle.rrs_linux.specs.Transfers.{Stands};
-ghost use Rattle.rrs_linux_programs.specs.Echoing.{echo_program};
-ghost use Rattle.rrs_linux_programs.specs.WritingAndExiting.{write_and_exit_program};
+ghost use Rattle.rrs_programs.specs.Echoing.{echo_program};
+ghost use Rattle.rrs_programs.specs.WritingAndExiting.{write_and_exit_program};
 
 use crate::machines::hart_of;
+use rrs_env::{Ending, Environment, ServedEnd, run_served};
 use rrs_fast::DecodeCache;
 use rrs_lib::instruction_executor::InstructionExecutor;
 use rrs_lib::memories::VecMemory;
 use rrs_lib::{HartState, Memory};
-use rrs_linux::{Heap, Linux, Recorder};
-use rrs_linux_programs::{echo, write_and_exit, write_and_exit_over};
-use rrs_served::{Ending, Environment, ServedEnd, run_served};
+use rrs_linux::{Heap, Linux, OutputRecorder};
+use rrs_programs::{echo, write_and_exit, write_and_exit_over};
 use std::alloc::{AllocError, Global};
 use std::process::Abort;
 use std::test::Fail;
@@ -57,7 +57,7 @@ fn words_to_write(alloc: Global) -> Result<VecMemory, AllocError>
 fn write<M: Memory>(
     mem: &mut M,
     hart_state: &mut HartState,
-    recorder: &mut Recorder,
+    recorder: &mut OutputRecorder,
     from: u32,
     text: &[u8],
     status: u32,
@@ -81,7 +81,7 @@ fn write<M: Memory>(
 fn writes_a_text_and_exits(rt: HostRuntime) -> Result<(), Fail> {
     let mut memory = words_to_write(rt.alloc())?;
     let mut hart = HartState::new();
-    let mut recorder = Recorder::new(rt.alloc(), &[], 14, Heap::new(0, 0))?;
+    let mut recorder = OutputRecorder::new(rt.alloc(), &[], 14, Heap::new(0, 0))?;
     let text = b"Hello, RISC-V!";
     let end = write(&mut memory, &mut hart, &mut recorder, 52, text, 0x103);
     assert!(rt; end == exit_at(13, 3) && recorder.output.as_slice() == text.as_slice());
@@ -137,7 +137,7 @@ fn words_to_echo(alloc: Global) -> Result<VecMemory, AllocError>
 fn echo_by<M: Memory>(
     mem: &mut M,
     hart_state: &mut HartState,
-    recorder: &mut Recorder,
+    recorder: &mut OutputRecorder,
     size: u32,
 ) -> ServedEnd
     requires program { HoldsWords (M.bytes mem.old) 0 echo_program }
@@ -162,7 +162,7 @@ fn echoes_its_input(rt: HostRuntime) -> Result<(), Fail> {
     let mut memory = words_to_echo(rt.alloc())?;
     let mut hart = HartState::new();
     let text = b"Hello, RISC-V!";
-    let mut recorder = Recorder::new(rt.alloc(), text, 14, Heap::new(0, 0))?;
+    let mut recorder = OutputRecorder::new(rt.alloc(), text, 14, Heap::new(0, 0))?;
     let end = echo_by(&mut memory, &mut hart, &mut recorder, 8);
     assert!(rt; end == exit_at(36, 0) && recorder.output.as_slice() == text.as_slice());
     Ok(())
@@ -200,7 +200,7 @@ fn run_recorded(
     alloc: Global,
     program: &[u32],
     arguments: (u32, u32, u32),
-    mut recorder: Recorder,
+    mut recorder: OutputRecorder,
     text: &[u8],
 ) -> Result<(ServedEnd, bool), AllocError> {
     let end = run_words(alloc, program, arguments, &mut recorder)?;
@@ -244,7 +244,7 @@ fn texts_of_many_lengths_are_written(rt: HostRuntime) -> Result<(), Fail> {
     for &(count, status, low) in &WRITTEN {
         let text = &bytes[..count as usize];
         let arguments = (52, count, status);
-        let recorder = Recorder::new(rt.alloc(), &[], 300, Heap::new(0, 0))?;
+        let recorder = OutputRecorder::new(rt.alloc(), &[], 300, Heap::new(0, 0))?;
         let recorded = run_recorded(rt.alloc(), &WRITE_AND_EXIT, arguments, recorder, text)?;
         same_run(&rt, &recorded, 13, low);
         let streamed = run_streamed(rt.alloc(), &WRITE_AND_EXIT, arguments, &[], text)?;
@@ -282,7 +282,7 @@ fn inputs_of_many_lengths_are_echoed(rt: HostRuntime) -> Result<(), Fail> {
     let bytes = numbered_bytes();
     for &(count, size, steps, of_stream) in &ECHOED {
         let input = &bytes[..count];
-        let recorder = Recorder::new(rt.alloc(), input, 700, Heap::new(0, 0))?;
+        let recorder = OutputRecorder::new(rt.alloc(), input, 700, Heap::new(0, 0))?;
         let recorded = run_recorded(rt.alloc(), &ECHO, (72, size, 0), recorder, input)?;
         same_run(&rt, &recorded, steps, 0);
         let streamed = run_streamed(rt.alloc(), &ECHO, (72, size, 0), input, input)?;

@@ -1,11 +1,11 @@
 //! System calls on chosen buffers, over streams that are short, fail, or are interrupted, and then
 //! go on.
 
+use rrs_env::Environment;
 use rrs_lib::HartState;
 use rrs_lib::instruction_executor::InstructionExecutor;
 use rrs_lib::memories::VecMemory;
-use rrs_linux::{Heap, Linux, Recorder};
-use rrs_served::Environment;
+use rrs_linux::{Heap, Linux, OutputRecorder};
 use std::alloc::{AllocError, Global};
 use std::io;
 use std::io::{ErrorKind, Read, Write};
@@ -212,7 +212,7 @@ static RECORDED: [(Request, Option<u32>, u32, (usize, usize, usize)); 18] = [
 #[test]
 fn a_recorder_answers(rt: HostRuntime) -> Result<(), Fail> {
     let mut memory = numbered(rt.alloc())?;
-    let mut recorder = Recorder::new(rt.alloc(), &[0, 1, 2], 10, Heap::new(64, 96))?;
+    let mut recorder = OutputRecorder::new(rt.alloc(), &[0, 1, 2], 10, Heap::new(64, 96))?;
     for &(request, end, answer, after) in &RECORDED {
         let seen = call(&mut recorder, &mut memory, request);
         let held = (recorder.output.len(), recorder.errors.len());

@@ -2,10 +2,10 @@
 //! steps retire. `docs/HOSTS.md` shows them.
 
 use crate::machines::hart_of;
-use rrs_debug::{MemoryAccess, Retired, StopEnd, StopReason, run_until, step_retired};
 use rrs_lib::instruction_executor::{InstructionException, InstructionExecutor};
 use rrs_lib::memories::VecMemory;
 use rrs_lib::{HartState, Memory};
+use rrs_trace::{MemoryAccess, Retired, StopEnd, StopReason, run_until, step_retired};
 use std::alloc::{AllocError, Global};
 use std::test::Fail;
 

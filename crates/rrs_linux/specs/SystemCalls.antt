@@ -6,11 +6,11 @@ use Rattle.rrs_lib.specs.AccessLists.{Access}
 use Rattle.rrs_lib.specs.Machine.{State, put}
 use Rattle.rrs_linux.specs.declared.Heap.{Heap}
 use Rattle.rrs_linux.specs.declared.Process.{Process}
-use Rattle.rrs_linux.specs.declared.held.Held.{Held}
+use Rattle.rrs_linux.specs.declared.input_buffer.InputBuffer.{InputBuffer}
 use Rattle.rrs_linux.specs.declared.requests.Request.{Request}
 use Rattle.rrs_linux.specs.declared.requests.Request.TheVariants.{Exit, Answer, SetBreak, Read, WriteOutput, WriteErrors}
 use Rattle.rrs_linux.specs.Requests.{Asks}
-use Rattle.rrs_linux.specs.HeldBytes.{held_bytes}
+use Rattle.rrs_linux.specs.BufferedBytes.{buffered_bytes}
 use Rattle.rrs_linux.specs.Transfers.{Gives, Takes, WritesText, ReadsText}
 
 -- the break at an address, if it may lie there, and else as it was (brk(2), as the kernel answers)
@@ -66,17 +66,17 @@ WritesOutput contents bytes a count old new answer accesses =
 -- By the bytes that a reader has left, where these are known:
 module _ {R : Type 0} (remaining : R → Option (List ℕ)) where
   -- the input that a program has not got yet
-  abbrev pub left_of : R → Held → Option (List ℕ)
-  left_of input held = prepend_known (held_bytes held) (remaining input)
+  abbrev pub left_of : R → InputBuffer → Option (List ℕ)
+  left_of input held = prepend_known (buffered_bytes held) (remaining input)
 
   -- a read of a reader, of which some bytes are held
-  abbrev pub ReadsInput : Gives R Held
+  abbrev pub ReadsInput : Gives R InputBuffer
   ReadsInput writable bytes bytes' a count old held new held' answer accesses =
       ReadsText writable bytes bytes' a count (left_of old held) (left_of new held') answer accesses
 
 -- What a call does over a reader and two writers of the host, by what is known of each.
 abbrev pub Serves : {R W E : Type 0} → (R → Option (List ℕ)) → (W → Option (List ℕ))
-    → (E → Option (List ℕ)) → Process R W E Held → State → Process R W E Held → State
+    → (E → Option (List ℕ)) → Process R W E InputBuffer → State → Process R W E InputBuffer → State
     → List Access → Option ℕ → Type 0
 Serves remaining contents errors_of =
     ServesBy (ReadsInput remaining) (WritesOutput contents) (WritesOutput errors_of)

@@ -5,7 +5,7 @@ ghost use Rattle.std.specs.Io.KnownBytes.{Appends};
 ghost use Rattle.rrs_linux.specs.SystemCalls.{ReadsInput, WritesOutput};
 
 use crate::buffers::{BAD_ADDRESS, CHUNK, answer_of, copy_chunk, give_bytes, most_of};
-use crate::held::Held;
+use crate::input_buffer::InputBuffer;
 use crate::streams::{Input, Output};
 use rrs_lib::Memory;
 use std::io::{ErrorKind, Read, Write};
@@ -13,7 +13,7 @@ use std::io::{ErrorKind, Read, Write};
 /// The answer where the host's read or write failed: -5, `EIO`.
 const HOST_FAILED: u32 = 0xffff_fffb;
 
-impl<W: Write> Output<Held> for W {
+impl<W: Write> Output<InputBuffer> for W {
     ghost takes = { WritesOutput W.contents };
 
     /// Writes the bytes of a buffer in memory, some at a time.
@@ -63,13 +63,13 @@ fn write_once<W: Write>(out: &mut W, bytes: &[u8]) -> u32
     0
 }
 
-impl<R: Read> Input<Held> for R {
+impl<R: Read> Input<InputBuffer> for R {
     ghost gives = { ReadsInput R.remaining };
 
     /// Gives bytes that are held, and reads once before, where none are.
     fn read_to<M: Memory>(
         &mut self,
-        held: &mut Held,
+        held: &mut InputBuffer,
         memory: &mut M,
         address: u32,
         count: u32,

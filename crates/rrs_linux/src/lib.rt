@@ -5,29 +5,29 @@
 //! standard input, output and error. What each call does is written in `specs/SystemCalls.antt`, by
 //! what the streams do with the bytes of a buffer ([Input], [Output]). No call allocates. The
 //! streams of [Linux] are a reader and two writers of the host (`specs/Transfers.antt`); those of
-//! [Recorder] are bytes in the host's memory (`specs/Recording.antt`).
+//! [OutputRecorder] are bytes in the host's memory (`specs/Recording.antt`).
 
 #![tactic(auto)]
 
 mod buffers;
-mod held;
 mod host;
+mod input_buffer;
 mod recorder;
 mod requests;
 mod streams;
 
 ghost use Rattle.std.specs.Prelude.{◌≡◌, ℕ, Bool, Option, None, slice_index, []};
 ghost use Rattle.rrs_lib.specs.Machine.{state_of};
-ghost use Rattle.rrs_linux.specs.HeldBytes.{held_bytes};
+ghost use Rattle.rrs_linux.specs.BufferedBytes.{buffered_bytes};
 ghost use Rattle.rrs_linux.specs.SystemCalls.{ServesBy, moved, answered};
 
-use crate::requests::request_of;
-pub use held::Held;
-pub use recorder::{Known, Recorder};
+use crate::requests::system_call_of;
+pub use input_buffer::InputBuffer;
+pub use recorder::{Known, OutputRecorder};
 pub use requests::Request;
+use rrs_env::Environment;
 use rrs_lib::instruction_executor::InstructionExecutor;
 use rrs_lib::{HartState, Memory};
-use rrs_served::Environment;
 pub use streams::{Input, Output};
 
 /// Where a program's heap lies, and where it ends at present.
@@ -83,23 +83,23 @@ pub struct Process<R, W, E, K> {
 
 /// The environment of a program whose standard input is a reader of the host, and whose standard
 /// output and standard error are writers.
-pub type Linux<R, W, E> = Process<R, W, E, Held>;
+pub type Linux<R, W, E> = Process<R, W, E, InputBuffer>;
 
-impl<R, W, E> Process<R, W, E, Held> {
+impl<R, W, E> Process<R, W, E, InputBuffer> {
     /// An environment with these streams and this heap, which holds nothing of the input yet.
     pub fn new(input: R, output: W, errors: E, heap: Heap) -> Self
         ensures input { result.input ≡ input }
         ensures output { result.output ≡ output }
         ensures errors { result.errors ≡ errors }
         ensures heap { result.heap ≡ heap }
-        ensures held { held_bytes result.held ≡ [] }
+        ensures held { buffered_bytes result.held ≡ [] }
     {
         Process {
             input,
             output,
             errors,
             heap,
-            held: Held::new(),
+            held: InputBuffer::new(),
         }
     }
 }
@@ -109,7 +109,7 @@ impl<R: Input<K>, W: Output<K>, E: Output<K>, K> Environment for Process<R, W, E
 
     /// Serves a system call: the number is in a7, the arguments in a0 to a2, the answer in a0.
     fn serve<M: Memory>(&mut self, executor: &mut InstructionExecutor<M>) -> Option<u32> {
-        match request_of(executor.hart_state) {
+        match system_call_of(executor.hart_state) {
             Request::Exit(status) => Some(status),
             Request::Answer(answer) => go_on(executor.hart_state, answer),
             Request::SetBreak(address) => {

@@ -24,7 +24,7 @@ pub struct Known;
 /// as many bytes as there are and were asked for: `input` is what the program has not got yet. A
 /// write takes all of its bytes, as far as the record has room: `output` and `errors` are what was
 /// written, and their capacity is the room that they have.
-pub type Recorder<'a> = Process<&'a [u8], Vec<u8>, Vec<u8>, Known>;
+pub type OutputRecorder<'a> = Process<&'a [u8], Vec<u8>, Vec<u8>, Known>;
 
 impl<'a> Process<&'a [u8], Vec<u8>, Vec<u8>, Known> {
     /// An environment with this input, with room for so many bytes of the output and of the errors
@@ -38,7 +38,7 @@ impl<'a> Process<&'a [u8], Vec<u8>, Vec<u8>, Known> {
         input: &'a [u8],
         room: usize,
         heap: Heap,
-    ) -> Result<Recorder<'a>, AllocError>
+    ) -> Result<OutputRecorder<'a>, AllocError>
         ensures input { IfOk result (λ made. made.input ≡ input.entry) }
         ensures output { IfOk result (λ made. made.output.items ≡ []) }
         ensures errors { IfOk result (λ made. made.errors.items ≡ []) }

@@ -42,7 +42,7 @@ pub enum Request {
 }
 
 /// What the call of a hart at an `ecall` asks for.
-pub fn request_of(hart: &HartState) -> Request
+pub fn system_call_of(hart: &HartState) -> Request
     ensures { (bytes : ℕ → Option ℕ) (writable : ℕ → Bool)
         → Asks (state_of hart.now bytes writable) result }
 {

@@ -1,16 +1,16 @@
 //! Answers questions about RISC-V instructions, one a line, from standard input.
 //!
-//! `rrs_questions` has the questions, and `docs/RUNNING.md` their forms. Each line is answered
+//! `rrs_oracle` has the questions, and `docs/RUNNING.md` their forms. Each line is answered
 //! before the program waits for the next one. It takes no arguments. Where a read or a write fails,
 //! or out of memory, it says so on standard error and ends with status 1; what it answered before
 //! stands on standard output, and a line that was cut off is not answered.
 
 #![tactic(auto)]
 
-use rrs_questions::{ReplayFault, answer_all};
-use rrs_runner::command::{Failure, conclude, take_no_arguments};
-use rrs_runner::fault::RunFault;
-use rrs_runner::programs::RRS_REPLAY;
+use rrs_cli::command::{Failure, conclude, take_no_arguments};
+use rrs_cli::fault::RunFault;
+use rrs_cli::programs::RRS_REPLAY;
+use rrs_oracle::{ReplayFault, answer_all};
 use std::io;
 use std::process::ExitCode;
 

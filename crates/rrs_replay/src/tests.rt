@@ -4,8 +4,8 @@
 ghost use Rattle.std.specs.Prelude.{◌≤◌};
 
 use super::*;
-use rrs_questions::answer_lines;
-use rrs_runner::command::NamedFailure;
+use rrs_cli::command::NamedFailure;
+use rrs_oracle::answer_lines;
 use std::io::{BufReader, ErrorKind, Read, Write};
 use std::test::Fail;
 

@@ -7,7 +7,7 @@
 
 #![tactic(auto)]
 
-use rrs_runner::command::run_program;
+use rrs_cli::command::run_program;
 use std::process::ExitCode;
 
 fn main(rt: HostRuntime) -> ExitCode {

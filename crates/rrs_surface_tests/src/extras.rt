@@ -5,14 +5,14 @@ ghost use Rattle.rrs_lib.specs.Executor.{state_in};
 ghost use Rattle.rrs_extra.specs.Agreement.{Agree, AreOpenPages, words_of};
 ghost use Rattle.rrs_extra.specs.Programs.{SumLoopStarts};
 
+use rrs_cli::fault::RunFault;
+use rrs_cli::limits::limit_of;
+use rrs_cli::simulation::simulate;
 use rrs_extra::laws::{agree_each, both_texts, same_bytes, sum_loop};
 use rrs_extra::{PagedMemory, RowNumberer};
 use rrs_lib::instruction_executor::{InstructionException, InstructionExecutor, RunEnd};
 use rrs_lib::memories::VecMemory;
 use rrs_lib::{Memory, process_instruction};
-use rrs_runner::fault::RunFault;
-use rrs_runner::limits::limit_of;
-use rrs_runner::simulation::simulate;
 use std::alloc::{AllocError, Global};
 use std::io::{Read, Write};
 use std::test::Fail;

@@ -1,6 +1,6 @@
 -- The run is the kit's, over the same hart and the same words, and a state has one.
 use Rattle.std.proofs.Common.{rules}
-use Rattle.rrs_debug.proofs.Stopping.{RunsToStop-unique}
+use Rattle.rrs_trace.proofs.Stopping.{RunsToStop-unique}
 use Rattle.rrs_c.proofs.rrs_run_until.Goals as goal
 
 pub returns-clause-run : goal.returns-clause-run

@@ -4,7 +4,7 @@ use Rattle.rrs_lib.specs.Machine.{hart_of}
 use Rattle.rrs_lib.specs.Steps.{Step}
 use Rattle.rrs_lib.proofs.Stepping.{Step-unique}
 use Rattle.rrs_lib.proofs.Rows.{one_row_at_most}
-use Rattle.rrs_debug.specs.Retired.{Retires}
+use Rattle.rrs_trace.specs.Retired.{Retires}
 use Rattle.rrs_c.specs.Harts.{register_in, answer_of}
 use Rattle.rrs_c.specs.Records.{retired_in}
 use Rattle.rrs_c.proofs.Carrying.{carried, left, both}

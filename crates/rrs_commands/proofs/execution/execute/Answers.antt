@@ -2,9 +2,9 @@ use Rattle.std.proofs.Common.{◌^◌, ◌∷◌, set, drop, replicate, ap, subs
 use Rattle.rrs_lib.specs.VecBytes.{bytes_of_words, lies_in_words, vec_bytes, vec_writable}
 use Rattle.rrs_lib.specs.Executor.{state_in}
 use Rattle.rrs_lib.specs.Machine.{State}
-use Rattle.rrs_served.specs.Serving.{Served}
+use Rattle.rrs_env.specs.Serving.{Served}
 use Rattle.rrs_linux.specs.SystemCalls.{Serves}
-use Rattle.rrs_runner.proofs.Printed.{start_is}
+use Rattle.rrs_cli.proofs.Printed.{start_is}
 use Rattle.rrs_commands.proofs.execution.execute.Goals as goal
 
 pub returns-clause-executed : goal.returns-clause-executed

@@ -6,11 +6,11 @@ use Rattle.rrs_lib.specs.Machine.{State}
 use Rattle.rrs_lib.specs.Executor.{state_in}
 use Rattle.rrs_lib.specs.Steps.{RunUntil}
 use Rattle.rrs_lib.specs.VecBytes.{vec_bytes, vec_writable}
-use Rattle.rrs_runner.specs.declared.fault.RunFault.{RunFault}
-use Rattle.rrs_runner.specs.Faults.{StopsPrinting}
-use Rattle.rrs_runner.specs.Printed.{AppendsLines}
-use Rattle.rrs_runner.specs.Texts.{ending_lines}
-use Rattle.rrs_runner.proofs.Printed.{Ready, ready_state, run_printed, if_stops_run, if_stops_weaker, stopped_in_load}
+use Rattle.rrs_cli.specs.declared.fault.RunFault.{RunFault}
+use Rattle.rrs_cli.specs.Faults.{StopsPrinting}
+use Rattle.rrs_cli.specs.Printed.{AppendsLines}
+use Rattle.rrs_cli.specs.Texts.{ending_lines}
+use Rattle.rrs_cli.proofs.Printed.{Ready, ready_state, run_printed, if_stops_run, if_stops_weaker, stopped_in_load}
 use Rattle.rrs_commands.specs.Quiet.{IsMadeQuietly, QuietAccountOf}
 use Rattle.rrs_commands.proofs.quiet.simulate_quietly.Goals as goal
 

@@ -1,0 +1,231 @@
+//! Directives.
+
+ghost use Rattle.std.specs.Prelude.{◌<◌};
+
+use crate::errors::{Halt, LineError, SourceErrorKind};
+use crate::literals::escaped;
+use crate::names::{DirectiveForm, PlacedForm, directive_named};
+use crate::output::MOST_BYTES;
+use crate::reading::Line;
+use crate::statements::Statement;
+use std::alloc::{AllocError, Global};
+
+/// The greatest alignment, as a power of 2.
+const MOST_ALIGNED: u32 = 16;
+
+/// What a directive says.
+#[derive(Drop)]
+pub enum Directive<'a> {
+    /// What stands at the address.
+    Place(Statement),
+    /// A constant has this value.
+    Set(&'a [u8], u32),
+    /// Nothing.
+    Nothing,
+}
+
+/// Reads the operands of a directive of this name, which begins with a dot. Its name stands at
+/// `stop`.
+pub fn read_directive<'a>(
+    alloc: Global,
+    line: &mut Line<'a, '_>,
+    name: &[u8],
+    error: LineError,
+) -> Result<Directive<'a>, Halt> {
+    match directive_named(name) {
+        Some(DirectiveForm::Place(form)) => Ok(Directive::Place(read_placed(alloc, line, form)?)),
+        Some(DirectiveForm::Constant) => read_constant(line).map_err(Halt::Error),
+        Some(DirectiveForm::Names) => read_names(line).map_err(Halt::Error),
+        Some(DirectiveForm::Text) => Ok(Directive::Nothing),
+        Some(DirectiveForm::Section) => Err(Halt::Error(LineError {
+            kind: SourceErrorKind::Section,
+            ..error
+        })),
+        None => Err(Halt::Error(error)),
+    }
+}
+
+/// Reads the operands of a directive that puts something at its address.
+fn read_placed(alloc: Global, line: &mut Line, form: PlacedForm) -> Result<Statement, Halt> {
+    match form {
+        PlacedForm::Data(bits) => read_data(alloc, line, bits),
+        PlacedForm::Strings(is_ended) => read_strings(alloc, line, is_ended),
+        PlacedForm::Power => read_power(alloc, line),
+        PlacedForm::Alignment => read_alignment(alloc, line),
+        PlacedForm::Space => read_space(line).map_err(Halt::Error),
+        PlacedForm::Origin => read_origin(line).map_err(Halt::Error),
+    }
+}
+
+/// Reads the name and the value of a constant.
+fn read_constant<'a>(line: &mut Line<'a, '_>) -> Result<Directive<'a>, LineError> {
+    let name = read_name(line)?;
+    line.comma()?;
+    Ok(Directive::Set(name, line.known_value()?))
+}
+
+/// Reads the name of a symbol.
+fn read_name<'a>(line: &mut Line<'a, '_>) -> Result<&'a [u8], LineError> {
+    line.skip_blanks();
+    let error = line.error(SourceErrorKind::Character);
+    match line.word() {
+        [] | [b'0'..=b'9', ..] => Err(error),
+        name => Ok(name),
+    }
+}
+
+/// Reads names that mean nothing here.
+fn read_names<'a>(line: &mut Line<'a, '_>) -> Result<Directive<'a>, LineError> {
+    for _ in 0..u64::MAX {
+        let _ = read_name(line)?;
+        if !line.take(b',') {
+            break;
+        }
+    }
+    Ok(Directive::Nothing)
+}
+
+/// Reads numbers of so many bits each, with commas between them.
+fn read_data(alloc: Global, line: &mut Line, bits: u32) -> Result<Statement, Halt> {
+    let mut bytes = Vec::new(alloc);
+    for _ in 0..u64::MAX {
+        push_datum(&mut bytes, line.datum(bits)?, bits)?;
+        if !line.take(b',') {
+            break;
+        }
+    }
+    Ok(Statement::Data(bytes))
+}
+
+/// Appends a number of so many bits, its lowest byte first.
+fn push_datum(bytes: &mut Vec<u8>, value: u32, bits: u32) -> Result<(), AllocError> {
+    let [first, second, ..] = value.to_le_bytes();
+    match bits {
+        8 => bytes.extend_from_slice(&[first]),
+        16 => bytes.extend_from_slice(&[first, second]),
+        _ => bytes.extend_from_slice(&value.to_le_bytes()),
+    }
+}
+
+/// Reads strings with commas between them, and puts a zero byte behind each if that is asked.
+fn read_strings(alloc: Global, line: &mut Line, is_ended: bool) -> Result<Statement, Halt> {
+    let mut bytes = Vec::new(alloc);
+    for _ in 0..u64::MAX {
+        read_string(line, &mut bytes)?;
+        if is_ended {
+            bytes.push(0)?;
+        }
+        if !line.take(b',') {
+            break;
+        }
+    }
+    Ok(Statement::Data(bytes))
+}
+
+/// Reads a string, and appends its bytes.
+fn read_string(line: &mut Line, bytes: &mut Vec<u8>) -> Result<(), Halt> {
+    line.expect(b'"', SourceErrorKind::Quote)?;
+    for _ in 0..u64::MAX {
+        let Some(byte) = next_in_string(line)? else {
+            break;
+        };
+        bytes.push(byte)?;
+    }
+    Ok(())
+}
+
+/// Takes the next byte of a string, or its end, where there is none.
+fn next_in_string(line: &mut Line) -> Result<Option<u8>, LineError> {
+    match line.next_byte() {
+        None => Err(line.error(SourceErrorKind::Quote)),
+        Some(b'"') => Ok(None),
+        Some(b'\\') => next_escaped(line),
+        byte => Ok(byte),
+    }
+}
+
+/// Takes what follows a backslash: the byte that it stands for.
+fn next_escaped(line: &mut Line) -> Result<Option<u8>, LineError> {
+    let error = line.error(SourceErrorKind::Escape);
+    match line.next_byte().and_then(escaped) {
+        None => Err(error),
+        byte => Ok(byte),
+    }
+}
+
+/// Reads how many bytes, and which byte where another than zero is meant.
+fn read_space(line: &mut Line) -> Result<Statement, LineError> {
+    let count = read_count(line)?;
+    let byte = if line.take(b',') {
+        (line.datum(8)? % 256) as u8
+    } else {
+        0
+    };
+    Ok(Statement::Fill(count, byte))
+}
+
+/// Reads a number of bytes that is known here.
+fn read_count(line: &mut Line) -> Result<u32, LineError> {
+    line.skip_blanks();
+    let error = line.error(SourceErrorKind::TooLong);
+    let count = line.known_value()?;
+    if count as usize <= MOST_BYTES {
+        Ok(count)
+    } else {
+        Err(error)
+    }
+}
+
+/// Reads the address of what follows, which is no lower than that of the directive.
+fn read_origin(line: &mut Line) -> Result<Statement, LineError> {
+    line.skip_blanks();
+    let error = line.error(SourceErrorKind::Backward);
+    let target = line.known_value()?;
+    let count = target.checked_sub(line.here()).ok_or(error)?;
+    if count as usize <= MOST_BYTES {
+        Ok(Statement::Fill(count, 0))
+    } else {
+        Err(LineError {
+            kind: SourceErrorKind::TooLong,
+            ..error
+        })
+    }
+}
+
+/// Reads an alignment as a power of 2.
+fn read_power(alloc: Global, line: &mut Line) -> Result<Statement, Halt> {
+    line.skip_blanks();
+    let error = line.error(SourceErrorKind::Range);
+    let power = line.known_value()?;
+    if power > MOST_ALIGNED {
+        return Err(Halt::Error(error));
+    }
+    padding(alloc, line.here(), 1 << power)
+}
+
+/// Reads an alignment in bytes, a power of 2.
+fn read_alignment(alloc: Global, line: &mut Line) -> Result<Statement, Halt> {
+    line.skip_blanks();
+    let error = line.error(SourceErrorKind::Range);
+    let alignment = line.known_value()?;
+    if !alignment.is_power_of_two() || alignment > 1 << MOST_ALIGNED {
+        return Err(Halt::Error(error));
+    }
+    padding(alloc, line.here(), alignment)
+}
+
+/// The bytes from an address to the next multiple of the alignment: zeros up to a multiple of 4,
+/// and then `nop`s.
+fn padding(alloc: Global, here: u32, alignment: u32) -> Result<Statement, Halt>
+    requires { 0 < alignment }
+{
+    let count = 0u32.wrapping_sub(here) % alignment;
+    let mut bytes = Vec::new(alloc);
+    for _ in 0..count % 4 {
+        bytes.push(0)?;
+    }
+    for _ in 0..count / 4 {
+        bytes.extend_from_slice(&[0x13, 0, 0, 0])?;
+    }
+    Ok(Statement::Data(bytes))
+}

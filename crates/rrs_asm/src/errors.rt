@@ -1,0 +1,166 @@
+//! What can be wrong with a source.
+
+use std::alloc::{AllocError, AllocFailed};
+use std::error::Error;
+use std::fmt;
+
+/// What is wrong at a place of a source.
+#[derive(Debug, PartialEq, Clone, Copy)]
+pub enum SourceErrorKind {
+    /// There is no instruction and no directive of this name.
+    Unknown,
+    /// A statement, a label or an operand begins with a character that begins none.
+    Character,
+    /// There is no register where one is wanted.
+    Register,
+    /// There is no number, symbol or character constant where a value is wanted.
+    Value,
+    /// A number is not written as one, or has more than 32 bits.
+    Number,
+    /// A value is outside of the range that the instruction or the directive takes.
+    Range,
+    /// An offset is odd, or an address is no multiple of what the directive asks.
+    Unaligned,
+    /// There is no comma where one is wanted.
+    Comma,
+    /// There is no parenthesis where one is wanted.
+    Parenthesis,
+    /// A string is not begun or not ended, or a character constant is not ended.
+    Quote,
+    /// There is no such escape in a string or a character constant.
+    Escape,
+    /// The statement is complete, and there is more.
+    More,
+    /// No label and no `.equ` defines the symbol.
+    Undefined,
+    /// The value has to be known here, and the symbol is defined further on.
+    Later,
+    /// The symbol is defined already.
+    Duplicate,
+    /// A register's name can't be a symbol.
+    Reserved,
+    /// There are no sections.
+    Section,
+    /// `.org` goes back.
+    Backward,
+    /// An instruction would stand at an address that is no multiple of 4.
+    Misplaced,
+    /// The bytes are more than `MOST_BYTES`, or go past the end of addresses.
+    TooLong,
+}
+
+impl fmt::Display for SourceErrorKind {
+    fn fmt<W: fmt::Write>(&self, f: &mut fmt::Formatter<W>) -> fmt::Result {
+        f.write_str(match self {
+            SourceErrorKind::Unknown => "no such instruction or directive",
+            SourceErrorKind::Character => "unexpected character",
+            SourceErrorKind::Register => "a register is wanted here",
+            SourceErrorKind::Value => "a value is wanted here",
+            SourceErrorKind::Number => "not a number of 32 bits",
+            SourceErrorKind::Range => "value out of range",
+            SourceErrorKind::Unaligned => "not a multiple of what is wanted here",
+            SourceErrorKind::Comma => "a comma is wanted here",
+            SourceErrorKind::Parenthesis => "a parenthesis is wanted here",
+            SourceErrorKind::Quote => "a quotation mark is wanted here",
+            SourceErrorKind::Escape => "no such escape",
+            SourceErrorKind::More => "more than the statement takes",
+            SourceErrorKind::Undefined => "symbol is not defined",
+            SourceErrorKind::Later => "symbol is defined later, and its value is wanted here",
+            SourceErrorKind::Duplicate => "symbol is defined already",
+            SourceErrorKind::Reserved => "the name of a register can't be a symbol",
+            SourceErrorKind::Section => "there is one section only",
+            SourceErrorKind::Backward => "the address goes back",
+            SourceErrorKind::Misplaced => "an instruction at an address that is no multiple of 4",
+            SourceErrorKind::TooLong => "the program is too long",
+        })
+    }
+}
+
+/// A mistake and its place.
+#[derive(Debug, PartialEq, Clone, Copy)]
+pub struct SourceError {
+    /// The line, counted from 1.
+    pub line: usize,
+    /// The byte of the line, counted from 1, or one past its last where it is over too early.
+    pub column: usize,
+    /// What is wrong there.
+    pub kind: SourceErrorKind,
+}
+
+impl fmt::Display for SourceError {
+    fn fmt<W: fmt::Write>(&self, f: &mut fmt::Formatter<W>) -> fmt::Result {
+        let line = self.line;
+        let column = self.column;
+        let kind = self.kind;
+        write!(f, "{line}:{column}: {kind}")
+    }
+}
+
+/// Why a source is not assembled.
+#[derive(Debug, Drop)]
+pub enum SourceFault {
+    /// Each mistake, in the order of the source: the first one of each line.
+    Errors(Vec<SourceError>),
+    /// Out of memory.
+    OutOfMemory,
+}
+
+impl fmt::Display for SourceFault {
+    fn fmt<W: fmt::Write>(&self, f: &mut fmt::Formatter<W>) -> fmt::Result {
+        match self {
+            SourceFault::Errors(errors) => {
+                let count = errors.len();
+                write!(f, "{count} mistakes")
+            }
+            SourceFault::OutOfMemory => write!(f, "out of memory"),
+        }
+    }
+}
+
+impl Error for SourceFault {}
+
+impl From<AllocError> for SourceFault {
+    fn from(_: AllocError) -> Self {
+        SourceFault::OutOfMemory
+    }
+}
+
+impl<T: Drop> From<AllocFailed<T>> for SourceFault {
+    fn from(_: AllocFailed<T>) -> Self {
+        SourceFault::OutOfMemory
+    }
+}
+
+/// A mistake, and how many bytes of the line are left at its place.
+#[derive(Clone, Copy)]
+pub struct LineError {
+    pub kind: SourceErrorKind,
+    pub left: usize,
+}
+
+/// Why a statement is not read.
+#[derive(Clone, Copy)]
+pub enum Halt {
+    /// A mistake in it.
+    Error(LineError),
+    /// Out of memory.
+    OutOfMemory,
+}
+
+impl From<LineError> for Halt {
+    fn from(error: LineError) -> Self {
+        Halt::Error(error)
+    }
+}
+
+impl From<AllocError> for Halt {
+    fn from(_: AllocError) -> Self {
+        Halt::OutOfMemory
+    }
+}
+
+impl<T: Drop> From<AllocFailed<T>> for Halt {
+    fn from(_: AllocFailed<T>) -> Self {
+        Halt::OutOfMemory
+    }
+}

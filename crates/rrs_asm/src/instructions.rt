@@ -1,0 +1,263 @@
+//! Reading the operands of instructions and pseudo-instructions.
+
+ghost use Rattle.std.specs.Prelude.{◌<◌, IfOk, IfSome};
+
+use crate::errors::{LineError, SourceErrorKind};
+use crate::names::{PseudoForm, pseudo_named};
+use crate::pseudo::{Pseudo, SwappedBranch, Unary, ZeroBranch};
+use crate::reading::Line;
+use crate::statements::Statement;
+use rrs_encode::{Operands, instruction_named, with_operands};
+use rrs_instruction::instruction::{Instruction, InstructionFields};
+
+/// How far a branch reaches, in bytes: so many backward, and fewer forward.
+const BRANCH_REACH: i32 = 0x1000;
+
+/// How far a jump reaches.
+const JUMP_REACH: i32 = 0x10_0000;
+
+/// No operands.
+const NONE: Operands = Operands {
+    rd: 0,
+    rs1: 0,
+    rs2: 0,
+    imm: 0,
+};
+
+/// Reads the operands of an instruction or a pseudo-instruction of this name. Its name stands at
+/// `stop`.
+pub fn read_instruction(
+    line: &mut Line,
+    name: &[u8],
+    error: LineError,
+) -> Result<Statement, LineError> {
+    if line.here() % 4 != 0 {
+        return Err(LineError {
+            kind: SourceErrorKind::Misplaced,
+            ..error
+        });
+    }
+    if let Some(template) = instruction_named(name) {
+        return read_row(line, template);
+    }
+    match pseudo_named(name) {
+        Some(form) => read_pseudo(line, form).map(Statement::Pseudo),
+        None => Err(error),
+    }
+}
+
+/// Reads the operands of a row.
+fn read_row(line: &mut Line, template: Instruction) -> Result<Statement, LineError> {
+    let operands = match template {
+        Instruction::Ecall(_) | Instruction::Ebreak(_) => return Ok(Statement::Instruction(
+            template,
+        )),
+        Instruction::Fence(_) => return read_fence(line, template),
+        Instruction::Jal(_) => return read_jal(line, template),
+        Instruction::Jalr(_) => return read_jalr(line, template),
+        Instruction::Lb(_)
+        | Instruction::Lbu(_)
+        | Instruction::Lh(_)
+        | Instruction::Lhu(_)
+        | Instruction::Lw(_) => load_operands(line)?,
+        _ => format_operands(line, template.fields())?,
+    };
+    statement_of(template, operands)
+}
+
+/// The statement that is an instruction with these operands, whose ranges the readers saw to.
+fn statement_of(template: Instruction, operands: Operands) -> Result<Statement, LineError> {
+    let instruction = with_operands(&template, operands).ok_or(LineError {
+        kind: SourceErrorKind::Range,
+        left: 0,
+    })?;
+    Ok(Statement::Instruction(instruction))
+}
+
+/// Reads the operands of an instruction that is written as others of its format.
+fn format_operands(line: &mut Line, fields: InstructionFields) -> Result<Operands, LineError> {
+    let (rd, rs1, rs2, imm) = match fields {
+        InstructionFields::R(_) => {
+            let (rd, rs1) = line.registers_before_comma()?;
+            (rd, rs1, line.register()?, 0)
+        }
+        InstructionFields::I(_) => {
+            let (rd, rs1) = line.registers_before_comma()?;
+            (rd, rs1, 0, line.immediate()?)
+        }
+        InstructionFields::IShamt(_) => {
+            let (rd, rs1) = line.registers_before_comma()?;
+            (rd, rs1, 0, line.below(32)?.cast_signed())
+        }
+        InstructionFields::S(_) => {
+            let rs2 = line.register_before_comma()?;
+            let (imm, rs1) = line.address()?;
+            (0, rs1, rs2, imm)
+        }
+        InstructionFields::B(_) => {
+            let (rs1, rs2) = line.registers_before_comma()?;
+            (0, rs1, rs2, line.offset(BRANCH_REACH)?)
+        }
+        InstructionFields::U(_) => {
+            let rd = line.register_before_comma()?;
+            (rd, 0, 0, (line.below(0x10_0000)? << 12).cast_signed())
+        }
+        InstructionFields::J(_) => {
+            let rd = line.register_before_comma()?;
+            (rd, 0, 0, line.offset(JUMP_REACH)?)
+        }
+    };
+    Ok(Operands { rd, rs1, rs2, imm })
+}
+
+/// Reads `rd, immediate(rs1)`.
+fn load_operands(line: &mut Line) -> Result<Operands, LineError> {
+    let rd = line.register_before_comma()?;
+    let (imm, rs1) = line.address()?;
+    Ok(Operands {
+        rd,
+        rs1,
+        imm,
+        ..NONE
+    })
+}
+
+/// Reads `rd, target`, or `target` alone.
+fn read_jal(line: &mut Line, template: Instruction) -> Result<Statement, LineError> {
+    let mut ahead = *line;
+    if let Ok(rd) = ahead.register() {
+        if ahead.take(b',') {
+            *line = ahead;
+            let imm = line.offset(JUMP_REACH)?;
+            let operands = Operands { rd, imm, ..NONE };
+            return statement_of(template, operands);
+        }
+    }
+    Ok(Statement::Pseudo(Pseudo::Jal(line.offset(JUMP_REACH)?)))
+}
+
+/// Reads `rd, immediate(rs1)`, `rd, rs1, immediate`, `rd, rs1`, or `rs1` alone.
+fn read_jalr(line: &mut Line, template: Instruction) -> Result<Statement, LineError> {
+    let rd = line.register()?;
+    if !line.take(b',') {
+        return Ok(Statement::Pseudo(Pseudo::Jalr(rd)));
+    }
+    let mut ahead = *line;
+    let (imm, rs1) = match ahead.register() {
+        Ok(rs1) => {
+            *line = ahead;
+            let imm = if line.take(b',') {
+                line.immediate()?
+            } else {
+                0
+            };
+            (imm, rs1)
+        }
+        Err(_) => line.address()?,
+    };
+    let operands = Operands {
+        rd,
+        rs1,
+        imm,
+        ..NONE
+    };
+    statement_of(template, operands)
+}
+
+/// Reads two sets of accesses, or nothing.
+fn read_fence(line: &mut Line, template: Instruction) -> Result<Statement, LineError> {
+    if line.is_over() {
+        return Ok(Statement::Pseudo(Pseudo::Fence));
+    }
+    let before = read_accesses(line)?;
+    line.comma()?;
+    let after = read_accesses(line)?;
+    let imm = (before * 16 + after).cast_signed();
+    let operands = Operands { imm, ..NONE };
+    statement_of(template, operands)
+}
+
+/// Reads a set of accesses: some of the letters `iorw`, in this order.
+fn read_accesses(line: &mut Line) -> Result<u32, LineError>
+    ensures { IfOk result (λ set. set < 16) }
+{
+    line.skip_blanks();
+    let error = line.error(SourceErrorKind::Value);
+    accesses_of(line.word()).ok_or(error)
+}
+
+/// The four bits of a set of accesses.
+fn accesses_of(word: &[u8]) -> Option<u32>
+    ensures { IfSome result (λ set. set < 16) }
+{
+    match word {
+        b"i" => Some(8),
+        b"o" => Some(4),
+        b"r" => Some(2),
+        b"w" => Some(1),
+        b"io" => Some(12),
+        b"ir" => Some(10),
+        b"iw" => Some(9),
+        b"or" => Some(6),
+        b"ow" => Some(5),
+        b"rw" => Some(3),
+        b"ior" => Some(14),
+        b"iow" => Some(13),
+        b"irw" => Some(11),
+        b"orw" => Some(7),
+        b"iorw" => Some(15),
+        _ => None,
+    }
+}
+
+/// Reads the operands of a pseudo-instruction.
+fn read_pseudo(line: &mut Line, form: PseudoForm) -> Result<Pseudo, LineError> {
+    match form {
+        PseudoForm::Nop => Ok(Pseudo::Nop),
+        PseudoForm::Ret => Ok(Pseudo::Ret),
+        PseudoForm::Li => read_li(line),
+        PseudoForm::La => read_la(line),
+        PseudoForm::OfOne(name) => read_of_one(line, name),
+        PseudoForm::AgainstZero(name) => read_against_zero(line, name),
+        PseudoForm::Swapped(name) => read_swapped(line, name),
+        PseudoForm::J => line.offset(JUMP_REACH).map(Pseudo::J),
+        PseudoForm::Jr => line.register().map(Pseudo::Jr),
+        PseudoForm::Call => read_distance(line).map(Pseudo::Call),
+        PseudoForm::Tail => read_distance(line).map(Pseudo::Tail),
+    }
+}
+
+/// Reads `rd, value`.
+fn read_li(line: &mut Line) -> Result<Pseudo, LineError> {
+    let rd = line.register_before_comma()?;
+    Ok(Pseudo::Li(rd, line.known_value()?))
+}
+
+/// Reads `rd, symbol`.
+fn read_la(line: &mut Line) -> Result<Pseudo, LineError> {
+    let rd = line.register_before_comma()?;
+    Ok(Pseudo::La(rd, read_distance(line)?))
+}
+
+/// Reads `rd, rs`.
+fn read_of_one(line: &mut Line, name: Unary) -> Result<Pseudo, LineError> {
+    let rd = line.register_before_comma()?;
+    Ok(Pseudo::OfOne(name, rd, line.register()?))
+}
+
+/// Reads `rs, target`.
+fn read_against_zero(line: &mut Line, name: ZeroBranch) -> Result<Pseudo, LineError> {
+    let rs = line.register_before_comma()?;
+    Ok(Pseudo::AgainstZero(name, rs, line.offset(BRANCH_REACH)?))
+}
+
+/// Reads `rs, rt, target`.
+fn read_swapped(line: &mut Line, name: SwappedBranch) -> Result<Pseudo, LineError> {
+    let (rs, rt) = line.registers_before_comma()?;
+    Ok(Pseudo::Swapped(name, rs, rt, line.offset(BRANCH_REACH)?))
+}
+
+/// Reads a symbol, or an address: how far it is from the statement, modulo 2^32.
+fn read_distance(line: &mut Line) -> Result<u32, LineError> {
+    Ok(line.value()?.wrapping_sub(line.here()))
+}

@@ -1,0 +1,32 @@
+//! An assembler for what people write: a file of assembly in, its bytes out.
+//!
+//! [assemble_source] reads a source of RV32I with multiply and divide, with the names of the ABI,
+//! numbers, labels, pseudo-instructions and directives. `docs/ASSEMBLY.md` has the syntax.
+//!
+//! A source is read twice: first for what its symbols stand for, and then for its statements, each
+//! of which is placed behind the one before. What is made is a list of placed statements, and their
+//! bytes: see [Assembled]. What a statement's bytes are is written in `specs/Statements.antt`, and
+//! which instructions a pseudo-instruction is in `specs/Pseudo.antt`.
+
+#![tactic(auto)]
+
+mod assembling;
+mod directives;
+mod errors;
+mod gnu;
+mod instructions;
+mod literals;
+mod names;
+mod output;
+mod pseudo;
+mod reading;
+mod registers;
+mod statements;
+mod symbols;
+
+pub use assembling::assemble_source;
+pub use errors::{SourceError, SourceErrorKind, SourceFault};
+pub use gnu::gnu_text;
+pub use output::{Assembled, MOST_BYTES, Placed};
+pub use pseudo::{Expansion, Pseudo, SwappedBranch, Unary, ZeroBranch};
+pub use statements::Statement;

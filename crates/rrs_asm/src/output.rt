@@ -1,0 +1,137 @@
+//! What is made of a source.
+
+ghost use Rattle.std.specs.Prelude.{◌≡◌, ◌≤◌, ◌+◌, ◌^◌, ℕ, List, [], ◌∷◌, ◌++◌, OnOk, IfOk, length, replicate};
+ghost use Rattle.rrs_asm.specs.Statements.{AreWords, AreBytes, LaysOut};
+ghost use Rattle.rrs_asm.specs.Pseudo.{listed};
+
+use crate::errors::{Halt, LineError, SourceErrorKind};
+use crate::pseudo::Expansion;
+use crate::statements::Statement;
+use rrs_encode::encode;
+use rrs_instruction::instruction::Instruction;
+use std::alloc::Global;
+
+/// The most bytes that are made of a source: 64 MiB.
+pub const MOST_BYTES: usize = 0x400_0000;
+
+/// A statement and its place.
+#[derive(Debug, PartialEq, Drop)]
+pub struct Placed {
+    /// The line where it stands, counted from 1.
+    pub line: usize,
+    /// The address of its first byte.
+    pub address: u32,
+    /// What stands there.
+    pub statement: Statement,
+}
+
+/// A source that was assembled.
+#[derive(Debug, Drop)]
+pub struct Assembled {
+    /// The statements in the order of their addresses, which is that of the source.
+    pub placed: Vec<Placed>,
+    /// The bytes from the first address on.
+    pub bytes: Vec<u8>,
+}
+
+impl Assembled {
+    /// Nothing.
+    pub fn new(alloc: Global) -> Self
+        ensures placed { result.placed.items ≡ [] }
+        ensures bytes { result.bytes.items ≡ [] }
+    {
+        Assembled {
+            placed: Vec::new(alloc),
+            bytes: Vec::new(alloc),
+        }
+    }
+
+    /// Puts a statement of a line behind the others, the first of which stands at `base`.
+    pub fn place(&mut self, base: u32, line: usize, statement: Statement) -> Result<(), Halt>
+        ensures { OnOk result (LaysOut base self.old.placed.items self.old.bytes.items
+            → LaysOut base self.new.placed.items self.new.bytes.items) }
+    {
+        let address = address_behind(base, &self.bytes)?;
+        append(&mut self.bytes, &statement)?;
+        self.placed.push(Placed {
+            line,
+            address,
+            statement,
+        })?;
+        Ok(())
+    }
+}
+
+/// The address behind bytes, the first of which stands at `base`.
+fn address_behind(base: u32, bytes: &Vec<u8>) -> Result<u32, Halt>
+    ensures { IfOk result (λ address. address ≡ base + length bytes.now.items) }
+{
+    let length = bytes.len();
+    if length <= MOST_BYTES && length as u64 + u64::from(base) < 1 << 32 {
+        Ok(base + length as u32)
+    } else {
+        Err(too_long())
+    }
+}
+
+/// The mistake of a program that is too long.
+fn too_long() -> Halt {
+    Halt::Error(LineError {
+        kind: SourceErrorKind::TooLong,
+        left: 0,
+    })
+}
+
+/// Appends the bytes of a statement.
+fn append(bytes: &mut Vec<u8>, statement: &Statement) -> Result<(), Halt>
+    ensures { OnOk result ((own : List ℕ) × AreBytes statement.now own
+        × (bytes.new.items ≡ bytes.old.items ++ own)) }
+{
+    match statement {
+        Statement::Instruction(instruction) => append_instruction(bytes, instruction),
+        Statement::Pseudo(pseudo) => append_expansion(bytes, &pseudo.expand()),
+        Statement::Data(data) => append_data(bytes, data),
+        Statement::Fill(count, byte) => append_fill(bytes, *count, *byte),
+    }
+}
+
+/// Appends bytes.
+fn append_data(bytes: &mut Vec<u8>, own: &Vec<u8>) -> Result<(), Halt>
+    ensures { OnOk result (bytes.new.items ≡ bytes.old.items ++ own.now.items) }
+{
+    Ok(bytes.extend_from_slice(own)?)
+}
+
+/// Appends so many of a byte.
+fn append_fill(bytes: &mut Vec<u8>, count: u32, byte: u8) -> Result<(), Halt>
+    ensures { OnOk result (bytes.new.items ≡ bytes.old.items ++ replicate count byte) }
+{
+    let length = bytes.len().checked_add(count as usize).ok_or(too_long())?;
+    Ok(bytes.resize(length, byte)?)
+}
+
+/// Appends the words of one or two instructions.
+fn append_expansion(bytes: &mut Vec<u8>, expansion: &Expansion) -> Result<(), Halt>
+    ensures { OnOk result ((own : List ℕ) × AreWords (listed expansion.now) own
+        × (bytes.new.items ≡ bytes.old.items ++ own)) }
+{
+    append_instruction(bytes, &expansion.first)?;
+    match &expansion.second {
+        Some(second) => append_instruction(bytes, second),
+        None => Ok(()),
+    }
+}
+
+/// Appends the word of an instruction, its lowest byte first.
+fn append_instruction(bytes: &mut Vec<u8>, instruction: &Instruction) -> Result<(), Halt>
+    ensures { OnOk result ((own : List ℕ) × AreWords (instruction.now ∷ []) own
+        × (bytes.new.items ≡ bytes.old.items ++ own)) }
+{
+    match encode(instruction) {
+        Some(word) => Ok(bytes.extend_from_slice(&word.to_le_bytes())?),
+        None => Err(Halt::Error(LineError {
+            kind: SourceErrorKind::Range,
+            left: 0,
+        })),
+    }
+}

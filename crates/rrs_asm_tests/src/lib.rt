@@ -1,0 +1,15 @@
+//! The tests of `rrs_asm`: lines and their words, mistakes and their places, and the example
+//! programs of `examples/assembly`, which are assembled, compared with their words, and run.
+//!
+//! The words of pseudo-instructions are those that GNU `as` makes.
+
+#![tactic(auto)]
+
+#[cfg(test)]
+mod assembled;
+#[cfg(test)]
+mod lines;
+#[cfg(test)]
+mod mistakes;
+#[cfg(test)]
+mod programs;

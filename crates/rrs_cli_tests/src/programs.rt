@@ -1,0 +1,421 @@
+//! The programs, over a runtime of their own, and how each ends.
+
+use crate::THREE_WORDS;
+use crate::machine::{Contents, Machine};
+use rrs_cli::command::{Command, Failure, conclude, run_program, take_no_arguments};
+use rrs_cli::fault::RunFault;
+use rrs_cli::programs::{RRS_REPLAY, RRS_RUN};
+use rrs_commands::execution::{HEAP_END, HEAP_START};
+use rrs_commands::program::run_rrs;
+use rrs_linux::{Heap, Linux};
+use std::alloc::Global;
+use std::process::ExitCode;
+use std::test::Fail;
+
+/// What is left of a program: its status, what it says on standard error, and what it printed.
+type Left = (ExitCode, Vec<u8>, Vec<u8>);
+
+/// A program.
+#[derive(Clone, Copy)]
+enum Program {
+    /// `rrs-run`.
+    Run,
+    /// `rrs`.
+    Rrs,
+}
+
+/// Ends a program, and gives its status. What it simulates reads nothing, and prints nothing.
+fn status_of(machine: &Machine<'_>, alloc: Global, program: Program) -> ExitCode {
+    match program {
+        Program::Run => run_program(machine),
+        Program::Rrs => {
+            let heap = Heap::new(HEAP_START, HEAP_END);
+            let (output, errors) = (Vec::new(alloc), Vec::new(alloc));
+            run_rrs(
+                machine,
+                &mut Linux::new(b"".as_slice(), output, errors, heap),
+            )
+        }
+    }
+}
+
+/// Runs a program on a machine with these words and files, and room for so many bytes of output.
+fn run(
+    alloc: Global,
+    program: Program,
+    words: &[&[u8]],
+    files: &[Contents<'_>],
+    room: usize,
+) -> Left {
+    let machine = Machine::new(alloc, words, files, room);
+    let status = status_of(&machine, alloc, program);
+    let (said, printed) = machine.into_outputs();
+    (status, said, printed)
+}
+
+/// Files of a program, and of jal x0, 0, which jumps to itself.
+const FILES: [Contents<'static>; 2] = [
+    Contents {
+        name: "program",
+        bytes: THREE_WORDS,
+        fails: false,
+    },
+    Contents {
+        name: "loop",
+        bytes: b"\x6f\x00\x00\x00",
+        fails: false,
+    },
+];
+
+/// Whether a program printed nothing, and ended with this status and this line.
+fn says(left: &Left, status: u8, line: &str) -> bool {
+    left.0 == ExitCode::from(status) && left.1.as_slice() == line.as_bytes() && left.2.is_empty()
+}
+
+/// How `rrs-run` is called.
+const RUN_USAGE: &str = "usage: rrs-run FILE LIMIT\n";
+
+/// How `rrs` is called.
+const RRS_USAGE: &str = "usage: rrs run|exec|as|help ..\n";
+
+/// How `rrs run` is called.
+const QUIET_USAGE: &str = "usage: rrs run [--quiet] FILE LIMIT\n";
+
+/// A program, words of its command line of which it does not do what they ask, its status, and its
+/// line on standard error.
+type Refused = (Program, &'static [&'static [u8]], u8, &'static str);
+
+static REFUSED: [Refused; 22] = [
+    (Program::Run, &[], 2, RUN_USAGE),
+    (Program::Run, &[b"rrs-run"], 2, RUN_USAGE),
+    (Program::Run, &[b"rrs-run", b"program"], 2, RUN_USAGE),
+    (
+        Program::Run,
+        &[b"rrs-run", b"program", b"10", b"10"],
+        2,
+        RUN_USAGE,
+    ),
+    (Program::Run, &[b"rrs-run", b"program", b"1a"], 2, RUN_USAGE),
+    (Program::Run, &[b"rrs-run", b"10", b"program"], 2, RUN_USAGE),
+    (
+        Program::Run,
+        &[b"rrs-run", b"program", b"\xff"],
+        2,
+        RUN_USAGE,
+    ),
+    (Program::Run, &[b"rrs-run", b"\xff", b"10"], 2, RUN_USAGE),
+    (Program::Run, &[b"\xff", b"program", b"10"], 2, RUN_USAGE),
+    (Program::Rrs, &[], 2, RRS_USAGE),
+    (Program::Rrs, &[b"rrs"], 2, RRS_USAGE),
+    (
+        Program::Rrs,
+        &[b"rrs", b"runs", b"program", b"10"],
+        2,
+        RRS_USAGE,
+    ),
+    (Program::Rrs, &[b"rrs", b"help", b"run"], 2, RRS_USAGE),
+    (
+        Program::Rrs,
+        &[b"rrs", b"run", b"program", b"\xff"],
+        2,
+        RRS_USAGE,
+    ),
+    (
+        Program::Rrs,
+        &[b"\xff", b"run", b"program", b"10"],
+        2,
+        RRS_USAGE,
+    ),
+    (Program::Rrs, &[b"rrs", b"run"], 2, QUIET_USAGE),
+    (Program::Rrs, &[b"rrs", b"run", b"program"], 2, QUIET_USAGE),
+    (
+        Program::Rrs,
+        &[b"rrs", b"run", b"--quiet", b"10"],
+        2,
+        QUIET_USAGE,
+    ),
+    (
+        Program::Rrs,
+        &[b"rrs", b"run", b"--quiet", b"program", b"1a"],
+        2,
+        QUIET_USAGE,
+    ),
+    (
+        Program::Rrs,
+        &[b"rrs", b"run", b"--quiet", b"10", b"program"],
+        2,
+        QUIET_USAGE,
+    ),
+    (
+        Program::Rrs,
+        &[b"rrs", b"run", b"program", b"10", b"10"],
+        2,
+        QUIET_USAGE,
+    ),
+    (
+        Program::Rrs,
+        &[b"rrs", b"exec", b"--limit", b"10", b"--raw", b"program"],
+        132,
+        "rrs exec: IllegalInstruction pc=0x0000000c word=0x00000000\n",
+    ),
+];
+
+#[test]
+fn refuses_other_words(rt: HostRuntime) {
+    for (index, &(program, words, status, line)) in REFUSED.iter().enumerate() {
+        let left = run(rt.alloc(), program, words, &FILES, 10_000);
+        assert!(rt; says(&left, status, line), "at {index}");
+    }
+}
+
+/// A file of these bytes.
+fn file<'a>(name: &'a str, bytes: &'a [u8], fails: bool) -> Contents<'a> {
+    Contents { name, bytes, fails }
+}
+
+/// Whether `rrs-run` and `rrs run` say this of a file, where there are these four: a directory, one
+/// that is cut off, one that is full and cut off, and one that is too long.
+fn both_say_of(alloc: Global, too_long: &[u8], path: &[u8], line: &str) -> bool {
+    let files = [
+        file("directory", b"", true),
+        file("cut off", THREE_WORDS, true),
+        file(
+            "full and cut off",
+            too_long.get(..65536).unwrap_or_default(),
+            true,
+        ),
+        file("too long", too_long, false),
+    ];
+    let words: [&[u8]; 5] = [b"rrs", b"run", b"--quiet", path, b"10"];
+    let first = run(
+        alloc,
+        Program::Run,
+        &[b"rrs-run", path, b"10"],
+        &files,
+        10_000,
+    );
+    let second = run(alloc, Program::Rrs, &words, &files, 10_000);
+    says(&first, 1, line) && says(&second, 1, line)
+}
+
+/// What is said of a file that can't be read to its end.
+const CANNOT_READ: &str = "rrs-run: Could not read byte\n";
+
+/// The name of each file that is not run, and what is said of it.
+static NOT_RUN: [(&[u8], &str); 5] = [
+    (b"missing", "rrs-run: cannot open file\n"),
+    (b"directory", CANNOT_READ),
+    (b"cut off", CANNOT_READ),
+    (b"full and cut off", CANNOT_READ),
+    (
+        b"too long",
+        "rrs-run: Could not write byte at address 0x00010000\n",
+    ),
+];
+
+#[test]
+fn says_why_a_file_is_not_run(rt: HostRuntime) -> Result<(), Fail> {
+    let too_long = vec![in rt.alloc(); 0; 65537]?;
+    for (index, (path, line)) in NOT_RUN.iter().enumerate() {
+        assert!(rt;
+            both_say_of(rt.alloc(), &too_long, path, line),
+            "at {index}"
+        );
+    }
+    Ok(())
+}
+
+/// What is printed of a file that is run, where there is room for all of it.
+fn whole_account(alloc: Global, program: Program, words: &[&[u8]]) -> Result<Vec<u8>, Fail> {
+    let (status, said, printed) = run(alloc, program, words, &FILES, 100_000);
+    if status != ExitCode::SUCCESS || !said.is_empty() {
+        return Err(Fail::from("the run with room for all failed"));
+    }
+    Ok(printed)
+}
+
+/// Whether these bytes are `beginning`, and then 33 lines, the first of which is that of x0.
+fn is_account(printed: &[u8], beginning: &[u8]) -> bool {
+    match printed.strip_prefix(beginning) {
+        Some(rest) => rest.starts_with(b"x0 0x00000000\n") && lines_in(rest) == 33,
+        None => false,
+    }
+}
+
+/// How many of these bytes end a line.
+fn lines_in(bytes: &[u8]) -> usize {
+    bytes.iter().filter(|byte| **byte == b'\n').count()
+}
+
+/// A program, the words of its command line, and the beginning of its account.
+type Case = (Program, &'static [&'static [u8]], &'static str);
+
+static CASES: [Case; 9] = [
+    (
+        Program::Run,
+        &[b"rrs-run", b"program", b"002"],
+        "0x00000000: lui x2, 0x1234b000\n0x00000004: lui x3, 0xf387e000\nend: limit, steps 2\n",
+    ),
+    (
+        Program::Run,
+        &[b"rrs-run", b"program", b"999999999"],
+        "0x00000000: lui x2, 0x1234b000\n0x00000004: lui x3, 0xf387e000\n\
+        0x00000008: add x1, x2, x3\n\
+        end: IllegalInstruction pc=0x0000000c word=0x00000000, steps 3\n",
+    ),
+    (
+        Program::Run,
+        &[b"rrs-run", b"loop", b"1"],
+        "0x00000000: jal x0, 0x00000000\nend: limit, steps 1\n",
+    ),
+    (
+        Program::Rrs,
+        &[b"rrs", b"run", b"loop", b"1"],
+        "0x00000000: jal x0, 0x00000000\nend: limit, steps 1\n",
+    ),
+    (
+        Program::Run,
+        &[b"rrs-run", b"loop", b"0"],
+        "end: limit, steps 0\n",
+    ),
+    (
+        Program::Rrs,
+        &[b"rrs", b"run", b"--quiet", b"loop", b"0"],
+        "end: limit, steps 0\n",
+    ),
+    (
+        Program::Rrs,
+        &[b"rrs", b"run", b"--quiet", b"loop", b"1"],
+        "end: limit, steps 1\n",
+    ),
+    (
+        Program::Rrs,
+        &[b"rrs", b"run", b"--quiet", b"loop", b"100000"],
+        "end: limit, steps 100000\n",
+    ),
+    (
+        Program::Rrs,
+        &[b"rrs", b"run", b"--quiet", b"program", b"999999999"],
+        "end: IllegalInstruction pc=0x0000000c word=0x00000000, steps 3\n",
+    ),
+];
+
+#[test]
+fn runs_the_file_that_is_named_up_to_the_limit_that_is_named(rt: HostRuntime) -> Result<(), Fail> {
+    for &(program, words, want) in &CASES {
+        let printed = whole_account(rt.alloc(), program, words)?;
+        assert!(rt; is_account(&printed, want.as_bytes()), "{want}");
+    }
+    Ok(())
+}
+
+/// Whether an account of this length is tried with this room: near both ends, and at times between.
+fn is_tried(room: usize, length: usize) -> bool {
+    room < 10 || room % 97 == 0 || room.saturating_add(10) > length
+}
+
+/// Whether a program printed these bytes, and then ended well, or since no more could be written.
+fn ends_with_room(left: &Left, printed: &[u8], fails: bool) -> bool {
+    let line = if fails {
+        b"rrs-run: cannot write output\n".as_slice()
+    } else {
+        b""
+    };
+    left.0 == ExitCode::from(u8::from(fails))
+        && left.1.as_slice() == line
+        && left.2.as_slice() == printed
+}
+
+/// Whether `rrs-run` ends as it has to where there is room for the first bytes of its account.
+fn ends_with(alloc: Global, words: &[&[u8]], whole: &[u8], room: usize) -> bool {
+    let left = run(alloc, Program::Run, words, &FILES, room);
+    match whole.get(..room) {
+        Some(printed) => ends_with_room(&left, printed, room < whole.len()),
+        None => false,
+    }
+}
+
+/// A file and a limit: the first account is shorter than the buffer, so that the flush fails; the
+/// second is longer.
+static ACCOUNTS: [(&[u8], &[u8]); 2] = [(b"program", b"10"), (b"loop", b"400")];
+
+#[test]
+fn tells_an_output_that_fails(rt: HostRuntime) -> Result<(), Fail> {
+    for &(path, limit) in &ACCOUNTS {
+        let words: [&[u8]; 3] = [b"rrs-run", path, limit];
+        let whole = whole_account(rt.alloc(), Program::Run, &words)?;
+        for room in 0..=whole.len() {
+            if is_tried(room, whole.len()) {
+                let ends_so = ends_with(rt.alloc(), &words, &whole, room);
+                assert!(rt; ends_so, "with room for {room}");
+            }
+        }
+    }
+    Ok(())
+}
+
+/// Whether a program that ends so has this status, and says this on standard error.
+fn ends(
+    alloc: Global,
+    program: Command,
+    outcome: Result<(), Failure>,
+    status: u8,
+    line: &str,
+) -> bool {
+    let machine = Machine::new(alloc, &[], &[], 1000);
+    let ended = conclude(&machine, program, outcome);
+    let (said, _printed) = machine.into_outputs();
+    ended == ExitCode::from(status) && said.as_slice() == line.as_bytes()
+}
+
+/// Whether a program whose run fails so has status 1, and says this on standard error.
+fn fails(alloc: Global, program: Command, fault: RunFault, line: &str) -> bool {
+    ends(alloc, program, Err(Failure::Run(fault)), 1, line)
+}
+
+#[test]
+fn ends_by_its_name(rt: HostRuntime) {
+    let alloc = rt.alloc();
+    let (cannot_open, usage) = (Err(Failure::CannotOpen), Err(Failure::Usage));
+    let (output, memory) = (RunFault::Output, RunFault::OutOfMemory);
+    let ended = [
+        ends(alloc, RRS_REPLAY, Ok(()), 0, ""),
+        ends(
+            alloc,
+            RRS_RUN,
+            cannot_open,
+            1,
+            "rrs-run: cannot open file\n",
+        ),
+        ends(alloc, RRS_REPLAY, usage, 2, "usage: rrs-replay\n"),
+        fails(
+            alloc,
+            RRS_REPLAY,
+            output,
+            "rrs-replay: cannot write output\n",
+        ),
+        fails(alloc, RRS_REPLAY, memory, "rrs-replay: out of memory\n"),
+    ];
+    assert_eq!(rt; ended, [true; 5]);
+}
+
+/// Whether a program that takes no arguments is refused as one that is called wrongly.
+fn is_refused(alloc: Global, words: &[&[u8]]) -> bool {
+    let machine = Machine::new(alloc, words, &[], 1000);
+    matches!(take_no_arguments(&machine), Err(Failure::Usage))
+}
+
+/// Words of command lines, each with whether they are refused.
+static ARGUMENTS: [(&[&[u8]], bool); 4] = [
+    (&[], false),
+    (&[b"rrs-replay"], false),
+    (&[b"rrs-replay", b""], true),
+    (&[b"rrs-replay", b"\xff"], true),
+];
+
+#[test]
+fn refuses_an_argument(rt: HostRuntime) {
+    for &(words, want) in &ARGUMENTS {
+        assert_eq!(rt; is_refused(rt.alloc(), words), want, "{words:?}");
+    }
+}

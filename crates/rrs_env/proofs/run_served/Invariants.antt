@@ -1,0 +1,21 @@
+use Rattle.std.proofs.Common.{◌≡◌, ◌<◌, ◌≤◌, ◌-◌, ◌%◌}
+use Rattle.rrs_lib.specs.Bytes.{EndsAtLastAddress}
+use Rattle.rrs_lib.specs.Executor.{state_in, KeepsTheRest}
+use Rattle.rrs_env.proofs.Rounds.{Reached}
+use Rattle.rrs_env.proofs.run_served.Given as goal
+
+-- the rounds so far
+abbrev pub invariant-rounds : goal.invariant-rounds
+invariant-rounds g l =
+    let memory = g.M.Memory in
+    let state = state_in memory.bytes memory.writable in
+    record {
+      within : l.steps ≤ l.fn.limit;
+      reached : Reached g.E.Environment.serves memory.reads memory.writes l.fn.limit l.fn.environment (state l.fn.executor) l.fn.executor.mem.now l.steps l.environment (state l.executor) l.executor.mem.now;
+      rest : KeepsTheRest memory.layout l.fn.executor l.executor;
+      at_start : l.steps ≡ 0 → l.executor ≡ l.fn.executor;
+      ends : 0 < l.steps → l.fn.executor.hart_state.now.pc % 4 ≡ 0 → EndsAtLastAddress (memory.bytes l.fn.executor.mem.now) (memory.writable l.fn.executor.mem.now);
+    }
+
+abbrev pub decreases-rounds : goal.decreases-rounds
+decreases-rounds g l = l.fn.limit - l.steps

@@ -1,0 +1,98 @@
+-- Programs that call their environment: a run to an ecall, the call, a run from behind it, and so
+-- on (RISC-V unprivileged specification, "Environment Call and Breakpoints": ecall makes a service
+-- request to the execution environment).
+use Rattle.std.specs.Prelude.{◌≡◌, ℕ, ◌+◌, ◌-◌, List, ◌++◌, pos, Bool, Option, Some, None}
+use Rattle.rrs_lib.specs.declared.MemAccessSize.{MemAccessSize}
+use Rattle.rrs_lib.specs.declared.instruction_executor.InstructionException.{InstructionException}
+use Rattle.rrs_lib.specs.declared.instruction_executor.InstructionException.TheVariants.{EnvironmentCall}
+use Rattle.rrs_env.specs.declared.Ending.{Ending}
+use Rattle.rrs_env.specs.declared.Ending.TheVariants.{Limit, Fault, Exit}
+use Rattle.rrs_lib.specs.Machine.{State, with_pc}
+use Rattle.rrs_lib.specs.Steps.{RunUntil}
+use Rattle.rrs_lib.specs.Accesses.{Access, AccessesOfRun, answers_of_run, Makes}
+use Rattle.rrs_lib.specs.Words.{word}
+
+-- What an environment says of a call: itself and the machine before, both after, the accesses that
+-- the call makes, and its answer. That is None where the program goes on, or the status that it
+-- ended with.
+abbrev pub Relation : Type 0 → Type 1
+Relation E = E → State → E → State → List Access → Option ℕ → Type 0
+
+-- after a call from an ecall at pc: the program goes on behind it, if it goes on
+abbrev pub resumed : Option ℕ → ℕ → State → State
+resumed None pc s = with_pc s (word (pos (pc + 4)))
+resumed (Some status) pc s = s
+
+-- how a run ends where no call follows it: at the limit, or by a fault that is no ecall
+abbrev pub EndsBy : Option InstructionException → Ending → Type 0
+EndsBy None ending = ending ≡ Limit
+EndsBy (Some (EnvironmentCall pc)) ending = ⊥
+EndsBy (Some fault) ending = ending ≡ Fault fault
+
+-- By what an environment of type E says of a call:
+module _ {E : Type 0} (serves : Relation E) where
+  -- From s a run comes to an ecall within the limit, and its call is served. The ecall counts as a
+  -- step.
+  pub record Called (limit : ℕ) (e : E) (s : State) (steps : ℕ) (answer : Option ℕ)
+      (e' : E) (t : State) (accesses : List Access) : Type 0 where
+    pub before : ℕ
+    pub pc : ℕ
+    pub at_call : State
+    pub after_call : State
+    pub of_run : List Access
+    pub of_call : List Access
+    pub run : RunUntil limit s before (Some (EnvironmentCall pc)) at_call
+    pub accessed : AccessesOfRun s (answers_of_run before (Some (EnvironmentCall pc))) of_run
+    pub served : serves e at_call e' after_call of_call answer
+    pub goes_on : t ≡ resumed answer pc after_call
+    pub counted : steps ≡ before + 1
+    pub all : accesses ≡ of_run ++ of_call
+
+  -- The machine runs and is served, and ends so, with the environment e' and at t. The places
+  -- behind the colon: within a limit, from an environment and a state, after so many steps, with
+  -- these accesses.
+  pub data Served (ending : Ending) (e' : E) (t : State)
+      : ℕ → E → State → ℕ → List Access → Type 0 where
+    -- a run that no call follows
+    Last : (limit : ℕ) (e : E) (s : State) (steps : ℕ) (accesses : List Access)
+        → (end : Option InstructionException)
+        → RunUntil limit s steps end t
+        → AccessesOfRun s (answers_of_run steps end) accesses
+        → EndsBy end ending → e' ≡ e
+        → Served ending e' t limit e s steps accesses
+    -- a call that ends the program
+    Exits : (limit : ℕ) (e : E) (s : State) (steps : ℕ) (accesses : List Access)
+        → (status : ℕ)
+        → Called limit e s steps (Some status) e' t accesses
+        → ending ≡ Exit status
+        → Served ending e' t limit e s steps accesses
+    -- a call, and what follows it within what is left of the limit
+    GoesOn : (limit : ℕ) (e : E) (s : State) (first later : ℕ) (of_first of_later : List Access)
+        → (d : E) (m : State)
+        → Called limit e s first None d m of_first
+        → Served ending e' t (limit - first) d m later of_later
+        → Served ending e' t limit e s (first + later) (of_first ++ of_later)
+
+  -- a call does one thing at most
+  abbrev pub IsDetermined : Type 0
+  IsDetermined =
+      (e d d' : E) (s t t' : State) (a a' : List Access) (answer answer' : Option ℕ)
+      → serves e s d t a answer → serves e s d' t' a' answer'
+      → (d ≡ d') × (t ≡ t') × (a ≡ a') × (answer ≡ answer')
+
+  -- no other chain leads from there, if a call does one thing at most
+  abbrev pub IsOnlyServed : ℕ → E → State → ℕ → Ending → E → State → Type 0
+  IsOnlyServed limit e s steps ending d t =
+      IsDetermined → (steps' : ℕ) (ending' : Ending) (d' : E) (t' : State) (a' : List Access)
+      → Served ending' d' t' limit e s steps' a'
+      → (steps' ≡ steps) × (ending' ≡ ending) × (d' ≡ d) × (t' ≡ t)
+
+-- Exactly the accesses of some list that is meant take the memory from old to new. There may be
+-- more than one such list, since an environment may leave open what a call accesses.
+pub record MakesSome {M : Type 0}
+    (reads : M → ℕ → MemAccessSize → M → Option ℕ → Type 0)
+    (writes : M → ℕ → MemAccessSize → ℕ → M → Bool → Type 0)
+    (IsMeant : List Access → Type 0) (old new : M) : Type 0 where
+  pub accesses : List Access
+  pub these : IsMeant accesses
+  pub made : Makes reads writes accesses old new

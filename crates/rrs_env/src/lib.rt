@@ -1,0 +1,158 @@
+//! Runs of programs that call their environment.
+//!
+//! The hart takes no trap: at an `ecall` a run stops with the fault `EnvironmentCall(pc)`, and the
+//! caller serves the call and goes on. `run_served` is that loop, proved once, over any [Memory]
+//! and any [Environment]. The clauses speak of the machine as those of `run` do. What a served run
+//! is, a chain of runs and calls, is written in `specs/Serving.antt`.
+
+#![tactic(auto)]
+
+ghost use Rattle.std.specs.Prelude.{◌≡◌, ◌%◌, ◌<◌, ◌≤◌, ℕ, List, Option, None};
+ghost use Rattle.rrs_lib.specs.Machine.{State};
+ghost use Rattle.rrs_lib.specs.Executor.{state_in, KeepsTheRest};
+ghost use Rattle.rrs_lib.specs.Accesses.{Access};
+ghost use Rattle.rrs_lib.specs.Bytes.{EndsAtLastAddress};
+ghost use Rattle.rrs_env.specs.Serving.{Served, IsOnlyServed, MakesSome};
+ghost use Rattle.rrs_env.specs.Rounds.{RoundOf, StepsWithin};
+
+use rrs_fast::DecodeCache;
+use rrs_lib::Memory;
+use rrs_lib::instruction_executor::{InstructionException, InstructionExecutor};
+
+/// What serves the calls of a program.
+///
+/// An implementation says in its own words what a call does, by `serves`, and `serve` is proved to
+/// do that over every memory. So `serves` speaks of the state of the machine and of the accesses
+/// that are made, and not of the memory's type. Where it says of each call what the outcome is, and
+/// allows no second one (`IsDetermined`), a run that is served has one outcome too.
+pub trait Environment {
+    /// What a call does: the environment and the machine before, both after, the accesses that the
+    /// call makes, in order, and its answer. The machine before stands at the `ecall`, with no
+    /// register as the one written last. The machine after still has to go on to the next
+    /// instruction.
+    ghost serves: { Self → State → Self → State → List Access → Option ℕ → Type 0 };
+
+    /// Serves the call of a hart that stands at an `ecall`.
+    ///
+    /// The answer is `None` where the program goes on, or the status that it ended with. The pc
+    /// needs no change: a program that goes on does so behind the `ecall`, whatever pc is left.
+    /// What is no part of the state, as the memory's layout, has to stay (`rest`).
+    fn serve<M: Memory>(&mut self, executor: &mut InstructionExecutor<M>) -> Option<u32>
+        ensures served { MakesSome M.reads M.writes
+            (λ accesses. serves self.old (state_in M.bytes M.writable executor.old)
+            self.new (state_in M.bytes M.writable executor.new) accesses result)
+            executor.old.mem.now executor.new.mem.now }
+        ensures rest { KeepsTheRest M.layout executor.old executor.new };
+}
+
+/// Why a run that was served ended.
+#[derive(Debug, PartialEq, Drop)]
+pub enum Ending {
+    /// The limit was reached.
+    Limit,
+    /// A step faulted that is no `ecall`: its fault. It is none of the steps that are counted.
+    Fault(InstructionException),
+    /// The environment ended the program, with this status. The pc is at the `ecall`, unless the
+    /// environment changed it.
+    Exit(u32),
+}
+
+/// How a run that was served ended: after how many steps, and why.
+#[derive(Debug, PartialEq, Drop)]
+pub struct ServedEnd {
+    /// How many steps were made: those that were `Ok`, and each `ecall` that was served.
+    pub steps: u64,
+    /// Why it ended.
+    pub ending: Ending,
+}
+
+/// What a round, a run and the call that it comes to, was.
+#[derive(Drop)]
+enum Round {
+    /// The program goes on, after this many steps.
+    GoneOn(u64),
+    /// It ended, after this many steps.
+    Ended(u64, Ending),
+}
+
+/// Makes steps up to a call, and serves it.
+fn serve_next<M: Memory, E: Environment>(
+    cache: &mut DecodeCache,
+    executor: &mut InstructionExecutor<M>,
+    environment: &mut E,
+    limit: u64,
+) -> Round
+    ensures round { MakesSome M.reads M.writes
+        (RoundOf E.serves limit
+        environment.old (state_in M.bytes M.writable executor.old) result
+        environment.new (state_in M.bytes M.writable executor.new))
+        executor.old.mem.now executor.new.mem.now }
+    ensures within { StepsWithin limit result }
+    ensures rest { KeepsTheRest M.layout executor.old executor.new }
+    ensures ends { 1 ≤ limit → executor.old.hart_state.now.pc % 4 ≡ 0
+        → EndsAtLastAddress (M.bytes executor.old.mem.now) (M.writable executor.old.mem.now) }
+{
+    let end = cache.run(executor, limit);
+    let Some(exception) = end.exception else {
+        return Round::Ended(end.steps, Ending::Limit);
+    };
+    match exception {
+        InstructionException::EnvironmentCall(pc) => {
+            let steps = end.steps + 1;
+            match environment.serve(executor) {
+                Some(status) => Round::Ended(steps, Ending::Exit(status)),
+                None => {
+                    executor.hart_state.pc = pc.wrapping_add(4);
+                    Round::GoneOn(steps)
+                }
+            }
+        }
+        fault => Round::Ended(end.steps, Ending::Fault(fault)),
+    }
+}
+
+/// Makes steps until as many as `limit` were made, one faults, or the environment ends the program.
+///
+/// Steps are made as by `run`, over the cache that is lent. At an `ecall` the environment serves
+/// the call, once, and a program that goes on does so at the next instruction, pc + 4 modulo 2^32.
+/// Each `ecall` that is served counts as a step, so that a program that does nothing but call ends
+/// too. With limit 0 nothing changes and no call is served.
+///
+/// The clauses: from the machine and the environment before, a chain of runs and calls, each within
+/// what is left of the limit, leads to those after, and exactly its accesses are made, those of the
+/// steps and those of the calls in their order (`served`); where the environment's calls are
+/// determined no other chain leads from there (`only`); what is no part of the state stays
+/// (`rest`). Where the first step fetches, nothing is mapped or writable from 2^32 on (`ends`), as
+/// by `run`.
+pub fn run_served<M: Memory, E: Environment>(
+    cache: &mut DecodeCache,
+    executor: &mut InstructionExecutor<M>,
+    environment: &mut E,
+    limit: u64,
+) -> ServedEnd
+    ensures served { MakesSome M.reads M.writes
+        (Served E.serves result.ending
+        environment.new (state_in M.bytes M.writable executor.new)
+        limit environment.old (state_in M.bytes M.writable executor.old) result.steps)
+        executor.old.mem.now executor.new.mem.now }
+    ensures only { IsOnlyServed E.serves
+        limit environment.old (state_in M.bytes M.writable executor.old)
+        result.steps result.ending
+        environment.new (state_in M.bytes M.writable executor.new) }
+    ensures rest { KeepsTheRest M.layout executor.old executor.new }
+    ensures ends { 1 ≤ limit → executor.old.hart_state.now.pc % 4 ≡ 0
+        → EndsAtLastAddress (M.bytes executor.old.mem.now) (M.writable executor.old.mem.now) }
+{
+    let mut steps = 0;
+    'rounds: loop {
+        match serve_next(cache, executor, environment, limit - steps) {
+            Round::GoneOn(more) => {
+                steps += more;
+            }
+            Round::Ended(more, ending) => {
+                let steps = steps + more;
+                return ServedEnd { steps, ending };
+            }
+        }
+    }
+}

@@ -1,5 +1,0 @@
-use Rattle.rrs_linux.proofs.Placed.{range_skipped}
-use Rattle.rrs_linux.proofs.held.Held.skip.Goals as goal
-
-pub returns : goal.returns
-returns c = range_skipped c.args.self.now.bytes c.args.self.now.start c.args.self.now.end c.args.count c.requires

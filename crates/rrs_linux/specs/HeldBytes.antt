@@ -1,6 +1,0 @@
--- The bytes that were read of the input and not given to the program yet.
-use Rattle.std.specs.Prelude.{ℕ, List, slice_range}
-use Rattle.rrs_linux.specs.declared.held.Held.{Held}
-
-abbrev pub held_bytes : Held → List ℕ
-held_bytes held = slice_range held.bytes held.start held.end

@@ -1,0 +1,108 @@
+//! Bytes of the input that were read and not given to the program yet.
+
+ghost use Rattle.std.specs.Prelude.{◌≡◌, ◌≤◌, ◌<◌, [], drop, length, IfSome, IfNone, IsTrue, ◌↔◌};
+ghost use Rattle.std.specs.Io.KnownBytes.{Keeps, IsAtEnd, prepend_known};
+
+use std::io::{ErrorKind, Read};
+
+/// The most bytes that are read of the input at a time.
+const CHUNK: usize = 256;
+
+/// Bytes of the input that were read and not given to the program yet.
+#[derive(Drop)]
+pub struct InputBuffer {
+    /// The bytes that the latest read gave, and others behind them.
+    bytes: [u8; CHUNK],
+    /// The place of the first that was not given.
+    start: usize,
+    /// The place behind the last that was read.
+    end: usize,
+    ghost ordered: { start ≤ end },
+    ghost within: { end ≤ 256 },
+}
+
+impl InputBuffer {
+    ghost use Rattle.rrs_linux.specs.BufferedBytes.{buffered_bytes};
+
+    /// No bytes.
+    pub fn new() -> InputBuffer
+        ensures { buffered_bytes result ≡ [] }
+    {
+        InputBuffer {
+            bytes: [0; CHUNK],
+            start: 0,
+            end: 0,
+        }
+    }
+
+    /// Whether there are none.
+    pub fn is_empty(&self) -> bool
+        ensures { IsTrue result ↔ (buffered_bytes self.now ≡ []) }
+    {
+        self.start == self.end
+    }
+
+    /// The bytes that were not given yet.
+    pub fn as_slice(&self) -> &[u8]
+        ensures { result.now ≡ buffered_bytes self.now }
+    {
+        &self.bytes[self.start..self.end]
+    }
+
+    /// Lets the first bytes go, which are given.
+    pub fn skip(&mut self, count: usize)
+        requires { count ≤ length (buffered_bytes self.old) }
+        ensures { buffered_bytes self.new ≡ drop count (buffered_bytes self.old) }
+    {
+        self.start += count;
+    }
+
+    /// Reads once, so many bytes at most, if none are held. Gives how many are held then, or `None`
+    /// where the read failed.
+    pub(crate) fn hold<R: Read>(&mut self, input: &mut R, most: usize) -> Option<usize>
+        requires { 0 < most }
+        ensures kept { Keeps (prepend_known (buffered_bytes self.old) (R.remaining input.old))
+            (prepend_known (buffered_bytes self.new) (R.remaining input.new)) }
+        ensures count { IfSome result (λ count. count ≡ length (buffered_bytes self.new)) }
+        ensures end { IfSome result (λ count. count ≡ 0 → IsAtEnd (R.remaining input.new)) }
+        ensures failed { IfNone result (buffered_bytes self.new ≡ []) }
+    {
+        if self.is_empty() {
+            return self.fill(input, most);
+        }
+        Some(self.as_slice().len())
+    }
+
+    /// Reads once, so many bytes at most, where there are none, and gives how many were read, or
+    /// `None` where the read failed. An interrupted read is made again.
+    pub fn fill<R: Read>(&mut self, input: &mut R, most: usize) -> Option<usize>
+        requires some { 0 < most }
+        requires empty { buffered_bytes self.old ≡ [] }
+        ensures kept { Keeps (R.remaining input.old)
+            (prepend_known (buffered_bytes self.new) (R.remaining input.new)) }
+        ensures count { IfSome result (λ count. count ≡ length (buffered_bytes self.new)) }
+        ensures end { IfSome result (λ count. count ≡ 0 → IsAtEnd (R.remaining input.new)) }
+        ensures failed { IfNone result (buffered_bytes self.new ≡ []) }
+    {
+        let most = most.min(CHUNK);
+        let mut bytes = [0; CHUNK];
+        for _ in 0..u64::MAX {
+            match input.read(&mut bytes[..most]) {
+                Ok(count) => {
+                    *self = InputBuffer {
+                        bytes,
+                        start: 0,
+                        end: count,
+                    };
+                    return Some(count);
+                }
+                Err(error) => {
+                    if error.kind() != ErrorKind::Interrupted {
+                        return None;
+                    }
+                }
+            }
+        }
+        None
+    }
+}

@@ -1,0 +1,195 @@
+-- What the calls of these programs do to an environment, and to its streams.
+use Rattle.std.proofs.Common.{◌≡◌, ℕ, ◌+◌, ◌-◌, ◌%◌, ◌^◌, ◌≤◌, min, List, ◌++◌, length, take, pos, Option, Some, None, Bool, inl, inr, sym, ap, subst, ◌∙◌, arith, ext_get_or, Vec, vec_capacity}
+use Rattle.std.specs.declared.alloc.Global.{Global}
+use Rattle.std.proofs.lemmas.Bool.{false≢true}
+use Rattle.std.proofs.lemmas.Option.{none-some, same_Some}
+use Rattle.std.proofs.lemmas.List.{length-take-le}
+use Rattle.std.specs.Io.KnownBytes.{Appends}
+use Rattle.rrs_lib.specs.Bytes.{ByteMap}
+use Rattle.rrs_lib.specs.AccessLists.{Access}
+use Rattle.rrs_lib.specs.Words.{word}
+use Rattle.rrs_lib.specs.Machine.{State, reg, with_pc}
+use Rattle.rrs_env.specs.declared.Ending.{Ending}
+use Rattle.rrs_env.specs.declared.Ending.TheVariants.{Exit as Exits}
+use Rattle.rrs_env.specs.Serving.{Relation, Served}
+use Rattle.rrs_env.proofs.Following.{Follows, Ended, WentOn}
+use Rattle.rrs_extra.specs.Programs.{IsWritable}
+use Rattle.rrs_linux.specs.declared.Process.{Process}
+use Rattle.rrs_linux.specs.declared.requests.Request.{Request}
+use Rattle.rrs_linux.specs.declared.requests.Request.TheVariants.{Exit, Read, WriteOutput}
+use Rattle.rrs_linux.specs.Requests.{Asks, AsksBy, ToExit, ToRead, ToWriteOutput, ToWriteErrors, ToSetBreak, ToClose, OfNoFile, OfNoCall}
+use Rattle.rrs_linux.specs.SystemCalls.{Does, ServesBy, WritesOutput}
+use Rattle.rrs_linux.specs.Transfers
+use Rattle.rrs_linux.specs.Transfers.{Gives, Takes, Stands, WriteEnds, most_bytes}
+use Rattle.rrs_linux.specs.Recording.{TakingEnds, TakesOutput, GivingEnds}
+use Rattle.rrs_linux.specs.Recording
+use Rattle.rrs_linux.proofs.Written.{Stands-take}
+
+-- ---- what is asked for
+
+-- what the calls of these programs ask for: an exit, a read of the input, and a write to the output
+abbrev Asked : (call a0 a1 a2 : ℕ) → Request → Type 0
+Asked call a0 a1 a2 request =
+    (call ≡ 93 → request ≡ Exit (a0 % 256)) × (call ≡ 63 → a0 ≡ 0 → request ≡ Read a1 a2)
+    × (call ≡ 64 → a0 ≡ 1 → request ≡ WriteOutput a1 a2)
+
+-- none of them is asked for
+none_of : {call a0 a1 a2 : ℕ} {request : Request} → (call ≡ 93 → ⊥) → (call ≡ 63 → a0 ≡ 0 → ⊥)
+    → (call ≡ 64 → a0 ≡ 1 → ⊥) → Asked call a0 a1 a2 request
+none_of no_exit no_read no_write = (λ e. absurd (no_exit e), λ e f. absurd (no_read e f), λ e f. absurd (no_write e f))
+
+asked : {call a0 a1 a2 : ℕ} {request : Request} → AsksBy call a0 a1 a2 request → Asked call a0 a1 a2 request
+asked (ToExit (inl c) is) = (λ e. is, λ e f. absurd (omega arith), λ e f. absurd (omega arith))
+asked (ToExit (inr c) is) = none_of (λ e. omega arith) (λ e f. omega arith) (λ e f. omega arith)
+asked (ToRead c d is) = (λ e. absurd (omega arith), λ e f. is, λ e f. absurd (omega arith))
+asked (ToWriteOutput c d is) = (λ e. absurd (omega arith), λ e f. absurd (omega arith), λ e f. is)
+asked (ToWriteErrors c d is) = none_of (λ e. omega arith) (λ e f. omega arith) (λ e f. omega arith)
+asked (ToSetBreak c is) = none_of (λ e. omega arith) (λ e f. omega arith) (λ e f. omega arith)
+asked (ToClose c d is) = none_of (λ e. omega arith) (λ e f. omega arith) (λ e f. omega arith)
+asked (OfNoFile (inl close) is) =
+    let c = close.0 in none_of (λ e. omega (arith, c)) (λ e f. omega (arith, c)) (λ e f. omega (arith, c))
+asked (OfNoFile (inr (inl read)) is) =
+    let c = read.0 in none_of (λ e. omega (arith, c)) (λ e f. read.1 f) (λ e f. omega (arith, c))
+asked (OfNoFile (inr (inr write)) is) =
+    let c = write.0 in none_of (λ e. omega (arith, c)) (λ e f. omega (arith, c)) (λ e f. write.1 f)
+asked (OfNoCall none is) = none_of (λ e. none.3 e) (λ e f. none.1 e) (λ e f. none.2 e)
+
+-- ---- what follows a call, over any streams
+
+module _ {R W E K : Type 0} (gives : Gives R K) (takes : Takes W) (takes_errors : Takes E) (ending : Ending)
+    (new : Process R W E K) (t : State) where
+  abbrev serves : Relation (Process R W E K)
+  serves = ServesBy gives takes takes_errors
+
+  -- what is done is what was asked for
+  done : {e d : Process R W E K} {u m : State} {accesses : List Access} {end : Option ℕ} (request : Request)
+      (by : serves e u d m accesses end) → by.request ≡ request
+      → Does gives takes takes_errors request e u d m accesses end
+  done {e = e} {d = d} {u = u} {m = m} {accesses = accesses} {end = end} request by is =
+      subst (λ r. Does gives takes takes_errors r e u d m accesses end) is by.does
+
+  -- by an exit the program ended, and changed nothing
+  pub record Exited (n steps : ℕ) (e : Process R W E K) (u : State) : Type 0 where
+    pub counted : steps ≡ n + 1
+    pub ends : ending ≡ Exits (reg u 10 % 256)
+    pub same : new ≡ e
+    pub stays : t ≡ u
+
+  -- a call was answered, and the program goes on behind it
+  pub record Answered (limit n pc steps : ℕ) (e : Process R W E K) (u : State) (request : Request) : Type 0 where
+    pub after : Process R W E K
+    pub there : State
+    pub of_call : List Access
+    pub of_later : List Access
+    pub later : ℕ
+    pub does : Does gives takes takes_errors request e u after there of_call None
+    pub goes_on : Served serves ending new t (limit - (n + 1)) after (with_pc there (word (pos (pc + 4)))) later
+        of_later
+    pub counted : steps ≡ n + 1 + later
+
+  module _ {limit n pc steps : ℕ} {e : Process R W E K} {u : State} where
+    pub exited : reg u 17 ≡ 93 → Follows serves ending new t limit n pc e u steps → Exited n steps e u
+    exited call (Ended status of_call by is made) =
+        let does = done (Exit (reg u 10 % 256)) by ((asked by.asks).0 call) in
+        record { counted = made; ends = is ∙ ap Exits (same_Some _ _ does.0); same = does.1; stays = does.2 }
+    exited call (WentOn d m of_call of_later later by behind made) =
+        absurd (none-some _ (done (Exit (reg u 10 % 256)) by ((asked by.asks).0 call)).0)
+
+    answers : (request : Request) → ((r : Request) → Asks u r → r ≡ request)
+        → ((d : Process R W E K) (m : State) (accesses : List Access) (status : ℕ)
+        → Does gives takes takes_errors request e u d m accesses (Some status) → ⊥)
+        → Follows serves ending new t limit n pc e u steps → Answered limit n pc steps e u request
+    answers request asks no_end (Ended status of_call by is made) =
+        absurd (no_end new t of_call status (done request by (asks by.request by.asks)))
+    answers request asks no_end (WentOn d m of_call of_later later by behind made) = record {
+      after = d;
+      there = m;
+      of_call = of_call;
+      of_later = of_later;
+      later = later;
+      does = done request by (asks by.request by.asks);
+      goes_on = behind;
+      counted = made;
+    }
+
+    pub wrote : reg u 17 ≡ 64 → reg u 10 ≡ 1 → Follows serves ending new t limit n pc e u steps
+        → Answered limit n pc steps e u (WriteOutput (reg u 11) (reg u 12))
+    wrote call fd = answers (WriteOutput (reg u 11) (reg u 12)) (λ r asks. (asked asks).2 call fd)
+        (λ d m accesses status does. none-some status (sym does.0))
+
+    pub got : reg u 17 ≡ 63 → reg u 10 ≡ 0 → Follows serves ending new t limit n pc e u steps
+        → Answered limit n pc steps e u (Read (reg u 11) (reg u 12))
+    got call fd = answers (Read (reg u 11) (reg u 12)) (λ r asks. (asked asks).1 call fd)
+        (λ d m accesses status does. none-some status (sym does.0))
+
+-- ---- what a stream does with a text that stands
+
+-- one text of each length stands at an address
+same_text : (bytes : ByteMap) (a : ℕ) (text text' : List ℕ) → length text ≡ length text' → Stands bytes a text
+    → Stands bytes a text' → text ≡ text'
+same_text bytes a text text' long stands stands' =
+    ext_get_or 0 text text' long (λ i less. same_Some _ _ (sym (stands i less) ∙ stands' i (omega (arith, less, long))))
+
+module _ (bytes : ByteMap) (a count : ℕ) (text text' : List ℕ) (known : count ≡ length text)
+    (stands : Stands bytes a text)
+    (stands' : Stands bytes a text') where
+  -- a text for which a record has room is taken whole
+  taken_from : (room reads answer : ℕ) → length text ≤ most_bytes → a + length text ≤ 2 ^ 32 → length text ≤ room
+      → TakingEnds bytes a count room text' reads answer → (text' ≡ text) × (answer ≡ length text)
+  taken_from room reads answer at_once fits large (Recording.IsWhole fits' long has_room are answers) =
+      let same : text' ≡ text = same_text bytes a text' text (omega (arith, known, long, at_once)) stands' stands in
+      (same, answers ∙ ap length same)
+  taken_from room reads answer at_once fits large (Recording.IsFull fits' short full are answers) = absurd (omega arith)
+  taken_from room reads answer at_once fits large (Recording.IsUnmapped fits' short more unmapped are answers) =
+      absurd (none-some _ (sym unmapped ∙ stands (length text') (omega arith)))
+  taken_from room reads answer at_once fits large (Recording.PassesEnd past none are answers) = absurd (omega arith)
+
+  -- what is written of it to a writer of the host is no longer than it
+  no_longer : (reads answer : ℕ) → WriteEnds bytes a count text' reads answer → length text' ≤ length text
+  no_longer reads answer (Transfers.Whole fits long are answers) = omega arith
+  no_longer reads answer (Transfers.IsUnmapped fits short unmapped are answers) = omega arith
+  no_longer reads answer (Transfers.IsShort fits short read answers) = omega arith
+  no_longer reads answer (Transfers.PassesEnd past none are answers) = omega (arith, ap length none)
+
+pub took_all : (bytes : ByteMap) (a count : ℕ) (text : List ℕ) (old new : Vec ℕ Global) (answer : ℕ)
+    (accesses : List Access)
+    → count ≡ length text → Stands bytes a text → length text ≤ most_bytes → a + length text ≤ 2 ^ 32
+    → length old.items + length text ≤ vec_capacity old → TakesOutput bytes a count old new answer accesses
+    → (new.items ≡ old.items ++ text) × (answer ≡ length text)
+took_all bytes a count text old new answer accesses known stands at_once fits room takes =
+    let of = takes.0 in
+    let all = taken_from bytes a count text of.text known stands of.stands
+    (vec_capacity old - length old.items) of.reads answer at_once fits (omega (arith, room)) of.ended in
+    (of.appended ∙ ap (λ l. old.items ++ l) all.0, all.1)
+
+-- a beginning of the text was written
+pub record WroteSome {W : Type 0} (contents : W → Option (List ℕ)) (text : List ℕ) (old new : W) : Type 0 where
+  pub count : ℕ
+  pub within : count ≤ length text
+  pub appended : Appends (contents old) (contents new) (take count text)
+
+pub took_some : {W : Type 0} (contents : W → Option (List ℕ)) (bytes : ByteMap) (a count : ℕ) (text : List ℕ)
+    (old new : W)
+    (answer : ℕ) (accesses : List Access) → count ≡ length text → Stands bytes a text
+    → WritesOutput contents bytes a count old new answer accesses → WroteSome contents text old new
+took_some contents bytes a count text old new answer accesses known stands writes =
+    let n = length writes.text in
+    let short = no_longer bytes a count text writes.text known stands writes.stands writes.reads answer writes.ended in
+    let long = sym (length-take-le n text short) in
+    let same = same_text bytes a writes.text (take n text) long writes.stands
+    (Stands-take bytes a n text short stands) in
+    record { count = n; within = short; appended = subst (Appends (contents old) (contents new)) same writes.appended }
+
+-- ---- bytes of the input that are given to a buffer that is writable
+
+-- as many are given as there are and were asked for
+pub given_all : (writable : ℕ → Bool) (a count answer : ℕ) (left text : List ℕ) (accesses : List Access)
+    → IsWritable writable a count → a + count ≤ 2 ^ 32 → GivingEnds writable a count left text accesses answer
+    → (length text ≡ min (min count most_bytes) (length left)) × (answer ≡ length text)
+given_all writable a count answer left text accesses open_there fits (Recording.IsWhole fits' long are answers) =
+    (long, answers)
+given_all writable a count answer left text accesses open_there fits
+    (Recording.IsRefused byte rest fits' short is refused are answers) =
+    absurd (false≢true (sym refused ∙ open_there (length text) (omega arith)))
+given_all writable a count answer left text accesses open_there fits (Recording.PassesEnd past none are answers) =
+    absurd (omega arith)

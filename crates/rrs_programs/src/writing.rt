@@ -1,0 +1,90 @@
+//! A program that writes a text and ends.
+
+ghost use Rattle.std.specs.Prelude.{◌≡◌, ℕ, ◌+◌, ◌%◌, ◌≤◌, ◌++◌, length, take, vec_capacity};
+ghost use Rattle.std.specs.Io.KnownBytes.{Appends};
+ghost use Rattle.rrs_lib.specs.Executor.{state_in, KeepsTheRest};
+ghost use Rattle.rrs_lib.specs.Machine.{reg};
+ghost use Rattle.rrs_env.specs.Serving.{Served, MakesSome};
+ghost use Rattle.rrs_env.specs.declared.Ending.TheVariants.{Exit};
+ghost use Rattle.rrs_linux.specs.Recording.{Records};
+ghost use Rattle.rrs_linux.specs.SystemCalls.{Serves};
+ghost use Rattle.rrs_programs.specs.WritingAndExiting.{WriteAndExitStarts};
+
+use crate::arguments::arguments_of_call;
+use rrs_env::{ServedEnd, run_served};
+use rrs_fast::DecodeCache;
+use rrs_lib::Memory;
+use rrs_lib::instruction_executor::InstructionExecutor;
+use rrs_linux::{Linux, OutputRecorder};
+use std::io::{Read, Write};
+
+/// Calls a program of 13 words that writes the x11 bytes from the address in x10 on to standard
+/// output, and exits with the status in x12.
+///
+/// The program stands where the pc is, and the bytes are `text`. The limit is 13 or more: the run
+/// makes 13 steps, its two calls included. Then the output has grown by exactly the text, the
+/// status is the low byte of x12, and the rest of the environment and the bytes of memory are as
+/// before.
+pub fn write_and_exit<M: Memory>(
+    executor: &mut InstructionExecutor<M>,
+    environment: &mut OutputRecorder,
+    text: &[u8],
+    limit: u64,
+) -> ServedEnd
+    requires starts { WriteAndExitStarts text.now (state_in M.bytes M.writable executor.old) }
+    requires room { length environment.old.output.items + length text.now
+        ≤ vec_capacity environment.old.output }
+    requires enough { 13 ≤ limit }
+    ensures served { MakesSome M.reads M.writes
+        (Served Records result.ending
+        environment.new (state_in M.bytes M.writable executor.new)
+        limit environment.old (state_in M.bytes M.writable executor.old) result.steps)
+        executor.old.mem.now executor.new.mem.now }
+    ensures steps { result.steps ≡ 13 }
+    ensures ending { result.ending
+        ≡ Exit (reg (state_in M.bytes M.writable executor.old) 12 % 256) }
+    ensures output { environment.new.output.items ≡ environment.old.output.items ++ text.now }
+    ensures input_kept { environment.new.input ≡ environment.old.input }
+    ensures errors_kept { environment.new.errors ≡ environment.old.errors }
+    ensures heap_kept { environment.new.heap ≡ environment.old.heap }
+    ensures bytes_kept { M.bytes executor.new.mem.now ≡ M.bytes executor.old.mem.now }
+    ensures rest { KeepsTheRest M.layout executor.old executor.new }
+{
+    arguments_of_call(executor.hart_state);
+    run_served(&mut DecodeCache::new(), executor, environment, limit)
+}
+
+/// Calls the program of [write_and_exit] over the streams of a host.
+///
+/// Whatever they do, the run makes its 13 steps and ends with the status. The output has grown by a
+/// beginning of the text, where its bytes are known: all of it, but where the host's write was
+/// short or failed, which the program does not look at.
+pub fn write_and_exit_over<M: Memory, R: Read, W: Write, E: Write>(
+    executor: &mut InstructionExecutor<M>,
+    environment: &mut Linux<R, W, E>,
+    text: &[u8],
+    limit: u64,
+) -> ServedEnd
+    requires starts { WriteAndExitStarts text.now (state_in M.bytes M.writable executor.old) }
+    requires enough { 13 ≤ limit }
+    ensures served { MakesSome M.reads M.writes
+        (Served (Serves R.remaining W.contents E.contents) result.ending
+        environment.new (state_in M.bytes M.writable executor.new)
+        limit environment.old (state_in M.bytes M.writable executor.old) result.steps)
+        executor.old.mem.now executor.new.mem.now }
+    ensures steps { result.steps ≡ 13 }
+    ensures ending { result.ending
+        ≡ Exit (reg (state_in M.bytes M.writable executor.old) 12 % 256) }
+    ensures output { (count : ℕ) × (count ≤ length text.now)
+        × Appends (W.contents environment.old.output) (W.contents environment.new.output)
+        (take count text.now) }
+    ensures input_kept { environment.new.input ≡ environment.old.input }
+    ensures held_kept { environment.new.held ≡ environment.old.held }
+    ensures errors_kept { environment.new.errors ≡ environment.old.errors }
+    ensures heap_kept { environment.new.heap ≡ environment.old.heap }
+    ensures bytes_kept { M.bytes executor.new.mem.now ≡ M.bytes executor.old.mem.now }
+    ensures rest { KeepsTheRest M.layout executor.old executor.new }
+{
+    arguments_of_call(executor.hart_state);
+    run_served(&mut DecodeCache::new(), executor, environment, limit)
+}

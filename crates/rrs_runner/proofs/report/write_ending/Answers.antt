@@ -1,7 +1,0 @@
-use Rattle.std.proofs.KnownBytes.{Appends-trans}
-use Rattle.std.proofs.lemmas.Result.{on_ok_weaker}
-use Rattle.rrs_runner.proofs.report.write_ending.Goals as goal
-
-pub returns : goal.returns
-returns g c = λ bytes writable.
-    on_ok_weaker _ (Appends-trans _ _ _ _ _ c.in_ok-print_end.ensures) (c.print_hart.ensures bytes writable)

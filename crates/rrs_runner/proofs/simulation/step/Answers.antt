@@ -1,5 +1,0 @@
-use Rattle.rrs_runner.proofs.OneStep.{one_step}
-use Rattle.rrs_runner.proofs.simulation.step.Goals as goal
-
-pub returns : goal.returns
-returns g c = one_step _ _ _ _ c.step_each.auto.answers c.step_each.ensures.run

@@ -1,0 +1,26 @@
+//! A kit for debuggers and tracers of `rrs_lib`'s machine.
+//!
+//! [step_retired] makes a step and tells what it retired, in the shape of RVFI, the RISC-V Formal
+//! Interface, and [step_retired_parts] does so of a hart that is kept in another layout.
+//! [TracedMemory] is the memory under both, which keeps the latest access that is no fetch.
+//! [run_until] makes steps until the pc is one of some addresses. [request] and [complete] execute
+//! an instruction whose load or store the caller makes, outside of the machine, and
+//! [complete_load] and [complete_store] the one at which a run ended with an access fault. A
+//! [Snapshot] keeps the state of a hart.
+//!
+//! What a step retires is written in `specs/Retired.antt`, what a run that stops is in
+//! `specs/Stops.antt`, and what is asked and completed in `specs/Outside.antt`.
+
+#![tactic(auto)]
+
+mod outside;
+mod retired;
+mod snapshot;
+mod stops;
+mod traced;
+
+pub use outside::{DataRequest, complete, complete_load, complete_store, request};
+pub use retired::{Retired, step_retired, step_retired_parts};
+pub use snapshot::Snapshot;
+pub use stops::{StopEnd, StopReason, run_until};
+pub use traced::{MemoryAccess, TracedMemory};
