@@ -91,7 +91,7 @@ fn every_line_with_a_mistake_is_told(rt: HostRuntime) -> Result<(), Fail> {
     Ok(())
 }
 
-/// The last statement ends at the end of addresses, and none stands behind it.
+/// The last statement ends at the end of addresses, and none follows it.
 #[test]
 fn addresses_end(rt: HostRuntime) -> Result<(), Fail> {
     same_words(&rt, rt.alloc(), ".word .", 0xffff_fffc, &[0xffff_fffc])?;

@@ -153,7 +153,7 @@ static CASES: [Case; 16] = [
         "",
         "end: limit, steps 0\nx0 0x00000000\nx1 0x00000000\nx2 0x00000000\n",
     ),
-    // Words outside the table, the second of them a jalr with funct3 1.
+    // Illegal instructions, the second of them a jalr with funct3 1.
     (
         &[0xffff_ffff],
         5,

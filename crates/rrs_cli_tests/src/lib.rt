@@ -1,6 +1,6 @@
 //! The tests of `rrs_cli` and of `rrs_commands`, which call what they offer to every crate.
 //!
-//! They stand in a crate of their own, so that a check of those proves their calls and a check of
+//! They are in a crate of their own, so that a check of those proves their calls and a check of
 //! this crate the tests.
 
 #![tactic(auto)]

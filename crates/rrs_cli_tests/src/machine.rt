@@ -1,4 +1,4 @@
-//! A runtime whose words, files and outputs stand in memory, and fail where they are told to.
+//! A runtime whose words, files and outputs are in memory, and fail where they are told to.
 
 use std::alloc::{Allocator, Global};
 use std::cell::{Cell, RefCell};

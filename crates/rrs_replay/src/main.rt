@@ -3,7 +3,7 @@
 //! `rrs_oracle` has the questions, and `docs/RUNNING.md` their forms. Each line is answered
 //! before the program waits for the next one. It takes no arguments. Where a read or a write fails,
 //! or out of memory, it says so on standard error and ends with status 1; what it answered before
-//! stands on standard output, and a line that was cut off is not answered.
+//! is on standard output, and a line that was cut off is not answered.
 
 #![tactic(auto)]
 
@@ -22,7 +22,7 @@ fn main(rt: HostRuntime) -> ExitCode {
 ///
 /// # Errors
 ///
-/// `Failure::Usage` where there is an argument, and what `failure_of` makes of a fault.
+/// `Failure::Usage` where there is an argument, and what `failure_of` makes of an error.
 fn replay(rt: &HostRuntime) -> Result<(), Failure> {
     take_no_arguments(rt)?;
     answer_all(rt.alloc(), rt.reader(), io::writer(rt)).map_err(failure_of)

@@ -139,7 +139,7 @@ fn reads_again_after_an_interruption(rt: HostRuntime) {
     }
 }
 
-/// Without a buffer a beginning of the answers stands there.
+/// Without a buffer a prefix of the answers is there.
 #[test]
 fn tells_a_write_that_fails_once(rt: HostRuntime) -> Result<(), Fail> {
     for fails_at in 0..ANSWERS.len() {

@@ -1,4 +1,4 @@
-//! The hart, the calls of the executor, and their faults.
+//! The hart, the calls of the executor, and their exceptions.
 
 use crate::is_shown_and_compared;
 use rrs_lib::instruction_executor::{InstructionException, InstructionExecutor, RunEnd};
@@ -19,7 +19,7 @@ fn a_new_hart(rt: HostRuntime) {
     assert!(rt; new == ([0; 32], 0, None) && default == new);
 }
 
-/// What a fault holds, behind its number.
+/// What an exception holds, behind its number.
 fn parts_of(fault: InstructionException) -> [u32; 3] {
     match fault {
         InstructionException::IllegalInstruction(pc, word) => [1, pc, word],
@@ -54,7 +54,7 @@ pub(crate) fn steps_and_run<M: Memory>(mem: &mut M, pc: u32) -> Answers {
     ([first, second, third], end)
 }
 
-// jal x1, 2: the steps after it, and the run, have the fault of an address that is not aligned.
+// jal x1, 2: the steps after it, and the run, raise the exception of a misaligned address.
 #[test]
 fn a_program_is_stepped_and_run(rt: HostRuntime) -> Result<(), Fail> {
     is_shown_and_compared::<InstructionException>();

@@ -69,7 +69,7 @@ fn limits_are_read(rt: HostRuntime) {
     assert!(rt; limits == [Some(10), None]);
 }
 
-/// The number of a fault, and its address.
+/// The number of an error, and its address.
 fn kind_of(fault: &RunFault) -> (u32, u32) {
     match fault {
         RunFault::OutOfMemory => (1, 0),

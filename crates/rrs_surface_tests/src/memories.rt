@@ -91,7 +91,7 @@ fn the_last_page_is_executed(rt: HostRuntime) -> Result<(), Fail> {
     Ok(())
 }
 
-/// What a fault is, and its address.
+/// What an error is, and its address.
 fn kind_of(fault: &LoadFault) -> (u32, u32) {
     match fault {
         LoadFault::Reader(error) => {

@@ -1,6 +1,9 @@
-//! What steps and runs of chosen words do to a hart, and what fault they return.
+//! What steps and runs of chosen words do to a hart, and which exception they return.
 
-use crate::machines::{Seen, ended, hart_of, left, memory_of, run_over, same_at, step_over};
+use crate::machines::{
+    Seen, ended, hart_of, left, memory_of, run_over, same_at, step_in_parts, step_of_parts,
+    step_over,
+};
 use rrs_lib::instruction_executor::InstructionException::{
     AlignmentFault, Breakpoint, EnvironmentCall, FetchError, IllegalInstruction, LoadAccessFault,
     StoreAccessFault,
@@ -11,7 +14,8 @@ use std::alloc::{AllocError, Global};
 use std::process::Abort;
 use std::test::Fail;
 
-/// Asserts what a step of a word alone at 0, from a pc, leaves of a hart with these registers.
+/// Asserts what a step of a word alone at 0, from a pc, leaves of a hart with these registers: the
+/// step of an executor, that of a hart whose parts are arguments, and the step in parts.
 fn step_leaves(
     rt: &impl Abort,
     alloc: Global,
@@ -20,8 +24,13 @@ fn step_leaves(
     registers: &[(usize, u32)],
     expected: Seen,
 ) -> Result<(), AllocError> {
-    let mut memory = memory_of(alloc, &[word])?;
-    let seen = step_over(&mut memory, hart_of(pc, registers));
+    let seen = step_over(&mut memory_of(alloc, &[word])?, hart_of(pc, registers));
+    let of_parts = step_of_parts(&mut memory_of(alloc, &[word])?, hart_of(pc, registers));
+    let in_parts = step_in_parts(&mut memory_of(alloc, &[word])?, hart_of(pc, registers));
+    assert!(rt;
+        of_parts == seen && in_parts == seen,
+        "in parts, at {word:#x}: {of_parts:?}"
+    );
     same_at(rt, word, seen, expected);
     Ok(())
 }
@@ -29,7 +38,7 @@ fn step_leaves(
 /// Registers, by their numbers.
 type Registers = &'static [(usize, u32)];
 
-/// A program at 0 and a limit; the steps of the run, its fault, and the pc after it; the registers
+/// A program at 0 and a limit; the steps of the run, its exception, and the pc after it; the registers
 /// before and after it, and the last written register.
 type ProgramRun = (
     (&'static [u32], u64),
@@ -199,7 +208,7 @@ fn goes_on(rt: HostRuntime) -> Result<(), Fail> {
     Ok(())
 }
 
-/// Words, each with the pc before it, and its fault.
+/// Words, each with the pc before it, and its exception.
 static FAULTS: [(u32, u32, InstructionException); 18] = [
     (0x00202083, 0, AlignmentFault(2)),
     (0x00002223, 0, StoreAccessFault(4)),
@@ -221,8 +230,8 @@ static FAULTS: [(u32, u32, InstructionException); 18] = [
     (0x00000013, 0xfffffffe, AlignmentFault(0xfffffffe)),
 ];
 
-// Each word alone at 0, at a pc: the fault. SYSTEM words beside ecall and ebreak, slli with another
-// funct7 and jalr with another funct3 are no row.
+// Each word alone at 0, at a pc: the exception. SYSTEM words beside ecall and ebreak, slli with another
+// funct7 and jalr with another funct3 are illegal instructions.
 #[test]
 fn faults(rt: HostRuntime) -> Result<(), Fail> {
     for &(word, pc, fault) in &FAULTS {
@@ -233,10 +242,10 @@ fn faults(rt: HostRuntime) -> Result<(), Fail> {
     Ok(())
 }
 
-/// What an instruction does: whether it set the pc, or its fault.
+/// What an instruction does: whether it set the pc, or its exception.
 type Done = Result<bool, InstructionException>;
 
-// What a word does where it stands, with no step, and x3 after it.
+// What processing a word does, without a step, and x3 after it.
 fn process_word<M: Memory>(mem: &mut M, word: u32) -> (Option<Done>, u32) {
     let mut hart = hart_of(0x100, &[]);
     let mut executor = InstructionExecutor {
@@ -247,7 +256,7 @@ fn process_word<M: Memory>(mem: &mut M, word: u32) -> (Option<Done>, u32) {
     (done, hart.registers[3])
 }
 
-// auipc x3, 0x12345000 is processed where it stands, and fence.i is no row.
+// auipc x3, 0x12345000 is processed at 0x100, and fence.i is an illegal instruction.
 #[test]
 fn processes_one_word(rt: HostRuntime) -> Result<(), Fail> {
     let mut memory = memory_of(rt.alloc(), &[])?;

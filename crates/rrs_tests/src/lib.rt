@@ -1,6 +1,6 @@
 //! The tests of `rrs_lib`, which call what it offers to every crate.
 //!
-//! They stand in a crate of their own so that a check of `rrs_lib` proves its calls and a check of
+//! They are in a crate of their own so that a check of `rrs_lib` proves its calls and a check of
 //! this crate its tests: one at a time is quicker to wait for, and `rt ci` does both side by side.
 //!
 //! What the tests share is in `machines`: a call that is generic over a memory, and a comparison,

@@ -58,7 +58,7 @@ fn reader_of(bytes: &[u8]) -> Failing {
     }
 }
 
-/// The text of a fault, or `loaded`.
+/// The text of an error, or `loaded`.
 fn text_of(alloc: Global, answer: Result<(), LoadFault>) -> Result<String, AllocError> {
     match answer {
         Err(fault) => format!(in alloc; "{fault}"),

@@ -1,6 +1,10 @@
 //! What the tests share: memories, harts and their steps, and the comparison of what is seen.
 
-use rrs_lib::instruction_executor::{InstructionException, InstructionExecutor, RunEnd};
+use rrs_lib::instruction::decode;
+use rrs_lib::instruction_executor::{
+    InstructionException, InstructionExecutor, RunEnd, StepEnd, execute_parts, fetch_word,
+    step_parts,
+};
 use rrs_lib::memories::{MemorySpace, MemorySpaceError, VecMemory};
 use rrs_lib::{HartState, MemAccessSize, Memory};
 use std::alloc::{AllocError, Global};
@@ -81,7 +85,7 @@ pub(crate) fn hart_of(pc: u32, registers: &[(usize, u32)]) -> HartState {
     hart
 }
 
-/// So many steps that were `Ok`, and then a fault, or none at the limit.
+/// So many steps that were `Ok`, and then an exception, or none at the limit.
 pub(crate) fn ended(steps: u64, exception: Option<InstructionException>) -> RunEnd {
     RunEnd { steps, exception }
 }
@@ -103,6 +107,39 @@ pub(crate) fn step_over<M: Memory>(mem: &mut M, hart: HartState) -> Seen {
         Err(fault) => ended(0, Some(fault)),
     };
     (end, hart.pc, hart.registers, hart.last_register_write)
+}
+
+/// What a step left, told as a run of one.
+fn seen_of(end: StepEnd, registers: [u32; 32]) -> Seen {
+    let run = match end.answer {
+        Ok(()) => ended(1, None),
+        Err(exception) => ended(0, Some(exception)),
+    };
+    (run, end.pc, registers, end.last_register_write)
+}
+
+/// Makes the step of a hart whose registers and pc are arguments.
+pub(crate) fn step_of_parts<M: Memory>(mem: &mut M, hart: HartState) -> Seen {
+    let mut registers = hart.registers;
+    let end = step_parts(mem, &mut registers, hart.pc);
+    seen_of(end, registers)
+}
+
+/// Makes the step in three parts: fetches the word, decodes it, and executes the instruction.
+pub(crate) fn step_in_parts<M: Memory>(mem: &mut M, hart: HartState) -> Seen {
+    let mut registers = hart.registers;
+    let fetched = fetch_word(mem, hart.pc);
+    let found = match fetched {
+        Ok(word) => decode(word).ok_or(InstructionException::IllegalInstruction(hart.pc, word)),
+        Err(exception) => Err(exception),
+    };
+    match found {
+        Ok(instruction) => {
+            let end = execute_parts(mem, &mut registers, hart.pc, &instruction);
+            seen_of(end, registers)
+        }
+        Err(exception) => (ended(0, Some(exception)), hart.pc, registers, None),
+    }
 }
 
 /// Makes a run to a limit.

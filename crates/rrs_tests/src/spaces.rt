@@ -113,14 +113,14 @@ fn a_refused_region_may_be_added_again(rt: HostRuntime) -> Result<(), Fail> {
     Ok(())
 }
 
-/// Asserts which words stand at some addresses.
+/// Asserts which words are at some addresses.
 fn same_words<M: Memory>(rt: &impl Abort, memory: &mut M, words: &[(u32, Option<u32>)]) {
     for &(addr, word) in words {
         same_word_at(rt, addr, word_at(memory, addr), word);
     }
 }
 
-/// Spaces, each with addresses and the words that stand there.
+/// Spaces, each with addresses and the words there.
 static REGIONS: [(&[(u32, u32, &[u32])], [(u32, Option<u32>); 4]); 4] = [
     (
         &[(0x100, 8, &[0x1122_3344]), (0x200, 4, &[1, 2])],
@@ -192,7 +192,7 @@ fn lends_each_memory(rt: HostRuntime) -> Result<(), Fail> {
     Ok(())
 }
 
-// Two words at 0x10 of a space that stands at 0x1000 of another.
+// Two words at 0x10 of a space at 0x1000 of another.
 #[test]
 fn a_space_in_a_space(rt: HostRuntime) -> Result<(), Fail> {
     let inner = space_of(rt.alloc(), &[(0x10, 8, &[7, 8])])?;
@@ -317,7 +317,7 @@ fn thousand_regions(alloc: Global) -> Result<MemorySpace<VecMemory>, Fail> {
     Ok(space)
 }
 
-/// The word that stands at an address in `thousand_regions`. 703 undoes 367: the product is
+/// The word at an address in `thousand_regions`. 703 undoes 367: the product is
 /// 258,001.
 fn word_by(addr: u32) -> Option<u32> {
     let place = addr / 32;

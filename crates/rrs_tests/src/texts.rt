@@ -1,15 +1,15 @@
 //! The texts of chosen words, and that a text whose memory is refused may be asked for again. Those
-//! of a word of each row are in `rrs_examples`, with the rows' numbers.
+//! of a word of each row are in `rrs_extra_tests`, with the rows' numbers.
 
 use crate::machines::same_text_at;
-use rrs_lib::disassembly::{Disassembled, InstructionText, LONGEST_TEXT};
+use rrs_lib::disassembly::{Disassembled, InstructionText, LONGEST_TEXT, hexadecimal_digits};
 use rrs_lib::instruction::decode;
 use rrs_lib::instruction_string_outputter::InstructionStringOutputter;
 use rrs_lib::process_instruction;
 use std::alloc::AllocError;
 use std::test::Fail;
 
-/// The text of a word at an address, or `None` for a word outside the table.
+/// The text of a word at an address, or `None` for an illegal instruction.
 fn text_at(pc: u32, word: u32) -> Option<InstructionText> {
     let instruction = decode(word)?;
     Some(Disassembled { instruction, pc }.text())
@@ -58,14 +58,33 @@ bgeu x10, x11, 0x00000108";
     Ok(())
 }
 
-/// Words of no row.
+/// Words, each with the least number of its digits, and them.
+static DIGITS: [(u32, usize, &str); 7] = [
+    (0, 0, "0"),
+    (0, 1, "0"),
+    (0, 8, "00000000"),
+    (0xa5, 3, "0a5"),
+    (0xa5, 2, "a5"),
+    (0x0123_4567, 8, "01234567"),
+    (0xfedc_ba98, 0, "fedcba98"),
+];
+
+#[test]
+fn words_have_these_digits(rt: HostRuntime) {
+    for &(word, least, expected) in &DIGITS {
+        let digits = hexadecimal_digits(least.min(8), word);
+        same_text_at(&rt, word, digits.as_str(), expected);
+    }
+}
+
+/// Illegal instructions.
 static OUTSIDE: [u32; 9] = [
     0x00200073, 0x000000f3, 0x00008073, 0x00001073, 0x0000100f, 0xfe109093, 0x00009067, 0xffffffff,
     0x00000000,
 ];
 
 /// SYSTEM words beside ecall and ebreak, fence.i, slli with another funct7, jalr with another
-/// funct3, and the words of all ones and of all zeros are no row.
+/// funct3, and the words of all ones and of all zeros are illegal instructions.
 #[test]
 fn words_outside_the_table_have_no_text(rt: HostRuntime) {
     let alloc = rt.alloc();
