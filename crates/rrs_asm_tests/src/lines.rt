@@ -1,7 +1,8 @@
 //! Lines, and the words that they are.
 
 use crate::assembled::{made, same_words};
-use rrs_asm::gnu_text;
+use rrs_asm::{Pseudo, SwappedBranch, Unary, ZeroBranch, gnu_text};
+use rrs_lib::disassembly::Disassembled;
 use std::alloc::{AllocError, Global};
 use std::test::Fail;
 
@@ -180,6 +181,74 @@ fn data_is_placed(rt: HostRuntime) -> Result<(), Fail> {
         same_words(&rt, rt.alloc(), text, 0x100, &[word])?;
     }
     Ok(())
+}
+
+/// Pseudo-instructions, each with the texts at 0 of its instructions, the second of them empty where
+/// there is one alone.
+static EXPANDED: [(Pseudo, &str, &str); 17] = [
+    (Pseudo::Nop, "addi x0, x0, 0", ""),
+    (Pseudo::Ret, "jalr x0, 0x000(x1)", ""),
+    (Pseudo::Fence, "fence", ""),
+    (Pseudo::Li(10, 0xffff_ffff), "addi x10, x0, -1", ""),
+    (Pseudo::Li(10, 0x1234_5000), "lui x10, 0x12345000", ""),
+    (
+        Pseudo::Li(10, 0x1234_5fff),
+        "lui x10, 0x12346000",
+        "addi x10, x10, -1",
+    ),
+    (
+        Pseudo::La(11, 0x7ff),
+        "auipc x11, 0x00000000",
+        "addi x11, x11, 2047",
+    ),
+    (Pseudo::OfOne(Unary::Neg, 3, 4), "sub x3, x0, x4", ""),
+    (Pseudo::OfOne(Unary::Sltz, 3, 4), "slt x3, x4, x0", ""),
+    (
+        Pseudo::AgainstZero(ZeroBranch::Blez, 5, 16),
+        "bge x0, x5, 0x00000010",
+        "",
+    ),
+    (
+        Pseudo::Swapped(SwappedBranch::Bgtu, 5, 6, -8),
+        "bltu x6, x5, 0xfffffff8",
+        "",
+    ),
+    (Pseudo::J(-4), "jal x0, 0xfffffffc", ""),
+    (Pseudo::Jal(8), "jal x1, 0x00000008", ""),
+    (Pseudo::Jr(7), "jalr x0, 0x000(x7)", ""),
+    (Pseudo::Jalr(7), "jalr x1, 0x000(x7)", ""),
+    (
+        Pseudo::Call(0x1008),
+        "auipc x1, 0x00001000",
+        "jalr x1, 0x008(x1)",
+    ),
+    (
+        Pseudo::Tail(0xffff_fff8),
+        "auipc x6, 0x00000000",
+        "jalr x0, 0xfffffff8(x6)",
+    ),
+];
+
+#[test]
+fn a_pseudo_instruction_is_expanded(rt: HostRuntime) {
+    for &(pseudo, first, second) in &EXPANDED {
+        let expansion = pseudo.expand();
+        let pc = 0;
+        let instruction = expansion.first;
+        let first_text = Disassembled { instruction, pc }.text();
+        assert!(rt;
+            first_text.as_str() == first,
+            "{pseudo:?}: {}",
+            first_text.as_str()
+        );
+        match expansion.second {
+            Some(instruction) => {
+                let text = Disassembled { instruction, pc }.text();
+                assert!(rt; text.as_str() == second, "{pseudo:?}: {}", text.as_str());
+            }
+            None => assert!(rt; second.is_empty(), "{pseudo:?}"),
+        }
+    }
 }
 
 /// 4,001 bytes of every kind.

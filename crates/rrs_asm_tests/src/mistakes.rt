@@ -48,11 +48,11 @@ static MISTAKES: [(&str, usize, usize, SourceErrorKind); 36] = [
 /// Each mistake, with the line and the column where it is.
 #[test]
 fn mistakes_are_told_with_their_places(rt: HostRuntime) -> Result<(), Fail> {
-    for &(text, line, column, mistake) in &MISTAKES {
+    for &(text, line, column, kind) in &MISTAKES {
         let expected = SourceError {
             line,
             column,
-            mistake,
+            kind,
         };
         same_mistakes(&rt, rt.alloc(), text, 0, &[expected])?;
     }
@@ -64,17 +64,17 @@ static IN_ORDER: [SourceError; 3] = [
     SourceError {
         line: 1,
         column: 3,
-        mistake: SourceErrorKind::Register,
+        kind: SourceErrorKind::Register,
     },
     SourceError {
         line: 3,
         column: 3,
-        mistake: SourceErrorKind::Undefined,
+        kind: SourceErrorKind::Undefined,
     },
     SourceError {
         line: 4,
         column: 9,
-        mistake: SourceErrorKind::Value,
+        kind: SourceErrorKind::Value,
     },
 ];
 
@@ -98,7 +98,7 @@ fn addresses_end(rt: HostRuntime) -> Result<(), Fail> {
     let error = SourceError {
         line: 2,
         column: 1,
-        mistake: SourceErrorKind::TooLong,
+        kind: SourceErrorKind::TooLong,
     };
     same_mistakes(&rt, rt.alloc(), "nop\nnop", 0xffff_fffc, &[error])?;
     Ok(())
