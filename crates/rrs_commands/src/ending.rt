@@ -14,7 +14,7 @@ use std::process::ExitCode;
 #[derive(Debug, Drop)]
 pub enum Refusal {
     /// The source has mistakes, which were printed.
-    Mistakes,
+    SourceErrors,
     /// Something else failed.
     Failed(Failure),
 }

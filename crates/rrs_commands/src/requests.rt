@@ -42,14 +42,14 @@ pub fn execute_request_of(words: &[String]) -> Option<(&str, u64)>
         return None;
     };
     match (first.as_str(), second.as_str()) {
-        ("--raw", "--limit") => file_and_limit(one.as_str(), other.as_str()),
-        ("--limit", "--raw") => file_and_limit(other.as_str(), one.as_str()),
+        ("--raw", "--limit") => path_and_limit(one.as_str(), other.as_str()),
+        ("--limit", "--raw") => path_and_limit(other.as_str(), one.as_str()),
         _ => None,
     }
 }
 
 /// A file and the limit that a word is.
-fn file_and_limit<'a>(path: &'a str, limit: &str) -> Option<(&'a str, u64)>
+fn path_and_limit<'a>(path: &'a str, limit: &str) -> Option<(&'a str, u64)>
     ensures { IfSome result (λ request. request.0.now ≡ path.now
         × limit_in limit.now ≡ Some request.1) }
 {
