@@ -1,13 +1,13 @@
-use Rattle.std.proofs.Common.{◌≡◌, ℕ, ◌+◌, ◌-◌, ◌*◌, ◌^◌, ◌<◌, ◌≤◌, length, map, get_or}
-use Rattle.rrs_memory.specs.Spaces.{bounds, binary_digits}
-use Rattle.rrs_memory.specs.SpaceFields.{region_of, base_at, size_at}
+use Rattle.std.proofs.Common.{◌≡◌, ℕ, ◌+◌, ◌-◌, ◌*◌, ◌^◌, ◌<◌, ◌≤◌, length}
+use Rattle.rrs_memory.specs.Spaces.{binary_digits}
+use Rattle.rrs_memory.proofs.SearchOrder.{begins, ends}
 use Rattle.rrs_memory.proofs.memories.space.find.Given as goal
 
 abbrev pub invariant-loop-low : goal.invariant-loop-low
 invariant-loop-low g l = record {
   room : l.high ≤ length l.by_base;
-  before : (j : ℕ) → j < l.low → j < length l.by_base → base_at (map bounds (map region_of l.regions)) (get_or l.by_base j 0) + size_at (map bounds (map region_of l.regions)) (get_or l.by_base j 0) ≤ l.addr;
-  after : (j : ℕ) → l.high ≤ j → j < length l.by_base → l.addr < base_at (map bounds (map region_of l.regions)) (get_or l.by_base j 0);
+  before : (j : ℕ) → j < l.low → j < length l.by_base → ends l.regions l.by_base j ≤ l.addr;
+  after : (j : ℕ) → l.high ≤ j → j < length l.by_base → l.addr < begins l.regions l.by_base j;
   digits : l.compared ≤ binary_digits (length l.regions);
   left : l.high - l.low < 2 ^ (binary_digits (length l.regions) - l.compared);
   fewer : l.compared + (l.high - l.low) ≤ length l.by_base;

@@ -42,8 +42,8 @@ invariant_of-self-2 g c =
             let after = rw (shown, w.deref-then-region-gt0.ensures.value) at w.place_of-place.ensures.after in
             let index : w.len.result ≡ length fields = omega (arith, w.len.ensures, c.reserve.ensures.len, c.self.inside.regions.ok.0) in
             rw (ap (λ s. s.by_base.items) w.self-inside-is)
-            (order_inserted fields c.push.new.self.items old order w.insert.new.self.items w.place_of-place.result w.len.result c.args.region view c.self.invariant.1 c.requires.apart (pushed g c) w.in_ok-insert.ensures.items index w.if-region-gt0.true within before after)
+            (order_inserted _ order c.self.invariant.1 _ _ _ _ _ c.args.region view c.requires.apart (pushed g c) w.in_ok-insert.ensures.items index w.if-region-gt0.true within before after)
         | else-region-gt0 w ↦
-            rw (ap (λ s. s.by_base.items) w.self-inside-is) (order_pushed_empty fields c.push.new.self.items order c.args.region c.self.invariant.1 (pushed g c) (omega arith))
+            rw (ap (λ s. s.by_base.items) w.self-inside-is) (order_pushed_empty _ order c.self.invariant.1 _ c.args.region (pushed g c) (omega arith))
       ],
     )

@@ -9,7 +9,7 @@ invariant_of-self-lent g c w =
     let view = ap (λ s. s.regions) c.self.view_is in
     let x = c.index_mut.result.now in
     let stands = stands_of _ _ _ x view c.requires c.index_mut.ensures.value in
-    region_replaced _ _ _ _ x (with_inner x w) view stands.0 refl (rw view at c.self.invariant.0) c.self.invariant.1
+    region_replaced _ _ c.self.invariant.1 _ _ x (with_inner x w) view stands.0 refl (rw view at c.self.invariant.0)
 
 pub returns : goal.returns
 returns g c =

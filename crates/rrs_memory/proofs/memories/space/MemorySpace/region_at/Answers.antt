@@ -13,4 +13,4 @@ returns-then-is_served_by-clause-counts g c =
     let fields = c.self.inside.regions.items in
     let order = c.self.inside.by_base.items in
     let view : map region_of fields ≡ c.args.self.now.regions = ap (λ s. s.regions) c.self.view_is in
-    counts_search c.args.self.now _ fields order c.self.inside.looked_at 1 view c.self.invariant.1 (ap (λ s. s.looked_at) c.self.view_is) c.saturating_add-self-inside.ensures (omega arith) (λ some. omega arith)
+    counts_search fields order c.self.invariant.1 c.args.self.now _ c.self.inside.looked_at 1 view (ap (λ s. s.looked_at) c.self.view_is) c.saturating_add-self-inside.ensures (omega arith) (λ some. omega arith)

@@ -1,4 +1,4 @@
-use Rattle.std.proofs.Common.{◌≡◌, ◌+◌, map, ap, arith}
+use Rattle.std.proofs.Common.{◌≡◌, map, ap, arith}
 use Rattle.rrs_memory.specs.SpaceFields.{region_of}
 use Rattle.rrs_memory.proofs.SearchOrder.{counts_search}
 use Rattle.rrs_memory.proofs.memories.space.MemorySpace.search.Goals as goal
@@ -10,4 +10,4 @@ returns-clause-counts g c =
     let view : map region_of fields ≡ c.args.self.now.regions = ap (λ s. s.regions) c.self.view_is in
     let few = rw c.deref.ensures.value at c.find-found.ensures.few in
     let some = rw c.deref-2.ensures.value at c.find-found.ensures.some in
-    counts_search c.args.self.now _ fields order c.self.inside.looked_at (c.count_of-before.result + c.find-found.result.1) view c.self.invariant.1 (ap (λ s. s.looked_at) c.self.view_is) c.saturating_add-self-inside.ensures (omega (arith, few, c.count_of-before.ensures)) (λ any. omega (arith, some any))
+    counts_search fields order c.self.invariant.1 c.args.self.now _ c.self.inside.looked_at _ view (ap (λ s. s.looked_at) c.self.view_is) c.saturating_add-self-inside.ensures (omega (arith, few, c.count_of-before.ensures)) (λ any. omega (arith, some any))

@@ -21,7 +21,7 @@ pub invariant_of-self : goal.invariant_of-self
 invariant_of-self g c =
     let view = ap (λ s. s.regions) c.self.view_is ∙ c.in-Some.ensures.regions_kept in
     let f = served_field _ _ _ c.index_mut.result.now _ view c.in-Some.ensures.region c.index_mut.ensures.value in
-    region_replaced _ _ _ _ _ _ view f.here c.read.ensures.rest_kept c.in-Some.ensures.space c.self.invariant.1
+    region_replaced _ _ c.self.invariant.1 _ _ _ _ view f.here c.read.ensures.rest_kept c.in-Some.ensures.space
 
 pub returns-in-Some : goal.returns-in-Some
 returns-in-Some g c =
