@@ -110,8 +110,7 @@ write-allowed writable a (suc n) each = and_from _ _ (write-allowed writable a n
 
 -- a byte outside a store is as before
 pub store-outside : (bytes : ByteMap) (a n v b : ℕ) → Outside a n b → store bytes a n v b ≡ bytes b
-store-outside bytes a n v b (inl below) = store_outside bytes a n v b (λ from. absurd (omega (arith, below, from)))
-store-outside bytes a n v b (inr above) = store_outside bytes a n v b (λ le. above)
+store-outside bytes a n v b out = store_outside bytes a n v b (grind (arith, out))
 
 -- what is read outside a range is as before where all bytes outside it are
 pub read-kept : (old new : ByteMap) (a n b m : ℕ) → ((c : ℕ) → Outside a n c → new c ≡ old c) → ((i : ℕ) → i < m → Outside a n (b + i)) → little_endian new b m ≡ little_endian old b m

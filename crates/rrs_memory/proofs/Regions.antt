@@ -74,12 +74,44 @@ module _ {M : Type 0} where
 
   -- ---- what the list says of an address
 
+  -- of apart regions at most one serves an address
+  pub served_once : (regions : List (Region M)) (a i j : ℕ) (r s : Region M)
+      → AllPairs (λ r s. Overlaps s.base s.size r → ⊥) regions → slice_get regions i ≡ Some r → slice_get regions j ≡ Some s
+      → serves r a ≡ true → serves s a ≡ true → i ≡ j
+  served_once regions a i j r s apart stands_r stands_s hit_r hit_s =
+      let not_before : i < j → ⊥ = λ first. clash i j r s first stands_r stands_s hit_r hit_s in
+      let not_after : j < i → ⊥ = λ first. clash j i s r first stands_s stands_r hit_s hit_r in
+      omega arith
+    where
+      clash : (i j : ℕ) (r s : Region M) → i < j → slice_get regions i ≡ Some r → slice_get regions j ≡ Some s
+          → serves r a ≡ true → serves s a ≡ true → ⊥
+      clash i j r s first at at' hit hit' =
+          let overlap = apart i j r first (slice_get_within regions j s at') in
+          (rw (get_or_from_slice_get regions i r r at, get_or_from_slice_get regions j s r at') at overlap) (serve_both r s a hit hit')
+
   -- where no region serves an address, the list says the default
-  pub served_nowhere : {T : Type 0} (says : M → ℕ → T) (default : T) (regions : List (Region M)) (a : ℕ) → All (λ r. serves r a ≡ false) regions → served_by says default regions a ≡ default
-  served_nowhere says default [] a h = refl
-  served_nowhere says default (r ∷ regions) a h =
-      let miss : serves r a ≡ false = h 0 r (omega arith) in
-      rw miss (served_nowhere says default regions a (λ k d below. h (suc k) d (omega arith)))
+  module _ {T : Type 0} (says : M → ℕ → T) (default : T) where
+    pub served_nowhere : (regions : List (Region M)) (a : ℕ) → All (λ r. serves r a ≡ false) regions
+        → served_by says default regions a ≡ default
+    served_nowhere [] a h = refl
+    served_nowhere (r ∷ regions) a h =
+        let miss : serves r a ≡ false = h 0 r (omega arith) in
+        rw miss (served_nowhere regions a (λ k d below. h (suc k) d (omega arith)))
+
+    -- the one region that serves an address is the one that the list asks
+    served_at : (regions : List (Region M)) (a i : ℕ) (r : Region M) → slice_get regions i ≡ Some r → serves r a ≡ true
+        → ((k : ℕ) (s : Region M) → slice_get regions k ≡ Some s → serves s a ≡ true → i ≡ k)
+        → served_by says default regions a ≡ says r.memory (a - r.base)
+    served_at [] a i r stands e only = absurd (none-some _ stands)
+    served_at (x ∷ regions) a zero r stands e only =
+        let same : x ≡ r = same_Some _ _ stands in
+        let hit : serves x a ≡ true = ap (λ y. serves y a) same ∙ e in
+        rw hit (ap (λ y. says y.memory (a - y.base)) same)
+    served_at (x ∷ regions) a (suc i) r stands e only =
+        elim (serves_cases x a) [
+          | inl hit ↦ absurd (omega (arith, only 0 x refl hit))
+          | inr miss ↦ rw miss (served_at regions a i r stands e (λ k s at hit. omega (arith, only (suc k) s at hit)))
+        ]
 
   -- a space ends at 2 ^ 32
   pub space_ends : (bytes : M → ByteMap) (writable : M → ℕ → Bool) (regions : List (Region M)) → EndsAtLastAddress (space_bytes bytes regions) (space_writable writable regions)
@@ -89,32 +121,6 @@ module _ {M : Type 0} where
     where
       past_end : (r : Region M) → serves r a ≡ false
       past_end r = grind (arith, nat_tests)
-
-  -- of apart regions, the one that serves an address is the one that the list asks
-  pub served_at : {T : Type 0} (says : M → ℕ → T) (default : T) (regions : List (Region M)) (a i : ℕ) (r : Region M) → slice_get regions i ≡ Some r → serves r a ≡ true → AllPairs (λ r s. Overlaps s.base s.size r → ⊥) regions → served_by says default regions a ≡ says r.memory (a - r.base)
-  served_at says default [] a i r stands e apart = absurd (none-some _ stands)
-  served_at says default (x ∷ regions) a zero r stands e apart =
-      let same : x ≡ r = same_Some _ _ stands in
-      let hit : serves x a ≡ true = ap (λ y. serves y a) same ∙ e in
-      rw hit (ap (λ y. says y.memory (a - y.base)) same)
-  served_at says default (x ∷ regions) a (suc i) r stands e apart =
-      let here : get_or regions i r ≡ r = get_or_from_slice_get regions i r r stands in
-      let within : i < length regions = slice_get_within regions i r stands in
-      elim (serves_cases x a) [
-        | inl hit ↦ absurd ((rw here at (apart 0 (suc i) r (omega arith) (omega arith))) (serve_both x r a hit e))
-        | inr miss ↦ rw miss (served_at says default regions a i r stands e (λ j k d below inside. apart (suc j) (suc k) d (omega arith) (omega arith)))
-      ]
-
-  -- of apart regions at most one serves an address
-  pub served_once : (regions : List (Region M)) (a i j : ℕ) (r s : Region M) → AllPairs (λ r s. Overlaps s.base s.size r → ⊥) regions → slice_get regions i ≡ Some r → slice_get regions j ≡ Some s → serves r a ≡ true → serves s a ≡ true → i ≡ j
-  served_once regions a i j r s apart stands_r stands_s hit_r hit_s =
-      let not_before : i < j → ⊥ = λ first. clash i j r s first stands_r stands_s hit_r hit_s in
-      let not_after : j < i → ⊥ = λ first. clash j i s r first stands_s stands_r hit_s hit_r in
-      omega arith
-    where
-      clash : (i j : ℕ) (r s : Region M) → i < j → slice_get regions i ≡ Some r → slice_get regions j ≡ Some s → serves r a ≡ true → serves s a ≡ true → ⊥
-      clash i j r s first at at' hit hit' =
-          (rw (get_or_from_slice_get regions i r r at, get_or_from_slice_get regions j s r at') at (apart i j r first (slice_get_within regions j s at'))) (serve_both r s a hit hit')
 
   -- ---- a memory replaced
 
@@ -127,11 +133,11 @@ module _ {M : Type 0} where
   -- the list keeps its length
   pub length-with_memory : (regions : List (Region M)) (i : ℕ) (m : M) → length (with_memory regions i m) ≡ length regions
   length-with_memory regions i m =
-      let same = ap length (bounds-with_memory regions i m) in
-      omega (arith, same, length-map (with_memory regions i m) bounds, length-map regions bounds)
+      omega (arith, ap length (bounds-with_memory regions i m), length-map (with_memory regions i m) bounds, length-map regions bounds)
 
   -- the same at each index
-  bounds_at : (regions : List (Region M)) (i k : ℕ) (m : M) (d : Region M) → bounds (get_or (with_memory regions i m) k d) ≡ bounds (get_or regions k d)
+  bounds_at : (regions : List (Region M)) (i k : ℕ) (m : M) (d : Region M)
+      → bounds (get_or (with_memory regions i m) k d) ≡ bounds (get_or regions k d)
   bounds_at regions i k m d =
       sym (get_or-map bounds (with_memory regions i m) k d)
       ∙ ap (λ xs. get_or xs k (bounds d)) (bounds-with_memory regions i m) ∙ get_or-map bounds regions k d
@@ -141,11 +147,9 @@ module _ {M : Type 0} where
   IsSpace-with_memory regions i m space = record {
     words = λ k d below.
         let word = space.words k d (omega (arith, length-with_memory regions i m)) in
-        record {
-          aligned = (rw (base k d) word.aligned.0, rw (size k d) word.aligned.1);
-          base_fits = rw (base k d) word.base_fits;
-          size_fits = rw (size k d) word.size_fits;
-        };
+        let base_k = base k d in
+        let size_k = size k d in
+        record { aligned = (omega arith, omega arith); base_fits = omega arith; size_fits = omega arith };
     apart = λ j k d first below both. space.apart j k d first (omega (arith, length-with_memory regions i m)) (
       omega (arith, base j d, base k d, size k d, both.0),
       omega (arith, base j d, size j d, base k d, both.1),
@@ -158,50 +162,56 @@ module _ {M : Type 0} where
       size : (k : ℕ) (d : Region M) → (get_or (with_memory regions i m) k d).size ≡ (get_or regions k d).size
       size k d = ap (λ p. p.1) (bounds_at regions i k m d)
 
-  -- the region stands where it stood, with the other memory
-  pub stands-with_memory : (regions : List (Region M)) (i : ℕ) (r : Region M) (m : M) → slice_get regions i ≡ Some r → slice_get (with_memory regions i m) i ≡ Some (record r { memory = m })
+  -- the region has its place still, with the other memory
+  pub stands-with_memory : (regions : List (Region M)) (i : ℕ) (r : Region M) (m : M) → slice_get regions i ≡ Some r
+      → slice_get (with_memory regions i m) i ≡ Some (record r { memory = m })
   stands-with_memory [] i r m stands = absurd (none-some _ stands)
   stands-with_memory (x ∷ regions) zero r m stands =
       ap (λ (y : Region M). Some (record y { memory = m })) (same_Some x r stands)
   stands-with_memory (x ∷ regions) (suc i) r m stands = stands-with_memory regions i r m stands
 
   -- the regions that do not serve the address stay
-  pub OthersKept-with_memory : (regions : List (Region M)) (i : ℕ) (r : Region M) (m : M) (a : ℕ) → slice_get regions i ≡ Some r → serves r a ≡ true → OthersKept a regions (with_memory regions i m)
-  OthersKept-with_memory regions i r m a stands hit = by_index regions i stands
-    where
-      by_index : (regions : List (Region M)) (i : ℕ) → slice_get regions i ≡ Some r → (k : ℕ) (s : Region M) → slice_get regions k ≡ Some s → serves s a ≡ false → slice_get (with_memory regions i m) k ≡ Some s
-      by_index [] i stands k s other miss = absurd (none-some _ stands)
-      by_index (x ∷ regions) zero stands zero s other miss =
-          let same : r ≡ s = same_Some _ _ (sym stands ∙ other) in
-          absurd (false≢true (sym miss ∙ ap (λ y. serves y a) (sym same) ∙ hit))
-      by_index (x ∷ regions) zero stands (suc k) s other miss = other
-      by_index (x ∷ regions) (suc i) stands zero s other miss = other
-      by_index (x ∷ regions) (suc i) stands (suc k) s other miss = by_index regions i stands k s other miss
+  module _ (r : Region M) (m : M) (a : ℕ) (hit : serves r a ≡ true) where
+    pub OthersKept-with_memory : (regions : List (Region M)) (i : ℕ) → slice_get regions i ≡ Some r
+        → OthersKept a regions (with_memory regions i m)
+    OthersKept-with_memory [] i stands k s other miss = absurd (none-some _ stands)
+    OthersKept-with_memory (x ∷ regions) zero stands zero s other miss =
+        let same : r ≡ s = same_Some _ _ (sym stands ∙ other) in
+        absurd (false≢true (sym miss ∙ ap (λ y. serves y a) (sym same) ∙ hit))
+    OthersKept-with_memory (x ∷ regions) zero stands (suc k) s other miss = other
+    OthersKept-with_memory (x ∷ regions) (suc i) stands zero s other miss = other
+    OthersKept-with_memory (x ∷ regions) (suc i) stands (suc k) s other miss = OthersKept-with_memory regions i stands k s other miss
 
-  -- the list says the same of an address unless the two memories differ there
-  pub served-with_memory : {T : Type 0} (says : M → ℕ → T) (default : T) (regions : List (Region M)) (i : ℕ) (r : Region M) (m : M) (a : ℕ) → slice_get regions i ≡ Some r → (serves r a ≡ true → says m (a - r.base) ≡ says r.memory (a - r.base)) → served_by says default (with_memory regions i m) a ≡ served_by says default regions a
-  served-with_memory says default [] i r m a stands same = absurd (none-some _ stands)
-  served-with_memory says default (x ∷ regions) zero r m a stands same =
-      let P : Region M → Type 0 = λ y. serves y a ≡ true → says m (a - y.base) ≡ says y.memory (a - y.base) in
-      let same_x : serves x a ≡ true → says m (a - x.base) ≡ says x.memory (a - x.base) = subst P (sym (same_Some x r stands)) same in
-      grind (arith, same_x)
-  served-with_memory says default (x ∷ regions) (suc i) r m a stands same =
-      ap (λ rest. if serves x a then says x.memory (a - x.base) else rest)
-      (served-with_memory says default regions i r m a stands same)
+  module _ {T : Type 0} (says : M → ℕ → T) (default : T) where
+    -- the list says the same of an address unless the two memories differ there
+    pub served-with_memory : (regions : List (Region M)) (i : ℕ) (r : Region M) (m : M) (a : ℕ) → slice_get regions i ≡ Some r
+        → (serves r a ≡ true → says m (a - r.base) ≡ says r.memory (a - r.base))
+        → served_by says default (with_memory regions i m) a ≡ served_by says default regions a
+    served-with_memory [] i r m a stands same = absurd (none-some _ stands)
+    served-with_memory (x ∷ regions) zero r m a stands same =
+        let P : Region M → Type 0 = λ y. serves y a ≡ true → says m (a - y.base) ≡ says y.memory (a - y.base) in
+        grind (arith, subst P (sym (same_Some x r stands)) same)
+    served-with_memory (x ∷ regions) (suc i) r m a stands same =
+        let rest = served-with_memory regions i r m a stands same in
+        ap (λ y. if serves x a then says x.memory (a - x.base) else y) rest
 
-  -- the list says the same of every address where the two memories do
-  pub served_same : {T : Type 0} (says : M → ℕ → T) (default : T) (regions : List (Region M)) (i : ℕ) (r : Region M) (m : M) → slice_get regions i ≡ Some r → says m ≡ says r.memory → served_by says default (with_memory regions i m) ≡ served_by says default regions
-  served_same says default regions i r m stands same =
-      fun_ext (λ a. served-with_memory says default regions i r m a stands (λ hit. ap (λ f. f (a - r.base)) same))
+    -- the list says the same of every address where the two memories do
+    pub served_same : (regions : List (Region M)) (i : ℕ) (r : Region M) (m : M) → slice_get regions i ≡ Some r
+        → says m ≡ says r.memory → served_by says default (with_memory regions i m) ≡ served_by says default regions
+    served_same regions i r m stands same =
+        fun_ext (λ a. served-with_memory regions i r m a stands (λ hit. ap (λ f. f (a - r.base)) same))
 
   -- the layout stays where the inner one does
-  pub layout-with_memory : (layout : M → List ℕ) (regions : List (Region M)) (i : ℕ) (r : Region M) (m : M) → slice_get regions i ≡ Some r → layout m ≡ layout r.memory → space_layout layout (with_memory regions i m) ≡ space_layout layout regions
+  pub layout-with_memory : (layout : M → List ℕ) (regions : List (Region M)) (i : ℕ) (r : Region M) (m : M)
+      → slice_get regions i ≡ Some r → layout m ≡ layout r.memory
+      → space_layout layout (with_memory regions i m) ≡ space_layout layout regions
   layout-with_memory layout [] i r m stands same = absurd (none-some _ stands)
   layout-with_memory layout (x ∷ regions) zero r m stands same =
       let same_x : layout m ≡ layout x.memory = same ∙ ap (λ y. layout y.memory) (sym (same_Some x r stands)) in
       ap (λ inner. (x.base ∷ x.size ∷ length inner ∷ []) ++ inner ++ space_layout layout regions) same_x
   layout-with_memory layout (x ∷ regions) (suc i) r m stands same =
-      ap (λ rest. (x.base ∷ x.size ∷ length (layout x.memory) ∷ []) ++ layout x.memory ++ rest) (layout-with_memory layout regions i r m stands same)
+      let rest = layout-with_memory layout regions i r m stands same in
+      ap (λ ys. (x.base ∷ x.size ∷ length (layout x.memory) ∷ []) ++ layout x.memory ++ ys) rest
 
 module _ {M : Type 0} where
   -- the region at an index of a space is of whole words
@@ -231,7 +241,8 @@ module _ {M : Type 0} where
 
 -- ---- an aligned access to a space
 
-module _ {M : Type 0} (bytes : M → ByteMap) (writable : M → ℕ → Bool) (layout : M → List ℕ) (old new : Space M) (a : ℕ) (n : MemAccessSize) (space : IsSpace old.regions) (al : a % width n ≡ 0) where
+module _ {M : Type 0} (bytes : M → ByteMap) (writable : M → ℕ → Bool) (layout : M → List ℕ) (old new : Space M) (a : ℕ)
+    (n : MemAccessSize) (space : IsSpace old.regions) (al : a % width n ≡ 0) where
   abbrev bytes_in : Space M → ByteMap
   bytes_in s = space_bytes bytes s.regions
 
@@ -277,7 +288,8 @@ module _ {M : Type 0} (bytes : M → ByteMap) (writable : M → ℕ → Bool) (l
   module _ (i : ℕ) (r : Region M) (m : M) (stands : slice_get old.regions i ≡ Some r) (hit : serves r a ≡ true) (e : new.regions ≡ with_memory old.regions i m) where
     offset_at : {T : Type 0} (says : M → ℕ → T) (default : T) (k : ℕ) → k < width n → served_by says default old.regions (a + k) ≡ says r.memory ((a - r.base) + k)
     offset_at says default k below =
-        served_at says default old.regions (a + k) i r stands (serves_all r a k n (served_word old.regions i r space stands) al below hit) space.apart
+        let hit_k = serves_all r a k n (served_word old.regions i r space stands) al below hit in
+        served_at says default old.regions (a + k) i r stands hit_k (λ j s at. served_once old.regions (a + k) i j r s space.apart stands at hit_k)
         ∙ ap (says r.memory) (omega (arith, (serves_true r a hit).0))
 
     kept : {T : Type 0} (says : M → ℕ → T) (default : T) → says m ≡ says r.memory → served_by says default new.regions ≡ served_by says default old.regions
@@ -310,7 +322,10 @@ module _ {M : Type 0} (bytes : M → ByteMap) (writable : M → ℕ → Bool) (l
         inside b p q =
             let k : a + (b - a) ≡ b = omega arith in
             let whole : serves r b ≡ true = rw k at (serves_all r a (b - a) n (served_word old.regions i r space stands) al (omega arith) hit) in
-            served_at bytes None (with_memory old.regions i m) b i (record r { memory = m }) (stands-with_memory old.regions i r m stands) whole (IsSpace-with_memory old.regions i m space).apart
+            let regions = with_memory old.regions i m in
+            let at_i = stands-with_memory old.regions i r m stands in
+            let apart = (IsSpace-with_memory old.regions i m space).apart in
+            served_at bytes None regions b i _ at_i whole (λ j s at. served_once regions b i j _ s apart at_i at whole)
             ∙ ap (λ f. f (b - r.base)) wrote
             ∙ store_inside (bytes r.memory) (a - r.base) (width n) v (b - r.base) (omega (arith, from)) (omega (arith, from))
             ∙ ap (λ x. Some (v / 256 ^ x % 256)) (omega (arith, from))
@@ -362,7 +377,7 @@ module _ {M : Type 0} (P : M → ℕ → M → Type 0) (old new : Space M) (a : 
   pub access_there : (i : ℕ) (r : Region M) (m : M) → IsSpace old.regions → slice_get old.regions i ≡ Some r → serves r a ≡ true → new.regions ≡ with_memory old.regions i m → CountsCompared old new → P r.memory (a - r.base) m → SpaceAccess a old new P
   access_there i r m space stands hit e counts holds = record {
     regions_kept = ap (map bounds) e ∙ bounds-with_memory old.regions i m;
-    others_kept = rw e (OthersKept-with_memory old.regions i r m a stands hit);
+    others_kept = rw e (OthersKept-with_memory r m a hit old.regions i stands);
     served = becomes_there P old.regions new.regions a i r m space stands hit e holds;
     counts = counts;
   }

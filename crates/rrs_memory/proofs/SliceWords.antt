@@ -13,10 +13,6 @@ use Rattle.rrs_memory.proofs.Regions.{aligned_below, width_pos}
 is_from_true : (base a : ℕ) → word_start base ≤ a → a < 2 ^ 32 → is_from base a ≡ true
 is_from_true base a from low = grind (arith, nat_tests)
 
--- below it
-is_from_below : (base a : ℕ) → a < word_start base → is_from base a ≡ false
-is_from_below base a below = grind (arith, nat_tests)
-
 module _ (base a : ℕ) (size : MemAccessSize) (aligned : a % width size ≡ 0) (low : a < 2 ^ 32) where
   -- the bytes of an access from the base on
   module _ (words : List ℕ) (from : word_start base ≤ a) where

@@ -162,12 +162,6 @@ value_of_bytes words a (suc n) low there within =
     ∙ ap (λ y. Some (x % 256 ^ n + y % 256 * 256 ^ n)) byte
     ∙ ap Some (one_more_byte x n)
 
--- a byte of another word does not change
-pub byte_of_other : (words : List ℕ) (i x b : ℕ) → b / 4 ≢ i → bytes_of_words (slice_set words i x) b ≡ bytes_of_words words b
-byte_of_other words i x b other =
-    ap (λ n. if nat_lt b (4 * n) && nat_lt b (2 ^ 32) then Some (slice_index (slice_set words i x) (b / 4) / 256 ^ (b % 4) % 256) else None) (length-set words i x)
-    ∙ ap (λ w. if lies_in_words words b then Some (w / 256 ^ (b % 4) % 256) else None) (get_or-set_other words i (b / 4) x 0 other)
-
 -- a byte of the word that was set
 pub byte_of_set : (words : List ℕ) (i x b : ℕ) → b < 2 ^ 32 → i < length words → b / 4 ≡ i → bytes_of_words (slice_set words i x) b ≡ Some (x / 256 ^ (b % 4) % 256)
 byte_of_set words i x b low there same = grind (arith, nat_tests, length-set, get_or-set_same)
