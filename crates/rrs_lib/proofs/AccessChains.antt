@@ -29,32 +29,38 @@ making {s = s} {row = row} {f = f} fetched steps are = record {
   makes = OfRow fetched.word_there row f fetched.aligned fetched.read fetched.decodes (ap (λ r. fetch s ∷ r) (sym are));
 }
 
--- a load of an address, whose value is y, to a register that is not x0
-pub making-loads : (next : ℕ) (size : MemAccessSize) (extended : ℕ → ℤ) (from y x : ℕ) {row : Row} {imm : ℤ} {rs1 funct3 r : ℕ} {registers : List ℕ} {pc : ℕ} {last : Option ℕ} {bytes : ByteMap} {writable : ℕ → Bool}
-    → Fetches bytes pc row (of_I imm rs1 funct3 (suc r)) → execute row (of_I imm rs1 funct3 (suc r)) (at registers pc None bytes writable) ≡ Some (load_outcome (width size) extended (suc r) (plus_immediate (reg (at registers pc None bytes writable) rs1) imm) (at registers pc None bytes writable))
-    → accesses_of_row row (of_I imm rs1 funct3 (suc r)) (at registers pc last bytes writable) ≡ read_if_aligned (at registers pc last bytes writable) (plus_immediate (reg (at registers pc last bytes writable) rs1) imm) size
-    → plus_immediate (reg (at registers pc None bytes writable) rs1) imm ≡ from → from % width size ≡ 0 → little_endian bytes from (width size) ≡ Some y → word (extended y) ≡ x → word (pos (pc + 4)) ≡ next
-    → StepMaking (at registers pc last bytes writable) (at (slice_set registers r x) next (Some (suc r)) bytes writable) (fetch (at registers pc last bytes writable) ∷ Read from size (Some y) ∷ [])
-making-loads next size extended from y x {row = row} {imm = imm} {rs1 = rs1} {funct3 = funct3} {r = r} {registers = registers} {pc = pc} {last = last} {bytes = bytes} {writable = writable} fetched executes is_load there aligned read value goes =
-    let s = at registers pc last bytes writable in
-    let of_address : ℕ → List Access = λ a. if a % width size == 0 then read_in s a size ∷ [] else [] in
-    let of_read : Option ℕ → List Access = λ o. Read from size o ∷ [] in
-    let of_test = cond-true (from % width size == 0) (read_in s from size ∷ []) [] (eq-eqb _ _ aligned) in
-    making fetched (λ f. step-loads next (width size) extended from y x f executes there aligned read value goes) (is_load ∙ ap of_address there ∙ of_test ∙ ap of_read read)
+module _ {row : Row} {registers : List ℕ} {pc : ℕ} {last : Option ℕ} {bytes : ByteMap} {writable : ℕ → Bool} where
+  -- a load of an address, whose value is y, to a register that is not x0
+  pub making-loads : (next : ℕ) (size : MemAccessSize) (extended : ℕ → ℤ) (from y x : ℕ) {imm : ℤ} {rs1 funct3 r : ℕ}
+      → Fetches bytes pc row (of_I imm rs1 funct3 (suc r))
+      → execute row (of_I imm rs1 funct3 (suc r)) (at registers pc None bytes writable) ≡ Some (load_outcome (width size) extended (suc r) (plus_immediate (reg (at registers pc None bytes writable) rs1) imm) (at registers pc None bytes writable))
+      → accesses_of_row row (of_I imm rs1 funct3 (suc r)) (at registers pc last bytes writable) ≡ read_if_aligned (at registers pc last bytes writable) (plus_immediate (reg (at registers pc last bytes writable) rs1) imm) size
+      → plus_immediate (reg (at registers pc None bytes writable) rs1) imm ≡ from → from % width size ≡ 0
+      → little_endian bytes from (width size) ≡ Some y → word (extended y) ≡ x → word (pos (pc + 4)) ≡ next
+      → StepMaking (at registers pc last bytes writable) (at (slice_set registers r x) next (Some (suc r)) bytes writable) (fetch (at registers pc last bytes writable) ∷ Read from size (Some y) ∷ [])
+  making-loads next size extended from y x fetched executes is_load there aligned read value goes =
+      let s = at registers pc last bytes writable in
+      let of_address : ℕ → List Access = λ a. if a % width size == 0 then read_in s a size ∷ [] else [] in
+      let of_test = cond-true (from % width size == 0) (read_in s from size ∷ []) [] (eq-eqb _ _ aligned) in
+      making fetched (λ f. step-loads next (width size) extended from y x f executes there aligned read value goes)
+      (is_load ∙ ap of_address there ∙ of_test ∙ ap (λ (o : Option ℕ). Read from size o ∷ []) read)
 
--- a store of the low bytes of y, the value of rs2, to an address
-pub making-stores : (next : ℕ) (size : MemAccessSize) (to y : ℕ) {row : Row} {imm : ℤ} {rs2 rs1 funct3 : ℕ} {registers : List ℕ} {pc : ℕ} {last : Option ℕ} {bytes : ByteMap} {writable : ℕ → Bool}
-    → Fetches bytes pc row (of_S imm rs2 rs1 funct3) → execute row (of_S imm rs2 rs1 funct3) (at registers pc None bytes writable) ≡ Some (store_outcome (width size) (reg (at registers pc None bytes writable) rs2) (plus_immediate (reg (at registers pc None bytes writable) rs1) imm) (at registers pc None bytes writable))
-    → accesses_of_row row (of_S imm rs2 rs1 funct3) (at registers pc last bytes writable) ≡ write_if_aligned (at registers pc last bytes writable) (plus_immediate (reg (at registers pc last bytes writable) rs1) imm) size (reg (at registers pc last bytes writable) rs2)
-    → plus_immediate (reg (at registers pc None bytes writable) rs1) imm ≡ to → reg (at registers pc None bytes writable) rs2 ≡ y → to % width size ≡ 0 → all_writable writable to (width size) ≡ true → word (pos (pc + 4)) ≡ next
-    → StepMaking (at registers pc last bytes writable) (at registers next None (store bytes to (width size) y) writable) (fetch (at registers pc last bytes writable) ∷ Write to size y true ∷ [])
-making-stores next size to y {row = row} {imm = imm} {rs2 = rs2} {rs1 = rs1} {funct3 = funct3} {registers = registers} {pc = pc} {last = last} {bytes = bytes} {writable = writable} fetched executes is_store there value aligned allowed goes =
-    let s = at registers pc last bytes writable in
-    let of_address : ℕ → List Access = λ a. if a % width size == 0 then write_in s a size (reg s rs2) ∷ [] else [] in
-    let of_test = cond-true (to % width size == 0) (write_in s to size (reg s rs2) ∷ []) [] (eq-eqb _ _ aligned) in
-    let of_value : ℕ → List Access = λ v. write_in s to size v ∷ [] in
-    let of_answer : Bool → List Access = λ b. Write to size y b ∷ [] in
-    making fetched (λ f. step-stores next (width size) to y f executes there value aligned allowed goes) (is_store ∙ ap of_address there ∙ of_test ∙ ap of_value value ∙ ap of_answer allowed)
+  -- a store of the low bytes of y, the value of rs2, to an address
+  pub making-stores : (next : ℕ) (size : MemAccessSize) (to y : ℕ) {imm : ℤ} {rs2 rs1 funct3 : ℕ}
+      → Fetches bytes pc row (of_S imm rs2 rs1 funct3)
+      → execute row (of_S imm rs2 rs1 funct3) (at registers pc None bytes writable) ≡ Some (store_outcome (width size) (reg (at registers pc None bytes writable) rs2) (plus_immediate (reg (at registers pc None bytes writable) rs1) imm) (at registers pc None bytes writable))
+      → accesses_of_row row (of_S imm rs2 rs1 funct3) (at registers pc last bytes writable) ≡ write_if_aligned (at registers pc last bytes writable) (plus_immediate (reg (at registers pc last bytes writable) rs1) imm) size (reg (at registers pc last bytes writable) rs2)
+      → plus_immediate (reg (at registers pc None bytes writable) rs1) imm ≡ to
+      → reg (at registers pc None bytes writable) rs2 ≡ y → to % width size ≡ 0
+      → all_writable writable to (width size) ≡ true → word (pos (pc + 4)) ≡ next
+      → StepMaking (at registers pc last bytes writable) (at registers next None (store bytes to (width size) y) writable) (fetch (at registers pc last bytes writable) ∷ Write to size y true ∷ [])
+  making-stores next size to y {rs2 = rs2} fetched executes is_store there value aligned allowed goes =
+      let s = at registers pc last bytes writable in
+      let of_address : ℕ → List Access = λ a. if a % width size == 0 then write_in s a size (reg s rs2) ∷ [] else [] in
+      let of_test = cond-true (to % width size == 0) (write_in s to size (reg s rs2) ∷ []) [] (eq-eqb _ _ aligned) in
+      let of_value : ℕ → List Access = λ v. write_in s to size v ∷ [] in
+      making fetched (λ f. step-stores next (width size) to y f executes there value aligned allowed goes)
+      (is_store ∙ ap of_address there ∙ of_test ∙ ap of_value value ∙ ap (λ (b : Bool). Write to size y b ∷ []) allowed)
 
 -- ---- chains
 
@@ -74,7 +80,8 @@ RunsMaking-runs [] s t run = run
 RunsMaking-runs (first ∷ later) s t run = (run.0, run.1.step, RunsMaking-runs later run.0 t run.2)
 
 -- two chains, one after the other
-pub RunsMaking-append : (each each' : List (List Access)) (s u t : State) → RunsMaking s each u → RunsMaking u each' t → RunsMaking s (each ++ each') t
+pub RunsMaking-append : (each each' : List (List Access)) (s u t : State)
+    → RunsMaking s each u → RunsMaking u each' t → RunsMaking s (each ++ each') t
 RunsMaking-append [] each' s u t run run' = subst (λ x. RunsMaking x each' t) run run'
 RunsMaking-append (first ∷ later) each' s u t run run' = (run.0, run.1, RunsMaking-append later each' run.0 u t run.2 run')
 
@@ -85,10 +92,12 @@ joined-append (first ∷ later) each' = ap (λ xs. first ++ xs) (joined-append l
 -- ---- the accesses of a run
 
 -- a chain that is followed by one more step, which faults, is a run that makes its accesses
-pub RunsMaking-fault : (each : List (List Access)) (s m t : State) (e : InstructionException) (last : List Access) → RunsMaking s each m → Step m t (Err e) → AccessesOf m last → AccessesOfRun s (answers_of_run (length each) (Some e)) (joined each ++ last)
+pub RunsMaking-fault : (each : List (List Access)) (s m t : State) (e : InstructionException) (last : List Access)
+    → RunsMaking s each m → Step m t (Err e) → AccessesOf m last
+    → AccessesOfRun s (answers_of_run (length each) (Some e)) (joined each ++ last)
 RunsMaking-fault [] s m t e last run fault makes =
-    let P : State → Type 0 = λ x. Step x t (Err e) in
-    let Q : State → Type 0 = λ x. AccessesOf x last in
-    (t, last, [], subst P run fault, subst Q run makes, refl, sym (append-nil last))
+    let step = subst (λ x. Step x t (Err e)) run fault in
+    (t, last, [], step, subst (λ x. AccessesOf x last) run makes, refl, sym (append-nil last))
 RunsMaking-fault (first ∷ later) s m t e last run fault makes =
-    (run.0, first, joined later ++ last, run.1.step, run.1.makes, RunsMaking-fault later run.0 m t e last run.2 fault makes, append_assoc first (joined later) last)
+    let rest = RunsMaking-fault later run.0 m t e last run.2 fault makes in
+    (run.0, first, joined later ++ last, run.1.step, run.1.makes, rest, append_assoc first (joined later) last)

@@ -103,5 +103,4 @@ text_by_length _ row _ pc name h = tt
 -- the text of a word is no longer
 pub text_length : (row : Row) (f : Fields) (pc : ℕ) (text : List ℕ) → text_of row f pc ≡ Some text → IsInRange f → length text ≤ 25
 text_length row f pc text e h =
-    let P : Option (List ℕ) → Type 0 = λ o. IfSome o (λ t. length t ≤ 25) in
-    subst P e (text_by_length (table row).action row f pc (name_length row) h)
+    subst (λ o. IfSome o (λ t. length t ≤ 25)) e (text_by_length (table row).action row f pc (name_length row) h)
