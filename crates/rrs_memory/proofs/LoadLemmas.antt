@@ -57,8 +57,8 @@ module _ {M : Type 0} (reads : M → ℕ → MemAccessSize → M → Option ℕ 
   writes-more a addr byte [] old mid new made placed low did =
       let low_a : nat_lt a (2 ^ 32) ≡ true = lt-ltb a (2 ^ 32) (omega arith) in
       let here : addr ≡ a = omega arith in
-      let Q : ℕ → Type 0 = λ b. writes mid b Byte byte new (writable b) in
-      rw low_a (new, subst (λ (m : M). writes m a Byte byte new (writable a)) made (subst Q here did), refl)
+      let at_a = subst (λ b. writes mid b Byte byte new (writable b)) here did in
+      rw low_a (new, subst (λ (m : M). writes m a Byte byte new (writable a)) made at_a, refl)
   writes-more a addr byte (x ∷ input) old mid new made placed low did =
       let low_a : nat_lt a (2 ^ 32) ≡ true = lt-ltb a (2 ^ 32) (omega arith) in
       let parts = rw low_a at made in
@@ -69,12 +69,10 @@ module _ {M : Type 0} (reads : M → ℕ → MemAccessSize → M → Option ℕ 
   writes-next a addr byte value answer writable' input old mid new made placed low same kept granted did =
       let zero_more : addr + 0 ≡ addr = omega arith in
       let answered : answer ≡ writable addr = granted ∙ ap writable' zero_more ∙ ap (λ w. w addr) kept in
-      let P : ℕ → Type 0 = λ v. writes mid addr Byte v new answer in
-      let Q : Bool → Type 0 = λ b. writes mid addr Byte byte new b in
-      writes-more a addr byte input old mid new made placed low (subst Q answered (subst P same did))
+      let of_byte = subst (λ v. writes mid addr Byte v new answer) same did in
+      writes-more a addr byte input old mid new made placed low (subst (λ b. writes mid addr Byte byte new b) answered of_byte)
 
   -- no write more, past the last address
   pub writes-past : (a byte : ℕ) (input : List ℕ) (old new : M) → Makes reads writes (byte_writes writable a input) old new → a + length input ≡ 2 ^ 32 → Makes reads writes (byte_writes writable a (input ++ byte ∷ [])) old new
   writes-past a byte input old new made past =
-      let P : List Access → Type 0 = λ xs. Makes reads writes xs old new in
-      subst P (sym (byte_writes-past writable a byte input past)) made
+      subst (λ xs. Makes reads writes xs old new) (sym (byte_writes-past writable a byte input past)) made

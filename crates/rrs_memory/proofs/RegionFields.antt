@@ -65,10 +65,6 @@ module _ {M : Type 0} where
       let seen : List (Region M) → Space M = λ regions. record { regions = regions; looked_at = looked_at } in
       ap seen (set_is_with_memory fields i x y stands e) ∙ ap (λ s. with_region_memory s i y.memory) view
 
-  -- the memory of a region that stands at an index
-  pub memory_stands : (regions : List (Region M)) (i : ℕ) (r : Region M) (m : M) → slice_get regions i ≡ Some r → r.memory ≡ m → memory_at regions i ≡ Some m
-  memory_stands regions i r m stands is = ap (option_map (λ r. r.memory)) stands ∙ ap Some is
-
   -- what a push of a region that overlaps no other leaves
   pub IsSpace-after_push : (fields new : List (MemoryRegion M)) (old : List (Region M)) (y : MemoryRegion M) → map region_of fields ≡ old → IsSpace (map region_of fields) → IsWordRegion (region_of y) → (Any (Overlaps y.base y.size) old → ⊥) → new ≡ fields ++ y ∷ [] → IsSpace (map region_of new)
   IsSpace-after_push fields new old y view space word apart e =

@@ -126,21 +126,14 @@ byte_above w v n p i =
 
 -- ---- the bytes of a list of words
 
--- an address below 2 ^ 32 lies in the words where its word does
-pub lies : (words : List ℕ) (a : ℕ) → a < 2 ^ 32 → a / 4 < length words → lies_in_words words a ≡ true
-lies words a low there = and_from _ _ (lt-ltb a (4 * length words) (omega arith)) (lt-ltb a (2 ^ 32) low)
-
--- and else it does not
-pub lies_not : (words : List ℕ) (a : ℕ) → length words ≤ a / 4 → lies_in_words words a ≡ false
-lies_not words a past = and_left _ _ (le-ltb a (4 * length words) (omega arith))
-
--- the byte at an address that lies in the words
-pub byte_at : (words : List ℕ) (a : ℕ) → a < 2 ^ 32 → a / 4 < length words → bytes_of_words words a ≡ Some (slice_index words (a / 4) / 256 ^ (a % 4) % 256)
-byte_at words a low there = cond-true (lies_in_words words a) (Some (slice_index words (a / 4) / 256 ^ (a % 4) % 256)) None (lies words a low there)
+-- the byte at an address below 2 ^ 32 whose word is there
+pub byte_at : (words : List ℕ) (a : ℕ) → a < 2 ^ 32 → a / 4 < length words
+    → bytes_of_words words a ≡ Some (slice_index words (a / 4) / 256 ^ (a % 4) % 256)
+byte_at words a low there = grind (arith, nat_tests)
 
 -- there is none past them
 pub byte_past : (words : List ℕ) (a : ℕ) → length words ≤ a / 4 → bytes_of_words words a ≡ None
-byte_past words a past = cond-false (lies_in_words words a) (Some (slice_index words (a / 4) / 256 ^ (a % 4) % 256)) None (lies_not words a past)
+byte_past words a past = grind (arith, nat_tests)
 
 -- the byte j further in the same word
 pub byte_on : (words : List ℕ) (a j : ℕ) → a < 2 ^ 32 → a / 4 < length words → a % 4 + j < 4 → bytes_of_words words (a + j) ≡ Some (slice_index words (a / 4) / 256 ^ (a % 4 + j) % 256)

@@ -1,6 +1,6 @@
-use Rattle.std.proofs.Common.{refl, sym, ap}
-use Rattle.rrs_memory.specs.SpaceFields.{region_of, with_inner}
-use Rattle.rrs_memory.proofs.RegionFields.{stands_of, with_region_memory_of, memory_stands}
+use Rattle.std.proofs.Common.{Some, option_map, refl, sym, ap, ◌∙◌}
+use Rattle.rrs_memory.specs.SpaceFields.{with_inner}
+use Rattle.rrs_memory.proofs.RegionFields.{stands_of, with_region_memory_of}
 use Rattle.rrs_memory.proofs.SearchOrder.{region_replaced}
 use Rattle.rrs_memory.proofs.memories.space.MemorySpace.memory_mut.Goals as goal
 
@@ -17,5 +17,5 @@ returns g c =
     let x = c.index_mut.result.now in
     let stands = stands_of _ _ _ x view c.requires c.index_mut.ensures.value in (
       (refl {a = c.memory_mut.result.ghost_name}, λ w. with_region_memory_of _ _ _ _ x (with_inner x w) c.self.view_is stands.0 refl),
-      record { writes_back = tt; value = memory_stands c.args.self.now.regions c.args.index (region_of x) _ stands.1 (sym c.memory_mut.ensures.value) },
+      record { writes_back = tt; value = ap (option_map (λ r. r.memory)) stands.1 ∙ ap Some (sym c.memory_mut.ensures.value) },
     )

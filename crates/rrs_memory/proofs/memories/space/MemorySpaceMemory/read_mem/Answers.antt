@@ -28,26 +28,23 @@ returns-in-Some g c =
     let view = ap (λ s. s.regions) c.self.view_is ∙ c.in-Some.ensures.regions_kept in
     let f = served_field _ _ _ c.index_mut.result.now _ view c.in-Some.ensures.region c.index_mut.ensures.value in
     let e = with_memory_of _ _ _ _ _ view f.here c.read.ensures.rest_kept in
-    let old = c.args.self.now in
     let space = c.in-Some.ensures.space in
-    let count = ap (λ s. s.looked_at) c.self.view_is in
+    let counts = counts_along _ _ _ (ap (λ s. s.looked_at) c.self.view_is) c.in-Some.ensures.counts in
     let Law : g.row.M.Denot → ℕ → g.row.M.Denot → Type 0 =
     λ before offset after. Reads g.M.Memory.bytes g.M.Memory.writable g.M.Memory.layout before after offset (width c.args.size) c.read.result in
     record {
-      laws = reads_there g.M.Memory.bytes g.M.Memory.writable g.M.Memory.layout old _ _ _ space c.requires _ _ _ f.stands f.hit e _ c.read.ensures.laws;
-      did = access_there _ old _ _ _ _ _ space f.stands f.hit e (counts_along _ c.region_at.new.self _ count c.in-Some.ensures.counts) c.read.ensures.did;
-      served = becomes_there Law old.regions _ _ _ _ _ space f.stands f.hit e c.read.ensures.laws;
+      laws = reads_there g.M.Memory.bytes g.M.Memory.writable g.M.Memory.layout _ _ _ _ space c.requires _ _ _ f.stands f.hit e _ c.read.ensures.laws;
+      did = access_there _ _ _ _ _ _ _ space f.stands f.hit e counts c.read.ensures.did;
+      served = becomes_there Law _ _ _ _ _ _ space f.stands f.hit e c.read.ensures.laws;
     }
 
 pub returns-in-None : goal.returns-in-None
 returns-in-None g c =
     let none = c.in-None.ensures in
-    let old = c.args.self.now in
-    let new = c.region_at.new.self in
     let Law : g.row.M.Denot → ℕ → g.row.M.Denot → Type 0 =
     λ before offset after. Reads g.M.Memory.bytes g.M.Memory.writable g.M.Memory.layout before after offset (width c.args.size) None in
     record {
-      laws = reads_none g.M.Memory.bytes g.M.Memory.writable g.M.Memory.layout old new _ _ none.space c.requires c.ranges.addr.fits none.region none.regions_kept;
-      did = access_none _ old new _ none.region none.regions_kept none.counts;
-      served = becomes_none Law old.regions new.regions _ none.region;
+      laws = reads_none g.M.Memory.bytes g.M.Memory.writable g.M.Memory.layout _ _ _ _ none.space c.requires c.ranges.addr.fits none.region none.regions_kept;
+      did = access_none _ _ _ _ none.region none.regions_kept none.counts;
+      served = becomes_none Law _ _ _ none.region;
     }
