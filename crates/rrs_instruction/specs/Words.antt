@@ -1,4 +1,4 @@
--- Words and the numbers that they stand for (RISC-V unprivileged specification, "RV32I Base Integer
+-- Words and the numbers that they are (RISC-V unprivileged specification, "RV32I Base Integer
 -- Instruction Set": XLEN is 32, signed values are in two's complement). A word is a number below 2
 -- ^ 32. Formulas are over whole numbers; what they give is taken modulo 2 ^ 32 by `word`.
 use Rattle.std.specs.Prelude.{ℕ, zero, suc, ◌+◌, ◌*◌, ◌/◌, ◌%◌, ◌^◌, ℤ, pos, ◌-ℤ◌, max, nat_lt, unsigned_abs, int_div, if◌then◌else◌}
@@ -16,7 +16,7 @@ floor_mod z n = unsigned_abs (int_rem_euclid z (pos n))
 abbrev pub word : ℤ → ℕ
 word z = floor_mod z (2 ^ 32)
 
--- the number that a word stands for in two's complement
+-- the number that a word is in two's complement
 abbrev pub signed : ℕ → ℤ
 signed x = if nat_lt x (2 ^ 31) then pos x else pos x -ℤ pos (2 ^ 32)
 

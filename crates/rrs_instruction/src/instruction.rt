@@ -117,9 +117,9 @@ pub enum Instruction {
     Remu(RType),
     /// `fence`: an order of memory accesses, which does nothing here.
     Fence(IType),
-    /// `ecall`: a call of the environment, which is a fault here.
+    /// `ecall`: a call of the environment, which is an exception here.
     Ecall(IType),
-    /// `ebreak`: a breakpoint, which is a fault here.
+    /// `ebreak`: a breakpoint, which is an exception here.
     Ebreak(IType),
 }
 
@@ -328,7 +328,7 @@ impl Instruction {
     }
 
     /// Calls the processor's function for this instruction, once, and returns what it returned. It
-    /// reads the instruction where it stands, and of its fields only those of its row.
+    /// reads the instruction in its place, and of its fields only those of its row.
     ///
     /// The processor did what it does for the row and the fields that the instruction is.
     #[inline(always)]

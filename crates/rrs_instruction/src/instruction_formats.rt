@@ -1,7 +1,7 @@
 //! Constants and structs for the instruction formats.
 //!
 //! The structs are the formats of the RISC-V unprivileged specification (RV32I, "Base Instruction
-//! Formats" and "Immediate Encoding Variants"). Bit 0 is a word's lowest bit. The opcode stands in
+//! Formats" and "Immediate Encoding Variants"). Bit 0 is a word's lowest bit. The opcode is in
 //! bits 6 to 0 and is no field: `new` ignores it, and takes any word apart, whether or not its
 //! opcode belongs to the format. It gives the one tuple of fields, in their ranges, that encodes
 //! the word with the word's own opcode.
@@ -69,7 +69,7 @@ fn bits(insn: u32, low: u32, count: u32) -> u32
     (insn >> low) & (u32::MAX >> (32 - count))
 }
 
-/// The number that `value`, of `width` bits, stands for in two's complement: the one between
+/// The number that `value`, of `width` bits, is in two's complement: the one between
 /// `-2^(width - 1)` and `2^(width - 1) - 1` whose low bits are `value`.
 #[inline]
 fn sign_extended(value: u32, width: u32) -> i32

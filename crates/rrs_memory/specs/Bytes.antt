@@ -22,7 +22,7 @@ sum_if_both None o = None
 sum_if_both (Some x) None = None
 sum_if_both (Some x) (Some y) = Some (x + y)
 
--- a byte that stands at place i of a little-endian number, where there is one
+-- the value of byte i of a little-endian number, where there is one
 abbrev pub at_place : ℕ → Option ℕ → Option ℕ
 at_place i None = None
 at_place i (Some byte) = Some (byte * 256 ^ i)

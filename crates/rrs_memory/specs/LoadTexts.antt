@@ -1,4 +1,4 @@
--- The texts of a loader's faults.
+-- The texts of a loader's errors.
 use Rattle.std.specs.Prelude.{ℕ, List, ◌++◌, codes}
 use Rattle.rrs_memory.specs.Hexadecimal.{hexadecimal}
 use Rattle.rrs_memory.specs.declared.memories.load.LoadFault.{LoadFault}

@@ -8,8 +8,8 @@ use Rattle.rrs_memory.specs.declared.MemAccessSize.TheVariants.{Byte}
 use Rattle.rrs_memory.specs.Bytes.{ByteMap}
 use Rattle.rrs_memory.specs.AccessLists.{Access, Write, Makes}
 
--- The input stands from the start on, at addresses that are writable; all other bytes are as
--- before.
+-- The memory has the input from the start on, at addresses that are writable; all other bytes are
+-- as before.
 pub record Loaded (old new : ByteMap) (writable : ℕ → Bool) (start : ℕ) (input : List ℕ)
     : Type 0 where
   pub writable_there : (i : ℕ) → i < length input → writable (start + i) ≡ true

@@ -53,7 +53,7 @@ fn next_byte<R: Read>(reader: &mut R) -> io::Result<Option<u8>>
 /// Reads a reader to its end, byte by byte, and writes each byte into a memory, from `start_addr`
 /// on.
 ///
-/// Over a reader that tells its bytes the clause `loads` says which bytes stand in the memory after
+/// Over a reader that tells its bytes the clause `loads` says which bytes the memory has after
 /// each result, how many were read, and for `Ok`, `Refused` and `EndOfAddresses` exactly why it
 /// ended. That `Reader` comes only where a read failed is shown by tests: any read may fail. So is
 /// that the reader is not asked again after its end.
