@@ -1,4 +1,4 @@
--- A number of few bits, shifted to the top of a word and back, is the number that it stands for in two's complement.
+-- A number of few bits, shifted to the top of a word and back, is the number that it is in two's complement.
 use Rattle.std.proofs.Common.{◌≡◌, ℕ, ◌+◌, ◌*◌, ◌%◌, ◌-◌, ◌^◌, ◌<◌, ◌≤◌, ℤ, pos, ◌≤ℤ◌, ◌<ℤ◌, neg_ℤ, arith, sym, ap, subst, ◌∙◌, w32, to_z, of_z, FitsSigned, inl, inr}
 use Rattle.std.proofs.Math.IntN.{negsuc}
 use Rattle.std.proofs.Math.Nat.{mod-eq_of_lt, mul-div_cancel, mul-lt-mul_of_pos_right, mul-le-mul_right}

@@ -19,7 +19,7 @@ OnOk_always (Ok x) p = p
 OnOk_always (Err e) p = tt
 
 module _ {M : Type 0} where
-  -- a region that stands in the code's list stands in the contract's
+  -- a region of the code's list is one of the contract's
   pub stands_of : (fields : List (MemoryRegion M)) (old : List (Region M)) (i : ℕ) (x : MemoryRegion M) → map region_of fields ≡ old → i < length old → x ≡ get_or fields i x → (slice_get fields i ≡ Some x) × (slice_get old i ≡ Some (region_of x))
   stands_of fields old i x view within read =
       let inside : i < length fields = omega (arith, length-map fields region_of, ap length view, within) in

@@ -74,7 +74,7 @@ replaced w v m n p below fits e =
 
 -- ---- the bytes of a word of which some were replaced
 
--- a byte below the n-th is not changed by what stands from the n-th on
+-- a byte below the n-th is not changed by those from the n-th on
 pub low_byte : (r h n i : ℕ) → i < n → (r + h * 256 ^ n) / 256 ^ i % 256 ≡ r / 256 ^ i % 256
 low_byte r h n i below =
     let split : 256 ^ n ≡ 256 ^ (n - suc i) * 256 * 256 ^ i =

@@ -15,13 +15,12 @@ returns-clause-laws c =
     let wrote = c.write_words.ensures in
     let start = c.word_address-start.ensures in
     let from : word_start m.base ≤ a = omega arith in
-    let stored : bytes_of_words c.write_words.new.words ≡ store (bytes_of_words m.words.now) (a - c.word_address-start.result) (width n) c.args.store_data → bytes_from m.base c.write_words.new.words ≡ store (bytes_from m.base m.words.now) a (width n) c.args.store_data = λ is.
-    store_from m.base a n c.requires (omega arith) m.words.now c.write_words.new.words c.args.store_data from (is ∙ ap (λ x. store (bytes_of_words m.words.now) (a - x) (width n) c.args.store_data) start) in
+    let moved = ap (λ x. store (bytes_of_words m.words.now) (a - x) (width n) c.args.store_data) start in
     record {
       granted = wrote.answer
           ∙ ap (λ x. all_writable (lies_in_words m.words.now) (a - x) (width n)) start
           ∙ sym (writable_from m.base a n c.requires (omega arith) m.words.now from);
-      written = OnTrue_from _ _ (λ t. stored (OnTrue_at t wrote.written));
+      written = OnTrue_from _ _ (λ t. store_from m.base a n c.requires (omega arith) _ _ _ from (OnTrue_at t wrote.written ∙ moved));
       refused = OnFalse_from _ _ (λ f. ap (bytes_from m.base) (OnFalse_at f wrote.refused));
       writable_kept = lies_same m.base _ _ wrote.length_kept;
       layout_kept = search rules;
@@ -33,9 +32,5 @@ pub returns-clause-did : goal.returns-clause-did
 returns-clause-did c = record {
   written = (returns-clause-laws c).written;
   refused = search rules;
-  lent = record {
-    same_words = search rules;
-    same_base = search rules;
-    length_kept = c.write_words.ensures.length_kept;
-  };
+  lent = record { same_words = search rules; same_base = search rules; length_kept = c.write_words.ensures.length_kept };
 }
