@@ -16,8 +16,7 @@ signed-is_cast x h = grind (arith, nat_tests)
 pub cast-is_word : (z : ℤ) → FitsSigned w32 z → cast_unsigned w32 z ≡ word z
 cast-is_word (pos n) fits = sym (mod-eq_of_lt (omega (arith, fits)))
 cast-is_word (negsuc n) fits =
-    let h : n < 2 ^ 31 = fits.sfits in
-    let e : n % 2 ^ 32 ≡ n = mod-eq_of_lt (omega arith) in
+    let e : n % 2 ^ 32 ≡ n = mod-eq_of_lt (omega (arith, fits.sfits)) in
     omega arith
 
 -- a remainder is what the rounded quotient leaves of the dividend

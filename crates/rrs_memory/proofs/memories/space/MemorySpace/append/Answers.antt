@@ -18,10 +18,8 @@ pushed g c =
 
 pub returns-clause-ok : goal.returns-clause-ok
 returns-clause-ok g c =
-    let fields = c.self.inside.regions.items in
-    let old = c.args.self.now.regions in
-    let view : map region_of fields ≡ old = ap (λ s. s.regions) c.self.view_is in
-    ap (λ xs. map region_of xs) (pushed g c) ∙ map_push region_of fields c.args.region ∙ ap (λ xs. xs ++ region_of c.args.region ∷ []) view
+    ap (λ xs. map region_of xs) (pushed g c) ∙ map_push region_of _ c.args.region
+    ∙ ap (λ xs. xs ++ region_of c.args.region ∷ []) (ap (λ s. s.regions) c.self.view_is)
 
 pub returns-clause-space : goal.returns-clause-space
 returns-clause-space g c =
@@ -31,8 +29,7 @@ pub invariant_of-self-2 : goal.invariant_of-self-2
 invariant_of-self-2 g c =
     let fields = c.self.inside.regions.items in
     let order = c.self.inside.by_base.items in
-    let old = c.args.self.now.regions in
-    let view : map region_of fields ≡ old = ap (λ s. s.regions) c.self.view_is in (
+    let view : map region_of fields ≡ c.args.self.now.regions = ap (λ s. s.regions) c.self.view_is in (
       returns-clause-space g c,
       elim c.if-region-gt0.branch [
         | then-region-gt0+in_ok-insert w ↦

@@ -10,7 +10,5 @@ returns-then-is_served_by-clause-region g c =
 
 pub returns-then-is_served_by-clause-counts : goal.returns-then-is_served_by-clause-counts
 returns-then-is_served_by-clause-counts g c =
-    let fields = c.self.inside.regions.items in
-    let order = c.self.inside.by_base.items in
-    let view : map region_of fields ≡ c.args.self.now.regions = ap (λ s. s.regions) c.self.view_is in
-    counts_search fields order c.self.invariant.1 c.args.self.now _ c.self.inside.looked_at 1 view (ap (λ s. s.looked_at) c.self.view_is) c.saturating_add-self-inside.ensures (omega arith) (λ some. omega arith)
+    let view = ap (λ s. s.regions) c.self.view_is in
+    counts_search _ _ c.self.invariant.1 c.args.self.now _ c.self.inside.looked_at 1 view (ap (λ s. s.looked_at) c.self.view_is) c.saturating_add-self-inside.ensures (omega arith) (λ some. omega arith)

@@ -5,9 +5,7 @@ use Rattle.rrs_memory.proofs.memories.space.MemorySpace.search.Goals as goal
 
 pub returns-clause-counts : goal.returns-clause-counts
 returns-clause-counts g c =
-    let fields = c.self.inside.regions.items in
-    let order = c.self.inside.by_base.items in
-    let view : map region_of fields ≡ c.args.self.now.regions = ap (λ s. s.regions) c.self.view_is in
+    let view = ap (λ s. s.regions) c.self.view_is in
     let few = rw c.deref.ensures.value at c.find-found.ensures.few in
     let some = rw c.deref-2.ensures.value at c.find-found.ensures.some in
-    counts_search fields order c.self.invariant.1 c.args.self.now _ c.self.inside.looked_at _ view (ap (λ s. s.looked_at) c.self.view_is) c.saturating_add-self-inside.ensures (omega (arith, few, c.count_of-before.ensures)) (λ any. omega (arith, some any))
+    counts_search _ _ c.self.invariant.1 c.args.self.now _ c.self.inside.looked_at _ view (ap (λ s. s.looked_at) c.self.view_is) c.saturating_add-self-inside.ensures (omega (arith, few, c.count_of-before.ensures)) (λ any. omega (arith, some any))
