@@ -1,5 +1,5 @@
--- The texts of faults: the name, and then the pc or the data address, and the word if there is one,
--- as 8 hexadecimal digits each.
+-- The texts of exceptions: the name, and then the pc or the data address, and the word if there is
+-- one, as 8 hexadecimal digits each.
 use Rattle.std.specs.Prelude.{ℕ, List, ◌++◌, codes}
 use Rattle.rrs_lib.specs.declared.instruction_executor.InstructionException.{InstructionException}
 use Rattle.rrs_lib.specs.declared.instruction_executor.InstructionException.TheVariants.{IllegalInstruction, FetchError, LoadAccessFault, StoreAccessFault, AlignmentFault, EnvironmentCall, Breakpoint}

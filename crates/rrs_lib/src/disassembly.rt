@@ -47,7 +47,7 @@ pub type InstructionText = ArrayString<TEXT_CAPACITY>;
 /// An instruction at an address, to be shown.
 #[derive(Clone, Copy)]
 pub struct Disassembled {
-    /// The instruction. Its fields may be any, and are printed as they stand.
+    /// The instruction. Its fields may be any, and are printed as they are.
     pub instruction: Instruction,
     /// The address of the instruction. The targets of branches and of `jal`, and the result of
     /// `auipc`, are printed as sums with it; no other text depends on it.
@@ -154,7 +154,7 @@ fn mnemonic_alone(name: &'static str) -> InstructionText
     text
 }
 
-/// Appends a number in decimal, and what stands before it.
+/// Appends a number in decimal, and what comes before it.
 #[inline]
 fn push_number<I: Integer>(text: &mut InstructionText, before: &str, number: I)
     requires { length text.old.bytes + length before.now + I.MAX_STR_LEN ≤ TEXT_CAPACITY }

@@ -12,7 +12,7 @@ use std::alloc::{AllocError, Global};
 /// A processor whose functions return the text of each instruction.
 ///
 /// Each `Ok` has the whole text, whatever the fields: an immediate or a shift amount that no word
-/// encodes is printed as it stands. Out of memory (`AllocError`) is the only error. No function
+/// encodes is printed as it is. Out of memory (`AllocError`) is the only error. No function
 /// changes `insn_pc`, whatever it returns, so that the same instruction may be asked for
 /// again; it is for the caller to set it to the address of each instruction.
 ///

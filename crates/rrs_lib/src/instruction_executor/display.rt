@@ -1,4 +1,4 @@
-//! The text of a fault.
+//! The text of an exception.
 
 ghost use Rattle.std.specs.Fmt.{WritesOnOk};
 ghost use Rattle.std.specs.Prelude.{◌++◌, Some};
