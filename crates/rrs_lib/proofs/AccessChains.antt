@@ -91,7 +91,7 @@ joined-append (first ∷ later) each' = ap (λ xs. first ++ xs) (joined-append l
 
 -- ---- the accesses of a run
 
--- a chain that is followed by one more step, which faults, is a run that makes its accesses
+-- a chain that is followed by one more step, which ends in an exception, is a run that makes its accesses
 pub RunsMaking-fault : (each : List (List Access)) (s m t : State) (e : InstructionException) (last : List Access)
     → RunsMaking s each m → Step m t (Err e) → AccessesOf m last
     → AccessesOfRun s (answers_of_run (length each) (Some e)) (joined each ++ last)

@@ -47,7 +47,7 @@ immediate_length : (z : ℤ) → neg_ℤ (pos 2048) ≤ℤ z → z ≤ℤ pos 20
 immediate_length (pos n) low high = let d = length-decimal-le 4 n (omega arith) (omega (arith, ints)) (omega (arith, ints)) in omega (arith, d)
 immediate_length (negsuc n) low high = let d = length-decimal-le 4 (suc n) (omega arith) (omega (arith, ints)) (omega (arith, ints)) in omega (arith, d)
 
--- a number below 16 ^ (k + 1) adds at most k + 1 digits to those that stand
+-- a number below 16 ^ (k + 1) adds at most k + 1 digits to those that are there
 onto_length : (k j n : ℕ) (acc : List ℕ) → n < 16 ^ suc k → length (digits_onto j 16 false n acc) ≤ suc k + length acc
 onto_length k zero n acc small = omega arith
 onto_length zero (suc j) n acc small = let last : (n / 16 == 0) ≡ true = grind (arith, nat_tests, small) in rw last (omega arith)

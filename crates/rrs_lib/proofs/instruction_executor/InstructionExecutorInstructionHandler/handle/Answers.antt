@@ -7,9 +7,9 @@ use Rattle.rrs_lib.proofs.instruction_executor.InstructionExecutorInstructionHan
 pub returns : goal.returns
 returns g c =
     let i = c.args.instruction.now in
-    let answer = c.execute-answer.result in
     record {
-      executes = apart (λ s t. Executes (row_of i) (fields_of i) s t answer) _ _ _ _ c.new-engine.ensures.state c.put_together.ensures.state c.execute-answer.ensures.executes;
+      executes = apart (λ s t. Executes (row_of i) (fields_of i) s t c.execute-answer.result) _ _ _ _
+          c.new-engine.ensures.state c.put_together.ensures.state c.execute-answer.ensures.executes;
       rest = search rules;
       makes = search rules;
     }
