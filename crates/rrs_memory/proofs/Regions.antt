@@ -18,17 +18,17 @@ use Rattle.rrs_memory.specs.Spaces.{Region, Space, serves, served_by, space_byte
 -- ---- numbers
 
 -- an address of an aligned access lies at a base or past it exactly where the access begins there
-aligned_from : (base a i : ℕ) (n : MemAccessSize) → base % 4 ≡ 0 → a % width n ≡ 0 → i < width n → base ≤ a + i → base ≤ a
+aligned_from : (b a i : ℕ) (n : MemAccessSize) → b % 4 ≡ 0 → a % width n ≡ 0 → i < width n → b ≤ a + i → b ≤ a
 aligned_from base a i Byte b al below past = omega arith
 aligned_from base a i _ b al below past = omega arith
 
 -- an aligned access that begins below a multiple of 4 ends below it
-pub aligned_below : (end a i : ℕ) (n : MemAccessSize) → end % 4 ≡ 0 → a % width n ≡ 0 → i < width n → a < end → a + i < end
+pub aligned_below : (e a i : ℕ) (n : MemAccessSize) → e % 4 ≡ 0 → a % width n ≡ 0 → i < width n → a < e → a + i < e
 aligned_below end a i Byte e al below before = omega arith
 aligned_below end a i _ e al below before = omega arith
 
 -- the offset of an aligned access from a multiple of 4 is aligned
-pub aligned_offset : (base a : ℕ) (n : MemAccessSize) → base % 4 ≡ 0 → a % width n ≡ 0 → base ≤ a → (a - base) % width n ≡ 0
+pub aligned_offset : (b a : ℕ) (n : MemAccessSize) → b % 4 ≡ 0 → a % width n ≡ 0 → b ≤ a → (a - b) % width n ≡ 0
 aligned_offset base a Byte b al past = omega arith
 aligned_offset base a _ b al past = omega arith
 
@@ -125,13 +125,13 @@ module _ {M : Type 0} where
   -- ---- a memory replaced
 
   -- all bounds stay
-  pub bounds-with_memory : (regions : List (Region M)) (i : ℕ) (m : M) → map bounds (with_memory regions i m) ≡ map bounds regions
+  pub bounds-with_memory : (rs : List (Region M)) (i : ℕ) (m : M) → map bounds (with_memory rs i m) ≡ map bounds rs
   bounds-with_memory [] i m = refl
   bounds-with_memory (r ∷ regions) zero m = refl
   bounds-with_memory (r ∷ regions) (suc i) m = ap (λ xs. (r.base, r.size) ∷ xs) (bounds-with_memory regions i m)
 
   -- the list keeps its length
-  pub length-with_memory : (regions : List (Region M)) (i : ℕ) (m : M) → length (with_memory regions i m) ≡ length regions
+  pub length-with_memory : (rs : List (Region M)) (i : ℕ) (m : M) → length (with_memory rs i m) ≡ length rs
   length-with_memory regions i m =
       omega (arith, ap length (bounds-with_memory regions i m), length-map (with_memory regions i m) bounds, length-map regions bounds)
 
@@ -143,7 +143,7 @@ module _ {M : Type 0} where
       ∙ ap (λ xs. get_or xs k (bounds d)) (bounds-with_memory regions i m) ∙ get_or-map bounds regions k d
 
   -- it stays an address space
-  pub IsSpace-with_memory : (regions : List (Region M)) (i : ℕ) (m : M) → IsSpace regions → IsSpace (with_memory regions i m)
+  pub IsSpace-with_memory : (rs : List (Region M)) (i : ℕ) (m : M) → IsSpace rs → IsSpace (with_memory rs i m)
   IsSpace-with_memory regions i m space = record {
     words = λ k d below.
         let word = space.words k d (omega (arith, length-with_memory regions i m)) in
@@ -180,13 +180,13 @@ module _ {M : Type 0} where
         absurd (false≢true (sym miss ∙ ap (λ y. serves y a) (sym same) ∙ hit))
     OthersKept-with_memory (x ∷ regions) zero stands (suc k) s other miss = other
     OthersKept-with_memory (x ∷ regions) (suc i) stands zero s other miss = other
-    OthersKept-with_memory (x ∷ regions) (suc i) stands (suc k) s other miss = OthersKept-with_memory regions i stands k s other miss
+    OthersKept-with_memory (x ∷ rs) (suc i) at (suc k) s other miss = OthersKept-with_memory rs i at k s other miss
 
   module _ {T : Type 0} (says : M → ℕ → T) (default : T) where
     -- the list says the same of an address unless the two memories differ there
-    pub served-with_memory : (regions : List (Region M)) (i : ℕ) (r : Region M) (m : M) (a : ℕ) → slice_get regions i ≡ Some r
+    pub served-with_memory : (rs : List (Region M)) (i : ℕ) (r : Region M) (m : M) (a : ℕ) → slice_get rs i ≡ Some r
         → (serves r a ≡ true → says m (a - r.base) ≡ says r.memory (a - r.base))
-        → served_by says default (with_memory regions i m) a ≡ served_by says default regions a
+        → served_by says default (with_memory rs i m) a ≡ served_by says default rs a
     served-with_memory [] i r m a stands same = absurd (none-some _ stands)
     served-with_memory (x ∷ regions) zero r m a stands same =
         let P : Region M → Type 0 = λ y. serves y a ≡ true → says m (a - y.base) ≡ says y.memory (a - y.base) in
@@ -215,7 +215,7 @@ module _ {M : Type 0} where
 
 module _ {M : Type 0} where
   -- the region at an index of a space is of whole words
-  served_word : (regions : List (Region M)) (i : ℕ) (r : Region M) → IsSpace regions → slice_get regions i ≡ Some r → IsWordRegion r
+  served_word : (rs : List (Region M)) (i : ℕ) (r : Region M) → IsSpace rs → slice_get rs i ≡ Some r → IsWordRegion r
   served_word regions i r space stands =
       rw (get_or_from_slice_get regions i r r stands) at (space.words i r (slice_get_within regions i r stands))
 

@@ -81,7 +81,7 @@ module _ (spans : List (ℕ × ℕ)) (order : List ℕ) (place : ℕ) (span : �
   has : (j : ℕ) → IsSearchOrder spans order → place ≤ length order → j < length order + 1 → Has j
   has j sorted fits within =
       elim (cases_lt j place) [
-        | inl below ↦ inl (below, moved j j sorted (omega arith) (get_or-insert_below order place (length spans) 0 j below fits))
+        | inl p ↦ inl (p, moved j j sorted (omega arith) (get_or-insert_below order place (length spans) 0 j p fits))
         | inr past ↦ elim (cases_lt place j) [
           | inl above ↦
               let back : j - 1 + 1 ≡ j = omega arith in
@@ -124,10 +124,10 @@ module _ (spans : List (ℕ × ℕ)) (order : List ℕ) (place : ℕ) (span : �
           elim (cases_lt i (length spans)) [
             | inl old ↦
                 let same = get_or_append_left spans (span ∷ []) (0, 0) i old in
-                let was = sorted.complete i old (omega (arith, ap (λ p. p.1) same, large)) in
-                elim (cases_lt was.0 place) [
-                  | inl early ↦ (was.0, omega (arith, was.1, longer), get_or-insert_below order place _ 0 was.0 early fits ∙ was.2)
-                  | inr late ↦ (was.0 + 1, omega (arith, was.1, longer), get_or-insert_above order place _ 0 was.0 late fits ∙ was.2)
+                let w = sorted.complete i old (omega (arith, ap (λ p. p.1) same, large)) in
+                elim (cases_lt w.0 place) [
+                  | inl p ↦ (w.0, omega (arith, w.1, longer), get_or-insert_below order place _ 0 w.0 p fits ∙ w.2)
+                  | inr p ↦ (w.0 + 1, omega (arith, w.1, longer), get_or-insert_above order place _ 0 w.0 p fits ∙ w.2)
                 ]
             | inr new ↦ (place, omega (arith, longer, fits), get_or-insert_at order place _ 0 fits ∙ omega (arith, new, inside))
           ]
@@ -217,8 +217,8 @@ module _ {M : Type 0} (fields : List (MemoryRegion M)) where
           grind (arith, outside, ap (λ p. p.0) span, ap (λ p. p.1) span)
 
       -- where none of the order is left, none serves the address
-      pub none_left : (low high a : ℕ) → high ≤ low → ((j : ℕ) → j < low → j < length order → ends j ≤ a)
-          → ((j : ℕ) → high ≤ j → j < length order → a < begins j) → All (λ r. serves r a ≡ false) (map region_of fields)
+      pub none_left : (low hi a : ℕ) → hi ≤ low → ((j : ℕ) → j < low → j < length order → ends j ≤ a)
+          → ((j : ℕ) → hi ≤ j → j < length order → a < begins j) → All (λ r. serves r a ≡ false) (map region_of fields)
       none_left low high a met before after k d within =
           let apart : (j : ℕ) → j < length order → begins j ≤ a → ends j ≤ a = λ j below from. grind (arith, before j, after j) in
           let here = get_or-map bounds (map region_of fields) k d (0, 0) within in
