@@ -1,4 +1,4 @@
--- An access that is made outside of the machine: what an action does where the memory answers so, and the step that it is.
+-- An access that is made outside of the machine: what an action does where the memory answers so, and its step.
 use Rattle.std.proofs.Common.{◌≡◌, ℕ, zero, suc, ◌%◌, ◌==◌, ℤ, List, [], ◌∷◌, ◌++◌, Bool, true, false, if◌then◌else◌, Option, Some, None, option_map, Ok, Err, refl, sym, ap, subst, ◌∙◌, eq-eqb, IsSomeAnd}
 use Rattle.std.proofs.lemmas.Option.{none-some, same_Some}
 use Rattle.std.proofs.lemmas.Bool.{cond-true, eqb-true, false≢true, true≢false}
@@ -111,10 +111,8 @@ load_at : (size : MemAccessSize) (extended : ℕ → ℤ) (f : IType) (a : ℕ) 
     then read_outcome extended f.rd a (cleared s) (little_endian s.bytes a (width size))
     else fault_outcome (AlignmentFault a) (cleared s))
 load_at size extended f a given s false answers = refl
-load_at size extended f a None s true answers =
-    ap (λ x. Some (read_outcome extended f.rd a (cleared s) x)) answers
-load_at size extended f a (Some v) s true answers =
-    ap (λ x. Some (read_outcome extended f.rd a (cleared s) x)) answers
+load_at size extended f a None s true answers = rw answers refl
+load_at size extended f a (Some v) s true answers = rw answers refl
 
 store_at : (size : MemAccessSize) (f : SType) (a value : ℕ) (given : Option ℕ) (s : State)
     (aligned granted : Bool) → granted ≡ all_writable s.writable a (width size)
@@ -134,22 +132,19 @@ answers_by : (action : Action) (f : Fields) (given : Option ℕ) (s : State) (o 
     → SizeKnown action → outcome_by action f (cleared s) ≡ Some o
     → Answers action f given s (answer_by action f (cleared s)) o
 answers_by (Load n extended) (I f) given s o known same =
+    let asked = answer_by (Load n extended) (I f) (cleared s) in
     let address = plus_immediate (reg (cleared s) f.rs1) f.imm in
     let P : ℕ → Type 0 = λ m.
-    Answers (Load m extended) (I f) given s (answer_by (Load n extended) (I f) (cleared s))
-    (load_outcome m extended f.rd address (cleared s)) in
-    let Q : Outcome → Type 0 = λ x.
-    Answers (Load n extended) (I f) given s (answer_by (Load n extended) (I f) (cleared s)) x in
-    subst Q (same_Some _ _ same) (subst P known (load_at _ extended f address given s _))
+    Answers (Load m extended) (I f) given s asked (load_outcome m extended f.rd address (cleared s)) in
+    subst (Answers (Load n extended) (I f) given s asked) (same_Some _ _ same)
+    (subst P known (load_at _ extended f address given s _))
 answers_by (Store n) (S f) given s o known same =
+    let asked = answer_by (Store n) (S f) (cleared s) in
     let address = plus_immediate (reg (cleared s) f.rs1) f.imm in
     let value = reg (cleared s) f.rs2 in
-    let P : ℕ → Type 0 = λ m.
-    Answers (Store m) (S f) given s (answer_by (Store n) (S f) (cleared s))
-    (store_outcome m value address (cleared s)) in
-    let Q : Outcome → Type 0 = λ x.
-    Answers (Store n) (S f) given s (answer_by (Store n) (S f) (cleared s)) x in
-    subst Q (same_Some _ _ same) (subst P known (store_at _ f address value given s _ _ refl))
+    let P : ℕ → Type 0 = λ m. Answers (Store m) (S f) given s asked (store_outcome m value address (cleared s)) in
+    subst (Answers (Store n) (S f) given s asked) (same_Some _ _ same)
+    (subst P known (store_at _ f address value given s _ _ refl))
 answers_by CallEnvironment (I f) given s o known same = λ answers. sym same
 answers_by Break (I f) given s o known same = λ answers. sym same
 answers_by CallEnvironment _ given s o known same = absurd (none-some _ same)
@@ -158,29 +153,21 @@ answers_by _ _ given s o known same = λ answers. sym same
 
 -- ---- what a hart is left as
 
-pub performs_by : (row : Row) (f : Fields) (given : Option ℕ) (old new : HartState)
-    (r r' : RequestAnswer) (answer : StepAnswer) → Asks row f old r → r ≡ r'
-    → ((bytes : ByteMap) (writable : ℕ → Bool) → GoesTo (state_of new bytes writable) answer
-    (outcome_given (table row).action f r' given (state_of old bytes writable)))
-    → Performs row f given old new answer
-performs_by row f given old new r r' answer asks is goes =
-    record { request = r'; asks = subst (Asks row f old) is asks; performs = goes }
-
 pub performs_alone : (row : Row) (f : Fields) (given : Option ℕ) (old new : HartState)
     (r : RequestAnswer) (answer : StepAnswer) → Asks row f old r → r ≡ Ok None
     → StepsAlone row f (state_of old (λ a. None) (λ a. false))
     (state_of new (λ a. None) (λ a. false)) answer
     → Performs row f given old new answer
-performs_alone row f given old new r answer asks is alone =
-    performs_by row f given old new r _ answer asks is (λ bytes writable.
-    let s = state_of old (λ a. None) (λ a. false) in
-    let none = sym (asks.asks (λ a. None) (λ a. false)) ∙ is in
-    let moved = (plain (table row).action f bytes writable s none).0
-    ∙ ap (option_map (over_outcome bytes writable)) alone.executes in
-    subst (GoesTo (state_of new bytes writable) answer) (sym moved) (
-      ap (over bytes writable) alone.goes ∙ sym (advanced-over bytes writable alone.after alone.set),
-      alone.answers,
-    ))
+performs_alone row f given old new r answer asks is alone = record {
+  request = Ok None;
+  asks = subst (Asks row f old) is asks;
+  performs = λ bytes writable.
+      let none = sym (asks.asks (λ a. None) (λ a. false)) ∙ is in
+      let moved = (plain (table row).action f bytes writable (state_of old (λ a. None) (λ a. false)) none).0
+      ∙ ap (option_map (over_outcome bytes writable)) alone.executes in
+      let goes = ap (over bytes writable) alone.goes ∙ sym (advanced-over bytes writable alone.after alone.set) in
+      subst (GoesTo (state_of new bytes writable) answer) (sym moved) (goes, alone.answers);
+}
 
 -- an instruction that did not set the program counter
 pub steps_on : (row : Row) (f : Fields) (s u t : State) (old new : HartState) (a : Answer)
@@ -209,11 +196,6 @@ legal_by s t answer w row f (Legal w' row' f' u a _ read' is executes _ _) align
     let P : Row → Fields → Type 0 = λ x y. (o : Outcome) × (execute x y (cleared s) ≡ Some o) in
     let is' = subst (λ (x : ℕ). Decodes x row' f') (same_Some _ _ (sym read' ∙ read)) is in
     these P w row f (record { row = row'; fields = f'; is = is'; holds = (outcome u a, executes) }) decodes
-
-legal : (s : State) (w : ℕ) (row : Row) (f : Fields) → s.pc % 4 ≡ 0
-    → little_endian s.bytes s.pc 4 ≡ Some w → Decodes w row f
-    → (o : Outcome) × (execute row f (cleared s) ≡ Some o)
-legal s w row f aligned read decodes = legal_by s _ _ w row f (step_of-is_step s) aligned read decodes
 
 -- the list of the fetch, by what the program counter is
 fetch_aligned : (s : State) (accesses : List Access) → s.pc % 4 ≡ 0
@@ -293,7 +275,7 @@ pub foretells_row : (hart : HartState) (w : ℕ) (row : Row) (f : Fields) (r : R
     → WithEachMemory hart w (λ s. Foretells s r)
 foretells_row hart w row f r aligned decodes asks = λ bytes writable has.
     let s = state_of hart bytes writable in
-    let l = legal s w row f aligned (has aligned) decodes in
+    let l = legal_by s _ _ w row f (step_of-is_step s) aligned (has aligned) decodes in
     let is = asks_cleared hart row f r bytes writable asks in
     let answers = answers_by (table row).action f None s l.0 (row_size row) l.1 in
     foretold s w row f r l.0 aligned (has aligned) decodes l.1 is
@@ -319,7 +301,7 @@ pub completes_row : (old new : HartState) (w : ℕ) (row : Row) (f : Fields) (gi
 completes_row old new w row f given answer aligned decodes p = λ bytes writable has accesses are answers.
     let s = state_of old bytes writable in
     let read = has aligned in
-    let l = legal s w row f aligned read decodes in
+    let l = legal_by s _ _ w row f (step_of-is_step s) aligned read decodes in
     let is = p.asks.asks bytes writable in
     let same = after_fetch s accesses _ aligned are (asked s w row f p.request aligned read decodes is) in
     let outcomes : Answers (table row).action f given s p.request l.0 =
@@ -335,15 +317,10 @@ completes_row old new w row f given answer aligned decodes p = λ bytes writable
 -- ---- a load or a store that was found
 
 -- a choice that is a request was aligned
-chosen : (n address : ℕ) (q r : DataRequest) (e : InstructionException)
-    → (if address % n == 0 then Ok (Some q) else Err e) ≡ Ok (Some r)
-    → (address % n ≡ 0) × (q ≡ r)
-chosen n address q r e same = by_test (address % n == 0) refl same
-  where
-    by_test : (b : Bool) → (address % n == 0) ≡ b
-        → (if b then Ok (Some q) else Err e) ≡ Ok (Some r) → (address % n ≡ 0) × (q ≡ r)
-    by_test true even h = (eqb-true _ _ even, cc)
-    by_test false odd h = cc
+chosen : (even : Bool) (q r : DataRequest) (e : InstructionException)
+    → (if even then Ok (Some q) else Err e) ≡ Ok (Some r) → (even ≡ true) × (q ≡ r)
+chosen true q r e same = (refl, cc)
+chosen false q r e same = cc
 
 -- what asks is gone behind
 behind_by : (action : Action) (f : Fields) (s : State) (q : DataRequest) (w : ℕ) (row : Row) (v : ℕ)
@@ -351,10 +328,10 @@ behind_by : (action : Action) (f : Fields) (s : State) (q : DataRequest) (w : �
     → answer_by action f s ≡ Ok (Some q)
     → GoesBehind (is_load q) v s (advanced (loaded action f v (cleared s)) (Ok false))
 behind_by (Load n extended) (I f) s q w row v known is fetched decoded asks =
-    let address = plus_immediate (reg s f.rs1) f.imm in
-    let found = chosen (width (size_of n)) address _ q _ asks in
-    subst (λ x. GoesBehind (is_load x) v s
-    (advanced (loaded (Load n extended) (I f) v (cleared s)) (Ok false))) found.1 (record {
+    let found = chosen _ _ q _ asks in
+    let P : DataRequest → Type 0 = λ x.
+    GoesBehind (is_load x) v s (advanced (loaded (Load n extended) (I f) v (cleared s)) (Ok false)) in
+    subst P found.1 record {
       w = w;
       row = row;
       fields = f;
@@ -363,13 +340,12 @@ behind_by (Load n extended) (I f) s q w row v known is fetched decoded asks =
       fetched = fetched;
       decoded = decoded;
       is_load = is;
-      aligned = subst (λ m. address % m ≡ 0) known found.0;
+      aligned = subst (λ m. plus_immediate (reg s f.rs1) f.imm % m ≡ 0) known (eqb-true _ _ found.0);
       after = refl;
-    })
+    }
 behind_by (Store n) (S f) s q w row v known is fetched decoded asks =
-    let address = plus_immediate (reg s f.rs1) f.imm in
-    let found = chosen (width (size_of n)) address _ q _ asks in
-    subst (λ x. GoesBehind (is_load x) v s (advanced (cleared s) (Ok false))) found.1 (record {
+    let found = chosen _ _ q _ asks in
+    subst (λ x. GoesBehind (is_load x) v s (advanced (cleared s) (Ok false))) found.1 record {
       w = w;
       row = row;
       fields = f;
@@ -377,9 +353,9 @@ behind_by (Store n) (S f) s q w row v known is fetched decoded asks =
       fetched = fetched;
       decoded = decoded;
       is_store = is;
-      aligned = subst (λ m. address % m ≡ 0) known found.0;
+      aligned = subst (λ m. plus_immediate (reg s f.rs1) f.imm % m ≡ 0) known (eqb-true _ _ found.0);
       after = refl;
-    })
+    }
 behind_by _ _ s q w row v known is fetched decoded asks = cc
 
 -- what was found stands there

@@ -1,4 +1,5 @@
--- What a traced memory has after the accesses of a step: the memory that is lent did them, what the fetch read, and the access after it.
+-- What a traced memory has after the accesses of a step: what the fetch read, and the access after it. The memory that
+-- is lent made the same accesses.
 use Rattle.std.proofs.Common.{◌≡◌, ℕ, ◌==◌, ◌%◌, List, [], ◌∷◌, Bool, true, false, Option, None, if◌then◌else◌, refl, sym, subst, ap, ◌∙◌}
 use Rattle.std.proofs.lemmas.Bool.{cond-false, ne_eqb}
 use Rattle.rrs_lib.specs.declared.MemAccessSize.{MemAccessSize}
@@ -46,7 +47,8 @@ kept_step s xs (OfFetch aligned outside are) = subst (Keeps s) (sym are) (rw ali
 kept_step s xs (OfRow w row f aligned read is are) =
     subst (Keeps s) (sym are) (rw aligned (kept_row (table row).action f s))
 
-module _ {M : Type 0} (reads : M → ℕ → MemAccessSize → M → Option ℕ → Type 0) (writes : M → ℕ → MemAccessSize → ℕ → M → Bool → Type 0) where
+module _ {M : Type 0} (reads : M → ℕ → MemAccessSize → M → Option ℕ → Type 0)
+    (writes : M → ℕ → MemAccessSize → ℕ → M → Bool → Type 0) where
   -- what the accesses of a traced memory come to
   record Kept (xs : List Access) (old new : TracedMemory M) : Type 0 where
     inner : Makes reads writes xs old.memory.now new.memory.now
@@ -80,12 +82,9 @@ module _ {M : Type 0} (reads : M → ℕ → MemAccessSize → M → Option ℕ 
       (exactly : MakesExactly (traced_reads reads) (traced_writes writes) P old new) where
     -- the memory that is lent makes the same accesses, and stays the one that is lent
     pub inner_exactly : MakesExactly reads writes P old.memory.now new.memory.now
-    inner_exactly = record {
-      accesses = exactly.accesses;
-      these = exactly.these;
-      only = exactly.only;
-      made = (makes_kept exactly.accesses old new exactly.made).inner;
-    }
+    inner_exactly =
+        let inner = (makes_kept exactly.accesses old new exactly.made).inner in
+        record { accesses = exactly.accesses; these = exactly.these; only = exactly.only; made = inner }
 
     pub still_lent : new.memory.ghost_name ≡ old.memory.ghost_name
     still_lent = (makes_kept exactly.accesses old new exactly.made).same_memory
@@ -95,7 +94,7 @@ module _ {M : Type 0} (reads : M → ℕ → MemAccessSize → M → Option ℕ 
       → (s : State) → MakesExactly (traced_reads reads) (traced_writes writes) (AccessesOf s) old new
       → (new.insn ≡ next_word s) × ((xs : List Access) → AccessesOf s xs → new.access ≡ after_fetch xs)
   step_kept old new armed no_word empty s exactly =
-      let keeps = (makes_kept exactly.accesses old new exactly.made).keeps
-      ∙ (λ i. kept exactly.accesses (armed i) (no_word i) (empty i))
-      ∙ kept_step s exactly.accesses exactly.these in
+      let xs = exactly.accesses in
+      let keeps = (makes_kept xs old new exactly.made).keeps
+      ∙ (λ i. kept xs (armed i) (no_word i) (empty i)) ∙ kept_step s xs exactly.these in
       (ap (λ x. x.0) keeps, λ xs are. ap (λ x. x.1) keeps ∙ ap after_fetch (sym (exactly.only xs are)))

@@ -11,7 +11,9 @@ returns-clause-only g c = λ t answer other.
     Step-unique one_row_at_most _ t _ answer _ other (returns-clause-step g c)
 
 pub returns-clause-retires : goal.returns-clause-retires
-returns-clause-retires g c = c.step_retired_parts.ensures.retires c.args.executor.now.hart_state.now.last_register_write
+returns-clause-retires g c =
+    c.step_retired_parts.ensures.retires c.args.executor.now.hart_state.now.last_register_write
 
 pub returns-clause-accesses : goal.returns-clause-accesses
-returns-clause-accesses g c = c.step_retired_parts.ensures.accesses c.args.executor.now.hart_state.now.last_register_write
+returns-clause-accesses g c =
+    c.step_retired_parts.ensures.accesses c.args.executor.now.hart_state.now.last_register_write
