@@ -1,6 +1,6 @@
 -- Bytes that are taken to a log, one after another, and bytes of a known input that are given.
 use Rattle.std.proofs.Common.{◌≡◌, ℕ, zero, suc, ◌+◌, ◌-◌, ◌^◌, ◌<◌, Bool, true, List, [], ◌∷◌, ◌++◌, length, take, drop, slice_index, Option, Some, refl, sym, subst, ap, ◌∙◌, append_assoc, arith, Vec, vec_capacity}
-use Rattle.std.proofs.lemmas.List.{length-append, length-drop, length-take-le, take_all, take_more, take-append-drop}
+use Rattle.std.proofs.lemmas.List.{length-take-le, take_more, take-append-drop}
 use Rattle.std.specs.declared.alloc.Global.{Global}
 use Rattle.rrs_lib.specs.declared.MemAccessSize.{MemAccessSize}
 use Rattle.rrs_lib.specs.declared.MemAccessSize.TheVariants.{Byte}
@@ -25,14 +25,6 @@ pub Stands-more : (bytes : ByteMap) (a n byte : ℕ) (text : List ℕ) → lengt
     → bytes (a + n) ≡ Some byte → Stands bytes a (text ++ byte ∷ [])
 Stands-more bytes a n byte text long stands there =
     Stands-append bytes a n text (byte ∷ []) long stands (Stands-one bytes (a + n) byte there)
-
-pub longer : (text : List ℕ) (byte n : ℕ) → length text ≡ n → length (text ++ byte ∷ []) ≡ n + 1
-longer text byte n long = length-append text (byte ∷ []) ∙ ap (λ k. k + 1) long
-
-pub appended_more : (old mid new text : List ℕ) (byte : ℕ) → mid ≡ old ++ text → new ≡ mid ++ byte ∷ []
-    → new ≡ old ++ (text ++ byte ∷ [])
-appended_more old mid new text byte so_far more =
-    more ∙ ap (λ l. l ++ byte ∷ []) so_far ∙ append_assoc old text (byte ∷ [])
 
 module _ {M : Type 0} {reads : M → ℕ → MemAccessSize → M → Option ℕ → Type 0}
     {writes : M → ℕ → MemAccessSize → ℕ → M → Bool → Type 0} where
@@ -96,7 +88,3 @@ pub left_after : (input : List ℕ) (n : ℕ) → n < length input
 left_after input n within =
     sym (take-append-drop (n + 1) input) ∙ ap (λ l. l ++ drop (n + 1) input) (take_more input n 0 within)
     ∙ append_assoc (take n input) (slice_index input n ∷ []) (drop (n + 1) input)
-
--- all that is behind the first n, as a range
-pub behind : (xs : List ℕ) (n : ℕ) → drop n xs ≡ take (length xs - n) (drop n xs)
-behind xs n = sym (take_all (length xs - n) (drop n xs) (omega (arith, length-drop n xs)))

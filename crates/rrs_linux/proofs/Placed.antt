@@ -1,6 +1,6 @@
 -- Bytes of the input that are held, and given to a buffer.
-use Rattle.std.proofs.Common.{◌≡◌, ℕ, ◌+◌, ◌-◌, ◌^◌, ◌<◌, ◌≤◌, min, Bool, List, [], ◌∷◌, ◌++◌, length, take, drop, slice_range, Option, None, Some, refl, sym, subst, ap, ◌∙◌, append_assoc, arith}
-use Rattle.std.proofs.lemmas.List.{append_cancel_left, drop-take, drop-drop, length-take}
+use Rattle.std.proofs.Common.{◌≡◌, ℕ, ◌+◌, ◌-◌, ◌^◌, ◌<◌, ◌≤◌, min, Bool, List, [], ◌∷◌, ◌++◌, length, take, drop, slice_range, Option, None, Some, refl, sym, subst, ap, ◌∙◌, append_assoc, arith, rules}
+use Rattle.std.proofs.lemmas.List.{append_cancel_left, nil_from_length, drop-take, drop-drop, length-take}
 use Rattle.std.proofs.KnownBytes.{Consumes-nil, Consumes-kept, Consumes-trans, prepend_known-nil}
 use Rattle.std.specs.Io.KnownBytes.{Consumes, Keeps, IsAtEnd, prepend_known}
 use Rattle.rrs_lib.specs.declared.MemAccessSize.{MemAccessSize}
@@ -22,8 +22,7 @@ range_skipped xs s e n within =
     sym (ap (λ k. drop n (take k (drop s xs))) parts ∙ drop-take n m (drop s xs) ∙ ap (take m) (drop-drop n s xs))
 
 pub no_length : (xs : List ℕ) → length xs ≡ 0 → xs ≡ []
-no_length [] e = refl
-no_length (x ∷ xs) e = absurd (omega (arith, e))
+no_length = nil_from_length
 
 -- what is held before the rest loses its first bytes
 pub held_given : (before after text : List ℕ) (left : Option (List ℕ)) → before ≡ text ++ after
@@ -32,26 +31,16 @@ held_given before after text None is = tt
 held_given before after text (Some rest) is = ap (λ l. l ++ rest) is ∙ append_assoc text after rest
 
 pub end_behind : (held : List ℕ) (left : Option (List ℕ)) → held ≡ [] → IsAtEnd left → IsAtEnd (prepend_known held left)
-end_behind held left empty end =
-    let same : prepend_known held left ≡ left = ap (λ l. prepend_known l left) empty ∙ prepend_known-nil left in
-    subst IsAtEnd (sym same) end
+end_behind held left empty end = rw (empty, prepend_known-nil left) end
 
 pub none_loaded : (bytes : ByteMap) (writable : ℕ → Bool) (a : ℕ) → a < 2 ^ 32 → Loaded bytes bytes writable a []
-none_loaded bytes writable a low = record {
-  writable_there = λ i h. absurd (omega (arith, h));
-  loaded = λ i h. absurd (omega (arith, h));
-  others = λ b h. refl;
-  mapped = λ b. refl;
-  in_range = omega (arith, low);
-}
+none_loaded bytes writable a low = search rules
 
 -- the byte behind those that were given is the next
 next_of : (byte : ℕ) (text rest more : List ℕ) (left : Option (List ℕ)) → text ++ rest ≡ text ++ byte ∷ more
     → IsNext byte (prepend_known rest left)
 next_of byte text rest more None same = tt
-next_of byte text rest more (Some xs) same =
-    let P : List ℕ → Type 0 = λ l. IsNext byte (Some (l ++ xs)) in
-    subst P (sym (append_cancel_left text rest (byte ∷ more) same)) refl
+next_of byte text rest more (Some xs) same = rw (append_cancel_left text rest (byte ∷ more) same) refl
 
 module _ (writable : ℕ → Bool) (a count : ℕ) (held rest text : List ℕ) (left : Option (List ℕ))
     (accesses : List Access) (answer : ℕ) where

@@ -1,5 +1,5 @@
 -- Bytes of the memory that are read one after another, and written to a stream.
-use Rattle.std.proofs.Common.{◌≡◌, ◌≢◌, ℕ, zero, suc, ◌+◌, ◌-◌, ◌<◌, ◌≤◌, min, Bool, List, [], ◌∷◌, ◌++◌, length, take, get_or, set, Option, None, Some, refl, sym, subst, ap, ◌∙◌, add-one, append_assoc, append-nil, arith, below_more, inl, inr, get_or-set_other, get_or-set_same}
+use Rattle.std.proofs.Common.{◌≡◌, ◌≢◌, ℕ, zero, suc, ◌+◌, ◌-◌, ◌<◌, ◌≤◌, Bool, List, [], ◌∷◌, ◌++◌, length, take, get_or, set, Option, None, Some, refl, sym, subst, ap, ◌∙◌, add-one, append_assoc, append-nil, arith, below_more, inl, inr, get_or-set_other, get_or-set_same}
 use Rattle.std.proofs.lemmas.List.{get_or-take, length-take, length-take-le, length-append, get_or_append_left, get_or-append_right}
 use Rattle.std.proofs.lemmas.Bool.{cases_lt}
 use Rattle.std.proofs.KnownBytes.{Appends-nil, Appends-trans}
@@ -19,7 +19,7 @@ first_place None = refl
 first_place (Some x) = ap Some (omega arith)
 
 -- a read of a byte gives the byte
-pub byte_read : (bytes mid : ByteMap) (a : ℕ) (answer : Option ℕ) → mid ≡ bytes → answer ≡ little_endian mid a 1
+byte_read : (bytes mid : ByteMap) (a : ℕ) (answer : Option ℕ) → mid ≡ bytes → answer ≡ little_endian mid a 1
     → answer ≡ bytes a
 byte_read bytes mid a answer kept value =
     let here : a + 0 ≡ a = omega arith in
@@ -69,15 +69,16 @@ byte_reads-append bytes a n (suc m) =
 
 module _ {M : Type 0} (reads : M → ℕ → MemAccessSize → M → Option ℕ → Type 0)
     (writes : M → ℕ → MemAccessSize → ℕ → M → Bool → Type 0) (bytes : ByteMap) (a : ℕ) where
-  -- one read more
-  pub reads_more : (n : ℕ) (answer : Option ℕ) (old mid new : M) → Makes reads writes (byte_reads bytes a n) old mid
-      → reads mid (a + n) Byte new answer → answer ≡ bytes (a + n)
-      → Makes reads writes (byte_reads bytes a (n + 1)) old new
-  reads_more n answer old mid new made did value =
-      let P : ℕ → Type 0 = λ k. Makes reads writes (byte_reads bytes a k) old new in
-      let Q : Option ℕ → Type 0 = λ o. reads mid (a + n) Byte new o in
-      subst P (sym (add-one n)) (Makes-append reads writes (byte_reads bytes a n)
-      (Read (a + n) Byte (bytes (a + n)) ∷ []) old mid new made (new, subst Q value did, refl))
+  -- one read more, which gives the byte there
+  pub reads_more : {at : ByteMap} {answer : Option ℕ} {mid new : M} (n : ℕ) (old : M) → at ≡ bytes
+      → answer ≡ little_endian at (a + n) 1 → Makes reads writes (byte_reads bytes a n) old mid
+      → reads mid (a + n) Byte new answer
+      → (answer ≡ bytes (a + n)) × Makes reads writes (byte_reads bytes a (n + 1)) old new
+  reads_more {at = at} {answer = answer} {mid = mid} {new = new} n old kept value made did =
+      let there = byte_read bytes at (a + n) answer kept value in
+      let all = Makes-append reads writes (byte_reads bytes a n) (Read (a + n) Byte (bytes (a + n)) ∷ []) old mid new
+      made (new, rw there at did, refl) in
+      (there, rw add-one all)
 
   -- so many bytes were read from a on, and this text of them is written
   pub record Written (before after : Option (List ℕ)) (text : List ℕ) (n : ℕ) (old new : M) : Type 0 where
@@ -99,47 +100,27 @@ module _ {M : Type 0} {reads : M → ℕ → MemAccessSize → M → Option ℕ 
       → taken ≤ length (take copied chunk) → Stands at (a + n) (take copied chunk)
       → Appends mid after (take taken (take copied chunk)) → Makes reads writes (byte_reads at (a + n) reading) m1 m2
       → Written reads writes bytes a before after (text ++ take taken (take copied chunk)) (n + reading) m0 m2
+      × (length (text ++ take taken (take copied chunk)) ≡ n + taken) × (copied ≤ taken → taken ≡ copied)
   chunk_written {before = before} {mid = mid} {text = text} {n = n} {m0 = m0} {m1 = m1} after chunk copied reading taken
       m2 so_far long kept short stands appended made =
       let front = take copied chunk in
-      let P : List Access → Type 0 = λ accesses. Makes reads writes accesses m0 m2 in
       let there = subst (λ f. Stands f (a + n) front) kept stands in
       let read = subst (λ f. Makes reads writes (byte_reads f (a + n) reading) m1 m2) kept made in
-      record {
+      let whole : length (take taken front) ≡ taken = length-take-le taken front short in
+      let written : Written reads writes bytes a before after (text ++ take taken front) (n + reading) m0 m2 = record {
         stands = Stands-append bytes a n text (take taken front) long so_far.stands
             (Stands-take bytes (a + n) taken front short there);
         appended = Appends-trans before mid after text (take taken front) so_far.appended appended;
-        made = subst P (sym (byte_reads-append bytes a n reading))
+        made = rw (byte_reads-append bytes a n reading)
             (Makes-append reads writes (byte_reads bytes a n) _ m0 m1 m2 so_far.made read);
-      }
+      } in
+      (written, omega (arith, length-append text (take taken front)), λ all. omega (arith, length-take copied chunk))
 
   -- what was written, by how it ended
   pub writes_text : {before after : Option (List ℕ)} {text : List ℕ} {count n answer : ℕ} {old new : M}
       → Written reads writes bytes a before after text n old new → WriteEnds bytes a count text n answer
       → MakesSome reads writes (WritesText bytes a count before after answer) old new
-  writes_text {text = text} {n = n} written ended = record {
-    accesses = byte_reads bytes a n;
-    these = record {
-      text = text;
-      stands = written.stands;
-      appended = written.appended;
-      reads = n;
-      ended = ended;
-      accessed = refl;
-    };
-    made = written.made;
-  }
-
--- how long the text is then
-pub chunk_length : (text chunk : List ℕ) (n copied taken : ℕ) → length text ≡ n → taken ≤ length (take copied chunk)
-    → length (text ++ take taken (take copied chunk)) ≡ n + taken
-chunk_length text chunk n copied taken long short =
-    length-append text (take taken (take copied chunk)) ∙ ap (λ k. k + length (take taken (take copied chunk))) long
-    ∙ ap (λ k. n + k) (length-take-le taken (take copied chunk) short)
-
--- all that was copied is taken, if no less was
-pub copied_all : (copied : ℕ) (chunk : List ℕ) (taken : ℕ) → taken ≤ length (take copied chunk) → copied ≤ taken
-    → taken ≡ copied
-copied_all copied chunk taken short all =
-    let most : length (take copied chunk) ≡ min copied (length chunk) = length-take copied chunk in omega
-    (arith, most, short, all)
+  writes_text {before = before} {after = after} {text = text} {count = count} {n = n} {answer = answer} w ended =
+      let these : WritesText bytes a count before after answer (byte_reads bytes a n) =
+      record { text = text; stands = w.stands; appended = w.appended; reads = n; ended = ended; accessed = refl } in
+      record { accesses = byte_reads bytes a n; these = these; made = w.made }

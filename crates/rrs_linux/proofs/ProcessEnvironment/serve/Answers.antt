@@ -17,87 +17,61 @@ served : {M R W E K : Type 0} {reads : M → ℕ → MemAccessSize → M → Opt
     {writes : M → ℕ → MemAccessSize → ℕ → M → Bool → Type 0}
     {gives : Gives R K} {takes : Takes W} {takes_errors : Takes E}
     {old new : Process R W E K} {s t : State} {end : Option ℕ} {m m' : M} (accesses : List Access) (request : Request)
-    → Asks s request → Does gives takes takes_errors request old s new t accesses end → Makes reads writes accesses m m'
+    → ((bytes : ByteMap) (writable : ℕ → Bool) → Asks (record s { bytes = bytes; writable = writable }) request)
+    → Does gives takes takes_errors request old s new t accesses end → Makes reads writes accesses m m'
     → MakesSome reads writes (λ of. ServesBy gives takes takes_errors old s new t of end) m m'
-served accesses request asks does made =
-    record { accesses = accesses; these = record { request = request; asks = asks; does = does }; made = made }
+served {s = s} xs r asks does made =
+    record { accesses = xs; these = record { request = r; asks = asks s.bytes s.writable; does = does }; made = made }
 
 -- the answer is put into a0 of a machine whose bytes are as they were
-after : (hart : HartState) (bytes bytes' : ByteMap) (writable writable' : ℕ → Bool) (answer : ℕ)
+after : {bytes bytes' : ByteMap} {writable writable' : ℕ → Bool} (hart : HartState) (answer : ℕ)
     → bytes' ≡ bytes → writable' ≡ writable
     → answered (state_of hart bytes' writable') answer ≡ answered (state_of hart bytes writable) answer
-after hart bytes bytes' writable writable' answer same there = λ i. answered (state_of hart (same i) (there i)) answer
+after hart answer same there = λ i. answered (state_of hart (same i) (there i)) answer
 
 pub returns-in-Exit-clause-served : goal.returns-in-Exit-clause-served
 returns-in-Exit-clause-served g c =
-    let bytes = g.M.Memory.bytes c.args.executor.now.mem.now in
-    let writable = g.M.Memory.writable c.args.executor.now.mem.now in
-    served [] (Exit c.in-Exit.status) (c.in-Exit.ensures bytes writable) (refl, refl, refl, refl) refl
+    served [] (Exit c.in-Exit.status) c.in-Exit.ensures (refl, refl, refl, refl) refl
 
 pub returns-in-Answer-clause-served : goal.returns-in-Answer-clause-served
 returns-in-Answer-clause-served g c =
-    let bytes = g.M.Memory.bytes c.args.executor.now.mem.now in
-    let writable = g.M.Memory.writable c.args.executor.now.mem.now in
     let went = c.go_on.ensures in
-    served [] (Answer c.in-Answer.answer) (c.in-Answer.ensures bytes writable)
-    (went.goes_on, refl, went.answered bytes writable, refl) refl
+    served [] (Answer c.in-Answer.answer) c.in-Answer.ensures (went.goes_on, refl, went.answered _ _, refl) refl
 
 pub returns-in-SetBreak-clause-served : goal.returns-in-SetBreak-clause-served
 returns-in-SetBreak-clause-served g c =
-    let bytes = g.M.Memory.bytes c.args.executor.now.mem.now in
-    let writable = g.M.Memory.writable c.args.executor.now.mem.now in
     let went = c.go_on-in-SetBreak.ensures in
     let set = c.set_break-answer.ensures in
     let process = c.args.self.now in
-    let before = state_of c.args.executor.now.hart_state.now bytes writable in
-    served [] (SetBreak c.in-SetBreak.address) (c.in-SetBreak.ensures bytes writable) (
-      went.goes_on,
-      (λ i. record process { heap = set.moved i }),
-      went.answered bytes writable ∙ (λ i. answered before (set.answer i)),
-      refl,
-    ) refl
+    let lent = c.args.executor.now in
+    let s = state_of lent.hart_state.now (g.M.Memory.bytes lent.mem.now) (g.M.Memory.writable lent.mem.now) in
+    let after = went.answered _ _ ∙ (λ i. answered s (set.answer i)) in
+    served [] (SetBreak c.in-SetBreak.address) c.in-SetBreak.ensures
+    (went.goes_on, (λ i. record process { heap = set.moved i }), after, refl) refl
 
 pub returns-in-Read-clause-served : goal.returns-in-Read-clause-served
 returns-in-Read-clause-served g c =
-    let bytes = g.M.Memory.bytes c.args.executor.now.mem.now in
-    let writable = g.M.Memory.writable c.args.executor.now.mem.now in
     let went = c.go_on-in-Read.ensures in
     let call = c.read_to-answer in
-    let new = g.M.Memory.bytes call.new.memory in
-    let there = g.M.Memory.writable call.new.memory in
-    let hart = c.args.executor.now.hart_state.now in
-    let kept = after hart new new writable there call.result refl call.ensures.writable_kept in
     let did = call.ensures.given in
-    served did.accesses (Read c.in-Read.address c.in-Read.count) (c.in-Read.ensures bytes writable)
-    (went.goes_on, call.new.self, call.new.held, new, call.result, did.these, refl, went.answered new there ∙ kept)
-    did.made
+    let kept = after c.args.executor.now.hart_state.now call.result refl call.ensures.writable_kept in
+    served did.accesses (Read c.in-Read.address c.in-Read.count) c.in-Read.ensures
+    (went.goes_on, call.new.self, call.new.held, _, call.result, did.these, refl, went.answered _ _ ∙ kept) did.made
 
 pub returns-in-WriteOutput-clause-served : goal.returns-in-WriteOutput-clause-served
 returns-in-WriteOutput-clause-served g c =
-    let bytes = g.M.Memory.bytes c.args.executor.now.mem.now in
-    let writable = g.M.Memory.writable c.args.executor.now.mem.now in
     let went = c.go_on-in-WriteOutput.ensures in
     let call = c.write_from-answer in
-    let new = g.M.Memory.bytes call.new.memory in
-    let there = g.M.Memory.writable call.new.memory in
-    let of = call.ensures in
-    let hart = c.args.executor.now.hart_state.now in
-    let kept = after hart bytes new writable there call.result of.bytes_kept of.writable_kept in
-    served of.taken.accesses (WriteOutput c.in-WriteOutput.address c.in-WriteOutput.count)
-    (c.in-WriteOutput.ensures bytes writable)
-    (went.goes_on, call.new.self, call.result, of.taken.these, refl, went.answered new there ∙ kept) of.taken.made
+    let did = call.ensures in
+    let kept = after c.args.executor.now.hart_state.now call.result did.bytes_kept did.writable_kept in
+    served did.taken.accesses (WriteOutput c.in-WriteOutput.address c.in-WriteOutput.count) c.in-WriteOutput.ensures
+    (went.goes_on, call.new.self, call.result, did.taken.these, refl, went.answered _ _ ∙ kept) did.taken.made
 
 pub returns-in-WriteErrors-clause-served : goal.returns-in-WriteErrors-clause-served
 returns-in-WriteErrors-clause-served g c =
-    let bytes = g.M.Memory.bytes c.args.executor.now.mem.now in
-    let writable = g.M.Memory.writable c.args.executor.now.mem.now in
     let went = c.go_on-in-WriteErrors.ensures in
     let call = c.write_from-answer-in-WriteErrors in
-    let new = g.M.Memory.bytes call.new.memory in
-    let there = g.M.Memory.writable call.new.memory in
-    let of = call.ensures in
-    let hart = c.args.executor.now.hart_state.now in
-    let kept = after hart bytes new writable there call.result of.bytes_kept of.writable_kept in
-    served of.taken.accesses (WriteErrors c.in-WriteErrors.address c.in-WriteErrors.count)
-    (c.in-WriteErrors.ensures bytes writable)
-    (went.goes_on, call.new.self, call.result, of.taken.these, refl, went.answered new there ∙ kept) of.taken.made
+    let did = call.ensures in
+    let kept = after c.args.executor.now.hart_state.now call.result did.bytes_kept did.writable_kept in
+    served did.taken.accesses (WriteErrors c.in-WriteErrors.address c.in-WriteErrors.count) c.in-WriteErrors.ensures
+    (went.goes_on, call.new.self, call.result, did.taken.these, refl, went.answered _ _ ∙ kept) did.taken.made

@@ -1,5 +1,5 @@
 use Rattle.std.proofs.Common.{◌≡◌, ◌+◌, min, sym, ◌∙◌, arith}
-use Rattle.rrs_linux.proofs.Written.{byte_read, chunk_more, reads_more}
+use Rattle.rrs_linux.proofs.Written.{chunk_more, reads_more}
 use Rattle.rrs_linux.proofs.buffers.copy_chunk.Goals as goal
 
 pub loop-index-preserved : goal.loop-index-preserved
@@ -7,13 +7,12 @@ loop-index-preserved g c =
     let memory = g.M.Memory in
     let so_far = c.loop-index.invariant in
     let laws = c.read_mem.ensures.laws in
-    let value = byte_read _ _ _ _ so_far.bytes_kept laws.value in
+    let next = reads_more memory.reads memory.writes (memory.bytes c.args.memory.now) c.args.address
+    c.loop-index.index c.args.memory.now so_far.bytes_kept laws.value so_far.made c.read_mem.ensures.did in
     record {
       stands = chunk_more (memory.bytes c.args.memory.now) c.args.address _ _ _ so_far.stands (omega arith)
-          (sym value ∙ c.in-Some.is);
-      made = reads_more memory.reads memory.writes
-          (memory.bytes c.args.memory.now) c.args.address c.loop-index.index _ c.args.memory.now c.loop-index.memory
-          c.read_mem.new.self so_far.made c.read_mem.ensures.did value;
+          (sym next.0 ∙ c.in-Some.is);
+      made = next.1;
       bytes_kept = laws.bytes_kept ∙ so_far.bytes_kept;
       writable_kept = laws.writable_kept ∙ so_far.writable_kept;
       layout_kept = laws.layout_kept ∙ so_far.layout_kept;
@@ -23,9 +22,7 @@ pub returns-in-None-clause-read : goal.returns-in-None-clause-read
 returns-in-None-clause-read g c =
     let memory = g.M.Memory in
     let so_far = c.loop-index.invariant in
-    let one_more : min c.args.wanted (c.loop-index.index + 1) ≡ c.loop-index.index + 1 = omega
-    (arith, c.loop-index-test.true) in
-    let value = byte_read _ _ _ _ so_far.bytes_kept c.read_mem.ensures.laws.value in
-    rw one_more (reads_more memory.reads memory.writes
-    (memory.bytes c.args.memory.now) c.args.address c.loop-index.index _ c.args.memory.now c.loop-index.memory
-    c.read_mem.new.self so_far.made c.read_mem.ensures.did value)
+    let read = c.read_mem.ensures in
+    let one_more : min c.args.wanted (c.loop-index.index + 1) ≡ c.loop-index.index + 1 = omega arith in
+    rw one_more (reads_more memory.reads memory.writes (memory.bytes c.args.memory.now) c.args.address
+    c.loop-index.index c.args.memory.now so_far.bytes_kept read.laws.value so_far.made read.did).1
