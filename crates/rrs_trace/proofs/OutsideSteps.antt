@@ -36,7 +36,7 @@ abbrev answer_in : Option Outcome → StepAnswer
 answer_in None = Ok tt
 answer_in (Some o) = answered o.answer
 
--- over another memory it leaves the same, and it is no fault
+-- over another memory it leaves the same, and it is no exception
 abbrev Plain : ByteMap → (ℕ → Bool) → Option Outcome → Option Outcome → Type 0
 Plain b w o o' = (o ≡ option_map (over_outcome b w) o') × (answer_in o' ≡ Ok tt)
 
@@ -183,7 +183,7 @@ steps_on row f s u t old new a executes is before after goes = record {
 
 -- ---- the step
 
--- a row that is known to stand there has an outcome
+-- a row that is decoded there has an outcome
 legal_by : (s t : State) (answer : StepAnswer) (w : ℕ) (row : Row) (f : Fields) → Step s t answer
     → s.pc % 4 ≡ 0 → little_endian s.bytes s.pc 4 ≡ Some w → Decodes w row f
     → (o : Outcome) × (execute row f (cleared s) ≡ Some o)
@@ -358,7 +358,7 @@ behind_by (Store n) (S f) s q w row v known is fetched decoded asks =
     }
 behind_by _ _ s q w row v known is fetched decoded asks = cc
 
--- what was found stands there
+-- what was found is at the program counter
 record Found (s : State) (i : Instruction) (q : DataRequest) : Type 0 where
   w : ℕ
   fetched : next_word s ≡ Some w

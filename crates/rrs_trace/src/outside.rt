@@ -3,7 +3,7 @@
 //! A clock, an input port, or a memory that the caller keeps elsewhere is no [Memory]: its reads
 //! change, or it isn't there to lend. [request] tells which load or store an instruction makes, and
 //! [complete] executes it with what was answered; both work on a hart alone. [complete_load] and
-//! [complete_store] do the same for the load or the store at which a run faulted.
+//! [complete_store] do the same for the load or the store at which a run ended.
 
 ghost use Rattle.std.specs.Prelude.{◌≡◌, ◌<◌, ℕ, [], Bool, true, false, Option, None, Some, Ok, IfSome, slice_index, ℤ};
 ghost use Rattle.std.specs.Bool.{OnTrue, OnFalse};
@@ -59,18 +59,18 @@ impl DataRequest {
 /// where it makes none.
 ///
 /// No memory is looked at, and nothing changes. The word is the one at the pc, as the caller's
-/// memory has it; at a pc that is no multiple of 4 it may be any. A word that the caller can't read
+/// memory has it; at a pc that is misaligned it may be any. A word that the caller can't read
 /// is no word: then the step is `FetchError(pc)`, and no call here tells that.
 ///
 /// The clauses, for the hart with each memory that has this word at the pc: the accesses of the
 /// step are the fetch and then this one (`access`); at `Ok(None)` the step is `Ok`, and at an error
-/// it is that fault (`foretold`).
+/// it is that exception (`foretold`).
 ///
 /// # Errors
 ///
-/// The fault that comes before any access of the instruction: `AlignmentFault(pc)` where the pc is
-/// no multiple of 4; `IllegalInstruction(pc, word)`; `AlignmentFault(address)` where the address of
-/// a load or a store is no multiple of its size; `EnvironmentCall(pc)` and `Breakpoint(pc)`.
+/// The exception that comes before any access of the instruction: `AlignmentFault(pc)` where the pc
+/// is misaligned; `IllegalInstruction(pc, word)`; `AlignmentFault(address)` where the address of a
+/// load or a store is misaligned; `EnvironmentCall(pc)` and `Breakpoint(pc)`.
 pub fn request(hart: &HartState, word: u32) -> Result<Option<DataRequest>, InstructionException>
     ensures access { WithEachMemory hart.now word (λ s.
         AccessesAfterFetch s (requested s result)) }
@@ -91,8 +91,8 @@ pub fn request(hart: &HartState, word: u32) -> Result<Option<DataRequest>, Instr
 /// `given` is that answer. Of a load it is the value that was read, little-endian, of which the low
 /// bytes count, and which is extended here; or `None` where the load is refused. Of a store that
 /// was carried out it is any value, or `None` where the store is refused. Of an instruction that
-/// accesses nothing, and of one that faults before its access, it is not looked at. The word is as
-/// in [request].
+/// accesses nothing, and of one with an exception before its access, it is not looked at. The word
+/// is as in [request].
 ///
 /// The clause: with each memory that has this word at the pc, and that answers the access so, this
 /// is the step: its answer, and the hart that it leaves. The bytes are as before, but that those of
@@ -177,7 +177,7 @@ fn go_behind<M: Memory>(executor: &mut InstructionExecutor<M>, is_load: bool, va
 /// on by 4. So a run that ended with `LoadAccessFault(address)` goes on behind the load. The word
 /// at the pc is read from the memory, as a fetch is, and nothing else is accessed. The answer is
 /// `false`, and the hart is as before, where there is no word at the pc, it is no load, or the
-/// address of the load is no multiple of its size.
+/// address of the load is misaligned.
 pub fn complete_load<M: Memory>(executor: &mut InstructionExecutor<M>, value: u32) -> bool
     ensures loaded { OnTrue result (LoadsGiven value
         (state_in M.bytes M.writable executor.old) (state_in M.bytes M.writable executor.new)) }
@@ -200,7 +200,7 @@ pub fn complete_load<M: Memory>(executor: &mut InstructionExecutor<M>, value: u3
 /// Where and what it stores is told by [request], for the word at the pc. Nothing is stored in the
 /// memory; the word at the pc is read from it, as a fetch is. The answer is `false`, and the hart
 /// is as before, where there is no word at the pc, it is no store, or the address of the store is
-/// no multiple of its size.
+/// misaligned.
 pub fn complete_store<M: Memory>(executor: &mut InstructionExecutor<M>) -> bool
     ensures stored { OnTrue result (StoresElsewhere
         (state_in M.bytes M.writable executor.old) (state_in M.bytes M.writable executor.new)) }
@@ -249,7 +249,7 @@ fn size_of(bytes: u32) -> MemAccessSize
     }
 }
 
-/// The answer for an instruction that accesses nothing: the fault of `ecall` and `ebreak`.
+/// The answer for an instruction that accesses nothing: the exception of `ecall` and `ebreak`.
 #[inline]
 fn answer_of_call(
     pc: u32,
@@ -264,7 +264,7 @@ fn answer_of_call(
     }
 }
 
-/// The access that an instruction makes, or the fault before any.
+/// The access that an instruction makes, or the exception before any.
 fn data_request_of(
     hart: &HartState,
     instruction: &Instruction,

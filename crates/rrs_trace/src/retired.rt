@@ -17,7 +17,7 @@ use rrs_lib::instruction_executor::{
     InstructionException, InstructionExecutor, StepEnd, execute_parts, fetch_word,
 };
 
-/// What a step retired, under the names of RVFI. A step that faulted retires with `trap`.
+/// What a step retired, under the names of RVFI. After an exception `trap` is set.
 ///
 /// A register number is 0 where there is none, and its value 0 then.
 #[derive(Clone, Copy, Debug, PartialEq)]
@@ -26,7 +26,7 @@ pub struct Retired {
     pub order: u64,
     /// The word at the pc, or `None` where none was fetched.
     pub insn: Option<u32>,
-    /// Whether the step faulted.
+    /// Whether the step ended with an exception.
     pub trap: bool,
     /// The pc before.
     pub pc_rdata: u32,
@@ -124,7 +124,7 @@ fn no_sources() -> Sources
     }
 }
 
-/// How a step ends that faulted before its instruction was executed.
+/// How a step ends that has an exception before its instruction is executed.
 #[inline(always)]
 fn faulted(exception: InstructionException, pc: u32) -> StepEnd
     ensures answer { result.answer ≡ Err exception }
@@ -279,8 +279,8 @@ fn number_of(last: Option<usize>) -> usize
 ///
 /// # Errors
 ///
-/// The first of the two has the answer of `step`, with its faults; what each leaves is as there.
-/// The second is told after a fault too, with `trap`.
+/// The first of the two is the answer of `step`, with its exceptions; what each leaves is as there.
+/// The second is told after an exception too, with `trap`.
 #[inline(always)]
 pub fn step_retired_parts<M: Memory>(
     mem: &mut M,
@@ -330,8 +330,8 @@ pub fn step_retired_parts<M: Memory>(
 ///
 /// # Errors
 ///
-/// The first of the two is the answer of `step`, with its faults; what each leaves is as there.
-/// The second is told after a fault too, with `trap`.
+/// The first of the two is the answer of `step`, with its exceptions; what each leaves is as there.
+/// The second is told after an exception too, with `trap`.
 pub fn step_retired<M: Memory>(
     executor: &mut InstructionExecutor<M>,
     order: u64,

@@ -1,4 +1,4 @@
--- The step of a row, and of a word outside the table.
+-- The step of a row, and of an illegal instruction.
 use Rattle.std.proofs.Common.{rules}
 use Rattle.rrs_trace.proofs.OutsideSteps.{completes_row, completes_illegal}
 use Rattle.rrs_trace.proofs.outside.complete.Goals as goal

@@ -1,4 +1,4 @@
--- The accesses and the fault of a row, and of a word outside the table.
+-- The accesses and the exception of a row, and of an illegal instruction.
 use Rattle.std.proofs.Common.{◌≡◌, ◌%◌, refl, rules}
 use Rattle.rrs_lib.specs.Steps.{Illegal}
 use Rattle.rrs_trace.proofs.OutsideSteps.{requests_row, foretells_row}
