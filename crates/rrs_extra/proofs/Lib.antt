@@ -3,10 +3,6 @@ pub mod Operands
 pub mod Names
 pub mod Faithful
 pub mod SameWords
-pub mod CopyWords
-pub mod Gcd
-pub mod PortLogs
-pub mod PutString
 pub mod SumLoop
 pub mod Words
 pub mod Agreeing
@@ -14,4 +10,3 @@ pub mod OpenPages
 pub mod PageLists
 pub mod PageMaps
 pub mod PageWrites
-pub mod WholeSpaces

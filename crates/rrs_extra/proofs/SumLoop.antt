@@ -8,7 +8,7 @@ use Rattle.rrs_lib.specs.Machine.{State, reg}
 use Rattle.rrs_lib.specs.Steps.{RunsOk, IsOnlyRunUntil}
 use Rattle.rrs_lib.proofs.Programs
 use Rattle.rrs_lib.proofs.Programs.{at, Fetches, fetches, Others, registers_by}
-use Rattle.rrs_extra.specs.Programs.{HoldsWords, HasWords, IsMapped, word_at, sum_of_words, sum_loop_program, SumLoopStarts}
+use Rattle.rrs_extra.specs.Programs.{HoldsWords, IsMapped, word_at, sum_of_words, sum_loop_program, SumLoopStarts}
 use Rattle.rrs_extra.proofs.Words.{word_read, at_word, Chain, ◌▸◌, done, by_registers, mapped-ends}
 
 -- ---- one round
@@ -56,7 +56,6 @@ rounds zero o x1 a sum total x13 x14 x15 last bytes writable holds aligned fits 
 rounds (suc n) o x1 a sum total x13 x14 x15 last bytes writable holds aligned fits mapped small is =
     let x = word_at bytes a in
     let read : little_endian bytes a 4 ≡ Some x = word_read bytes a (λ i h. mapped i (omega arith)) in
-    let rest : ℕ = sum_of_words bytes (word (pos (a + 4))) n in
     let total_is : (word (pos (sum + word (pos x))) + sum_of_words bytes (word (pos (a + 4))) n) % 2 ^ 32 ≡ total =
     ap (λ y. (word (pos (sum + word (pos x))) + y) % 2 ^ 32) (next_words bytes a n fits) ∙ same_sum sum x (sum_of_words bytes (a + 4) n) ∙ is in
     let others = rounds n o x1 (word (pos (a + 4))) (word (pos (sum + word (pos x)))) total (word (pos x)) x14 x15 None bytes writable holds (omega arith) (omega arith) (next_mapped bytes a n fits mapped) (omega arith) total_is in
@@ -74,11 +73,11 @@ pub record Summed (s : State) (steps : ℕ) (e : Option InstructionException) (t
 
 -- what the program does from a state
 abbrev Sums : (limit steps : ℕ) → Option InstructionException → State → State → Type 0
-Sums limit steps e t s = SumLoopStarts s → HasWords s → EndsAtLastAddress s.bytes s.writable → limit ≡ 6 * reg s 11 + 3 → IsOnlyRunUntil limit s steps e t → Summed s steps e t
+Sums limit steps e t s = SumLoopStarts s → reg s 10 < 2 ^ 32 → EndsAtLastAddress s.bytes s.writable → limit ≡ 6 * reg s 11 + 3 → IsOnlyRunUntil limit s steps e t → Summed s steps e t
 
 sums : (limit steps : ℕ) (e : Option InstructionException) (t : State) (o : Others) (x1 a n x12 x13 x14 x15 pc : ℕ) (last : Option ℕ) (bytes : ByteMap) (writable : ℕ → Bool)
     → Sums limit steps e t (at (registers_by o x1 a n x12 x13 x14 x15) pc last bytes writable)
-sums limit steps e t o x1 a n x12 x13 x14 x15 pc last bytes writable starts words ends limit_is only =
+sums limit steps e t o x1 a n x12 x13 x14 x15 pc last bytes writable starts small ends limit_is only =
     let all = rounds n o x1 a 0 (sum_of_words bytes a n % 2 ^ 32) x13 x14 x15 (Some 12) bytes writable starts.program starts.aligned (mapped-ends bytes writable a (4 * n) ends starts.mapped (omega arith)) starts.mapped (omega arith) (ap (λ y. y % 2 ^ 32) (omega arith)) in
     let first = Programs.step-writes 4 11 0 (pos 0) {registers = registers_by o x1 a n x12 x13 x14 x15} {pc = 0} {last = last} {bytes = bytes} {writable = writable} (at_word starts.program refl 0 refl refl) refl refl refl in
     let chain = Programs.RunsOk-as (suc (6 * n + 1)) (6 * n + 2) _ _ (omega arith) (Programs.RunsOk-then (6 * n + 1) _ _ _ first all.runs) in

@@ -29,6 +29,18 @@ pub value-small : (bytes : ByteMap) (writable : ℕ → Bool) (b x : ℕ) → En
 value-small bytes writable b x ends is =
     let past : 2 ^ 32 ≤ b → ⊥ = λ from. none-some x (sym (ends b from).0 ∙ is) in omega arith
 
+pub mapped-small : (bytes : ByteMap) (writable : ℕ → Bool) (a : ℕ) → EndsAtLastAddress bytes writable
+    → IsMapped bytes a 4 → a < 2 ^ 32
+mapped-small bytes writable a ends mapped =
+    let is = is_its_value (bytes (a + 0)) (mapped 0 (omega arith)) in
+    omega (arith, value-small bytes writable (a + 0) _ ends is)
+
+-- so does what is writable
+pub writable-small : (bytes : ByteMap) (writable : ℕ → Bool) (b : ℕ) → EndsAtLastAddress bytes writable
+    → IsTrue (writable b) → b < 2 ^ 32
+writable-small bytes writable b ends test =
+    let past : 2 ^ 32 ≤ b → ⊥ = λ from. false≢true (sym (ends b from).1 ∙ test) in omega arith
+
 -- n places from a on, where nothing is so at 2 ^ 32 or past it
 ends_by : (P : ℕ → Type 0) (a n : ℕ) → ((b : ℕ) → 2 ^ 32 ≤ b → P b → ⊥) → ((i : ℕ) → i < n → P (a + i)) → a ≤ 2 ^ 32
     → a + n ≤ 2 ^ 32
@@ -142,9 +154,12 @@ abbrev pub holds_test : ByteMap → ℕ → List ℕ → Bool
 holds_test bytes a words =
     agree_below (λ i. is_value (little_endian bytes (a + 4 * i) 4) (slice_index words i)) (λ i. true) (length words)
 
-pub holds_by_test : (bytes : ByteMap) (a : ℕ) (words : List ℕ) → holds_test bytes a words ≡ true → HoldsWords bytes a words
-holds_by_test bytes a words test = record {
-  each = λ i less. value_is (little_endian bytes (a + 4 * i) 4) (slice_index words i)
-      (agree_below_at (λ i. is_value (little_endian bytes (a + 4 * i) 4) (slice_index words i)) (λ i. true)
+-- so they stand in each memory that is equal
+pub holds_by_test : {bytes known : ByteMap} {a : ℕ} {words : List ℕ} → bytes ≡ known → holds_test known a words ≡ true
+    → HoldsWords bytes a words
+holds_by_test {known = known} {a = a} {words = words} same test = record {
+  each = λ i less. ap (λ b. little_endian b (a + 4 * i) 4) same
+      ∙ value_is (little_endian known (a + 4 * i) 4) (slice_index words i)
+      (agree_below_at (λ i. is_value (little_endian known (a + 4 * i) 4) (slice_index words i)) (λ i. true)
       (length words) i test less);
 }

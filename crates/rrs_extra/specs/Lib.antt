@@ -12,10 +12,7 @@ pub mod Numbering
 -- A memory of pages.
 pub mod Pages
 pub mod PageFields
--- A port that prints.
-pub mod Ports
--- Laws over several calls: machines that agree, what texts show, and programs.
+-- Laws over several calls: machines that agree, what texts show, and a program.
 pub mod Agreement
 pub mod Showing
 pub mod Programs
-pub mod Printing

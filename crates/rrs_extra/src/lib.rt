@@ -2,19 +2,16 @@
 //!
 //! [RowNumberer] names the row of the table that a word is: its number, 1 to [ROW_COUNT].
 //! [PagedMemory] is a memory of pages, some of whose words are read-only. The functions of [laws]
-//! have contracts that relate what several calls of the kit return, or say what a program does;
-//! `docs/PROGRAMS.md` says how to prove one.
+//! have contracts that relate what several calls of the kit return, or say what a program does.
 
 #![tactic(auto)]
 
 pub mod laws;
 mod paged;
-mod print_port;
 
 ghost use Rattle.rrs_extra.specs.Numbering.{Numbers};
 
 pub use paged::{PageError, PagedMemory};
-pub use print_port::{PrintPort, RamOrPort};
 use rrs_lib::InstructionHandler;
 use rrs_lib::instruction::Instruction;
 

@@ -9,7 +9,7 @@ ghost use Rattle.rrs_linux.specs.Recording.{Records};
 ghost use Rattle.rrs_linux.specs.Transfers.{most_bytes};
 ghost use Rattle.rrs_programs.specs.Echoing.{EchoStarts, TakesRounds};
 
-use crate::arguments::arguments_of_call;
+use crate::writing::arguments_of_call;
 use rrs_env::{ServedEnd, run_served};
 use rrs_fast::DecodeCache;
 use rrs_lib::Memory;

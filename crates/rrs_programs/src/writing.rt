@@ -1,20 +1,19 @@
 //! A program that writes a text and ends.
 
-ghost use Rattle.std.specs.Prelude.{◌≡◌, ℕ, ◌+◌, ◌%◌, ◌≤◌, ◌++◌, length, take, vec_capacity};
+ghost use Rattle.std.specs.Prelude.{◌≡◌, ℕ, ◌+◌, ◌%◌, ◌^◌, ◌<◌, ◌≤◌, ◌++◌, Bool, Option, length, take, vec_capacity};
 ghost use Rattle.std.specs.Io.KnownBytes.{Appends};
 ghost use Rattle.rrs_lib.specs.Executor.{state_in, KeepsTheRest};
-ghost use Rattle.rrs_lib.specs.Machine.{reg};
+ghost use Rattle.rrs_lib.specs.Machine.{state_of, reg};
 ghost use Rattle.rrs_env.specs.Serving.{Served, MakesSome};
 ghost use Rattle.rrs_env.specs.declared.Ending.TheVariants.{Exit};
 ghost use Rattle.rrs_linux.specs.Recording.{Records};
 ghost use Rattle.rrs_linux.specs.SystemCalls.{Serves};
 ghost use Rattle.rrs_programs.specs.WritingAndExiting.{WriteAndExitStarts};
 
-use crate::arguments::arguments_of_call;
 use rrs_env::{ServedEnd, run_served};
 use rrs_fast::DecodeCache;
-use rrs_lib::Memory;
 use rrs_lib::instruction_executor::InstructionExecutor;
+use rrs_lib::{HartState, Memory};
 use rrs_linux::{Linux, OutputRecorder};
 use std::io::{Read, Write};
 
@@ -87,4 +86,21 @@ pub fn write_and_exit_over<M: Memory, R: Read, W: Write, E: Write>(
 {
     arguments_of_call(executor.hart_state);
     run_served(&mut DecodeCache::new(), executor, environment, limit)
+}
+
+/// What the type of the registers says: there are 32, and the first three arguments of a call are
+/// words.
+pub fn arguments_of_call(hart: &HartState)
+    ensures count { length hart.now.registers ≡ 32 }
+    ensures words { (bytes : ℕ → Option ℕ) (writable : ℕ → Bool)
+        → (reg (state_of hart.now bytes writable) 10 < 2 ^ 32)
+        × (reg (state_of hart.now bytes writable) 11 < 2 ^ 32)
+        × (reg (state_of hart.now bytes writable) 12 < 2 ^ 32) }
+{
+    let _count = hart.register_count();
+    let _ = (
+        hart.read_register(10),
+        hart.read_register(11),
+        hart.read_register(12),
+    );
 }

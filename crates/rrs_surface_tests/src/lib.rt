@@ -1,8 +1,8 @@
 //! The public names of the port, each called with exactly the arguments and types that it promises.
 //!
 //! A name that is gone, a parameter more, another type, another field or another variant does not
-//! compile here. What the calls do is seen on a few worked numbers; `rrs_tests` and `rrs_examples`
-//! have the others.
+//! compile here. What the calls do is seen on a few worked numbers; `rrs_tests` and
+//! `rrs_extra_tests` have the others.
 
 #![tactic(auto)]
 

@@ -1,4 +1,0 @@
-pub mod CountDown
-pub mod GreetingMachine
-pub mod ProgramExamples
-pub mod ServedExamples

@@ -1,0 +1,2 @@
+-- What a call does to a console.
+pub mod Consoles

@@ -1,0 +1,2 @@
+pub mod CountDown
+pub mod GreetingMachine

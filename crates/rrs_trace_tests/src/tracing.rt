@@ -1,0 +1,171 @@
+//! A commit log in the words of Spike's `--log-commits`, a watchpoint, and breakpoints, over what
+//! steps retire. `docs/HOSTS.md` shows them.
+
+use rrs_lib::instruction_executor::{InstructionException, InstructionExecutor};
+use rrs_lib::memories::VecMemory;
+use rrs_lib::{HartState, Memory};
+use rrs_test_machines::hart_of;
+use rrs_trace::{MemoryAccess, Retired, StopEnd, StopReason, run_until, step_retired};
+use std::alloc::{AllocError, Global};
+use std::test::Fail;
+
+/// Words with stores of two sizes, loads of two, and an end.
+const PROGRAM: [u32; 8] = [
+    0x1234_b137, // lui x2, 0x1234b
+    0x02a0_0513, // addi x10, x0, 42
+    0x0420_2023, // sw x2, 64(x0)
+    0x04a0_01a3, // sb x10, 67(x0)
+    0x0400_2283, // lw x5, 64(x0)
+    0x0420_1003, // lh x0, 66(x0)
+    0x0005_0463, // beq x10, x0, 8
+    0,
+];
+
+/// The program at 0, in 32 words.
+fn memory_of(alloc: Global) -> Result<VecMemory, AllocError> {
+    let mut words = PROGRAM.to_vec(alloc)?;
+    words.resize(32, 0)?;
+    Ok(VecMemory::new(words))
+}
+
+/// What a store wrote, in as many digits as its bytes have.
+fn stored(alloc: Global, mem: MemoryAccess) -> Result<String, AllocError> {
+    let (addr, data) = (mem.addr, mem.wdata);
+    match mem.wmask {
+        0b1 => format!(in alloc; " mem 0x{addr:08x} 0x{data:02x}"),
+        0b11 => format!(in alloc; " mem 0x{addr:08x} 0x{data:04x}"),
+        _ => format!(in alloc; " mem 0x{addr:08x} 0x{data:08x}"),
+    }
+}
+
+/// The access of a line: a load's address, a store's with its data, or nothing.
+fn accessed(alloc: Global, mem: MemoryAccess) -> Result<String, AllocError> {
+    let addr = mem.addr;
+    if mem.wmask != 0 {
+        stored(alloc, mem)
+    } else if mem.rmask != 0 {
+        format!(in alloc; " mem 0x{addr:08x}")
+    } else {
+        format!(in alloc; "")
+    }
+}
+
+/// The register of a line, with the value that was written, or nothing.
+fn changed(alloc: Global, retired: &Retired) -> Result<String, AllocError> {
+    let (rd, value) = (retired.rd_addr, retired.rd_wdata);
+    if rd == 0 {
+        format!(in alloc; "")
+    } else {
+        format!(in alloc; " x{rd:<2} 0x{value:08x}")
+    }
+}
+
+/// The line of a step that executed a word.
+fn line_of(alloc: Global, retired: &Retired, word: u32) -> Result<String, AllocError> {
+    let pc = retired.pc_rdata;
+    let register = changed(alloc, retired)?;
+    let access = accessed(alloc, retired.mem)?;
+    format!(in alloc; "core   0: 3 0x{pc:08x} (0x{word:08x}){register}{access}\n")
+}
+
+/// The line of a step in a commit log: hart 0, in machine mode. A step that trapped has none.
+fn commit_line(alloc: Global, retired: &Retired) -> Result<String, AllocError> {
+    match retired.insn {
+        Some(word) if !retired.trap => line_of(alloc, retired, word),
+        _ => format!(in alloc; ""),
+    }
+}
+
+/// Makes a step, with this number.
+fn told<M: Memory>(mem: &mut M, hart_state: &mut HartState, order: u64) -> Retired {
+    let mut executor = InstructionExecutor { mem, hart_state };
+    let (_answer, retired) = step_retired(&mut executor, order);
+    retired
+}
+
+/// Runs to a limit or a stop.
+fn stopped<M: Memory>(
+    mem: &mut M,
+    hart_state: &mut HartState,
+    limit: u64,
+    stops: &[u32],
+) -> StopEnd {
+    let mut executor = InstructionExecutor { mem, hart_state };
+    run_until(&mut executor, limit, stops)
+}
+
+/// Whether a step wrote the byte at an address.
+fn writes_to(retired: &Retired, watched: u32) -> bool {
+    let mem = retired.mem;
+    let offset = watched.wrapping_sub(mem.addr);
+    offset < 4 && mem.wmask & (1 << offset) != 0
+}
+
+// The form of a line is that of Spike's log: `core`, the hart, the privilege, the pc, the word, the
+// register that was written, and the address of an access, of a store with the data.
+#[test]
+fn a_commit_log_is_spikes(rt: HostRuntime) -> Result<(), Fail> {
+    let mut memory = memory_of(rt.alloc())?;
+    let mut hart = hart_of(0, &[]);
+    let mut log = String::new(rt.alloc());
+    for order in 0..8 {
+        let retired = told(&mut memory, &mut hart, order);
+        log.push_str(&commit_line(rt.alloc(), &retired)?)?;
+    }
+    assert_eq!(rt;
+        log.as_str(),
+        "\
+core   0: 3 0x00000000 (0x1234b137) x2  0x1234b000
+core   0: 3 0x00000004 (0x02a00513) x10 0x0000002a
+core   0: 3 0x00000008 (0x04202023) mem 0x00000040 0x1234b000
+core   0: 3 0x0000000c (0x04a001a3) mem 0x00000043 0x2a
+core   0: 3 0x00000010 (0x04002283) x5  0x2a34b000 mem 0x00000040
+core   0: 3 0x00000014 (0x04201003) mem 0x00000042
+core   0: 3 0x00000018 (0x00050463)
+"
+    );
+    Ok(())
+}
+
+// The byte at 0x43 is written by the store of a word, and by that of a byte.
+#[test]
+fn a_watchpoint_stops_after_each_write(rt: HostRuntime) -> Result<(), Fail> {
+    let mut memory = memory_of(rt.alloc())?;
+    let mut hart = hart_of(0, &[]);
+    let mut writes = [0; 8];
+    for order in 0..8_u8 {
+        let retired = told(&mut memory, &mut hart, u64::from(order));
+        if writes_to(&retired, 0x43) {
+            writes[usize::from(order)] = retired.mem.wdata;
+        }
+    }
+    assert_eq!(rt; writes, [0, 0, 0x1234_b000, 0x2a, 0, 0, 0, 0]);
+    Ok(())
+}
+
+/// Limits, each with the steps of the run to it, the pc after it, and why it stopped.
+static STOPPED: [(u64, u64, u32, StopReason); 5] = [
+    (9, 2, 0x08, StopReason::AtStop),
+    (0, 0, 0x08, StopReason::Limit),
+    (2, 2, 0x10, StopReason::AtStop),
+    (1, 1, 0x14, StopReason::Limit),
+    (
+        9,
+        2,
+        0x1c,
+        StopReason::Fault(InstructionException::IllegalInstruction(0x1c, 0)),
+    ),
+];
+
+// A run goes on from a stop, tells a stop at the limit, and ends at a fault or the limit else.
+#[test]
+fn a_run_stops_at_breakpoints(rt: HostRuntime) -> Result<(), Fail> {
+    let mut memory = memory_of(rt.alloc())?;
+    let mut hart = hart_of(0, &[]);
+    let stops = [0x10, 0, 0x08];
+    for (limit, steps, pc, reason) in &STOPPED {
+        let end = stopped(&mut memory, &mut hart, *limit, &stops);
+        assert_eq!(rt; (end.steps, &end.reason, hart.pc), (*steps, reason, *pc));
+    }
+    Ok(())
+}
