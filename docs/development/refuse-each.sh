@@ -13,7 +13,7 @@
 
 all='rrs_tests texts::a_refused_text_may_be_asked_for_again
 rrs_tests spaces::a_refused_region_may_be_added_again
-rrs_examples pages::a_refused_page_may_be_added_again
+rrs_extra_tests pages::a_refused_page_may_be_added_again
 rrs_asm_tests mistakes::a_refused_source_may_be_assembled_again
 rrs_cli_tests account::out_of_memory_leaves_no_part_of_the_steps
 rrs_replay tests::out_of_memory_leaves_whole_answers'
