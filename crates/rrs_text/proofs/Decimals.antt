@@ -21,7 +21,8 @@ AreDigits = AllByRecursion (λ c. (48 ≤ c) × (c ≤ 57))
 
 are_digits : (ds : List ℕ) → AllDigits 10 ds → AreDigits ds
 are_digits [] h = tt
-are_digits (c ∷ cs) h = let here : IsInRange 48 57 c = digit_from_value c h.0 in ((omega (arith, here), omega (arith, here)), are_digits cs h.1)
+are_digits (c ∷ cs) h = let here : IsInRange 48 57 c = digit_from_value c h.0 in
+    ((omega (arith, here), omega (arith, here)), are_digits cs h.1)
 
 decimal_digits : (n : ℕ) → n < 2 ^ 64 → AreDigits (decimal n)
 decimal_digits n small = are_digits (decimal n) (decimal_is_IsNumeral n small).0.1
@@ -64,7 +65,8 @@ first_byte n text t q x small e f alike =
 
 -- ---- the numbers of a range
 
-pub decimal_read : (least limit n : ℕ) (text rest : List ℕ) → limit < 2 ^ 64 → least ≤ n → n ≤ limit → text ≡ decimal n ++ rest → (BeginsWithDigit rest → ⊥) → IsRead (IsDecimal least limit) (decimal n) text rest
+pub decimal_read : (least limit n : ℕ) (text rest : List ℕ) → limit < 2 ^ 64 → least ≤ n → n ≤ limit
+    → text ≡ decimal n ++ rest → (BeginsWithDigit rest → ⊥) → IsRead (IsDecimal least limit) (decimal n) text rest
 decimal_read least limit n text rest small low high e stops = record {
   piece = (n, low, high, refl);
   whole = e;
@@ -80,7 +82,8 @@ decimal_read least limit n text rest small low high e stops = record {
         let first = alike_cons rest (y ++ x) c (subst (BeginAlike rest) f alike) in
         absurd (stops (subst BeginsWithDigit (sym first.1) digit))
 
-pub no_digit_fails : (least limit : ℕ) (text : List ℕ) → limit < 2 ^ 64 → least ≤ limit → (BeginsWithDigit text → ⊥) → FailsPiece (IsDecimal least limit) text (length text)
+pub no_digit_fails : (least limit : ℕ) (text : List ℕ) → limit < 2 ^ 64 → least ≤ limit
+    → (BeginsWithDigit text → ⊥) → FailsPiece (IsDecimal least limit) text (length text)
 no_digit_fails least limit text small some stops =
     stops_here _ _ text (decimal least) (least, omega arith, some, refl)
     (λ t alike h.
@@ -88,7 +91,8 @@ no_digit_fails least limit text small some stops =
     stops (subst BeginsWithDigit (sym first.2) (first.3, first.4)))
 
 -- a 0, where the least number is 1
-pub zero_fails : (least limit d : ℕ) (text rest : List ℕ) → limit < 2 ^ 64 → least ≤ limit → least ≤ 1 → d < least → text ≡ (48 + d) ∷ rest → FailsPiece (IsDecimal least limit) text (length text)
+pub zero_fails : (least limit d : ℕ) (text rest : List ℕ) → limit < 2 ^ 64 → least ≤ limit → least ≤ 1 → d < least
+    → text ≡ (48 + d) ∷ rest → FailsPiece (IsDecimal least limit) text (length text)
 zero_fails least limit d text rest small some one less e =
     stops_here _ _ text (decimal least) (least, omega arith, some, refl)
     (λ t alike h.
@@ -115,7 +119,8 @@ longer_digits : (v d : ℕ) (x : List ℕ) → d < 10 → 0 < v → v < 2 ^ 32
 longer_digits v d x small some bound = sym (append_assoc (decimal v) ((48 + d) ∷ []) x)
     ∙ ap (λ (l : List ℕ). l ++ x) (sym (last_digit v d small some bound))
 
-pub next_digit : (v d : ℕ) (text rest following : List ℕ) → d < 10 → 0 < v → v < 2 ^ 32 → text ≡ decimal v ++ rest → rest ≡ (48 + d) ∷ following → text ≡ decimal (v * 10 + d) ++ following
+pub next_digit : (v d : ℕ) (text rest following : List ℕ) → d < 10 → 0 < v → v < 2 ^ 32 → text ≡ decimal v ++ rest
+    → rest ≡ (48 + d) ∷ following → text ≡ decimal (v * 10 + d) ++ following
 next_digit v d text rest following small some bound e e' = e ∙ ap (λ (l : List ℕ). decimal v ++ l) e'
     ∙ longer_digits v d following small some bound
 
@@ -130,8 +135,7 @@ goes_on-le n v d y small digit some bound e =
     let less = digits_value-take-le 10 (decimal n) (length (decimal longer)) (omega arith) in
     let value : digits_value 10 (decimal n) ≡ n = (decimal_is_IsNumeral n small).1 in
     let front_value : digits_value 10 (decimal longer) ≡ longer = (decimal_is_IsNumeral longer (omega arith)).1 in
-    let both : digits_value 10 (take (length (decimal longer)) (decimal n)) ≡ longer = ap (digits_value 10) front ∙ front_value in
-    omega (arith, less, value, both)
+    omega (arith, less, value, ap (digits_value 10) front ∙ front_value)
 
 -- 0 goes on with no digit
 zero_goes_on : (n c : ℕ) (y : List ℕ) → n < 2 ^ 64 → decimal n ≡ decimal 0 ++ (c ∷ y) → ⊥
@@ -147,8 +151,8 @@ zero_goes_on n c y small e =
     ]
 
 -- a digit too many
-pub longer_fails : (least limit v d : ℕ) (text rest following : List ℕ) → limit < 2 ^ 16 → least ≤ v → v ≤ limit → d < 10 → text ≡ decimal v ++ rest → rest ≡ (48 + d) ∷ following
-    → (v ≡ 0) ⊎ (limit < v * 10 + d) → FailsPiece (IsDecimal least limit) text (length rest)
+pub longer_fails : (least limit v d : ℕ) (text rest following : List ℕ) → limit < 2 ^ 16 → least ≤ v → v ≤ limit
+    → d < 10 → text ≡ decimal v ++ rest → rest ≡ (48 + d) ∷ following → (v ≡ 0) ⊎ (limit < v * 10 + d) → FailsPiece (IsDecimal least limit) text (length rest)
 longer_fails least limit v d text rest following small low high digit e e' why = record {
   read = decimal v;
   rest = rest;
@@ -184,7 +188,8 @@ longer_fails least limit v d text rest following small low high digit e e' why =
 abbrev pub IsBehind : ℕ → (List ℕ → Type 0) → List ℕ → Type 0
 IsBehind c Piece p = (q : List ℕ) × Piece q × (p ≡ c ∷ q)
 
-pub read_behind : (Piece : List ℕ → Type 0) (c : ℕ) (p text digits rest : List ℕ) → text ≡ c ∷ digits → IsRead Piece p digits rest → IsRead (IsBehind c Piece) (c ∷ p) text rest
+pub read_behind : (Piece : List ℕ → Type 0) (c : ℕ) (p text digits rest : List ℕ) → text ≡ c ∷ digits
+    → IsRead Piece p digits rest → IsRead (IsBehind c Piece) (c ∷ p) text rest
 read_behind Piece c p text digits rest e read = record {
   piece = (p, read.piece, refl);
   whole = e ∙ ap (λ (l : List ℕ). c ∷ l) read.whole;
@@ -193,7 +198,8 @@ read_behind Piece c p text digits rest e read = record {
       is.2 ∙ ap (λ (l : List ℕ). c ∷ l) (read.settled is.0 x t is.1 past alike (cc));
 }
 
-pub fails_behind : (Piece : List ℕ → Type 0) (c : ℕ) (text digits : List ℕ) (left : ℕ) → text ≡ c ∷ digits → FailsPiece Piece digits left → FailsPiece (IsBehind c Piece) text left
+pub fails_behind : (Piece : List ℕ → Type 0) (c : ℕ) (text digits : List ℕ) (left : ℕ) → text ≡ c ∷ digits
+    → FailsPiece Piece digits left → FailsPiece (IsBehind c Piece) text left
 fails_behind Piece c text digits left e =
     behind _ _ _ _ (c ∷ []) text digits left e (λ t is. (t, is, refl))
     (λ t alike h.
@@ -216,7 +222,7 @@ no_register_fails text other =
 abbrev pub IsNegative : List ℕ → Type 0
 IsNegative = IsBehind 45 (IsDecimal 1 2048)
 
-pub negative_text : (n : ℕ) → 1 ≤ n → (signed_decimal (neg_ℤ (pos n)) ≡ 45 ∷ decimal n)
+pub negative_text : (n : ℕ) → 1 ≤ n → signed_decimal (neg_ℤ (pos n)) ≡ 45 ∷ decimal n
 negative_text zero h = absurd (omega (arith, h))
 negative_text (suc n) h = refl
 
@@ -225,8 +231,8 @@ positive_up p h = (pos h.0, omega (arith, ints), omega (arith, ints, h.2), h.3)
 
 pub negative_up : (p : List ℕ) → IsNegative p → IsImmediate p
 negative_up p h =
-    let n : ℕ = h.1.0 in
-    (neg_ℤ (pos n), omega (arith, ints, h.1.1, h.1.2), omega (arith, ints, h.1.1), h.2 ∙ ap (λ (l : List ℕ). 45 ∷ l) h.1.3 ∙ sym (negative_text n h.1.1))
+    let text = h.2 ∙ ap (λ (l : List ℕ). 45 ∷ l) h.1.3 ∙ sym (negative_text h.1.0 h.1.1) in
+    (neg_ℤ (pos h.1.0), omega (arith, ints, h.1.1, h.1.2), omega (arith, ints, h.1.1), text)
 
 -- a text with no minus in front is no negative number, and one with a minus no other
 pub positive_down : (text : List ℕ) → BeginsOtherwise 45 text → Narrows IsImmediate (IsDecimal 0 2047) text

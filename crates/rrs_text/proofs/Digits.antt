@@ -56,18 +56,21 @@ each_step P step kind one two many = elim kind [
 ]
 
 -- what holds of a count and of one less, with their powers, holds where the count is not 0
-pub at_step : (Q : ℕ → ℕ → ℕ → ℕ → Type 0) (count size : ℕ) → (count ≡ 0 → ⊥) → size ≡ 16 ^ count → ((n : ℕ) → Q (suc n) (16 ^ suc n) n (16 ^ n)) → Q count size (count - 1) (size / 16)
+pub at_step : (Q : ℕ → ℕ → ℕ → ℕ → Type 0) (count size : ℕ) → (count ≡ 0 → ⊥) → size ≡ 16 ^ count
+    → ((n : ℕ) → Q (suc n) (16 ^ suc n) n (16 ^ n)) → Q count size (count - 1) (size / 16)
 at_step Q zero size some e all = absurd (some refl)
 at_step Q (suc n) size some e all =
-    let power = pow-succ' 16 n in
-    let part : 16 ^ n ≡ size / 16 = omega (arith, power, e) in
+    let part : 16 ^ n ≡ size / 16 = omega (arith, pow-succ' 16 n, e) in
     let pred : n ≡ suc n - 1 = omega arith in
-    subst (λ (m : ℕ). Q (suc n) size m (size / 16)) pred (subst (λ (m : ℕ). Q (suc n) size n m) part (subst (λ (m : ℕ). Q (suc n) m n (16 ^ n)) (sym e) (all n)))
+    subst (λ (m : ℕ). Q (suc n) size m (size / 16)) pred
+    (subst (λ (m : ℕ). Q (suc n) size n m) part (subst (λ (m : ℕ). Q (suc n) m n (16 ^ n)) (sym e) (all n)))
 
 -- the part with one digit lies among the words
-pub part_fits : (count size low d : ℕ) → (count ≡ 0 → ⊥) → size ≡ 16 ^ count → low + size ≤ 2 ^ 32 → d < 16 → (0 < size / 16) × (low + d * (size / 16) + size / 16 ≤ 2 ^ 32) × (size / 16 ≡ 16 ^ (count - 1))
+pub part_fits : (count size low d : ℕ) → (count ≡ 0 → ⊥) → size ≡ 16 ^ count → low + size ≤ 2 ^ 32 → d < 16
+    → (0 < size / 16) × (low + d * (size / 16) + size / 16 ≤ 2 ^ 32) × (size / 16 ≡ 16 ^ (count - 1))
 part_fits count size low d some e fits small =
-    at_step (λ count size n part. low + size ≤ 2 ^ 32 → (0 < part) × (low + d * part + part ≤ 2 ^ 32) × (part ≡ 16 ^ n)) count size some e
+    at_step (λ count size n part. low + size ≤ 2 ^ 32
+    → (0 < part) × (low + d * part + part ≤ 2 ^ 32) × (part ≡ 16 ^ n)) count size some e
     (λ n within.
     let power = pow-succ' 16 n in
     let more = mul-le-mul_left (16 ^ n) (let l : suc d ≤ 16 = small in l) in
@@ -189,17 +192,6 @@ module _ (first total step : ℕ) where
           let split = split_at n low d q x t small is (ap (λ b. b ∷ t) alike ∙ same) in
           never split.1.0 split.1.1
 
-  -- no digit is there
-  no_glyph_fails : (n low : ℕ) (text : List ℕ) → ((y : ℕ) × Within low (16 ^ suc n) y)
-      → ((d : ℕ) → d < 16 → BeginsOtherwise (digit_glyph false d) text)
-      → FailsPiece (Piece (suc n) low) text (length text)
-  no_glyph_fails n low text some never =
-      stops_here _ _ text _ (some.0, some.1, refl)
-      (λ t alike h.
-      let split = piece_split n low h.0 h.2 in
-      not_alike (digit_glyph false split.0) text t _ (never split.0 split.2) alike (h.4
-      ∙ ap (λ (l : List ℕ). l ++ h.1) split.4))
-
   -- ---- targets
 
   pub target_near : (low size from gap : ℕ) → first < 2 ^ 32 → total ≤ 2 ^ 32 → IsStep step → low + size ≤ 2 ^ 32
@@ -270,14 +262,18 @@ module _ (first total step : ℕ) where
       → Answers count size low text answer) count size some e
       (λ n. step_answers n low d text rest answer small shown)
 
+  -- no digit is there
   pub no_glyph : (count size low : ℕ) (text : List ℕ) → (count ≡ 0 → ⊥) → size ≡ 16 ^ count
       → ((y : ℕ) × Within low size y)
       → ((d : ℕ) → d < 16 → BeginsOtherwise (digit_glyph false d) text)
       → FailsPiece (Piece count low) text (length text)
-  no_glyph count size low text some e there never =
-      at_step (λ count size n part. ((y : ℕ) × Within low size y)
-      → FailsPiece (Piece count low) text (length text)) count size some e
-      (λ n there. no_glyph_fails n low text there never) there
+  no_glyph zero size low text some e there never = absurd (some refl)
+  no_glyph (suc n) size low text some e there never =
+      stops_here _ _ text _ (there.0, subst (λ s. Within low s there.0) e there.1, refl)
+      (λ t alike h.
+      let split = piece_split n low h.0 h.2 in
+      not_alike (digit_glyph false split.0) text t _ (never split.0 split.2) alike (h.4
+      ∙ ap (λ (l : List ℕ). l ++ h.1) split.4))
 
   pub no_number : (count size low d : ℕ) (text rest : List ℕ) → (count ≡ 0 → ⊥) → size ≡ 16 ^ count → d < 16
       → text ≡ digit_glyph false d ∷ rest

@@ -102,26 +102,31 @@ counted reach z = elim (cases_lt z reach) [
   | inr past ↦ (pos (z - reach), omega arith, omega (arith, ints, past))
 ]
 
-count_of : (reach : ℕ) (imm : ℤ) → neg_ℤ (pos reach) ≤ℤ imm → imm <ℤ pos reach → (z : ℕ) × IsCounted reach imm z × (z < 2 * reach)
+count_of : (reach : ℕ) (imm : ℤ) → neg_ℤ (pos reach) ≤ℤ imm → imm <ℤ pos reach
+    → (z : ℕ) × IsCounted reach imm z × (z < 2 * reach)
 count_of reach (pos a) low high = (a + reach, refl, omega (arith, ints, high))
 count_of reach (negsuc a) low high = (reach - suc a, omega (arith, ints, low), omega (arith, ints, low))
 
 -- it is an offset exactly where the number is a multiple of the step
-even_offset : (reach : ℕ) (imm : ℤ) (z : ℕ) → reach % 2 ≡ 0 → IsCounted reach imm z → (z % 2 ≡ 0 → floor_mod imm 2 ≡ 0) × (floor_mod imm 2 ≡ 0 → z % 2 ≡ 0)
+abbrev AreAlike : ℕ → ℤ → ℕ → Type 0
+AreAlike step imm z = (z % step ≡ 0 → floor_mod imm step ≡ 0) × (floor_mod imm step ≡ 0 → z % step ≡ 0)
+
+even_offset : (reach : ℕ) (imm : ℤ) (z : ℕ) → reach % 2 ≡ 0 → IsCounted reach imm z → AreAlike 2 imm z
 even_offset reach (pos a) z e is = (λ h. omega (arith, h, e, is), λ h. omega (arith, h, e, is))
 even_offset reach (negsuc a) z e is = (λ h. omega (arith, h, e, is), λ h. omega (arith, h, e, is))
 
-high_offset : (reach : ℕ) (imm : ℤ) (z : ℕ) → reach % 4096 ≡ 0 → IsCounted reach imm z → (z % 4096 ≡ 0 → floor_mod imm 4096 ≡ 0) × (floor_mod imm 4096 ≡ 0 → z % 4096 ≡ 0)
+high_offset : (reach : ℕ) (imm : ℤ) (z : ℕ) → reach % 4096 ≡ 0 → IsCounted reach imm z → AreAlike 4096 imm z
 high_offset reach (pos a) z e is = (λ h. omega (arith, h, e, is), λ h. omega (arith, h, e, is))
 high_offset reach (negsuc a) z e is = (λ h. omega (arith, h, e, is), λ h. omega (arith, h, e, is))
 
-step_offset : (reach step : ℕ) (imm : ℤ) (z : ℕ) → IsReach reach step → IsCounted reach imm z → (z % step ≡ 0 → floor_mod imm step ≡ 0) × (floor_mod imm step ≡ 0 → z % step ≡ 0)
+step_offset : (reach step : ℕ) (imm : ℤ) (z : ℕ) → IsReach reach step → IsCounted reach imm z → AreAlike step imm z
 step_offset reach step imm z kind is = elim kind.2 [
-  | inl two ↦ subst (λ s. (z % s ≡ 0 → floor_mod imm s ≡ 0) × (floor_mod imm s ≡ 0 → z % s ≡ 0)) (sym two.0) (even_offset reach imm z two.1 is)
-  | inr many ↦ subst (λ s. (z % s ≡ 0 → floor_mod imm s ≡ 0) × (floor_mod imm s ≡ 0 → z % s ≡ 0)) (sym many.0) (high_offset reach imm z many.1 is)
+  | inl two ↦ subst (λ s. AreAlike s imm z) (sym two.0) (even_offset reach imm z two.1 is)
+  | inr many ↦ subst (λ s. AreAlike s imm z) (sym many.0) (high_offset reach imm z many.1 is)
 ]
 
-counted_range : (reach : ℕ) (imm : ℤ) (z : ℕ) → IsCounted reach imm z → z < 2 * reach → (neg_ℤ (pos reach) ≤ℤ imm) × (imm <ℤ pos reach)
+counted_range : (reach : ℕ) (imm : ℤ) (z : ℕ) → IsCounted reach imm z → z < 2 * reach
+    → (neg_ℤ (pos reach) ≤ℤ imm) × (imm <ℤ pos reach)
 counted_range reach (pos a) z is less = (omega (arith, ints), omega (arith, ints, is, less))
 counted_range reach (negsuc a) z is less = (omega (arith, ints, is), omega (arith, ints))
 
@@ -188,16 +193,17 @@ target_down base reach step small kind text p x t h alike e = let made =
     digits_from_target base reach step h.0 small kind h.1 in (made.0, made.1, h.2 ∙ made.2)
 
 -- 0 is an offset, so there is a target
+pub zero_offset : (reach step : ℕ) → IsReach reach step → IsOffset reach step (pos 0)
+zero_offset reach step kind = let some = kind.0 in (
+  omega (arith, ints),
+  omega (arith, ints, some),
+  elim kind.2 [ inl two ↦ rw (two.0) refl | inr many ↦ rw (many.0) refl ],
+)
+
 pub some_target : (base reach step : ℕ) → base < 2 ^ 32 → IsReach reach step
     → (y : ℕ) × IsWithin (first_of_reach base reach) (2 * reach) step 0 (16 ^ 8) y
 some_target base reach step small kind =
-    let no_remainder : floor_mod (pos 0) step ≡ 0 = elim kind.2 [
-      | inl two ↦ subst (λ s. floor_mod (pos 0) s ≡ 0) (sym two.0) refl
-      | inr many ↦ subst (λ s. floor_mod (pos 0) s ≡ 0) (sym many.0) refl
-    ] in
-    let some = kind.0 in
-    let made = digits_from_target base reach step (pos 0) small kind (omega (arith, ints), omega (arith, ints, some), no_remainder) in
-    (made.0, made.1)
+    let made = digits_from_target base reach step (pos 0) small kind (zero_offset reach step kind) in (made.0, made.1)
 
 -- ---- the offsets of jalr
 
@@ -207,7 +213,8 @@ IsShort = IsDigits 0 2048 1 3 0
 abbrev pub IsLong : List ℕ → Type 0
 IsLong = IsDigits 4294965248 2048 1 8 0
 
-pub short_offset : (y : ℕ) → IsWithin 0 2048 1 0 4096 y → (y < 2048) × (digits_of 3 (y - 0) ≡ hexadecimal 3 (word (pos y)))
+pub short_offset : (y : ℕ) → IsWithin 0 2048 1 0 4096 y
+    → (y < 2048) × (digits_of 3 (y - 0) ≡ hexadecimal 3 (word (pos y)))
 short_offset y is =
     let among = is.among.0 in
     let high = is.most in
@@ -215,7 +222,8 @@ short_offset y is =
     let same : y - 0 ≡ word (pos y) = omega (arith, small) in
     (small, ap (digits_of 3) same ∙ sym (hexadecimal-digits 2 (word (pos y)) (omega (arith, small)) (omega arith)))
 
-pub long_offset : (y : ℕ) → IsWithin 4294965248 2048 1 0 4294967296 y → (2 ^ 32 - 2048 ≤ y) × (y < 2 ^ 32) × (digits_of 8 (y - 0) ≡ hexadecimal 3 (word (negsuc (2 ^ 32 - 1 - y))))
+pub long_offset : (y : ℕ) → IsWithin 4294965248 2048 1 0 4294967296 y
+    → (2 ^ 32 - 2048 ≤ y) × (y < 2 ^ 32) × (digits_of 8 (y - 0) ≡ hexadecimal 3 (word (negsuc (2 ^ 32 - 1 - y))))
 long_offset y is =
     let among = is.among.0 in
     let high = is.most in
@@ -246,7 +254,8 @@ short_of : (a : ℕ) → pos a ≤ℤ pos 2047 → (d : ℕ) × (z : List ℕ) �
     × (hexadecimal 3 (word (pos a)) ≡ digit_glyph false d ∷ z) × IsShort (hexadecimal 3 (word (pos a)))
 short_of a high =
     let small : a < 2048 = omega (arith, ints, high) in
-    let is : IsWithin 0 2048 1 0 4096 a = record { least = omega arith; most = omega (arith, small); among = (omega (arith, small), omega arith) } in
+    let is : IsWithin 0 2048 1 0 4096 a =
+    record { least = omega arith; most = omega (arith, small); among = (omega (arith, small), omega arith) } in
     let shown = short_offset a is in (
       a / 256,
       _,
@@ -261,7 +270,8 @@ long_of : (a : ℕ) → neg_ℤ (pos 2048) ≤ℤ negsuc a → (z : List ℕ) ×
 long_of a low =
     let small : a < 2048 = omega (arith, ints, low) in
     let y : ℕ = 2 ^ 32 - 1 - a in
-    let is : IsWithin 4294965248 2048 1 0 4294967296 y = record { least = omega arith; most = omega (arith, small); among = (omega (arith, small), omega arith) } in
+    let is : IsWithin 4294965248 2048 1 0 4294967296 y =
+    record { least = omega arith; most = omega (arith, small); among = (omega (arith, small), omega arith) } in
     let back : 2 ^ 32 - 1 - y ≡ a = omega (arith, small) in
     let shown = ap (λ n. hexadecimal 3 (word (negsuc n))) (sym back) ∙ sym (long_offset y is).2 in (
       _,

@@ -13,6 +13,7 @@ use Rattle.rrs_text.specs.declared.rows.Shape.{Shape}
 use Rattle.rrs_text.specs.declared.rows.Shape.TheVariants.{ThreeRegisters, Immediate, Shamt, Upper, UpperToPc, Branch, LoadFrom, StoreTo, Jump, JumpTo, Alone}
 use Rattle.rrs_text.specs.Readers.{Then, IsEnd, IsRegister, IsBase, IsImmediate, IsShamt, IsJumpOffset, IsTarget, IsReach}
 use Rattle.rrs_text.specs.Shapes.{Shows, Texts, last_limit}
+use Rattle.rrs_text.proofs.Offsets.{zero_offset}
 
 -- ---- pieces
 
@@ -56,13 +57,7 @@ pub an_end : (t : List ℕ) × IsEnd t
 an_end = ([], refl)
 
 pub a_target : (base reach step : ℕ) → IsReach reach step → (t : List ℕ) × IsTarget base reach step t
-a_target base reach step kind =
-    let some = kind.0 in
-    let even : floor_mod (pos 0) step ≡ 0 = elim kind.2 [
-      | inl two ↦ subst (λ s. floor_mod (pos 0) s ≡ 0) (sym two.0) refl
-      | inr many ↦ subst (λ s. floor_mod (pos 0) s ≡ 0) (sym many.0) refl
-    ] in
-    (_, (pos 0, (omega (arith, ints), omega (arith, ints, some), even), refl))
+a_target base reach step kind = (_, (pos 0, zero_offset reach step kind, refl))
 
 pub then_is : (Piece : List ℕ → Type 0) (separator : List ℕ) (Rest : List ℕ → Type 0) (a b : List ℕ)
     → Piece a → Rest b → Then Piece separator Rest (a ++ (separator ++ b))
@@ -116,97 +111,72 @@ pub shown : (shape : Shape) (funct3 last pc : ℕ) (x : List ℕ) → funct3 < 8
     → Texts shape pc x → (f : Fields) × Shows shape funct3 last pc x f
 shown ThreeRegisters funct3 last pc x three seven h =
     let o = h.others in
-    let rest = shown_then _ _ _ _ _ (codes ", ") o o.piece.2 o.others.2 in (
+    let rest = shown_then _ _ _ _ _ (codes ", ") o o.piece.2 o.others.2 in
+    let text = shown_then _ _ _ _ _ (codes ", ") h h.piece.2 rest in (
       R (record { funct7 = last; rs2 = o.others.0; rs1 = o.piece.0; funct3 = funct3; rd = h.piece.0 }),
-      (
-        (h.piece.1, three, o.piece.1, o.others.1, seven),
-        refl,
-        refl,
-        shown_then _ _ _ _ _ (codes ", ") h h.piece.2 rest,
-      ),
+      ((h.piece.1, three, o.piece.1, o.others.1, seven), refl, refl, text),
     )
 shown Immediate funct3 last pc x three seven h =
     let o = h.others in
-    let rest = shown_then _ _ _ _ _ (codes ", ") o o.piece.2 o.others.3 in (
+    let rest = shown_then _ _ _ _ _ (codes ", ") o o.piece.2 o.others.3 in
+    let text = shown_then _ _ _ _ _ (codes ", ") h h.piece.2 rest in (
       I (record { imm = o.others.0; rs1 = o.piece.0; funct3 = funct3; rd = h.piece.0 }),
-      ((h.piece.1, three, o.piece.1, o.others.1, o.others.2), refl, shown_then _ _ _ _ _ (codes ", ") h h.piece.2 rest),
+      ((h.piece.1, three, o.piece.1, o.others.1, o.others.2), refl, text),
     )
 shown Shamt funct3 last pc x three seven h =
     let o = h.others in
     let rest = shown_then _ _ _ _ _ (codes ", ") o o.piece.2 o.others.3 in
-    let small = o.others.2 in (
+    let small = o.others.2 in
+    let text = shown_then _ _ _ _ _ (codes ", ") h h.piece.2 rest in (
       IShamt (record { funct7 = last; shamt = o.others.0; rs1 = o.piece.0; funct3 = funct3; rd = h.piece.0 }),
-      (
-        (h.piece.1, three, o.piece.1, omega (arith, small), seven),
-        refl,
-        refl,
-        shown_then _ _ _ _ _ (codes ", ") h h.piece.2 rest,
-      ),
+      ((h.piece.1, three, o.piece.1, omega (arith, small), seven), refl, refl, text),
     )
 shown Upper funct3 last pc x three seven h =
-    let is = h.others.1 in (
+    let is = h.others.1 in
+    let text = shown_then _ _ _ _ _ (codes ", 0x") h h.piece.2 h.others.2 in (
       U (record { imm = h.others.0; rd = h.piece.0 }),
-      (
-        (h.piece.1, is.0, below_upper h.others.0 is.1 is.2, is.2),
-        shown_then _ _ _ _ _ (codes ", 0x") h h.piece.2 h.others.2,
-      ),
+      ((h.piece.1, is.0, below_upper h.others.0 is.1 is.2, is.2), text),
     )
 shown UpperToPc funct3 last pc x three seven h =
-    let is = h.others.1 in (
+    let is = h.others.1 in
+    let text = shown_then _ _ _ _ _ (codes ", 0x") h h.piece.2 h.others.2 in (
       U (record { imm = h.others.0; rd = h.piece.0 }),
-      (
-        (h.piece.1, is.0, below_upper h.others.0 is.1 is.2, is.2),
-        shown_then _ _ _ _ _ (codes ", 0x") h h.piece.2 h.others.2,
-      ),
+      ((h.piece.1, is.0, below_upper h.others.0 is.1 is.2, is.2), text),
     )
 shown Branch funct3 last pc x three seven h =
     let o = h.others in
     let is = o.others.1 in
-    let rest = shown_then _ _ _ _ _ (codes ", 0x") o o.piece.2 o.others.2 in (
+    let rest = shown_then _ _ _ _ _ (codes ", 0x") o o.piece.2 o.others.2 in
+    let text = shown_then _ _ _ _ _ (codes ", ") h h.piece.2 rest in (
       B (record { imm = o.others.0; rs2 = o.piece.0; rs1 = h.piece.0; funct3 = funct3 }),
-      (
-        (three, h.piece.1, o.piece.1, is.0, below_even 4096 o.others.0 (omega arith) (omega arith) is.1 is.2, is.2),
-        refl,
-        shown_then _ _ _ _ _ (codes ", ") h h.piece.2 rest,
-      ),
+      ((three, h.piece.1, o.piece.1, is.0, below_even 4096 o.others.0 (omega arith) (omega arith) is.1 is.2, is.2), refl, text),
     )
 shown LoadFrom funct3 last pc x three seven h =
     let o = h.others in
-    let rest = shown_then _ _ _ _ _ (codes "(") o o.piece.3 (base_shown _ o.others) in (
+    let rest = shown_then _ _ _ _ _ (codes "(") o o.piece.3 (base_shown _ o.others) in
+    let text = shown_then _ _ _ _ _ (codes ", ") h h.piece.2 rest in (
       I (record { imm = o.piece.0; rs1 = o.others.piece.0; funct3 = funct3; rd = h.piece.0 }),
-      (
-        (h.piece.1, three, o.others.piece.1, o.piece.1, o.piece.2),
-        refl,
-        shown_then _ _ _ _ _ (codes ", ") h h.piece.2 rest,
-      ),
+      ((h.piece.1, three, o.others.piece.1, o.piece.1, o.piece.2), refl, text),
     )
 shown StoreTo funct3 last pc x three seven h =
     let o = h.others in
-    let rest = shown_then _ _ _ _ _ (codes "(") o o.piece.3 (base_shown _ o.others) in (
+    let rest = shown_then _ _ _ _ _ (codes "(") o o.piece.3 (base_shown _ o.others) in
+    let text = shown_then _ _ _ _ _ (codes ", ") h h.piece.2 rest in (
       S (record { imm = o.piece.0; rs2 = h.piece.0; rs1 = o.others.piece.0; funct3 = funct3 }),
-      (
-        (three, o.others.piece.1, h.piece.1, o.piece.1, o.piece.2),
-        refl,
-        shown_then _ _ _ _ _ (codes ", ") h h.piece.2 rest,
-      ),
+      ((three, o.others.piece.1, h.piece.1, o.piece.1, o.piece.2), refl, text),
     )
 shown Jump funct3 last pc x three seven h =
-    let is = h.others.1 in (
+    let is = h.others.1 in
+    let text = shown_then _ _ _ _ _ (codes ", 0x") h h.piece.2 h.others.2 in (
       J (record { imm = h.others.0; rd = h.piece.0 }),
-      (
-        (h.piece.1, is.0, below_even (2 ^ 20) h.others.0 (omega arith) (omega arith) is.1 is.2, is.2),
-        shown_then _ _ _ _ _ (codes ", 0x") h h.piece.2 h.others.2,
-      ),
+      ((h.piece.1, is.0, below_even (2 ^ 20) h.others.0 (omega arith) (omega arith) is.1 is.2, is.2), text),
     )
 shown JumpTo funct3 last pc x three seven h =
     let o = h.others in
-    let rest = shown_then _ _ _ _ _ (codes "(") o o.piece.3 (base_shown _ o.others) in (
+    let rest = shown_then _ _ _ _ _ (codes "(") o o.piece.3 (base_shown _ o.others) in
+    let text = shown_then _ _ _ _ _ (codes ", 0x") h h.piece.2 rest in (
       I (record { imm = o.piece.0; rs1 = o.others.piece.0; funct3 = funct3; rd = h.piece.0 }),
-      (
-        (h.piece.1, three, o.others.piece.1, o.piece.1, o.piece.2),
-        refl,
-        shown_then _ _ _ _ _ (codes ", 0x") h h.piece.2 rest,
-      ),
+      ((h.piece.1, three, o.others.piece.1, o.piece.1, o.piece.2), refl, text),
     )
 shown Alone funct3 last pc x three seven h = (
   I (record { imm = pos last; rs1 = 0; funct3 = funct3; rd = 0 }),

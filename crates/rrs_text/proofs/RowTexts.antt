@@ -1,40 +1,37 @@
 -- The texts of a row are its opening and its operands.
-use Rattle.std.proofs.Common.{◌≡◌, ℕ, ◌^◌, ◌<◌, ℤ, pos, neg_ℤ, ◌≤ℤ◌, List, [], ◌++◌, Some, refl, sym, ap, ◌∙◌, arith}
-use Rattle.std.specs.Prelude.{codes, ◌<ℤ◌}
+use Rattle.std.proofs.Common.{◌≡◌, ℕ, ◌^◌, ◌<◌, ℤ, pos, ◌≤ℤ◌, List, [], ◌++◌, Some, refl, sym, ap, ◌∙◌, arith}
+use Rattle.std.specs.Prelude.{◌<ℤ◌}
 use Rattle.std.proofs.lemmas.Int.{ints}
 use Rattle.std.proofs.lemmas.List.{append-nil, append_assoc}
 use Rattle.std.proofs.lemmas.Option.{same_Some}
-use Rattle.rrs_lib.specs.declared.instruction_formats.BType.{BType}
 use Rattle.rrs_lib.specs.Encodings.{Fields, R, I, IShamt, S, B, U, J, IsInRange, encode}
-use Rattle.rrs_lib.specs.Table.{Row, table, Constraint, Exactly, Absent, Meets, MeetsFuncts, MeetsOperands, format_of, Action, OnRegisters, OnImmediate, OnShamt, LoadUpper, AddUpperToPc, BranchIf, BranchUnless, Load, Store, JumpAndLink, JumpAndLinkRegister, NoEffect, CallEnvironment, Break}
-use Rattle.rrs_lib.specs.Results.{plus_immediate}
-use Rattle.rrs_lib.specs.Texts.{hexadecimal, name_of, register_and_word, branch_to, register_and_place, text_by}
+use Rattle.rrs_lib.specs.Table.{Row, table, Constraint, Exactly, Absent, Meets, MeetsFuncts, MeetsOperands, format_of}
+use Rattle.rrs_lib.specs.Table.{Action, OnRegisters, OnImmediate, OnShamt, LoadUpper, AddUpperToPc, BranchIf, BranchUnless, Load, Store, JumpAndLink, JumpAndLinkRegister, NoEffect, CallEnvironment, Break}
+use Rattle.rrs_lib.specs.Texts.{name_of, register_and_word, text_by}
 use Rattle.rrs_lib.proofs.Actions.{format_of_action, format_of_row}
-use Rattle.rrs_text.specs.declared.rows.Shape.TheVariants.{Branch, LoadFrom}
 use Rattle.rrs_text.specs.Assembling.{HasText}
-use Rattle.rrs_text.specs.Readers.{IsTarget}
 use Rattle.rrs_text.specs.Shapes.{shape_by, shape_of, opening_by, opening_of, funct_of, last_by, last_of, Shows, Texts}
 use Rattle.rrs_text.proofs.OperandTexts.{then_is, sum_with_zero}
 
 -- ---- from operands to the text
 
-text_shown : (a : Action) (row : Row) (funct3 last pc : ℕ) (x : List ℕ) (f : Fields) → Shows (shape_by a) funct3 last pc x f → text_by a row f pc ≡ Some (opening_by (shape_by a) (name_of row) ++ x)
-text_shown (OnRegisters op) row funct3 last pc x (R f) h = ap Some (simp append_assoc refl ∙ ap (λ (l : List ℕ). (name_of row ++ codes " ") ++ l) (sym h.3))
-text_shown (OnImmediate op) row funct3 last pc x (I f) h = ap Some (simp append_assoc refl ∙ ap (λ (l : List ℕ). (name_of row ++ codes " ") ++ l) (sym h.2))
-text_shown (OnShamt op) row funct3 last pc x (IShamt f) h = ap Some (simp append_assoc refl ∙ ap (λ (l : List ℕ). (name_of row ++ codes " ") ++ l) (sym h.3))
+text_shown : (a : Action) (row : Row) (funct3 last pc : ℕ) (x : List ℕ) (f : Fields)
+    → Shows (shape_by a) funct3 last pc x f → text_by a row f pc ≡ Some (opening_by (shape_by a) (name_of row) ++ x)
+text_shown (OnRegisters op) row funct3 last pc x (R f) h = ap Some (simp (append_assoc, h.3))
+text_shown (OnImmediate op) row funct3 last pc x (I f) h = ap Some (simp (append_assoc, h.2))
+text_shown (OnShamt op) row funct3 last pc x (IShamt f) h = ap Some (simp (append_assoc, h.3))
 text_shown LoadUpper row funct3 last pc x (U f) h = ap Some
-    (ap (λ w. register_and_word row f.rd w) (sum_with_zero f.imm) ∙ simp append_assoc refl
-    ∙ ap (λ (l : List ℕ). (name_of row ++ codes " ") ++ l) (sym h.1))
-text_shown AddUpperToPc row funct3 last pc x (U f) h = ap Some (simp append_assoc refl ∙ ap (λ (l : List ℕ). (name_of row ++ codes " ") ++ l) (sym h.1))
-text_shown (BranchIf test) row funct3 last pc x (B f) h = ap Some (simp append_assoc refl ∙ ap (λ (l : List ℕ). (name_of row ++ codes " ") ++ l) (sym h.2))
-text_shown (BranchUnless test) row funct3 last pc x (B f) h = ap Some (simp append_assoc refl ∙ ap (λ (l : List ℕ). (name_of row ++ codes " ") ++ l) (sym h.2))
-text_shown (Load n extended) row funct3 last pc x (I f) h = ap Some (simp append_assoc refl ∙ ap (λ (l : List ℕ). (name_of row ++ codes " ") ++ l) (sym h.2))
-text_shown (Store n) row funct3 last pc x (S f) h = ap Some (simp append_assoc refl ∙ ap (λ (l : List ℕ). (name_of row ++ codes " ") ++ l) (sym h.2))
-text_shown JumpAndLink row funct3 last pc x (J f) h = ap Some (simp append_assoc refl ∙ ap (λ (l : List ℕ). (name_of row ++ codes " ") ++ l) (sym h.1))
-text_shown JumpAndLinkRegister row funct3 last pc x (I f) h = ap Some (simp append_assoc refl ∙ ap (λ (l : List ℕ). (name_of row ++ codes " ") ++ l) (sym h.2))
-text_shown NoEffect row funct3 last pc x (I f) h = ap Some (sym (append-nil (name_of row)) ∙ ap (λ (l : List ℕ). name_of row ++ l) (sym h.5))
-text_shown CallEnvironment row funct3 last pc x (I f) h = ap Some (sym (append-nil (name_of row)) ∙ ap (λ (l : List ℕ). name_of row ++ l) (sym h.5))
-text_shown Break row funct3 last pc x (I f) h = ap Some (sym (append-nil (name_of row)) ∙ ap (λ (l : List ℕ). name_of row ++ l) (sym h.5))
+    (ap (λ w. register_and_word row f.rd w) (sum_with_zero f.imm) ∙ simp (append_assoc, h.1))
+text_shown AddUpperToPc row funct3 last pc x (U f) h = ap Some (simp (append_assoc, h.1))
+text_shown (BranchIf test) row funct3 last pc x (B f) h = ap Some (simp (append_assoc, h.2))
+text_shown (BranchUnless test) row funct3 last pc x (B f) h = ap Some (simp (append_assoc, h.2))
+text_shown (Load n extended) row funct3 last pc x (I f) h = ap Some (simp (append_assoc, h.2))
+text_shown (Store n) row funct3 last pc x (S f) h = ap Some (simp (append_assoc, h.2))
+text_shown JumpAndLink row funct3 last pc x (J f) h = ap Some (simp (append_assoc, h.1))
+text_shown JumpAndLinkRegister row funct3 last pc x (I f) h = ap Some (simp (append_assoc, h.2))
+text_shown NoEffect row funct3 last pc x (I f) h = ap Some (simp (append-nil, h.5))
+text_shown CallEnvironment row funct3 last pc x (I f) h = ap Some (simp (append-nil, h.5))
+text_shown Break row funct3 last pc x (I f) h = ap Some (simp (append-nil, h.5))
 text_shown _ row funct3 last pc x _ h = elim h [ ]
 
 meets : (c : Constraint) (n : ℕ) → n ≡ funct_of c → Meets c n
@@ -45,7 +42,8 @@ meets Absent n e = tt
 abbrev IsOfRow : Action → Constraint → Constraint → Fields → Type 0
 IsOfRow a c3 c7 f = (format_of f ≡ format_of_action a) × IsInRange f × MeetsFuncts c3 c7 f
 
-fields_shown : (a : Action) (c3 c7 : Constraint) (pc : ℕ) (x : List ℕ) (f : Fields) → Shows (shape_by a) (funct_of c3) (last_by a c7) pc x f → IsOfRow a c3 c7 f
+fields_shown : (a : Action) (c3 c7 : Constraint) (pc : ℕ) (x : List ℕ) (f : Fields)
+    → Shows (shape_by a) (funct_of c3) (last_by a c7) pc x f → IsOfRow a c3 c7 f
 fields_shown (OnRegisters op) c3 c7 pc x (R f) h = (refl, h.0, (meets c3 f.funct3 h.1, meets c7 f.funct7 h.2))
 fields_shown (OnImmediate op) c3 c7 pc x (I f) h = (refl, h.0, meets c3 f.funct3 h.1)
 fields_shown (OnShamt op) c3 c7 pc x (IShamt f) h = (refl, h.0, (meets c3 f.funct3 h.1, meets c7 f.funct7 h.2))
@@ -62,14 +60,19 @@ fields_shown CallEnvironment c3 c7 pc x (I f) h = (refl, h.0, meets c3 f.funct3 
 fields_shown Break c3 c7 pc x (I f) h = (refl, h.0, meets c3 f.funct3 h.1)
 fields_shown _ c3 c7 pc x _ h = elim h [ ]
 
+-- the text shows these fields as operands of the row
+abbrev pub ShowsOf : Row → ℕ → List ℕ → Fields → Type 0
+ShowsOf row = Shows (shape_of row) (funct_of (table row).funct3) (last_of row)
+
 -- the rows that fix their other fields are written with no operands
-operands_met : (row : Row) (pc : ℕ) (x : List ℕ) (f : Fields) → Shows (shape_of row) (funct_of (table row).funct3) (last_of row) pc x f → MeetsOperands (table row).operands f
+operands_met : (row : Row) (pc : ℕ) (x : List ℕ) (f : Fields) → ShowsOf row pc x f → MeetsOperands (table row).operands f
 operands_met Row.Ecall pc x (I f) h = (h.2, h.3, h.4)
 operands_met Row.Ebreak pc x (I f) h = (h.2, h.3, h.4)
 operands_met Row.Add pc x f h = tt
 operands_met _ pc x _ h = tt
 
-pub has_text : (row : Row) (pc : ℕ) (x : List ℕ) (f : Fields) → Shows (shape_of row) (funct_of (table row).funct3) (last_of row) pc x f → HasText pc (encode (table row).opcode f) (opening_of row ++ x)
+pub has_text : (row : Row) (pc : ℕ) (x : List ℕ) (f : Fields) → ShowsOf row pc x f
+    → HasText pc (encode (table row).opcode f) (opening_of row ++ x)
 has_text row pc x f h =
     let facts = fields_shown (table row).action (table row).funct3 (table row).funct7 pc x f h in
     record {
@@ -85,7 +88,7 @@ has_text row pc x f h =
       holds = text_shown (table row).action row (funct_of (table row).funct3) (last_of row) pc x f h;
     }
 
-pub fields_in_range : (row : Row) (pc : ℕ) (x : List ℕ) (f : Fields) → Shows (shape_of row) (funct_of (table row).funct3) (last_of row) pc x f → IsInRange f
+pub fields_in_range : (row : Row) (pc : ℕ) (x : List ℕ) (f : Fields) → ShowsOf row pc x f → IsInRange f
 fields_in_range row pc x f h = (fields_shown (table row).action (table row).funct3 (table row).funct7 pc x f h).1
 
 -- ---- from the text to operands
@@ -97,75 +100,45 @@ below : (imm : ℤ) (low high : ℕ) → imm ≤ℤ pos low → low < high → i
 below imm low high a b = omega (arith, ints, a, b)
 
 -- the text of the operands, which the row's text has behind its opening
-branch_parts : (row : Row) (pc : ℕ) (t : List ℕ) (f : BType) → IsInRange (B f) → branch_to row f pc ≡ t
-    → (x : List ℕ) × (t ≡ (name_of row ++ codes " ") ++ x) × Texts Branch pc x
-branch_parts row pc t f p e =
-    let target : IsTarget pc 4096 2 (hexadecimal 8 (plus_immediate pc f.imm)) =
-    (f.imm, (p.3, below f.imm 4094 4096 p.4 (omega arith), p.5), refl) in (
-      _,
-      sym e ∙ simp append_assoc refl,
-      then_is _ _ _ _ _ (f.rs1, p.1, refl) (then_is _ _ _ _ _ (f.rs2, p.2, refl) target),
-    )
-
-place_parts : (row : Row) (pc : ℕ) (t : List ℕ) (r : ℕ) (imm : ℤ) (base : ℕ) → r < 32 → base < 32
-    → neg_ℤ (pos 2048) ≤ℤ imm → imm ≤ℤ pos 2047 → register_and_place row r imm base ≡ t
-    → (x : List ℕ) × (t ≡ (name_of row ++ codes " ") ++ x) × Texts LoadFrom pc x
-place_parts row pc t r imm base a b low high e = (
-  _,
-  sym e ∙ simp append_assoc refl,
-  then_is _ _ _ _ _ (r, a, refl) (then_is _ _ _ _ _ (imm, low, high, refl) (then_is _ _ _ _ _ (base, b, refl) refl)),
-)
+named : (a : Action) (row : Row) (pc : ℕ) (s t x : List ℕ) → Some s ≡ Some t
+    → s ≡ opening_by (shape_by a) (name_of row) ++ x → Texts (shape_by a) pc x → Parts a row pc t
+named a row pc s t x e shown is = (x, sym (same_Some s t e) ∙ shown, is)
 
 parts : (a : Action) (row : Row) (pc : ℕ) (t : List ℕ) (f : Fields) → format_of f ≡ format_of_action a → IsInRange f
     → text_by a row f pc ≡ Some t → Parts a row pc t
-parts (OnRegisters op) row pc t (R f) k p e = (
-  _,
-  sym (same_Some _ t e) ∙ simp append_assoc refl,
-  then_is _ _ _ _ _ (f.rd, p.0, refl) (then_is _ _ _ _ _ (f.rs1, p.2, refl) (f.rs2, p.3, refl)),
-)
-parts (OnImmediate op) row pc t (I f) k p e = (
-  _,
-  sym (same_Some _ t e) ∙ simp append_assoc refl,
-  then_is _ _ _ _ _ (f.rd, p.0, refl) (then_is _ _ _ _ _ (f.rs1, p.2, refl) (f.imm, p.3, p.4, refl)),
-)
+parts (OnRegisters op) row pc t (R f) k p e = named (OnRegisters op) row pc _ t _ e (simp append_assoc refl)
+    (then_is _ _ _ _ _ (f.rd, p.0, refl) (then_is _ _ _ _ _ (f.rs1, p.2, refl) (f.rs2, p.3, refl)))
+parts (OnImmediate op) row pc t (I f) k p e = named (OnImmediate op) row pc _ t _ e (simp append_assoc refl)
+    (then_is _ _ _ _ _ (f.rd, p.0, refl) (then_is _ _ _ _ _ (f.rs1, p.2, refl) (f.imm, p.3, p.4, refl)))
 parts (OnShamt op) row pc t (IShamt f) k p e =
-    let small = p.3 in (
-      _,
-      sym (same_Some _ t e) ∙ simp append_assoc refl,
-      then_is _ _ _ _ _ (f.rd, p.0, refl)
-          (then_is _ _ _ _ _ (f.rs1, p.2, refl) (f.shamt, omega arith, omega (arith, small), refl)),
-    )
+    let small = p.3 in
+    named (OnShamt op) row pc _ t _ e (simp append_assoc refl) (then_is _ _ _ _ _ (f.rd, p.0, refl)
+    (then_is _ _ _ _ _ (f.rs1, p.2, refl) (f.shamt, omega arith, omega (arith, small), refl)))
 parts LoadUpper row pc t (U f) k p e =
-    let sum = ap (λ w. register_and_word row f.rd w) (sum_with_zero f.imm) in (
-      _,
-      sym (same_Some _ t e) ∙ sum ∙ simp append_assoc refl,
-      then_is _ _ _ _ _ (f.rd, p.0, refl) (f.imm, (p.1, below f.imm 2147479552 (2 ^ 31) p.2 (omega arith), p.3), refl),
-    )
-parts AddUpperToPc row pc t (U f) k p e = (
-  _,
-  sym (same_Some _ t e) ∙ simp append_assoc refl,
-  then_is _ _ _ _ _ (f.rd, p.0, refl) (f.imm, (p.1, below f.imm 2147479552 (2 ^ 31) p.2 (omega arith), p.3), refl),
-)
-parts (BranchIf test) row pc t (B f) k p e = branch_parts row pc t f p (same_Some _ t e)
-parts (BranchUnless test) row pc t (B f) k p e = branch_parts row pc t f p (same_Some _ t e)
-parts (Load n extended) row pc t (I f) k p e =
-    place_parts row pc t f.rd f.imm f.rs1 p.0 p.2 p.3 p.4 (same_Some _ t e)
-parts (Store n) row pc t (S f) k p e =
-    place_parts row pc t f.rs2 f.imm f.rs1 p.2 p.1 p.3 p.4 (same_Some _ t e)
-parts JumpAndLink row pc t (J f) k p e = (
-  _,
-  sym (same_Some _ t e) ∙ simp append_assoc refl,
-  then_is _ _ _ _ _ (f.rd, p.0, refl) (f.imm, (p.1, below f.imm 1048574 (2 ^ 20) p.2 (omega arith), p.3), refl),
-)
-parts JumpAndLinkRegister row pc t (I f) k p e = (
-  _,
-  sym (same_Some _ t e) ∙ simp append_assoc refl,
-  then_is _ _ _ _ _ (f.rd, p.0, refl)
-      (then_is _ _ _ _ _ (f.imm, p.3, p.4, refl) (then_is _ _ _ _ _ (f.rs1, p.2, refl) refl)),
-)
-parts NoEffect row pc t (I f) k p e = ([], sym (same_Some _ t e) ∙ sym (append-nil (name_of row)), refl)
-parts CallEnvironment row pc t (I f) k p e = ([], sym (same_Some _ t e) ∙ sym (append-nil (name_of row)), refl)
-parts Break row pc t (I f) k p e = ([], sym (same_Some _ t e) ∙ sym (append-nil (name_of row)), refl)
+    named LoadUpper row pc _ t _ e (ap (λ w. register_and_word row f.rd w) (sum_with_zero f.imm) ∙ simp append_assoc refl)
+    (then_is _ _ _ _ _ (f.rd, p.0, refl) (f.imm, (p.1, below f.imm 2147479552 (2 ^ 31) p.2 (omega arith), p.3), refl))
+parts AddUpperToPc row pc t (U f) k p e = named AddUpperToPc row pc _ t _ e (simp append_assoc refl)
+    (then_is _ _ _ _ _ (f.rd, p.0, refl) (f.imm, (p.1, below f.imm 2147479552 (2 ^ 31) p.2 (omega arith), p.3), refl))
+parts (BranchIf test) row pc t (B f) k p e = named (BranchIf test) row pc _ t _ e (simp append_assoc refl)
+    (then_is _ _ _ _ _ (f.rs1, p.1, refl) (then_is _ _ _ _ _ (f.rs2, p.2, refl)
+    (f.imm, (p.3, below f.imm 4094 4096 p.4 (omega arith), p.5), refl)))
+parts (BranchUnless test) row pc t (B f) k p e = named (BranchUnless test) row pc _ t _ e (simp append_assoc refl)
+    (then_is _ _ _ _ _ (f.rs1, p.1, refl) (then_is _ _ _ _ _ (f.rs2, p.2, refl)
+    (f.imm, (p.3, below f.imm 4094 4096 p.4 (omega arith), p.5), refl)))
+parts (Load n extended) row pc t (I f) k p e = named (Load n extended) row pc _ t _ e (simp append_assoc refl)
+    (then_is _ _ _ _ _ (f.rd, p.0, refl)
+    (then_is _ _ _ _ _ (f.imm, p.3, p.4, refl) (then_is _ _ _ _ _ (f.rs1, p.2, refl) refl)))
+parts (Store n) row pc t (S f) k p e = named (Store n) row pc _ t _ e (simp append_assoc refl)
+    (then_is _ _ _ _ _ (f.rs2, p.2, refl)
+    (then_is _ _ _ _ _ (f.imm, p.3, p.4, refl) (then_is _ _ _ _ _ (f.rs1, p.1, refl) refl)))
+parts JumpAndLink row pc t (J f) k p e = named JumpAndLink row pc _ t _ e (simp append_assoc refl)
+    (then_is _ _ _ _ _ (f.rd, p.0, refl) (f.imm, (p.1, below f.imm 1048574 (2 ^ 20) p.2 (omega arith), p.3), refl))
+parts JumpAndLinkRegister row pc t (I f) k p e = named JumpAndLinkRegister row pc _ t _ e (simp append_assoc refl)
+    (then_is _ _ _ _ _ (f.rd, p.0, refl)
+    (then_is _ _ _ _ _ (f.imm, p.3, p.4, refl) (then_is _ _ _ _ _ (f.rs1, p.2, refl) refl)))
+parts NoEffect row pc t (I f) k p e = named NoEffect row pc _ t [] e (sym (append-nil (name_of row))) refl
+parts CallEnvironment row pc t (I f) k p e = named CallEnvironment row pc _ t [] e (sym (append-nil (name_of row))) refl
+parts Break row pc t (I f) k p e = named Break row pc _ t [] e (sym (append-nil (name_of row))) refl
 parts _ row pc t _ k p e = absurd (cc)
 
 -- the text of a word is the opening of a row and operands of its shape

@@ -1,6 +1,7 @@
 -- Where texts that are put together stop, by where their parts do.
-use Rattle.std.proofs.Common.{◌≡◌, ◌≢◌, ℕ, suc, ◌≤◌, Bool, true, false, ◌==◌, if◌then◌else◌, List, [], ◌∷◌, ◌++◌, length, refl, sym, ap, subst, ◌∙◌, arith, eq-eqb}
-use Rattle.std.proofs.lemmas.Bool.{eqb-true}
+use Rattle.std.proofs.Common.{◌≡◌, ◌≢◌, inl, inr, ℕ, ◌≤◌, List, [], ◌∷◌, ◌++◌, length, refl, sym, ap, subst, ◌∙◌, arith, eq-eqb}
+use Rattle.std.proofs.lemmas.Bool.{ne_eqb}
+use Rattle.std.proofs.lemmas.Bool.Decides.{eqb_tells}
 use Rattle.std.proofs.lemmas.List.{append-nil, append_assoc, append_cancel_left}
 use Rattle.rrs_text.specs.Assembling.{common_length}
 use Rattle.rrs_text.specs.Readers.{BeginAlike, Stops, Fails, IsAny, FailsPiece, FailsLiteral, FailsBefore, ReadsBefore, IsRead, IsPastPiece, Then, IsEnd, CanFollow, BeginsOtherwise}
@@ -145,17 +146,12 @@ last_end Piece p text rest left read = behind _ _ _ _ p text rest left read.whol
     let same = read.settled (p ++ t) [] t is tt alike (sym (append-nil (p ++ t))) in
     append_cancel_left p t [] (same ∙ sym (append-nil p)))
 
--- more follows where nothing is to follow
-pub end_fails : (text : List ℕ) → text ≢ [] → Fails IsEnd text (length text)
-end_fails [] ne = absurd (ne refl)
-end_fails (c ∷ cs) ne = stops_here IsEnd IsEnd (c ∷ cs) [] refl (λ t alike e. subst (BeginAlike (c ∷ cs)) e alike)
-
 -- ---- texts of a piece, a separator and more
 
-pub then_first : (Piece : List ℕ → Type 0) (separator text : List ℕ) (left : ℕ) (Texts : List ℕ → Type 0)
+pub then_first : {Piece : List ℕ → Type 0} {separator text : List ℕ} {left : ℕ} {Texts : List ℕ → Type 0}
     → FailsBefore Piece separator text left → (t : List ℕ) × Texts t → Fails (Then Piece separator Texts) text left
-then_first Piece separator text left Texts fails some =
-    going_on _ _ _ _ text left
+then_first {separator = separator} fails some =
+    going_on _ _ _ _ _ _
     (λ p h.
     let whole = h.shown ∙ ap (λ (l : List ℕ). h.front ++ (separator ++ l)) h.others in
     let all : h.front ++ (separator ++ []) ≡ h.front ++ separator =
@@ -166,9 +162,9 @@ then_first Piece separator text left Texts fails some =
     fails
 
 -- they are there, and what follows is wrong
-pub then_rest : (Piece : List ℕ → Type 0) (separator p text rest : List ℕ) (left : ℕ) (Texts : List ℕ → Type 0)
+pub then_rest : {Piece : List ℕ → Type 0} {separator p text rest : List ℕ} {left : ℕ} {Texts : List ℕ → Type 0}
     → ReadsBefore Piece separator p text rest → Fails Texts rest left → Fails (Then Piece separator Texts) text left
-then_rest Piece separator p text rest left Texts read =
+then_rest {Piece = Piece} {separator = separator} {p = p} {text = text} {rest = rest} {left = left} {Texts = Texts} read =
     behind _ _ _ _ (p ++ separator) text rest left
     (read.whole ∙ sym (append_assoc p separator rest))
     (λ t is. record { front = p; back = t; piece = read.piece; others = is; shown = append_assoc p separator t })
@@ -180,23 +176,10 @@ then_rest Piece separator p text rest left Texts read =
 
 -- ---- how many bytes two texts have in common
 
--- two heads that are equal
-common-same : (x y : ℕ) (xs ys : List ℕ) → x ≡ y → common_length (x ∷ xs) (y ∷ ys) ≡ suc (common_length xs ys)
-common-same x y xs ys e =
-    let test : (x == y) ≡ true = eq-eqb x y e in
-    let P : Bool → ℕ = λ t. if t then suc (common_length xs ys) else 0 in
-    ap P test
-
--- behind what is equal the texts differ, or have more in common
-by_test : (t : Bool) (x y n : ℕ) → (x == y) ≡ t → (x ≡ y → n ≡ 0) → (if t then n else 0) ≡ 0
-by_test true x y n test none = none (eqb-true x y test)
-by_test false x y n test none = refl
-
 common-none : (a b : List ℕ) → (BeginAlike a b → ⊥) → common_length a b ≡ 0
 common-none [] b apart = refl
 common-none (x ∷ xs) [] apart = refl
-common-none (x ∷ xs) (y ∷ ys) apart = by_test (x == y) x y (suc (common_length xs ys)) refl
-    (λ same. absurd (apart same))
+common-none (x ∷ xs) (y ∷ ys) apart = rw (ne_eqb x y apart) refl
 
 -- a text has no more in common with one that does not go on alike than what was read, and all of
 -- that with one that does
@@ -205,17 +188,13 @@ pub common_within : (read rest other : List ℕ) → ((t : List ℕ) → BeginAl
 common_within [] rest other none = let zero = common-none rest other (λ alike. none other alike refl) in
     omega (arith, zero)
 common_within (c ∷ read) rest [] none = omega arith
-common_within (c ∷ read) rest (d ∷ other) none = by_head (c == d) refl
-    (λ same. common_within read rest other (λ t alike e. none t alike (cc)))
-  where
-    by_head : (t : Bool) → (c == d) ≡ t → (c ≡ d → common_length (read ++ rest) other ≤ length read)
-        → (if t then suc (common_length (read ++ rest) other) else 0) ≤ suc (length read)
-    by_head true test more = let there = more (eqb-true c d test) in omega (arith, there)
-    by_head false test more = omega arith
+common_within (c ∷ read) rest (d ∷ other) none = elim (eqb_tells c d) [
+  | inl same ↦
+      let there = common_within read rest other (λ t alike e. none t alike (cc)) in
+      rw (same.0) (omega (arith, there))
+  | inr apart ↦ rw (apart.0) (omega arith)
+]
 
 pub common_read : (read rest t : List ℕ) → length read ≤ common_length (read ++ rest) (read ++ t)
 common_read [] rest t = omega arith
-common_read (c ∷ read) rest t =
-    let more = common_read read rest t in
-    let here = common-same c c (read ++ rest) (read ++ t) refl in
-    omega (arith, more, here)
+common_read (c ∷ read) rest t = let more = common_read read rest t in rw (eq-eqb c c refl) (omega (arith, more))

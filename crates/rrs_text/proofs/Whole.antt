@@ -15,7 +15,7 @@ use Rattle.rrs_text.specs.Shapes.{Form, form_of_row, all_forms, opening_of, shap
 use Rattle.rrs_text.proofs.Stopping.{behind, going_on, common_within, common_read}
 use Rattle.rrs_text.proofs.Forms.{row_of_form, form_among, same_row, three_small, last_small}
 use Rattle.rrs_text.proofs.OperandTexts.{shown, some_text}
-use Rattle.rrs_text.proofs.RowTexts.{has_text, parts_of_text}
+use Rattle.rrs_text.proofs.RowTexts.{ShowsOf, has_text, parts_of_text}
 
 -- operands of a row's shape make a text of the row
 abbrev pub IsRest : Row → ℕ → List ℕ → Type 0
@@ -28,7 +28,8 @@ text_of_rest row pc x is =
     (_, has_text row pc x fields.0 fields.1)
 
 -- the text begins with no opening
-pub no_opening : (pc : ℕ) (text : List ℕ) (left : ℕ) → FailsOpenings all_forms text left → Fails (IsTextOfSome pc) text left
+pub no_opening : (pc : ℕ) (text : List ℕ) (left : ℕ) → FailsOpenings all_forms text left
+    → Fails (IsTextOfSome pc) text left
 no_opening pc text left = going_on _ _ _ _ text left
     (λ p h.
     let found = row_of_form h.0 h.1 in
@@ -47,7 +48,8 @@ no_opening pc text left = going_on _ _ _ _ text left
     ))
 
 -- it begins with the opening of this row, and its operands go wrong
-pub no_operands : (row : Row) (pc : ℕ) (text rest : List ℕ) (left : ℕ) → text ≡ opening_of row ++ rest → Fails (IsRest row pc) rest left → Fails (IsTextOfSome pc) text left
+pub no_operands : (row : Row) (pc : ℕ) (text rest : List ℕ) (left : ℕ) → text ≡ opening_of row ++ rest
+    → Fails (IsRest row pc) rest left → Fails (IsTextOfSome pc) text left
 no_operands row pc text rest left e = behind _ _ _ _ (opening_of row) text rest left e
     (λ t is. text_of_rest row pc t is)
     (λ t alike h.
@@ -59,46 +61,46 @@ no_operands row pc text rest left e = behind _ _ _ _ (opening_of row) text rest 
     subst (IsRest row pc) (sym (append_cancel_left (opening_of row) t made.1 shown)) here)
 
 -- the place as a byte
-pub furthest : (pc : ℕ) (text : List ℕ) (left : ℕ) → Fails (IsTextOfSome pc) text left → IsFurthest pc text (length text - left)
+pub furthest : (pc : ℕ) (text : List ℕ) (left : ℕ) → Fails (IsTextOfSome pc) text left
+    → IsFurthest pc text (length text - left)
 furthest pc text left fails =
     let place : length text - left ≡ length fails.read =
     (let whole = ap length fails.whole ∙ length-append fails.read fails.rest in let count = fails.count in
     omega (arith, whole, count)) in
+    let here : (other : List ℕ) → common_length text other ≡ common_length (fails.read ++ fails.rest) other =
+    λ other. ap (λ (l : List ℕ). common_length l other) fails.whole in
     let within : (other : List ℕ) → IsTextOfSome pc other → common_length text other ≤ length text - left =
     λ other is.
     let less = common_within fails.read fails.rest other
     (λ t alike e. fails.none t alike (subst (IsTextOfSome pc) e is)) in
-    let here : common_length text other ≡ common_length (fails.read ++ fails.rest) other =
-    ap (λ (l : List ℕ). common_length l other) fails.whole in
-    omega (arith, place, less, here)
+    omega (arith, place, less, here other)
     in
     let other : List ℕ = fails.read ++ fails.some.0 in
     let most = within other fails.some.1 in
     let least = common_read fails.read fails.rest fails.some.0 in
-    let here : common_length text other ≡ common_length (fails.read ++ fails.rest) other =
-    ap (λ (l : List ℕ). common_length l other) fails.whole in
     record {
       over = λ w other h. within other (w, h);
-      reached = (fails.some.1.0, other, fails.some.1.1, omega (arith, place, most, least, here));
+      reached = (fails.some.1.0, other, fails.some.1.1, omega (arith, place, most, least, here other));
     }
 
 -- ---- the word that is made
 
 pub assembled_text : (pc w : ℕ) (text : List ℕ) → IsAssembled pc text w → HasText pc w text
 assembled_text pc w text is =
-    subst (λ v. HasText pc v text) (sym is.encoded) (subst (λ (l : List ℕ). HasText pc (encode (table is.row).opcode is.fields) l) (sym is.whole) (has_text is.row pc is.rest is.fields is.shows))
+    rw (is.encoded, is.whole) (has_text is.row pc is.rest is.fields is.shows)
 
 -- a word with the same text is this one, or both are fence
 pub only_word : (pc v w : ℕ) (text : List ℕ) → HasText pc v text → HasText pc w text → AreOneOrFences v w
 only_word pc v w text first second = (words_faithful pc v w text text first second).0 refl
 
 fence_word : (pc : ℕ) (x : List ℕ) (f : Fields) → Shows Alone 0 255 pc x f → encode 0x0f f ≡ 0x0ff0000f
-fence_word pc x (I f) h = λ i. 0x0f + h.2 i * 2 ^ 7 + h.1 i * 2 ^ 12 + h.3 i * 2 ^ 15 + floor_mod (h.4 i) (2 ^ 12) * 2 ^ 20
+fence_word pc x (I f) h = rw (h.1, h.2, h.3, h.4) refl
 fence_word pc x f h = elim h [ ]
 
-fence_row : (row : Row) (pc : ℕ) (x : List ℕ) (f : Fields) → row ≡ Row.Fence → Shows (shape_of row) (funct_of (table row).funct3) (last_of row) pc x f → encode (table row).opcode f ≡ 0x0ff0000f
+fence_row : (row : Row) (pc : ℕ) (x : List ℕ) (f : Fields) → row ≡ Row.Fence → ShowsOf row pc x f
+    → encode (table row).opcode f ≡ 0x0ff0000f
 fence_row row pc x f e shows =
-    subst (λ r. Shows (shape_of r) (funct_of (table r).funct3) (last_of r) pc x f → encode (table r).opcode f ≡ 0x0ff0000f) (sym e) (fence_word pc x f) shows
+    subst (λ r. ShowsOf r pc x f → encode (table r).opcode f ≡ 0x0ff0000f) (sym e) (fence_word pc x f) shows
 
 -- of the words of fence it is this one
 pub fence_only : (pc w : ℕ) (text : List ℕ) → IsAssembled pc text w → text ≡ codes "fence" → w ≡ 0x0ff0000f

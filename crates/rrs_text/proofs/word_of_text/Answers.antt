@@ -13,8 +13,7 @@ use Rattle.rrs_text.proofs.word_of_text.Goals as goal
 
 pub returns-in_err-row : goal.returns-in_err-row
 returns-in_err-row c =
-    let h : Fails (IsTextOfSome c.args.pc) c.args.text.now c.in_err-row.field-0.0.left = no_opening c.args.pc _ _ c.in_err-row.ensures in
-    search rules
+    let h = no_opening c.args.pc c.args.text.now _ c.in_err-row.ensures in search rules
 
 pub fields_of-requires-clause-funct3 : goal.fields_of-requires-clause-funct3
 fields_of-requires-clause-funct3 c =
@@ -27,7 +26,8 @@ fields_of-requires-clause-last c =
     subst (λ (f : Form). f.4 < last_limit f.1) (sym found.1) (ltb-true _ _ (last_small found.0))
 
 -- the text as the row's opening and what follows
-begins : (form : Form) (row : Row) (text rest : List ℕ) → form ≡ form_of_row row → text ≡ form.0 ++ rest → text ≡ opening_of row ++ rest
+begins : (form : Form) (row : Row) (text rest : List ℕ) → form ≡ form_of_row row → text ≡ form.0 ++ rest
+    → text ≡ opening_of row ++ rest
 begins form row text rest same e = e ∙ ap (λ (f : Form). f.0 ++ rest) same
 
 pub returns-in_err-fields : goal.returns-in_err-fields
@@ -36,8 +36,8 @@ returns-in_err-fields c =
     let rest : Fails (IsRest found.0 c.args.pc) c.in_ok-row.rest.now c.in_err-fields.field-0.0.left =
     subst (λ (f : Form). Fails (Texts f.1 c.args.pc) c.in_ok-row.rest.now c.in_err-fields.field-0.0.left) found.1
     c.in_err-fields.ensures in
-    let h : Fails (IsTextOfSome c.args.pc) c.args.text.now c.in_err-fields.field-0.0.left =
-    no_operands found.0 c.args.pc c.args.text.now c.in_ok-row.rest.now _ (begins (form_of c.in_ok-row.row) found.0 _ _ found.1 c.in_ok-row.ensures.1) rest in
+    let h = no_operands found.0 c.args.pc c.args.text.now c.in_ok-row.rest.now _
+    (begins (form_of c.in_ok-row.row) found.0 _ _ found.1 c.in_ok-row.ensures.1) rest in
     search rules
 
 pub word_of-requires-clause-opcode : goal.word_of-requires-clause-opcode
@@ -48,8 +48,9 @@ word_of-requires-clause-opcode c =
 pub word_of-requires-clause-fields : goal.word_of-requires-clause-fields
 word_of-requires-clause-fields c =
     let found = row_of_form _ c.in_ok-row.ensures.0 in
-    let shows = subst (λ (f : Form). Shows f.1 f.3 f.4 c.args.pc c.in_ok-row.rest.now (as_fields c.in_ok-fields.fields)) found.1 c.in_ok-fields.ensures in
-    fields_in_range found.0 c.args.pc c.in_ok-row.rest.now (as_fields c.in_ok-fields.fields) shows
+    let fields = as_fields c.in_ok-fields.fields in
+    fields_in_range found.0 c.args.pc c.in_ok-row.rest.now fields
+    (subst (λ (f : Form). Shows f.1 f.3 f.4 c.args.pc c.in_ok-row.rest.now fields) found.1 c.in_ok-fields.ensures)
 
 pub returns : goal.returns
 returns c =
@@ -60,6 +61,7 @@ returns c =
       fields = fields;
       rest = c.in_ok-row.rest.now;
       whole = begins (form_of c.in_ok-row.row) found.0 _ _ found.1 c.in_ok-row.ensures.1;
-      shows = subst (λ (f : Form). Shows f.1 f.3 f.4 c.args.pc c.in_ok-row.rest.now fields) found.1 c.in_ok-fields.ensures;
+      shows =
+          subst (λ (f : Form). Shows f.1 f.3 f.4 c.args.pc c.in_ok-row.rest.now fields) found.1 c.in_ok-fields.ensures;
       encoded = c.word_of.ensures ∙ ap (λ (f : Form). encode f.2 fields) found.1;
     }

@@ -3,10 +3,11 @@ use Rattle.rrs_text.proofs.Digits.{answers, no_glyph, no_number, part_fits, no_c
 use Rattle.rrs_text.proofs.hexadecimal.+hexadecimal.Goals as goal
 
 pub returns-then-count-eq0 : goal.returns-then-count-eq0
-returns-then-count-eq0 t c = no_count _ _ _ c.args.count c.args.size c.args.low c.args.text.now c.if-count-eq0.true c.requires.size c.requires.some
+returns-then-count-eq0 t c = no_count _ _ _ _ _ c.args.low _ c.if-count-eq0.true c.requires.size c.requires.some
 
 pub returns-in_default : goal.returns-in_default
-returns-in_default t c = no_glyph _ _ _ c.args.count c.args.size c.args.low c.args.text.now c.if-count-eq0.false c.requires.size c.requires.some c.in_default.ensures
+returns-in_default t c =
+    no_glyph _ _ _ _ _ c.args.low _ c.if-count-eq0.false c.requires.size c.requires.some c.in_default.ensures
 
 pub has_any-requires-clause-words : goal.has_any-requires-clause-words
 has_any-requires-clause-words t c =
@@ -16,7 +17,8 @@ has_any-requires-clause-words t c =
 
 pub returns-then-not-has_any : goal.returns-then-not-has_any
 returns-then-not-has_any t c =
-    no_number _ _ _ c.args.count c.args.size c.args.low c.in-Some.digit c.args.text.now c.in-Some.rest.now c.if-count-eq0.false c.requires.size c.in-Some.ensures.0 c.in-Some.ensures.1 c.requires.some c.if-not-has_any.ensures
+    no_number _ _ _ _ _ c.args.low c.in-Some.digit _ _ c.if-count-eq0.false c.requires.size c.in-Some.ensures.0
+    c.in-Some.ensures.1 c.requires.some c.if-not-has_any.ensures
 
 pub hexadecimal-requires : goal.hexadecimal-requires
 hexadecimal-requires t c =
@@ -28,4 +30,5 @@ hexadecimal-requires t c =
 
 pub returns : goal.returns
 returns t c =
-    answers _ _ _ c.args.count c.args.size c.args.low c.in-Some.digit c.args.text.now c.in-Some.rest.now _ c.if-count-eq0.false c.requires.size c.in-Some.ensures.0 c.in-Some.ensures.1 c.hexadecimal.ensures
+    answers _ _ _ _ _ c.args.low c.in-Some.digit _ _ _ c.if-count-eq0.false c.requires.size c.in-Some.ensures.0
+    c.in-Some.ensures.1 c.hexadecimal.ensures

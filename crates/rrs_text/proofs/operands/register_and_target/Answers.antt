@@ -5,10 +5,7 @@ use Rattle.rrs_text.proofs.operands.register_and_target.Goals as goal
 
 pub returns-in_err-rd : goal.returns-in_err-rd
 returns-in_err-rd c =
-    let h = then_first _ _ _ _ _ c.in_err-rd.ensures (a_target c.args.base c.args.reach c.args.step c.requires) in
-    search rules
+    search (rules, then_first c.in_err-rd.ensures (a_target c.args.base c.args.reach c.args.step c.requires))
 
 pub returns-in_err-imm : goal.returns-in_err-imm
-returns-in_err-imm c =
-    let h = then_rest _ _ _ _ _ _ _ c.in_ok-rd.ensures.1 c.in_err-imm.ensures in
-    search rules
+returns-in_err-imm c = search (rules, then_rest c.in_ok-rd.ensures.1 c.in_err-imm.ensures)

@@ -1,22 +1,16 @@
 use Rattle.std.proofs.Common.{rules}
 use Rattle.std.specs.Fmt.{signed_decimal}
-use Rattle.rrs_text.specs.Readers.{FailsBefore, IsImmediate}
+use Rattle.rrs_text.specs.Readers.{IsImmediate}
 use Rattle.rrs_text.proofs.Stopping.{before_piece, before_separator, reads_before}
 use Rattle.rrs_text.proofs.OperandTexts.{immediate_pieces}
 use Rattle.rrs_text.proofs.readers.immediate_before.Goals as goal
 
 pub returns-in_err-imm : goal.returns-in_err-imm
-returns-in_err-imm c =
-    let h : FailsBefore IsImmediate c.args.wanted.now c.args.text.now c.in_err-imm.field-0.0.left =
-    before_piece _ _ _ _ c.requires c.in_err-imm.ensures in
-    search rules
+returns-in_err-imm c = search (rules, before_piece _ _ _ _ c.requires c.in_err-imm.ensures)
 
 pub returns-in_err-rest : goal.returns-in_err-rest
 returns-in_err-rest c =
-    let h : FailsBefore IsImmediate c.args.wanted.now c.args.text.now c.in_err-rest.field-0.0.left =
-    before_separator IsImmediate c.args.wanted.now (signed_decimal c.in_ok-imm.imm) _ _ _ c.requires
-    c.in_ok-imm.ensures.2 c.in_err-rest.ensures in
-    search rules
+    search (rules, before_separator _ _ _ _ _ _ c.requires c.in_ok-imm.ensures.2 c.in_err-rest.ensures)
 
 pub returns : goal.returns
 returns c =
