@@ -1,6 +1,7 @@
--- For proofs of programs that call their environment: a run that comes to an ecall is followed by its call, and by what follows that. So from a chain
--- that is known to be there, as by the clause `served` of `run_served`, a proof learns what the environment says of the calls, one after the other. It
--- asks nothing of the environment. docs/PROGRAMS.md shows how.
+-- For proofs of programs that call their environment: a run that comes to an ecall is followed by its call, and by
+-- what follows that. So from a chain that is known to be there, as by the clause `served` of `run_served`, a proof
+-- learns what the environment says of the calls, one after the other. It asks nothing of the environment.
+-- docs/PROGRAMS.md shows how.
 use Rattle.std.proofs.Common.{◌≡◌, ℕ, ◌+◌, ◌-◌, List, Option, Some, None, sym, subst, ap, ◌∙◌}
 use Rattle.std.proofs.lemmas.Option.{same_Some}
 use Rattle.std.specs.Prelude.{pos}
@@ -16,13 +17,17 @@ use Rattle.rrs_lib.proofs.Stepping.{RunUntil-unique}
 use Rattle.rrs_env.specs.Serving.{Relation, EndsBy, Called, Served, Last, Exits, GoesOn, resumed}
 
 module _ {E : Type 0} (serves : Relation E) where
-  -- What follows n steps to an ecall at pc, in the state u, within a limit: its call ends the program, or the chain goes on behind the ecall.
-  pub data Follows (ending : Ending) (e' : E) (t : State) (limit n pc : ℕ) (e : E) (u : State) (steps : ℕ) : Type 0 where
+  -- What follows n steps to an ecall at pc, in the state u, within a limit: its call ends the program, or the chain
+  -- goes on behind the ecall.
+  pub data Follows (ending : Ending) (e' : E) (t : State) (limit n pc : ℕ) (e : E) (u : State)
+      (steps : ℕ) : Type 0 where
     Ended : (status : ℕ) (of_call : List Access)
         → serves e u e' t of_call (Some status) → ending ≡ Exit status → steps ≡ n + 1
         → Follows ending e' t limit n pc e u steps
     WentOn : (d : E) (m : State) (of_call of_later : List Access) (later : ℕ)
-        → serves e u d m of_call None → Served serves ending e' t (limit - (n + 1)) d (with_pc m (word (pos (pc + 4)))) later of_later → steps ≡ n + 1 + later
+        → serves e u d m of_call None
+        → Served serves ending e' t (limit - (n + 1)) d (with_pc m (word (pos (pc + 4)))) later of_later
+        → steps ≡ n + 1 + later
         → Follows ending e' t limit n pc e u steps
 
   -- a call of the run that is known
@@ -34,9 +39,12 @@ module _ {E : Type 0} (serves : Relation E) where
     counted : steps ≡ n + 1
 
   call_of : (limit n pc : ℕ) (e d : E) (s u t : State) (steps : ℕ) (answer : Option ℕ) (accesses : List Access)
-      → RunUntil limit s n (Some (EnvironmentCall pc)) u → Called serves limit e s steps answer d t accesses → CallOf limit n pc e u steps answer d t
+      → RunUntil limit s n (Some (EnvironmentCall pc)) u → Called serves limit e s steps answer d t accesses
+      → CallOf limit n pc e u steps answer d t
   call_of limit n pc e d s u t steps answer accesses run c =
-      let same = RunUntil-unique one_row_at_most limit s c.before n (Some (EnvironmentCall c.pc)) (Some (EnvironmentCall pc)) c.at_call u c.run run in
+      let same =
+      RunUntil-unique one_row_at_most limit s c.before n (Some (EnvironmentCall c.pc))
+      (Some (EnvironmentCall pc)) c.at_call u c.run run in
       let call : EnvironmentCall c.pc ≡ EnvironmentCall pc = same_Some _ _ same.1 in
       let pcs : c.pc ≡ pc = cc in
       record {
@@ -55,8 +63,10 @@ module _ {E : Type 0} (serves : Relation E) where
       absurd (subst (λ x. EndsBy x ending) same.1 ends)
   follows ending e' t limit n pc e s u steps accesses run (Exits _ _ _ _ _ status called is) =
       let c = call_of limit n pc e e' s u t steps (Some status) accesses run called in
-      Ended status c.of_call (subst (λ x. serves e u e' x c.of_call (Some status)) (sym c.goes_on) c.served) is c.counted
+      Ended status c.of_call
+      (subst (λ x. serves e u e' x c.of_call (Some status)) (sym c.goes_on) c.served) is c.counted
   follows ending e' t limit n pc e s u _ _ run (GoesOn _ _ _ first later of_first of_later d m called rest) =
       let c = call_of limit n pc e d s u m first None of_first run called in
       let behind = subst (λ x. Served serves ending e' t (limit - first) d x later of_later) c.goes_on rest in
-      WentOn d c.after_call c.of_call of_later later c.served (subst (λ k. Served serves ending e' t (limit - k) d (with_pc c.after_call (word (pos (pc + 4)))) later of_later) c.counted behind) (ap (λ k. k + later) c.counted)
+      WentOn d c.after_call c.of_call of_later later c.served
+      (subst (λ k. Served serves ending e' t (limit - k) d (with_pc c.after_call (word (pos (pc + 4)))) later of_later) c.counted behind) (ap (λ k. k + later) c.counted)

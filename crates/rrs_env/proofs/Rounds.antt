@@ -1,5 +1,6 @@
 -- Chains of runs and calls: how they are made of rounds, and that one leads from each state where calls are determined.
-use Rattle.std.proofs.Common.{◌≡◌, ℕ, ◌+◌, ◌-◌, ◌≤◌, List, [], ◌++◌, Bool, Option, Some, None, refl, sym, subst, ap, ◌∙◌, append_assoc, arith}
+use Rattle.std.proofs.Common.{◌≡◌, ℕ, ◌+◌, ◌-◌, ◌≤◌, List, [], ◌++◌, Bool, Option, Some, None, refl, sym, subst, ap}
+use Rattle.std.proofs.Common.{◌∙◌, append_assoc, arith}
 use Rattle.std.proofs.lemmas.Option.{none-some, same_Some}
 use Rattle.rrs_lib.specs.declared.MemAccessSize.{MemAccessSize}
 use Rattle.rrs_lib.specs.declared.instruction_executor.InstructionException.{InstructionException}
@@ -12,7 +13,8 @@ use Rattle.rrs_lib.specs.Accesses.{Access, AccessesOfRun, answers_of_run, Makes,
 use Rattle.rrs_lib.proofs.Making.{Makes-append}
 use Rattle.rrs_lib.proofs.Rows.{one_row_at_most}
 use Rattle.rrs_lib.proofs.Stepping.{RunUntil-unique}
-use Rattle.rrs_env.specs.Serving.{Relation, resumed, EndsBy, Called, Served, Last, Exits, GoesOn, IsDetermined, MakesSome}
+use Rattle.rrs_env.specs.Serving.{Relation, resumed, EndsBy, Called, Served, Last, Exits, GoesOn, IsDetermined}
+use Rattle.rrs_env.specs.Serving.{MakesSome}
 
 -- ---- ends
 
@@ -26,22 +28,30 @@ EndsBy-unique _ a b p q = p ∙ sym q
 
 -- ---- rounds
 
-pub run_within : (limit : ℕ) (s t : State) (steps : ℕ) (x : Option InstructionException) → RunUntil limit s steps x t → steps ≤ limit
+pub run_within : (limit : ℕ) (s t : State) (steps : ℕ) (x : Option InstructionException) → RunUntil limit s steps x t
+    → steps ≤ limit
 run_within limit s t steps None run = omega (arith, run.0)
 run_within limit s t steps (Some e) run = omega (arith, run.0)
 
-module _ {E : Type 0} (serves : Relation E) {M : Type 0} (reads : M → ℕ → MemAccessSize → M → Option ℕ → Type 0) (writes : M → ℕ → MemAccessSize → ℕ → M → Bool → Type 0) where
+module _ {E : Type 0} (serves : Relation E) {M : Type 0} (reads : M → ℕ → MemAccessSize → M → Option ℕ → Type 0)
+    (writes : M → ℕ → MemAccessSize → ℕ → M → Bool → Type 0) where
   -- a run that no call follows
-  pub last_round : (limit : ℕ) (e : E) (s t : State) (steps : ℕ) (x : Option InstructionException) (ending : Ending) (m m' : M)
-      → RunUntil limit s steps x t → MakesExactly reads writes (AccessesOfRun s (answers_of_run steps x)) m m' → EndsBy x ending
+  pub last_round : (limit : ℕ) (e : E) (s t : State) (steps : ℕ) (x : Option InstructionException)
+      (ending : Ending) (m m' : M)
+      → RunUntil limit s steps x t → MakesExactly reads writes (AccessesOfRun s (answers_of_run steps x)) m m'
+      → EndsBy x ending
       → MakesSome reads writes (Served serves ending e t limit e s steps) m m'
   last_round limit e s t steps x ending m m' run exactly ends =
-      record { accesses = exactly.accesses; these = Last limit e s steps exactly.accesses x run exactly.these ends refl; made = exactly.made }
+      let these = Last limit e s steps exactly.accesses x run exactly.these ends refl in
+      record { accesses = exactly.accesses; these = these; made = exactly.made }
 
   -- a run and a call
-  pub call_round : (limit : ℕ) (e d : E) (s at_call after t : State) (before pc : ℕ) (x : Option InstructionException) (given answer : Option ℕ) (m m1 m2 : M)
-      → RunUntil limit s before x at_call → MakesExactly reads writes (AccessesOfRun s (answers_of_run before x)) m m1 → x ≡ Some (EnvironmentCall pc)
-      → MakesSome reads writes (λ a. serves e at_call d after a given) m1 m2 → given ≡ answer → t ≡ resumed answer pc after
+  pub call_round : (limit : ℕ) (e d : E) (s at_call after t : State) (before pc : ℕ) (x : Option InstructionException)
+      (given answer : Option ℕ) (m m1 m2 : M)
+      → RunUntil limit s before x at_call → MakesExactly reads writes (AccessesOfRun s (answers_of_run before x)) m m1
+      → x ≡ Some (EnvironmentCall pc)
+      → MakesSome reads writes (λ a. serves e at_call d after a given) m1 m2 → given ≡ answer
+      → t ≡ resumed answer pc after
       → MakesSome reads writes (Called serves limit e s (before + 1) answer d t) m m2
   call_round limit e d s at_call after t before pc x given answer m m1 m2 run exactly is served same goes = record {
     accesses = exactly.accesses ++ served.accesses;
@@ -64,33 +74,44 @@ module _ {E : Type 0} (serves : Relation E) {M : Type 0} (reads : M → ℕ → 
 
   -- a call that ends the program
   pub exit_round : (limit : ℕ) (e d : E) (s t : State) (steps status : ℕ) (m m' : M)
-      → MakesSome reads writes (Called serves limit e s steps (Some status) d t) m m' → MakesSome reads writes (Served serves (Exit status) d t limit e s steps) m m'
+      → MakesSome reads writes (Called serves limit e s steps (Some status) d t) m m'
+      → MakesSome reads writes (Served serves (Exit status) d t limit e s steps) m m'
   exit_round limit e d s t steps status m m' called =
-      record { accesses = called.accesses; these = Exits limit e s steps called.accesses status called.these refl; made = called.made }
+      let these = Exits limit e s steps called.accesses status called.these refl in
+      record { accesses = called.accesses; these = these; made = called.made }
 
   -- The rounds so far lead from the start to here: what follows from here follows from the start.
   pub record Reached (limit : ℕ) (e : E) (s : State) (m : M) (steps : ℕ) (d : E) (u : State) (k : M) : Type 0 where
     pub accesses : List Access
-    pub goes_on : (ending : Ending) (e' : E) (t : State) (later : ℕ) (b : List Access) → Served serves ending e' t (limit - steps) d u later b
+    pub goes_on : (ending : Ending) (e' : E) (t : State) (later : ℕ) (b : List Access)
+        → Served serves ending e' t (limit - steps) d u later b
         → Served serves ending e' t limit e s (steps + later) (accesses ++ b)
     pub made : Makes reads writes accesses m k
 
-  pub reached_more : (limit : ℕ) (e d d' : E) (s u u' : State) (m k k' : M) (steps first : ℕ) → Reached limit e s m steps d u k
-      → MakesSome reads writes (Called serves (limit - steps) d u first None d' u') k k' → Reached limit e s m (steps + first) d' u' k'
+  pub reached_more : (limit : ℕ) (e d d' : E) (s u u' : State) (m k k' : M) (steps first : ℕ)
+      → Reached limit e s m steps d u k
+      → MakesSome reads writes (Called serves (limit - steps) d u first None d' u') k k'
+      → Reached limit e s m (steps + first) d' u' k'
   reached_more limit e d d' s u u' m k k' steps first so_far called = record {
     accesses = so_far.accesses ++ called.accesses;
     goes_on = λ ending e' t later b served.
         let rest : limit - (steps + first) ≡ limit - steps - first = omega arith in
-        let next = GoesOn (limit - steps) d u first later called.accesses b d' u' called.these (subst (λ n. Served serves ending e' t n d' u' later b) rest served) in
+        let next =
+        GoesOn (limit - steps) d u first later called.accesses b d' u' called.these
+        (subst (λ n. Served serves ending e' t n d' u' later b) rest served) in
         let whole = so_far.goes_on ending e' t (first + later) (called.accesses ++ b) next in
         let sum : steps + (first + later) ≡ steps + first + later = omega arith in
-        let all : so_far.accesses ++ (called.accesses ++ b) ≡ (so_far.accesses ++ called.accesses) ++ b = sym (append_assoc so_far.accesses called.accesses b) in
-        subst (λ n. Served serves ending e' t limit e s n ((so_far.accesses ++ called.accesses) ++ b)) sum (subst (λ a. Served serves ending e' t limit e s (steps + (first + later)) a) all whole);
+        let all : so_far.accesses ++ (called.accesses ++ b) ≡ (so_far.accesses ++ called.accesses) ++ b =
+        sym (append_assoc so_far.accesses called.accesses b) in
+        subst (λ n. Served serves ending e' t limit e s n ((so_far.accesses ++ called.accesses) ++ b)) sum
+        (subst (λ a. Served serves ending e' t limit e s (steps + (first + later)) a) all whole);
     made = Makes-append reads writes so_far.accesses called.accesses m k k' so_far.made called.made;
   }
 
-  pub reached_end : (limit : ℕ) (e d e' : E) (s u t : State) (m k k' : M) (steps later : ℕ) (ending : Ending) → Reached limit e s m steps d u k
-      → MakesSome reads writes (Served serves ending e' t (limit - steps) d u later) k k' → MakesSome reads writes (Served serves ending e' t limit e s (steps + later)) m k'
+  pub reached_end : (limit : ℕ) (e d e' : E) (s u t : State) (m k k' : M) (steps later : ℕ) (ending : Ending)
+      → Reached limit e s m steps d u k
+      → MakesSome reads writes (Served serves ending e' t (limit - steps) d u later) k k'
+      → MakesSome reads writes (Served serves ending e' t limit e s (steps + later)) m k'
   reached_end limit e d e' s u t m k k' steps later ending so_far served = record {
     accesses = so_far.accesses ++ served.accesses;
     these = so_far.goes_on ending e' t later served.accesses served.these;
@@ -101,25 +122,34 @@ module _ {E : Type 0} (serves : Relation E) {M : Type 0} (reads : M → ℕ → 
 
 module _ {E : Type 0} (serves : Relation E) (determined : IsDetermined serves) where
   Called-unique : (limit : ℕ) (e d d' : E) (s t t' : State) (k k' : ℕ) (answer answer' : Option ℕ) (a a' : List Access)
-      → Called serves limit e s k answer d t a → Called serves limit e s k' answer' d' t' a' → (k ≡ k') × (answer ≡ answer') × (d ≡ d') × (t ≡ t')
+      → Called serves limit e s k answer d t a → Called serves limit e s k' answer' d' t' a'
+      → (k ≡ k') × (answer ≡ answer') × (d ≡ d') × (t ≡ t')
   Called-unique limit e d d' s t t' k k' answer answer' a a' c c' =
-      let same = RunUntil-unique one_row_at_most limit s c.before c'.before (Some (EnvironmentCall c.pc)) (Some (EnvironmentCall c'.pc)) c.at_call c'.at_call c.run c'.run in
+      let same =
+      RunUntil-unique one_row_at_most limit s c.before c'.before (Some (EnvironmentCall c.pc))
+      (Some (EnvironmentCall c'.pc)) c.at_call c'.at_call c.run c'.run in
       let call : EnvironmentCall c.pc ≡ EnvironmentCall c'.pc = same_Some _ _ same.1 in
       let pcs : c.pc ≡ c'.pc = cc in
       let served = subst (λ x. serves e x d c.after_call c.of_call answer) same.2 c.served in
-      let one = determined e d d' c'.at_call c.after_call c'.after_call c.of_call c'.of_call answer answer' served c'.served in
-      (c.counted ∙ ap (λ n. n + 1) same.0 ∙ sym c'.counted, one.3, one.0, c.goes_on ∙ (λ i. resumed (one.3 i) (pcs i) (one.1 i)) ∙ sym c'.goes_on)
+      let one =
+      determined e d d' c'.at_call c.after_call c'.after_call c.of_call c'.of_call answer answer' served c'.served in
+      let ends = c.goes_on ∙ (λ i. resumed (one.3 i) (pcs i) (one.1 i)) ∙ sym c'.goes_on in
+      (c.counted ∙ ap (λ n. n + 1) same.0 ∙ sym c'.counted, one.3, one.0, ends)
 
   -- a run that no call follows is none that one follows
-  last_or_call : (limit : ℕ) (e d : E) (s t u : State) (k k' : ℕ) (x : Option InstructionException) (ending : Ending) (answer : Option ℕ) (a : List Access)
+  last_or_call : (limit : ℕ) (e d : E) (s t u : State) (k k' : ℕ) (x : Option InstructionException) (ending : Ending)
+      (answer : Option ℕ) (a : List Access)
       → RunUntil limit s k x t → EndsBy x ending → Called serves limit e s k' answer d u a → ⊥
   last_or_call limit e d s t u k k' x ending answer a run ends c =
-      let same = RunUntil-unique one_row_at_most limit s k c.before x (Some (EnvironmentCall c.pc)) t c.at_call run c.run in
+      let same =
+      RunUntil-unique one_row_at_most limit s k c.before x (Some (EnvironmentCall c.pc)) t c.at_call run c.run in
       subst (λ y. EndsBy y ending) same.1 ends
 
-  pub Served-unique : (ending ending' : Ending) (d d' : E) (t t' : State) (limit : ℕ) (e : E) (s : State) (k k' : ℕ) (a a' : List Access)
-      → Served serves ending d t limit e s k a → Served serves ending' d' t' limit e s k' a' → (k' ≡ k) × (ending' ≡ ending) × (d' ≡ d) × (t' ≡ t)
-  Served-unique _ ending' _ _ _ _ limit e s k k' _ _ (Last _ _ _ _ _ x run _ ends same) (Last _ _ _ _ _ x' run' _ ends' same') =
+  pub Served-unique : (ending ending' : Ending) (d d' : E) (t t' : State) (limit : ℕ) (e : E) (s : State)
+      (k k' : ℕ) (a a' : List Access) → Served serves ending d t limit e s k a → Served serves ending' d' t' limit e s k' a'
+      → (k' ≡ k) × (ending' ≡ ending) × (d' ≡ d) × (t' ≡ t)
+  Served-unique _ ending' _ _ _ _ limit e s k k' _ _ (Last _ _ _ _ _ x run _ ends same)
+      (Last _ _ _ _ _ x' run' _ ends' same') =
       let one = RunUntil-unique one_row_at_most limit s k' k x' x _ _ run' run in
       (one.0, EndsBy-unique x ending' _ (subst (λ y. EndsBy y ending') one.1 ends') ends, same' ∙ sym same, one.2)
   Served-unique _ _ _ _ _ _ _ _ _ _ _ _ _ (Last _ _ _ _ _ x run _ ends _) (Exits _ _ _ _ _ _ c _) =
@@ -137,9 +167,11 @@ module _ {E : Type 0} (serves : Relation E) (determined : IsDetermined serves) w
       absurd (none-some _ (Called-unique _ _ _ _ _ _ _ _ _ _ _ _ _ c' c).1)
   Served-unique _ _ _ _ _ _ _ _ _ _ _ _ _ (GoesOn _ _ _ _ _ _ _ _ _ c _) (Exits _ _ _ _ _ _ c' _) =
       absurd (none-some _ (Called-unique _ _ _ _ _ _ _ _ _ _ _ _ _ c c').1)
-  Served-unique ending ending' d d' t t' limit e s _ _ _ _ (GoesOn _ _ _ first later b bl p m c rest) (GoesOn _ _ _ first' later' b' bl' p' m' c' rest') =
+  Served-unique ending ending' d d' t t' limit e s _ _ _ _ (GoesOn _ _ _ first later b bl p m c rest)
+      (GoesOn _ _ _ first' later' b' bl' p' m' c' rest') =
       let one = Called-unique limit e p' p s m' m first' first None None b' b c' c in
       let moved : Served serves ending' d' t' (limit - first) p m later' bl' =
-      subst (λ x. Served serves ending' d' t' (limit - first) p x later' bl') one.3 (subst (λ x. Served serves ending' d' t' (limit - first) x m' later' bl') one.2 (subst (λ n. Served serves ending' d' t' (limit - n) p' m' later' bl') one.0 rest')) in
+      subst (λ x. Served serves ending' d' t' (limit - first) p x later' bl') one.3
+      (subst (λ x. Served serves ending' d' t' (limit - first) x m' later' bl') one.2 (subst (λ n. Served serves ending' d' t' (limit - n) p' m' later' bl') one.0 rest')) in
       let tail = Served-unique ending ending' d d' t t' (limit - first) p m later later' bl bl' rest moved in
       (omega (arith, one.0, tail.0), tail.1, tail.2, tail.3)

@@ -6,7 +6,9 @@ use Rattle.rrs_env.proofs.Rounds.{reached_more, reached_end, Served-unique}
 use Rattle.rrs_env.proofs.run_served.Goals as goal
 
 -- where addresses end, by the first round
-ends_at : {X : Type 0} (aligned : X → Type 0) (ends : X → Type 0) (now start : X) (steps limit : ℕ) → (steps ≡ 0 → now ≡ start) → (0 < steps → aligned start → ends start) → (1 ≤ limit - steps → aligned now → ends now)
+ends_at : {X : Type 0} (aligned : X → Type 0) (ends : X → Type 0) (now start : X) (steps limit : ℕ)
+    → (steps ≡ 0 → now ≡ start) → (0 < steps → aligned start → ends start)
+    → (1 ≤ limit - steps → aligned now → ends now)
     → (steps ≡ 0 → 1 ≤ limit) → aligned start → ends start
 ends_at aligned ends now start steps limit at_start before by_round some even =
     elim (cases_lt 0 steps) as (λ _. ends start) [
@@ -22,7 +24,10 @@ rounds-preserved g c = record {
   reached = reached_more _ _ _ _ _ _ _ _ _ _ _ _ _ _ _ c.rounds.invariant.reached c.in-GoneOn.ensures.round;
   rest = KeepsTheRest-trans _ _ _ _ c.rounds.invariant.rest c.serve_next.ensures.rest;
   at_start = λ none. absurd (omega (arith, none, c.in-GoneOn.ensures.within.0));
-  ends = λ some. ends_at (λ x. x.hart_state.now.pc % 4 ≡ 0) (λ x. EndsAtLastAddress (g.M.Memory.bytes x.mem.now) (g.M.Memory.writable x.mem.now)) c.rounds.executor c.args.executor.now c.rounds.steps c.args.limit c.rounds.invariant.at_start c.rounds.invariant.ends c.serve_next.ensures.ends (λ first. omega (arith, c.in-GoneOn.ensures.within));
+  ends =
+      λ some. ends_at (λ x. x.hart_state.now.pc % 4 ≡ 0)
+      (λ x. EndsAtLastAddress (g.M.Memory.bytes x.mem.now) (g.M.Memory.writable x.mem.now)) _ _ _ c.args.limit
+      c.rounds.invariant.at_start c.rounds.invariant.ends c.serve_next.ensures.ends (λ first. omega (arith, c.in-GoneOn.ensures.within));
 }
 
 pub returns-in-Ended-clause-served : goal.returns-in-Ended-clause-served
@@ -31,8 +36,11 @@ returns-in-Ended-clause-served g c =
 
 pub returns-in-Ended-clause-only : goal.returns-in-Ended-clause-only
 returns-in-Ended-clause-only g c = λ determined steps ending d t a other.
-    Served-unique g.E.Environment.serves determined _ ending _ d _ t _ _ _ _ steps _ a (returns-in-Ended-clause-served g c).these other
+    Served-unique g.E.Environment.serves determined _ ending _ d _ t _ _ _ _ steps _ a
+    (returns-in-Ended-clause-served g c).these other
 
 pub returns-in-Ended-clause-ends : goal.returns-in-Ended-clause-ends
 returns-in-Ended-clause-ends g c = λ some.
-    ends_at (λ x. x.hart_state.now.pc % 4 ≡ 0) (λ x. EndsAtLastAddress (g.M.Memory.bytes x.mem.now) (g.M.Memory.writable x.mem.now)) c.rounds.executor c.args.executor.now c.rounds.steps c.args.limit c.rounds.invariant.at_start c.rounds.invariant.ends c.serve_next.ensures.ends (λ first. some)
+    ends_at (λ x. x.hart_state.now.pc % 4 ≡ 0)
+    (λ x. EndsAtLastAddress (g.M.Memory.bytes x.mem.now) (g.M.Memory.writable x.mem.now)) _ _ _ c.args.limit
+    c.rounds.invariant.at_start c.rounds.invariant.ends c.serve_next.ensures.ends (λ first. some)

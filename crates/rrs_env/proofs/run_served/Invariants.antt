@@ -14,7 +14,8 @@ invariant-rounds g l =
       reached : Reached g.E.Environment.serves memory.reads memory.writes l.fn.limit l.fn.environment (state l.fn.executor) l.fn.executor.mem.now l.steps l.environment (state l.executor) l.executor.mem.now;
       rest : KeepsTheRest memory.layout l.fn.executor l.executor;
       at_start : l.steps ≡ 0 → l.executor ≡ l.fn.executor;
-      ends : 0 < l.steps → l.fn.executor.hart_state.now.pc % 4 ≡ 0 → EndsAtLastAddress (memory.bytes l.fn.executor.mem.now) (memory.writable l.fn.executor.mem.now);
+      ends : 0 < l.steps → l.fn.executor.hart_state.now.pc % 4 ≡ 0
+          → EndsAtLastAddress (memory.bytes l.fn.executor.mem.now) (memory.writable l.fn.executor.mem.now);
     }
 
 abbrev pub decreases-rounds : goal.decreases-rounds
