@@ -152,7 +152,8 @@ zero_goes_on n c y small e =
 
 -- a digit too many
 pub longer_fails : (least limit v d : ℕ) (text rest following : List ℕ) → limit < 2 ^ 16 → least ≤ v → v ≤ limit
-    → d < 10 → text ≡ decimal v ++ rest → rest ≡ (48 + d) ∷ following → (v ≡ 0) ⊎ (limit < v * 10 + d) → FailsPiece (IsDecimal least limit) text (length rest)
+    → d < 10 → text ≡ decimal v ++ rest → rest ≡ (48 + d) ∷ following
+    → (v ≡ 0) ⊎ (limit < v * 10 + d) → FailsPiece (IsDecimal least limit) text (length rest)
 longer_fails least limit v d text rest following small low high digit e e' why = record {
   read = decimal v;
   rest = rest;

@@ -202,24 +202,16 @@ module _ (first total step : ℕ) where
       let multiple = each_step (λ s. gap ≡ (s - from % s) % s
       → (from + gap) % s ≡ 0) step kind (λ h. omega (arith, h)) (λ h. omega (arith, h))
       (λ h. omega (arith, h)) e' in
-      record {
-        least = omega arith;
-        most = omega arith;
-        among =
-            (omega (arith, at, short), ap (λ z. z % step) at ∙ multiple);
-      }
+      let steps = ap (λ z. z % step) at ∙ multiple in
+      record { least = omega arith; most = omega arith; among = (omega (arith, at, short), steps) }
 
   pub target_wraps : (low size from : ℕ) → first < 2 ^ 32 → 0 < total → IsStep step → low + size ≤ 2 ^ 32
       → from ≡ (low + (2 ^ 32 - first)) % 2 ^ 32 → 2 ^ 32 < from + size → Within low size (low + (2 ^ 32 - from))
   target_wraps low size from a some kind c e past =
       let at : (low + (2 ^ 32 - from) + (2 ^ 32 - first)) % 2 ^ 32 ≡ 0 = omega (arith, a, c, e, past) in
       let nothing = each_step (λ s. 0 % s ≡ 0) step kind refl refl refl in
-      record {
-        least = omega arith;
-        most = omega (arith, e, past);
-        among =
-            (omega (arith, at, some), ap (λ z. z % step) at ∙ nothing);
-      }
+      let steps = ap (λ z. z % step) at ∙ nothing in
+      record { least = omega arith; most = omega (arith, e, past); among = (omega (arith, at, some), steps) }
 
   pub no_target : (low size from gap : ℕ) → first < 2 ^ 32 → IsStep step → low + size ≤ 2 ^ 32
       → from ≡ (low + (2 ^ 32 - first)) % 2 ^ 32 → gap ≡ (step - from % step) % step

@@ -65,7 +65,8 @@ abbrev pub ShowsOf : Row → ℕ → List ℕ → Fields → Type 0
 ShowsOf row = Shows (shape_of row) (funct_of (table row).funct3) (last_of row)
 
 -- the rows that fix their other fields are written with no operands
-operands_met : (row : Row) (pc : ℕ) (x : List ℕ) (f : Fields) → ShowsOf row pc x f → MeetsOperands (table row).operands f
+operands_met : (row : Row) (pc : ℕ) (x : List ℕ) (f : Fields) → ShowsOf row pc x f
+    → MeetsOperands (table row).operands f
 operands_met Row.Ecall pc x (I f) h = (h.2, h.3, h.4)
 operands_met Row.Ebreak pc x (I f) h = (h.2, h.3, h.4)
 operands_met Row.Add pc x f h = tt

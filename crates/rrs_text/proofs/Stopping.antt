@@ -22,14 +22,8 @@ not_alike c (b ∷ text) (d ∷ t) x other alike e = other (let same : d ≡ c =
 -- the text stops here
 pub stops_here : (Starts Texts : List ℕ → Type 0) (text t : List ℕ) → Starts t
     → ((t : List ℕ) → BeginAlike text t → Texts t → ⊥) → Stops Starts Texts text (length text)
-stops_here Starts Texts text t is none = record {
-  read = [];
-  rest = text;
-  whole = refl;
-  count = refl;
-  some = (t, is);
-  none = none;
-}
+stops_here Starts Texts text t is none =
+    record { read = []; rest = text; whole = refl; count = refl; some = (t, is); none = none }
 
 -- it stops behind a text where the rest stops to be what can follow that
 pub behind : (Starts Texts Starts' Texts' : List ℕ → Type 0) (p text rest : List ℕ) (left : ℕ)
@@ -135,11 +129,13 @@ reads_before Piece (s ∷ ss) p text rest following can pieces read e = record {
       append_cancel_left ss h.back t same.1;
 }
 
-pub last_piece : (Piece : List ℕ → Type 0) (text : List ℕ) (left : ℕ) → FailsPiece Piece text left → Fails Piece text left
+pub last_piece : (Piece : List ℕ → Type 0) (text : List ℕ) (left : ℕ) → FailsPiece Piece text left
+    → Fails Piece text left
 last_piece Piece text left = behind _ _ _ _ [] text text left refl (λ t is. is)
     (λ t alike is. (t, [], is, tt, sym (append-nil t)))
 
-pub last_end : (Piece : List ℕ → Type 0) (p text rest : List ℕ) (left : ℕ) → IsRead Piece p text rest → Fails IsEnd rest left → Fails Piece text left
+pub last_end : (Piece : List ℕ → Type 0) (p text rest : List ℕ) (left : ℕ) → IsRead Piece p text rest
+    → Fails IsEnd rest left → Fails Piece text left
 last_end Piece p text rest left read = behind _ _ _ _ p text rest left read.whole
     (λ t e. subst Piece (sym (append-nil p) ∙ ap (λ (l : List ℕ). p ++ l) (sym e)) read.piece)
     (λ t alike is.
@@ -164,8 +160,8 @@ then_first {separator = separator} fails some =
 -- they are there, and what follows is wrong
 pub then_rest : {Piece : List ℕ → Type 0} {separator p text rest : List ℕ} {left : ℕ} {Texts : List ℕ → Type 0}
     → ReadsBefore Piece separator p text rest → Fails Texts rest left → Fails (Then Piece separator Texts) text left
-then_rest {Piece = Piece} {separator = separator} {p = p} {text = text} {rest = rest} {left = left} {Texts = Texts} read =
-    behind _ _ _ _ (p ++ separator) text rest left
+then_rest {Piece = Piece} {separator = separator} {p = p} {rest = rest} {Texts = Texts} read =
+    behind _ _ _ _ (p ++ separator) _ rest _
     (read.whole ∙ sym (append_assoc p separator rest))
     (λ t is. record { front = p; back = t; piece = read.piece; others = is; shown = append_assoc p separator t })
     (λ t alike h.

@@ -8,7 +8,8 @@ pub returns-in-Ok-clause-word : goal.returns-in-Ok-clause-word
 returns-in-Ok-clause-word c = assembled_text c.args.pc _ c.args.text.now c.in-Ok.ensures
 
 pub returns-in-Ok-clause-only : goal.returns-in-Ok-clause-only
-returns-in-Ok-clause-only c = λ v has. only_word c.args.pc v _ c.args.text.now has (assembled_text c.args.pc _ c.args.text.now c.in-Ok.ensures)
+returns-in-Ok-clause-only c = λ v has.
+    only_word c.args.pc v _ c.args.text.now has (assembled_text c.args.pc _ c.args.text.now c.in-Ok.ensures)
 
 pub returns-in-Ok-clause-fence : goal.returns-in-Ok-clause-fence
 returns-in-Ok-clause-fence c = λ e. ap Ok (fence_only c.args.pc _ c.args.text.now c.in-Ok.ensures e)

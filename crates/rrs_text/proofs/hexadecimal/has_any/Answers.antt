@@ -13,10 +13,13 @@ returns-then-from-gap c = (
       c.if-from-gap.true,
 )
 
-last_test : (first total step low size : ℕ) (test : Bool) → first < 2 ^ 32 → 0 < total → (step ≡ 1) ⊎ (step ≡ 2) ⊎ (step ≡ 4096) → low + size ≤ 2 ^ 32
+last_test : (first total step low size : ℕ) (test : Bool) → first < 2 ^ 32 → 0 < total
+    → (step ≡ 1) ⊎ (step ≡ 2) ⊎ (step ≡ 4096) → low + size ≤ 2 ^ 32
     → nat_lt (2 ^ 32) ((low + (2 ^ 32 - first)) % 2 ^ 32 + size) ≡ test
-    → (size ≤ (step - (low + (2 ^ 32 - first)) % 2 ^ 32 % step) % step) ⊎ (total ≤ (low + (2 ^ 32 - first)) % 2 ^ 32 + (step - (low + (2 ^ 32 - first)) % 2 ^ 32 % step) % step)
-    → MatchBool test ((y : ℕ) × IsWithin first total step low size y) ((y : ℕ) → IsWithin first total step low size y → ⊥)
+    → (size ≤ (step - (low + (2 ^ 32 - first)) % 2 ^ 32 % step) % step)
+    ⊎ (total ≤ (low + (2 ^ 32 - first)) % 2 ^ 32 + (step - (low + (2 ^ 32 - first)) % 2 ^ 32 % step) % step)
+    → MatchBool test ((y : ℕ) × IsWithin first total step low size y)
+    ((y : ℕ) → IsWithin first total step low size y → ⊥)
 last_test first total step low size true a some kind fits e far =
     (_, target_wraps first total step low size _ a some kind fits refl (ltb-true _ _ e))
 last_test first total step low size false a some kind fits e far =

@@ -27,16 +27,18 @@ returns-in_err-end c =
     (digits_read _ _ _ 8 0 c.in_ok-value.value c.args.text.now _ c.in_ok-value.ensures.0 c.in_ok-value.ensures.1)
     in
     let h : Fails (IsTarget c.args.base c.args.reach c.args.step) c.args.text.now c.in_err-end.field-0.0.left =
-    last_end (IsTarget c.args.base c.args.reach c.args.step) (digits_of 8 (c.in_ok-value.value - 0)) _ _ _ read c.in_err-end.ensures in
+    last_end _ (digits_of 8 (c.in_ok-value.value - 0)) _ _ _ read c.in_err-end.ensures in
     search rules
 
 pub returns : goal.returns
 returns c =
-    let made = target_from_digits c.args.base c.args.reach c.args.step c.in_ok-value.value (omega arith) c.requires c.in_ok-value.ensures.0 in
+    let made =
+    target_from_digits c.args.base c.args.reach c.args.step _ (omega arith) c.requires c.in_ok-value.ensures.0 in
     let read = c.in_ok-value.ensures.1 in
     let shown = read ∙ ap (λ (l : List ℕ). digits_of 8 (c.in_ok-value.value - 0) ++ l) c.in_ok-end.ensures
     ∙ append-nil (digits_of 8 (c.in_ok-value.value - 0)) ∙ made.2 in
-    let P : ℤ → Type 0 = λ z. IsOffset c.args.reach c.args.step z × (c.args.text.now ≡ hexadecimal 8 (plus_immediate c.args.base z)) in
+    let P : ℤ → Type 0 = λ z. IsOffset c.args.reach c.args.step z
+    × (c.args.text.now ≡ hexadecimal 8 (plus_immediate c.args.base z)) in
     let less = c.in_ok-value.ensures.0.among.0 in
     let far = c.requires.1 in
     let same = made.3 in
