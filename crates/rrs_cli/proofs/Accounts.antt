@@ -48,14 +48,8 @@ stopped_before limit n s m a b c _ below first last = last
 
 -- these and the ending
 with_ending : (limit : ℕ) (s : State) (steps : ℕ) (exception : Option InstructionException) (end : State) (xs ys : List ℕ) → PrintsUntil limit s steps exception end xs → ys ≡ ending_lines steps exception end → AccountOf limit s (xs ++ ys)
-with_ending limit s steps exception end xs ys p e = record {
-  steps = steps;
-  exception = exception;
-  end = end;
-  trace = xs;
-  prints = p;
-  whole = ap (λ l. xs ++ l) e;
-}
+with_ending limit s steps exception end xs ys p e =
+    record { steps = steps; exception = exception; end = end; trace = xs; prints = p; whole = ap (λ l. xs ++ l) e }
 
 -- the steps were stopped
 pub stopped_in_steps : (limit : ℕ) (s : State) (a b : Option (List ℕ)) (fault : RunFault) → StopsPrinting (λ _. ⊥) (PrintsToNext limit s) a b fault → StopsPrinting (PrintsRun limit s) (PartOfAccount limit s) a b fault

@@ -20,7 +20,7 @@ use std::io::{Read, Write};
 /// The number of words of the memory.
 pub const WORDS: usize = 16384;
 
-/// Runs the reader's bytes as a program, for `limit` steps or up to the first fault, and prints
+/// Runs the reader's bytes as a program, for `limit` steps or up to the first exception, and prints
 /// its account: each instruction before its step, how the run ended, and the registers.
 ///
 /// # Errors
@@ -51,7 +51,7 @@ pub fn simulate<R: Read, W: Write>(
     print_account(&mut executor, alloc, limit, out)
 }
 
-/// Makes steps up to the limit or the first fault, and prints the account of them.
+/// Makes steps up to the limit or the first exception, and prints the account of them.
 fn print_account<M: Memory, W: Write>(
     executor: &mut InstructionExecutor<M>,
     alloc: Global,
