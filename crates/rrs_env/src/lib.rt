@@ -1,6 +1,6 @@
 //! Runs of programs that call their environment.
 //!
-//! The hart takes no trap: at an `ecall` a run stops with the fault `EnvironmentCall(pc)`, and the
+//! The hart takes no trap: at an `ecall` a run stops with the exception `EnvironmentCall(pc)`. The
 //! caller serves the call and goes on. `run_served` is that loop, proved once, over any [Memory]
 //! and any [Environment]. The clauses speak of the machine as those of `run` do. What a served run
 //! is, a chain of runs and calls, is written in `specs/Serving.antt`.
@@ -27,12 +27,12 @@ use rrs_lib::instruction_executor::{InstructionException, InstructionExecutor};
 /// allows no second one (`IsDetermined`), a run that is served has one outcome too.
 pub trait Environment {
     /// What a call does: the environment and the machine before, both after, the accesses that the
-    /// call makes, in order, and its answer. The machine before stands at the `ecall`, with no
+    /// call makes, in order, and its answer. The machine before is at the `ecall`, with no
     /// register as the one written last. The machine after still has to go on to the next
     /// instruction.
     ghost serves: { Self → State → Self → State → List Access → Option ℕ → Type 0 };
 
-    /// Serves the call of a hart that stands at an `ecall`.
+    /// Serves the call of a hart that is at an `ecall`.
     ///
     /// The answer is `None` where the program goes on, or the status that it ended with. The pc
     /// needs no change: a program that goes on does so behind the `ecall`, whatever pc is left.
@@ -50,7 +50,7 @@ pub trait Environment {
 pub enum Ending {
     /// The limit was reached.
     Limit,
-    /// A step faulted that is no `ecall`: its fault. It is none of the steps that are counted.
+    /// A step ended with an exception that is no `ecall`. It is none of the steps that are counted.
     Fault(InstructionException),
     /// The environment ended the program, with this status. The pc is at the `ecall`, unless the
     /// environment changed it.
@@ -111,7 +111,7 @@ fn serve_next<M: Memory, E: Environment>(
     }
 }
 
-/// Makes steps until as many as `limit` were made, one faults, or the environment ends the program.
+/// Makes steps up to `limit`, to an exception, or until the environment ends the program.
 ///
 /// Steps are made as by `run`, over the cache that is lent. At an `ecall` the environment serves
 /// the call, once, and a program that goes on does so at the next instruction, pc + 4 modulo 2^32.
