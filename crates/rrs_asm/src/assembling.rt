@@ -180,10 +180,7 @@ fn read_unlabelled<'a>(
 /// A name, if a symbol can have it.
 fn checked_name(name: &[u8], error: LineError) -> Result<&[u8], LineError> {
     match name {
-        [] | [b'0'..=b'9', ..] => Err(LineError {
-            kind: SourceErrorKind::Character,
-            ..error
-        }),
+        [] | [b'0'..=b'9', ..] => Err(error.with_kind(SourceErrorKind::Character)),
         _ => Ok(name),
     }
 }
@@ -191,10 +188,7 @@ fn checked_name(name: &[u8], error: LineError) -> Result<&[u8], LineError> {
 /// The mistake where a word is followed by something that can't follow it.
 fn unexpected(word: &[u8], error: LineError) -> LineError {
     if word.is_empty() {
-        LineError {
-            kind: SourceErrorKind::Character,
-            ..error
-        }
+        error.with_kind(SourceErrorKind::Character)
     } else {
         error
     }
@@ -257,10 +251,7 @@ fn place(
 {
     let size = reading.size.saturating_add(statement.size());
     if size > MOST_BYTES || size as u64 + u64::from(base) > 1 << 32 {
-        return Err(Halt::Error(LineError {
-            kind: SourceErrorKind::TooLong,
-            ..start
-        }));
+        return Err(Halt::Error(start.with_kind(SourceErrorKind::TooLong)));
     }
     reading.size = size;
     if is_first {

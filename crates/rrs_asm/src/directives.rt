@@ -37,10 +37,7 @@ pub fn read_directive<'a>(
         Some(DirectiveForm::Constant) => read_constant(line).map_err(Halt::Error),
         Some(DirectiveForm::Names) => read_names(line).map_err(Halt::Error),
         Some(DirectiveForm::Text) => Ok(Directive::Nothing),
-        Some(DirectiveForm::Section) => Err(Halt::Error(LineError {
-            kind: SourceErrorKind::Section,
-            ..error
-        })),
+        Some(DirectiveForm::Section) => Err(Halt::Error(error.with_kind(SourceErrorKind::Section))),
         None => Err(Halt::Error(error)),
     }
 }
@@ -185,10 +182,7 @@ fn read_origin(line: &mut Line) -> Result<Statement, LineError> {
     if count as usize <= MOST_BYTES {
         Ok(Statement::Fill(count, 0))
     } else {
-        Err(LineError {
-            kind: SourceErrorKind::TooLong,
-            ..error
-        })
+        Err(error.with_kind(SourceErrorKind::TooLong))
     }
 }
 

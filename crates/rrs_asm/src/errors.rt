@@ -138,6 +138,13 @@ pub struct LineError {
     pub left: usize,
 }
 
+impl LineError {
+    /// Another error at the same place.
+    pub fn with_kind(self, kind: SourceErrorKind) -> LineError {
+        LineError { kind, ..self }
+    }
+}
+
 /// Why a statement is not read.
 #[derive(Clone, Copy)]
 pub enum Halt {

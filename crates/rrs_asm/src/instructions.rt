@@ -32,10 +32,7 @@ pub fn read_instruction(
     error: LineError,
 ) -> Result<Statement, LineError> {
     if line.here() % 4 != 0 {
-        return Err(LineError {
-            kind: SourceErrorKind::Misplaced,
-            ..error
-        });
+        return Err(error.with_kind(SourceErrorKind::Misplaced));
     }
     if let Some(template) = instruction_named(name) {
         return read_row(line, template);

@@ -217,10 +217,7 @@ impl<'a, 's> Line<'a, 's> {
         match word {
             [] => Err(error),
             [b'.'] => Ok(self.here),
-            [b'0'..=b'9', ..] => number_of(word).ok_or(LineError {
-                kind: SourceErrorKind::Number,
-                ..error
-            }),
+            [b'0'..=b'9', ..] => number_of(word).ok_or(error.with_kind(SourceErrorKind::Number)),
             _ => self.known(self.symbols.value_of(word), is_known, error),
         }
     }
@@ -315,10 +312,7 @@ impl<'a, 's> Line<'a, 's> {
         let offset = self.value()?.wrapping_sub(self.here).cast_signed();
         let fits = -reach <= offset && offset < reach;
         let offset = self.fitting(offset, 0, fits, error)?;
-        let unaligned = LineError {
-            kind: SourceErrorKind::Unaligned,
-            ..error
-        };
+        let unaligned = error.with_kind(SourceErrorKind::Unaligned);
         self.fitting(offset, 0, offset.rem_euclid(2) == 0, unaligned)
     }
 
