@@ -1,9 +1,8 @@
--- Statements one after another: one more, and words one after another.
+-- Statements one after another: one more.
 use Rattle.std.proofs.Common.{◌≡◌, ℕ, ◌+◌, ◌++◌, List, [], ◌∷◌, length, refl, arith}
 use Rattle.std.proofs.lemmas.Grind.{common_steps}
-use Rattle.rrs_instruction.specs.declared.instruction.Instruction.{Instruction}
 use Rattle.rrs_asm.specs.declared.output.Placed.{Placed}
-use Rattle.rrs_asm.specs.Statements.{AreWords, AreBytes, LaysOut}
+use Rattle.rrs_asm.specs.Statements.{AreBytes, LaysOut}
 
 -- one more statement behind the others
 pub LaysOut-append : (base : ℕ) (ps : List Placed) (p : Placed) (bytes own : List ℕ)
@@ -16,17 +15,9 @@ LaysOut-append base (q ∷ qs) p bytes own (first, rest, at, firsts, laid, whole
   rest ++ own,
   at,
   firsts,
-  LaysOut-append (base + length first) qs p rest own laid
-      (grind (arith, common_steps)) are,
+  LaysOut-append (base + length first) qs p rest own laid (grind (arith, common_steps)) are,
   grind (arith, common_steps),
 )
-
--- the words of one instruction, and then of others
-pub AreWords-append : (is js : List Instruction) (xs ys : List ℕ)
-    → AreWords is xs → AreWords js ys → AreWords (is ++ js) (xs ++ ys)
-AreWords-append [] js xs ys none others = rw (none) others
-AreWords-append (i ∷ is) js xs ys (w, rest, word, words, whole) others =
-    (w, rest ++ ys, word, AreWords-append is js rest ys words others, grind (arith, common_steps))
 
 -- the same, where the lists are known by equations
 pub LaysOut-place : (base : ℕ) (ps qs : List Placed) (p : Placed) (xs ys : List ℕ)
@@ -35,11 +26,3 @@ pub LaysOut-place : (base : ℕ) (ps qs : List Placed) (p : Placed) (xs ys : Lis
     → LaysOut base ps xs → LaysOut base qs ys
 LaysOut-place base ps qs p xs ys address (own, are, bytes) placed laid =
     rw placed (rw bytes (LaysOut-append base ps p xs own laid address are))
-
--- the words of one list of instructions behind those of another, where the lists are known so
-pub AreWords-behind : (is js : List Instruction) (xs ys zs : List ℕ)
-    → ((own : List ℕ) × AreWords is own × (ys ≡ xs ++ own))
-    → ((own : List ℕ) × AreWords js own × (zs ≡ ys ++ own))
-    → (own : List ℕ) × AreWords (is ++ js) own × (zs ≡ xs ++ own)
-AreWords-behind is js xs ys zs (first, firsts, e) (second, seconds, f) =
-    (first ++ second, AreWords-append is js first second firsts seconds, grind (arith, common_steps))
