@@ -19,7 +19,7 @@ pub enum SourceErrorKind {
     Number,
     /// A value is outside of the range that the instruction or the directive takes.
     Range,
-    /// An offset is odd, or an address is no multiple of what the directive asks.
+    /// An offset is odd, or an address is not a multiple of what the directive asks.
     Unaligned,
     /// There is no comma where one is wanted.
     Comma,
@@ -43,7 +43,7 @@ pub enum SourceErrorKind {
     Section,
     /// `.org` goes back.
     Backward,
-    /// An instruction would stand at an address that is no multiple of 4.
+    /// The address of an instruction is misaligned.
     Misplaced,
     /// The bytes are more than `MOST_BYTES`, or go past the end of addresses.
     TooLong,
@@ -70,7 +70,7 @@ impl fmt::Display for SourceErrorKind {
             SourceErrorKind::Reserved => "the name of a register can't be a symbol",
             SourceErrorKind::Section => "there is one section only",
             SourceErrorKind::Backward => "the address goes back",
-            SourceErrorKind::Misplaced => "an instruction at an address that is no multiple of 4",
+            SourceErrorKind::Misplaced => "the address of an instruction is misaligned",
             SourceErrorKind::TooLong => "the program is too long",
         })
     }

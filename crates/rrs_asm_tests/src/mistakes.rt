@@ -49,11 +49,7 @@ static MISTAKES: [(&str, usize, usize, SourceErrorKind); 36] = [
 #[test]
 fn mistakes_are_told_with_their_places(rt: HostRuntime) -> Result<(), Fail> {
     for &(text, line, column, kind) in &MISTAKES {
-        let expected = SourceError {
-            line,
-            column,
-            kind,
-        };
+        let expected = SourceError { line, column, kind };
         same_mistakes(&rt, rt.alloc(), text, 0, &[expected])?;
     }
     Ok(())

@@ -23,7 +23,7 @@ pub record IsAccess (a : RrsAccess) : Type 0 where
   pub none : a.kind ≡ 0 → (a.address ≡ 0) × (a.size ≡ 0)
   pub value : a.kind ≢ 2 → a.value ≡ 0
 
--- the fault, or what is asked
+-- the exception, or what is asked
 abbrev pub asked_or : Option DataRequest → Option InstructionException → RequestAnswer
 asked_or request None = Ok request
 asked_or request (Some e) = Err e

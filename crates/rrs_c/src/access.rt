@@ -9,11 +9,11 @@ use rrs_lib::MemAccessSize;
 use rrs_lib::instruction_executor::InstructionException;
 use rrs_trace::DataRequest;
 
-/// What an instruction asks of memory, or the fault before it asks.
+/// What an instruction asks of memory, or the exception before it asks.
 #[repr(C)]
 #[derive(Clone, Copy)]
 pub struct RrsAccess {
-    /// The fault, kind 0 where there is none.
+    /// The exception, kind 0 where there is none.
     pub fault: RrsFault,
     /// 0: nothing, 1: a load, 2: a store.
     pub kind: u32,
@@ -57,7 +57,7 @@ fn access_of(request: Option<DataRequest>) -> RrsAccess
     }
 }
 
-/// What an instruction asks, or the fault before it asks.
+/// What an instruction asks, or the exception before it asks.
 #[inline]
 pub(crate) fn access_or_fault(
     answer: Result<Option<DataRequest>, InstructionException>,

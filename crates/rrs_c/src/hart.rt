@@ -24,7 +24,7 @@ pub struct RrsHart {
 #[repr(C)]
 #[derive(Clone, Copy)]
 pub struct RrsFault {
-    /// 0: no fault, 1: illegal instruction, 2: fetch, 3: load access, 4: store access, 5:
+    /// 0: no exception, 1: illegal instruction, 2: fetch, 3: load access, 4: store access, 5:
     /// alignment, 6: environment call, 7: breakpoint.
     pub kind: u32,
     /// The pc, or of a load or a store the data address.
@@ -37,9 +37,9 @@ pub struct RrsFault {
 #[repr(C)]
 #[derive(Clone, Copy)]
 pub struct RrsEnd {
-    /// How many steps were made. The one that faulted is not counted.
+    /// How many steps were made. The one that raised an exception is not counted.
     pub steps: u64,
-    /// The fault that ended the run, kind 0 where none did.
+    /// The exception that ended the run, kind 0 where none did.
     pub fault: RrsFault,
     /// 1 where it ended at a stop, else 0.
     pub at_stop: u32,
@@ -87,7 +87,7 @@ pub(crate) fn close(state: &HartState, hart: &mut RrsHart)
     hart.last = number_of(state.last_register_write);
 }
 
-/// The fault that an exception is, or none.
+/// How C sees an exception, or none.
 #[inline]
 pub(crate) fn fault_of(exception: Option<InstructionException>) -> RrsFault
     ensures same { exception_of result ≡ exception }
@@ -110,7 +110,7 @@ pub(crate) fn fault_of(exception: Option<InstructionException>) -> RrsFault
     }
 }
 
-/// The fault that an exception is, out of the way of the steps that go on.
+/// How C sees an exception, out of the way of the steps that go on.
 #[cold]
 #[inline(never)]
 fn fault_of_exception(exception: InstructionException) -> RrsFault
@@ -120,7 +120,7 @@ fn fault_of_exception(exception: InstructionException) -> RrsFault
     fault_of(Some(exception))
 }
 
-/// The fault that the answer of a step is, or none.
+/// The exception that the answer of a step is, or none.
 #[inline]
 pub(crate) fn fault_of_answer(answer: Result<(), InstructionException>) -> RrsFault
     ensures same { answer_of result ≡ answer }

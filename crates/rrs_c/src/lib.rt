@@ -55,7 +55,7 @@ pub extern "C" fn rrs_version() -> u32
     VERSION
 }
 
-/// Executes the instruction at the pc, and returns its fault, kind 0 where there is none.
+/// Executes the instruction at the pc, and returns its exception, kind 0 where there is none.
 #[unsafe(no_mangle)]
 pub extern "C" fn rrs_step(hart: &mut RrsHart, words: &mut [u32], base: u32) -> RrsFault
     ensures step { Step (state_in_c hart.old base words.old)
@@ -77,7 +77,7 @@ pub extern "C" fn rrs_step(hart: &mut RrsHart, words: &mut [u32], base: u32) -> 
     fault_of_answer(end.answer)
 }
 
-/// Makes steps until as many as `limit` were made, or one faults.
+/// Makes steps until as many as `limit` were made, or one raises an exception.
 #[unsafe(no_mangle)]
 pub extern "C" fn rrs_run(hart: &mut RrsHart, words: &mut [u32], base: u32, limit: u64) -> RrsEnd
     ensures run { RunUntil limit (state_in_c hart.old base words.old)
@@ -96,7 +96,7 @@ pub extern "C" fn rrs_run(hart: &mut RrsHart, words: &mut [u32], base: u32, limi
     end_of_run(end)
 }
 
-/// Makes steps until the pc is a stop, as many as `limit` were made, or one faults.
+/// Makes steps until the pc is a stop, as many as `limit` were made, or one raises an exception.
 #[unsafe(no_mangle)]
 pub extern "C" fn rrs_run_until(
     hart: &mut RrsHart,
@@ -176,7 +176,7 @@ pub extern "C" fn rrs_disassemble(word: u32, pc: u32, buffer: &mut [u8]) -> usiz
     text.len()
 }
 
-/// The load or the store that the instruction `word` asks for, the word at the pc, or the fault
+/// The load or the store that the instruction `word` asks for, the word at the pc, or the exception
 /// before it asks. Nothing changes.
 #[unsafe(no_mangle)]
 pub extern "C" fn rrs_request(hart: &RrsHart, word: u32) -> RrsAccess

@@ -16,7 +16,7 @@ pub struct RrsRetired {
     pub insn: u32,
     /// 1 where a word was fetched, else 0.
     pub fetched: u32,
-    /// 1 where the step faulted, else 0.
+    /// 1 where the step raised an exception, else 0.
     pub trap: u32,
     /// The pc before.
     pub pc_rdata: u32,

@@ -29,7 +29,7 @@ one_more_printed n s m t a b c first last step =
     (λ xs ys p q. let P : ℕ → Type 0 = λ k. PrintsOk k s t (xs ++ ys) in subst P (sym (add-one n)) (m, xs, ys, p, q, step, refl))
     first last
 
--- the step that faults
+-- the step that raises an exception
 pub fault_printed : (limit n : ℕ) (s m t : State) (e : InstructionException) (a b c : Option (List ℕ)) → n < limit → AppendsLines (PrintsOk n s m) a b → AppendsLines (LinesBefore m) b c → Step m t (Err e) → AppendsLines (PrintsUntil limit s n (Some e) t) a c
 fault_printed limit n s m t e a b c below first last step =
     appends_after (PrintsOk n s m) (LinesBefore m) (PrintsUntil limit s n (Some e) t) a b c

@@ -1,5 +1,5 @@
 -- What is printed of a run: a line for each instruction before its step, then how the run ended,
--- and then the registers. And what a fault says of the reader and of the output.
+-- and then the registers. And what an error says of the reader and of the output.
 use Rattle.std.specs.Prelude.{◌≡◌, ◌⊎◌, ℕ, zero, suc, ◌<◌, List, [], ◌++◌, Option, Some, None, Ok, Err}
 use Rattle.rrs_lib.specs.declared.instruction_executor.InstructionException.{InstructionException}
 use Rattle.rrs_lib.specs.Encodings.{Fields}
@@ -38,7 +38,7 @@ PrintsOk (suc n) s t lines =
     × Step m t (Ok tt) × (lines ≡ first ++ last)
 
 -- From s the machine makes `steps` steps that are Ok, and then either these are as many as the
--- limit, or the next step faults. These lines are printed before the steps.
+-- limit, or the next step raises an exception. These lines are printed before the steps.
 abbrev pub PrintsUntil : ℕ → State → ℕ → Option InstructionException → State → List ℕ → Type 0
 PrintsUntil limit s steps None t lines = (steps ≡ limit) × PrintsOk steps s t lines
 PrintsUntil limit s steps (Some e) t lines =

@@ -45,7 +45,7 @@ StopsLoad input rest Output = ⊥
 
 -- What stops printing, by the output's bytes before and after it, where these are known. Out of
 -- memory, nothing but the lines that were done is printed. After a write that failed, a beginning
--- of those that were to be written stands there.
+-- of those that were to be written is there.
 abbrev pub StopsPrinting : (List ℕ → Type 0) → (List ℕ → Type 0)
     → Option (List ℕ) → Option (List ℕ) → RunFault → Type 0
 StopsPrinting AreDone AreToWrite before after OutOfMemory = AppendsLines AreDone before after
@@ -57,8 +57,8 @@ StopsPrinting AreDone AreToWrite before after Output =
 -- What stops a run, by the bytes of the reader and of the output before and after it. Where the
 -- memory can't be made, nothing is read or printed, and where the load was stopped nothing is
 -- printed. Otherwise the reader was read to its end: out of memory then, for the text of how the
--- run ended, just what is printed while the run is made stands there, and after a write that failed
--- a beginning of the account.
+-- run ended, just what is printed while the run is made is there, and after a write that failed a
+-- beginning of the account.
 abbrev pub StopsRunOf : (State → List ℕ → Type 0) → (State → List ℕ → Type 0)
     → Option (List ℕ) → Option (List ℕ)
     → Option (List ℕ) → Option (List ℕ) → RunFault → Type 0

@@ -10,7 +10,7 @@ use Rattle.rrs_lib.specs.FaultTexts.{exception_text}
 abbrev pub instruction_line : ℕ → List ℕ → List ℕ
 instruction_line pc text = codes "0x" ++ (hexadecimal 8 pc ++ (codes ": " ++ (text ++ 10 ∷ [])))
 
--- why a run ended: its limit, or a fault
+-- why a run ended: its limit, or an exception
 abbrev pub reason_text : Option InstructionException → List ℕ
 reason_text None = codes "end: limit"
 reason_text (Some exception) = codes "end: " ++ exception_text exception

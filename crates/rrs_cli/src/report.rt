@@ -1,9 +1,9 @@
 //! The lines that are printed of a run.
 //!
-//! Each text is made in memory first and then written, so that what stands in the output is known
-//! after a failure too: nothing of a text that could not be made, and a beginning of one that could
-//! not be written. The line of an instruction is made in a buffer that it always fits, so that no
-//! step allocates.
+//! Each text is made in memory first and then written, so that what is in the output is known after
+//! a failure too: nothing of a text that could not be made, and a beginning of one that could not
+//! be written. The line of an instruction is made in a buffer that it always fits, so that no step
+//! allocates.
 
 ghost use Rattle.std.specs.Prelude.{◌≡◌, ◌<◌, [], ℕ, Bool, Option, IfOk, OnOk, IfErr, IsOkUnless};
 ghost use Rattle.std.specs.Io.KnownBytes.{Appends, Keeps};

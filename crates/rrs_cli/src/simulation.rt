@@ -72,8 +72,8 @@ fn print_account<M: Memory, W: Write>(
 
 /// Makes steps as `InstructionExecutor::run` does, and prints each instruction before its step.
 ///
-/// The word at the pc is so read twice: here, to print its text from the bytes that stand before
-/// the step, and again by the step, which may write over them.
+/// The word at the pc is so read twice: here, to print its text from the bytes that are there
+/// before the step, and again by the step, which may write over them.
 fn trace<M: Memory, W: Write>(
     executor: &mut InstructionExecutor<M>,
     limit: u64,

@@ -14,8 +14,8 @@ use std::io::ErrorKind;
 use std::rt::Files;
 use std::{fs, io};
 
-/// What is to be written of a source: the bytes of statements that stand one after another from
-/// address 0 on, or a source for GNU `as`. Its mistakes are printed on standard error.
+/// What is to be written of a source: the bytes of statements one after another from address 0 on,
+/// or a source for GNU `as`. Its mistakes are printed on standard error.
 pub fn assembled_text<H: Eprint + AllocGlobal>(
     rt: &H,
     source: &[u8],
@@ -65,7 +65,7 @@ pub fn assemble_file<H: Files + Print + Eprint + AllocGlobal>(
     flush(&mut out).map_err(failed)
 }
 
-/// The refusal that a fault of the output is.
+/// The refusal that an error of the output is.
 fn failed(fault: RunFault) -> Refusal {
     Refusal::Failed(Failure::Run(fault))
 }

@@ -25,7 +25,7 @@ impl From<Failure> for Refusal {
     }
 }
 
-/// The signal that a program gets on Linux for a fault.
+/// The signal that a program gets on Linux for an exception.
 fn signal_of(fault: &InstructionException) -> u8
     ensures { result ≡ signal_of fault.now }
 {

@@ -26,7 +26,7 @@ pub const HEAP_START: u32 = 0x0008_0000;
 pub const HEAP_END: u32 = 0x000c_0000;
 
 /// Runs a reader's bytes as a program, and serves its system calls, for `limit` steps or until it
-/// ends or faults.
+/// ends or raises an exception.
 ///
 /// # Errors
 ///

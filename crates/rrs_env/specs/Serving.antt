@@ -23,7 +23,7 @@ abbrev pub resumed : Option ℕ → ℕ → State → State
 resumed None pc s = with_pc s (word (pos (pc + 4)))
 resumed (Some status) pc s = s
 
--- how a run ends where no call follows it: at the limit, or by a fault that is no ecall
+-- how a run ends where no call follows it: at the limit, or by an exception that is no ecall
 abbrev pub EndsBy : Option InstructionException → Ending → Type 0
 EndsBy None ending = ending ≡ Limit
 EndsBy (Some (EnvironmentCall pc)) ending = ⊥

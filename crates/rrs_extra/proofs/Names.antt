@@ -1,11 +1,11 @@
--- The row of a text is read from its name, which is what stands before the first blank.
+-- The row of a text is read from its name, which is what is before the first blank.
 use Rattle.std.proofs.Common.{◌≡◌, ℕ, List, [], ◌∷◌, Option, Some, ◌==◌, if◌then◌else◌, refl, ap}
 use Rattle.std.specs.List.{find}
 use Rattle.std.specs.Str.{bytes_eq}
 use Rattle.rrs_lib.specs.Table.{Row, all_rows}
 use Rattle.rrs_lib.specs.Texts.{name_of}
 
--- what stands before the first blank, or the whole text where there is none
+-- what is before the first blank, or the whole text where there is none
 abbrev pub first_word : List ℕ → List ℕ
 first_word [] = []
 first_word (byte ∷ rest) = if byte == 32 then [] else (byte ∷ first_word rest)

@@ -79,7 +79,7 @@ pub record IsFull (c : Contents) : Type 0 where
   pub words_long : length c.words ≡ 1024
   pub marks_long : length c.read_only ≡ 1024
 
--- addresses are below 2 ^ 32, and the pages stand in the order of their numbers, of which each is
+-- addresses are below 2 ^ 32, and the pages are in the order of their numbers, of which each is
 -- there once
 pub record ArePages (pages : List Page) : Type 0 where
   pub full : All IsFull (values_of pages)

@@ -1,5 +1,5 @@
--- What is said of words that stand in a memory, and of a program that adds up words: its words, what
--- holds when it is run, and the sum. Registers go by their numbers.
+-- What is said of words in a memory, and of a program that adds up words: its words, what holds
+-- when it is run, and the sum. Registers go by their numbers.
 use Rattle.std.specs.Prelude.{◌≡◌, ◌≢◌, ℕ, zero, suc, ◌+◌, ◌*◌, ◌%◌, ◌<◌, ◌≤◌, List, [], ◌∷◌, length, slice_index, Bool, Option, Some, None, IsSome, IsTrue}
 use Rattle.rrs_lib.specs.Table.{IsIllegal}
 use Rattle.rrs_lib.specs.Bytes.{ByteMap, little_endian}
@@ -28,7 +28,7 @@ or_zero (Some x) = x
 abbrev pub word_at : ByteMap → ℕ → ℕ
 word_at bytes a = or_zero (little_endian bytes a 4)
 
--- the words stand one after another from a on
+-- the words are one after another from a on
 pub record HoldsWords (bytes : ByteMap) (a : ℕ) (words : List ℕ) : Type 0 where
   pub each : (i : ℕ) → i < length words
       → little_endian bytes (a + 4 * i) 4 ≡ Some (slice_index words i)

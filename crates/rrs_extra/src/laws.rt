@@ -1,7 +1,7 @@
 //! Laws over several calls of the kit, and a theorem about a program, as calls.
 //!
-//! No proof looks at how a call of `rrs_lib` is written: they stand on its contracts, its
-//! definitions, and lemmas over these.
+//! No proof looks at how a call of `rrs_lib` is written: they use its contracts, its definitions,
+//! and lemmas over these.
 
 mod independence;
 mod summing;

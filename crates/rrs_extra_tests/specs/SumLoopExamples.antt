@@ -4,7 +4,7 @@ use Rattle.rrs_lib.specs.declared.memories.VecMemory.{VecMemory}
 use Rattle.rrs_lib.specs.Spaces.{Region}
 use Rattle.rrs_extra.specs.Programs.{sum_loop_program}
 
--- the program that adds up words, and a word outside the table
+-- the program that adds up words, and an illegal instruction
 abbrev pub words_of_program : List ℕ
 words_of_program = sum_loop_program ++ 0 ∷ []
 

@@ -15,8 +15,8 @@ use rrs_lib::memories::VecMemory;
 use rrs_lib::{HartState, Memory, process_instruction};
 use std::test::Fail;
 
-/// Counts the row of the instruction at the pc, where there is one, and makes a step. A word
-/// outside the table leaves the counts.
+/// Counts the row of the instruction at the pc, where there is one, and makes a step.
+/// An illegal instruction leaves the counts.
 fn counted_step<M: Memory>(
     executor: &mut InstructionExecutor<M>,
     counter: &mut CallCounter,

@@ -115,7 +115,7 @@ fn a_space_in_a_space_answers_as_its_words(rt: HostRuntime) -> Result<(), Fail> 
 }
 
 // A store to a word that is read-only, sw x0, 4(x0): over a memory of the same words it is made.
-// The fault comes again.
+// The exception comes again.
 #[test]
 fn what_is_writable_tells_memories_apart(rt: HostRuntime) -> Result<(), Fail> {
     let alloc = rt.alloc();

@@ -12,7 +12,7 @@ use rrs_test_machines::{end_at, hart_of, run_over};
 use std::alloc::{AllocError, Global};
 use std::test::Fail;
 
-/// The program that adds up words, a word outside the table, and three words.
+/// The program that adds up words, an illegal instruction, and three words.
 fn words_to_add(alloc: Global) -> Result<VecMemory, AllocError>
     ensures { IfOk result (λ memory. memory.mem.items ≡ words_to_add) }
 {
@@ -92,7 +92,7 @@ fn adds_up_words_of_a_space(rt: HostRuntime) -> Result<(), Fail> {
     Ok(())
 }
 
-/// The fault at the end of the program.
+/// The exception at the end of the program.
 const FAULT: Option<InstructionException> = Some(InstructionException::IllegalInstruction(0x1c, 0));
 
 /// How many words, and a limit; how the run ends, and the sum.

@@ -5,7 +5,7 @@ use rrs_extra::laws::both_texts;
 use std::alloc::{AllocError, Global};
 use std::test::Fail;
 
-/// The text of a word, or `no row` where it is outside the table.
+/// The text of a word, or `no row` where it is an illegal instruction.
 fn text_or_no_row(
     alloc: Global,
     answer: Option<Result<String, AllocError>>,
@@ -74,7 +74,7 @@ static PAIRS: [(u32, u32, u32, (&str, &str)); 10] = [
 /// No text shows the fields of `fence`. Another row with the same fields has another text, and so
 /// has one row with another rd, rs1, rs2 or immediate. A branch has another text at another
 /// address, and two branches to one target from two addresses have one. What would show like `slli`
-/// and `jalr` but has another funct7 or funct3 is outside the table.
+/// and `jalr` but has another funct7 or funct3 is an illegal instruction.
 #[test]
 fn texts_show_what_words_are(rt: HostRuntime) -> Result<(), Fail> {
     for &(insn_pc, first, second, expected) in &PAIRS {

@@ -31,7 +31,7 @@ Gives R K =
 
 -- ---- write
 
--- the text stands from a on
+-- the text is at a
 abbrev pub Stands : ByteMap → ℕ → List ℕ → Type 0
 Stands bytes a text = (i : ℕ) → i < length text → bytes (a + i) ≡ Some (slice_index text i)
 

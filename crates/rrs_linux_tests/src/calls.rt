@@ -52,8 +52,8 @@ fn write_buffer<M: Memory>(
     Ok(if whole { length } else { BAD_ADDRESS })
 }
 
-/// Runs a program up to its `exit`, and returns the status, or `None` where a fault or the limit
-/// ended it. What it writes is appended.
+/// Runs a program up to its `exit`, and returns the status, or `None` where an exception or the
+/// limit ended it. What it writes is appended.
 fn run_calls<M: Memory>(
     executor: &mut InstructionExecutor<M>,
     limit: u64,

@@ -42,7 +42,7 @@ ends x (w ∷ ws) = None
 
 -- ---- the parts of a state
 
--- what stands before the first `=` of a text, and what stands after it
+-- what is before the first `=` of a text, and what is after it
 abbrev pub named : List ℕ → Option (List ℕ × List ℕ)
 named text =
     if nat_lt (position_or_len (λ b. b == 61) text) (length text)

@@ -83,7 +83,7 @@ pub fn answer_lines<R: Read, W: Write>(
     Ok(())
 }
 
-/// The fault that an error of a read is.
+/// The error of the program that an error of a read is.
 fn fault_of_read(error: io::Error) -> ReplayFault {
     match error.kind() {
         ErrorKind::OutOfMemory => ReplayFault::OutOfMemory,
@@ -91,7 +91,7 @@ fn fault_of_read(error: io::Error) -> ReplayFault {
     }
 }
 
-/// The fault that an error of an answer is.
+/// The error of the program that an error of an answer is.
 fn fault_of_write(error: io::Error) -> ReplayFault {
     match error.kind() {
         ErrorKind::OutOfMemory => ReplayFault::OutOfMemory,

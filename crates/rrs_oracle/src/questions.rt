@@ -52,7 +52,7 @@ pub enum ParseErrorKind {
     NotText,
     /// Its first word is no question.
     NoQuestion,
-    /// This part is missing, or another one stands in its place.
+    /// This part is missing, or another one is in its place.
     Missing(&'static str),
     /// Text follows the last part.
     TextAtEnd,

@@ -43,7 +43,7 @@ copy_words_program =
     ∷ []
 
 -- x10 has the address of n words to write, x11 of n words to read, and x12 has n. The program, the
--- word at the address to return to and the words to read stand apart from those to write.
+-- word at the address to return to and the words to read are apart from those to write.
 pub record CopyWordsStarts (s : State) : Type 0 where
   pub called : IsCalled copy_words_program s
   pub to_aligned : reg s 10 % 4 ≡ 0

@@ -27,8 +27,8 @@ echo_program =
     ∷ 0xfc5ff06f  -- jal x0, 60 bytes back
     ∷ []
 
--- The program stands from the program counter on; x10 has the address of a buffer, and x11 its
--- size. The buffer is not empty, and stands apart from the program.
+-- The program is at the program counter; x10 has the address of a buffer, and x11 its size. The
+-- buffer is not empty, and is apart from the program.
 pub record EchoStarts (s : State) : Type 0 where
   pub program_there : HoldsWords s.bytes s.pc echo_program
   pub aligned : s.pc % 4 ≡ 0

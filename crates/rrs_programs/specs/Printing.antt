@@ -11,7 +11,7 @@ use Rattle.rrs_programs.specs.Computing.{IsCalled}
 
 -- ---- strings
 
--- The bytes of the text stand from a on, and then a 0. Each is a byte that is not 0 itself.
+-- The bytes of the text are at a and behind it, and then a 0. Each is a byte that is not 0 itself.
 pub record HoldsString (bytes : ByteMap) (a : ℕ) (text : List ℕ) : Type 0 where
   pub each : (i : ℕ) → i < length text → bytes (a + i) ≡ Some (slice_index text i)
   pub not_zero : (i : ℕ) → i < length text → slice_index text i ≢ 0
@@ -32,7 +32,7 @@ put_string_program =
     ∷ []
 
 -- x10 has the address of a port of one byte, and x11 that of the text. The program, the word at the
--- address to return to, and the text with its 0 stand apart from the port.
+-- address to return to, and the text with its 0 are apart from the port.
 pub record PutStringStarts (text : List ℕ) (s : State) : Type 0 where
   pub called : IsCalled put_string_program s
   pub string : HoldsString s.bytes (reg s 11) text

@@ -23,8 +23,8 @@ write_and_exit_program =
     ∷ 0x00000073  -- ecall
     ∷ []
 
--- The program stands from the program counter on; x10 has the address of a text, x11 its length,
--- and x12 a status. One call writes all of it.
+-- The program is at the program counter; x10 has the address of a text, x11 its length, and x12 a
+-- status. One call writes all of it.
 pub record WriteAndExitStarts (text : List ℕ) (s : State) : Type 0 where
   pub program_there : HoldsWords s.bytes s.pc write_and_exit_program
   pub aligned : s.pc % 4 ≡ 0

@@ -1,7 +1,7 @@
 //! Two programs that compute, over every memory that keeps the laws of [Memory].
 //!
-//! Each call makes one `run` of words that stand in memory. Its clauses say how many steps it has,
-//! where it ends, what it computes, what stays, and that exactly the accesses of the run are made.
+//! Each call makes one `run` of words in memory. Its clauses say how many steps it has, where it
+//! ends, what it computes, what stays, and that exactly the accesses of the run are made.
 
 ghost use Rattle.std.specs.Prelude.{◌≡◌, ℕ, ◌+◌, ◌*◌, ◌≤◌, Some};
 ghost use Rattle.std.specs.Int.{IsGcd};
@@ -19,7 +19,7 @@ use rrs_lib::instruction_executor::{InstructionExecutor, RunEnd};
 
 /// Calls a program of six words that computes the greatest common divisor of x10 and x11.
 ///
-/// The program stands where the pc is. The answer is after how many steps it faulted, at the
+/// The program is at the pc. The answer is how many steps were made before the exception, at the
 /// address in x1 to which it returns. Then x10 is the divisor, 0 where both were 0, and the bytes
 /// of memory are as before. It makes five steps for each remainder, of which there are at most x11.
 pub fn gcd<M: Memory>(executor: &mut InstructionExecutor<M>) -> RunEnd
@@ -50,9 +50,9 @@ pub fn gcd<M: Memory>(executor: &mut InstructionExecutor<M>) -> RunEnd
 /// Calls a program of nine words that copies the x12 words from the address in x11 on to that in
 /// x10.
 ///
-/// The program stands where the pc is. The answer is after how many steps it faulted, at the
-/// address in x1 to which it returns. Then the words stand in both places, and all other bytes are
-/// as before.
+/// The program is at the pc. The answer is how many steps were made before the exception, at the
+/// address in x1 to which it returns. Then the words are in both places, and all other bytes are as
+/// before.
 pub fn copy_words<M: Memory>(executor: &mut InstructionExecutor<M>) -> RunEnd
     requires { CopyWordsStarts (state_in M.bytes M.writable executor.old) }
     ensures run { RunUntil (5 * reg (state_in M.bytes M.writable executor.old) 12 + 5)

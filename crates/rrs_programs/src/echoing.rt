@@ -20,11 +20,11 @@ use rrs_linux::OutputRecorder;
 /// address in x10, writes what it got to standard output, and again so until the input ends, and
 /// exits with status 0.
 ///
-/// The program stands where the pc is. The limit is at least 11 for each byte of the input and 14
-/// more: the run makes 11 steps for each buffer that it fills, the last perhaps in part, and 14
-/// more, its calls included. Then the output has grown by exactly the input, whatever that was, the
-/// input is at its end, and the rest of the environment, and each byte of memory outside the
-/// buffer, are as before.
+/// The program is at the pc. The limit is at least 11 for each byte of the input and 14 more: the
+/// run makes 11 steps for each buffer that it fills, the last perhaps in part, and 14 more, its
+/// calls included. Then the output has grown by exactly the input, whatever that was, the input is
+/// at its end, and the rest of the environment, and each byte of memory outside the buffer, are as
+/// before.
 pub fn echo<M: Memory>(
     executor: &mut InstructionExecutor<M>,
     environment: &mut OutputRecorder,

@@ -22,8 +22,8 @@ use rrs_lib::memories::MemorySpace;
 /// Calls a program of six words that writes the string at the address in x11 to the port at that in
 /// x10.
 ///
-/// The program stands where the pc is, and `text` is the string without the 0 at its end. The
-/// answer is after how many steps it faulted, at the address in x1 to which it returns. Then the
+/// The program is at the pc, and `text` is the string without the 0 at its end. The answer is how
+/// many steps were made before the exception, at the address in x1 to which it returns. Then the
 /// run has written the bytes of the string to the port, in their order, and has made no other
 /// write.
 pub fn put_string<M: Memory>(executor: &mut InstructionExecutor<M>, text: &[u8]) -> RunEnd
@@ -48,7 +48,7 @@ pub fn put_string<M: Memory>(executor: &mut InstructionExecutor<M>, text: &[u8])
         → writes_of accesses
         ≡ writes_to (reg (state_in M.bytes M.writable executor.old) 10) text.now }
 {
-    // A text that stands in memory has fewer than 2^32 bytes.
+    // A text in memory has fewer than 2^32 bytes.
     let length = text.len() as u64;
     executor.run(length.saturating_mul(5).saturating_add(4))
 }

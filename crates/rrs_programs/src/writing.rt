@@ -20,10 +20,9 @@ use std::io::{Read, Write};
 /// Calls a program of 13 words that writes the x11 bytes from the address in x10 on to standard
 /// output, and exits with the status in x12.
 ///
-/// The program stands where the pc is, and the bytes are `text`. The limit is 13 or more: the run
-/// makes 13 steps, its two calls included. Then the output has grown by exactly the text, the
-/// status is the low byte of x12, and the rest of the environment and the bytes of memory are as
-/// before.
+/// The program is at the pc, and the bytes are `text`. The limit is 13 or more: the run makes 13
+/// steps, its two calls included. Then the output has grown by exactly the text, the status is the
+/// low byte of x12, and the rest of the environment and the bytes of memory are as before.
 pub fn write_and_exit<M: Memory>(
     executor: &mut InstructionExecutor<M>,
     environment: &mut OutputRecorder,

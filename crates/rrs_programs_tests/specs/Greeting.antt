@@ -12,7 +12,7 @@ use Rattle.rrs_programs.specs.Printing.{put_string_program}
 abbrev pub greeting : List ℕ
 greeting = codes "Hello, RISC-V!\n"
 
--- the program, a word outside the table, and the greeting with its 0
+-- the program, an illegal instruction, and the greeting with its 0
 abbrev pub words_to_run : List ℕ
 words_to_run =
     put_string_program ++ 0 ∷ 0x6c6c6548 ∷ 0x52202c6f ∷ 0x2d435349 ∷ 0x000a2156 ∷ []

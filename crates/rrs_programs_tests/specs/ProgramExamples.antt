@@ -8,11 +8,11 @@ use Rattle.rrs_programs.specs.Echoing.{echo_program}
 abbrev pub words_of_gcd : List ℕ
 words_of_gcd = gcd_program ++ 0 ∷ []
 
--- the program that copies words, a word outside the table, three words, and room for three
+-- the program that copies words, an illegal instruction, three words, and room for three
 abbrev pub words_to_copy : List ℕ
 words_to_copy = copy_words_program ++ 0 ∷ 5 ∷ 7 ∷ 0xffffffff ∷ 9 ∷ 9 ∷ 9 ∷ []
 
--- the program that prints, a word outside the table, "Hello, RISC-V!" with its 0, and one word more
+-- the program that prints, an illegal instruction, "Hello, RISC-V!" with its 0, and one word more
 abbrev pub words_to_print : List ℕ
 words_to_print =
     put_string_program

@@ -10,7 +10,8 @@ use rrs_lib::instruction_executor::{InstructionExecutor, RunEnd};
 
 /// Runs `addi x1, x1, -1` and `bne x1, x0, -4`, at 0 and 4, until x1 is 0.
 ///
-/// It returns two steps for each 1 that x1 was, and no fault. The bytes of memory are as before.
+/// It returns two steps for each 1 that x1 was, and no exception. The bytes of memory are as
+/// before.
 pub(crate) fn count_down<M: Memory>(executor: &mut InstructionExecutor<M>) -> RunEnd
     requires pc { executor.old.hart_state.now.pc ≡ 0 }
     requires some { 0 < reg (state_in M.bytes M.writable executor.old) 1 }

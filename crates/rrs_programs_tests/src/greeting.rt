@@ -25,7 +25,7 @@ const PORT: u32 = 0x1000_0000;
 /// The address of the string.
 const STRING: u32 = 28;
 
-/// The words from address 0 on: the program, a word outside the table, to which it returns, and the
+/// The words from address 0 on: the program, an illegal instruction, to which it returns, and the
 /// string with its 0.
 const WORDS: [u32; 11] = [
     0x0005_c783, // lbu x15, 0(x11)
@@ -98,7 +98,7 @@ fn machine(
     Ok(space)
 }
 
-/// Calls the program on the string, and writes what stands in the port's log then.
+/// Calls the program on the string, and writes what is in the port's log then.
 ///
 /// # Errors
 ///
@@ -125,7 +125,7 @@ fn run<W: Write>(space: &mut MemorySpace<RamOrPort>, out: &mut W) -> Result<(), 
     write_log(executor.mem, out)
 }
 
-/// Writes what stands in the port's log.
+/// Writes what is in the port's log.
 ///
 /// # Errors
 ///

@@ -14,7 +14,7 @@ use rrs_test_machines::{end_at, faulted, hart_of, run_over};
 use std::alloc::{AllocError, Global};
 use std::test::Fail;
 
-/// The program, a word outside the table at 24, a string of 14 bytes at 28, and a word at 44.
+/// The program, an illegal instruction at 24, a string of 14 bytes at 28, and a word at 44.
 fn words_to_print(alloc: Global) -> Result<VecMemory, AllocError>
     ensures { IfOk result (λ memory. memory.mem.items ≡ words_to_print) }
 {

@@ -13,7 +13,7 @@ use rrs_test_machines::end_at;
 use std::alloc::{AllocError, Global};
 use std::test::Fail;
 
-/// The program of the greatest common divisor, and a word outside the table.
+/// The program of the greatest common divisor, and an illegal instruction.
 fn words_of_gcd(alloc: Global) -> Result<VecMemory, AllocError>
     ensures { IfOk result (λ memory. memory.mem.items ≡ words_of_gcd) }
 {
@@ -57,7 +57,7 @@ fn divides(rt: HostRuntime) -> Result<(), Fail> {
     Ok(())
 }
 
-/// The program that copies words, a word outside the table, three words, and room for three.
+/// The program that copies words, an illegal instruction, three words, and room for three.
 fn words_to_copy(alloc: Global) -> Result<VecMemory, AllocError>
     ensures { IfOk result (λ memory. memory.mem.items ≡ words_to_copy) }
 {

@@ -44,7 +44,7 @@ pub fn write_at<M: Memory>(memory: &mut M, addr: u32, size: MemAccessSize, value
     memory.write_mem(addr, size, value)
 }
 
-/// So many steps that were `Ok`, and then this fault.
+/// So many steps that were `Ok`, and then this exception.
 pub fn faulted(steps: u64, fault: InstructionException) -> RunEnd {
     RunEnd {
         steps,

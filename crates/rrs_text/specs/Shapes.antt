@@ -1,4 +1,4 @@
--- The operands of each row as they stand in its text, behind its name and a blank.
+-- The operands of each row as they are in its text, behind its name and a blank.
 use Rattle.std.specs.Prelude.{◌≡◌, ◌⊎◌, ℕ, ◌^◌, List, [], ◌∷◌, ◌++◌, map, codes, pos, Result, MatchResult}
 use Rattle.rrs_text.specs.declared.rows.RowForm.{RowForm}
 use Rattle.std.specs.Fmt.{decimal, signed_decimal}

@@ -36,7 +36,8 @@ requested s (Err e) = []
 abbrev pub AccessesAfterFetch : State → List Access → Type 0
 AccessesAfterFetch s accesses = AccessesOf s (read_if_aligned s s.pc Word ++ accesses)
 
--- what an answer says of the step: it is Ok, or it faults so, whatever the memory answers
+-- what an answer says of the step: it is Ok, or it raises this exception, whatever the memory
+-- answers
 abbrev pub Foretells : State → RequestAnswer → Type 0
 Foretells s (Ok None) = (t : State) × Step s t (Ok tt)
 Foretells s (Ok (Some request)) = Unit {0}
@@ -116,7 +117,7 @@ request_by (Store n) (S f) s =
     Some (DataRequest.Store (plus_immediate (reg s f.rs1) f.imm) (size_of n) (reg s f.rs2))
 request_by _ _ s = None
 
--- the fault of an action that accesses nothing, if it is one that faults
+-- the exception of an action that accesses nothing, if it raises one
 abbrev pub call_fault : Action → ℕ → Option InstructionException
 call_fault CallEnvironment pc = Some (EnvironmentCall pc)
 call_fault Break pc = Some (Breakpoint pc)
@@ -130,7 +131,7 @@ abbrev pub size_asked : DataRequest → MemAccessSize
 size_asked (DataRequest.Load a size) = size
 size_asked (DataRequest.Store a size value) = size
 
--- the answer of `request` for what an action asks, or for the fault of one that asks nothing
+-- the answer of `request` for what an action asks, or for the exception of one that asks nothing
 abbrev pub answer_to : Option DataRequest → Option InstructionException → RequestAnswer
 answer_to None None = Ok None
 answer_to None (Some e) = Err e
@@ -141,7 +142,7 @@ answer_to (Some request) e =
 abbrev pub answer_by : Action → Fields → State → RequestAnswer
 answer_by action f s = answer_to (request_by action f s) (call_fault action s.pc)
 
--- the fault of an access that is refused
+-- the exception of an access that is refused
 abbrev pub refusal : DataRequest → InstructionException
 refusal (DataRequest.Load a size) = LoadAccessFault a
 refusal (DataRequest.Store a size value) = StoreAccessFault a

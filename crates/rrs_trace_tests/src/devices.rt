@@ -31,7 +31,7 @@ fn stored_value<M: Memory>(executor: &mut InstructionExecutor<M>) -> Option<u32>
 }
 
 impl Devices {
-    /// Serves a fault of the program, and returns whether it goes on.
+    /// Serves an exception of the program, and returns whether it goes on.
     fn serve<M: Memory>(
         &mut self,
         executor: &mut InstructionExecutor<M>,
@@ -50,7 +50,7 @@ impl Devices {
         }
     }
 
-    /// Runs a program, until a fault that no device serves.
+    /// Runs a program, until an exception that no device serves.
     fn run<M: Memory>(&mut self, executor: &mut InstructionExecutor<M>, faults: u32) {
         for _ in 0..faults {
             match executor.run(1000).exception {
@@ -152,7 +152,7 @@ static COMPLETED: [(u32, Option<u32>, Completed); 10] = [
     ),
 ];
 
-// A load is extended, a refusal is the fault of the access, and all else needs no answer.
+// A load is extended, a refusal is the exception of the access, and all else needs no answer.
 #[test]
 fn an_instruction_is_completed(rt: HostRuntime) -> Result<(), Fail> {
     for &(word, given, expected) in &COMPLETED {

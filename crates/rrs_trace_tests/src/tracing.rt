@@ -157,7 +157,8 @@ static STOPPED: [(u64, u64, u32, StopReason); 5] = [
     ),
 ];
 
-// A run goes on from a stop, tells a stop at the limit, and ends at a fault or the limit else.
+// A run goes on from a stop, tells a stop at the limit, and ends at an exception or the limit
+// otherwise.
 #[test]
 fn a_run_stops_at_breakpoints(rt: HostRuntime) -> Result<(), Fail> {
     let mut memory = memory_of(rt.alloc())?;

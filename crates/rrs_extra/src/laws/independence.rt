@@ -16,9 +16,9 @@ use rrs_lib::memories::VecMemory;
 
 /// Makes as many steps on each of two machines that agree, and puts the answers into the slices.
 ///
-/// The answers are equal, faults among them, and the machines agree again. After at least one step
-/// their last written registers are equal too.
-/// Each memory goes from what it was to what it is by exactly the accesses of its machine's steps.
+/// The answers are equal, exceptions among them, and the machines agree again. After at least one
+/// step their last written registers are equal too. Each memory goes from what it was to what it is
+/// by exactly the accesses of its machine's steps.
 pub fn agree_each<A: Memory, B: Memory>(
     first: &mut InstructionExecutor<A>,
     second: &mut InstructionExecutor<B>,

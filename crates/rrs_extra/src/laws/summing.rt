@@ -13,8 +13,8 @@ use rrs_lib::instruction_executor::{InstructionExecutor, RunEnd};
 
 /// Runs a program of seven words at 0 that adds up the x11 words from the address in x10 on.
 ///
-/// The answer is after how many steps it faulted, at 0x1c, on the word behind the program. Then x12
-/// is the sum modulo 2^32, and the bytes of memory are as before.
+/// The answer is how many steps were made before the exception, at 0x1c, on the word behind the
+/// program. Then x12 is the sum modulo 2^32, and the bytes of memory are as before.
 pub fn sum_loop<M: Memory>(executor: &mut InstructionExecutor<M>) -> RunEnd
     requires { SumLoopStarts (state_in M.bytes M.writable executor.old) }
     ensures run { RunUntil (6 * reg (state_in M.bytes M.writable executor.old) 11 + 3)
