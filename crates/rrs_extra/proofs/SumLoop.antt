@@ -51,7 +51,7 @@ rounds : (n : ℕ) (o : Others) (x1 a sum total x13 x14 x15 : ℕ) (last : Optio
     → Rounds o x1 a n sum total x13 x14 x15 last bytes writable
 rounds zero o x1 a sum total x13 x14 x15 last bytes writable holds aligned fits mapped small is =
     let same : sum ≡ total = omega (arith, is) in
-    let out = Programs.step-branches 0x1c true (pos 24) {registers = registers_by o x1 a 0 sum x13 x14 x15} {last = last} (at_word holds refl 1 refl refl) refl refl refl in
+    let out = Programs.step-branches {registers = registers_by o x1 a 0 sum x13 x14 x15} {last = last} 0x1c true (pos 24) (at_word holds refl 1 refl refl) refl refl refl in
     record { end = a; value = x13; runs = rw (← same) (Programs.RunsOk-one _ _ out) }
 rounds (suc n) o x1 a sum total x13 x14 x15 last bytes writable holds aligned fits mapped small is =
     let x = word_at bytes a in
@@ -79,7 +79,7 @@ sums : (limit steps : ℕ) (e : Option InstructionException) (t : State) (o : Ot
     → Sums limit steps e t (at (registers_by o x1 a n x12 x13 x14 x15) pc last bytes writable)
 sums limit steps e t o x1 a n x12 x13 x14 x15 pc last bytes writable starts small ends limit_is only =
     let all = rounds n o x1 a 0 (sum_of_words bytes a n % 2 ^ 32) x13 x14 x15 (Some 12) bytes writable starts.program starts.aligned (mapped-ends bytes writable a (4 * n) ends starts.mapped (omega arith)) starts.mapped (omega arith) (ap (λ y. y % 2 ^ 32) (omega arith)) in
-    let first = Programs.step-writes 4 11 0 (pos 0) {registers = registers_by o x1 a n x12 x13 x14 x15} {pc = 0} {last = last} {bytes = bytes} {writable = writable} (at_word starts.program refl 0 refl refl) refl refl refl in
+    let first = Programs.step-writes {registers = registers_by o x1 a n x12 x13 x14 x15} {pc = 0} {last = last} {bytes = bytes} {writable = writable} 4 11 0 (pos 0) (at_word starts.program refl 0 refl refl) refl refl refl in
     let chain = Programs.RunsOk-as (suc (6 * n + 1)) (6 * n + 2) _ _ (omega arith) (Programs.RunsOk-then (6 * n + 1) _ _ _ first all.runs) in
     let fault = Programs.step-illegal {registers = registers_by o x1 all.end 0 (sum_of_words bytes a n % 2 ^ 32) all.value x14 x15} {pc = 0x1c} {last = None} {bytes = bytes} {writable = writable} refl (word_read bytes 0x1c starts.behind.mapped) starts.behind.outside in
     let from = rw (starts.pc) at only in

@@ -40,7 +40,7 @@ leaves : (o : Others) (x1 g p x12 x13 x14 x15 : ℕ) (last : Option ℕ) (bytes 
     → HoldsWords bytes p gcd_program → p % 4 ≡ 0 → p + 24 ≤ 2 ^ 32 → x1 % 4 ≡ 0 → x1 < 2 ^ 32
     → Chain 2 (at (registers_by o x1 g 0 x12 x13 x14 x15) p last bytes writable) (at (registers_by o x1 g 0 x12 x13 x14 x15) x1 None bytes writable)
 leaves o x1 g p x12 x13 x14 x15 last bytes writable holds aligned fits return_aligned small =
-    Programs.step-stays (p + 4) false (pos 8) {registers = registers_by o x1 g 0 x12 x13 x14 x15} (at_word holds aligned 0 refl refl) refl refl (omega arith)
+    Programs.step-stays {registers = registers_by o x1 g 0 x12 x13 x14 x15} (p + 4) false (pos 8) (at_word holds aligned 0 refl refl) refl refl (omega arith)
     ▸ Programs.step-jumps x1 0 (made_even (word (pos (x1 + 0)))) (at_word holds aligned 1 refl refl) refl (omega arith)
     ▸ done
 

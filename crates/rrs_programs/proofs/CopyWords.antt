@@ -81,7 +81,7 @@ module _ (o : Others) (x1 to from n x13 x14 x15 p : ℕ) (last : Option ℕ) (by
       let two : Chain 2 start (at registers x1 None bytes writable) =
       Programs.step-branches (p + 32) (n == 0) (pos 32) (at_word there starts.called.aligned 0 refl refl) refl
       (grind (arith, nat_tests)) (omega arith)
-      ▸ Programs.step-jumps x1 0 (made_even (word (pos (x1 + 0)))) {registers = registers}
+      ▸ Programs.step-jumps {registers = registers} x1 0 (made_even (word (pos (x1 + 0))))
       (at_word there starts.called.aligned 8 refl refl) refl (omega (arith, starts.called.return_aligned))
       ▸ done in
       record {

@@ -115,7 +115,7 @@ module _ (r : ℕ → ℕ) (writable : ℕ → Bool) (p b size : ℕ) (aligned :
   to_exit limit x13 bytes there enough =
       to_call there aligned limit 6 13 (omega (arith, enough)) refl refl (
       writes there aligned fits 7 11 0 (pos 0) refl refl refl refl
-      ▸ Programs.step-stays (p + 36) false (pos 24) {registers = registers_by r 0 b 0 x13 size b 63}
+      ▸ Programs.step-stays {registers = registers_by r 0 b 0 x13 size b 63} (p + 36) false (pos 24)
       (at_word there aligned 8 refl refl) refl refl (omega arith)
       ▸ writes there aligned fits 9 9 0 (pos 0) refl refl refl refl
       ▸ writes there aligned fits 10 10 0 (pos 0) refl refl refl refl
@@ -128,7 +128,7 @@ module _ (r : ℕ → ℕ) (writable : ℕ → Bool) (p b size : ℕ) (aligned :
   to_write limit n x13 bytes there enough some small =
       to_call there aligned limit 4 16 (omega (arith, enough)) refl refl (
       writes there aligned fits 7 11 n (pos (n + 0)) refl refl refl (omega arith)
-      ▸ Programs.step-branches (p + 56) (less 0 n) (pos 24) {registers = registers_by r n b n x13 size b 63}
+      ▸ Programs.step-branches {registers = registers_by r n b n x13 size b 63} (p + 56) (less 0 n) (pos 24)
       (at_word there aligned 8 refl refl) refl (more_than_none n some small) (omega arith)
       ▸ writes there aligned fits 14 9 1 (pos 1) refl refl refl refl
       ▸ writes there aligned fits 15 16 64 (pos 64) refl refl refl refl ▸ done)

@@ -129,8 +129,7 @@ module _ (o : Others) (x1 port x12 x13 x14 p : ℕ) (bytes : ByteMap) (writable 
         makes =
             making-loads (p + 4) Byte pos a 0 0 (at_word held aligned 0 refl refl) refl refl (omega arith) (omega arith)
             read refl (omega arith)
-            ▹ making (at_word held aligned 1 refl refl) (λ f. Programs.step-stays (p + 8) false (pos 8)
-            {registers = registers_by o x1 port a x12 x13 x14 0} f refl refl (omega arith)) refl
+            ▹ making (at_word held aligned 1 refl refl) (λ f. Programs.step-stays {registers = registers_by o x1 port a x12 x13 x14 0} (p + 8) false (pos 8) f refl refl (omega arith)) refl
             ▹ making (at_word held aligned 2 refl refl)
             (λ f. Programs.step-jumps x1 0 (made_even (word (pos (x1 + 0)))) f refl (omega arith)) refl
             ▹ no_more;

@@ -26,7 +26,7 @@ module _ (bytes : ByteMap) (writable : ℕ → Bool) (first : little_endian byte
   last_round rest last = (
     _,
     step-writes 4 0 0 (pos (1 + 4294967295)) (fetches refl first addi) refl refl refl,
-    (_, step-stays 8 false (neg_ℤ (pos 4)) {registers = 0 ∷ rest} (fetches refl second bne) refl refl refl, refl),
+    (_, step-stays {registers = 0 ∷ rest} 8 false (neg_ℤ (pos 4)) (fetches refl second bne) refl refl refl, refl),
   )
 
   round : (n : ℕ) (rest : List ℕ) (last : Option ℕ) → suc (suc n) < 2 ^ 32 → RunsOk 2 (loop (suc (suc n)) rest 0 last) (loop (suc n) rest 0 None)
