@@ -21,6 +21,11 @@ function kindOf(word) {
   return opcode | (word >>> 12 & 7) << 5 | (word >>> 30 & 1) << 8 | (word >>> 25 & 1) << 9;
 }
 
+/* How many bytes of a buffer a call may transfer, or an error where it passes the last address. */
+function mostTransferred(address, count) {
+  return address + count > 2 ** 32 ? BAD_ADDRESS : Math.min(count, MOST_TRANSFERRED);
+}
+
 /** A machine that runs one program, and can take its steps back. */
 class Machine {
   constructor(kit) {
@@ -173,13 +178,10 @@ class Machine {
     return null;
   }
 
-  /* How many of `length` bytes from `address` on the memory has, up to the first that it lacks, or
-   * an error: where the buffer passes the last address, or its first byte is not there. */
+  /* How many of `length` bytes from an address on the memory has, up to the first that it lacks. */
   countMapped(address, length) {
-    if (address + length > 2 ** 32) return BAD_ADDRESS;
     const offset = address - this.kit.base;
-    const mapped = offset < 0 ? 0 : Math.max(0, Math.min(length, this.kit.size - offset));
-    return length > 0 && mapped === 0 ? BAD_ADDRESS : mapped;
+    return offset < 0 ? 0 : Math.max(0, Math.min(length, this.kit.size - offset));
   }
 
   /* write(a0, a1, a2): prints the bytes, and answers how many they are. */
@@ -188,21 +190,27 @@ class Machine {
     const file = kit.x[REGISTER.A0];
     if (file !== 1 && file !== 2) return NO_SUCH_FILE;
     const address = kit.x[REGISTER.A1];
-    const count = this.countMapped(address, Math.min(kit.x[REGISTER.A2], MOST_TRANSFERRED));
+    const most = mostTransferred(address, kit.x[REGISTER.A2]);
+    if (most <= 0) return most;
+    const count = this.countMapped(address, most);
+    if (count === 0) return BAD_ADDRESS;
     for (let i = 0; i < count; i++) terminal.print(kit.bytes[address - kit.base + i]);
     return count;
   }
 
   /* read(a0, a1, a2): gives typed bytes, one line at most, and answers how many they are; null
-   * where none is there yet. */
+   * where none is there yet. Bytes that the memory does not take are given by the next read. */
   readCall(extra) {
     const { kit, terminal } = this;
     if (kit.x[REGISTER.A0] !== 0) return NO_SUCH_FILE;
     const address = kit.x[REGISTER.A1];
-    const room = this.countMapped(address, Math.min(kit.x[REGISTER.A2], MOST_TRANSFERRED));
-    if (room <= 0) return room;
+    const most = mostTransferred(address, kit.x[REGISTER.A2]);
+    if (most <= 0) return most;
     if (terminal.isEmpty) return null;
-    const given = terminal.peek(room);
+    const held = terminal.read(most);
+    if (held.length === 0) return 0;
+    const given = held.slice(0, this.countMapped(address, most));
+    if (given.length === 0) return BAD_ADDRESS;
     terminal.taken += given.length;
     this.storeBytes(address, given, extra);
     return given.length;
@@ -210,7 +218,6 @@ class Machine {
 
   /* Stores what a call gives, and keeps the words that stood there. */
   storeBytes(address, given, extra) {
-    if (given.length === 0) return;
     const offset = address - this.kit.base;
     const end = (offset + given.length - 1) >>> 2;
     for (let index = offset >>> 2; index <= end; index++) {

@@ -8,6 +8,9 @@ const PORT_ADDRESS = 0x10000000;
 /* How many printed bytes are kept. Others are counted. */
 const OUTPUT_ROOM = 1 << 20;
 
+/* The most bytes of one read of the terminal, as of the reads that `rrs exec` makes. */
+const MOST_READ = 256;
+
 /** The bytes that were printed, those that were typed, and the port's own byte. */
 class Terminal {
   constructor() {
@@ -20,6 +23,7 @@ class Terminal {
     this.printed = 0;
     this.lost = 0;
     this.input = [];
+    this.held = 0;
     this.taken = 0;
     this.isClosed = false;
     this.port = 0;
@@ -60,17 +64,20 @@ class Terminal {
     return this.taken === this.input.length && !this.isClosed;
   }
 
-  /** The next typed bytes, `most` of them and one line at most, which stay untaken. */
-  peek(most) {
-    let end = this.taken;
-    const last = Math.min(this.input.length, this.taken + most);
-    while (end < last && this.input[end++] !== 10);
-    return this.input.slice(this.taken, end);
+  /** The bytes that were read and not taken. Where there are none it reads once: `most` bytes and
+   * one line at most. */
+  read(most) {
+    if (this.held === this.taken) {
+      const last = Math.min(this.input.length, this.taken + Math.min(most, MOST_READ));
+      while (this.held < last && this.input[this.held++] !== 10);
+    }
+    return this.input.slice(this.taken, this.held);
   }
 
   /** What a step may change, for `restore`. */
   mark() {
-    return { printed: this.printed, lost: this.lost, taken: this.taken, port: this.port };
+    const { printed, lost, held, taken, port } = this;
+    return { printed, lost, held, taken, port };
   }
 
   /** Takes back what happened since a mark. */

@@ -10,6 +10,7 @@ import tempfile
 import threading
 import time
 
+import calls
 import chromium
 import programs
 
@@ -54,11 +55,14 @@ HEADINGS = {
 }
 
 FIRST_STATE = """(() => {
-    const { kit, program, history, executed, kinds, terminal } = rrs.session.machine;
-    return kit.x.every((value) => value === 0) && kit.pc === kit.base && kit.last === 0
+    const { kit, program, history, executed, kinds, terminal, hasStack } = rrs.session.machine;
+    const sp = hasStack ? kit.base + kit.size : 0;
+    return kit.x.every((value, number) => value === (number === 2 ? sp : 0))
+        && kit.pc === kit.base && kit.last === 0
         && kit.words.every((word, at) => word === (program[at] ?? 0)) && history.length === 0
         && executed.every((count) => count === 0) && kinds.every((count) => count === 0)
-        && terminal.printed === 0 && terminal.taken === 0 && terminal.port === 0;
+        && terminal.printed === 0 && terminal.held === 0 && terminal.taken === 0
+        && terminal.port === 0;
 })()"""
 
 
@@ -161,6 +165,13 @@ class Machine:
     def edit(self, text):
         self.page.press("e")
         self.page.ask(f"document.querySelector('#text').value = {json.dumps(text)}")
+        self.page.click("#take")
+
+    def take_memory_of_exec(self):
+        """Takes 1 MiB of memory with sp at its end, as rrs exec has it."""
+        self.page.press("e")
+        self.page.choose("#size", "1048576")
+        self.page.click("#stack")
         self.page.click("#take")
 
     def is_first_state(self):
@@ -317,6 +328,28 @@ def calls_that_fail(machine):
          [machine.register(name) for name in ("x8", "x9", "x10")])
 
 
+def calls_as_proved(machine):
+    """the console: calls answer as those of rrs exec, which are proved"""
+    rrs = RRS / "out" / "rrs"
+    machine.choose("three")
+    machine.take_memory_of_exec()
+    with tempfile.TemporaryDirectory() as name:
+        program = calls.assemble(rrs, pathlib.Path(name))
+        same("what is wrong in rrs exec", [], calls.differences(calls.execute(rrs, program)))
+        machine.give(program)
+    for line in calls.INPUT.splitlines(keepends=True):
+        machine.page.ask(f"rrs.session.type({json.dumps(line)})")
+    machine.keys("z")
+    machine.run()
+    machine.says("Exit")
+    output = "rrs.session.machine.terminal.output.slice(0, rrs.session.machine.terminal.printed)"
+    same("what is wrong in the page", [],
+         calls.differences(bytes(machine.page.ask(f"[...{output}]"))))
+    machine.run("B")
+    same("whether it is the first state", True, machine.is_first_state())
+    return f"{len(calls.CALLS)} calls"
+
+
 def port(machine):
     """the port: what is stored there is printed, and reads back"""
     machine.choose("port")
@@ -372,10 +405,7 @@ def files(machine):
 def c_programs(machine):
     """the C programs of rrs exec, over 1 MiB with sp at its end"""
     machine.choose("three")
-    machine.page.press("e")
-    machine.page.choose("#size", "1048576")
-    machine.page.click("#stack")
-    machine.page.click("#take")
+    machine.take_memory_of_exec()
     same("sp", "0x00100000", machine.register("x2"))
     seen = {}
     for name in ("hello", "count", "fault"):
@@ -744,6 +774,6 @@ def opened(browser, address):
 # those over one page, one after the other
 TESTS = [
     three_words, radixes, million_steps, more_than_is_kept, faults, console, end_of_input,
-    calls_that_fail, port, files, c_programs, editor, stops, pace, memory, names, generated,
-    there_and_back,
+    calls_that_fail, calls_as_proved, port, files, c_programs, editor,
+    stops, pace, memory, names, generated, there_and_back,
 ]
