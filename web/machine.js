@@ -13,6 +13,9 @@ const BAD_ADDRESS = -14;
 /* The most bytes of one call, as on Linux. */
 const MOST_TRANSFERRED = 0x7ffff000;
 
+/* How many bytes calls may transfer before a run answers. */
+const RUN_BYTES = 1 << 16;
+
 /* Instructions that were executed are counted by these bits of a word: the opcode, funct3, and the
  * two bits of funct7 that tell rows apart. Words of different rows that retire differ in them. */
 const KINDS = 1 << 10;
@@ -59,6 +62,7 @@ class Machine {
     this.executed = new Float64Array(kit.words.length);
     this.kinds = new Float64Array(KINDS);
     this.wordOfKind = new Uint32Array(KINDS);
+    this.transferred = 0;
     this.terminal.reset();
     this.history.clear();
   }
@@ -88,11 +92,13 @@ class Machine {
     return null;
   }
 
-  /** Makes steps until one ends, `most` were made, or the pc is a stop. `stops` has a number that
-   * is not 0 for each word to stop at; the first step is made wherever the pc is. */
+  /** Makes steps until one ends, `most` were made, the pc is a stop, or calls have transferred
+   * RUN_BYTES. `stops` has a number that is not 0 for each word to stop at; the first step is made
+   * wherever the pc is. */
   run(most, stops) {
     const { kit } = this;
-    for (let made = 0; made < most; made++) {
+    this.transferred = 0;
+    for (let made = 0; made < most && this.transferred < RUN_BYTES; made++) {
       const end = this.step();
       if (end !== null) return end;
       if (stops[(kit.pc - kit.base) >>> 2]) return { reason: "stop", address: kit.pc };
@@ -194,7 +200,9 @@ class Machine {
     if (most <= 0) return most;
     const count = this.countMapped(address, most);
     if (count === 0) return BAD_ADDRESS;
-    for (let i = 0; i < count; i++) terminal.print(kit.bytes[address - kit.base + i]);
+    const offset = address - kit.base;
+    terminal.print(kit.bytes.subarray(offset, offset + count));
+    this.transferred += count;
     return count;
   }
 
@@ -212,6 +220,7 @@ class Machine {
     const given = held.slice(0, this.countMapped(address, most));
     if (given.length === 0) return BAD_ADDRESS;
     terminal.taken += given.length;
+    this.transferred += given.length;
     this.storeBytes(address, given, extra);
     return given.length;
   }

@@ -172,9 +172,11 @@ class Session {
 
   /* Makes at most `most` steps, for SLICE_MS at the longest. Answers whether the run is over. */
   runSlice(most) {
+    const { machine } = this;
     const until = performance.now() + SLICE_MS;
-    for (let left = most; left > 0 && performance.now() < until; left -= SLICE_STEPS) {
-      const end = this.machine.run(Math.min(left, SLICE_STEPS), this.stops);
+    const last = machine.steps + most;
+    while (machine.steps < last && performance.now() < until) {
+      const end = machine.run(Math.min(last - machine.steps, SLICE_STEPS), this.stops);
       if (end !== null) {
         this.endRun(end);
         return true;

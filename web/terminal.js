@@ -29,24 +29,24 @@ class Terminal {
     this.port = 0;
   }
 
-  /** Prints a byte, or counts it where there is no more room. */
-  print(byte) {
-    if (this.printed === OUTPUT_ROOM) {
-      this.lost++;
-      return;
-    }
-    if (this.printed === this.output.length) {
-      const longer = new Uint8Array(2 * this.output.length);
+  /** Prints bytes, and counts those for which there is no more room. */
+  print(bytes) {
+    const kept = bytes.subarray(0, OUTPUT_ROOM - this.printed);
+    const end = this.printed + kept.length;
+    if (end > this.output.length) {
+      const longer = new Uint8Array(Math.max(end, 2 * this.output.length));
       longer.set(this.output);
       this.output = longer;
     }
-    this.output[this.printed++] = byte;
+    this.output.set(kept, this.printed);
+    this.printed = end;
+    this.lost += bytes.length - kept.length;
   }
 
   /** A byte is stored to the port. */
   storeToPort(byte) {
     this.port = byte;
-    this.print(byte);
+    this.print(Uint8Array.of(byte));
   }
 
   /** Adds typed text behind what was typed before. */

@@ -497,20 +497,26 @@ def stops(machine):
     same("the steps", 3 + 6 * 8 + 1 + 2, machine.steps())
 
 
-def pace(machine):
-    """an endless run: the page answers, pause, and a slow one"""
-    machine.choose("three")
-    machine.edit("loop:\n0000006f # jal x0, loop")
+def run_and_pause(machine):
+    """Runs on, and pauses. Gives the longest time that the page took to answer."""
     machine.page.press("r")
     slowest = 0
     for _ in range(20):
         begun = time.monotonic()
         machine.page.ask("1")
         slowest = max(slowest, time.monotonic() - begun)
-    if slowest > 2:
-        raise Differs(f"the page answered only after {slowest:.2f} s")
+        if slowest > 2:
+            raise Differs(f"the page answered only after {slowest:.2f} s")
     machine.keys("p")
     machine.says("Paused")
+    return slowest
+
+
+def pace(machine):
+    """an endless run: the page answers, pause, and a slow one"""
+    machine.choose("three")
+    machine.edit("loop:\n0000006f # jal x0, loop")
+    slowest = run_and_pause(machine)
     machine.keys("x----")
     same("the speed", "16/s", machine.page.ask(
         "document.querySelector('#speed').selectedOptions[0].text"))
@@ -524,6 +530,18 @@ def pace(machine):
         raise Differs(f"at 16 steps a second {made} were made in {seconds:.1f} s")
     machine.keys("++++")
     return f"at full speed it answers in {1000 * slowest:.0f} ms"
+
+
+def pace_of_writes(machine):
+    """an endless run that writes a MiB at a time: the page answers, and pause"""
+    machine.choose("three")
+    machine.take_memory_of_exec()
+    # write(1, 0, 1 MiB) again and again
+    machine.edit("loop:\n00100513 00000593 00100637 04000893 00000073 fedff06f")
+    slowest = run_and_pause(machine)
+    machine.run("B")
+    same("whether it is the first state", True, machine.is_first_state())
+    return f"it answers in {1000 * slowest:.0f} ms"
 
 
 def memory(machine):
@@ -775,5 +793,5 @@ def opened(browser, address):
 TESTS = [
     three_words, radixes, million_steps, more_than_is_kept, faults, console, end_of_input,
     calls_that_fail, calls_as_proved, port, files, c_programs, editor,
-    stops, pace, memory, names, generated, there_and_back,
+    stops, pace, pace_of_writes, memory, names, generated, there_and_back,
 ]
