@@ -33,9 +33,20 @@ const ACTIONS = {
 /* The most bytes of a file of words as text. */
 const MOST_TEXT = 1 << 23;
 
+const UNREADABLE = "can't be read: it is a folder, or it was changed after it was chosen.";
+
 /** Whether a file has words as text, by its name. Each other is taken byte by byte. */
 function isTextFile(file) {
   return /\.(txt|hex|words)$/i.test(file.name);
+}
+
+/** The bytes of a file, or null where the browser can't read it. */
+async function contentOf(file) {
+  try {
+    return new Uint8Array(await file.arrayBuffer());
+  } catch {
+    return null;
+  }
 }
 
 /** The page over one session. */
@@ -282,11 +293,11 @@ class Page {
     const [file] = files;
     if (!file) return;
     const mistake = this.mistakeOf(file);
-    if (mistake) {
-      this.refuse(`${file.name} ${mistake}`);
+    const bytes = mistake ? null : await contentOf(file);
+    if (bytes === null) {
+      this.refuse(`${file.name} ${mistake || UNREADABLE}`);
     } else {
       const { kit: { base, size }, hasStack } = this.session.machine;
-      const bytes = new Uint8Array(await file.arrayBuffer());
       const text = isTextFile(file) ? new TextDecoder().decode(bytes) : textOfBytes(bytes);
       this.open({ name: file.name, text, base, size, hasStack });
     }

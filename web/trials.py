@@ -43,6 +43,8 @@ FAULTS = {
                f"{NOTHING}", 1),
 }
 
+UNREADABLE = "can't be read: it is a folder, or it was changed after it was chosen."
+
 # how the page heads each fault that `rrs run` names
 HEADINGS = {
     "IllegalInstruction": "Illegal instruction",
@@ -400,6 +402,27 @@ def files(machine):
     })()""")
     machine.page.wait("document.querySelector('#program-title').textContent === 'dropped.bin'")
     same("line 0", "lui x2, 0x1234b000", machine.line(0)[2])
+
+
+def files_that_cannot_be_read(machine):
+    """files: a folder, and one that was changed after it was chosen"""
+    machine.choose("gcd")
+    with tempfile.TemporaryDirectory() as name:
+        folder = pathlib.Path(name)
+        machine.give(folder)
+        machine.says("Not opened", f"{folder.name} {UNREADABLE}")
+        changed = folder / "changed.bin"
+        changed.write_bytes(b"\x13\0\0\0")
+        machine.page.ask("document.body.append(Object.assign("
+                         "document.createElement('input'), { type: 'file', id: 'other' }))")
+        machine.page.give_file("#other", changed)
+        changed.write_bytes(b"\x13\0\0\0" * 2)
+        machine.page.ask("rrs.openFiles(document.querySelector('#other').files)")
+        machine.says("Not opened", f"changed.bin {UNREADABLE}")
+        machine.page.ask("document.querySelector('#other').remove()")
+    same("line 0, of what was open", "addi x10, x0, 1071", machine.line(0)[2])
+    same("the file that is chosen", 0,
+         machine.page.ask("document.querySelector('#file').files.length"))
 
 
 def c_programs(machine):
@@ -792,6 +815,6 @@ def opened(browser, address):
 # those over one page, one after the other
 TESTS = [
     three_words, radixes, million_steps, more_than_is_kept, faults, console, end_of_input,
-    calls_that_fail, calls_as_proved, port, files, c_programs, editor,
+    calls_that_fail, calls_as_proved, port, files, files_that_cannot_be_read, c_programs, editor,
     stops, pace, pace_of_writes, memory, names, generated, there_and_back,
 ]
