@@ -307,14 +307,14 @@ class Page {
   /* Why a file can't be opened, or "". */
   mistakeOf(file) {
     const { size } = this.session.machine.kit;
-    const is = file.size.toLocaleString("en");
+    const is = numbered(file.size);
     if (file.size === 0) return "is empty.";
     if (isTextFile(file)) {
-      const most = MOST_TEXT.toLocaleString("en");
+      const most = numbered(MOST_TEXT);
       return file.size > MOST_TEXT ? `has ${is} bytes, and a text of words ${most} at most.` : "";
     }
     if (file.size <= size) return "";
-    const room = size.toLocaleString("en");
+    const room = numbered(size);
     return `has ${is} bytes, and the memory has ${room}. A larger memory can be chosen at Edit.`;
   }
 

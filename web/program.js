@@ -10,45 +10,97 @@ class ProgramError extends Error {
   }
 }
 
-const COMMENT = /(#|;|\/\/)(.*)$/;
-const LABEL = /^([A-Za-z_.$][\w.$]*):/;
+const numbered = (count) => count.toLocaleString("en");
+
+/* What stands in a text: blanks and commas, comments up to the end of their line, and parts. A part
+ * is labels and a word. No pattern looks at a character more than twice. */
+const BLANKS = /[\s,]*/y;
+const COMMENT = /(?:#|;|\/\/)[^\r\n]*/y;
+const PART = /\/?[^\s,#;/]*/y;
+const LABEL = /[A-Za-z_.$][\w.$]*:/y;
 const WORD = /^(0x)?([0-9a-f]{1,8})$/i;
+const LINE_END = /\r\n|\r|\n/;
+
+/* Where what a pattern finds at a place of a text ends. Where it finds nothing, that place. */
+function endOf(pattern, text, at) {
+  pattern.lastIndex = at;
+  return pattern.test(text) ? pattern.lastIndex : at;
+}
+
+/** The number that 1 to 8 hexadecimal digits are, with or without 0x, or NaN. */
+function parseHex(text) {
+  const word = WORD.exec(text);
+  return word ? parseInt(word[2], 16) : NaN;
+}
 
 /** Reads words of hexadecimal digits, with or without 0x, apart by blanks, commas or lines. A
  * comment begins with #, ; or //, and a name with : is a label of the next word. Answers the words,
- * the labels by the number of their word, and the comments likewise, or throws a ProgramError. */
+ * the labels by the number of their word, the comments likewise by the first word of their line,
+ * and where each label stands: its word and its place in the text. Or throws a ProgramError. */
 function parseWords(text) {
-  const program = { words: [], labels: new Map(), comments: new Map() };
-  const places = new Map();
-  text.split(/\r\n|\r|\n/).forEach((line, at) => parseLine(line, at + 1, program, places));
+  const program = { words: [], labels: new Map(), comments: new Map(), places: new Map() };
+  let firstOfLine = 0;
+  for (let at = 0; at < text.length;) {
+    const start = endOf(BLANKS, text, at);
+    if (LINE_END.test(text.slice(at, start))) firstOfLine = program.words.length;
+    at = endOf(COMMENT, text, start);
+    if (at > start) addComment(text.slice(start, at), firstOfLine, program);
+    else at = parsePart(text, start, program);
+  }
   return program;
 }
 
-function parseLine(line, number, program, places) {
-  const { words, labels, comments } = program;
-  const comment = COMMENT.exec(line);
-  const before = words.length;
-  const parts = line.replace(COMMENT, "").split(/[\s,]+/);
-  for (let part of parts) {
-    for (let label = LABEL.exec(part); label; label = LABEL.exec(part)) {
-      if (places.has(label[1])) {
-        const first = places.get(label[1]);
-        throw new ProgramError(number, `the label ${label[1]} stands on line ${first} too`);
-      }
-      places.set(label[1], number);
-      labels.set(words.length, [...(labels.get(words.length) ?? []), label[1]]);
-      part = part.slice(label[0].length);
-    }
-    if (part === "") continue;
-    const word = WORD.exec(part);
-    if (!word) {
-      const shown = part.length > 20 ? `${part.slice(0, 20)}…` : part;
-      throw new ProgramError(number, `"${shown}" is no word of 1 to 8 hexadecimal digits`);
-    }
-    words.push(parseInt(word[2], 16));
+function addComment(comment, firstOfLine, { words, comments }) {
+  const said = comment.replace(/^(#|;|\/\/)/, "").trim();
+  if (said && words.length > firstOfLine) comments.set(firstOfLine, said);
+}
+
+/* Reads the part at a place of the text, and answers where it ends. */
+function parsePart(text, at, program) {
+  const end = endOf(PART, text, at);
+  const part = text.slice(at, end);
+  let from = 0;
+  for (let to = endOf(LABEL, part, 0); to > from; to = endOf(LABEL, part, from)) {
+    addLabel(part.slice(from, to - 1), text, at, program);
+    from = to;
   }
-  const said = comment?.[2].trim();
-  if (said && words.length > before) comments.set(before, said);
+  if (from === part.length) return end;
+  const word = parseHex(part.slice(from));
+  if (Number.isNaN(word)) {
+    const shown = shortened(part.slice(from), 20);
+    throw new ProgramError(
+      lineAt(text, at), `"${shown}" is no word of 1 to 8 hexadecimal digits`);
+  }
+  if (program.words.length === MOST_BYTES / 4) {
+    const most = numbered(MOST_BYTES);
+    throw new ProgramError(0, `It has more than ${most} bytes, and a memory has no more.`);
+  }
+  program.words.push(word);
+  return end;
+}
+
+/* Adds a label of the next word, which stands at a place of the text. */
+function addLabel(name, text, at, { words, labels, places }) {
+  const index = words.length;
+  const first = places.get(name);
+  if (first) {
+    const line = lineAt(text, first.at);
+    throw new ProgramError(
+      lineAt(text, at), `the label ${shortened(name, 20)} stands on line ${line} too`);
+  }
+  places.set(name, { index, at });
+  if (labels.has(index)) labels.get(index).push(name);
+  else labels.set(index, [name]);
+}
+
+/** The number of the line that a place of a text is on. */
+function lineAt(text, at) {
+  return text.slice(0, at).split(LINE_END).length;
+}
+
+/** A text, or its first characters where there are more than `most`. */
+function shortened(text, most) {
+  return text.length > most ? `${text.slice(0, most)}…` : text;
 }
 
 /** Reads a program whose words fit `size` bytes, or throws a ProgramError. */
@@ -57,9 +109,8 @@ function parseProgram(text, size) {
   if (program.words.length === 0) throw new ProgramError(0, "There is no word in it.");
   const bytes = 4 * program.words.length;
   if (bytes > size) {
-    const room = size.toLocaleString("en");
-    const is = bytes.toLocaleString("en");
-    throw new ProgramError(0, `It has ${is} bytes, and the memory has ${room}.`);
+    throw new ProgramError(
+      0, `It has ${numbered(bytes)} bytes, and the memory has ${numbered(size)}.`);
   }
   return program;
 }

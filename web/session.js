@@ -34,10 +34,10 @@ class Session {
     if (!SIZES.includes(size)) {
       throw new ProgramError(0, `Memory can have ${SIZES.join(", ")} bytes.`);
     }
-    const program = parseProgram(text, size);
+    const { words, labels, places, comments } = parseProgram(text, size);
     this.stop();
-    Object.assign(this, { name, about, text, labels: program.labels, comments: program.comments });
-    this.machine.load(program.words, base, size, hasStack);
+    Object.assign(this, { name, about, text, labels, places, comments });
+    this.machine.load(words, base, size, hasStack);
     this.stops = new Uint8Array(size / 4);
     this.selected = 0;
     this.start();
@@ -238,9 +238,7 @@ class Session {
 
   /** The address of a label, or undefined. */
   addressOf(name) {
-    for (const [index, names] of this.labels) {
-      if (names.includes(name)) return this.machine.kit.base + 4 * index;
-    }
-    return undefined;
+    const place = this.places.get(name);
+    return place && this.machine.kit.base + 4 * place.index;
   }
 }

@@ -475,6 +475,38 @@ def editor(machine):
     same("the pc", "0x80000000", machine.register("pc"))
 
 
+def in_time(what, action, *arguments):
+    """Does something, which may take ten seconds, and gives its answer."""
+    begun = time.monotonic()
+    answer = action(*arguments)
+    took = time.monotonic() - begun
+    if took > 10:
+        raise Differs(f"{what} took {took:.1f} s")
+    return answer
+
+
+def long_texts(machine):
+    """long texts are read, or refused, in time"""
+    machine.choose("gcd")
+    for text, mistake in {
+        r"'#'.repeat(100000) + '\u2028'": "There is no word in it.",
+        "'13 '.repeat(300000)": "It has more than 1,048,576 bytes, and a memory has no more.",
+        r"'\n'.repeat(1 << 23)": "There is no word in it.",
+    }.items():
+        same(f"the mistake in {text}", mistake, in_time(
+            text, machine.page.ask, f"rrs.tryToOpen({{ name: 'long', text: {text} }})"))
+    same("line 0, of what was open", "addi x10, x0, 1071", machine.line(0)[2])
+    text = r"Array.from({ length: 100000 }, (_, at) => `a${at}:\n`).join('') + '13 # a\u2028b'"
+    same("the mistake in many labels", "", in_time(
+        "labels", machine.page.ask, f"rrs.tryToOpen({{ name: 'long', text: {text} }})"))
+    same("the labels", "a0, a1, a2, a3, a4, a5, a6, a7, 99,992 more:",
+         machine.page.text("#line-0 .label"))
+    same("the comment", "a\u2028b", machine.page.text("#line-0 .comment"))
+    same("the last label", 0, machine.page.ask("rrs.session.addressOf('a99999')"))
+    in_time("ten steps there and back", machine.keys, 10 * "sb")
+    machine.says("Back at step 0", "Next: addi x0, x0, 0")
+
+
 def links(machine):
     """a link holds the program, and a damaged one says so"""
     machine.choose("fibonacci")
@@ -816,5 +848,5 @@ def opened(browser, address):
 TESTS = [
     three_words, radixes, million_steps, more_than_is_kept, faults, console, end_of_input,
     calls_that_fail, calls_as_proved, port, files, files_that_cannot_be_read, c_programs, editor,
-    stops, pace, pace_of_writes, memory, names, generated, there_and_back,
+    long_texts, stops, pace, pace_of_writes, memory, names, generated, there_and_back,
 ]

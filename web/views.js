@@ -42,6 +42,19 @@ function mostOf(counts) {
 const LINE_HEIGHT = 24;
 const LINES_AROUND = 4;
 
+/* How many characters of a comment and of a label are shown, and how many labels of a word. */
+const COMMENT_SHOWN = 200;
+const LABEL_SHOWN = 60;
+const LABELS_SHOWN = 8;
+
+/** The labels of a word, as one text. */
+function labelsShown(names) {
+  const shown = names.slice(0, LABELS_SHOWN).map((name) => shortened(name, LABEL_SHOWN));
+  const others = names.length - shown.length;
+  if (others > 0) shown.push(`${numbered(others)} more`);
+  return shown.join(", ");
+}
+
 /** The lines of the program, of which those in view stand in the page. */
 class ListingView {
   constructor(session) {
@@ -124,7 +137,8 @@ class ListingView {
     const address = kit.base + 4 * index;
     const word = kit.words[index];
     const text = kit.disassemble(word, address);
-    const labels = (session.labels.get(index) ?? []).join(", ");
+    const labels = labelsShown(session.labels.get(index) ?? []);
+    const comment = shortened(session.comments.get(index) ?? "", COMMENT_SHOWN);
     const count = machine.executed[index];
     const isPc = kit.pc === address;
     const isStop = (session.stops[index] & STOP.BREAKPOINT) !== 0;
@@ -140,7 +154,7 @@ class ListingView {
     setText(wordCell, hexOf(word));
     setText(textCell.children[0], labels && `${labels}:`);
     setText(textCell.children[1], text || "no instruction");
-    setText(textCell.children[2], session.comments.get(index) ?? "");
+    setText(textCell.children[2], comment);
     setText(executed.lastChild, count ? count.toLocaleString("en") : "");
     executed.firstChild.style.width = `${100 * Math.log1p(count) / Math.log1p(this.most)}%`;
     const parts = [labels, hex(address), text || "no instruction"];
@@ -149,7 +163,7 @@ class ListingView {
     if (count) parts.push(`executed ${counted(count, "time")}`);
     const said = parts.filter((part) => part).join(", ");
     line.setAttribute("aria-label", said);
-    line.title = session.comments.has(index) ? `${said}: ${session.comments.get(index)}` : said;
+    line.title = comment ? `${said}: ${comment}` : said;
   }
 }
 
@@ -194,6 +208,9 @@ class RegistersView {
 
 const MEMORY_ROWS = 13;
 
+/* How many labels the menu of memory has at most. Each other can be typed as an address. */
+const LABELS_IN_MENU = 1000;
+
 /** A part of memory, around an address or a register. */
 class MemoryView {
   constructor(session) {
@@ -207,8 +224,8 @@ class MemoryView {
   /** The choices of the menu: registers, the labels of the program, and an address. */
   fillChoices() {
     const choices = [["sp", "around sp"], ["pc", "around pc"], ["store", "at last store"]];
-    for (const names of this.session.labels.values()) {
-      for (const name of names) choices.push([`label ${name}`, `at ${name}`]);
+    for (const name of [...this.session.places.keys()].slice(0, LABELS_IN_MENU)) {
+      choices.push([`label ${name}`, `at ${shortened(name, LABEL_SHOWN)}`]);
     }
     choices.push(["address", "at the address"]);
     $("around").replaceChildren(...choices.map(([value, text]) => new Option(text, value)));
@@ -249,8 +266,8 @@ class MemoryView {
 
   /** Shows the address that was typed, in digits or as a label. Returns whether it is one. */
   show(text) {
-    const word = WORD.exec(text.trim());
-    const address = word ? parseInt(word[2], 16) : this.session.addressOf(text.trim());
+    const digits = parseHex(text.trim());
+    const address = Number.isNaN(digits) ? this.session.addressOf(text.trim()) : digits;
     if (address === undefined || this.session.machine.indexOf(address) < 0) return false;
     this.around = "address";
     this.typed = address;

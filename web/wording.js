@@ -17,7 +17,7 @@ const RADIXES = {
 };
 
 const hex = (value) => `0x${hexOf(value)}`;
-const counted = (count, noun) => `${count.toLocaleString("en")} ${noun}${count === 1 ? "" : "s"}`;
+const counted = (count, noun) => `${numbered(count)} ${noun}${count === 1 ? "" : "s"}`;
 
 /* What kind of instruction a word is, by its opcode; multiplication by funct7 too. */
 const GROUPS = {
