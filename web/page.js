@@ -30,9 +30,6 @@ const ACTIONS = {
   keys: { label: "All keys", key: "?" },
 };
 
-/* The most bytes of a file of words as text. */
-const MOST_TEXT = 1 << 23;
-
 const UNREADABLE = "can't be read: it is a folder, or it was changed after it was chosen.";
 
 /** Whether a file has words as text, by its name. Each other is taken byte by byte. */
@@ -331,11 +328,10 @@ class Page {
 
   /* Opens what stands in the editor, or says there what is wrong with it. */
   take() {
-    const base = WORD.exec($("base").value.trim());
     const program = {
       name: "Program",
       text: $("text").value,
-      base: base ? parseInt(base[2], 16) : NaN,
+      base: parseHex($("base").value.trim()),
       size: Number($("size").value),
       hasStack: $("stack").checked,
     };

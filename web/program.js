@@ -12,6 +12,10 @@ class ProgramError extends Error {
 
 const numbered = (count) => count.toLocaleString("en");
 
+/* The most bytes of a text of words, in a file, a link or the editor. */
+const MOST_TEXT = 1 << 23;
+const TOO_LONG = `A text of words has ${numbered(MOST_TEXT)} bytes at most, and this one has more.`;
+
 /* What stands in a text: blanks and commas, comments up to the end of their line, and parts. A part
  * is labels and a word. No pattern looks at a character more than twice. */
 const BLANKS = /[\s,]*/y;
@@ -103,8 +107,14 @@ function shortened(text, most) {
   return text.length > most ? `${text.slice(0, most)}…` : text;
 }
 
+/** Whether a text has more bytes than one of words may have. */
+function isTooLong(text) {
+  return text.length > MOST_TEXT || new TextEncoder().encode(text).length > MOST_TEXT;
+}
+
 /** Reads a program whose words fit `size` bytes, or throws a ProgramError. */
 function parseProgram(text, size) {
+  if (isTooLong(text)) throw new ProgramError(0, TOO_LONG);
   const program = parseWords(text);
   if (program.words.length === 0) throw new ProgramError(0, "There is no word in it.");
   const bytes = 4 * program.words.length;
@@ -128,15 +138,42 @@ function hexOf(word, digits = 8) {
 
 /* ---- links: the text, deflated, in base64 with the letters that an address may have */
 
-async function piped(bytes, through) {
-  const stream = new Blob([bytes]).stream().pipeThrough(through);
-  return new Uint8Array(await new Response(stream).arrayBuffer());
+/* How many bytes of a link are unpacked at once. They give 1 MiB at most. */
+const PIECE = 1024;
+
+/* A stream of bytes, a piece at a time. */
+function streamOf(bytes) {
+  let at = 0;
+  return new ReadableStream({
+    pull(controller) {
+      if (at < bytes.length) controller.enqueue(bytes.subarray(at, at + PIECE));
+      else controller.close();
+      at += PIECE;
+    },
+  });
+}
+
+/* What bytes become by a stream. Where that is more than `most` bytes it throws a ProgramError, and
+ * leaves the rest of them. */
+async function piped(bytes, through, most) {
+  const reader = streamOf(bytes).pipeThrough(through).getReader();
+  const parts = [];
+  for (let length = 0; ;) {
+    const { done, value } = await reader.read();
+    if (done) return new Uint8Array(await new Blob(parts).arrayBuffer());
+    length += value.length;
+    parts.push(value);
+    if (length > most) {
+      await reader.cancel();
+      throw new ProgramError(0, TOO_LONG);
+    }
+  }
 }
 
 /** What stands behind # in a link to a program. */
 async function encodeLink({ text, base, size, hasStack }) {
   const bytes = await piped(
-    new TextEncoder().encode(text), new CompressionStream("deflate-raw"));
+    new TextEncoder().encode(text), new CompressionStream("deflate-raw"), Infinity);
   let letters = "";
   for (const byte of bytes) letters += String.fromCharCode(byte);
   const words = btoa(letters).replaceAll("+", "-").replaceAll("/", "_").replaceAll("=", "");
@@ -144,20 +181,30 @@ async function encodeLink({ text, base, size, hasStack }) {
   return `#base=0x${hexOf(base)}&size=${size}${stack}&program=${words}`;
 }
 
+/* The text that is packed in a link. Throws a ProgramError. */
+async function unpacked(given) {
+  try {
+    const letters = atob(given.replaceAll("-", "+").replaceAll("_", "/"));
+    const packed = Uint8Array.from(letters, (letter) => letter.charCodeAt(0));
+    const bytes = await piped(packed, new DecompressionStream("deflate-raw"), MOST_TEXT);
+    return new TextDecoder("utf-8", { fatal: true }).decode(bytes);
+  } catch (error) {
+    if (error instanceof ProgramError) throw error;
+    throw new ProgramError(0, "The link is damaged: its program can't be read.");
+  }
+}
+
 /** The program that stands behind # in a link, or null where none does. Throws a ProgramError. */
 async function decodeLink(hash) {
   const fields = new URLSearchParams(hash.replace(/^#/, ""));
   const given = fields.get("program");
   if (given === null) return null;
-  try {
-    const letters = atob(given.replaceAll("-", "+").replaceAll("_", "/"));
-    const packed = Uint8Array.from(letters, (letter) => letter.charCodeAt(0));
-    const bytes = await piped(packed, new DecompressionStream("deflate-raw"));
-    const text = new TextDecoder("utf-8", { fatal: true }).decode(bytes);
-    const number = (name, other) => Number(fields.get(name) ?? other);
-    const size = number("size", PAGE_BYTES);
-    return { text, base: number("base", 0), size, hasStack: number("stack", 0) === 1 };
-  } catch {
-    throw new ProgramError(0, "The link is damaged: its program can't be read.");
-  }
+  const text = await unpacked(given);
+  const size = fields.get("size") ?? String(PAGE_BYTES);
+  return {
+    text,
+    base: parseHex(fields.get("base") ?? "0"),
+    size: /^\d+$/.test(size) ? Number(size) : NaN,
+    hasStack: fields.get("stack") === "1",
+  };
 }

@@ -1,6 +1,7 @@
 """What is tried of the page, each trial a function over a page that is open, and what should stand
 there. A trial whose page differs raises Differs."""
 
+import base64
 import functools
 import http.server
 import json
@@ -9,6 +10,7 @@ import subprocess
 import tempfile
 import threading
 import time
+import zlib
 
 import calls
 import chromium
@@ -43,6 +45,7 @@ FAULTS = {
                f"{NOTHING}", 1),
 }
 
+TOO_LONG = "A text of words has 8,388,608 bytes at most, and this one has more."
 UNREADABLE = "can't be read: it is a folder, or it was changed after it was chosen."
 
 # how the page heads each fault that `rrs run` names
@@ -492,6 +495,8 @@ def long_texts(machine):
         r"'#'.repeat(100000) + '\u2028'": "There is no word in it.",
         "'13 '.repeat(300000)": "It has more than 1,048,576 bytes, and a memory has no more.",
         r"'\n'.repeat(1 << 23)": "There is no word in it.",
+        r"'\n'.repeat((1 << 23) + 1)": TOO_LONG,
+        r"('#' + '\u2028'.repeat(1365) + '\n').repeat(1 << 11)": TOO_LONG,
     }.items():
         same(f"the mistake in {text}", mistake, in_time(
             text, machine.page.ask, f"rrs.tryToOpen({{ name: 'long', text: {text} }})"))
@@ -507,6 +512,42 @@ def long_texts(machine):
     machine.says("Back at step 0", "Next: addi x0, x0, 0")
 
 
+def link_to(text, fields=""):
+    """The address of the page with a program in it."""
+    packer = zlib.compressobj(9, wbits=-15)
+    packed = base64.urlsafe_b64encode(packer.compress(text.encode()) + packer.flush())
+    return f"{PAGE.as_uri()}#{fields}program={packed.decode().rstrip('=')}"
+
+
+def follow(machine, link):
+    """Opens the page anew by a link."""
+    machine.page.go("about:blank")
+    machine.page.go(link)
+    machine.page.wait("document.documentElement.dataset.ready")
+
+
+def refused_links(machine):
+    """links with long texts, and with addresses that are none, are refused at once"""
+    not_opened = "Program of the link was not opened."
+    base = f"{not_opened} Memory can start at a multiple of 4 up to 0xfff00000."
+    size = f"{not_opened} Memory can have 65536, 262144, 1048576 bytes."
+    for text, fields, sentence in (
+        (100000 * "#" + "\u2028", "", f"{not_opened} There is no word in it."),
+        (16000000 * "13\n", "", TOO_LONG),
+        ("13", "base=&", base), ("13", "base=0b101&", base), ("13", "base=0o20&", base),
+        ("13", "base=1e9f4e9f4&", base), ("13", "size=&", size), ("13", "size=0x10000&", size),
+    ):
+        in_time("the link", follow, machine, link_to(text, fields))
+        machine.says("Not opened", sentence)
+    for name, text in {"base": "0b100", "digits": "100"}.items():
+        follow(machine, link_to("13", f"base={text}&"))
+        same(f"the pc by a link, {name}", f"0x{int(text, 16):08x}", machine.register("pc"))
+        machine.page.press("e")
+        machine.page.ask(f"document.querySelector('#base').value = '{text}'")
+        machine.page.click("#take")
+        same(f"the pc by the editor, {name}", f"0x{int(text, 16):08x}", machine.register("pc"))
+
+
 def links(machine):
     """a link holds the program, and a damaged one says so"""
     machine.choose("fibonacci")
@@ -515,15 +556,11 @@ def links(machine):
     link = machine.page.ask("document.querySelector('#link').value")
     machine.page.click("#shared [data-close]")
     machine.choose("three")
-    machine.page.go("about:blank")
-    machine.page.go(link)
-    machine.page.wait("document.documentElement.dataset.ready")
+    follow(machine, link)
     same("the program", "Program of the link", machine.page.text("#program-title"))
     machine.run()
     machine.says("Exit", "The program ended by the ecall at 0x00000010, with status 55.")
-    machine.page.go("about:blank")
-    machine.page.go(link[:-9])
-    machine.page.wait("document.documentElement.dataset.ready")
+    follow(machine, link[:-9])
     machine.says("Not opened", "The link is damaged: its program can't be read.")
     return f"{len(link)} characters for 23 words"
 
