@@ -139,10 +139,11 @@ def _word_of(value):
     return value % 2**32
 
 
-def _limit_of(limit):
-    if not 0 <= limit < 2**64:
-        raise ValueError(f"a limit of {limit} steps")
-    return limit
+def _long_of(value, name):
+    """A number of 64 bits, which is not negative."""
+    if not 0 <= value < 2**64:
+        raise ValueError(f"{name} {value} is no number of 64 bits")
+    return value
 
 
 class _Registers:
@@ -188,17 +189,25 @@ class Machine:
         count = len(program) if size is None else size
         if count < len(program):
             raise ValueError(f"a program of {len(program)} words in {count} words of memory")
-        #: The words of memory, which may be read and written.
-        self.memory = (_u32 * count)(*map(_word_of, program))
-        #: The address of the first word.
-        self.base = _word_of(base)
-        self._hart = _Hart(pc=self.base)
+        self._memory = (_u32 * count)(*map(_word_of, program))
+        self._base = _word_of(base)
+        self._hart = _Hart(pc=self._base)
         self._arguments = (
             ctypes.byref(self._hart),
-            ctypes.cast(self.memory, _words),
+            ctypes.cast(self._memory, _words),
             count,
-            self.base,
+            self._base,
         )
+
+    @property
+    def memory(self):
+        """The words of memory, which may be read and written."""
+        return self._memory
+
+    @property
+    def base(self):
+        """The address of the first word."""
+        return self._base
 
     @property
     def registers(self):
@@ -226,18 +235,19 @@ class Machine:
     def step_rvfi(self, order=0):
         """Executes the instruction at the pc. Returns the Fault or None, and what it Retired."""
         record = _Retired()
-        fault = _step_rvfi(*self._arguments, _u64(order), ctypes.byref(record))
+        fault = _step_rvfi(*self._arguments, _long_of(order, "order"), ctypes.byref(record))
         return _fault_of(fault), Retired(*(getattr(record, name) for name in Retired._fields))
 
     def run(self, limit):
         """Makes steps until ``limit`` were made, or one faults. Returns the End."""
-        return _end_of(_run(*self._arguments, _limit_of(limit)))
+        return _end_of(_run(*self._arguments, _long_of(limit, "limit")))
 
     def run_until(self, stops, limit):
         """Makes steps until the pc is one of the addresses ``stops``, ``limit`` were made, or one
         faults. The first step is made wherever the pc is. Returns the End."""
         addresses = (_u32 * len(stops))(*map(_word_of, stops))
-        return _end_of(_run_until(*self._arguments, _limit_of(limit), addresses, len(stops)))
+        limit = _long_of(limit, "limit")
+        return _end_of(_run_until(*self._arguments, limit, addresses, len(stops)))
 
     def __repr__(self):
         return f"Machine(pc=0x{self.pc:08x}, {len(self.memory)} words from 0x{self.base:08x})"

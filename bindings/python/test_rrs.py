@@ -38,6 +38,24 @@ class Calls(unittest.TestCase):
         for arguments in (([0], 2), ([0], -(2**40)), ([2**32], 0), ([1, 2], 0, 1)):
             self.assertRaises(ValueError, rrs.Machine, *arguments)
 
+    def test_orders_and_limits_have_64_bits(self):
+        machine = rrs.Machine([0x00108093] * 4)  # addi x1, x1, 1
+        self.assertEqual(machine.step_rvfi(2**64 - 1)[1].order, 2**64 - 1)
+        for number in (2**64, -1):
+            self.assertRaises(ValueError, machine.step_rvfi, number)
+            self.assertRaises(ValueError, machine.step_rvfi, order=number)
+            self.assertRaises(ValueError, machine.run, number)
+            self.assertRaises(ValueError, machine.run_until, [], number)
+        self.assertEqual((machine.pc, machine.registers[1]), (4, 1))
+
+    def test_a_machine_keeps_its_memory_and_its_base(self):
+        machine = rrs.Machine([1, 2], base=8)
+        for name, value in {"memory": [3, 4], "base": 0, "registers": [0] * 32, "last": 1}.items():
+            self.assertRaises(AttributeError, setattr, machine, name, value)
+        self.assertEqual((machine.memory[:], machine.base, machine.pc), ([1, 2], 8, 8))
+        machine.memory[:] = [0x00108093, 4]
+        self.assertIsNone(machine.step())
+
 
 def load_tests(loader, tests, pattern):
     tests.addTests(doctest.DocTestSuite(rrs))
