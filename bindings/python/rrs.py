@@ -15,6 +15,7 @@ of the repository that this module stands in.
 
 import ctypes
 import enum
+import functools
 import os
 from collections import namedtuple
 from pathlib import Path
@@ -146,6 +147,18 @@ def _long_of(value, name):
     return value
 
 
+@functools.lru_cache
+def _words_type(count):
+    """An array of words, which refuses numbers that have more than 32 bits."""
+
+    class Words(_u32 * count):
+        def __setitem__(self, index, value):
+            is_slice = isinstance(index, slice)
+            super().__setitem__(index, [*map(_word_of, value)] if is_slice else _word_of(value))
+
+    return Words
+
+
 class _Registers:
     """The registers x0 to x31 of a machine, as a sequence. x0 is 0, and a write to it is none."""
 
@@ -189,7 +202,7 @@ class Machine:
         count = len(program) if size is None else size
         if count < len(program):
             raise ValueError(f"a program of {len(program)} words in {count} words of memory")
-        self._memory = (_u32 * count)(*map(_word_of, program))
+        self._memory = _words_type(count)(*map(_word_of, program))
         self._base = _word_of(base)
         self._hart = _Hart(pc=self._base)
         self._arguments = (

@@ -56,6 +56,16 @@ class Calls(unittest.TestCase):
         machine.memory[:] = [0x00108093, 4]
         self.assertIsNone(machine.step())
 
+    def test_a_word_of_memory_has_32_bits(self):
+        machine = rrs.Machine([1, 2, 3])
+        for index, value in ((0, 2**32), (2, -(2**31) - 1), (slice(1, 3), [7, 2**32])):
+            with self.assertRaises(ValueError):
+                machine.memory[index] = value
+        self.assertEqual(machine.memory[:], [1, 2, 3])
+        machine.memory[0], machine.memory[1:] = -1, [2**32 - 1, 0]
+        self.assertEqual(machine.memory[:], [2**32 - 1, 2**32 - 1, 0])
+        self.assertEqual(bytes(machine.memory), bytes(8 * [255] + 4 * [0]))
+
 
 def load_tests(loader, tests, pattern):
     tests.addTests(doctest.DocTestSuite(rrs))
