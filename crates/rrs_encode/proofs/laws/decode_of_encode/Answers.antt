@@ -4,6 +4,9 @@ use Rattle.rrs_instruction.specs.Instructions.{IsInstruction}
 use Rattle.rrs_instruction.proofs.Instructions.{decoded_again}
 use Rattle.rrs_encode.proofs.laws.decode_of_encode.Goals as goal
 
+pub returns-clause-word : goal.returns-clause-word
+returns-clause-word c = (c.in_ok-word.ensures _).0 refl
+
 pub returns-clause-same : goal.returns-clause-same
 returns-clause-same c =
     decoded_again _ _ _ ((c.in_ok-word.ensures _).0 refl) c.decode.ensures.outside c.decode.ensures.only
