@@ -443,14 +443,14 @@ def c_programs(machine):
             machine.page.wait("!rrs.session.isRunning")
             machine.run("z")
         seen[name] = [machine.page.text(part) for part in ("#sentence", "#output")]
-    exits = "The program ended by the ecall at 0x00000044, with status"
+    exits = "The program ended by the ecall at 0x00000048, with status"
     same("the ends", {
         "hello": [f"{exits} 3.", "Hello, RISC-V! -42 0xbeef\n"],
         "count": [f"{exits} 0.", "      2       5      10\n"],
-        "fault": ["The instruction at 0x000000d4 stores to 0x40000000, where there is no memory. "
+        "fault": ["The instruction at 0x000001a0 stores to 0x40000000, where there is no memory. "
                   f"Memory goes from 0x00000000 to 0x000fffff. {NOTHING}", "going to store\n"],
     }, seen)
-    same("the steps to the fault", 1889, machine.steps())
+    same("the steps to the fault", 1951, machine.steps())
     machine.run("B")
     same("sp, back at the start", "0x00100000", machine.register("x2"))
 

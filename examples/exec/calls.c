@@ -1,10 +1,24 @@
 // The system calls that picolibc makes, by ecall, and the streams over them.
 #include <errno.h>
+#include <signal.h>
 #include <stddef.h>
 #include <stdio-bufio.h>
 #include <stdio.h>
+#include <sys/stat.h>
+#include <sys/time.h>
+#include <sys/times.h>
 #include <sys/types.h>
 #include <unistd.h>
+
+// What Linux answers for a call that is not served. picolibc has another number for it. The
+// numbers of the other errors that a read or a write gives are the same.
+#define LINUX_ENOSYS 38
+
+static int fail(int error)
+{
+    errno = error;
+    return -1;
+}
 
 static long call(long number, long a, long b, long c)
 {
@@ -14,8 +28,7 @@ static long call(long number, long a, long b, long c)
     register long a7 __asm__("a7") = number;
     __asm__ volatile("ecall" : "+r"(a0) : "r"(a1), "r"(a2), "r"(a7) : "memory");
     if (a0 < 0 && a0 >= -4095) {
-        errno = -a0;
-        return -1;
+        return fail(a0 == -LINUX_ENOSYS ? ENOSYS : -a0);
     }
     return a0;
 }
@@ -30,6 +43,11 @@ ssize_t read(int fd, void *bytes, size_t count)
     return call(63, fd, (long)bytes, count);
 }
 
+int close(int fd)
+{
+    return call(57, fd, 0, 0);
+}
+
 void _exit(int status)
 {
     call(93, status, 0, 0);
@@ -37,20 +55,117 @@ void _exit(int status)
     }
 }
 
-// picolibc leaves the standard streams to the program: these read and write by the calls above, a
-// buffer at a time, and standard output a line at a time.
+pid_t getpid(void)
+{
+    return 1;
+}
+
+// A signal that nothing catches ends the program, with the status that a shell gives it.
+int kill(pid_t process, int signal)
+{
+    if (process != getpid()) {
+        return fail(ESRCH);
+    }
+    if (signal != 0) {
+        _exit(128 + signal);
+    }
+    return 0;
+}
+
+// A call that is not served gives -1, and so do time and clock.
+int gettimeofday(struct timeval *time, void *zone)
+{
+    struct {
+        long long seconds;
+        long long nanoseconds;
+    } now;
+    (void)zone;
+    if (call(403, 0, (long)&now, 0) < 0) {
+        return -1;
+    }
+    time->tv_sec = now.seconds;
+    time->tv_usec = now.nanoseconds / 1000;
+    return 0;
+}
+
+clock_t times(struct tms *times)
+{
+    (void)times;
+    return fail(ENOSYS);
+}
+
+// There are no files, and the streams have no positions.
+int open(const char *path, int flags, ...)
+{
+    (void)path, (void)flags;
+    return fail(ENOSYS);
+}
+
+int unlink(const char *path)
+{
+    (void)path;
+    return fail(ENOSYS);
+}
+
+int stat(const char *restrict path, struct stat *restrict status)
+{
+    (void)path, (void)status;
+    return fail(ENOSYS);
+}
+
+int fstat(int fd, struct stat *status)
+{
+    (void)fd, (void)status;
+    return fail(ENOSYS);
+}
+
+off_t lseek(int fd, off_t offset, int from)
+{
+    (void)fd, (void)offset, (void)from;
+    return fail(ESPIPE);
+}
+
+// picolibc leaves the standard streams to the program: these read and write by the calls above.
+// Standard input is read a buffer at a time, standard output is written a line at a time, and
+// standard error a byte at a time.
 static char input[BUFSIZ];
 static char output[BUFSIZ];
+static char error[1];
 
-static struct __file_bufio in = FDEV_SETUP_BUFIO(0, input, BUFSIZ, read, write, NULL, NULL, __SRD, 0);
+// Where a write takes fewer bytes, picolibc begins again with the first of them. So all is written,
+// or the write fails.
+static ssize_t write_all(int fd, const void *bytes, size_t count)
+{
+    for (size_t done = 0; done < count;) {
+        ssize_t written = write(fd, (const char *)bytes + done, count - done);
+        if (written <= 0) {
+            return -1;
+        }
+        done += written;
+    }
+    return count;
+}
+
+// A line that is not ended, as a question, is written before the program waits for input.
+static ssize_t read_after_output(int fd, void *bytes, size_t count)
+{
+    fflush(stdout);
+    return read(fd, bytes, count);
+}
+
+static struct __file_bufio in = FDEV_SETUP_BUFIO(
+    0, input, BUFSIZ, read_after_output, write_all, NULL, NULL, __SRD, 0);
 static struct __file_bufio out =
-    FDEV_SETUP_BUFIO(1, output, BUFSIZ, read, write, NULL, NULL, __SWR, __BLBF);
+    FDEV_SETUP_BUFIO(1, output, BUFSIZ, read, write_all, NULL, NULL, __SWR, __BLBF);
+static struct __file_bufio err =
+    FDEV_SETUP_BUFIO(2, error, 1, read, write_all, NULL, NULL, __SWR, 0);
 
 FILE *const stdin = &in.xfile.cfile.file;
 FILE *const stdout = &out.xfile.cfile.file;
+FILE *const stderr = &err.xfile.cfile.file;
 
-// What is still in the buffer is written at the end.
-__attribute__((destructor)) static void flush(void)
+// What is still in the buffer is written at the end, after the program's own destructors.
+__attribute__((destructor(101))) static void flush(void)
 {
     fflush(stdout);
 }

@@ -1,23 +1,47 @@
-/* A raw file that is put at address 0: the code from there on, and then the data. */
+/* A raw file that is loaded at address 0: the code from there on, and then the data. */
 OUTPUT_ARCH(riscv)
 ENTRY(_start)
 SECTIONS
 {
     . = BASE;
     .text : { *(.text.start) *(.text .text.*) *(.rodata .rodata.* .srodata .srodata.*) }
+    /* The constructors, which _start calls, and the destructors, which exit calls. No code names
+       them, so they are kept. */
+    . = ALIGN(16);
+    .init_array : {
+        __preinit_array_start = .;
+        KEEP(*(.preinit_array))
+        __preinit_array_end = .;
+        __init_array_start = .;
+        KEEP(*(SORT_BY_INIT_PRIORITY(.init_array.*)))
+        KEEP(*(.init_array))
+        __init_array_end = .;
+    }
+    .fini_array : {
+        __fini_array_start = .;
+        KEEP(*(SORT_BY_INIT_PRIORITY(.fini_array.*)))
+        KEEP(*(.fini_array))
+        __fini_array_end = .;
+    }
     . = ALIGN(16);
     .data : {
         __global_pointer$ = . + 0x800;
         *(.data .data.* .sdata .sdata.*)
     }
-    .init_array : { *(.init_array .init_array.*) }
+    /* What each thread has begins where tp points to, with its values and then with zeros, as
+       errno. There is one thread, so it is used where it is. */
+    . = ALIGN(16);
+    .tdata : { __tls_start = .; *(.tdata .tdata.*) . = ALIGN(16); }
     .tbss : { *(.tbss .tbss.*) }
-    . = ALIGN(16);
-    __bss_start = .;
-    /* What each thread has, errno, begins where tp points to: there is one thread. */
-    .bss (NOLOAD) : { . += SIZEOF(.tbss); *(.sbss .sbss.* .bss .bss.* COMMON) }
-    . = ALIGN(16);
-    __bss_end = .;
+    .bss ADDR(.tbss) (NOLOAD) : {
+        __bss_start = .;
+        . += SIZEOF(.tbss);
+        *(.sbss .sbss.* .bss .bss.* COMMON)
+        . = ALIGN(16);
+        __bss_end = .;
+    }
+    /* What is above the end of the heap is for the stack. */
     __heap_start = .;
     __heap_end = BASE + 0xc0000;
 }
+ASSERT(__heap_start <= __heap_end, "the program does not fit below 0xc0000, where the stack begins")

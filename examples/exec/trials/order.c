@@ -1,0 +1,38 @@
+// Says what is called before main and after it.
+#include <stdio.h>
+#include <stdlib.h>
+
+static int constructed;
+
+__attribute__((constructor)) static void construct(void)
+{
+    constructed++;
+    printf("a constructor\n");
+}
+
+__attribute__((constructor(200))) static void construct_first(void)
+{
+    constructed++;
+    printf("a constructor of a higher priority\n");
+}
+
+static void at_exit(void)
+{
+    printf("a function for exit\n");
+}
+
+__attribute__((destructor)) static void destruct(void)
+{
+    printf("a destructor\n");
+}
+
+__attribute__((destructor(200))) static void destruct_last(void)
+{
+    printf("a destructor of a higher priority");
+}
+
+int main(void)
+{
+    printf("main, after %d constructors\n", constructed);
+    return atexit(at_exit);
+}
