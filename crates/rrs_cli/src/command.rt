@@ -12,6 +12,7 @@ use crate::fault::RunFault;
 use crate::programs::RRS_RUN;
 use crate::requests::file_and_limit;
 use crate::simulation::simulate;
+use crate::streams::occupy_closed_streams;
 use std::alloc::Global;
 use std::error::Error;
 use std::io::{BufReader, BufWriter, ErrorKind};
@@ -97,6 +98,7 @@ pub fn conclude<R: Eprint>(rt: &R, program: Command, outcome: Result<(), Failure
 
 /// All that `rrs-run` does: it runs the file that its arguments name, and ends as `conclude` says.
 pub fn run_program<R: Env + Files + Print + Eprint + AllocGlobal>(rt: &R) -> ExitCode {
+    let _streams = occupy_closed_streams(rt);
     conclude(rt, RRS_RUN, perform(rt))
 }
 

@@ -11,3 +11,4 @@ pub mod programs;
 pub mod report;
 pub mod requests;
 pub mod simulation;
+pub mod streams;
