@@ -15,6 +15,8 @@ use std::process::ExitCode;
 pub enum Refusal {
     /// The source has mistakes, which were printed.
     SourceErrors,
+    /// The word for a limit is no limit.
+    WrongLimit,
     /// Something else failed.
     Failed(Failure),
 }
@@ -46,8 +48,9 @@ fn refused_status(task: Task, refusal: &Refusal) -> u8
 {
     match (task, refusal) {
         (Task::Execute, _) => 125,
-        (_, Refusal::SourceErrors) => 1,
+        (_, Refusal::WrongLimit) => 2,
         (_, Refusal::Failed(failure)) => failure.status(),
+        (_, _) => 1,
     }
 }
 
@@ -80,6 +83,9 @@ pub fn conclude<H: Eprint>(
         Ok(Ending::Exit(_)) | Err(Refusal::SourceErrors) => Ok(()),
         Ok(Ending::Limit) => eprintln!(rt; "{}: limit", program.name),
         Ok(Ending::Fault(fault)) => eprintln!(rt; "{}: {fault}", program.name),
+        Err(Refusal::WrongLimit) => {
+            eprintln!(rt; "{}: a limit has one to nine decimal digits", program.name)
+        }
         Err(Refusal::Failed(failure)) => rt.eprintln(NamedFailure { program, failure }),
     };
     ExitCode::from(status)

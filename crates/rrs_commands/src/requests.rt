@@ -1,9 +1,11 @@
 //! What the words of a command line ask of a subcommand, the subcommand's own word among them.
 
-ghost use Rattle.std.specs.Prelude.{◌≡◌, IfSome, Some, map, string_bytes};
+ghost use Rattle.std.specs.Prelude.{◌≡◌, IfOk, IfErr, None, Some, map, string_bytes};
 ghost use Rattle.rrs_cli.specs.Limits.{limit_in};
 ghost use Rattle.rrs_commands.specs.Requests.{AsksToExecute};
 
+use crate::ending::Refusal;
+use rrs_cli::command::Failure;
 use rrs_cli::limits::limit_of;
 use rrs_cli::requests::file_and_limit;
 
@@ -34,27 +36,35 @@ pub fn run_request_of(words: &[String]) -> Option<RunRequest<'_>> {
 }
 
 /// The file and the limit of a program that is to be run: `--raw FILE --limit N`, in either order.
-pub fn execute_request_of(words: &[String]) -> Option<(&str, u64)>
-    ensures { IfSome result (λ request.
+///
+/// # Errors
+///
+/// `Refusal::WrongLimit` where N is no limit, and for other words `Failure::Usage`.
+pub fn execute_request_of(words: &[String]) -> Result<(&str, u64), Refusal>
+    ensures { IfOk result (λ request.
         AsksToExecute (map string_bytes words.now) request.0.now request.1) }
 {
     let [_, first, one, second, other] = words else {
-        return None;
+        return Err(Refusal::Failed(Failure::Usage));
     };
     match (first.as_str(), second.as_str()) {
         ("--raw", "--limit") => path_and_limit(one.as_str(), other.as_str()),
         ("--limit", "--raw") => path_and_limit(other.as_str(), one.as_str()),
-        _ => None,
+        _ => Err(Refusal::Failed(Failure::Usage)),
     }
 }
 
 /// A file and the limit that a word is.
-fn path_and_limit<'a>(path: &'a str, limit: &str) -> Option<(&'a str, u64)>
-    ensures { IfSome result (λ request. request.0.now ≡ path.now
+fn path_and_limit<'a>(path: &'a str, limit: &str) -> Result<(&'a str, u64), Refusal>
+    ensures request { IfOk result (λ request. request.0.now ≡ path.now
         × limit_in limit.now ≡ Some request.1) }
+    ensures refused { IfErr result (λ refusal. refusal ≡ Refusal.WrongLimit
+        × limit_in limit.now ≡ None) }
 {
-    let limit = limit_of(limit)?;
-    Some((path, limit))
+    match limit_of(limit) {
+        Some(limit) => Ok((path, limit)),
+        None => Err(Refusal::WrongLimit),
+    }
 }
 
 /// An assembly that is asked for: a file, and how it is to be written.
