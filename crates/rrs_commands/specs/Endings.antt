@@ -9,7 +9,7 @@ use Rattle.rrs_env.specs.declared.Ending.{Ending}
 use Rattle.rrs_env.specs.declared.Ending.TheVariants.{Limit, Fault, Exit}
 use Rattle.rrs_cli.specs.Failures as Failures
 use Rattle.rrs_commands.specs.declared.ending.Refusal.{Refusal}
-use Rattle.rrs_commands.specs.declared.ending.Refusal.TheVariants.{SourceErrors, WrongLimit, Failed}
+use Rattle.rrs_commands.specs.declared.ending.Refusal.TheVariants.{SourceErrors, UnreadableSource, LargeSource, WrongLimit, Failed}
 use Rattle.rrs_commands.specs.declared.subcommands.Task.{Task}
 use Rattle.rrs_commands.specs.declared.subcommands.Task.TheVariants.{Run, Execute, Assemble, Help}
 
@@ -26,6 +26,8 @@ signal_of (EnvironmentCall pc) = 31  -- SIGSYS; each call is served
 abbrev pub refused_status : Task → Refusal → ℕ
 refused_status Execute refusal = 125
 refused_status task SourceErrors = 1
+refused_status task UnreadableSource = 1
+refused_status task LargeSource = 1
 refused_status task WrongLimit = 2
 refused_status task (Failed failure) = Failures.status_of failure
 

@@ -10,9 +10,13 @@ use rrs_asm::{SourceError, SourceFault, assemble_source, gnu_text};
 use rrs_cli::command::Failure;
 use rrs_cli::fault::RunFault;
 use rrs_cli::report::{flush, write_text};
-use std::io::ErrorKind;
+use std::alloc::Global;
+use std::io::{ErrorKind, Read};
 use std::rt::Files;
 use std::{fs, io};
+
+/// The most bytes of a source, 64 MiB. A device may have bytes without an end.
+const SOURCE_BYTES: u64 = 1 << 26;
 
 /// What is to be written of a source: the bytes of statements one after another from address 0 on,
 /// or a source for GNU `as`. Its mistakes are printed on standard error.
@@ -53,7 +57,7 @@ fn print_mistakes<H: Eprint>(rt: &H, path: &str, errors: &[SourceError]) {
 /// # Errors
 ///
 /// `Refusal::SourceErrors` where the source has mistakes, which were printed: nothing is written then.
-/// `Refusal::Failed` where the file can't be read, for a write that fails, and out of memory.
+/// Those of `read_file`, and `Refusal::Failed` for a write that fails, and out of memory.
 pub fn assemble_file<H: Files + Print + Eprint + AllocGlobal>(
     rt: &H,
     request: AssemblyRequest<'_>,
@@ -70,13 +74,30 @@ fn failed(fault: RunFault) -> Refusal {
     Refusal::Failed(Failure::Run(fault))
 }
 
-/// The bytes of a file.
-fn read_file<H: Files + AllocGlobal>(rt: &H, path: &str) -> Result<Vec<u8>, Failure> {
-    match fs::read(rt, path) {
-        Ok(bytes) => Ok(bytes),
-        Err(error) if error.kind() == ErrorKind::OutOfMemory => {
-            Err(Failure::Run(RunFault::OutOfMemory))
-        }
-        Err(_) => Err(Failure::CannotOpen),
+/// The bytes of a source.
+///
+/// # Errors
+///
+/// `Failure::CannotOpen` where the file can't be opened, and what `read_source` refuses.
+fn read_file<H: Files + AllocGlobal>(rt: &H, path: &str) -> Result<Vec<u8>, Refusal> {
+    match fs::open(rt, path) {
+        Ok(file) => read_source(rt.alloc(), file),
+        Err(_) => Err(Refusal::Failed(Failure::CannotOpen)),
+    }
+}
+
+/// The bytes that a reader has left.
+///
+/// # Errors
+///
+/// `Refusal::LargeSource` where it has more than `SOURCE_BYTES`, `Refusal::UnreadableSource` where a
+/// read fails, and out of memory for the bytes as a failure.
+fn read_source<R: Read + Drop>(alloc: Global, reader: R) -> Result<Vec<u8>, Refusal> {
+    let mut source = Vec::new(alloc);
+    match reader.take(SOURCE_BYTES + 1).read_to_end(&mut source) {
+        Ok(_) if source.len() as u64 > SOURCE_BYTES => Err(Refusal::LargeSource),
+        Ok(_) => Ok(source),
+        Err(error) if error.kind() == ErrorKind::OutOfMemory => Err(failed(RunFault::OutOfMemory)),
+        Err(_) => Err(Refusal::UnreadableSource),
     }
 }

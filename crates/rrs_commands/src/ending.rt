@@ -15,6 +15,10 @@ use std::process::ExitCode;
 pub enum Refusal {
     /// The source has mistakes, which were printed.
     SourceErrors,
+    /// The source can't be read to its end.
+    UnreadableSource,
+    /// The source has more bytes than are read.
+    LargeSource,
     /// The word for a limit is no limit.
     WrongLimit,
     /// Something else failed.
@@ -83,6 +87,10 @@ pub fn conclude<H: Eprint>(
         Ok(Ending::Exit(_)) | Err(Refusal::SourceErrors) => Ok(()),
         Ok(Ending::Limit) => eprintln!(rt; "{}: limit", program.name),
         Ok(Ending::Fault(fault)) => eprintln!(rt; "{}: {fault}", program.name),
+        Err(Refusal::UnreadableSource) => eprintln!(rt; "{}: cannot read file", program.name),
+        Err(Refusal::LargeSource) => {
+            eprintln!(rt; "{}: a source has at most 64 MiB", program.name)
+        }
         Err(Refusal::WrongLimit) => {
             eprintln!(rt; "{}: a limit has one to nine decimal digits", program.name)
         }

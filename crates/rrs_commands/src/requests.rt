@@ -76,10 +76,10 @@ pub struct AssemblyRequest<'a> {
     pub is_gnu: bool,
 }
 
-/// The assembly that is asked for: `FILE`, or `--gnu FILE`.
+/// The assembly that is asked for: `FILE`, which is not `--gnu`, or `--gnu FILE`.
 pub fn assembly_request_of(words: &[String]) -> Option<AssemblyRequest<'_>> {
     match words {
-        [_, path] => Some(AssemblyRequest {
+        [_, path] if path.as_str() != "--gnu" => Some(AssemblyRequest {
             path: path.as_str(),
             is_gnu: false,
         }),
