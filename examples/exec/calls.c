@@ -164,6 +164,24 @@ FILE *const stdin = &in.xfile.cfile.file;
 FILE *const stdout = &out.xfile.cfile.file;
 FILE *const stderr = &err.xfile.cfile.file;
 
+// At the end of the input picolibc's own fgets gives nothing for a last line that is not ended.
+char *fgets(char *line, int size, FILE *stream)
+{
+    int count = 0;
+    for (int c = 0; c != '\n' && count < size - 1; count++) {
+        c = getc(stream);
+        if (c == EOF) {
+            break;
+        }
+        line[count] = c;
+    }
+    if (count == 0 && size != 1) {
+        return NULL;
+    }
+    line[count] = '\0';
+    return line;
+}
+
 // What is still in the buffer is written at the end, after the program's own destructors.
 __attribute__((destructor(101))) static void flush(void)
 {

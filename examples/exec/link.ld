@@ -43,5 +43,6 @@ SECTIONS
     /* What is above the end of the heap is for the stack. */
     __heap_start = .;
     __heap_end = BASE + 0xc0000;
+    .heap (NOLOAD) : { . += MAX(__heap_start, __heap_end) - __heap_start; }
 }
 ASSERT(__heap_start <= __heap_end, "the program does not fit below 0xc0000, where the stack begins")
