@@ -5,7 +5,9 @@ use rrs_lib::instruction_executor::{InstructionException, InstructionExecutor};
 use rrs_lib::memories::VecMemory;
 use rrs_lib::{HartState, Memory};
 use rrs_test_machines::hart_of;
-use rrs_trace::{MemoryAccess, Retired, StopEnd, StopReason, run_until, step_retired};
+use rrs_trace::{
+    MemoryAccess, Retired, StopEnd, StopReason, run_until, step_retired, step_retired_parts,
+};
 use std::alloc::{AllocError, Global};
 use std::test::Fail;
 
@@ -83,6 +85,14 @@ fn told<M: Memory>(mem: &mut M, hart_state: &mut HartState, order: u64) -> Retir
     retired
 }
 
+/// Makes the same step of a hart whose registers and pc are arguments.
+fn told_by_parts<M: Memory>(mem: &mut M, hart: &mut HartState, order: u64) -> Retired {
+    let (end, retired) = step_retired_parts(mem, &mut hart.registers, hart.pc, order);
+    hart.pc = end.pc;
+    hart.last_register_write = end.last_register_write;
+    retired
+}
+
 /// Runs to a limit or a stop.
 fn stopped<M: Memory>(
     mem: &mut M,
@@ -124,6 +134,24 @@ core   0: 3 0x00000014 (0x04201003) mem 0x00000042
 core   0: 3 0x00000018 (0x00050463)
 "
     );
+    Ok(())
+}
+
+// Each step of the program, and the illegal instruction behind it, retires alike by parts.
+#[test]
+fn a_hart_of_parts_retires_alike(rt: HostRuntime) -> Result<(), Fail> {
+    let mut memory = memory_of(rt.alloc())?;
+    let mut other = memory_of(rt.alloc())?;
+    let mut hart = hart_of(0, &[]);
+    let mut parts = hart_of(0, &[]);
+    for order in 0..9 {
+        let retired = told(&mut memory, &mut hart, order);
+        let alike = told_by_parts(&mut other, &mut parts, order);
+        assert_eq!(rt; alike, retired);
+        assert!(rt; parts.pc == hart.pc && parts.registers == hart.registers);
+        assert!(rt; parts.last_register_write == hart.last_register_write);
+    }
+    assert!(rt; hart.pc == 0x1c && hart.last_register_write.is_none());
     Ok(())
 }
 
