@@ -1,6 +1,5 @@
 -- What a system call does to the environment and to the machine, and whether it ends the program.
 use Rattle.std.specs.Prelude.{◌≡◌, ℕ, ◌&&◌, nat_le, if◌then◌else◌, List, [], Option, Some, None, pos}
-use Rattle.std.specs.Io.KnownBytes.{prepend_known}
 use Rattle.rrs_lib.specs.Bytes.{ByteMap}
 use Rattle.rrs_lib.specs.AccessLists.{Access}
 use Rattle.rrs_lib.specs.Machine.{State, put}
@@ -63,16 +62,11 @@ abbrev pub WritesOutput : {W : Type 0} → (W → Option (List ℕ)) → Takes W
 WritesOutput contents bytes a count old new answer accesses =
     WritesText bytes a count (contents old) (contents new) answer accesses
 
--- By the bytes that a reader has left, where these are known:
-module _ {R : Type 0} (remaining : R → Option (List ℕ)) where
-  -- the input that a program has not got yet
-  abbrev pub left_of : R → InputBuffer → Option (List ℕ)
-  left_of input held = prepend_known (buffered_bytes held) (remaining input)
-
-  -- a read of a reader, of which some bytes are held
-  abbrev pub ReadsInput : Gives R InputBuffer
-  ReadsInput writable bytes bytes' a count old held new held' answer accesses =
-      ReadsText writable bytes bytes' a count (left_of old held) (left_of new held') answer accesses
+-- a read of a reader, by the bytes that it has left, where these are known, and by those held
+abbrev pub ReadsInput : {R : Type 0} → (R → Option (List ℕ)) → Gives R InputBuffer
+ReadsInput remaining writable bytes bytes' a count old held new held' answer accesses =
+    ReadsText writable bytes bytes' a count (buffered_bytes held) (buffered_bytes held')
+    (remaining old) (remaining new) answer accesses
 
 -- What a call does over a reader and two writers of the host, by what is known of each.
 abbrev pub Serves : {R W E : Type 0} → (R → Option (List ℕ)) → (W → Option (List ℕ))

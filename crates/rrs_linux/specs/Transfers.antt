@@ -75,46 +75,55 @@ pub record WritesText (bytes : ByteMap) (a count : ℕ) (before after : Option (
 
 -- ---- read
 
--- a byte is the next that the input has, where that is known
-abbrev pub IsNext : ℕ → Option (List ℕ) → Type 0
-IsNext byte None = Unit {0}
-IsNext byte (Some []) = ⊥
-IsNext byte (Some (x ∷ left)) = x ≡ byte
+-- Where no bytes are held, the host is asked once, for so many at most: what is at hand then, and
+-- what the host has left, where that is known.
+pub record Fills (most : ℕ) (held at_hand : List ℕ) (left left' : Option (List ℕ)) : Type 0 where
+  pub taken : List ℕ
+  pub consumed : Consumes left left' taken
+  pub within : length taken ≤ most
+  pub only_then : (taken ≡ []) ⊎ (held ≡ [])
+  pub together : at_hand ≡ held ++ taken
 
--- How the read to a buffer at a, of a text that was given, ended: what is left of the input, the
--- accesses, and the answer.
-pub data ReadEnds (writable : ℕ → Bool) (a count : ℕ) (text : List ℕ) (left : Option (List ℕ))
-    (accesses : List Access) (answer : ℕ) : Type 0 where
-  -- there were bytes, and as many as there were at once are given, up to the count
+-- How the read to a buffer at a, of a text that was given of the bytes at hand, ended: by what the
+-- host has left, the accesses, and the answer.
+pub data ReadEnds (writable : ℕ → Bool) (a count : ℕ) (at_hand text : List ℕ)
+    (left : Option (List ℕ)) (accesses : List Access) (answer : ℕ) : Type 0 where
+  -- bytes are at hand, and as many are given as there are and were asked for, or as one call reads
   IsGiven :
-      a + count ≤ 2 ^ 32 → 0 < length text → length text ≤ min count most_bytes
+      a + count ≤ 2 ^ 32 → 0 < length text
+      → length text ≡ min (min count most_bytes) (length at_hand)
       → accesses ≡ byte_writes writable a text → answer ≡ length text
-      → ReadEnds writable a count text left accesses answer
+      → ReadEnds writable a count at_hand text left accesses answer
   -- there are no more, or none were asked for
   IsNone :
-      a + count ≤ 2 ^ 32 → text ≡ [] → IsAtEnd left ⊎ (count ≡ 0) → accesses ≡ [] → answer ≡ 0
-      → ReadEnds writable a count text left accesses answer
+      a + count ≤ 2 ^ 32 → text ≡ [] → ((at_hand ≡ []) × IsAtEnd left) ⊎ (count ≡ 0)
+      → accesses ≡ [] → answer ≡ 0
+      → ReadEnds writable a count at_hand text left accesses answer
   -- the next address is not writable: the byte for it is the next of the input still
-  IsRefused : (byte : ℕ)
+  IsRefused : (byte : ℕ) (rest : List ℕ)
       → a + count ≤ 2 ^ 32 → length text < min count most_bytes
-      → writable (a + length text) ≡ false → IsNext byte left
+      → writable (a + length text) ≡ false → at_hand ≡ text ++ byte ∷ rest
       → accesses ≡ byte_writes writable a (text ++ byte ∷ [])
       → answer ≡ counted (length text) (error 14)
-      → ReadEnds writable a count text left accesses answer
-  -- a read of the input failed
+      → ReadEnds writable a count at_hand text left accesses answer
+  -- bytes were asked for, none are at hand, and a read of the input failed
   HasFailed :
-      a + count ≤ 2 ^ 32 → text ≡ [] → accesses ≡ [] → answer ≡ error 5
-      → ReadEnds writable a count text left accesses answer
+      a + count ≤ 2 ^ 32 → 0 < count → at_hand ≡ [] → text ≡ [] → accesses ≡ []
+      → answer ≡ error 5
+      → ReadEnds writable a count at_hand text left accesses answer
   -- the buffer passes the last address
   PassesEnd :
       2 ^ 32 < a + count → text ≡ [] → accesses ≡ [] → answer ≡ error 14
-      → ReadEnds writable a count text left accesses answer
+      → ReadEnds writable a count at_hand text left accesses answer
 
--- The next bytes of the input are given to a buffer, in order, from its first on, and all others
--- are left.
+-- The bytes at hand are given to a buffer, in order, from its first on, and all others are held.
+-- The host is asked for no more than the program asks for, and only where nothing is held.
 pub record ReadsText (writable : ℕ → Bool) (bytes bytes' : ByteMap) (a count : ℕ)
-    (left left' : Option (List ℕ)) (answer : ℕ) (accesses : List Access) : Type 0 where
+    (held held' : List ℕ) (left left' : Option (List ℕ)) (answer : ℕ)
+    (accesses : List Access) : Type 0 where
   pub text : List ℕ
   pub loaded : Loaded bytes bytes' writable a text
-  pub consumed : Consumes left left' text
-  pub ended : ReadEnds writable a count text left' accesses answer
+  pub at_hand : List ℕ
+  pub filled : Fills (min count most_bytes) held at_hand left left'
+  pub kept : at_hand ≡ text ++ held'
+  pub ended : ReadEnds writable a count at_hand text left' accesses answer

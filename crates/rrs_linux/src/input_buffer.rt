@@ -2,6 +2,7 @@
 
 ghost use Rattle.std.specs.Prelude.{◌≡◌, ◌≤◌, ◌<◌, [], drop, length, IfSome, IfNone, IsTrue, ◌↔◌};
 ghost use Rattle.std.specs.Io.KnownBytes.{Keeps, IsAtEnd, prepend_known};
+ghost use Rattle.rrs_linux.specs.Transfers.{Fills};
 
 use std::io::{ErrorKind, Read};
 
@@ -66,6 +67,8 @@ impl InputBuffer {
         ensures count { IfSome result (λ count. count ≡ length (buffered_bytes self.new)) }
         ensures end { IfSome result (λ count. count ≡ 0 → IsAtEnd (R.remaining input.new)) }
         ensures failed { IfNone result (buffered_bytes self.new ≡ []) }
+        ensures filled { Fills most (buffered_bytes self.old) (buffered_bytes self.new)
+            (R.remaining input.old) (R.remaining input.new) }
     {
         if self.is_empty() {
             return self.fill(input, most);
@@ -83,6 +86,7 @@ impl InputBuffer {
         ensures count { IfSome result (λ count. count ≡ length (buffered_bytes self.new)) }
         ensures end { IfSome result (λ count. count ≡ 0 → IsAtEnd (R.remaining input.new)) }
         ensures failed { IfNone result (buffered_bytes self.new ≡ []) }
+        ensures within { length (buffered_bytes self.new) ≤ most }
     {
         let most = most.min(CHUNK);
         let mut bytes = [0; CHUNK];

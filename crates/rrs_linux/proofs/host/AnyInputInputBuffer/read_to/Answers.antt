@@ -1,38 +1,39 @@
 use Rattle.std.proofs.Common.{◌≡◌, ◌<◌, [], length, refl, sym, ◌∙◌, inl, inr, arith}
-use Rattle.std.proofs.KnownBytes.{Keeps-refl}
 use Rattle.rrs_linux.specs.BufferedBytes.{buffered_bytes}
 use Rattle.rrs_linux.specs.Transfers.{IsNone, HasFailed, PassesEnd}
-use Rattle.rrs_linux.proofs.Placed.{end_behind, no_length, nothing_placed, placed}
+use Rattle.rrs_linux.proofs.Placed.{Fills-none, no_length, nothing_placed, placed}
 use Rattle.rrs_linux.proofs.host.AnyInputInputBuffer.read_to.Goals as goal
 
 pub returns-in_default-clause-given : goal.returns-in_default-clause-given
 returns-in_default-clause-given g c =
-    nothing_placed (omega (arith, c.ranges.address)) (Keeps-refl _)
+    nothing_placed (omega (arith, c.ranges.address)) refl (Fills-none _ _ _)
     (PassesEnd (rw c.in_default.is at c.most_of.ensures) refl refl refl)
 
 pub returns-then-most-eq0-clause-given : goal.returns-then-most-eq0-clause-given
 returns-then-most-eq0-clause-given g c =
     let none : c.args.count ≡ 0 = omega (arith, c.in-Some.ensures.1, c.if-most-eq0.true) in
-    nothing_placed (omega (arith, c.ranges.address)) (Keeps-refl _)
+    nothing_placed (omega (arith, c.ranges.address)) refl (Fills-none _ _ _)
     (IsNone c.in-Some.ensures.0 refl (inr none) refl refl)
 
 pub returns-in-None-clause-given : goal.returns-in-None-clause-given
 returns-in-None-clause-given g c =
-    nothing_placed (omega (arith, c.ranges.address)) c.in-None.ensures.kept
-    (HasFailed c.in-Some.ensures.0 refl refl refl)
+    let held = c.in-None.ensures in
+    let asked : 0 < c.args.count = omega (arith, c.in-Some.ensures.1, c.if-most-eq0.false) in
+    nothing_placed (omega (arith, c.ranges.address)) c.in-Some.ensures.1 held.filled
+    (HasFailed c.in-Some.ensures.0 asked held.failed refl refl refl)
 
 pub returns-in-Some-eq0-clause-given : goal.returns-in-Some-eq0-clause-given
 returns-in-Some-eq0-clause-given g c =
     let held = c.in-Some-eq0.ensures in
     let none : buffered_bytes c.hold.new.self ≡ [] = no_length _ (sym held.count ∙ c.in-Some-eq0.field-0-test) in
-    nothing_placed (omega (arith, c.ranges.address)) held.kept
-    (IsNone c.in-Some.ensures.0 refl (inl (end_behind _ _ none (held.end c.in-Some-eq0.field-0-test))) refl refl)
+    nothing_placed (omega (arith, c.ranges.address)) c.in-Some.ensures.1 held.filled
+    (IsNone c.in-Some.ensures.0 refl (inl (none, held.end c.in-Some-eq0.field-0-test)) refl refl)
 
 pub returns-in-Some-hold-clause-given : goal.returns-in-Some-hold-clause-given
 returns-in-Some-hold-clause-given g c =
     let held = c.in-Some-hold.ensures in
-    let asked : 0 < c.args.count = omega (arith, c.in-Some.ensures.1, c.if-most-eq0.false) in
+    let more : 0 < c.in-Some.most = omega (arith, c.if-most-eq0.false) in
     let some : 0 < length (buffered_bytes c.hold.new.self) = omega (arith, held.count, c.in-Some-hold.field-0-test) in
-    placed (g.R.Read.remaining c.hold.new.input) c.as_slice.result.now (buffered_bytes c.hold.new.self)
-    (buffered_bytes c.skip.new.self) c.give_bytes-given.result.0 asked some held.kept
+    placed c.as_slice.result.now (buffered_bytes c.hold.new.self) (buffered_bytes c.skip.new.self)
+    c.give_bytes-given.result.0 more c.in-Some.ensures.1 some held.filled
     c.as_slice.ensures c.skip.ensures c.give_bytes-given.ensures.given
