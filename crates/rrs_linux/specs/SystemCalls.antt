@@ -62,11 +62,12 @@ abbrev pub WritesOutput : {W : Type 0} → (W → Option (List ℕ)) → Takes W
 WritesOutput contents bytes a count old new answer accesses =
     WritesText bytes a count (contents old) (contents new) answer accesses
 
--- a read of a reader, by the bytes that it has left, where these are known, and by those held
+-- A read of a reader, by the bytes that it has left, where these are known, by those held, and by
+-- how many reads failed. The library's contract of a reader doesn't say when it fails.
 abbrev pub ReadsInput : {R : Type 0} → (R → Option (List ℕ)) → Gives R InputBuffer
 ReadsInput remaining writable bytes bytes' a count old held new held' answer accesses =
     ReadsText writable bytes bytes' a count (buffered_bytes held) (buffered_bytes held')
-    (remaining old) (remaining new) answer accesses
+    (remaining old) (remaining new) held.failures held'.failures answer accesses
 
 -- What a call does over a reader and two writers of the host, by what is known of each.
 abbrev pub Serves : {R W E : Type 0} → (R → Option (List ℕ)) → (W → Option (List ℕ))

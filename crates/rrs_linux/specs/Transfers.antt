@@ -1,6 +1,6 @@
 -- What write and read transfer (write(2) and read(2)): which bytes, by which accesses of the
 -- memory, and what the call answers. A stream's bytes are given where they are known.
-use Rattle.std.specs.Prelude.{◌≡◌, ◌⊎◌, ℕ, zero, suc, ◌+◌, ◌^◌, ◌<◌, ◌≤◌, min, Bool, false, List, [], ◌∷◌, ◌++◌, length, slice_index, Option, Some, None}
+use Rattle.std.specs.Prelude.{◌≡◌, ◌⊎◌, ℕ, zero, suc, ◌+◌, ◌%◌, ◌^◌, ◌<◌, ◌≤◌, min, Bool, false, List, [], ◌∷◌, ◌++◌, length, slice_index, Option, Some, None}
 use Rattle.std.specs.Io.KnownBytes.{Appends, Consumes, IsAtEnd}
 use Rattle.rrs_lib.specs.declared.MemAccessSize.TheVariants.{Byte}
 use Rattle.rrs_lib.specs.Bytes.{ByteMap}
@@ -85,45 +85,47 @@ pub record Fills (most : ℕ) (held at_hand : List ℕ) (left left' : Option (Li
   pub together : at_hand ≡ held ++ taken
 
 -- How the read to a buffer at a, of a text that was given of the bytes at hand, ended: by what the
--- host has left, the accesses, and the answer.
+-- host has left, how many of its reads had failed before and have after, modulo 2^64, the accesses,
+-- and the answer.
 pub data ReadEnds (writable : ℕ → Bool) (a count : ℕ) (at_hand text : List ℕ)
-    (left : Option (List ℕ)) (accesses : List Access) (answer : ℕ) : Type 0 where
+    (left : Option (List ℕ)) (failures failures' : ℕ) (accesses : List Access) (answer : ℕ)
+    : Type 0 where
   -- bytes are at hand, and as many are given as there are and were asked for, or as one call reads
   IsGiven :
       a + count ≤ 2 ^ 32 → 0 < length text
       → length text ≡ min (min count most_bytes) (length at_hand)
       → accesses ≡ byte_writes writable a text → answer ≡ length text
-      → ReadEnds writable a count at_hand text left accesses answer
+      → ReadEnds writable a count at_hand text left failures failures' accesses answer
   -- there are no more, or none were asked for
   IsNone :
       a + count ≤ 2 ^ 32 → text ≡ [] → ((at_hand ≡ []) × IsAtEnd left) ⊎ (count ≡ 0)
       → accesses ≡ [] → answer ≡ 0
-      → ReadEnds writable a count at_hand text left accesses answer
+      → ReadEnds writable a count at_hand text left failures failures' accesses answer
   -- the next address is not writable: the byte for it is the next of the input still
   IsRefused : (byte : ℕ) (rest : List ℕ)
       → a + count ≤ 2 ^ 32 → length text < min count most_bytes
       → writable (a + length text) ≡ false → at_hand ≡ text ++ byte ∷ rest
       → accesses ≡ byte_writes writable a (text ++ byte ∷ [])
       → answer ≡ counted (length text) (error 14)
-      → ReadEnds writable a count at_hand text left accesses answer
-  -- bytes were asked for, none are at hand, and a read of the input failed
+      → ReadEnds writable a count at_hand text left failures failures' accesses answer
+  -- bytes were asked for, none are at hand, and a read of the input failed in this call
   HasFailed :
-      a + count ≤ 2 ^ 32 → 0 < count → at_hand ≡ [] → text ≡ [] → accesses ≡ []
-      → answer ≡ error 5
-      → ReadEnds writable a count at_hand text left accesses answer
+      a + count ≤ 2 ^ 32 → 0 < count → at_hand ≡ [] → text ≡ []
+      → failures' ≡ (failures + 1) % 2 ^ 64 → accesses ≡ [] → answer ≡ error 5
+      → ReadEnds writable a count at_hand text left failures failures' accesses answer
   -- the buffer passes the last address
   PassesEnd :
       2 ^ 32 < a + count → text ≡ [] → accesses ≡ [] → answer ≡ error 14
-      → ReadEnds writable a count at_hand text left accesses answer
+      → ReadEnds writable a count at_hand text left failures failures' accesses answer
 
 -- The bytes at hand are given to a buffer, in order, from its first on, and all others are held.
 -- The host is asked for no more than the program asks for, and only where nothing is held.
 pub record ReadsText (writable : ℕ → Bool) (bytes bytes' : ByteMap) (a count : ℕ)
-    (held held' : List ℕ) (left left' : Option (List ℕ)) (answer : ℕ)
+    (held held' : List ℕ) (left left' : Option (List ℕ)) (failures failures' answer : ℕ)
     (accesses : List Access) : Type 0 where
   pub text : List ℕ
   pub loaded : Loaded bytes bytes' writable a text
   pub at_hand : List ℕ
   pub filled : Fills (min count most_bytes) held at_hand left left'
   pub kept : at_hand ≡ text ++ held'
-  pub ended : ReadEnds writable a count at_hand text left' accesses answer
+  pub ended : ReadEnds writable a count at_hand text left' failures failures' accesses answer

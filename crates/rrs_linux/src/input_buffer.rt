@@ -1,6 +1,6 @@
 //! Bytes of the input that were read and not given to the program yet.
 
-ghost use Rattle.std.specs.Prelude.{◌≡◌, ◌≤◌, ◌<◌, [], drop, length, IfSome, IfNone, IsTrue, ◌↔◌};
+ghost use Rattle.std.specs.Prelude.{◌≡◌, ◌≤◌, ◌<◌, ◌+◌, ◌%◌, ◌^◌, [], drop, length, IfSome, IfNone, IsTrue, ◌↔◌};
 ghost use Rattle.std.specs.Io.KnownBytes.{Keeps, IsAtEnd, prepend_known};
 ghost use Rattle.rrs_linux.specs.Transfers.{Fills};
 
@@ -18,6 +18,8 @@ pub struct InputBuffer {
     start: usize,
     /// The place behind the last that was read.
     end: usize,
+    /// How many reads of the input failed, modulo 2^64.
+    failures: u64,
     ghost ordered: { start ≤ end },
     ghost within: { end ≤ 256 },
 }
@@ -33,6 +35,7 @@ impl InputBuffer {
             bytes: [0; CHUNK],
             start: 0,
             end: 0,
+            failures: 0,
         }
     }
 
@@ -53,13 +56,14 @@ impl InputBuffer {
     /// Lets the first bytes go, which are given.
     pub fn skip(&mut self, count: usize)
         requires { count ≤ length (buffered_bytes self.old) }
-        ensures { buffered_bytes self.new ≡ drop count (buffered_bytes self.old) }
+        ensures bytes { buffered_bytes self.new ≡ drop count (buffered_bytes self.old) }
+        ensures failures { self.new.failures ≡ self.old.failures }
     {
         self.start += count;
     }
 
     /// Reads once, so many bytes at most, if none are held. Gives how many are held then, or `None`
-    /// where the read failed.
+    /// where the read failed, which is counted.
     pub(crate) fn hold<R: Read>(&mut self, input: &mut R, most: usize) -> Option<usize>
         requires { 0 < most }
         ensures kept { Keeps (prepend_known (buffered_bytes self.old) (R.remaining input.old))
@@ -67,6 +71,7 @@ impl InputBuffer {
         ensures count { IfSome result (λ count. count ≡ length (buffered_bytes self.new)) }
         ensures end { IfSome result (λ count. count ≡ 0 → IsAtEnd (R.remaining input.new)) }
         ensures failed { IfNone result (buffered_bytes self.new ≡ []) }
+        ensures counted { IfNone result (self.new.failures ≡ (self.old.failures + 1) % 2 ^ 64) }
         ensures filled { Fills most (buffered_bytes self.old) (buffered_bytes self.new)
             (R.remaining input.old) (R.remaining input.new) }
     {
@@ -77,7 +82,7 @@ impl InputBuffer {
     }
 
     /// Reads once, so many bytes at most, where there are none, and gives how many were read, or
-    /// `None` where the read failed. An interrupted read is made again.
+    /// `None` where the read failed, which is counted. An interrupted read is made again.
     pub fn fill<R: Read>(&mut self, input: &mut R, most: usize) -> Option<usize>
         requires some { 0 < most }
         requires empty { buffered_bytes self.old ≡ [] }
@@ -86,6 +91,7 @@ impl InputBuffer {
         ensures count { IfSome result (λ count. count ≡ length (buffered_bytes self.new)) }
         ensures end { IfSome result (λ count. count ≡ 0 → IsAtEnd (R.remaining input.new)) }
         ensures failed { IfNone result (buffered_bytes self.new ≡ []) }
+        ensures counted { IfNone result (self.new.failures ≡ (self.old.failures + 1) % 2 ^ 64) }
         ensures within { length (buffered_bytes self.new) ≤ most }
     {
         let most = most.min(CHUNK);
@@ -97,16 +103,18 @@ impl InputBuffer {
                         bytes,
                         start: 0,
                         end: count,
+                        failures: self.failures,
                     };
                     return Some(count);
                 }
                 Err(error) => {
                     if error.kind() != ErrorKind::Interrupted {
-                        return None;
+                        break;
                     }
                 }
             }
         }
+        self.failures = self.failures.wrapping_add(1);
         None
     }
 }

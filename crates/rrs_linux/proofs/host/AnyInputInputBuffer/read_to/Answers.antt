@@ -20,7 +20,7 @@ returns-in-None-clause-given g c =
     let held = c.in-None.ensures in
     let asked : 0 < c.args.count = omega (arith, c.in-Some.ensures.1, c.if-most-eq0.false) in
     nothing_placed (omega (arith, c.ranges.address)) c.in-Some.ensures.1 held.filled
-    (HasFailed c.in-Some.ensures.0 asked held.failed refl refl refl)
+    (HasFailed c.in-Some.ensures.0 asked held.failed refl held.counted refl refl)
 
 pub returns-in-Some-eq0-clause-given : goal.returns-in-Some-eq0-clause-given
 returns-in-Some-eq0-clause-given g c =
@@ -36,4 +36,4 @@ returns-in-Some-hold-clause-given g c =
     let some : 0 < length (buffered_bytes c.hold.new.self) = omega (arith, held.count, c.in-Some-hold.field-0-test) in
     placed c.as_slice.result.now (buffered_bytes c.hold.new.self) (buffered_bytes c.skip.new.self)
     c.give_bytes-given.result.0 more c.in-Some.ensures.1 some held.filled
-    c.as_slice.ensures c.skip.ensures c.give_bytes-given.ensures.given
+    c.as_slice.ensures c.skip.ensures.bytes c.give_bytes-given.ensures.given

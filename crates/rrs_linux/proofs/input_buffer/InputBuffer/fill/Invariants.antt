@@ -8,4 +8,5 @@ abbrev pub invariant-loop : goal.invariant-loop
 invariant-loop g l = record {
   kept : Keeps (g.R.Read.remaining l.fn.input) (g.R.Read.remaining l.input);
   empty : buffered_bytes l.self ≡ [];
+  failures : l.self.failures ≡ l.fn.self.failures;
 }
