@@ -37,8 +37,8 @@ pub none_loaded : (bytes : ByteMap) (writable : ℕ → Bool) (a : ℕ) → a < 
 none_loaded bytes writable a low = search rules
 
 -- what is given of the bytes at hand
-ends_so : {writable : ℕ → Bool} {a count failures failures' answer : ℕ} {left : Option (List ℕ)} (at_hand text : List ℕ)
-    (accesses : List Access) → 0 < count → 0 < length at_hand
+ends_so : {writable : ℕ → Bool} {a count failures failures' answer : ℕ} {left : Option (List ℕ)}
+    (at_hand text : List ℕ) (accesses : List Access) → 0 < count → 0 < length at_hand
     → GivingEnds writable a count at_hand text accesses answer
     → ReadEnds writable a count at_hand text left failures failures' accesses answer
 ends_so at_hand text accesses asked some (Recording.IsWhole fits long made answers) =
@@ -53,8 +53,10 @@ module _ {M : Type 0} {reads : M → ℕ → MemAccessSize → M → Option ℕ 
     {held : List ℕ} {left left' : Option (List ℕ)} {failures failures' answer : ℕ} where
   -- nothing was given
   pub nothing_placed : {at_hand : List ℕ} {most : ℕ} {m : M} → a < 2 ^ 32
-      → most ≡ min count most_bytes → Fills most held at_hand left left' → ReadEnds writable a count at_hand [] left' failures failures' [] answer
-      → MakesSome reads writes (ReadsText writable bytes bytes a count held at_hand left left' failures failures' answer) m m
+      → most ≡ min count most_bytes → Fills most held at_hand left left'
+      → ReadEnds writable a count at_hand [] left' failures failures' [] answer
+      → MakesSome reads writes (ReadsText writable bytes bytes a count held at_hand left left' failures failures' answer)
+      m m
   nothing_placed {at_hand = at_hand} low asked filled ended = record {
     accesses = [];
     these = record {
@@ -70,9 +72,11 @@ module _ {M : Type 0} {reads : M → ℕ → MemAccessSize → M → Option ℕ 
 
   -- bytes at hand were given, and those behind them are held
   pub placed : {bytes' : ByteMap} {most : ℕ} {m m' : M} (given at_hand after : List ℕ) (n : ℕ) → 0 < most
-      → most ≡ min count most_bytes → 0 < length at_hand → Fills most held at_hand left left' → given ≡ at_hand → after ≡ drop n at_hand
+      → most ≡ min count most_bytes → 0 < length at_hand → Fills most held at_hand left left' → given ≡ at_hand
+      → after ≡ drop n at_hand
       → MakesSome reads writes (GivesText writable bytes bytes' a count given (drop n given) answer) m m'
-      → MakesSome reads writes (ReadsText writable bytes bytes' a count held after left left' failures failures' answer) m m'
+      → MakesSome reads writes (ReadsText writable bytes bytes' a count held after left left' failures failures' answer)
+      m m'
   placed given at_hand after n more asked some filled same behind made =
       let of = made.these in
       record {
