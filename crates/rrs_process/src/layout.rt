@@ -1,0 +1,58 @@
+//! Where a process has its heap and its stack.
+
+ghost use Rattle.std.specs.Prelude.{◌≡◌, ◌≤◌, ◌^◌, IfSome};
+ghost use Rattle.rrs_process.specs.Layouts.{IsLayout};
+
+use crate::marks::PAGE_BYTES;
+
+/// How many bytes of memory a process has at least behind its program: 1 MiB.
+const LEAST_BYTES: u64 = 1 << 20;
+/// How many bytes its stack has at most: 8 MiB, as on Linux.
+const MOST_STACK_BYTES: u64 = 1 << 23;
+/// How many bytes lie unmapped between its heap and its stack: 64 KiB.
+const GAP_BYTES: u64 = 1 << 16;
+
+/// Where a process has its memory: the program, the heap, a gap, and the stack.
+///
+/// Each address is a multiple of 4,096.
+#[derive(Clone, Copy, Debug, PartialEq)]
+pub struct Layout {
+    /// The first address of the memory.
+    pub base: u32,
+    /// The lowest break: behind the program.
+    pub heap_start: u32,
+    /// The highest break.
+    pub heap_end: u32,
+    /// The first address of the stack.
+    pub stack_start: u32,
+    /// The address behind the stack, and behind the memory.
+    pub end: u32,
+}
+
+/// Where a process has its memory whose program has addresses from `start` to before `end`, if so
+/// many bytes are wanted for all of it. It has more where the program leaves less than 1 MiB of
+/// them, and less where they would pass the last addresses. `None` where the program leaves less
+/// than 1 MiB of these.
+pub fn layout_of(start: u32, end: u64, wanted: u64) -> Option<Layout>
+    requires { end ≤ 2 ^ 32 }
+    ensures { IfSome result (IsLayout start end wanted) }
+{
+    let page = u64::from(PAGE_BYTES);
+    let base = start - start % PAGE_BYTES;
+    let heap_start = (end + page - 1) / page * page;
+    let most = (1 << 32) - page;
+    let room = (u64::from(base) + wanted.min(most)).max(heap_start + LEAST_BYTES);
+    let memory_end = room.min(most) / page * page;
+    if memory_end < heap_start + LEAST_BYTES {
+        return None;
+    }
+    let stack = ((memory_end - heap_start) / 2).min(MOST_STACK_BYTES) / page * page;
+    let stack_start = memory_end - stack;
+    Some(Layout {
+        base,
+        heap_start: heap_start as u32,
+        heap_end: (stack_start - GAP_BYTES) as u32,
+        stack_start: stack_start as u32,
+        end: memory_end as u32,
+    })
+}

@@ -1,0 +1,19 @@
+//! What a program finds where it starts as a process: a memory whose pages are mapped, read-only
+//! or writable, and a stack with its arguments.
+//!
+//! [ProtectedMemory] is a memory of any type under marks, one a page. [initial_stack] makes the
+//! block of bytes that lies at the stack pointer when a process starts on Linux, and
+//! [stack_pointer] says where that is. What they are is written in `specs/Protection.antt` and in
+//! `specs/InitialStack.antt`.
+
+#![tactic(auto)]
+
+mod layout;
+mod marks;
+mod protected;
+mod stack;
+
+pub use layout::{Layout, layout_of};
+pub use marks::{PAGE_BYTES, PageRange, Protection, marks_of};
+pub use protected::ProtectedMemory;
+pub use stack::{ProgramHeaders, initial_stack, stack_pointer};
