@@ -1,0 +1,4 @@
+pub mod Accepted
+pub mod CheckLists
+pub mod SegmentBytes
+pub mod Standing

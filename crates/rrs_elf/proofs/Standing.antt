@@ -1,0 +1,93 @@
+-- What stands as a load goes on.
+use Rattle.std.proofs.Common.{◌≡◌, ℕ, suc, ◌+◌, ◌-◌, ◌<◌, ◌≤◌, ◌^◌, ◌⊎◌, inl, inr, Bool, true, List, [], ◌∷◌, ◌++◌, length, Some, refl, sym, ◌∙◌, ap, subst, arith, Option}
+use Rattle.std.proofs.lemmas.Bool.Decides.{nat_tests}
+use Rattle.rrs_memory.specs.declared.MemAccessSize.{MemAccessSize}
+use Rattle.rrs_memory.specs.Bytes.{ByteMap}
+use Rattle.rrs_memory.specs.AccessLists.{Access, Makes}
+use Rattle.rrs_memory.specs.Loading.{Loaded}
+use Rattle.rrs_memory.proofs.ByteLemmas.{outside_from_none}
+use Rattle.rrs_elf.specs.Headers.{e_phnum, p_vaddr}
+use Rattle.rrs_elf.specs.Executables.{HasAddress, IsExecutable}
+use Rattle.rrs_elf.specs.Loading.{segment_byte, segment_bytes, loaded_size, Stands}
+use Rattle.rrs_elf.proofs.SegmentBytes.{length-segment_bytes, at-segment_bytes}
+
+-- a byte that is loaded has an address of its segment
+pub has_loaded : (file : List ℕ) (i j : ℕ) → i < e_phnum file → j < loaded_size file i → HasAddress file i (p_vaddr file i + j)
+has_loaded file i j numbered below = record {
+  loaded = record { numbered = numbered; of_type = grind (arith, nat_tests, below) };
+  from_start = omega arith;
+  before_end = grind (arith, nat_tests, below);
+}
+
+-- it lies below 2 ^ 32
+pub loaded_low : (file : List ℕ) (i j : ℕ) → IsExecutable file → i < e_phnum file → j < loaded_size file i → p_vaddr file i + j < 2 ^ 32
+loaded_low file i j is numbered below =
+    let has = has_loaded file i j numbered below in
+    let end = has.before_end in
+    let low = is.addresses i has.loaded in
+    omega arith
+
+pub Stands-none : (file : List ℕ) (old : ByteMap) (writable : ℕ → Bool) → Stands file old old writable 0 0
+Stands-none file old writable = record {
+  segments = λ i j below. absurd (omega (arith, below));
+  part = λ j below. absurd (omega (arith, below));
+  segments_writable = λ i j below. absurd (omega (arith, below));
+  part_writable = λ j below. absurd (omega (arith, below));
+  others = λ a s p. refl;
+  mapped = λ a. refl;
+}
+
+-- the first k bytes more, of the next segment
+pub Stands-part : (file : List ℕ) (old mid new : ByteMap) (writable writable' : ℕ → Bool) (n k : ℕ) → IsExecutable file → n < e_phnum file → k ≤ loaded_size file n
+    → Stands file old mid writable n 0 → writable' ≡ writable → Loaded mid new writable' (p_vaddr file n) (segment_bytes file n k) → Stands file old new writable n k
+Stands-part file old mid new writable writable' n k is numbered within before kept loaded =
+    let many = length-segment_bytes file n k in
+    let start : ℕ = p_vaddr file n in
+    record {
+      segments = λ i j below inside.
+          let a : ℕ = p_vaddr file i + j in
+          let mine = has_loaded file i j (omega (arith, below)) inside in
+          let outside : (a < start) ⊎ (start + length (segment_bytes file n k) ≤ a) =
+          elim (place a start k) [
+            | inl low ↦ inl low
+            | inr rest ↦ elim rest [
+              | inl high ↦ inr (omega (arith, high, many))
+              | inr here ↦
+                  let other = has_loaded file n (a - start) numbered (omega (arith, here.1)) in
+                  let again : start + (a - start) ≡ a = omega (arith, here.0) in
+                  let same = is.apart i n a mine (subst (λ b. HasAddress file n b) again other) in
+                  absurd (omega (arith, same, below))
+            ]
+          ] in
+          loaded.others a outside ∙ before.segments i j below inside;
+      part = λ j below. loaded.loaded j (omega (arith, below, many)) ∙ ap Some (at-segment_bytes file n k j below);
+      segments_writable = before.segments_writable;
+      part_writable = λ j below. ap (λ w. w (start + j)) (sym kept) ∙ loaded.writable_there j (omega (arith, below, many));
+      others = λ a none none_here.
+          let outside = outside_from_none start (length (segment_bytes file n k)) a (λ j below e. none_here j (omega (arith, below, many)) (sym e)) in
+          loaded.others a outside ∙ before.others a none (λ j below. absurd (omega (arith, below)));
+      mapped = λ a. loaded.mapped a ∙ before.mapped a;
+    }
+  where
+    place : (a start k : ℕ) → (a < start) ⊎ ((start + k ≤ a) ⊎ ((start ≤ a) × (a - start < k)))
+    place a start k = grind arith
+
+-- the whole of a segment
+pub Stands-next : (file : List ℕ) (old new : ByteMap) (writable : ℕ → Bool) (n : ℕ) → Stands file old new writable n (loaded_size file n) → Stands file old new writable (suc n) 0
+Stands-next file old new writable n stands = record {
+  segments = λ i j below inside. elim (less i n below) [ inl earlier ↦ stands.segments i j earlier inside | inr same ↦ subst (λ i. new (p_vaddr file i + j) ≡ Some (segment_byte file i j)) (sym same) (stands.part j (rw same at inside)) ];
+  part = λ j below. absurd (omega (arith, below));
+  segments_writable = λ i j below inside. elim (less i n below) [ inl earlier ↦ stands.segments_writable i j earlier inside | inr same ↦ subst (λ i. writable (p_vaddr file i + j) ≡ true) (sym same) (stands.part_writable j (rw same at inside)) ];
+  part_writable = λ j below. absurd (omega (arith, below));
+  others = λ a none none_here. stands.others a (λ i j below. none i j (omega (arith, below))) (λ j below. none n j (omega arith) below);
+  mapped = stands.mapped;
+}
+  where
+    less : (i n : ℕ) → i < suc n → (i < n) ⊎ (i ≡ n)
+    less i n below = grind arith
+
+-- lists of accesses one after the other
+module _ {M : Type 0} (reads : M → ℕ → MemAccessSize → M → Option ℕ → Type 0) (writes : M → ℕ → MemAccessSize → ℕ → M → Bool → Type 0) where
+  pub Makes-join : (xs ys : List Access) (old mid new : M) → Makes reads writes xs old mid → Makes reads writes ys mid new → Makes reads writes (xs ++ ys) old new
+  Makes-join [] ys old mid new first second = subst (λ (m : M). Makes reads writes ys m new) first second
+  Makes-join (x ∷ xs) ys old mid new first second = (first.0, first.1, Makes-join xs ys first.0 mid new first.2 second)

@@ -1,0 +1,61 @@
+-- An executable for this machine (System V generic ABI, "ELF Header" and "Program Header"; RISC-V
+-- ELF psABI, "ELF Object Files", "File Header"): 32 bits, lowest byte first, linked to fixed
+-- addresses, for RV32I with M and the integer calling convention.
+use Rattle.std.specs.Prelude.{◌≡◌, ◌≢◌, ℕ, ◌+◌, ◌*◌, ◌/◌, ◌%◌, ◌^◌, ◌<◌, ◌≤◌, List, length, slice_index}
+use Rattle.rrs_elf.specs.Headers.{e_ident_class, e_ident_data, e_ident_version, e_type, e_machine, e_version, e_entry, e_phoff, e_flags, e_phentsize, e_phnum, p_type, p_offset, p_vaddr, p_filesz, p_memsz}
+
+-- PT_INTERP, the type of a segment with the name of a program that loads this one
+abbrev pub PT_INTERP : ℕ
+PT_INTERP = 3
+
+-- PT_LOAD, the type of a segment that is loaded
+abbrev pub PT_LOAD : ℕ
+PT_LOAD = 1
+
+-- segment i is one of those that are loaded
+pub record IsLoaded (file : List ℕ) (i : ℕ) : Type 0 where
+  pub numbered : i < e_phnum file
+  pub of_type : p_type file i ≡ PT_LOAD
+
+-- segment i is loaded, and the address is one of the p_memsz addresses from p_vaddr on
+pub record HasAddress (file : List ℕ) (i address : ℕ) : Type 0 where
+  pub loaded : IsLoaded file i
+  pub from_start : p_vaddr file i ≤ address
+  pub before_end : address < p_vaddr file i + p_memsz file i
+
+-- An executable that this machine can run.
+pub record IsExecutable (file : List ℕ) : Type 0 where
+  -- the whole ELF header, which begins with 0x7f and "ELF"
+  pub whole : 52 ≤ length file
+  pub magic : (slice_index file 0 ≡ 0x7f) × (slice_index file 1 ≡ 0x45)
+      × (slice_index file 2 ≡ 0x4c) × (slice_index file 3 ≡ 0x46)
+  -- ELFCLASS32, ELFDATA2LSB, EV_CURRENT
+  pub class_32 : e_ident_class file ≡ 1
+  pub lowest_byte_first : e_ident_data file ≡ 1
+  pub ident_version : e_ident_version file ≡ 1
+  -- ET_EXEC, EM_RISCV, EV_CURRENT
+  pub executable : e_type file ≡ 2
+  pub risc_v : e_machine file ≡ 243
+  pub version : e_version file ≡ 1
+  -- neither EF_RISCV_RVC (bit 0), nor a floating-point ABI (bits 1 and 2), nor EF_RISCV_RVE (bit 3)
+  pub not_compressed : e_flags file % 2 ≡ 0
+  pub integers_only : e_flags file / 2 % 4 ≡ 0
+  pub all_registers : e_flags file / 8 % 2 ≡ 0
+  -- program headers of 32 bytes, as many as the header says (PN_XNUM would leave that open), all of
+  -- them in the file
+  pub header_size : e_phentsize file ≡ 32
+  pub counted : e_phnum file ≢ 0xffff
+  pub headers_within : e_phoff file + 32 * e_phnum file ≤ length file
+  -- it loads itself
+  pub no_interpreter : (i : ℕ) → i < e_phnum file → p_type file i ≢ PT_INTERP
+  -- the bytes of each loaded segment are bytes of the file, and all have room in memory
+  pub bytes_within : (i k : ℕ) → IsLoaded file i → k < p_filesz file i
+      → p_offset file i + k < length file
+  pub sizes : (i : ℕ) → IsLoaded file i → p_filesz file i ≤ p_memsz file i
+  -- addresses end at 2 ^ 32
+  pub addresses : (i : ℕ) → IsLoaded file i → p_vaddr file i + p_memsz file i ≤ 2 ^ 32
+  -- no address is one of two segments
+  pub apart : (i j address : ℕ) → HasAddress file i address → HasAddress file j address → i ≡ j
+  -- the entry is the address of an instruction, in one of the segments
+  pub entry_aligned : e_entry file % 4 ≡ 0
+  pub entry_inside : (i : ℕ) × HasAddress file i (e_entry file)

@@ -1,0 +1,8 @@
+-- Executables in the ELF format: what one is, why a file is refused, what a load leaves, and the
+-- symbol table. docs/READING.md leads through them.
+pub mod Numbers
+pub mod Headers
+pub mod ProgramHeaders
+pub mod Executables
+pub mod Refusals
+pub mod Loading

@@ -1,0 +1,53 @@
+//! Why a file is refused.
+
+/// Why a file is no executable for this machine: the first refusal, in the order of this list, and
+/// for refusals of segments in the order of the segments, each with all of its refusals.
+#[derive(Debug, PartialEq, Clone, Copy)]
+pub enum ElfError {
+    /// The file does not begin with the four bytes of an ELF file.
+    NotElf,
+    /// The file ends within the ELF header of 52 bytes.
+    HeaderCutShort,
+    /// `e_ident[EI_CLASS]` is this, and not 1, `ELFCLASS32`. A file of 64 bits has 2.
+    Class(u8),
+    /// `e_ident[EI_DATA]` is this, and not 1, `ELFDATA2LSB`. A file with the highest byte first
+    /// has 2.
+    ByteOrder(u8),
+    /// `e_ident[EI_VERSION]` is this, and not 1.
+    IdentVersion(u8),
+    /// `e_type` is 3, `ET_DYN`: a shared object or a position-independent executable.
+    PositionIndependent,
+    /// `e_type` is this, and not 2, `ET_EXEC`.
+    NotExecutable(u16),
+    /// `e_machine` is this, and not 243, `EM_RISCV`.
+    Machine(u16),
+    /// `e_version` is this, and not 1.
+    Version(u32),
+    /// `e_flags` has `EF_RISCV_RVC`: the file has compressed code.
+    CompressedCode,
+    /// `e_flags` has a floating-point ABI.
+    FloatingPoint,
+    /// `e_flags` has `EF_RISCV_RVE`: the file is for 16 registers.
+    Embedded,
+    /// `e_phentsize` is this, and not 32.
+    ProgramHeaderSize(u16),
+    /// `e_phnum` is 0xffff, `PN_XNUM`: there are as many program headers or more.
+    TooManyProgramHeaders,
+    /// The file ends within the program headers, by `e_phoff` and `e_phnum`.
+    ProgramHeadersCutShort,
+    /// The segment of this number is `PT_INTERP`: the program wants a dynamic linker.
+    Interpreter(u16),
+    /// The bytes of the loaded segment of this number, by `p_offset` and `p_filesz`, end past the
+    /// file.
+    SegmentCutShort(u16),
+    /// The `p_filesz` of the loaded segment of this number is greater than its `p_memsz`.
+    SegmentSizes(u16),
+    /// The loaded segment of this number, by `p_vaddr` and `p_memsz`, ends past the last address.
+    SegmentPastLastAddress(u16),
+    /// The loaded segments of these numbers, the smaller first, have an address in common.
+    SegmentsOverlap(u16, u16),
+    /// `e_entry` is this, and no multiple of 4.
+    EntryMisaligned(u32),
+    /// `e_entry` is this, and no loaded segment has the address.
+    EntryOutside(u32),
+}
