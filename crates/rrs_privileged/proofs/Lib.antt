@@ -1,0 +1,4 @@
+-- Lemmas of this crate.
+pub mod SystemRows
+pub mod MachineStepping
+pub mod Straying
