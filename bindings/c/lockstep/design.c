@@ -37,7 +37,8 @@ static uint32_t multiplied(const struct design *design, uint32_t funct3, uint32_
     case 5: return b == 0 ? 0xffffffff : a / b;
     case 6:
         if (b == 0) return a;
-        if (a == 0x80000000 && b == 0xffffffff) return 0;
+        if (a == 0x80000000 && b == 0xffffffff)
+            return design->planted == PLANTED_REM_LEAST ? a : 0;
         return (uint32_t)((int32_t)a % (int32_t)b);
     default: return b == 0 ? a : a % b;
     }

@@ -10,7 +10,8 @@
 #define BASE 0x80000000u
 #define CODE 192 /* words of code, and data behind them */
 #define WORDS 256
-#define PROGRAMS 400
+#define RANDOM_PROGRAMS 400
+#define PROGRAMS (RANDOM_PROGRAMS + 1) /* and one of divisions */
 #define STEPS 1000
 
 /* Numbers that look random, the same in each run (xorshift). */
@@ -23,9 +24,12 @@ static uint32_t random_below(uint32_t bound) {
     return seed % bound;
 }
 
+#define EDGES 8
+static const uint32_t edges[EDGES] = {0,          1,          2,          0x7fffffff,
+                                      0x80000000, 0xffffffff, 0xffff8000, 31};
+
 /* A value with edges among them. */
 static uint32_t random_value(void) {
-    static const uint32_t edges[] = {0, 1, 2, 0x7fffffff, 0x80000000, 0xffffffff, 0xffff8000, 31};
     uint32_t which = random_below(16);
     return which < 8 ? edges[which] : random_below(0xffffffff);
 }
@@ -77,6 +81,19 @@ static void make_program(uint32_t *words) {
     while (i < WORDS) words[i++] = random_value();
 }
 
+/* A program that divides each edge by each: x3 and those after it have the edges. */
+static void make_divisions(uint32_t *words, uint32_t *x) {
+    unsigned i, a, b;
+    for (i = 0; i < EDGES; i++) x[3 + i] = edges[i];
+    for (i = a = 0; a < EDGES; a++) {
+        for (b = 0; b < EDGES; b++) {
+            words[i++] = r_type(1, 4, 11, 3 + a, 3 + b); /* div x11 */
+            words[i++] = r_type(1, 6, 12, 3 + a, 3 + b); /* rem x12 */
+        }
+    }
+    words[i] = 0x00100073; /* ebreak */
+}
+
 /* Prints the fields of two records that differ. */
 static void print_difference(const rrs_retired *wanted, const rrs_retired *got) {
     static const char *const names[] = {
@@ -100,10 +117,11 @@ static int differs(struct design *design, unsigned program, uint64_t *records) {
     rrs_fault fault;
     unsigned i, step;
     make_program(words);
-    memcpy(copy, words, sizeof words);
     hart.x[0] = 0;
     for (i = 1; i < 32; i++) hart.x[i] = random_value();
     hart.x[1] = BASE + 4 * CODE;
+    if (program == RANDOM_PROGRAMS) make_divisions(words, hart.x);
+    memcpy(copy, words, sizeof words);
     hart.pc = BASE;
     hart.last = 0;
     memcpy(design->x, hart.x, sizeof hart.x);
@@ -156,7 +174,8 @@ int main(void) {
     int found = check("sra and srai shift logically", PLANTED_LOGICAL_SHIFT) +
                 check("mulhsu takes both as signed", PLANTED_MULHSU_SIGNED) +
                 check("the mask of sh is off by a byte", PLANTED_STORE_MASK) +
-                check("jalr leaves bit 0", PLANTED_JALR_ODD);
-    printf("%d of 4 planted faults found\n", found);
-    return wrong || found != 4;
+                check("jalr leaves bit 0", PLANTED_JALR_ODD) +
+                check("rem of the least number by -1 is that number", PLANTED_REM_LEAST);
+    printf("%d of 5 planted faults found\n", found);
+    return wrong || found != 5;
 }
