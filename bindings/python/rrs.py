@@ -10,7 +10,11 @@ End(steps=3, fault=Fault('FETCH_FAULT', address=0x0000000c), at_stop=False)
 'add x1, x2, x3'
 
 The library is the file that the environment's RRS_LIBRARY names, or ``crates/rrs_c/out/librrs.so``
-of the repository that this module stands in.
+of the repository that this module stands in. The import is an ImportError where it can't be loaded,
+or has another version than this module.
+
+Only one thread at a time may use a machine, its registers and its memory: a call lets other threads
+go on, and nothing checks this. Different machines may be used at the same time.
 """
 
 import ctypes
@@ -26,6 +30,8 @@ __all__ = [
     "FaultKind",
     "End",
     "Retired",
+    "Access",
+    "AccessKind",
     "Instruction",
     "decode",
     "disassemble",
@@ -61,33 +67,48 @@ class _Instruction(ctypes.Structure):
     _fields_ = [(name, _u32) for name in "row rd rs1 rs2 shamt".split()] + [("imm", ctypes.c_int32)]
 
 
+class _Access(ctypes.Structure):
+    _fields_ = [("fault", _Fault)] + [(name, _u32) for name in "kind address size value".split()]
+
+
 def _library():
     here = Path(__file__).resolve().parent
     default = here / "../../crates/rrs_c/out/librrs.so"
-    return ctypes.CDLL(os.environ.get("RRS_LIBRARY") or str(default.resolve()))
+    try:
+        return ctypes.CDLL(os.environ.get("RRS_LIBRARY") or str(default.resolve()))
+    except OSError as error:
+        raise ImportError(f"rrs.py can't load the kit's library: {error}") from error
 
 
 _lib = _library()
 
 
 def _function(name, result, *arguments):
-    function = getattr(_lib, name)
+    try:
+        function = getattr(_lib, name)
+    except AttributeError as error:
+        raise ImportError(f"the kit's library has no {name}: {_lib._name}") from error
     function.restype, function.argtypes = result, arguments
     return function
 
 
-_memory = (ctypes.POINTER(_Hart), _words, _size, _u32)
+# The version of rrs.h that this module is written for: the numbers of RRS_VERSION.
+_VERSION = 0x00_01_00
 _version = _function("rrs_version", _u32)
+if _version() != _VERSION:
+    raise ImportError(f"rrs.py is for version {_VERSION} of {_lib._name}, which has {_version()}")
+
+_memory = (ctypes.POINTER(_Hart), _words, _size, _u32)
 _step = _function("rrs_step", _Fault, *_memory)
 _run = _function("rrs_run", _End, *_memory, _u64)
 _run_until = _function("rrs_run_until", _End, *_memory, _u64, _words, _size)
 _step_rvfi = _function("rrs_step_rvfi", _Fault, *_memory, _u64, ctypes.POINTER(_Retired))
 _decode = _function("rrs_decode", _Instruction, _u32)
 _disassemble = _function("rrs_disassemble", _size, _u32, _u32, ctypes.c_char_p, _size)
+_request = _function("rrs_request", _Access, ctypes.POINTER(_Hart), _u32)
+_complete = _function("rrs_complete", _Fault, ctypes.POINTER(_Hart), _u32, _u32, _u32)
 
 _TEXT_SIZE = 26
-if _version() != 256:
-    raise ImportError("rrs.py and librrs.so are of two versions")
 
 
 class FaultKind(enum.IntEnum):
@@ -121,8 +142,21 @@ End.__doc__ = """How a run ended: the steps, the Fault or None, and whether it i
 Retired = namedtuple("Retired", [name for name, _ in _Retired._fields_])
 Retired.__doc__ = """What a step retired, under the names of RVFI: rrs.h says of each what it is."""
 
+
+class AccessKind(enum.IntEnum):
+    """What an instruction does with memory."""
+
+    LOAD = 1
+    STORE = 2
+
+
+Access = namedtuple("Access", "kind address size value")
+Access.__doc__ = """A load or a store: its AccessKind, the address of the first byte, how many
+bytes, and of a store the register's value, whose low bytes are stored."""
+
 Instruction = namedtuple("Instruction", [name for name, _ in _Instruction._fields_])
-Instruction.__doc__ = """The number of a row, 1 to 48, and its fields, 0 where it has none."""
+Instruction.__doc__ = """The number of a row, 1 to 48, and its fields, 0 where its format has none.
+The immediate of ecall is 0 and of ebreak 1, and fence has any."""
 
 
 def _fault_of(fault):
@@ -189,7 +223,8 @@ class Machine:
     """A hart, and words of memory from the address ``base`` on.
 
     ``program`` is bytes, or a sequence of words. ``size`` is the number of words of memory, at
-    least those of the program; the others are 0. The pc begins at ``base``, a multiple of 4.
+    least those of the program; the others are 0. The pc begins at ``base``, a multiple of 4. A copy
+    has a hart and words of its own. Only one thread at a time may use a machine.
     """
 
     def __init__(self, program, base=0, size=None):
@@ -258,12 +293,39 @@ class Machine:
     def run_until(self, stops, limit):
         """Makes steps until the pc is one of the addresses ``stops``, ``limit`` were made, or one
         faults. The first step is made wherever the pc is. Returns the End."""
-        addresses = (_u32 * len(stops))(*map(_word_of, stops))
+        words = [*map(_word_of, stops)]
+        addresses = (_u32 * len(words))(*words)
         limit = _long_of(limit, "limit")
-        return _end_of(_run_until(*self._arguments, limit, addresses, len(stops)))
+        return _end_of(_run_until(*self._arguments, limit, addresses, len(words)))
+
+    def request(self, word):
+        """The access that ``word``, the word at the pc, asks for. Returns the Fault before any
+        access or None, and the Access or None. Nothing changes, and the memory isn't looked at."""
+        access = _request(self._arguments[0], _word_of(word))
+        if not access.kind:
+            return _fault_of(access.fault), None
+        kind = AccessKind(access.kind)
+        return None, Access(kind, access.address, access.size, access.value)
+
+    def complete(self, word, given):
+        """Executes ``word``, the word at the pc, whose access the caller made: ``given`` is the
+        value that a load read, of a store any number, and None where the access is refused. The
+        memory isn't looked at. Returns the Fault, or None."""
+        value = 0 if given is None else _word_of(given)
+        return _fault_of(_complete(self._arguments[0], _word_of(word), given is not None, value))
+
+    def __reduce__(self):
+        return _restored, (type(self), bytes(self._memory), self._base, bytes(self._hart))
 
     def __repr__(self):
         return f"Machine(pc=0x{self.pc:08x}, {len(self.memory)} words from 0x{self.base:08x})"
+
+
+def _restored(kind, memory, base, hart):
+    """The machine that was copied, or pickled."""
+    machine = kind(memory, base)
+    ctypes.memmove(machine._arguments[0], hart, len(hart))
+    return machine
 
 
 def decode(word):

@@ -1,45 +1,82 @@
-"""Each call once: `python3 test_rrs.py`."""
+"""What the module does beside the calls of the library, which replay.py compares:
+`python3 test_rrs.py`."""
 
+import copy
 import doctest
+import os
+import pickle
+import subprocess
+import sys
 import unittest
+from pathlib import Path
 
 import rrs
+from rrs import AccessKind, End, Fault, FaultKind, Machine
 
 
-class Calls(unittest.TestCase):
-    def test_a_store_is_told_and_changes_the_words(self):
-        machine = rrs.Machine([0x0020A223, 0, 7], base=0x80000000)  # sw x2, 4(x1)
-        machine.registers[1], machine.registers[2] = 0x80000004, 0x12345678
-        fault, record = machine.step_rvfi(5)
-        self.assertEqual((fault, record.order, record.insn), (None, 5, 0x0020A223))
-        self.assertEqual((record.mem_addr, record.mem_wmask), (0x80000008, 15))
-        self.assertEqual((machine.memory[2], machine.pc), (0x12345678, 0x80000004))
+class Faces(unittest.TestCase):
+    def test_faults_and_ends_are_shown(self):
+        shown = {
+            Fault(FaultKind.ILLEGAL_INSTRUCTION, 4, 5): (
+                "Fault('ILLEGAL_INSTRUCTION', address=0x00000004, word=0x00000005)"
+            ),
+            Fault(FaultKind.FETCH_FAULT, 2**31, 0): "Fault('FETCH_FAULT', address=0x80000000)",
+            Fault(FaultKind.EBREAK, 8, 0): "Fault('EBREAK', address=0x00000008)",
+            End(3, None, True): "End(steps=3, fault=None, at_stop=True)",
+            Machine([1, 2], 16): "Machine(pc=0x00000010, 2 words from 0x00000010)",
+        }
+        self.assertEqual([repr(value) for value in shown], [*shown.values()])
 
-    def test_a_run_ends_at_a_stop_and_then_at_ebreak(self):
-        machine = rrs.Machine(bytes.fromhex("938010009380100073001000"))
-        self.assertEqual(machine.run_until([4], 9), (1, None, True))
-        self.assertEqual(machine.last, 1)
-        end = machine.run_until([], 9)
-        self.assertEqual((end.steps, end.fault), (1, (rrs.FaultKind.EBREAK, 8, 0)))
-        self.assertEqual((machine.step(), machine.last, machine.registers[1]), (end.fault, None, 2))
-
-    def test_register_zero_stays_0(self):
-        machine = rrs.Machine([0x00500013])  # addi x0, x0, 5
-        machine.registers[0] = 7
-        self.assertIsNone(machine.step())
-        self.assertEqual((machine.registers[0], machine.registers[:2]), (0, [0, 0]))
-
-    def test_words_have_fields_and_texts(self):
-        self.assertEqual(rrs.decode(0x00208463), (22, 0, 1, 2, 0, 8))
-        self.assertEqual(rrs.disassemble(0x00208463, 0x80000000), "beq x1, x2, 0x80000008")
-        self.assertEqual((rrs.decode(-1), rrs.disassemble(-1)), (None, None))
+    def test_registers_are_a_sequence(self):
+        registers = Machine([0]).registers
+        registers[0], registers[1], registers[-1] = 7, -1, 2**31
+        self.assertEqual((len(registers), registers[0], registers[-32]), (32, 0, 0))
+        self.assertEqual((registers[1], registers[31]), (2**32 - 1, 2**31))
+        self.assertEqual(registers[-31], 2**32 - 1)
+        self.assertEqual(registers[:3], [0, 2**32 - 1, 0])
+        self.assertEqual(registers[30:], [0, 2**31])
+        self.assertEqual(repr(registers), repr([0, 2**32 - 1] + [0] * 29 + [2**31]))
+        for index in (32, -33):
+            self.assertRaises(IndexError, registers.__getitem__, index)
+            self.assertRaises(IndexError, registers.__setitem__, index, 0)
+        for value in (2**32, -(2**31) - 1):
+            self.assertRaises(ValueError, registers.__setitem__, 1, value)
 
     def test_wrong_arguments_are_refused(self):
-        for arguments in (([0], 2), ([0], -(2**40)), ([2**32], 0), ([1, 2], 0, 1)):
-            self.assertRaises(ValueError, rrs.Machine, *arguments)
+        for arguments in (([0], 2), ([0], -(2**40)), ([2**32], 0), ([1, 2], 0, 1), ([0], 2**32)):
+            self.assertRaises(ValueError, Machine, *arguments)
+        machine = Machine([0x00108093] * 2)
+        for call in (
+            (machine.run_until, [2**32], 1),
+            (machine.request, 2**32),
+            (machine.complete, 2**32, 0),
+            (machine.complete, 0, 2**32),
+            (rrs.decode, 2**32),
+            (rrs.disassemble, 0, 2**32),
+            (rrs.disassemble, -(2**31) - 1),
+            (setattr, machine, "pc", 2**32),
+        ):
+            self.assertRaises(ValueError, *call)
+        self.assertEqual((machine.pc, machine.registers[:]), (0, [0] * 32))
+
+    def test_programs_are_words_or_bytes_and_have_a_size(self):
+        for program in (b"\x93\x80\x10\x00\x73", [0x00108093, 0x73], (0x00108093, 0x73)):
+            self.assertEqual(Machine(program).memory[:], [0x00108093, 0x73])
+        for program in (bytearray(b"\1\2\3"), memoryview(b"\1\2\3\0")):
+            self.assertEqual(Machine(program, size=3).memory[:], [0x00030201, 0, 0])
+        self.assertEqual(Machine([-1], 2**32 - 4, 2).memory[:], [2**32 - 1, 0])
+        self.assertEqual(Machine([], -4).base, 2**32 - 4)
+        self.assertEqual(Machine([1]).base, 0)
+
+    def test_defaults_are_0(self):
+        machine = Machine([0x00108093])
+        self.assertEqual((machine.pc, machine.last, machine.base), (0, None, 0))
+        self.assertEqual(machine.step_rvfi()[1].order, 0)
+        self.assertEqual(rrs.disassemble(0x0000006F), "jal x0, 0x00000000")
+        self.assertEqual((rrs.decode(-1), rrs.disassemble(-1)), (None, None))
 
     def test_orders_and_limits_have_64_bits(self):
-        machine = rrs.Machine([0x00108093] * 4)  # addi x1, x1, 1
+        machine = Machine([0x00108093] * 4)  # addi x1, x1, 1
         self.assertEqual(machine.step_rvfi(2**64 - 1)[1].order, 2**64 - 1)
         for number in (2**64, -1):
             self.assertRaises(ValueError, machine.step_rvfi, number)
@@ -48,8 +85,27 @@ class Calls(unittest.TestCase):
             self.assertRaises(ValueError, machine.run_until, [], number)
         self.assertEqual((machine.pc, machine.registers[1]), (4, 1))
 
+    def test_stops_are_any_iterable(self):
+        for stops in ([8], (8,), {8}, iter([8]), (4 * n for n in (2, 9)), range(8, 9)):
+            self.assertEqual(Machine([0x00108093] * 4).run_until(stops, 9), (2, None, True))
+
+    def test_accesses_are_told_and_completed(self):
+        machine = Machine([])
+        machine.registers[1] = 0x10000000
+        load, store = 0x00008103, 0x0010A223  # lb x2, 0(x1); sw x1, 4(x1)
+        asked = (None, (AccessKind.STORE, 0x10000004, 4, 0x10000000))
+        self.assertEqual(machine.request(store), asked)
+        self.assertEqual(machine.request(load), (None, (AccessKind.LOAD, 0x10000000, 1, 0)))
+        self.assertEqual(machine.request(0x00108093), (None, None))
+        self.assertEqual(machine.request(-1), ((FaultKind.ILLEGAL_INSTRUCTION, 0, 2**32 - 1), None))
+        refused = (FaultKind.LOAD_FAULT, 0x10000000, 0)
+        self.assertEqual(machine.complete(load, None), refused)
+        self.assertIsNone(machine.complete(load, 0))
+        self.assertIsNone(machine.complete(load, -1))
+        self.assertEqual((machine.registers[2], machine.pc, machine.last), (2**32 - 1, 8, 2))
+
     def test_a_machine_keeps_its_memory_and_its_base(self):
-        machine = rrs.Machine([1, 2], base=8)
+        machine = Machine([1, 2], base=8)
         for name, value in {"memory": [3, 4], "base": 0, "registers": [0] * 32, "last": 1}.items():
             self.assertRaises(AttributeError, setattr, machine, name, value)
         self.assertEqual((machine.memory[:], machine.base, machine.pc), ([1, 2], 8, 8))
@@ -57,7 +113,7 @@ class Calls(unittest.TestCase):
         self.assertIsNone(machine.step())
 
     def test_a_word_of_memory_has_32_bits(self):
-        machine = rrs.Machine([1, 2, 3])
+        machine = Machine([1, 2, 3])
         for index, value in ((0, 2**32), (2, -(2**31) - 1), (slice(1, 3), [7, 2**32])):
             with self.assertRaises(ValueError):
                 machine.memory[index] = value
@@ -65,6 +121,66 @@ class Calls(unittest.TestCase):
         machine.memory[0], machine.memory[1:] = -1, [2**32 - 1, 0]
         self.assertEqual(machine.memory[:], [2**32 - 1, 2**32 - 1, 0])
         self.assertEqual(bytes(machine.memory), bytes(8 * [255] + 4 * [0]))
+
+    def test_a_copy_shares_nothing(self):
+        machine = Machine([0x00108093, 0x0000A103, 5], base=64)  # addi x1, x1, 1; lw x2, (x1)
+        machine.registers[3] = 7
+        machine.step()
+        pickled = pickle.loads(pickle.dumps(machine))
+        for other in (copy.copy(machine), copy.deepcopy(machine), pickled):
+            state = (other.pc, other.last, other.registers[:4], other.memory[:], other.base)
+            self.assertEqual(state, (68, 1, [0, 1, 0, 7], machine.memory[:], 64))
+            other.registers[1], other.memory[2] = 72, 9
+            self.assertIsNone(other.step())
+            self.assertEqual((other.registers[2], other.pc), (9, 72))
+        self.assertEqual((machine.pc, machine.registers[:4]), (68, [0, 1, 0, 7]))
+        self.assertEqual(machine.memory[2], 5)
+
+    def test_threads_are_told_of(self):
+        for text in (rrs.__doc__, Machine.__doc__):
+            self.assertIn("Only one thread at a time may use a machine", " ".join(text.split()))
+
+
+class Libraries(unittest.TestCase):
+    """The way to the library, and the libraries that are refused: RRS_REFUSED is the folder where
+    check.sh puts them."""
+
+    def run_over(self, library, lines):
+        """The status of a program over a library, what it prints, and what it says."""
+        environment = {**os.environ, "RRS_LIBRARY": library}
+        if library is None:
+            del environment["RRS_LIBRARY"]
+        run = subprocess.run([sys.executable, "-c", lines], env=environment, capture_output=True,
+                             text=True, check=False)
+        return run.returncode, run.stdout, run.stderr
+
+    def test_refused_libraries_are_an_import_error(self):
+        folder = os.environ["RRS_REFUSED"]
+        for library, wanted in {
+            "version.so": f"rrs.py is for version 256 of {folder}/version.so, which has 512",
+            "old.so": f"the kit's library has no rrs_request: {folder}/old.so",
+            "none.so": "rrs.py can't load the kit's library: ",
+        }.items():
+            status, _, said = self.run_over(f"{folder}/{library}", "import rrs")
+            self.assertEqual(status, 1)
+            self.assertIn(f"\nImportError: {wanted}", said)
+
+    def test_the_library_of_the_repository_is_the_default(self):
+        lines = "try:\n import rrs\n print(rrs._lib._name)\nexcept ImportError as e: print(e)"
+        default = Path(rrs.__file__).resolve().parents[2] / "crates/rrs_c/out/librrs.so"
+        status, printed, _ = self.run_over(None, lines)
+        self.assertEqual(status, 0)
+        self.assertIn(str(default), printed)
+
+    def test_an_unknown_kind_is_an_error(self):
+        folder = os.environ["RRS_REFUSED"]
+        for call in ("step()", "run(1)", "run_until([], 1)", "step_rvfi()", "complete(0, 0)"):
+            lines = f"import rrs\nrrs.Machine([0]).{call}"
+            status, _, said = self.run_over(f"{folder}/kind.so", lines)
+            self.assertIn("ValueError: 9 is not a valid FaultKind", said)
+            self.assertEqual(status, 1)
+        _, _, said = self.run_over(f"{folder}/kind.so", "import rrs\nrrs.Machine([0]).request(0)")
+        self.assertIn("ValueError: 9 is not a valid AccessKind", said)
 
 
 def load_tests(loader, tests, pattern):

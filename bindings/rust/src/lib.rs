@@ -10,24 +10,35 @@
 //! assert_eq!((end.steps, end.fault), (3, Some(Fault::Fetch(12))));
 //! assert_eq!(hart.x[1], 0x05bc_9000);
 //! ```
+//!
+//! Each call panics where the library that is linked has another version than [`VERSION`].
 
 #![no_std]
 
 mod sys;
 
+use core::sync::atomic::{AtomicBool, Ordering};
 use core::{fmt, str};
 
-/// A hart.
+/// A hart. Two are equal where x1 to x31, the pc and `last` are.
 #[repr(C)]
-#[derive(Clone, Copy, Debug, Default, PartialEq, Eq)]
+#[derive(Clone, Copy, Debug, Default)]
 pub struct Hart {
-    /// The registers x1 to x31. Entry 0 is never read or changed.
+    /// The registers x1 to x31. Entry 0 is never read or changed, and not compared.
     pub x: [u32; 32],
     /// The program counter.
     pub pc: u32,
     /// The register that the latest step wrote, 1 to 31, or 0.
     pub last: u32,
 }
+
+impl PartialEq for Hart {
+    fn eq(&self, other: &Hart) -> bool {
+        (&self.x[1..], self.pc, self.last) == (&other.x[1..], other.pc, other.last)
+    }
+}
+
+impl Eq for Hart {}
 
 /// Words, which lie one after another from a base address on, each as four bytes, lowest first.
 #[derive(Debug)]
@@ -73,7 +84,8 @@ impl Fault {
             5 => Some(Fault::Alignment(address)),
             6 => Some(Fault::EnvironmentCall(address)),
             7 => Some(Fault::Breakpoint(address)),
-            _ => None,
+            0 => None,
+            kind => panic!("librrs_c.a gives an exception of unknown kind {kind}"),
         }
     }
 }
@@ -114,7 +126,7 @@ pub struct End {
 
 impl End {
     fn of(end: sys::End) -> End {
-        End { steps: end.steps, fault: Fault::of(end.fault), at_stop: end.at_stop == 1 }
+        End { steps: end.steps, fault: Fault::of(end.fault), at_stop: end.at_stop != 0 }
     }
 }
 
@@ -166,8 +178,8 @@ impl Retired {
     fn of(record: sys::Retired) -> Retired {
         Retired {
             order: record.order,
-            insn: (record.fetched == 1).then_some(record.insn),
-            trap: record.trap == 1,
+            insn: (record.fetched != 0).then_some(record.insn),
+            trap: record.trap != 0,
             pc_rdata: record.pc_rdata,
             pc_wdata: record.pc_wdata,
             rs1_addr: record.rs1_addr,
@@ -187,7 +199,8 @@ impl Retired {
     }
 }
 
-/// An instruction. A field that its format does not have is 0.
+/// An instruction. A field that its format does not have is 0. `ecall`, `ebreak` and `fence` have
+/// the I format, and so an immediate: 0, 1, and any.
 #[repr(C)]
 #[derive(Clone, Copy, Debug, PartialEq, Eq)]
 pub struct Instruction {
@@ -244,6 +257,18 @@ impl fmt::Debug for Text {
     }
 }
 
+/// The version of the library that this crate is written for, as [`version`] gives it.
+pub const VERSION: u32 = 0x00_01_00;
+
+/// Compares the version of the library with that of this crate, until they were equal once.
+fn check_version() {
+    static IS_CHECKED: AtomicBool = AtomicBool::new(false);
+    if !IS_CHECKED.load(Ordering::Relaxed) {
+        assert_eq!(version(), VERSION, "librrs_c.a has another version than the crate rrs");
+        IS_CHECKED.store(true, Ordering::Relaxed);
+    }
+}
+
 // In each block below the pointers are to values that are borrowed for the call, which do not
 // overlap, and the lengths are those of the slices. The library asks for nothing else.
 impl Hart {
@@ -253,12 +278,14 @@ impl Hart {
     ///
     /// The fault of the step.
     pub fn step(&mut self, memory: &mut Memory<'_>) -> Result<(), Fault> {
+        check_version();
         let Memory { words, base } = memory;
         answer_of(unsafe { sys::rrs_step(self, words.as_mut_ptr(), words.len(), *base) })
     }
 
     /// Makes steps until `limit` were made, or one faults.
     pub fn run(&mut self, memory: &mut Memory<'_>, limit: u64) -> End {
+        check_version();
         let Memory { words, base } = memory;
         End::of(unsafe { sys::rrs_run(self, words.as_mut_ptr(), words.len(), *base, limit) })
     }
@@ -266,6 +293,7 @@ impl Hart {
     /// Makes steps until the pc is one of the stops, `limit` were made, or one faults. The first
     /// step is made wherever the pc is.
     pub fn run_until(&mut self, memory: &mut Memory<'_>, limit: u64, stops: &[u32]) -> End {
+        check_version();
         let Memory { words, base } = memory;
         End::of(unsafe {
             sys::rrs_run_until(
@@ -286,6 +314,7 @@ impl Hart {
         memory: &mut Memory<'_>,
         order: u64,
     ) -> (Result<(), Fault>, Retired) {
+        check_version();
         let Memory { words, base } = memory;
         let mut record = sys::Retired::default();
         let fault = unsafe {
@@ -301,12 +330,14 @@ impl Hart {
     ///
     /// The fault before any access.
     pub fn request(&self, word: u32) -> Result<Option<Access>, Fault> {
+        check_version();
         let access = unsafe { sys::rrs_request(self, word) };
         answer_of(access.fault)?;
         Ok(match access.kind {
             1 => Some(Access::Load(access.address, access.size)),
             2 => Some(Access::Store(access.address, access.size, access.value)),
-            _ => None,
+            0 => None,
+            kind => panic!("librrs_c.a gives an access of unknown kind {kind}"),
         })
     }
 
@@ -318,6 +349,7 @@ impl Hart {
     ///
     /// The fault of the step.
     pub fn complete(&mut self, word: u32, given: Option<u32>) -> Result<(), Fault> {
+        check_version();
         let (granted, value) = given.map_or((0, 0), |value| (1, value));
         answer_of(unsafe { sys::rrs_complete(self, word, granted, value) })
     }
@@ -325,6 +357,7 @@ impl Hart {
 
 /// The instruction that a word is, and `None` for an illegal instruction.
 pub fn decode(word: u32) -> Option<Instruction> {
+    check_version();
     let instruction = unsafe { sys::rrs_decode(word) };
     (instruction.row != 0).then_some(instruction)
 }
@@ -332,6 +365,7 @@ pub fn decode(word: u32) -> Option<Instruction> {
 /// The text of the instruction that a word is at an address, and `None` for a word outside the
 /// table.
 pub fn disassemble(word: u32, pc: u32) -> Option<Text> {
+    check_version();
     let mut bytes = [0; Text::SIZE];
     let length = unsafe { sys::rrs_disassemble(word, pc, bytes.as_mut_ptr(), bytes.len()) };
     (length != 0).then_some(Text { bytes, length })

@@ -1,6 +1,6 @@
-//! Each call once.
+//! What this crate does beside the calls of the library, which `examples/replay.rs` compares.
 
-use rrs::{decode, disassemble, version, Access, Fault, Hart, Memory};
+use rrs::{decode, disassemble, version, Fault, Hart, Memory, Text, VERSION};
 
 /// A hart at an address.
 fn hart_at(pc: u32) -> Hart {
@@ -8,48 +8,45 @@ fn hart_at(pc: u32) -> Hart {
 }
 
 #[test]
-fn a_store_is_told_and_changes_the_words() {
-    let mut words = [0x0020_a223, 0, 7]; // sw x2, 4(x1)
-    let mut hart = hart_at(0x8000_0000);
-    (hart.x[1], hart.x[2]) = (0x8000_0004, 0x1234_5678);
-    let (answer, retired) = hart.step_rvfi(&mut Memory::new(&mut words, 0x8000_0000), 5);
-    assert_eq!((answer, retired.order, retired.insn), (Ok(()), 5, Some(0x0020_a223)));
-    assert_eq!((retired.rs1_addr, retired.rs2_rdata), (1, 0x1234_5678));
-    let mem = retired.mem;
-    assert_eq!((mem.addr, mem.wmask, mem.wdata), (0x8000_0008, 15, 0x1234_5678));
-    assert_eq!((words[2], hart.pc), (0x1234_5678, 0x8000_0004));
+fn faults_have_texts() {
+    let cases = [
+        (Fault::IllegalInstruction(4, 5), "illegal instruction 0x00000005 at 0x00000004"),
+        (Fault::Fetch(0x8000_0000), "no instruction at 0x80000000"),
+        (Fault::LoadAccess(6), "no load from 0x00000006"),
+        (Fault::StoreAccess(7), "no store to 0x00000007"),
+        (Fault::Alignment(9), "address 0x00000009 is not aligned"),
+        (Fault::EnvironmentCall(12), "ecall at 0x0000000c"),
+        (Fault::Breakpoint(16), "ebreak at 0x00000010"),
+    ];
+    for (fault, text) in cases {
+        assert_eq!(fault.to_string(), text);
+    }
+    let error: &dyn std::error::Error = &cases[0].0;
+    assert!(error.source().is_none());
 }
 
 #[test]
-fn a_run_ends_at_a_stop_and_then_at_ebreak() {
-    let mut words = [0x0010_8093, 0x0010_8093, 0x0010_0073]; // addi x1, x1, 1 twice, ebreak
-    let mut hart = Hart::default();
-    let mut memory = Memory::new(&mut words, 0);
-    let first = hart.run_until(&mut memory, 9, &[4]);
-    assert!(first.at_stop && first.steps == 1);
-    let second = hart.run_until(&mut memory, 9, &[]);
-    assert_eq!((second.steps, second.fault, hart.x[1]), (1, Some(Fault::Breakpoint(8)), 2));
-    assert_eq!(hart.step(&mut memory), Err(Fault::Breakpoint(8)));
+fn harts_are_equal_but_for_entry_0() {
+    let mut others = [Hart::default(); 35];
+    for (entry, hart) in others[..32].iter_mut().enumerate() {
+        hart.x[entry] = 1;
+    }
+    (others[32].pc, others[33].last) = (4, 1);
+    for (place, hart) in others.iter().enumerate() {
+        assert_eq!(*hart == Hart::default(), place == 0 || place == 34, "at {place}");
+    }
 }
 
 #[test]
-fn an_access_is_made_by_the_caller() {
-    let word = 0x0000_8103; // lb x2, 0(x1)
-    let mut hart = Hart::default();
-    hart.x[1] = 0x1000_0000;
-    assert_eq!(hart.request(word), Ok(Some(Access::Load(0x1000_0000, 1))));
-    assert_eq!(hart.complete(word, None), Err(Fault::LoadAccess(0x1000_0000)));
-    assert_eq!(hart.complete(word, Some(0x80)), Ok(()));
-    assert_eq!((hart.x[2], hart.pc, hart.last), (0xffff_ff80, 4, 2));
-}
-
-#[test]
-fn words_have_fields_and_texts() {
-    let branch = decode(0x0020_8463).map(|i| (i.row, i.rs1, i.rs2, i.imm));
-    assert_eq!(branch, Some((22, 1, 2, 8)));
-    assert_eq!(disassemble(0x0020_8463, 0x8000_0000).unwrap().as_str(), "beq x1, x2, 0x80000008");
+fn texts_are_shown_as_strings_are() {
+    let text: Text = disassemble(0x0020_8463, 0x8000_0000).unwrap();
+    assert_eq!(text.as_str(), "beq x1, x2, 0x80000008");
+    assert_eq!(
+        format!("{text:>24}|{text:?}"),
+        "  beq x1, x2, 0x80000008|\"beq x1, x2, 0x80000008\""
+    );
     assert!(decode(0xffff_ffff).is_none() && disassemble(0xffff_ffff, 0).is_none());
-    assert_eq!(version(), 256);
+    assert_eq!((version(), VERSION), (256, 256));
 }
 
 #[test]

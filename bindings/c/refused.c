@@ -1,0 +1,54 @@
+/* A library that a face must refuse, for check.sh: one of the version VERSION, whose exceptions and
+ * accesses are of the kind KIND. With -DOLD it has no rrs_request. */
+#include "rrs.h"
+
+static const rrs_fault fault = {KIND, 0, 0};
+
+uint32_t rrs_version(void) { return VERSION; }
+
+rrs_fault rrs_step(rrs_hart *hart, uint32_t *words, size_t count, uint32_t base) {
+    (void)hart, (void)words, (void)count, (void)base;
+    return fault;
+}
+
+rrs_end rrs_run(rrs_hart *hart, uint32_t *words, size_t count, uint32_t base, uint64_t limit) {
+    rrs_end end = {0, {KIND, 0, 0}, 0};
+    (void)hart, (void)words, (void)count, (void)base, (void)limit;
+    return end;
+}
+
+rrs_end rrs_run_until(rrs_hart *hart, uint32_t *words, size_t count, uint32_t base, uint64_t limit,
+                      const uint32_t *stops, size_t stop_count) {
+    (void)stops, (void)stop_count;
+    return rrs_run(hart, words, count, base, limit);
+}
+
+rrs_fault rrs_step_rvfi(rrs_hart *hart, uint32_t *words, size_t count, uint32_t base,
+                        uint64_t order, rrs_retired *retired) {
+    (void)order, (void)retired;
+    return rrs_step(hart, words, count, base);
+}
+
+rrs_instruction rrs_decode(uint32_t word) {
+    rrs_instruction none = {0, 0, 0, 0, 0, 0};
+    (void)word;
+    return none;
+}
+
+size_t rrs_disassemble(uint32_t word, uint32_t pc, char *text, size_t size) {
+    (void)word, (void)pc, (void)text, (void)size;
+    return 0;
+}
+
+#ifndef OLD
+rrs_access rrs_request(const rrs_hart *hart, uint32_t word) {
+    rrs_access access = {{RRS_OK, 0, 0}, KIND, 0, 0, 0};
+    (void)hart, (void)word;
+    return access;
+}
+#endif
+
+rrs_fault rrs_complete(rrs_hart *hart, uint32_t word, uint32_t granted, uint32_t value) {
+    (void)word, (void)granted, (void)value;
+    return rrs_step(hart, 0, 0, 0);
+}

@@ -1,0 +1,47 @@
+//! The layouts of the structs that the library shares with this crate, in the form of the list that
+//! `bindings/layouts.py` makes of `rrs.h`, which stands beside this crate.
+
+use rrs::{Hart, Instruction, VERSION};
+use std::mem::{offset_of, size_of};
+
+#[allow(dead_code)]
+#[path = "../src/sys.rs"]
+mod sys;
+
+/// How many bytes a field takes.
+fn size_of_field<T, F>(_field: impl Fn(T) -> F) -> usize {
+    size_of::<F>()
+}
+
+/// The lines of a struct.
+macro_rules! listed {
+    ($lines:ident, $name:literal, $kind:ty, $($field:ident)*) => {
+        $lines.push(format!("{} {}", $name, size_of::<$kind>()));
+        $($lines.push(format!(
+            "{}.{} {} {}",
+            $name,
+            stringify!($field),
+            offset_of!($kind, $field),
+            size_of_field(|whole: $kind| whole.$field)
+        ));)*
+    };
+}
+
+#[test]
+fn the_structs_are_those_of_the_header() {
+    let mut lines = Vec::new();
+    listed!(lines, "rrs_hart", Hart, x pc last);
+    listed!(lines, "rrs_fault", sys::Fault, kind address word);
+    listed!(lines, "rrs_end", sys::End, steps fault at_stop);
+    listed!(lines, "rrs_retired", sys::Retired, order insn fetched trap pc_rdata pc_wdata rs1_addr
+        rs1_rdata rs2_addr rs2_rdata rd_addr rd_wdata mem_addr mem_rmask mem_wmask mem_rdata
+        mem_wdata);
+    listed!(lines, "rrs_instruction", Instruction, row rd rs1 rs2 shamt imm);
+    listed!(lines, "rrs_access", sys::Access, fault kind address size value);
+    lines.push(format!("RRS_VERSION {VERSION}"));
+    let listed = include_str!("../../layouts").lines();
+    let of_header: Vec<_> = listed
+        .filter(|line| line.starts_with("rrs_") || line.starts_with("RRS_VERSION "))
+        .collect();
+    assert_eq!(lines, of_header);
+}

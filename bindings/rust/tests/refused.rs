@@ -1,0 +1,49 @@
+//! Over the libraries of `bindings/c/refused.c`, which `bindings/check.sh` links: one of another
+//! version, and one whose exceptions and accesses have an unknown kind.
+
+use rrs::{decode, disassemble, Hart, Memory};
+use std::panic::{catch_unwind, UnwindSafe};
+
+/// What a call says where it panics.
+fn said(call: impl FnOnce() + UnwindSafe) -> String {
+    match catch_unwind(call) {
+        Ok(()) => "nothing".to_owned(),
+        Err(payload) => payload.downcast_ref::<String>().cloned().unwrap_or_default(),
+    }
+}
+
+fn void<T>(_answer: T) {}
+
+/// What each call that gives an exception or an access says, and then those that give none.
+fn all_said() -> (Vec<String>, Vec<String>) {
+    let mut hart = Hart::default();
+    let faults = vec![
+        said(move || void(hart.step(&mut Memory::new(&mut [0], 0)))),
+        said(move || void(hart.run(&mut Memory::new(&mut [0], 0), 1))),
+        said(move || void(hart.run_until(&mut Memory::new(&mut [0], 0), 1, &[0]))),
+        said(move || void(hart.step_rvfi(&mut Memory::new(&mut [0], 0), 0))),
+        said(move || void(hart.request(0))),
+        said(move || void(hart.complete(0, Some(0)))),
+    ];
+    let others = vec![said(|| void(decode(0))), said(|| void(disassemble(0, 0)))];
+    (faults, others)
+}
+
+#[test]
+#[ignore = "bindings/check.sh links the library that it needs"]
+fn a_library_of_another_version_is_refused() {
+    let (faults, others) = all_said();
+    for text in faults.iter().chain(&others) {
+        assert!(text.contains("another version"), "it said {text}");
+    }
+}
+
+#[test]
+#[ignore = "bindings/check.sh links the library that it needs"]
+fn an_unknown_kind_is_no_success() {
+    let (faults, others) = all_said();
+    for text in &faults {
+        assert!(text.contains("unknown kind 9"), "it said {text}");
+    }
+    assert_eq!(others, ["nothing", "nothing"]);
+}
