@@ -1,21 +1,28 @@
-#!/bin/sh
-# Builds the library for C, and tries its faces: the examples in C against what they must print, as
-# C99 and as C++, with the address and the undefined behaviour sanitizers, the crate for Rust, and
-# the module for Python.
+#!/usr/bin/env bash
+# Builds the library for C, and tries what carries it to people. The same questions go through C,
+# C++, Rust and Python, and their answers are compared with the stored ones. The structs and the
+# constants of each face are compared with those of rrs.h, and the names of the library with its
+# functions. The examples in C are built as C99 and as C++, with the address and the undefined
+# behaviour sanitizers, and compared with what they must print. What a face does beside has tests.
 #
-# usage: check.sh
+# usage: check.sh [--self-test]
 #
 # The library is taken as it stands where it is newer than its sources, and else built, over what
 # `rt ci` left. It needs rt, and Debian's packages gcc, g++, binutils, cargo and python3; where CI
 # is true those that are missing are installed. The status is 0 where all passed, 1 where something
-# did not, and 2 where a tool is missing, and nothing was tried.
+# did not, and 2 where a tool is missing, and nothing was tried. --self-test tries this script: on
+# wrong answers, lists and counts it must fail.
 
 # functions below are called by `try`
 # shellcheck disable=SC2317
+set -o pipefail
 
 here=$(cd "$(dirname "$0")" && pwd) || exit 2
 crate=$here/../crates/rrs_c
+header=$crate/include/rrs.h
 library=$crate/out/librrs_c.a
+replay=$here/../crates/rrs_replay
+layouts=$here/layouts
 room=$(mktemp -d) || exit 2
 trap 'rm -rf "$room"' EXIT
 
@@ -29,10 +36,12 @@ if ! lacking=$("$here/../.ci/tools" gcc=gcc g++=g++ nm=binutils cargo=cargo pyth
 fi
 
 failed=0
+tries=0
 # try WHAT COMMAND ..: runs it, and shows what it printed where it fails
 try() {
-    what=$1
+    local what=$1
     shift
+    tries=$((tries + 1))
     if "$@" >"$room/said" 2>&1; then
         echo "passed: $what"
     else
@@ -42,13 +51,21 @@ try() {
     fi
 }
 
+# Compares how often something was tried with how often it must be, and ends: COUNT
+finish() {
+    if [ "$tries" != "$1" ]; then
+        echo "failed: $tries tries, and there must be $1"
+        failed=1
+    fi
+    exit "$failed"
+}
+
 warnings='-Wall -Wextra -Werror -pedantic'
 checks='-O1 -g -fsanitize=address,undefined -fno-sanitize-recover=all'
 
 # build COMPILER PROGRAM FILE ..
 build() {
-    compiler=$1
-    program=$2
+    local compiler=$1 program=$2
     shift 2
     # shellcheck disable=SC2086 # the flags are words
     $compiler $warnings $checks -I"$crate/include" -o "$room/$program" "$@" -x none "$library"
@@ -60,15 +77,75 @@ prints() {
     diff "$here/c/expected/$1.txt" "$room/printed"
 }
 
-# what the library asks of the program that it is linked with
-asks_little() {
-    nm -u "$library" | sed -n 's/^ *U //p' | sort -u >"$room/asked" || return 1
-    printf '%s\n' memcpy memmove memset >"$room/may"
-    others=$(comm -23 "$room/asked" "$room/may")
-    [ -z "$others" ] || { echo "the library needs $others"; return 1; }
+# The questions that all faces are asked: those of rrs-replay whose answers come from elsewhere, and
+# after them those of answers/questions.
+gather_questions() {
+    local count
+    count=$(grep -n -m 1 '^$' "$replay/stdin") || return 1
+    count=$((${count%%:*} - 1))
+    head -n "$count" "$replay/stdin" | cat - "$here/answers/questions" >"$room/questions" &&
+        head -n "$count" "$replay/stdout" | cat - "$here/answers/answers" >"$room/answers" &&
+        [ "$count" = 3402 ] && [ "$(wc -l <"$room/questions")" = 5397 ]
+}
+
+# answers COMMAND ..: it answers the questions as is stored, and without a word on standard error
+answers() {
+    "$@" <"$room/questions" >"$room/answered" 2>"$room/errors" || { cat "$room/errors"; return 1; }
+    [ ! -s "$room/errors" ] || { cat "$room/errors"; return 1; }
+    cmp "$room/answers" "$room/answered" && return
+    diff "$room/answers" "$room/answered" | head -20
+    return 1
+}
+
+# what the library asks of the program that it is linked with, what it has, and that it has no state
+has_names() {
+    nm "$library" >"$room/nm" || return 1
+    # members, their empty lines, and local labels
+    awk 'NF > 1 { print $(NF - 1), $NF }' "$room/nm" | sort -u >"$room/names" || return 1
+    sed -n 's/^T //p' "$room/names" >"$room/exported"
+    "$here/layouts.py" functions "$header" | diff - "$room/exported" || return 1
+    sed -n 's/^[Uwv] //p' "$room/names" | sort -u >"$room/asked"
+    ! printf '%s\n' memcpy memmove memset | comm -13 - "$room/asked" | grep . || return 1
+    ! grep '^[^TtrRUwva] ' "$room/names"
+}
+
+# The layouts and the constants of the header, as COMPILER has them: COMPILER
+header_has() {
+    "$here/layouts.py" program "$header" >"$room/layouts.c" || return 1
+    # shellcheck disable=SC2086 # the flags are words
+    $1 $warnings -I"$(dirname "$header")" -o "$room/layouts" "$room/layouts.c" || return 1
+    "$room/layouts" | diff "$layouts" -
+}
+
+# The header alone is C of each standard, and C++; and with a field of another offset it is none.
+header_asserts() {
+    local dialect language
+    sed 's/offsetof(rrs_hart, pc) == 128/offsetof(rrs_hart, pc) == 124/' "$header" >"$room/wrong.h"
+    ! cmp -s "$header" "$room/wrong.h" || return 1
+    for dialect in c99 c11 c17 c2x c++98 c++11 c++17 c++20; do
+        language=${dialect%%[0-9]*}
+        # shellcheck disable=SC2086 # the flags are words
+        gcc -std="$dialect" $warnings -fsyntax-only -x "$language" "$header" || return 1
+        # shellcheck disable=SC2086 # the flags are words
+        ! gcc -std="$dialect" $warnings -fsyntax-only -x "$language" "$room/wrong.h" 2>"$room/wrong" ||
+            return 1
+        grep -q hart_pc "$room/wrong" || return 1
+    done
+}
+
+asserts_all() {
+    "$here/layouts.py" assertions "$header" <"$layouts"
+}
+
+header_is_right() {
+    try "rrs.h has the stored layouts and constants, in C" header_has "gcc -std=c99 -x c"
+    try "rrs.h has the stored layouts and constants, in C++" header_has "g++ -std=c++11 -x c++"
+    try "rrs.h asserts each layout" asserts_all
+    try "rrs.h is C99 to C++20, and refuses another layout" header_asserts
 }
 
 examples() {
+    local program
     for program in three_words uart shadow lockstep; do
         case $program in
         lockstep) set -- "$here/c/lockstep/main.c" "$here/c/lockstep/design.c" ;;
@@ -79,21 +156,71 @@ examples() {
         try "$program, as C++" build "g++ -std=c++11 -x c++" "$program" "$@"
         try "$program, as C++, prints what is stored" prints "$program"
     done
+    try "replay, as C99" build "gcc -std=c99 -x c" replay "$here/c/replay.c"
+    try "replay, as C99, answers as is stored" answers "$room/replay"
+    try "replay, as C++" build "g++ -std=c++11 -x c++" replay "$here/c/replay.c"
+    try "replay, as C++, answers as is stored" answers "$room/replay"
 }
 
+# Libraries that the faces must refuse: of another version, one with no rrs_request, and one that
+# gives an unknown kind of exception and access. In the folders `version` and `kind` for Rust.
+make_refused() {
+    local name flags
+    for name in version old kind; do
+        case $name in
+        version) flags="-DVERSION=512 -DKIND=9" ;;
+        old) flags="-DVERSION=256 -DKIND=9 -DOLD" ;;
+        kind) flags="-DVERSION=256 -DKIND=9" ;;
+        esac
+        mkdir -p "$room/$name"
+        # shellcheck disable=SC2086 # the flags are words
+        gcc -std=c99 $warnings -fPIC $flags -I"$crate/include" -c -o "$room/$name/refused.o" \
+            "$here/c/refused.c" &&
+            ar rc "$room/$name/librrs_c.a" "$room/$name/refused.o" &&
+            gcc -shared -o "$room/$name.so" "$room/$name/refused.o" || return 1
+    done
+}
+
+c_refuses() {
+    gcc -std=c99 -I"$crate/include" -o "$room/refuses" "$here/c/three_words.c" \
+        "$room/version/librrs_c.a" || return 1
+    "$room/refuses" >"$room/printed" 2>&1 && return 1
+    echo "rrs.h and librrs_c.a are of two versions" | diff - "$room/printed"
+}
+
+# rust FOLDER WORD ..: cargo, over the library in a folder
 rust() {
-    CARGO_TARGET_DIR=$room/rust RRS_LIB=$crate/out \
+    local folder=$1
+    shift
+    CARGO_TARGET_DIR=$room/rust RUSTFLAGS=-Dwarnings RRS_LIB=$folder \
         cargo "$@" --offline --quiet --manifest-path "$here/rust/Cargo.toml"
 }
 
+# rust_passes COUNT FOLDER WORD ..: so many tests pass
+rust_passes() {
+    local count=$1 passed folder=$2
+    shift 2
+    CARGO_TARGET_DIR=$room/rust RUSTFLAGS=-Dwarnings RRS_LIB=$folder \
+        cargo test --offline --manifest-path "$here/rust/Cargo.toml" "$@" >"$room/printed" 2>&1 ||
+        { cat "$room/printed"; return 1; }
+    passed=$(sed -n 's/^test result: ok\. \([0-9]*\) passed.*/\1/p' "$room/printed" | paste -sd+)
+    [ "$((passed))" = "$count" ] || { cat "$room/printed"; return 1; }
+}
+
 rust_prints() {
-    rust run --example three_words >"$room/printed" || return 1
+    rust "$crate/out" run --example three_words >"$room/printed" || return 1
     diff "$here/rust/expected.txt" "$room/printed"
 }
 
+rust_says_what_it_needs() {
+    local needed
+    needed=$(sed -n 's/^rust-version = "\(.*\)"$/\1/p' "$here/rust/Cargo.toml")
+    [ -n "$needed" ] && grep -q "Rust $needed" "$here/rust/README.md"
+}
+
 python() {
-    (cd "$here/python" &&
-        RRS_LIBRARY=$room/librrs.so PYTHONDONTWRITEBYTECODE=1 python3 "$@")
+    (cd "$here/python" && RRS_LIBRARY=$room/librrs.so RRS_REFUSED=$room \
+        PYTHONDONTWRITEBYTECODE=1 python3 -W error "$@")
 }
 
 python_prints() {
@@ -101,14 +228,94 @@ python_prints() {
     diff "$here/python/expected.txt" "$room/printed"
 }
 
-try "the library is built" "$here/../.ci/built" library
-[ "$failed" = 0 ] || exit 1
-try "the library needs memset, memcpy and memmove alone" asks_little
-examples
-try "rust: its tests" rust test
-try "rust: three_words prints what is stored" rust_prints
-try "the library for Python" gcc -shared -o "$room/librrs.so" \
-    -Wl,--whole-archive "$library" -Wl,--no-whole-archive
-try "python: its tests" python test_rrs.py
-try "python: three_words prints what is stored" python_prints
-exit "$failed"
+# python_passes COUNT: so many tests pass
+python_passes() {
+    python test_rrs.py >"$room/printed" 2>&1 || { cat "$room/printed"; return 1; }
+    grep -q "^Ran $1 tests" "$room/printed" || { cat "$room/printed"; return 1; }
+}
+
+python_has_layouts() {
+    python layouts.py | diff "$layouts" -
+}
+
+all() {
+    try "the library is built" "$here/../.ci/built" library
+    [ "$failed" = 0 ] || exit 1
+    try "the library has the functions of rrs.h, no state, and asks for memset, memcpy, memmove" \
+        has_names
+    header_is_right
+    try "the questions and their stored answers" gather_questions
+    examples
+    try "libraries that must be refused" make_refused
+    try "three_words refuses a library of another version" c_refuses
+    try "rust: its tests" rust_passes 6 "$crate/out"
+    try "rust: three_words prints what is stored" rust_prints
+    try "rust: replay is built" rust "$crate/out" build --release --example replay
+    try "rust: replay answers as is stored" answers "$room/rust/release/examples/replay"
+    try "rust: a library of another version is refused" \
+        rust_passes 1 "$room/version" --test refused -- --ignored another_version
+    try "rust: an unknown kind is refused" \
+        rust_passes 1 "$room/kind" --test refused -- --ignored unknown_kind
+    try "rust: README says which Rust it needs" rust_says_what_it_needs
+    try "the library for Python" gcc -shared -o "$room/librrs.so" \
+        -Wl,--whole-archive "$library" -Wl,--no-whole-archive
+    try "python: its tests" python_passes 16
+    try "python: three_words prints what is stored" python_prints
+    try "python: replay answers as is stored" answers python replay.py
+    try "python: the structs and constants are those of rrs.h" python_has_layouts
+    finish 41
+}
+
+# What is small, with something wrong in it: nothing, answers, lines, layouts, assertions, names,
+# state or tries
+wrong() {
+    checks=-O0
+    gather_questions || exit 2
+    sed -i '40,$d' "$room/questions"
+    sed -i '40,$d' "$room/answers"
+    printf 'int printf(const char *, ...);\nvoid rrs_more(void) { printf("more"); }\n' >"$room/more.c"
+    printf 'int rrs_state = 1;\n' >"$room/state.c"
+    case $1 in
+    answers) sed -i '39s/.$/9/' "$room/answers" ;;
+    lines) sed -i '39d' "$room/answers" ;;
+    layouts) sed 's/^rrs_fault.word 8 4$/rrs_fault.word 12 4/' "$layouts" >"$room/wrong" &&
+        layouts=$room/wrong ;;
+    assertions) grep -v 'fault_word' "$header" >"$room/rrs.h" && header=$room/rrs.h ;;
+    names | state) cp "$library" "$room/wrong.a" && library=$room/wrong.a &&
+        gcc -c -o "$room/more.o" "$room/${1/names/more}.c" && ar r "$library" "$room/more.o" ;;
+    esac
+    try "rrs.h has the stored layouts and constants, in C" header_has "gcc -std=c99 -x c"
+    try "rrs.h asserts each layout" asserts_all
+    try "replay, as C99" build "gcc -std=c99 -x c" replay "$here/c/replay.c"
+    try "replay, as C99, answers as is stored" answers "$room/replay"
+    try "the names of the library" has_names
+    [ "$1" != tries ] || tries=4
+    finish 5
+}
+
+# Each wrong subject must be seen, and the right one must pass.
+self_test() {
+    local what status
+    for what in nothing answers lines layouts assertions names state tries; do
+        status=0
+        "$here/check.sh" --wrong "$what" >"$room/seen" 2>&1 || status=$?
+        case $what:$status in
+        nothing:0) ;;
+        nothing:*) cat "$room/seen" && failed=1 ;;
+        *:1) grep -q '^failed: ' "$room/seen" || failed=1 ;;
+        *) echo "not seen: $what is wrong" && failed=1 ;;
+        esac
+    done
+    echo "self-test: status $failed"
+    exit "$failed"
+}
+
+case "$*" in
+"") all ;;
+--self-test) self_test ;;
+--wrong\ *) wrong "$2" ;;
+*)
+    echo "usage: check.sh [--self-test]" >&2
+    exit 2
+    ;;
+esac

@@ -183,6 +183,7 @@ COUNTS = {
     "answers": (answers, 1),
     "answers-from-elsewhere": (given_questions, 1),
     "own-answers": (own_answers, 1),
+    "door-questions": (lambda s: s.lines("bindings/answers/questions"), 1),
     "screens": (lambda s: s.matches("examples/rrs/screens", r"^\$ rrs"), 1),
     "crates": (lambda s: len(s.crates), 1),
     "libraries": (lambda s: crates_of(s, lambda crate: crate.is_library()), 1),

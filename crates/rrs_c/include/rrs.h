@@ -115,7 +115,8 @@ typedef struct rrs_retired {
 rrs_fault rrs_step_rvfi(rrs_hart *hart, uint32_t *words, size_t count, uint32_t base,
                         uint64_t order, rrs_retired *retired);
 
-/* An instruction. A field that its format does not have is 0. */
+/* An instruction. A field that its format does not have is 0. The format of fence, ecall and ebreak
+ * is I: the imm of ecall is 0 and of ebreak 1, and fence has any rd, rs1 and imm. */
 typedef struct rrs_instruction {
     uint32_t row;   /* The number of its row in the table, 1 (add) to 48 (ebreak), or 0 for an
                      * illegal instruction. */
@@ -176,27 +177,48 @@ rrs_fault rrs_complete(rrs_hart *hart, uint32_t word, uint32_t granted, uint32_t
 #define RRS_ASSERT(name, condition) typedef char rrs_assert_##name[(condition) ? 1 : -1]
 #endif
 
-RRS_ASSERT(hart_size, sizeof(rrs_hart) == 136);
+RRS_ASSERT(size_of_hart, sizeof(rrs_hart) == 136);
+RRS_ASSERT(hart_x, offsetof(rrs_hart, x) == 0);
 RRS_ASSERT(hart_pc, offsetof(rrs_hart, pc) == 128);
 RRS_ASSERT(hart_last, offsetof(rrs_hart, last) == 132);
-RRS_ASSERT(fault_size, sizeof(rrs_fault) == 12);
+RRS_ASSERT(size_of_fault, sizeof(rrs_fault) == 12);
+RRS_ASSERT(fault_kind, offsetof(rrs_fault, kind) == 0);
 RRS_ASSERT(fault_address, offsetof(rrs_fault, address) == 4);
 RRS_ASSERT(fault_word, offsetof(rrs_fault, word) == 8);
-RRS_ASSERT(end_size, sizeof(rrs_end) == 24);
+RRS_ASSERT(size_of_end, sizeof(rrs_end) == 24);
+RRS_ASSERT(end_steps, offsetof(rrs_end, steps) == 0);
 RRS_ASSERT(end_fault, offsetof(rrs_end, fault) == 8);
 RRS_ASSERT(end_at_stop, offsetof(rrs_end, at_stop) == 20);
-RRS_ASSERT(retired_size, sizeof(rrs_retired) == 72);
+RRS_ASSERT(size_of_retired, sizeof(rrs_retired) == 72);
+RRS_ASSERT(retired_order, offsetof(rrs_retired, order) == 0);
 RRS_ASSERT(retired_insn, offsetof(rrs_retired, insn) == 8);
+RRS_ASSERT(retired_fetched, offsetof(rrs_retired, fetched) == 12);
 RRS_ASSERT(retired_trap, offsetof(rrs_retired, trap) == 16);
-RRS_ASSERT(retired_rs1, offsetof(rrs_retired, rs1_addr) == 28);
-RRS_ASSERT(retired_rd, offsetof(rrs_retired, rd_addr) == 44);
-RRS_ASSERT(retired_mem, offsetof(rrs_retired, mem_addr) == 52);
-RRS_ASSERT(retired_wdata, offsetof(rrs_retired, mem_wdata) == 68);
-RRS_ASSERT(instruction_size, sizeof(rrs_instruction) == 24);
+RRS_ASSERT(retired_pc_rdata, offsetof(rrs_retired, pc_rdata) == 20);
+RRS_ASSERT(retired_pc_wdata, offsetof(rrs_retired, pc_wdata) == 24);
+RRS_ASSERT(retired_rs1_addr, offsetof(rrs_retired, rs1_addr) == 28);
+RRS_ASSERT(retired_rs1_rdata, offsetof(rrs_retired, rs1_rdata) == 32);
+RRS_ASSERT(retired_rs2_addr, offsetof(rrs_retired, rs2_addr) == 36);
+RRS_ASSERT(retired_rs2_rdata, offsetof(rrs_retired, rs2_rdata) == 40);
+RRS_ASSERT(retired_rd_addr, offsetof(rrs_retired, rd_addr) == 44);
+RRS_ASSERT(retired_rd_wdata, offsetof(rrs_retired, rd_wdata) == 48);
+RRS_ASSERT(retired_mem_addr, offsetof(rrs_retired, mem_addr) == 52);
+RRS_ASSERT(retired_mem_rmask, offsetof(rrs_retired, mem_rmask) == 56);
+RRS_ASSERT(retired_mem_wmask, offsetof(rrs_retired, mem_wmask) == 60);
+RRS_ASSERT(retired_mem_rdata, offsetof(rrs_retired, mem_rdata) == 64);
+RRS_ASSERT(retired_mem_wdata, offsetof(rrs_retired, mem_wdata) == 68);
+RRS_ASSERT(size_of_instruction, sizeof(rrs_instruction) == 24);
+RRS_ASSERT(instruction_row, offsetof(rrs_instruction, row) == 0);
+RRS_ASSERT(instruction_rd, offsetof(rrs_instruction, rd) == 4);
+RRS_ASSERT(instruction_rs1, offsetof(rrs_instruction, rs1) == 8);
+RRS_ASSERT(instruction_rs2, offsetof(rrs_instruction, rs2) == 12);
 RRS_ASSERT(instruction_shamt, offsetof(rrs_instruction, shamt) == 16);
 RRS_ASSERT(instruction_imm, offsetof(rrs_instruction, imm) == 20);
-RRS_ASSERT(access_size, sizeof(rrs_access) == 28);
+RRS_ASSERT(size_of_access, sizeof(rrs_access) == 28);
+RRS_ASSERT(access_fault, offsetof(rrs_access, fault) == 0);
 RRS_ASSERT(access_kind, offsetof(rrs_access, kind) == 12);
+RRS_ASSERT(access_address, offsetof(rrs_access, address) == 16);
+RRS_ASSERT(access_size, offsetof(rrs_access, size) == 20);
 RRS_ASSERT(access_value, offsetof(rrs_access, value) == 24);
 
 #undef RRS_ASSERT

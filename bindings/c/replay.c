@@ -1,0 +1,291 @@
+/* Answers questions about the kit, one a line, from standard input, over rrs.h alone. docs/C.md has
+ * the forms; those of rrs-replay are answered as it does. */
+#include <stdio.h>
+#include <stdlib.h>
+#include <string.h>
+
+#include "rrs.h"
+
+#define LONGEST_LINE 100000
+
+/* The state that a question begins in, and the part of the words that is lent to the kit. */
+struct machine {
+    rrs_hart hart;
+    uint32_t *words; /* all words */
+    size_t all;
+    uint32_t base;
+    size_t first, count;
+};
+
+static void fail(const char *line) {
+    fprintf(stderr, "replay: no question: %s\n", line);
+    exit(2);
+}
+
+/* Takes a text off. Returns whether it stood there. */
+static int take(const char **at, const char *text) {
+    size_t length = strlen(text);
+    if (strncmp(*at, text, length) != 0) return 0;
+    *at += length;
+    return 1;
+}
+
+/* Takes a text off that must stand there. */
+static void expect(const char **at, const char *text) {
+    if (!take(at, text)) fail(*at);
+}
+
+/* Takes a number off, decimal or behind `0x`. */
+static uint64_t number(const char **at) {
+    char *end;
+    uint64_t value = strtoull(*at, &end, strncmp(*at, "0x", 2) == 0 ? 16 : 10);
+    if (end == *at) fail(*at);
+    *at = end;
+    return value;
+}
+
+/* Takes `-`, or words that commas separate. Returns how many. */
+static size_t list(const char **at, uint32_t **words) {
+    size_t count = 0;
+    *words = (uint32_t *)malloc((strlen(*at) / 11 + 1) * sizeof **words);
+    if (*words == NULL) fail("out of memory");
+    if (take(at, "-")) return 0;
+    do (*words)[count++] = (uint32_t)number(at);
+    while (take(at, ","));
+    return count;
+}
+
+/* Takes ` pc=PC last=LAST regs=REGS mem=MEM` off. */
+static void take_state(const char **at, struct machine *machine) {
+    rrs_hart *hart = &machine->hart;
+    expect(at, " pc=");
+    hart->pc = (uint32_t)number(at);
+    expect(at, " last=");
+    /* none is any number but 1 to 31 */
+    hart->last = take(at, "-") ? 32 : (expect(at, "x"), (uint32_t)number(at));
+    expect(at, " regs=");
+    memset(hart->x, 0, sizeof hart->x);
+    if (!take(at, "-")) {
+        do {
+            size_t entry;
+            expect(at, "x");
+            entry = number(at) & 31;
+            expect(at, "=");
+            hart->x[entry] = (uint32_t)number(at);
+        } while (take(at, ","));
+    }
+    expect(at, " mem=");
+    machine->all = list(at, &machine->words);
+    if (**at != 0) fail(*at);
+}
+
+/* Takes ` at=BASE part=FIRST:COUNT` off. */
+static void take_place(const char **at, struct machine *machine) {
+    expect(at, " at=");
+    machine->base = (uint32_t)number(at);
+    expect(at, " part=");
+    machine->first = number(at);
+    expect(at, ":");
+    machine->count = number(at);
+}
+
+/* Prints what a fault is, and what its fields have that do not belong to it. */
+static void print_fault(rrs_fault fault) {
+    static const char *const names[] = {
+        "Ok",              "IllegalInstruction", "FetchError",      "LoadAccessFault",
+        "StoreAccessFault", "AlignmentFault",    "EnvironmentCall", "Breakpoint"};
+    if (fault.kind > RRS_EBREAK) {
+        printf("kind %u", fault.kind);
+        return;
+    }
+    printf("%s", names[fault.kind]);
+    if (fault.kind != RRS_OK || fault.address != 0) printf(" 0x%08x", fault.address);
+    if (fault.kind == RRS_ILLEGAL_INSTRUCTION || fault.word != 0) printf(" 0x%08x", fault.word);
+}
+
+static void print_end(rrs_end end) {
+    printf("%llu ", (unsigned long long)end.steps);
+    if (end.fault.kind != RRS_OK) print_fault(end.fault);
+    else printf("%s", end.at_stop ? "stop" : "limit");
+    if (end.at_stop > 1) printf(" at_stop=%u", end.at_stop);
+}
+
+static void print_state(const struct machine *machine) {
+    const rrs_hart *hart = &machine->hart;
+    const char *separator = "";
+    size_t i;
+    printf(" pc=0x%08x last=", hart->pc);
+    if (hart->last == 0) printf("-");
+    else printf("x%u", hart->last);
+    printf(" regs=");
+    for (i = 0; i < 32; i++) {
+        if (hart->x[i] == 0) continue;
+        printf("%sx%u=0x%08x", separator, (unsigned)i, hart->x[i]);
+        separator = ",";
+    }
+    printf("%s mem=%s", *separator == 0 ? "-" : "", machine->all == 0 ? "-" : "");
+    for (i = 0; i < machine->all; i++) printf("%s0x%08x", i == 0 ? "" : ",", machine->words[i]);
+}
+
+/* The text of a word, whose buffer is tried with each size that has no room too. */
+static size_t text_of(uint32_t word, uint32_t pc, char *text) {
+    size_t length, size, i;
+    memset(text, '#', RRS_TEXT_SIZE);
+    length = rrs_disassemble(word, pc, text, RRS_TEXT_SIZE);
+    if (length != 0 && text[length] != 0) printf("no 0 behind ");
+    for (size = 0; size <= length; size++) {
+        char *small = (char *)malloc(size + 1);
+        if (small == NULL) fail("out of memory");
+        memset(small, '#', size + 1);
+        if (rrs_disassemble(word, pc, small, size) != length) printf("another length ");
+        for (i = 0; i <= size; i++)
+            if (small[i] != '#') printf("changed at %u of %u ", (unsigned)i, (unsigned)size);
+        free(small);
+    }
+    if (length != 0) {
+        char *exact = (char *)malloc(length + 1);
+        if (exact == NULL) fail("out of memory");
+        if (rrs_disassemble(word, pc, exact, length + 1) != length || strcmp(exact, text) != 0)
+            printf("another text ");
+        free(exact);
+    }
+    return length;
+}
+
+/* `decode WORD`, `text PC WORD` and `fields WORD`. Returns 0 where it is none of these. */
+static int answer_word(const char **at) {
+    char text[RRS_TEXT_SIZE];
+    if (take(at, "decode ")) {
+        uint32_t word = (uint32_t)number(at), row = rrs_decode(word).row;
+        size_t length = text_of(word, 0, text);
+        if (row == 0) printf("none");
+        else printf("%u %.*s", row, length == 0 ? 0 : (int)strcspn(text, " "), text);
+    } else if (take(at, "text ")) {
+        uint32_t pc = (uint32_t)number(at);
+        size_t length;
+        expect(at, " ");
+        length = text_of((uint32_t)number(at), pc, text);
+        printf("%s", length == 0 ? "none" : text);
+    } else if (take(at, "fields ")) {
+        rrs_instruction f = rrs_decode((uint32_t)number(at));
+        if (f.row == 0 && !(f.rd | f.rs1 | f.rs2 | f.shamt | (uint32_t)f.imm)) printf("none");
+        else printf("%u rd=%u rs1=%u rs2=%u shamt=%u imm=%d", f.row, f.rd, f.rs1, f.rs2, f.shamt,
+                    f.imm);
+    } else {
+        return 0;
+    }
+    return 1;
+}
+
+/* `request WORD` and `complete WORD GIVEN`. Returns 0 where it is none of these. */
+static int answer_access(const char **at, struct machine *machine) {
+    if (take(at, "request ")) {
+        uint32_t word = (uint32_t)number(at);
+        rrs_access access;
+        take_state(at, machine);
+        access = rrs_request(&machine->hart, word);
+        if (machine->hart.last == 32) machine->hart.last = 0; /* as it was given */
+        if (access.fault.kind != RRS_OK) print_fault(access.fault);
+        else if (access.kind == RRS_LOAD) printf("load 0x%08x %u", access.address, access.size);
+        else if (access.kind == RRS_STORE)
+            printf("store 0x%08x %u 0x%08x", access.address, access.size, access.value);
+        else printf("none");
+        if (access.kind == RRS_NO_ACCESS && (access.address | access.size | access.value))
+            printf(" 0x%08x %u 0x%08x", access.address, access.size, access.value);
+        if (access.kind == RRS_LOAD && access.value != 0) printf(" 0x%08x", access.value);
+    } else if (take(at, "complete ")) {
+        uint32_t word = (uint32_t)number(at), value = 0x5a5a5a5a;
+        int granted;
+        expect(at, " ");
+        granted = !take(at, "-");
+        if (granted) value = (uint32_t)number(at);
+        take_state(at, machine);
+        /* any number but 0 grants it */
+        print_fault(rrs_complete(&machine->hart, word, granted ? 1 + (value & ~1u) : 0, value));
+    } else {
+        return 0;
+    }
+    return 1;
+}
+
+static void print_record(const rrs_retired *r) {
+    printf(" order=%llu insn=", (unsigned long long)r->order);
+    if (r->fetched || r->insn != 0) printf("0x%08x", r->insn);
+    else printf("-");
+    if (r->fetched > 1) printf(" fetched=%u", r->fetched);
+    printf(" trap=%u pc_rdata=0x%08x pc_wdata=0x%08x", r->trap, r->pc_rdata, r->pc_wdata);
+    printf(" rs1_addr=%u rs1_rdata=0x%08x", r->rs1_addr, r->rs1_rdata);
+    printf(" rs2_addr=%u rs2_rdata=0x%08x", r->rs2_addr, r->rs2_rdata);
+    printf(" rd_addr=%u rd_wdata=0x%08x", r->rd_addr, r->rd_wdata);
+    printf(" mem_addr=0x%08x mem_rmask=%u mem_wmask=%u", r->mem_addr, r->mem_rmask, r->mem_wmask);
+    printf(" mem_rdata=0x%08x mem_wdata=0x%08x", r->mem_rdata, r->mem_wdata);
+}
+
+/* `steps N`: as many steps, over all words from address 0 on. */
+static void answer_steps(const char **at, struct machine *m) {
+    uint64_t count = number(at), i;
+    take_state(at, m);
+    for (i = 0; i < count; i++) {
+        if (i > 0) printf(";");
+        print_fault(rrs_step(&m->hart, m->words, m->all, 0));
+    }
+}
+
+/* The questions over memory. */
+static void answer_memory(const char **at, struct machine *m) {
+    int is_step = take(at, "step"), is_record = !is_step && take(at, "rvfi ");
+    int is_run = !is_step && !is_record && take(at, "run ");
+    uint64_t amount;
+    uint32_t *words, *stops = NULL;
+    size_t stop_count = 0;
+    if (!is_step && !is_record && !is_run) expect(at, "until ");
+    amount = is_step ? 0 : number(at);
+    if (!is_step && !is_record && !is_run) {
+        expect(at, " ");
+        stop_count = list(at, &stops);
+    }
+    take_place(at, m);
+    take_state(at, m);
+    words = m->words + m->first;
+    if (is_step) {
+        print_fault(rrs_step(&m->hart, words, m->count, m->base));
+    } else if (is_record) {
+        rrs_retired retired;
+        memset(&retired, '#', sizeof retired);
+        print_fault(rrs_step_rvfi(&m->hart, words, m->count, m->base, amount, &retired));
+        print_record(&retired);
+    } else if (is_run) {
+        print_end(rrs_run(&m->hart, words, m->count, m->base, amount));
+    } else {
+        print_end(rrs_run_until(&m->hart, words, m->count, m->base, amount, stops, stop_count));
+        free(stops);
+    }
+}
+
+static void answer(const char *line) {
+    struct machine machine;
+    const char *at = line;
+    memset(&machine, 0, sizeof machine);
+    if (take(&at, "steps 0")) {
+        printf("-%s", at); /* nothing is called */
+    } else if (answer_word(&at)) {
+        if (*at != 0) fail(at);
+    } else {
+        if (take(&at, "steps ")) answer_steps(&at, &machine);
+        else if (!answer_access(&at, &machine)) answer_memory(&at, &machine);
+        print_state(&machine);
+        free(machine.words);
+    }
+    printf("\n");
+}
+
+int main(void) {
+    static char line[LONGEST_LINE];
+    while (fgets(line, sizeof line, stdin) != NULL) {
+        size_t length = strlen(line);
+        if (length == 0 || line[length - 1] != '\n') fail(line);
+        line[length - 1] = 0;
+        answer(line);
+    }
+    return ferror(stdin) || fflush(stdout) != 0;
+}

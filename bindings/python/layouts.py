@@ -1,0 +1,31 @@
+#!/usr/bin/env python3
+"""Prints the layouts of the structs that rrs.py shares with the library, and its constants, in the
+form of the list that bindings/layouts.py makes of rrs.h."""
+
+import rrs
+
+STRUCTS = {
+    "rrs_hart": rrs._Hart,
+    "rrs_fault": rrs._Fault,
+    "rrs_end": rrs._End,
+    "rrs_retired": rrs._Retired,
+    "rrs_instruction": rrs._Instruction,
+    "rrs_access": rrs._Access,
+}
+
+for name, struct in STRUCTS.items():
+    print(name, rrs.ctypes.sizeof(struct))
+    for field, *_ in struct._fields_:
+        place = getattr(struct, field)
+        print(f"{name}.{field} {place.offset} {place.size}")
+print("RRS_OK 0")
+for kind in rrs.FaultKind:
+    print(f"RRS_{kind.name} {kind.value}")
+print("RRS_NO_ACCESS 0")
+for kind in rrs.AccessKind:
+    print(f"RRS_{kind.name} {kind.value}")
+print("RRS_TEXT_SIZE", rrs._TEXT_SIZE)
+print("RRS_VERSION", rrs._VERSION)
+print("RRS_VERSION_MAJOR", rrs._VERSION >> 16)
+print("RRS_VERSION_MINOR", rrs._VERSION >> 8 & 255)
+print("RRS_VERSION_PATCH", rrs._VERSION & 255)

@@ -1,0 +1,181 @@
+#!/usr/bin/env python3
+"""Answers questions about the kit, one a line, from standard input, over rrs.py alone.
+
+docs/C.md has the forms; those of rrs-replay are answered as it does.
+"""
+
+import sys
+
+from rrs import AccessKind, FaultKind, Machine, decode, disassemble
+
+NAMES = {
+    FaultKind.ILLEGAL_INSTRUCTION: "IllegalInstruction",
+    FaultKind.FETCH_FAULT: "FetchError",
+    FaultKind.LOAD_FAULT: "LoadAccessFault",
+    FaultKind.STORE_FAULT: "StoreAccessFault",
+    FaultKind.MISALIGNED: "AlignmentFault",
+    FaultKind.ECALL: "EnvironmentCall",
+    FaultKind.EBREAK: "Breakpoint",
+}
+
+
+def entries(text):
+    return [] if text == "-" else text.split(",")
+
+
+def words_of(text):
+    return [int(word, 16) for word in entries(text)]
+
+
+def listed(words):
+    return ",".join(words) or "-"
+
+
+def value_of(word, name):
+    before, _, value = word.partition("=")
+    if before != name:
+        raise ValueError(f"no {name}: {word}")
+    return value
+
+
+class State:
+    """The words of a question, and the machine that has a part of them."""
+
+    def __init__(self, words, place=None):
+        pc, last, registers, memory = map(value_of, words, ("pc", "last", "regs", "mem"))
+        self.words = words_of(memory)
+        self.first, base, count = 0, 0, len(self.words)
+        if place:
+            base = int(value_of(place[0], "at"), 16)
+            self.first, count = map(int, value_of(place[1], "part").split(":"))
+        self.machine = Machine(self.words[self.first :][:count], base)
+        self.machine.pc = int(pc, 16)
+        # no call of the face sets these two, and none is any number but 1 to 31
+        hart = self.machine._hart
+        hart.last = 32 if last == "-" else int(last[1:])
+        for entry in entries(registers):
+            name, value = entry.split("=")
+            if name == "x0":
+                hart.x[0] = int(value, 16)
+            else:
+                self.machine.registers[int(name[1:])] = int(value, 16)
+
+    def __str__(self):
+        machine = self.machine
+        registers = [machine._hart.x[0], *machine.registers[1:]]
+        listed_registers = listed([f"x{n}=0x{x:08x}" for n, x in enumerate(registers) if x])
+        part = list(machine.memory)
+        words = self.words[: self.first] + part + self.words[self.first + len(part) :]
+        last = "-" if machine.last is None else f"x{machine.last}"
+        return (
+            f" pc=0x{machine.pc:08x} last={last} regs={listed_registers}"
+            f" mem={listed([f'0x{word:08x}' for word in words])}"
+        )
+
+
+def told(fault):
+    if fault is None:
+        return "Ok"
+    word = f" 0x{fault.word:08x}" if fault.kind == FaultKind.ILLEGAL_INSTRUCTION else ""
+    extra = f" word={fault.word}" if fault.word and not word else ""
+    return f"{NAMES[fault.kind]} 0x{fault.address:08x}{word}{extra}"
+
+
+def told_end(end):
+    if end.fault:
+        return f"{end.steps} {told(end.fault)}" + (" stop" if end.at_stop else "")
+    return f"{end.steps} {'stop' if end.at_stop else 'limit'}"
+
+
+def told_record(record):
+    def shown(name, value):
+        if name == "insn":
+            return f"0x{value:08x}" if record.fetched or value else "-"
+        is_long = name[:2] == "pc" or name[-5:] == "rdata" or name[-5:] == "wdata"
+        return f"0x{value:08x}" if is_long or name == "mem_addr" else str(value)
+
+    fields = [(name, value) for name, value in record._asdict().items() if name != "fetched"]
+    return "".join(f" {name}={shown(name, value)}" for name, value in fields)
+
+
+def decoded(word):
+    instruction = decode(word)
+    if instruction is None:
+        return "none"
+    return f"{instruction.row} {disassemble(word, 0).split(' ')[0]}"
+
+
+def fields(word):
+    instruction = decode(word)
+    if instruction is None:
+        return "none"
+    named = [f"{name}={value}" for name, value in instruction._asdict().items() if name != "row"]
+    return " ".join([str(instruction.row), *named])
+
+
+def steps(count, *words):
+    state = State(words)
+    return ";".join(told(state.machine.step()) for _ in range(int(count))) + str(state)
+
+
+def requested(word, *words):
+    state = State(words)
+    fault, access = state.machine.request(int(word, 16))
+    if access is None:
+        return ("none" if fault is None else told(fault)) + str(state)
+    value = f" 0x{access.value:08x}" if access.kind == AccessKind.STORE or access.value else ""
+    return f"{access.kind.name.lower()} 0x{access.address:08x} {access.size}{value}{state}"
+
+
+def completed(word, given, *words):
+    state = State(words)
+    given = None if given == "-" else int(given, 16)
+    return told(state.machine.complete(int(word, 16), given)) + str(state)
+
+
+def step(*words):
+    state = State(words[2:], words[:2])
+    return told(state.machine.step()) + str(state)
+
+
+def record(order, *words):
+    state = State(words[2:], words[:2])
+    fault, retired = state.machine.step_rvfi(int(order))
+    return told(fault) + told_record(retired) + str(state)
+
+
+def run(limit, *words):
+    state = State(words[2:], words[:2])
+    return told_end(state.machine.run(int(limit))) + str(state)
+
+
+def until(limit, stops, *words):
+    state = State(words[2:], words[:2])
+    return told_end(state.machine.run_until(words_of(stops), int(limit))) + str(state)
+
+
+QUESTIONS = {
+    "decode": lambda word: decoded(int(word, 16)),
+    "text": lambda pc, word: disassemble(int(word, 16), int(pc, 16)) or "none",
+    "fields": lambda word: fields(int(word, 16)),
+    "steps": steps,
+    "request": requested,
+    "complete": completed,
+    "step": step,
+    "rvfi": record,
+    "run": run,
+    "until": until,
+}
+
+
+def main():
+    for line in sys.stdin:
+        name, *words = line.rstrip("\n").split(" ")
+        if (name, words[0]) == ("steps", "0"):
+            print("-", *words[1:])  # nothing is called
+        else:
+            print(QUESTIONS[name](*words))
+
+
+if __name__ == "__main__":
+    main()

@@ -1,0 +1,220 @@
+//! Answers questions about the kit, one a line, from standard input, over this crate alone.
+//! `docs/C.md` has the forms; those of `rrs-replay` are answered as it does.
+
+use rrs::{decode, disassemble, Access, End, Fault, Hart, Memory, Retired};
+use std::io::{self, BufRead, BufWriter, Write};
+
+/// What is left of a line.
+struct Line<'a>(&'a str);
+
+impl<'a> Line<'a> {
+    /// Takes the next word off.
+    fn word(&mut self) -> &'a str {
+        let (word, rest) = self.0.split_once(' ').unwrap_or((self.0, ""));
+        self.0 = rest;
+        word
+    }
+
+    /// Takes the value of `name=` off.
+    fn value(&mut self, name: &str) -> &'a str {
+        let word = self.word();
+        match word.split_once('=') {
+            Some((before, value)) if before == name => value,
+            _ => panic!("no {name}: {word}"),
+        }
+    }
+
+    /// Takes a hart and all words of memory off.
+    fn state(&mut self) -> (Hart, Vec<u32>) {
+        let mut hart = Hart { pc: hex(self.value("pc")), ..Hart::default() };
+        // none is any number but 1 to 31
+        hart.last = self.value("last").strip_prefix('x').map_or(32, decimal);
+        for entry in entries(self.value("regs")) {
+            let (name, value) = entry.split_once('=').expect("a register and its value");
+            hart.x[decimal::<usize>(&name[1..])] = hex(value);
+        }
+        (hart, entries(self.value("mem")).map(hex).collect())
+    }
+
+    /// Takes the address of the first word off, and which words are lent.
+    fn place(&mut self) -> (u32, std::ops::Range<usize>) {
+        let base = hex(self.value("at"));
+        let (first, count) = self.value("part").split_once(':').expect("two numbers");
+        let first: usize = decimal(first);
+        (base, first..first + decimal::<usize>(count))
+    }
+}
+
+fn hex(text: &str) -> u32 {
+    u32::from_str_radix(text.strip_prefix("0x").expect(text), 16).expect(text)
+}
+
+fn decimal<T: std::str::FromStr>(text: &str) -> T {
+    text.parse().unwrap_or_else(|_| panic!("no number: {text}"))
+}
+
+/// The entries of a list, of which `-` has none.
+fn entries(text: &str) -> impl Iterator<Item = &str> {
+    text.split(',').filter(|&entry| entry != "-")
+}
+
+fn told(answer: Result<(), Fault>) -> String {
+    let (name, address) = match answer {
+        Ok(()) => return "Ok".to_owned(),
+        Err(Fault::IllegalInstruction(pc, word)) => {
+            return format!("IllegalInstruction 0x{pc:08x} 0x{word:08x}");
+        }
+        Err(Fault::Fetch(pc)) => ("FetchError", pc),
+        Err(Fault::LoadAccess(address)) => ("LoadAccessFault", address),
+        Err(Fault::StoreAccess(address)) => ("StoreAccessFault", address),
+        Err(Fault::Alignment(address)) => ("AlignmentFault", address),
+        Err(Fault::EnvironmentCall(pc)) => ("EnvironmentCall", pc),
+        Err(Fault::Breakpoint(pc)) => ("Breakpoint", pc),
+    };
+    format!("{name} 0x{address:08x}")
+}
+
+fn told_end(end: End) -> String {
+    match (end.fault, end.at_stop) {
+        (Some(fault), false) => format!("{} {}", end.steps, told(Err(fault))),
+        (None, true) => format!("{} stop", end.steps),
+        (None, false) => format!("{} limit", end.steps),
+        (Some(_), true) => "a fault and a stop".to_owned(),
+    }
+}
+
+fn told_record(record: &Retired) -> String {
+    let Retired { order, insn, trap, pc_rdata, pc_wdata, .. } = record;
+    let Retired { rs1_addr, rs1_rdata, rs2_addr, rs2_rdata, rd_addr, rd_wdata, mem, .. } = record;
+    let insn = insn.map_or("-".to_owned(), |word| format!("0x{word:08x}"));
+    format!(
+        " order={order} insn={insn} trap={} pc_rdata=0x{pc_rdata:08x} pc_wdata=0x{pc_wdata:08x} \
+         rs1_addr={rs1_addr} rs1_rdata=0x{rs1_rdata:08x} \
+         rs2_addr={rs2_addr} rs2_rdata=0x{rs2_rdata:08x} \
+         rd_addr={rd_addr} rd_wdata=0x{rd_wdata:08x} \
+         mem_addr=0x{:08x} mem_rmask={} mem_wmask={} mem_rdata=0x{:08x} mem_wdata=0x{:08x}",
+        u32::from(*trap),
+        mem.addr,
+        mem.rmask,
+        mem.wmask,
+        mem.rdata,
+        mem.wdata
+    )
+}
+
+fn told_state(hart: &Hart, words: &[u32]) -> String {
+    let list = |entries: Vec<String>| match entries.is_empty() {
+        true => "-".to_owned(),
+        false => entries.join(","),
+    };
+    let last = if hart.last == 0 { "-".to_owned() } else { format!("x{}", hart.last) };
+    let registers = hart.x.iter().enumerate().filter(|(_, &value)| value != 0);
+    let registers = registers.map(|(n, value)| format!("x{n}=0x{value:08x}")).collect();
+    let words = words.iter().map(|word| format!("0x{word:08x}")).collect();
+    format!(" pc=0x{:08x} last={last} regs={} mem={}", hart.pc, list(registers), list(words))
+}
+
+/// The questions of a word alone.
+fn answer_word(name: &str, line: &mut Line) -> Option<String> {
+    let none = || "none".to_owned();
+    Some(match name {
+        "decode" => {
+            let word = hex(line.word());
+            decode(word).map_or_else(none, |instruction| {
+                let text = disassemble(word, 0).map_or_else(none, |text| text.to_string());
+                format!("{} {}", instruction.row, text.split(' ').next().unwrap_or(""))
+            })
+        }
+        "text" => {
+            let pc = hex(line.word());
+            disassemble(hex(line.word()), pc).map_or_else(none, |text| text.as_str().to_owned())
+        }
+        "fields" => decode(hex(line.word())).map_or_else(none, |f| {
+            format!(
+                "{} rd={} rs1={} rs2={} shamt={} imm={}",
+                f.row, f.rd, f.rs1, f.rs2, f.shamt, f.imm
+            )
+        }),
+        _ => return None,
+    })
+}
+
+/// The questions of a word and a hart.
+fn answer_access(name: &str, line: &mut Line) -> Option<String> {
+    let answer;
+    let mut state;
+    match name {
+        "request" => {
+            let word = hex(line.word());
+            state = line.state();
+            answer = match state.0.request(word) {
+                Ok(None) => "none".to_owned(),
+                Ok(Some(Access::Load(address, size))) => format!("load 0x{address:08x} {size}"),
+                Ok(Some(Access::Store(address, size, value))) => {
+                    format!("store 0x{address:08x} {size} 0x{value:08x}")
+                }
+                Err(fault) => told(Err(fault)),
+            };
+            // as it was given
+            state.0.last %= 32;
+        }
+        "complete" => {
+            let word = hex(line.word());
+            let given = line.word();
+            state = line.state();
+            answer = told(state.0.complete(word, (given != "-").then(|| hex(given))));
+        }
+        _ => return None,
+    }
+    Some(answer + &told_state(&state.0, &state.1))
+}
+
+/// The questions over memory.
+fn answer_memory(name: &str, line: &mut Line) -> String {
+    if name == "steps" {
+        let count: u32 = decimal(line.word());
+        let (mut hart, mut words) = line.state();
+        let mut memory = Memory::new(&mut words, 0);
+        let answers: Vec<_> = (0..count).map(|_| told(hart.step(&mut memory))).collect();
+        return answers.join(";") + &told_state(&hart, &words);
+    }
+    let number: u64 = if name == "step" { 0 } else { decimal(line.word()) };
+    let stops: Vec<u32> = match name {
+        "until" => entries(line.word()).map(hex).collect(),
+        _ => Vec::new(),
+    };
+    let (base, part) = line.place();
+    let (mut hart, mut words) = line.state();
+    let mut memory = Memory::new(&mut words[part], base);
+    let answer = match name {
+        "step" => told(hart.step(&mut memory)),
+        "rvfi" => {
+            let (answer, record) = hart.step_rvfi(&mut memory, number);
+            told(answer) + &told_record(&record)
+        }
+        "run" => told_end(hart.run(&mut memory, number)),
+        "until" => told_end(hart.run_until(&mut memory, number, &stops)),
+        _ => panic!("no question: {name}"),
+    };
+    answer + &told_state(&hart, &words)
+}
+
+fn answer(text: &str) -> String {
+    if let Some(state) = text.strip_prefix("steps 0 ") {
+        return format!("- {state}"); // nothing is called
+    }
+    let mut line = Line(text);
+    let name = line.word();
+    let answer = answer_word(name, &mut line).or_else(|| answer_access(name, &mut line));
+    let answer = answer.unwrap_or_else(|| answer_memory(name, &mut line));
+    assert!(line.0.is_empty(), "more on the line: {text}");
+    answer
+}
+
+fn main() -> io::Result<()> {
+    let mut out = BufWriter::new(io::stdout().lock());
+    for line in io::stdin().lock().lines() {
+        writeln!(out, "{}", answer(&line?))?;
+    }
+    out.flush()
+}
