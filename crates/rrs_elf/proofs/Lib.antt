@@ -2,3 +2,5 @@ pub mod Accepted
 pub mod CheckLists
 pub mod SegmentBytes
 pub mod Standing
+pub mod SymbolLists
+pub mod SymbolsAccepted

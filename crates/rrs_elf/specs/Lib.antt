@@ -6,3 +6,6 @@ pub mod ProgramHeaders
 pub mod Executables
 pub mod Refusals
 pub mod Loading
+pub mod SymbolTables
+pub mod Sections
+pub mod Symbols

@@ -1,7 +1,8 @@
 //! Why a file is refused.
 
-/// Why a file is no executable for this machine: the first refusal, in the order of this list, and
-/// for refusals of segments in the order of the segments, each with all of its refusals.
+/// Why a file is no executable for this machine, or why its symbol table can't be read: the first
+/// refusal, in the order of this list. Those of segments come in the order of the segments, each
+/// with all of its own.
 #[derive(Debug, PartialEq, Clone, Copy)]
 pub enum ElfError {
     /// The file does not begin with the four bytes of an ELF file.
@@ -50,4 +51,21 @@ pub enum ElfError {
     EntryMisaligned(u32),
     /// `e_entry` is this, and no loaded segment has the address.
     EntryOutside(u32),
+    /// `e_shentsize` is this, and not 40. This and what follows are refusals of the symbol table, by
+    /// [crate::Executable::symbols].
+    SectionHeaderSize(u16),
+    /// The file ends within the section headers, by `e_shoff` and `e_shnum`.
+    SectionHeadersCutShort,
+    /// The `sh_entsize` of the symbol table is this, and not 16.
+    SymbolSize(u32),
+    /// The file ends within the symbol table.
+    SymbolTableCutShort,
+    /// The `sh_link` of the symbol table is this, and no section of type `SHT_STRTAB`.
+    NoStringTable(u32),
+    /// The file ends within the string table of the symbol table.
+    StringTableCutShort,
+    /// The last byte of that string table is not 0: its last name does not end.
+    StringTableNotEnded,
+    /// The `st_name` of the symbol of this number lies outside the string table.
+    NameOutside(u32),
 }

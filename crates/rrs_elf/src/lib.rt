@@ -28,9 +28,12 @@ mod errors;
 mod loading;
 mod numbers;
 mod program_headers;
+mod sections;
 mod segments;
+mod symbol_table;
 
 pub use accepting::Executable;
 pub use errors::ElfError;
 pub use loading::Refused;
 pub use program_headers::ProgramHeader;
+pub use symbol_table::{Symbol, Symbols};
