@@ -1,8 +1,10 @@
 -- A symbol as the code has it, and which function or label an address lies in (System V generic
 -- ABI, "Symbol Table"; RISC-V ELF psABI, "Mapping Symbol").
 use Rattle.std.specs.Prelude.{◌≡◌, ℕ, zero, suc, ◌+◌, ◌<◌, ◌≤◌, ◌%◌, Bool, true, false, not, ◌&&◌, ◌||◌, ◌==◌, nat_le, nat_lt, if◌then◌else◌, List, slice_index, Option, Some, None}
+use Rattle.std.specs.Bool.{OnTrue, OnFalse}
 use Rattle.std.specs.Option.{option_or, option_map_or}
 use Rattle.rrs_elf.specs.declared.symbol_table.Symbol.{Symbol}
+use Rattle.rrs_elf.specs.declared.locations.Location.{Location}
 use Rattle.rrs_elf.specs.Headers.{e_phnum, p_vaddr}
 use Rattle.rrs_elf.specs.Refusals.{has_address}
 use Rattle.rrs_elf.specs.SymbolTables.{st_value, st_size, st_info, st_other, st_shndx, name_start, symbol_count}
@@ -53,8 +55,25 @@ abbrev pub NoneCovers : List ℕ → ℕ → ℕ → Type 0
 NoneCovers file t address =
     (n : ℕ) → n < symbol_count file t → covers file t n address ≡ false
 
--- the symbol is before the address, and none before it is nearer
-pub record IsNearest (file : List ℕ) (t address n : ℕ) : Type 0 where
-  pub before : is_before file t address n ≡ true
-  pub nearest : (m : ℕ) → m < symbol_count file t → is_before file t address m ≡ true
-      → st_value file t m ≤ st_value file t n
+-- of the first n symbols this is one before the address, and none before it is nearer
+pub record IsNearest (file : List ℕ) (t address n nearest : ℕ) : Type 0 where
+  pub numbered : nearest < n
+  pub before : is_before file t address nearest ≡ true
+  pub none_nearer : (m : ℕ) → m < n → is_before file t address m ≡ true
+      → st_value file t m ≤ st_value file t nearest
+
+-- the nearest of the first n symbols, or none where none of them is before the address
+abbrev pub IsNearestBelow : List ℕ → ℕ → ℕ → ℕ → Option ℕ → Type 0
+IsNearestBelow file t address n None = (m : ℕ) → m < n → is_before file t address m ≡ false
+IsNearestBelow file t address n (Some nearest) = IsNearest file t address n nearest
+
+-- What is found at an address: a function that covers it; or, where none does, the nearest function
+-- or label before it; or nothing, where there is none of these.
+abbrev pub Finds : List ℕ → ℕ → ℕ → Option Location → Type 0
+Finds file t address None =
+    NoneCovers file t address × IsNearestBelow file t address (symbol_count file t) None
+Finds file t address (Some at) = (at.symbol < symbol_count file t)
+    × (st_value file t at.symbol + at.distance ≡ address)
+    × OnTrue at.is_inside (covers file t at.symbol address ≡ true)
+    × OnFalse at.is_inside (NoneCovers file t address
+    × IsNearest file t address (symbol_count file t) at.symbol)

@@ -1,5 +1,8 @@
 //! Why a file is refused.
 
+use std::error::Error;
+use std::fmt;
+
 /// Why a file is no executable for this machine, or why its symbol table can't be read: the first
 /// refusal, in the order of this list. Those of segments come in the order of the segments, each
 /// with all of its own.
@@ -69,3 +72,80 @@ pub enum ElfError {
     /// The `st_name` of the symbol of this number lies outside the string table.
     NameOutside(u32),
 }
+
+impl ElfError {
+    /// The text of a refusal that has no number.
+    fn text(&self) -> &'static str {
+        match self {
+            ElfError::NotElf => "not an ELF file",
+            ElfError::HeaderCutShort => "the file ends within the ELF header",
+            ElfError::PositionIndependent => {
+                "e_type is 3: a shared object or a position-independent executable"
+            }
+            ElfError::CompressedCode => "e_flags: compressed code",
+            ElfError::FloatingPoint => "e_flags: a floating-point ABI",
+            ElfError::Embedded => "e_flags: RVE, 16 registers",
+            ElfError::TooManyProgramHeaders => "e_phnum is 65535: too many program headers",
+            ElfError::ProgramHeadersCutShort => {
+                "e_phoff, e_phnum: the file ends within the program headers"
+            }
+            ElfError::SectionHeadersCutShort => {
+                "e_shoff, e_shnum: the file ends within the section headers"
+            }
+            ElfError::SymbolTableCutShort => "the file ends within the symbol table",
+            ElfError::StringTableCutShort => "the file ends within the string table",
+            ElfError::StringTableNotEnded => "the last byte of the string table is not 0",
+            _ => "refused",
+        }
+    }
+
+    /// Writes a refusal for a number in the header, or gives `false`.
+    fn write_header<W: fmt::Write>(&self, f: &mut fmt::Formatter<W>) -> Result<bool, fmt::Error> {
+        match self {
+            ElfError::Class(n) => write!(f, "e_ident[EI_CLASS] is {n}, not 1 (32 bits)")?,
+            ElfError::ByteOrder(n) => {
+                write!(f, "e_ident[EI_DATA] is {n}, not 1 (lowest byte first)")?;
+            }
+            ElfError::IdentVersion(n) => write!(f, "e_ident[EI_VERSION] is {n}, not 1")?,
+            ElfError::NotExecutable(n) => write!(f, "e_type is {n}, not 2 (an executable)")?,
+            ElfError::Machine(n) => write!(f, "e_machine is {n}, not 243 (RISC-V)")?,
+            ElfError::Version(n) => write!(f, "e_version is {n}, not 1")?,
+            ElfError::ProgramHeaderSize(n) => write!(f, "e_phentsize is {n}, not 32")?,
+            ElfError::EntryMisaligned(a) => write!(f, "e_entry is 0x{a:08x}, no multiple of 4")?,
+            ElfError::EntryOutside(a) => write!(f, "e_entry is 0x{a:08x}, in no loaded segment")?,
+            ElfError::SectionHeaderSize(n) => write!(f, "e_shentsize is {n}, not 40")?,
+            _ => return Ok(false),
+        }
+        Ok(true)
+    }
+
+    /// Writes a refusal for a segment or a symbol.
+    fn write_part<W: fmt::Write>(&self, f: &mut fmt::Formatter<W>) -> fmt::Result {
+        match self {
+            ElfError::Interpreter(i) => write!(f, "segment {i}: it names a dynamic linker"),
+            ElfError::SegmentCutShort(i) => write!(f, "segment {i}: the file ends within it"),
+            ElfError::SegmentSizes(i) => write!(f, "segment {i}: p_filesz is above p_memsz"),
+            ElfError::SegmentPastLastAddress(i) => {
+                write!(f, "segment {i}: it ends past the last address")
+            }
+            ElfError::SegmentsOverlap(i, j) => write!(f, "segments {i} and {j}: they overlap"),
+            ElfError::SymbolSize(n) => write!(f, "sh_entsize of the symbol table is {n}, not 16"),
+            ElfError::NoStringTable(n) => {
+                write!(f, "sh_link of the symbol table is {n}, no string table")
+            }
+            ElfError::NameOutside(n) => write!(f, "symbol {n}: its name is in no string"),
+            _ => write!(f, "{}", self.text()),
+        }
+    }
+}
+
+impl fmt::Display for ElfError {
+    fn fmt<W: fmt::Write>(&self, f: &mut fmt::Formatter<W>) -> fmt::Result {
+        if self.write_header(f)? {
+            return Ok(());
+        }
+        self.write_part(f)
+    }
+}
+
+impl Error for ElfError {}

@@ -26,6 +26,7 @@
 mod accepting;
 mod errors;
 mod loading;
+mod locations;
 mod numbers;
 mod program_headers;
 mod sections;
@@ -35,5 +36,6 @@ mod symbol_table;
 pub use accepting::Executable;
 pub use errors::ElfError;
 pub use loading::Refused;
+pub use locations::Location;
 pub use program_headers::ProgramHeader;
 pub use symbol_table::{Symbol, Symbols};

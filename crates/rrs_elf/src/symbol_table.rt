@@ -105,7 +105,7 @@ fn check_strings(file: &[u8], table: u16) -> Result<(), ElfError>
 }
 
 /// How many symbols a symbol table has.
-fn read_symbol_count(file: &[u8], table: u16) -> u32
+pub fn read_symbol_count(file: &[u8], table: u16) -> u32
     ensures value { result ≡ symbol_count file.now table }
     ensures small { result < 2 ^ 28 }
 {
@@ -113,11 +113,34 @@ fn read_symbol_count(file: &[u8], table: u16) -> u32
 }
 
 /// Where a symbol begins.
-pub fn start_of_symbol(file: &[u8], table: u16, index: u32) -> usize
+fn start_of_symbol(file: &[u8], table: u16, index: u32) -> usize
     ensures value { result ≡ symbol_start file.now table index }
     ensures small { result < 2 ^ 39 }
 {
     read_section(file, u32::from(table)).offset as usize + 16 * index as usize
+}
+
+/// The symbol of this number.
+pub fn read_symbol(file: &[u8], table: u16, index: u32) -> Symbol
+    ensures { IsSymbol file.now table index result }
+{
+    let start = start_of_symbol(file, table, index);
+    Symbol {
+        value: read_word(file, start + 4),
+        size: read_word(file, start + 8),
+        info: read_byte(file, start + 12),
+        other: read_byte(file, start + 13),
+        section: read_half(file, start + 14),
+    }
+}
+
+/// Where the name of a symbol begins.
+pub fn start_of_name(file: &[u8], table: u16, index: u32) -> usize
+    ensures { result ≡ name_start file.now table index }
+{
+    let symbols = read_section(file, u32::from(table));
+    let strings = read_section(file, symbols.link);
+    strings.offset as usize + read_word(file, start_of_symbol(file, table, index)) as usize
 }
 
 /// Refuses a symbol whose name lies outside the string table.
@@ -221,14 +244,7 @@ impl<'a> Symbols<'a> {
         if self.count() <= index {
             return None;
         }
-        let start = start_of_symbol(self.file, self.table, index);
-        Some(Symbol {
-            value: read_word(self.file, start + 4),
-            size: read_word(self.file, start + 8),
-            info: read_byte(self.file, start + 12),
-            other: read_byte(self.file, start + 13),
-            section: read_half(self.file, start + 14),
-        })
+        Some(read_symbol(self.file, self.table, index))
     }
 
     /// The name of the symbol of this number, without the 0 that ends it, or `None` from their count
