@@ -2,3 +2,5 @@
 pub mod SystemRows
 pub mod MachineStepping
 pub mod Straying
+pub mod MachineRuns
+pub mod MachineLaws

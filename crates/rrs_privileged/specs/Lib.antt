@@ -3,3 +3,5 @@ pub mod Csrs
 pub mod SystemInstructions
 pub mod Traps
 pub mod MachineSteps
+pub mod Runs
+pub mod Laws

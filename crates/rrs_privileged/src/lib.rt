@@ -11,9 +11,11 @@
 pub mod csrs;
 pub mod instructions;
 pub mod machine;
+pub mod runs;
 pub mod traps;
 
 pub use csrs::{Csr, CsrFile, Inputs};
 pub use instructions::{SystemInstruction, SystemRow};
 pub use machine::{MachineAnswer, step_machine};
+pub use runs::{MachineEnd, Surroundings, run_machine};
 pub use traps::{Exception, Interrupt};

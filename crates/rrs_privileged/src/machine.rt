@@ -1,19 +1,21 @@
 //! A step of a hart that has machine mode.
 
-ghost use Rattle.std.specs.Prelude.{◌≡◌, ℕ, ◌%◌, ◌<◌, ◌^◌, Bool, Some, None, Option, slice_index};
+ghost use Rattle.std.specs.Prelude.{◌≡◌, ℕ, ◌%◌, ◌<◌, ◌^◌, Bool, Some, None, Option, Ok, slice_index};
 ghost use Rattle.rrs_instruction.specs.Encodings.{HasRegisters, I, IsInRange};
 ghost use Rattle.rrs_instruction.specs.Table.{IsIllegal};
 ghost use Rattle.rrs_lib.specs.Bytes.{ByteMap, little_endian};
 ghost use Rattle.rrs_lib.specs.Instructions.{row_of, fields_of, IsInstruction};
 ghost use Rattle.rrs_lib.specs.Machine.{state_of};
-ghost use Rattle.rrs_lib.specs.Steps.{cleared};
+ghost use Rattle.rrs_lib.specs.Steps.{Step, cleared};
 ghost use Rattle.rrs_lib.specs.Executor.{state_in, KeepsTheRest};
 ghost use Rattle.rrs_lib.specs.Accesses.{AccessesOf, accesses_of_row, Makes, MakesExactly};
 ghost use Rattle.rrs_privileged.specs.declared.csrs.Inputs.{Inputs as InputsOfStep};
 ghost use Rattle.rrs_privileged.specs.Csrs.{csr_at};
 ghost use Rattle.rrs_privileged.specs.Traps.{ready_interrupt};
 ghost use Rattle.rrs_privileged.specs.SystemInstructions.{csr_number, IsSystem};
-ghost use Rattle.rrs_privileged.specs.MachineSteps.{machine_of, machine_in, ends, operand_of, file_updated, accessed, trapped, raised, raises, interrupted, csr_outcome, returned, passed, wait_outcome, system_outcome, InstructionStep, MachineStep, IsOnlyMachineStep, AccessesOfMachineStep};
+ghost use Rattle.rrs_privileged.specs.MachineSteps.{machine_of, machine_in, ends, operand_of, file_updated, accessed, trapped, raised, raises, interrupted, csr_outcome, returned, passed, wait_outcome, system_outcome, InstructionStep, MachineStep, IsOnlyMachineStep, AccessesOfMachineStep, IsNoSystem};
+ghost use Rattle.rrs_privileged.specs.Laws.{KeepsUnlessRetired, WritesNeither, instructions_after, cycles_after};
+ghost use Rattle.rrs_instruction.specs.Words.{bit};
 
 use crate::csrs::{Csr, CsrFile, Inputs, is_read_only};
 use crate::instructions::{SystemInstruction, SystemRow, decode_system};
@@ -330,7 +332,11 @@ fn step_instruction<M: Memory>(
 /// The clauses: what happened is a step (`step`), and no other one leads from there (`only`); what
 /// is no part of the state stays (`rest`); the memory goes from what it was to what it is by
 /// exactly the accesses of the step, which are those of the kit's step, or none where an interrupt
-/// is taken (`accesses`).
+/// is taken (`accesses`). Four more are laws that follow from these. Where no instruction retires,
+/// registers and bytes stay (`traps`). An instruction that retires, and is none of those that the
+/// 48 rows leave out, is a step of the kit (`kit`). While IR of `mcountinhibit` is 0 and the
+/// instruction does not write it, `minstret` counts the instructions that retire (`minstret`).
+/// Likewise, by CY, `mcycle` counts the steps that do not wait (`mcycle`).
 #[inline(always)]
 pub fn step_machine<M: Memory>(
     executor: &mut InstructionExecutor<M>,
@@ -347,6 +353,18 @@ pub fn step_machine<M: Memory>(
     ensures accesses { MakesExactly M.reads M.writes (AccessesOfMachineStep inputs.now
         (machine_in M.bytes M.writable executor.old csrs.old))
         executor.old.mem.now executor.new.mem.now }
+    ensures traps { KeepsUnlessRetired result (state_in M.bytes M.writable executor.old)
+        (state_in M.bytes M.writable executor.new) }
+    ensures kit { result ≡ MachineAnswer.Retired
+        → IsNoSystem (state_in M.bytes M.writable executor.old)
+        → Step (state_in M.bytes M.writable executor.old)
+        (state_in M.bytes M.writable executor.new) (Ok tt) }
+    ensures minstret { bit csrs.old.mcountinhibit 2 ≡ 0
+        → WritesNeither Csr.Minstret Csr.Minstreth (state_in M.bytes M.writable executor.old)
+        → csrs.new.minstret ≡ instructions_after result csrs.old.minstret }
+    ensures mcycle { bit csrs.old.mcountinhibit 0 ≡ 0
+        → WritesNeither Csr.Mcycle Csr.Mcycleh (state_in M.bytes M.writable executor.old)
+        → csrs.new.mcycle ≡ cycles_after result csrs.old.mcycle }
 {
     match csrs.interrupt_due(inputs) {
         Some(due) => interrupt(executor.hart_state, csrs, due),

@@ -1,0 +1,31 @@
+use Rattle.std.proofs.Common.{◌≡◌, arith}
+use Rattle.rrs_lib.proofs.Stepping.{KeepsTheRest-trans}
+use Rattle.rrs_privileged.proofs.MachineRuns.{steps_more, waits, ends_at_limit, run-unique}
+use Rattle.rrs_privileged.proofs.runs.run_machine.Goals as goal
+
+pub returns-in-Waiting-clause-run : goal.returns-in-Waiting-clause-run
+returns-in-Waiting-clause-run g c =
+    waits g.S.Surroundings.tells g.M.Memory.reads g.M.Memory.writes c.args.limit _ _ _ _ _ _ _ _ _ _ _ _ c.steps-test.true
+    c.steps.invariant.made c.inputs-inputs.ensures c.step_machine.ensures.step c.step_machine.ensures.accesses
+    c.in-Waiting.is
+
+pub returns-in-Waiting-clause-only : goal.returns-in-Waiting-clause-only
+returns-in-Waiting-clause-only g c = λ one steps waiting d t accesses other.
+    run-unique g.S.Surroundings.tells one c.args.limit _ _ d _ _ t _ steps _ waiting _ accesses
+    (returns-in-Waiting-clause-run g c).these other
+
+pub steps-preserved : goal.steps-preserved
+steps-preserved g c = record {
+  within = omega (arith, c.steps-test.true);
+  made =
+      steps_more g.S.Surroundings.tells g.M.Memory.reads g.M.Memory.writes _ _ _ _ _ _ _ _ _ _ _ _
+      c.steps.invariant.made c.inputs-inputs.ensures c.step_machine.ensures.step c.step_machine.ensures.accesses
+      c.in_default.not-Waiting;
+  rest = KeepsTheRest-trans _ _ _ _ c.steps.invariant.rest c.step_machine.ensures.rest;
+}
+
+pub returns-clause-only : goal.returns-clause-only
+returns-clause-only g c = λ one steps waiting d t accesses other.
+    let at : c.steps.steps ≡ c.args.limit = omega (arith, c.steps.invariant.within, c.steps-test.false) in
+    let run = ends_at_limit g.S.Surroundings.tells g.M.Memory.reads g.M.Memory.writes c.args.limit c.steps.steps _ _ _ _ _ _ at c.steps.invariant.made in
+    run-unique g.S.Surroundings.tells one c.args.limit _ _ d _ _ t _ steps _ waiting _ accesses run.these other
