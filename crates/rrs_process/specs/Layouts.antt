@@ -18,5 +18,6 @@ pub record IsLayout (start end wanted : ℕ) (l : Layout) : Type 0 where
   pub stack : (l.stack_start + 262144 ≤ l.end) × (l.end ≤ l.stack_start + 8388608)
   pub stack_page : l.stack_start % 4096 ≡ 0
   pub end_page : l.end % 4096 ≡ 0
+  pub ordered : l.base ≤ l.end
   -- it has as many bytes as are wanted, but for a part of a page, or up to the last page
   pub enough : (l.base + wanted < l.end + 4096) ⊎ (l.end ≡ 2 ^ 32 - 4096)

@@ -2,3 +2,4 @@
 pub mod Protection
 pub mod InitialStack
 pub mod Layouts
+pub mod Images

@@ -1,0 +1,68 @@
+-- What it is to run an executable as a process that makes system calls.
+use Rattle.std.specs.Prelude.{◌≡◌, ℕ, ◌+◌, ◌-◌, ◌*◌, ◌/◌, Bool, List, ◌∷◌, length, replicate, Option, None}
+use Rattle.rrs_lib.specs.Bytes.{ByteMap}
+use Rattle.rrs_lib.specs.AccessLists.{Access}
+use Rattle.rrs_lib.specs.Machine.{State}
+use Rattle.rrs_lib.specs.SliceBytes.{bytes_from, lies_from}
+use Rattle.rrs_elf.specs.Executables.{IsExecutable}
+use Rattle.rrs_process.specs.declared.image.Image.{Image}
+use Rattle.rrs_process.specs.Protection.{bytes_under, writable_under}
+use Rattle.rrs_process.specs.Images.{IsImage, Filled}
+use Rattle.rrs_env.specs.declared.Ending.{Ending}
+use Rattle.rrs_env.specs.Serving.{Served}
+use Rattle.rrs_linux.specs.declared.Heap.{Heap}
+use Rattle.rrs_linux.specs.declared.Process.{Process}
+use Rattle.rrs_linux.specs.declared.input_buffer.InputBuffer.{InputBuffer}
+use Rattle.rrs_linux.specs.SystemCalls.{Serves}
+
+-- a hart at its entry, all of whose registers are 0 but x2, which is sp
+abbrev pub started : ℕ → ℕ → ByteMap → (ℕ → Bool) → State
+started entry sp bytes writable = record {
+  registers = 0 ∷ sp ∷ replicate 29 0;
+  pc = entry;
+  last = None;
+  bytes = bytes;
+  writable = writable;
+}
+
+-- the heap is empty, and may grow up to its end
+abbrev pub heap_of : Image → Heap
+heap_of image = record {
+  start = image.layout.heap_start;
+  end = image.layout.heap_end;
+  top = image.layout.heap_start;
+}
+
+-- By what is known of the environment's reader and writers:
+module _ {R W E : Type 0} (remaining : R → Option (List ℕ))
+    (contents : W → Option (List ℕ)) (errors_of : E → Option (List ℕ)) where
+  -- From an image, in a memory of these bytes under its marks, the machine runs and its system
+  -- calls are served, and this is how that ends.
+  pub record RunsImage (image : Image) (bytes : ByteMap) (writable : ℕ → Bool) (limit : ℕ)
+      (old new : Process R W E InputBuffer) (ending : Ending) : Type 0 where
+    pub end : State
+    pub steps : ℕ
+    pub accesses : List Access
+    pub served : Served (Serves remaining contents errors_of) ending new end
+        limit (record old { heap = heap_of image })
+        (started image.entry image.stack_pointer (bytes_under image.marks.items bytes)
+        (writable_under image.marks.items writable)) steps accesses
+
+  -- A file is an executable. Its segments and its stack stand in words, which are 0 elsewhere, and
+  -- from its entry, with sp at its stack, the machine runs under the marks of its pages and its
+  -- system calls are served, and this is how that ends. So what the environment's writers hold then
+  -- is what they held, and what each write wrote, in order; and what its reader gave, the calls
+  -- that read gave to the program.
+  pub record RunsProcess (file : List ℕ) (arguments : List (List ℕ)) (wanted limit : ℕ)
+      (old new : Process R W E InputBuffer) (ending : Ending) : Type 0 where
+    pub executable : IsExecutable file
+    pub image : Image
+    pub is_image : IsImage file arguments wanted image
+    pub words : List ℕ
+    pub long : image.layout.base + 4 * length words ≡ image.layout.end
+    pub filled : Filled file image.stack_pointer image.stack.items
+        (bytes_from image.layout.base
+        (replicate ((image.layout.end - image.layout.base) / 4) 0))
+        (bytes_from image.layout.base words)
+    pub runs : RunsImage image (bytes_from image.layout.base words)
+        (lies_from image.layout.base words) limit old new ending

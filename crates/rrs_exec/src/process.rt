@@ -1,0 +1,119 @@
+//! An executable that runs as a process of Linux.
+
+ghost use Rattle.std.specs.Prelude.{◌≡◌, ◌-◌, ◌/◌, ◌≤◌, ℕ, Bool, Option, map, replicate, string_bytes, IfOk, OnErr};
+ghost use Rattle.rrs_lib.specs.Machine.{state_of};
+ghost use Rattle.rrs_exec.specs.Processes.{started, RunsImage, RunsProcess};
+ghost use Rattle.rrs_lib.specs.SliceBytes.{slice_bytes, slice_writable};
+
+use rrs_elf::Executable;
+use rrs_env::{Ending, ServedEnd, run_served};
+use rrs_fast::DecodeCache;
+use rrs_lib::HartState;
+use rrs_lib::instruction_executor::InstructionExecutor;
+use rrs_lib::memories::SliceMemory;
+use rrs_linux::{Heap, Linux};
+use rrs_process::{Image, ImageError, Layout, ProtectedMemory, fill, image_of};
+use std::alloc::Global;
+use std::io::{Read, Write};
+
+/// How a process ended.
+#[derive(Debug, PartialEq, Drop)]
+pub struct ProcessEnd {
+    /// Why.
+    pub ending: Ending,
+    /// After how many steps.
+    pub steps: u64,
+    /// The pc then: after a fault, that of the instruction that raised it.
+    pub pc: u32,
+}
+
+/// The zero words of a process's memory.
+fn zeros(alloc: Global, layout: &Layout) -> Result<Vec<u32>, ImageError>
+    requires { layout.now.base ≤ layout.now.end }
+    ensures { IfOk result (λ words.
+        words.items ≡ replicate ((layout.now.end - layout.now.base) / 4) 0) }
+{
+    let count = (layout.end - layout.base) / 4;
+    match vec![in alloc; 0; count as usize] {
+        Ok(words) => Ok(words),
+        Err(_) => Err(ImageError::OutOfMemory),
+    }
+}
+
+/// A hart at an address, all of whose registers are 0 but sp.
+fn started(entry: u32, sp: u32) -> HartState
+    ensures { (bytes : ℕ → Option ℕ) (writable : ℕ → Bool)
+        → state_of result bytes writable ≡ started entry sp bytes writable }
+{
+    let mut hart = HartState::new();
+    hart.registers[2] = sp;
+    hart.pc = entry;
+    hart
+}
+
+/// Runs a file's bytes as an executable with these arguments, of which the first is its name, in a
+/// memory of so many bytes or more, and serves its system calls, for `limit` steps or until it ends
+/// or raises an exception. Its break begins behind its segments, and the heap of the environment
+/// is set so.
+///
+/// # Errors
+///
+/// `ImageError`, where the file is no executable or can't be made a process. No step is made then,
+/// and the environment is as it was.
+pub fn execute_process<R: Read, W: Write, E: Write>(
+    alloc: Global,
+    file: &[u8],
+    arguments: &[String],
+    wanted: u64,
+    limit: u64,
+    environment: &mut Linux<R, W, E>,
+) -> Result<ProcessEnd, ImageError>
+    ensures executed { IfOk result (λ end. RunsProcess R.remaining W.contents E.contents
+        file.now (map string_bytes arguments.now) wanted limit
+        environment.old environment.new end.ending) }
+    ensures kept { OnErr result (environment.new ≡ environment.old) }
+{
+    let executable = match Executable::parse(file) {
+        Ok(executable) => executable,
+        Err(error) => return Err(ImageError::Elf(error)),
+    };
+    let image = image_of(alloc, &executable, arguments, wanted)?;
+    let mut words = zeros(alloc, &image.layout)?;
+    let mut memory = SliceMemory {
+        words: &mut words,
+        base: image.layout.base,
+    };
+    fill(&executable, image.stack_pointer, &image.stack, &mut memory)?;
+    Ok(run_image(image, memory, limit, environment))
+}
+
+/// Runs a process whose memory is filled.
+fn run_image<R: Read, W: Write, E: Write>(
+    image: Image,
+    memory: SliceMemory<'_>,
+    limit: u64,
+    environment: &mut Linux<R, W, E>,
+) -> ProcessEnd
+    ensures { RunsImage R.remaining W.contents E.contents image
+        (slice_bytes memory.entry) (slice_writable memory.entry) limit
+        environment.old environment.new result.ending }
+{
+    let Image {
+        layout,
+        entry,
+        stack_pointer,
+        stack: _,
+        marks,
+    } = image;
+    environment.heap = Heap::new(layout.heap_start, layout.heap_end);
+    let mut hart = started(entry, stack_pointer);
+    let mut protected = ProtectedMemory { memory, marks };
+    let mut executor = InstructionExecutor {
+        mem: &mut protected,
+        hart_state: &mut hart,
+    };
+    let mut cache = DecodeCache::new();
+    let ServedEnd { steps, ending } = run_served(&mut cache, &mut executor, environment, limit);
+    let pc = executor.hart_state.pc;
+    ProcessEnd { ending, steps, pc }
+}

@@ -1,0 +1,109 @@
+-- What a process starts from that runs an executable (System V ABI, "Process Initialization" and
+-- "Program Loading").
+use Rattle.std.specs.Prelude.{◌≡◌, ◌==◌, ◌≢◌, ◌⊎◌, ℕ, zero, suc, ◌+◌, ◌-◌, ◌*◌, ◌/◌, ◌%◌, ◌^◌, ◌<◌, ◌≤◌, Bool, ◌&&◌, ◌||◌, nat_le, nat_lt, if◌then◌else◌, List, [], ◌∷◌, ◌++◌, length, slice_index, Some}
+use Rattle.rrs_memory.specs.Bytes.{ByteMap}
+use Rattle.rrs_elf.specs.Headers.{e_entry, e_phoff, e_phnum, p_type, p_offset, p_vaddr, p_filesz, p_memsz, p_flags}
+use Rattle.rrs_elf.specs.Executables.{PT_LOAD}
+use Rattle.rrs_elf.specs.Loading.{loaded_size, segment_byte}
+use Rattle.rrs_process.specs.declared.marks.PageRange.{PageRange}
+use Rattle.rrs_process.specs.declared.marks.Protection.{Protection}
+use Rattle.rrs_process.specs.declared.marks.Protection.TheVariants.{Unmapped, ReadOnly, Writable}
+use Rattle.rrs_process.specs.declared.layout.Layout.{Layout}
+use Rattle.rrs_process.specs.declared.stack.ProgramHeaders.{ProgramHeaders}
+use Rattle.rrs_process.specs.declared.image.Image.{Image}
+use Rattle.rrs_process.specs.Protection.{IsMarkedBy}
+use Rattle.rrs_process.specs.InitialStack.{stack_bytes, stack_pointer, stack_block}
+use Rattle.rrs_process.specs.Layouts.{IsLayout}
+
+-- the addresses of the first n segments that are loaded lie from start to before end
+abbrev pub AllWithin : List ℕ → ℕ → ℕ → ℕ → Type 0
+AllWithin file n start end = (i j : ℕ) → i < n → j < loaded_size file i
+    → (start ≤ p_vaddr file i + j) × (p_vaddr file i + j < end)
+
+-- ---- what may be done at which addresses
+
+-- by the flags of a segment: PF_X is 1, PF_W is 2 and PF_R is 4
+abbrev pub protection_by : ℕ → Protection
+protection_by flags =
+    if flags / 2 % 2 == 1 then Writable
+    else if (flags / 4 % 2 == 1) || (flags % 2 == 1) then ReadOnly else Unmapped
+
+abbrev pub range_of : List ℕ → ℕ → PageRange
+range_of file i = record {
+  start = p_vaddr file i;
+  end = p_vaddr file i + p_memsz file i;
+  protection = protection_by (p_flags file i);
+}
+
+-- of segment i, if it is loaded
+abbrev pub segment_range : List ℕ → ℕ → List PageRange
+segment_range file i = if p_type file i == PT_LOAD then range_of file i ∷ [] else []
+
+-- the ranges of the first n segments that are loaded
+abbrev pub segment_ranges : List ℕ → ℕ → List PageRange
+segment_ranges file zero = []
+segment_ranges file (suc n) = segment_ranges file n ++ segment_range file n
+
+-- addresses that are writable
+abbrev pub writable_range : ℕ → ℕ → PageRange
+writable_range start end = record { start = start; end = end; protection = Writable }
+
+-- the segments, the heap and the stack
+abbrev pub ranges_of : List ℕ → Layout → List PageRange
+ranges_of file l = segment_ranges file (e_phnum file)
+    ++ (writable_range l.heap_start l.heap_end ∷ writable_range l.stack_start l.end ∷ [])
+
+-- ---- what it is told of its program headers
+
+-- the bytes of segment i in the file have the first program header among them
+abbrev pub has_headers : List ℕ → ℕ → Bool
+has_headers file i = (p_type file i == PT_LOAD)
+    && (nat_le (p_offset file i) (e_phoff file)
+    && nat_lt (e_phoff file) (p_offset file i + p_filesz file i))
+
+abbrev pub headers_in : List ℕ → ℕ → ℕ → ℕ
+headers_in file i other =
+    if has_headers file i
+    then (p_vaddr file i + (e_phoff file - p_offset file i)) % 2 ^ 32 else other
+
+-- the address of the first program header, or 0 where none of the first n segments has it
+abbrev pub headers_at : List ℕ → ℕ → ℕ
+headers_at file zero = 0
+headers_at file (suc n) = headers_in file n (headers_at file n)
+
+abbrev pub headers_of : List ℕ → ProgramHeaders
+headers_of file = record {
+  address = headers_at file (e_phnum file);
+  count = e_phnum file;
+  entry = e_entry file;
+}
+
+-- ---- the whole
+
+-- this is what it starts from with these arguments, where so many bytes of memory are wanted
+pub record IsImage (file : List ℕ) (arguments : List (List ℕ)) (wanted : ℕ) (image : Image)
+    : Type 0 where
+  -- the program has addresses from start to before end, and the memory is laid out around it
+  pub start : ℕ
+  pub end : ℕ
+  pub program : AllWithin file (e_phnum file) start end
+  pub laid_out : IsLayout start end wanted image.layout
+  pub entry_is : image.entry ≡ e_entry file
+  -- sp, a multiple of 16 in the stack, and what lies there
+  pub pointer : image.stack_pointer ≡ stack_pointer image.layout.end arguments
+  pub aligned : image.stack_pointer % 16 ≡ 0
+  pub on_stack : image.layout.stack_start ≤ image.stack_pointer
+  pub fits : image.stack_pointer + stack_bytes arguments ≤ image.layout.end
+  pub stack_is : image.stack.items ≡ stack_block image.stack_pointer arguments (headers_of file)
+  -- the marks of its pages
+  pub marked : IsMarkedBy (ranges_of file image.layout) (image.layout.end / 4096) image.marks.items
+
+-- The segments of a file stand in memory, each with the bytes of the file and then zeros, and the
+-- bytes of a stack from sp on; all other bytes are as before.
+pub record Filled (file : List ℕ) (sp : ℕ) (stack : List ℕ) (old new : ByteMap) : Type 0 where
+  pub segments : (i j : ℕ) → i < e_phnum file → j < loaded_size file i
+      → new (p_vaddr file i + j) ≡ Some (segment_byte file i j)
+  pub stack_there : (i : ℕ) → i < length stack → new (sp + i) ≡ Some (slice_index stack i)
+  pub others : (a : ℕ)
+      → ((i j : ℕ) → i < e_phnum file → j < loaded_size file i → a ≢ p_vaddr file i + j)
+      → (a < sp) ⊎ (sp + length stack ≤ a) → new a ≡ old a
