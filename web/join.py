@@ -1,32 +1,47 @@
-"""Joins the page's files to one: index.html with the styles, the scripts and the module in it.
+"""Joins the page's files to one: index.html with the styles, the scripts and the module in it. Its
+policy (Content-Security-Policy) names the hash of each, so that nothing else is run in it.
 
 usage: join.py MODULE README PAGE
 """
 
 import base64
+import hashlib
 import html
 import pathlib
 import re
 import sys
 
 
+def hash_of(text):
+    """A source of a policy: the text of an element, by its hash."""
+    return f"'sha256-{base64.b64encode(hashlib.sha256(text.encode()).digest()).decode()}'"
+
+
 def joined(folder, module, readme):
     """The page as one text."""
+    styles, scripts = [], []
+
+    def read(name):
+        return (folder / name).read_text(encoding="utf-8")
 
     def style(match):
-        return f"<style>\n{(folder / match[1]).read_text()}</style>"
+        styles.append(f"\n{read(match[1])}")
+        return f"<style>{styles[-1]}</style>"
 
     def script(match):
-        text = (folder / match[1]).read_text()
+        name = match[1]
+        data = base64.b64encode(module).decode()
+        text = f'const MODULE = "{data}";' if name is None else f"\n{read(name)}"
         if "</script" in text:
-            sys.exit(f"{match[1]}: a script can't say </script")
-        return f"<script>\n{text}</script>"
+            sys.exit(f"{name}: a script can't say </script")
+        scripts.append(text)
+        return f"<script>{text}</script>"
 
-    page = (folder / "index.html").read_text()
+    page = read("index.html")
     page = re.sub(r'<link rel="stylesheet" href="([\w.]+)">', style, page)
-    page = re.sub(r'<script src="([\w.]+)"></script>', script, page)
-    data = base64.b64encode(module).decode()
-    page = page.replace("<!-- module -->", f'<script>const MODULE = "{data}";</script>')
+    page = re.sub(r'<!-- module -->|<script src="([\w.]+)"></script>', script, page)
+    page = page.replace("STYLE_HASHES", " ".join(map(hash_of, styles)))
+    page = page.replace("SCRIPT_HASHES", " ".join(map(hash_of, scripts)))
     return page.replace("README_ADDRESS", html.escape(readme))
 
 
@@ -34,7 +49,7 @@ def main():
     module, readme, page = sys.argv[1:]
     folder = pathlib.Path(__file__).resolve().parent
     text = joined(folder, pathlib.Path(module).read_bytes(), readme)
-    pathlib.Path(page).write_text(text)
+    pathlib.Path(page).write_text(text, encoding="utf-8", newline="\n")
     print(f"{page}: {len(text.encode())} bytes")
 
 

@@ -87,9 +87,20 @@ class Machine {
   step() {
     const { kit } = this;
     const lastBefore = kit.last;
-    if (kit.stepRetired() !== FAULT.NONE) return this.serve(lastBefore);
-    this.keepRetired(lastBefore);
-    return null;
+    if (kit.stepRetired() === FAULT.NONE) {
+      this.keepRetired(lastBefore);
+      return null;
+    }
+    const end = this.serve(lastBefore);
+    // the kit forgets the register that was the last written, also in a step that is not made
+    if (end !== null) kit.last = lastBefore;
+    return end;
+  }
+
+  /** Whether the pc is a stop: an instruction that begins there, and is marked in `stops`. */
+  isAtStop(stops) {
+    const { pc, base } = this.kit;
+    return pc % 4 === 0 && stops[(pc - base) >>> 2] > 0;
   }
 
   /** Makes steps until one ends, `most` were made, the pc is a stop, or calls have transferred
@@ -101,7 +112,7 @@ class Machine {
     for (let made = 0; made < most && this.transferred < RUN_BYTES; made++) {
       const end = this.step();
       if (end !== null) return end;
-      if (stops[(kit.pc - kit.base) >>> 2]) return { reason: "stop", address: kit.pc };
+      if (this.isAtStop(stops)) return { reason: "stop", address: kit.pc };
     }
     return null;
   }
@@ -271,10 +282,9 @@ class Machine {
   /** Takes `most` steps back, or as many as are kept, and stops where the pc is a stop. Returns
    * null where it went on to the end, "stop", or "oldest" where no step is kept. */
   runBack(most, stops) {
-    const { kit } = this;
     for (let made = 0; made < most; made++) {
       if (!this.stepBack()) return "oldest";
-      if (stops[(kit.pc - kit.base) >>> 2]) return "stop";
+      if (this.isAtStop(stops)) return "stop";
     }
     return this.history.length === 0 ? "oldest" : null;
   }

@@ -2,40 +2,7 @@
 
 // The page: its buttons, keys, files and links, and how it starts.
 
-/* Each action: what it is called, its key, and whether it can be done while a run goes on. */
-const ACTIONS = {
-  step: { label: "Step: execute one instruction", key: "s" },
-  stepBack: { label: "Back: take the latest step back", key: "b" },
-  run: { label: "Run to the end, a breakpoint, or Pause", key: "r" },
-  pause: { label: "Pause", key: "p" },
-  runBack: { label: "Run back to the start, or a breakpoint", key: "B" },
-  runToLine: { label: "Run to the selected line", key: "t" },
-  reset: { label: "Reset: the program as it was opened", key: "x" },
-  breakpoint: { label: "Breakpoint at the selected line, on or off", key: "k" },
-  program: { label: "Go to the program; arrow keys select a line", key: "g" },
-  slower: { label: "Slower", key: "-" },
-  faster: { label: "Faster", key: "+" },
-  radix: { label: "Next radix of the registers", key: "n" },
-  unit: { label: "Memory as words or bytes", key: "m" },
-  address: { label: "Go to the address of memory", key: "a" },
-  memoryUp: { label: "Lower addresses of memory", key: "[" },
-  memoryDown: { label: "Higher addresses of memory", key: "]" },
-  console: { label: "Go to the console's input", key: "c" },
-  endInput: { label: "End the console's input", key: "z" },
-  examples: { label: "Go to the examples", key: "y" },
-  edit: { label: "Edit the program's words", key: "e" },
-  open: { label: "Open a .bin file, or a text of words", key: "o" },
-  link: { label: "A link that holds the program", key: "l" },
-  theme: { label: "Light or dark", key: "d" },
-  keys: { label: "All keys", key: "?" },
-};
-
 const UNREADABLE = "can't be read: it is a folder, or it was changed after it was chosen.";
-
-/** Whether a file has words as text, by its name. Each other is taken byte by byte. */
-function isTextFile(file) {
-  return /\.(txt|hex|words)$/i.test(file.name);
-}
 
 /** The bytes of a file, or null where the browser can't read it. */
 async function contentOf(file) {
@@ -79,11 +46,12 @@ class Page {
       faster: () => this.setSpeed(session.speed + 1),
       radix: () => this.nextRadix(),
       unit: () => this.setUnit(this.memory.unit === 4 ? 1 : 4),
+      around: () => $("around").focus(),
       address: () => $("address").focus(),
-      memoryUp: () => this.memory.page(-8),
-      memoryDown: () => this.memory.page(8),
+      memoryUp: () => this.pageMemory(-8),
+      memoryDown: () => this.pageMemory(8),
       console: () => $("input").focus(),
-      endInput: () => session.type("", true),
+      endInput: () => session.endInput(),
       examples: () => $("examples").focus(),
       edit: () => this.edit(session),
       open: () => $("file").click(),
@@ -169,7 +137,10 @@ class Page {
     $("address").addEventListener("change", () => this.showAddress());
     $("file").addEventListener("change", (event) => this.openFiles(event.target.files));
     $("typing").addEventListener("submit", (event) => this.send(event));
-    $("take").addEventListener("click", () => this.take());
+    $("editing").addEventListener("submit", (event) => {
+      event.preventDefault();
+      this.take();
+    });
     $("copy").addEventListener("click", () => this.copyLink());
     $("text").addEventListener("keydown", (event) => {
       if (event.key === "Enter" && (event.ctrlKey || event.metaKey)) this.take();
@@ -209,11 +180,10 @@ class Page {
   }
 
   press(event) {
-    if (event.ctrlKey || event.metaKey || event.altKey || event.defaultPrevented) return;
-    if (document.querySelector("dialog[open]")) return;
+    if (event.defaultPrevented || document.querySelector("dialog[open]")) return;
     if (event.target === $("listing") && this.pressInListing(event)) return;
     if (event.target.matches("input, textarea, select") || !$("keys-on").checked) return;
-    const action = Object.keys(ACTIONS).find((name) => ACTIONS[name].key === event.key);
+    const action = actionOf(event);
     if (!action) return;
     event.preventDefault();
     this.act(action);
@@ -222,6 +192,7 @@ class Page {
   /* Arrow keys select a line. Returns whether the key was one of these. */
   pressInListing(event) {
     const { session } = this;
+    if (event.ctrlKey || event.altKey || event.metaKey) return false;
     const page = Math.floor($("listing").clientHeight / LINE_HEIGHT) - 1;
     const moves = {
       ArrowDown: 1, ArrowUp: -1, PageDown: page, PageUp: -page, Home: -Infinity, End: Infinity,
@@ -234,24 +205,34 @@ class Page {
     return true;
   }
 
+  /* Sends a line to the program. One that it can't read any more stays in the field. */
   send(event) {
     event.preventDefault();
-    this.session.type(`${$("input").value}\n`);
-    $("input").value = "";
+    if (this.session.type(`${$("input").value}\n`)) $("input").value = "";
   }
 
   showAround(choice) {
     this.memory.around = choice;
-    if (choice === "address") this.showAddress();
-    else this.memory.render();
+    if (choice === "address") return this.showAddress();
+    this.markAddress(true);
+    this.memory.render();
   }
 
   showAddress() {
-    const field = $("address");
-    const isShown = field.value.trim() === "" || this.memory.show(field.value);
-    field.setAttribute("aria-invalid", !isShown);
+    const { value } = $("address");
+    this.markAddress(value.trim() === "" || this.memory.show(value));
+  }
+
+  /* Marks the field for an address as right, or as refused. */
+  markAddress(isRight) {
     const where = whereMemoryIs(this.session.machine);
-    field.title = isShown ? "" : `No address or label of the memory. ${where}`;
+    $("address").setAttribute("aria-invalid", !isRight);
+    $("address").title = isRight ? "" : `No address or label of the memory. ${where}`;
+  }
+
+  pageMemory(rows) {
+    this.markAddress(true);
+    this.memory.page(rows);
   }
 
   /* ---- programs */
@@ -266,7 +247,8 @@ class Page {
     }
     $("examples").value = example;
     setText($("program-title"), this.session.name);
-    this.memory.fillChoices();
+    this.markAddress(true);
+    this.memory.open();
     this.render();
     return "";
   }
@@ -289,30 +271,15 @@ class Page {
   async openFiles(files) {
     const [file] = files;
     if (!file) return;
-    const mistake = this.mistakeOf(file);
+    const { kit: { base, size }, hasStack } = this.session.machine;
+    const mistake = mistakeOfFile(file, size);
     const bytes = mistake ? null : await contentOf(file);
     if (bytes === null) {
       this.refuse(`${file.name} ${mistake || UNREADABLE}`);
     } else {
-      const { kit: { base, size }, hasStack } = this.session.machine;
-      const text = isTextFile(file) ? new TextDecoder().decode(bytes) : textOfBytes(bytes);
-      this.open({ name: file.name, text, base, size, hasStack });
+      this.open({ name: file.name, text: textOfFile(file.name, bytes), base, size, hasStack });
     }
     $("file").value = "";
-  }
-
-  /* Why a file can't be opened, or "". */
-  mistakeOf(file) {
-    const { size } = this.session.machine.kit;
-    const is = numbered(file.size);
-    if (file.size === 0) return "is empty.";
-    if (isTextFile(file)) {
-      const most = numbered(MOST_TEXT);
-      return file.size > MOST_TEXT ? `has ${is} bytes, and a text of words ${most} at most.` : "";
-    }
-    if (file.size <= size) return "";
-    const room = numbered(size);
-    return `has ${is} bytes, and the memory has ${room}. A larger memory can be chosen at Edit.`;
   }
 
   edit({ text, machine }) {

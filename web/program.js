@@ -125,6 +125,30 @@ function parseProgram(text, size) {
   return program;
 }
 
+/** Whether a file has words as text, by its name. Each other is taken byte by byte. */
+function isTextFile(name) {
+  return /\.(txt|hex|words)$/i.test(name);
+}
+
+/** Why a file, by its `name` and its `size` in bytes, is no program for a memory of `room` bytes,
+ * or "". It is told before the file is read. */
+function mistakeOfFile({ name, size }, room) {
+  const is = numbered(size);
+  if (size === 0) return "is empty.";
+  if (isTextFile(name)) {
+    const most = numbered(MOST_TEXT);
+    return size > MOST_TEXT ? `has ${is} bytes, and a text of words ${most} at most.` : "";
+  }
+  if (size <= room) return "";
+  return `has ${is} bytes, and the memory has ${numbered(room)}. A larger memory can be chosen at `
+    + "Edit.";
+}
+
+/** The text of a program that a file holds. */
+function textOfFile(name, bytes) {
+  return isTextFile(name) ? new TextDecoder().decode(bytes) : textOfBytes(bytes);
+}
+
 /** The text of a file's bytes as words, lowest byte first, the last one filled up with zeros. */
 function textOfBytes(bytes) {
   const words = new Uint32Array(Math.ceil(bytes.length / 4));
@@ -187,7 +211,7 @@ async function unpacked(given) {
     const letters = atob(given.replaceAll("-", "+").replaceAll("_", "/"));
     const packed = Uint8Array.from(letters, (letter) => letter.charCodeAt(0));
     const bytes = await piped(packed, new DecompressionStream("deflate-raw"), MOST_TEXT);
-    return new TextDecoder("utf-8", { fatal: true }).decode(bytes);
+    return new TextDecoder("utf-8", { fatal: true, ignoreBOM: true }).decode(bytes);
   } catch (error) {
     if (error instanceof ProgramError) throw error;
     throw new ProgramError(0, "The link is damaged: its program can't be read.");

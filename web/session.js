@@ -25,8 +25,8 @@ class Session {
     this.onChange = () => {};
   }
 
-  /** Opens a program: `{ name, about, text, base, size, hasStack }`. Throws a ProgramError, and then
-   * what was open stays. */
+  /** Opens a program: `{ name, about, text, base, size, hasStack }`. Throws a ProgramError, and
+   * then what was open stays. */
   open({ name, about = "", text, base = 0, size = SIZES[0], hasStack = false }) {
     if (!Number.isInteger(base) || base < 0 || base > LARGEST_BASE || base % 4 !== 0) {
       throw new ProgramError(0, `Memory can start at a multiple of 4 up to ${hex(LARGEST_BASE)}.`);
@@ -53,8 +53,11 @@ class Session {
   start() {
     const bytes = 4 * this.machine.program.length;
     const what = `${counted(bytes, "byte")} from ${hex(this.machine.kit.base)} on.`;
+    const isPortCovered = this.machine.indexOf(PORT_ADDRESS) >= 0;
+    const port = isPortCovered
+      ? `Memory covers the port: a byte stored to ${hex(PORT_ADDRESS)} is not printed.` : "";
     this.lines = this.machine.program.length + 1;
-    this.say("Ready", `${what} ${this.about}`.trim());
+    this.say("Ready", [what, port, this.about].filter((part) => part).join(" "));
   }
 
   /** Says what stands in the page's line of the state. `kind` is how it looks: "ready", "run",
@@ -214,13 +217,28 @@ class Session {
 
   /* ---- the console */
 
-  /** Gives typed text to the program, or the end of all input. A run that waited goes on. */
-  type(text, isLast = false) {
+  /** Gives typed text to the program. Answers whether it takes it: not after the end of input. */
+  type(text) {
     const { terminal } = this.machine;
-    if (isLast) terminal.close();
-    else terminal.type(text);
-    if (this.goesOn) return this.run();
-    if (this.isWaiting) this.say("Input is there", "The program can read it now.");
+    if (terminal.isClosed) {
+      this.say("Input has ended", "The program reads no more lines. Reset begins anew.", "end");
+      return false;
+    }
+    terminal.type(text);
+    this.goOnReading();
+    return true;
+  }
+
+  /** Ends the input of the program. */
+  endInput() {
+    this.machine.terminal.close();
+    this.goOnReading();
+  }
+
+  /* A run that waited for input goes on. */
+  goOnReading() {
+    if (this.goesOn) this.run();
+    else if (this.isWaiting) this.say("Input is there", "The program can read it now.");
     else this.onChange();
   }
 

@@ -85,9 +85,13 @@ class Terminal {
     Object.assign(this, mark);
   }
 
-  /** What was printed as text, its last `most` bytes. */
+  /** What was printed as text, its last `most` bytes. A letter that they cut is left out. */
   text(most) {
-    const from = Math.max(0, this.printed - most);
-    return new TextDecoder().decode(this.output.subarray(from, this.printed));
+    let from = Math.max(0, this.printed - most);
+    const uncut = from === 0 ? 0 : Math.min(from + 3, this.printed);
+    while (from < uncut && (this.output[from] & 0xc0) === 0x80) from++;
+    // a byte order mark was printed like each other letter
+    const decoder = new TextDecoder("utf-8", { ignoreBOM: true });
+    return decoder.decode(this.output.subarray(from, this.printed));
   }
 }

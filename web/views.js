@@ -64,8 +64,8 @@ class ListingView {
     this.box.append(this.sheet);
     this.box.addEventListener("scroll", () => this.renderLines());
     this.box.addEventListener("click", (event) => this.click(event));
-    this.box.addEventListener("dblclick", (event) => {
-      if (event.target.className !== "gutter") session.runToLine();
+    this.box.addEventListener("dblclick", ({ target }) => {
+      if (target.closest(".line") && target.className !== "gutter") session.runToLine();
     });
   }
 
@@ -115,7 +115,9 @@ class ListingView {
     this.most = mostOf(session.machine.executed);
     const lines = resize(this.sheet, count, () => this.makeLine());
     for (let i = 0; i < count; i++) this.fillLine(lines[i], first + i);
-    box.setAttribute("aria-activedescendant", `line-${session.selected}`);
+    const isThere = session.selected >= first && session.selected < first + count;
+    if (isThere) box.setAttribute("aria-activedescendant", `line-${session.selected}`);
+    else box.removeAttribute("aria-activedescendant");
   }
 
   makeLine() {
@@ -221,7 +223,13 @@ class MemoryView {
     this.typed = 0;
   }
 
-  /** The choices of the menu: registers, the labels of the program, and an address. */
+  /** Takes up a program that was just opened. */
+  open() {
+    this.storeShown = undefined;
+    this.fillChoices();
+  }
+
+  /* The choices of the menu: registers, the labels of the program, and an address. */
   fillChoices() {
     const choices = [["sp", "around sp"], ["pc", "around pc"], ["store", "at last store"]];
     for (const name of [...this.session.places.keys()].slice(0, LABELS_IN_MENU)) {
@@ -264,11 +272,10 @@ class MemoryView {
     this.start -= (this.start - kit.base) % rowBytes;
   }
 
-  /** Shows the address that was typed, in digits or as a label. Returns whether it is one. */
+  /** Shows the address that was typed, as a label or in digits. Returns whether it is one. */
   show(text) {
-    const digits = parseHex(text.trim());
-    const address = Number.isNaN(digits) ? this.session.addressOf(text.trim()) : digits;
-    if (address === undefined || this.session.machine.indexOf(address) < 0) return false;
+    const address = this.session.addressOf(text.trim()) ?? parseHex(text.trim());
+    if (this.session.machine.indexOf(address) < 0) return false;
     this.around = "address";
     this.typed = address;
     this.render();

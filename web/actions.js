@@ -1,0 +1,42 @@
+"use strict";
+
+// The actions of the page, and their keys. Nothing here knows the page.
+
+/* Each action: what it is called, and its key. */
+const ACTIONS = {
+  step: { label: "Step: execute one instruction", key: "s" },
+  stepBack: { label: "Back: take the latest step back", key: "b" },
+  run: { label: "Run to the end, a breakpoint, or Pause", key: "r" },
+  pause: { label: "Pause", key: "p" },
+  runBack: { label: "Run back to the start, or a breakpoint", key: "B" },
+  runToLine: { label: "Run to the selected line", key: "t" },
+  reset: { label: "Reset: the program as it was opened", key: "x" },
+  breakpoint: { label: "Breakpoint at the selected line, on or off", key: "k" },
+  program: { label: "Go to the program; arrow keys select a line", key: "g" },
+  slower: { label: "Slower", key: "-" },
+  faster: { label: "Faster", key: "+" },
+  radix: { label: "Next radix of the registers", key: "n" },
+  unit: { label: "Memory as words or bytes", key: "m" },
+  around: { label: "Go to the choice of memory", key: "w" },
+  address: { label: "Go to the address of memory", key: "a" },
+  memoryUp: { label: "Lower addresses of memory", key: "[" },
+  memoryDown: { label: "Higher addresses of memory", key: "]" },
+  console: { label: "Go to the console's input", key: "c" },
+  endInput: { label: "End the console's input", key: "z" },
+  examples: { label: "Go to the examples", key: "y" },
+  edit: { label: "Edit the program's words", key: "e" },
+  open: { label: "Open a .bin file, or a text of words", key: "o" },
+  link: { label: "A link that holds the program", key: "l" },
+  theme: { label: "Light or dark", key: "d" },
+  keys: { label: "All keys", key: "?" },
+};
+
+/** The name of the action that a pressed key asks for, or undefined. */
+function actionOf({ key, shiftKey, ctrlKey, altKey, metaKey }) {
+  const isLetter = /^[a-z]$/i.test(key);
+  // Ctrl and Alt together are AltGr, by which some keyboards write [ and ]
+  if (metaKey || ctrlKey !== altKey || (ctrlKey && isLetter)) return undefined;
+  // CapsLock changes what a letter is, and not which key was meant
+  const meant = !isLetter ? key : shiftKey ? key.toUpperCase() : key.toLowerCase();
+  return Object.keys(ACTIONS).find((name) => ACTIONS[name].key === meant);
+}
