@@ -13,7 +13,12 @@ import time
 
 NAMES = ("chromium", "chromium-browser", "google-chrome")
 
-KEYS = {"Enter": 13, "ArrowDown": 40, "ArrowUp": 38, "Home": 36, "End": 35, "Tab": 9}
+# the virtual codes of keys that write no letter, and the signs that each key has with Shift
+KEYS = {"Enter": 13, "ArrowDown": 40, "ArrowUp": 38, "Home": 36, "End": 35, "Tab": 9, "Escape": 27,
+        "PageDown": 34, "PageUp": 33}
+SIGNS = {"?": 191, "+": 187, "-": 189, "[": 219, "]": 221}
+SHIFTED = "?+"
+MODIFIERS = {"Alt": 1, "Ctrl": 2, "Meta": 4, "Shift": 8}
 
 
 def find():
@@ -89,6 +94,8 @@ class Browser:
         page.send("Page.enable")
         page.send("Runtime.enable")
         page.send("Network.enable")
+        page.send("Page.bringToFront")
+        page.send("Emulation.setFocusEmulationEnabled", enabled=True)
         page.resize(width, height)
         page.prefer(dark)
         page.go(address)
@@ -123,6 +130,9 @@ class Page:
     def resize(self, width, height):
         self.send("Emulation.setDeviceMetricsOverride", width=width, height=height,
                   deviceScaleFactor=1, mobile=False)
+        # until it is drawn so, and its own handler was called
+        self.wait(f"innerWidth === {width} && innerHeight === {height}")
+        self.ask("new Promise((done) => requestAnimationFrame(() => setTimeout(done)))")
 
     def prefer(self, dark):
         value = "dark" if dark else "light"
@@ -150,33 +160,85 @@ class Page:
         """What stands in an element."""
         return self.ask(f"document.querySelector({json.dumps(selector)}).textContent")
 
-    def click(self, selector):
-        """Clicks the middle of an element, as a mouse does."""
-        where = self.ask(
-            f"(() => {{ const e = document.querySelector({json.dumps(selector)});"
-            " e.scrollIntoView({ block: 'center' }); const r = e.getBoundingClientRect();"
-            " return [r.x + r.width / 2, r.y + r.height / 2]; })()")
-        for kind in ("mousePressed", "mouseReleased"):
-            self.send("Input.dispatchMouseEvent", type=kind, x=where[0], y=where[1],
-                      button="left", clickCount=1)
+    def middle(self, selector):
+        """The middle of an element, which is brought into view. There has to be the element, or one
+        in it, or its label: what lies over it would take a click."""
+        where = self.ask(f"""(() => {{
+            const element = document.querySelector({json.dumps(selector)});
+            element.scrollIntoView({{ block: "center" }});
+            const {{ x, y, width, height }} = element.getBoundingClientRect();
+            const [left, top] = [x + width / 2, y + height / 2];
+            const there = document.elementFromPoint(left, top);
+            return element.contains(there) || there?.contains(element) ? [left, top] : null;
+        }})()""")
+        if where is None:
+            raise Failed(f"{selector} can't be clicked: something lies over it")
+        return where
 
-    def press(self, key):
-        """Presses a key."""
-        text = {"Enter": "\r"}.get(key, key if len(key) == 1 else "")
-        code = KEYS.get(key, ord(key.upper()) if len(key) == 1 and key.isalnum() else 0)
-        self.send("Input.dispatchKeyEvent", type="keyDown", key=key, text=text,
-                  windowsVirtualKeyCode=code)
-        self.send("Input.dispatchKeyEvent", type="keyUp", key=key, windowsVirtualKeyCode=code)
+    def mouse(self, kind, where, **more):
+        self.send("Input.dispatchMouseEvent", type=kind, x=where[0], y=where[1], **more)
+
+    def click(self, selector, count=1):
+        """Clicks the middle of an element, as a mouse does."""
+        self.click_at(self.middle(selector), count)
+
+    def click_at(self, where, count=1):
+        self.mouse("mouseMoved", where)
+        for number in range(1, count + 1):
+            for kind in ("mousePressed", "mouseReleased"):
+                self.mouse(kind, where, button="left", clickCount=number)
+
+    def press(self, key, *held):
+        """Presses a key, where others are held: "Shift", "Ctrl", "Alt" or "Meta"."""
+        is_letter = len(key) == 1 and key.isalpha()
+        if (is_letter and key.isupper()) or key in SHIFTED:
+            held = {"Shift", *held}
+        self.key(key, sum(MODIFIERS[name] for name in held))
+
+    def key(self, key, modifiers=0):
+        """Presses a key that writes `key`, with modifiers as a browser counts them."""
+        is_one = len(key) == 1
+        text = {"Enter": "\r"}.get(key, key if is_one else "")
+        if modifiers & 7:
+            text = ""
+        letter = ord(key.upper()) if is_one and key.isalnum() else 0
+        code = KEYS.get(key) or SIGNS.get(key) or letter
+        event = {"key": key, "modifiers": modifiers, "windowsVirtualKeyCode": code}
+        self.send("Input.dispatchKeyEvent", type="keyDown" if text else "rawKeyDown", text=text,
+                  **event)
+        self.send("Input.dispatchKeyEvent", type="keyUp", **event)
 
     def type(self, text):
         """Types a text where the focus is."""
         self.send("Input.insertText", text=text)
 
+    def replace(self, selector, text):
+        """Clicks a field, and types a text in the place of what stands in it."""
+        self.click(selector)
+        self.send("Input.dispatchKeyEvent", type="rawKeyDown", key="a", modifiers=2,
+                  windowsVirtualKeyCode=65, commands=["selectAll"])
+        self.send("Input.dispatchKeyEvent", type="keyUp", key="a", modifiers=2,
+                  windowsVirtualKeyCode=65)
+        if text:
+            self.type(text)
+        else:
+            self.send("Input.dispatchKeyEvent", type="rawKeyDown", key="Delete",
+                      windowsVirtualKeyCode=46, commands=["deleteForward"])
+
     def choose(self, selector, value):
-        """Chooses an option of a menu."""
-        self.ask(f"(() => {{ const e = document.querySelector({json.dumps(selector)});"
-                 f" e.value = {json.dumps(value)};"
-                 " e.dispatchEvent(new Event('change', { bubbles: true })); })()")
+        """Chooses an option of a menu by the keyboard: its list is outside the page."""
+        quoted = json.dumps(selector)
+        at = self.ask(f"""(() => {{
+            const menu = document.querySelector({quoted});
+            menu.focus();
+            const shown = [...menu.options].filter((option) => !option.hidden);
+            return shown.findIndex((option) => option.value === {json.dumps(value)})
+                - shown.indexOf(menu.selectedOptions[0]);
+        }})()""")
+        for _ in range(abs(at)):
+            self.press("ArrowDown" if at > 0 else "ArrowUp")
+        if self.ask(f"document.querySelector({quoted}).value") != value:
+            raise Failed(f"{selector} has no {value}")
 
     def give_file(self, selector, path):
         """Gives a file to a field for files."""
@@ -189,3 +251,15 @@ class Page:
         taken = self.send("Page.captureScreenshot", format="png", captureBeyondViewport=whole)
         with open(path, "wb") as file:
             file.write(base64.b64decode(taken["data"]))
+
+    def wait_event(self, method, seconds=30):
+        """Waits for an event of the browser that no earlier wait has taken."""
+        until = time.monotonic() + seconds
+        while True:
+            for at, event in enumerate(self.browser.events):
+                if event.get("method") == method:
+                    return self.browser.events.pop(at)
+            if time.monotonic() > until:
+                raise Failed(f"in {seconds} s there was no {method}")
+            self.ask("1")
+            time.sleep(0.01)

@@ -1,0 +1,1 @@
+"""What web/check tries of the page."""

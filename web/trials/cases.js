@@ -1,0 +1,38 @@
+"use strict";
+
+// Tries what shows no view by tables of cases, and says how many comparisons were made of what.
+//
+// usage: node --experimental-wasm-memory64 cases.js SCRIPTS MODULE
+//
+// SCRIPTS is the folder of the page's scripts, and MODULE the library as WebAssembly. The status is
+// 0 where all is as it should be.
+
+const fs = require("node:fs");
+const { makeClock, scripts } = require("./cases/load.js");
+const { Report } = require("./cases/report.js");
+const { tryMachine } = require("./cases/machine.js");
+const { tryRecords } = require("./cases/records.js");
+const { tryPrograms } = require("./cases/programs.js");
+const { tryWording } = require("./cases/wording.js");
+const { trySessions } = require("./cases/sessions.js");
+
+async function main([folder, module]) {
+  const clock = makeClock();
+  const page = scripts(folder, clock);
+  const kit = await page.Kit.load(fs.readFileSync(module));
+  const report = new Report();
+  report.begin("module");
+  report.same("64-bit memories", true, page.hasMemory64());
+  tryMachine(report, page, kit);
+  tryRecords(report, page);
+  await tryPrograms(report, page, kit);
+  tryWording(report, page, kit);
+  await trySessions(report, page, kit, clock);
+  for (const [subject, count] of report.counts) console.log(`${subject} ${count}`);
+  return report.failed === 0 ? 0 : 1;
+}
+
+main(process.argv.slice(2)).then((status) => process.exit(status), (error) => {
+  console.log(`failed: ${error.stack}`);
+  process.exit(1);
+});

@@ -1,0 +1,55 @@
+"use strict";
+
+// The page's scripts without a page: those that know no view, and what they define.
+
+const fs = require("node:fs");
+const path = require("node:path");
+
+const SCRIPTS = [
+  "kit", "terminal", "history", "actions", "machine", "program", "examples", "wording", "session",
+  "views",
+];
+const DEFINED = /^(?:const|class|function|async function) ([A-Za-z_]\w*)/gm;
+
+/* Before Node 24 a memory with 64-bit addresses counts its pages by numbers, and now by BigInts. */
+function growByNumbers() {
+  const { grow } = WebAssembly.Memory.prototype;
+  WebAssembly.Memory.prototype.grow = function growBy(pages) {
+    try {
+      return grow.call(this, pages);
+    } catch (error) {
+      if (!(error instanceof TypeError)) throw error;
+      return grow.call(this, Number(pages));
+    }
+  };
+}
+
+/** What the scripts of a folder define, over a clock: `{ now, later }`, which stand for
+ * performance.now and setTimeout. */
+function scripts(folder, clock) {
+  const text = SCRIPTS.map((name) => fs.readFileSync(path.join(folder, `${name}.js`), "utf8"));
+  const names = [...text.join("\n").matchAll(DEFINED)].map((found) => found[1]);
+  const body = `${text.join("\n")}\nreturn { ${names.join(", ")} };`;
+  return new Function("performance", "setTimeout", body)({ now: clock.now }, clock.later);
+}
+
+/** A clock that stands still, but for what is done with `pass`. A task that is set for later runs
+ * when `next` is called, and the clock goes on to its time. */
+function makeClock() {
+  const clock = { time: 0, tasks: [] };
+  clock.now = () => clock.time;
+  clock.later = (task, wait) => clock.tasks.push({ task, at: clock.time + wait });
+  clock.pass = (milliseconds) => { clock.time += milliseconds; };
+  clock.next = async () => {
+    const { task, at } = clock.tasks.shift();
+    clock.time = Math.max(clock.time, at);
+    task();
+    // what waits for the task goes on first
+    for (let turn = 0; turn < 5; turn++) await null;
+  };
+  return clock;
+}
+
+growByNumbers();
+
+module.exports = { makeClock, scripts };

@@ -1,0 +1,183 @@
+"use strict";
+
+// Programs as people give them: texts, files and links.
+
+const { Report } = require("./report.js");
+
+const MIB = 1 << 20;
+const TOO_LONG = "A text of words has 8,388,608 bytes at most, and this one has more.";
+const DAMAGED = "The link is damaged: its program can't be read.";
+
+/* What a text is: its words, labels by their word, and comments by theirs; or why it is none. */
+function readText(page, text, size = 65536) {
+  try {
+    const { words, labels, comments } = page.parseProgram(text, size);
+    return [words, Object.fromEntries(labels), Object.fromEntries(comments)];
+  } catch (error) {
+    return error.message;
+  }
+}
+
+const none = (shown, line = 1) =>
+  `Line ${line}: "${shown}" is no word of 1 to 8 hexadecimal digits`;
+
+function texts(report, page) {
+  report.cases("a text", [
+    ["13", [[0x13], {}, {}]], ["0x13 0XFF, ffffffff,0", [[0x13, 255, 0xffffffff, 0], {}, {}]],
+    ["dead\tBEEF\r\n1\r2\n3", [[0xdead, 0xbeef, 1, 2, 3], {}, {}]],
+    ["a: 1", [[1], { 0: ["a"] }, {}]],
+    ["a:1 b:\nc.$_9: 2", [[1, 2], { 0: ["a"], 1: ["b", "c.$_9"] }, {}]],
+    ["1 end:", [[1], { 1: ["end"] }, {}]], ["fade: fade", [[0xfade], { 0: ["fade"] }, {}]],
+    ["1 2 # both\n3 ; three\n4 // four\n5",
+      [[1, 2, 3, 4, 5], {}, { 0: "both", 2: "three", 3: "four" }]],
+    ["# alone\n1", [[1], {}, {}]], ["1 #\n2", [[1, 2], {}, {}]],
+    ["1 # a # b\n", [[1], {}, { 0: "a # b" }]], ["a:b:1", [[1], { 0: ["a", "b"] }, {}]],
+    ["1\n# alone\n2 # two", [[1, 2], {}, { 1: "two" }]],
+    ["", "There is no word in it."], ["# 1", "There is no word in it."],
+    ["a:", "There is no word in it."],
+    ["123456789", none("123456789")], ["0x", none("0x")], ["1\n\nfoo", none("foo", 3)],
+    ["1\r\n2\rli a0, 5", none("li", 3)], ["0x0x1", none("0x0x1")], ["-1", none("-1")],
+    ["1g", none("1g")], ["/1", none("/1")], ["9a: 1", none("9a:")],
+    [`${"x".repeat(21)}`, none(`${"x".repeat(20)}…`)], ["x".repeat(20), none("x".repeat(20))],
+    ["a: 1\nb: 2\n\na: 3", "Line 4: the label a stands on line 1 too"],
+    ["é", none("é")],
+  ], (text) => readText(page, text));
+}
+
+function sizesOfTexts(report, page) {
+  report.cases("the words of a text, and the bytes of memory", [
+    [[16384, 65536], 16384], [[16385, 65536], "It has 65,540 bytes, and the memory has 65,536."],
+    [[16385, 262144], 16385], [[262144, MIB], 262144],
+    [[262145, MIB], "It has more than 1,048,576 bytes, and a memory has no more."],
+  ], ([count, size]) => {
+    const read = readText(page, "13 ".repeat(count), size);
+    return typeof read === "string" ? read : read[0].length;
+  });
+  const letter = "\u2028";
+  report.cases("the length of a text", [
+    ["\n".repeat(8 * MIB - 2) + "13", 1], ["\n".repeat(8 * MIB - 1) + "13", TOO_LONG],
+    [`13 # ${letter.repeat(2796201)}`, 1], [`13  # ${letter.repeat(2796201)}`, TOO_LONG],
+  ].map(([text, wanted]) => [{ text }, wanted]), ({ text }) => {
+    const read = readText(page, text);
+    return typeof read === "string" ? read : read[0].length;
+  });
+}
+
+function files(report, page) {
+  report.cases("whether a file is a text of words", [
+    ["a.txt", true], ["a.HEX", true], ["a.b.words", true], ["a.bin", false], ["txt", false],
+    ["a.txt.bin", false], ["a.txtx", false], ["", false],
+  ], (name) => page.isTextFile(name));
+  const textTooLong = "has 8,388,609 bytes, and a text of words 8,388,608 at most.";
+  report.cases("why a file is no program", [
+    [["a.bin", 0, 65536], "is empty."], [["a.txt", 0, 65536], "is empty."],
+    [["a.bin", 1, 65536], ""], [["a.bin", 65536, 65536], ""],
+    [["a.bin", 65537, 65536],
+      "has 65,537 bytes, and the memory has 65,536. A larger memory can be chosen at Edit."],
+    [["a.txt", 65537, 65536], ""], [["a.txt", 8 * MIB, 65536], ""],
+    [["a.txt", 8 * MIB + 1, MIB], textTooLong],
+  ], ([name, size, room]) => page.mistakeOfFile({ name, size }, room));
+  const bytes = Uint8Array.from([0x37, 0xb1, 0x34, 0x12, 0x01]);
+  report.cases("the text of a file", [
+    [["a.bin", bytes], "0x1234b137\n0x00000001\n"],
+    [["a.bin", bytes.subarray(0, 4)], "0x1234b137\n"],
+    [["a.bin", bytes.subarray(1)], "0x011234b1\n"],
+    [["a.txt", new TextEncoder().encode("13 # é")], "13 # é"],
+  ], ([name, content]) => page.textOfFile(name, content));
+  report.cases("a number of hexadecimal digits", [
+    ["0", 0], ["ffffffff", 0xffffffff], ["0x10", 16], ["0b1", 0xb1], ["100000000", NaN], ["", NaN],
+    ["0x", NaN], [" 1", NaN], ["-1", NaN], ["1e9g", NaN],
+  ], (text) => page.parseHex(text));
+  report.cases("a word of digits", [
+    [[0, 8], "00000000"], [[0xffffffff, 8], "ffffffff"], [[0xab, 2], "ab"], [[0xa, 4], "000a"],
+  ], ([word, digits]) => page.hexOf(word, digits));
+}
+
+/* What a link gives: the program, null, or why it can't be opened. */
+async function followed(page, hash) {
+  try {
+    return await page.decodeLink(hash);
+  } catch (error) {
+    return error instanceof page.ProgramError ? error.message : error;
+  }
+}
+
+/* A link, made by another implementation of its form. */
+function linkTo(text, fields = "") {
+  const packed = require("node:zlib").deflateRawSync(Buffer.from(text));
+  return `#${fields}program=${packed.toString("base64url")}`;
+}
+
+async function links(report, page) {
+  const texts = ["13", "go: 13 # é\u2028\n", "13 ".repeat(5000), "", "\ufeff13"];
+  for (const text of texts) {
+    for (const [base, size, hasStack] of [[0, 65536, false], [0x80000000, MIB, true],
+      [4, 262144, false]]) {
+      const program = { text, base, size, hasStack };
+      const link = await page.encodeLink(program);
+      report.same(`there and back, ${text.length} letters`, program, await followed(page, link));
+      report.same("the letters of a link", true, /^#[\w=&-]+$/.test(link));
+    }
+  }
+  report.same("the fields of a link", "#base=0x80000000&size=1048576&stack=1&program=",
+    (await page.encodeLink({ text: "13", base: 0x80000000, size: MIB, hasStack: true }))
+      .replace(/[^=]*$/, ""));
+  const plain = { text: "13", base: 0, size: 65536, hasStack: false };
+  for (const [hash, wanted] of [
+    ["", null], ["#", null], ["#base=0x10", null], [linkTo("13"), plain],
+    [linkTo("13", "base=100&"), { ...plain, base: 256 }],
+    [linkTo("13", "base=&"), { ...plain, base: NaN }],
+    [linkTo("13", "base=4294967296&"), { ...plain, base: NaN }],
+    [linkTo("13", "size=0x10&"), { ...plain, size: NaN }],
+    [linkTo("13", "size=&"), { ...plain, size: NaN }],
+    [linkTo("13", "size=262144&"), { ...plain, size: 262144 }],
+    [linkTo("13", "stack=1&"), { ...plain, hasStack: true }],
+    [linkTo("13", "stack=0&"), plain], [linkTo("13").slice(0, -2), DAMAGED],
+    ["#program=!", DAMAGED], ["#program=AAAA", DAMAGED], ["#program=", DAMAGED],
+    [linkTo(Buffer.from([0x31, 0xff])), DAMAGED],
+    [linkTo("\n".repeat(8 * MIB)), { ...plain, text: "\n".repeat(8 * MIB) }],
+    [linkTo("\n".repeat(8 * MIB + 1)), TOO_LONG],
+  ]) report.same(`the link ${hash.slice(0, 60)}`, wanted, await followed(page, hash));
+}
+
+/* Each program of the menu is one, and ends as its sentence says. */
+function examples(report, page, kit) {
+  const { EXAMPLES, FAULT } = page;
+  const fault = (kind, address, word = 0) => ({ reason: "fault", kind, address, word });
+  const exit = (status) => ({ reason: "exit", status });
+  const ends = {
+    three: fault(FAULT.ILLEGAL, 12), sum: exit(3 + 1 + 4 + 1 + 5 + 9 + 2 + 6), gcd: exit(21),
+    port: exit(0), console: { reason: "waiting" }, fibonacci: exit(55), primes: exit(168),
+    million: exit(0), illegal: fault(FAULT.ILLEGAL, 4, 0xffffffff),
+    fetch: fault(FAULT.FETCH, 0x20000000), load: fault(FAULT.LOAD, 0x20000000),
+    store: fault(FAULT.STORE, 0x20000008), misaligned: fault(FAULT.MISALIGNED, 0x102),
+    jump: fault(FAULT.MISALIGNED, 0x102), ecall: fault(FAULT.ECALL, 4),
+    ebreak: fault(FAULT.EBREAK, 4),
+  };
+  report.same("the programs of the menu", Object.keys(ends), EXAMPLES.map(({ id }) => id));
+  report.same("those that fault", Object.keys(ends).slice(8),
+    EXAMPLES.filter(({ isFault }) => isFault).map(({ id }) => id));
+  const machine = new page.Machine(kit);
+  for (const { id, text } of EXAMPLES) {
+    machine.load(page.parseProgram(text, 65536).words, 0, 65536, false);
+    const end = machine.run(2e6, new Uint8Array(16384));
+    report.same(`the end of ${id}`, ends[id], end);
+  }
+  report.same("sentences and names", [8, 16],
+    [EXAMPLES.filter(({ about }) => about.endsWith(".")).length,
+      new Set(EXAMPLES.map(({ name }) => name)).size]);
+}
+
+/** Tries texts, files, links and the programs of the menu. */
+async function tryPrograms(report, page, kit) {
+  report.begin("texts");
+  for (const part of [texts, sizesOfTexts]) part(report, page);
+  report.begin("files");
+  files(report, page);
+  report.begin("links");
+  await links(report, page);
+  report.begin("examples");
+  examples(report, page, kit);
+}
+
+module.exports = { tryPrograms, refused: Report.refused };

@@ -1,0 +1,314 @@
+"""How the page looks, and what it says to those who don't see it: roles, names and states, the
+focus, contrast, boxes, and pictures."""
+
+import itertools
+import re
+
+from trials.report import Differs, same
+from trials.view import EXPECTED, SIZE, WEB, Subject, opened
+
+# functions that are run in the page
+SEEN = (WEB / "trials" / "seen.js").read_text(encoding="utf-8").strip()
+
+# what a line of the list has of a node of the accessibility tree
+ROLES = {
+    "RootWebArea", "alert", "banner", "button", "cell", "checkbox", "columnheader", "combobox",
+    "contentinfo", "dialog", "group", "heading", "image", "link", "list", "listbox", "listitem",
+    "log", "main", "option", "region", "row", "rowheader", "status", "table", "textbox", "toolbar",
+}
+STATES = {"checked", "disabled", "invalid", "busy", "live", "level", "keyshortcuts", "modal",
+          "readonly", "focused", "multiline", "selected"}
+
+
+def value_of(node, name):
+    return node.get(name, {}).get("value", "")
+
+
+def said(node):
+    """A node as it is said: role, name, value, description and states."""
+    words = [value_of(node, "role"), repr(value_of(node, "name"))]
+    if value_of(node, "description") not in ("", value_of(node, "name")):
+        words.append(f"described {value_of(node, 'description')!r}")
+    for prop in node.get("properties", []):
+        state = prop["value"].get("value")
+        if prop["name"] in STATES and state not in (False, "false", "off", "", None):
+            words.append(f"{prop['name']}={state}")
+    return " ".join(map(str, words))
+
+
+def tree(page, inside=None):
+    """The lines of the accessibility tree, or those of a dialog alone."""
+    nodes = page.send("Accessibility.getFullAXTree")["nodes"]
+    by_id = {node["nodeId"]: node for node in nodes}
+    lines = []
+
+    def walk(node, depth, is_in):
+        role = value_of(node, "role")
+        is_in = is_in or (role == "dialog" and inside is not None)
+        is_shown = not node.get("ignored") and role in ROLES and (is_in or inside is None)
+        if is_shown:
+            lines.append("  " * depth + said(node))
+        for child in node.get("childIds", []):
+            if child in by_id:
+                walk(by_id[child], depth + is_shown, is_in)
+
+    walk(nodes[0], 0, False)
+    return [line if count == 1 else f"{line} ({count} times)" for line, count in
+            ((line, len(list(same_lines))) for line, same_lines in itertools.groupby(lines))]
+
+
+DIALOGS = {"editor": "e", "shared": "l", "help": "?"}
+
+
+def trees(machine):
+    """The trees of the page and of its dialogs, as one text."""
+    page = machine.page
+    machine.choose("three")
+    machine.keys("gsk")
+    page.replace("#address", "nowhere")
+    page.press("Enter")
+    machine.leave_fields()
+    parts = ["the page", *tree(page)]
+    for name, key in DIALOGS.items():
+        page.press(key)
+        page.wait(f"document.querySelector('#{name}').open")
+        parts += ["", f"the dialog {name}", *tree(page, name)]
+        machine.escape()
+    # the length of a link is that of a path
+    return re.sub(r"\d+ characters", "N characters", "\n".join(parts)) + "\n"
+
+
+def accessibility_tree(machine):
+    """roles, names and states are those that are stored"""
+    page = machine.page
+    stored = (EXPECTED / "tree.txt").read_text(encoding="utf-8").splitlines()
+    got = trees(machine).splitlines()
+    same("how many lines the tree has", len(stored), len(got))
+    for wanted, line in zip(stored, got):
+        same("a line of the tree", wanted, line)
+    page.replace("#address", "")
+    page.press("Enter")
+    machine.leave_fields()
+
+
+FOCUS = """(() => {
+    const at = document.activeElement;
+    const { outlineStyle, outlineWidth, outlineColor } = getComputedStyle(at);
+    const name = at.id || at.dataset.action || at.getAttribute("aria-labelledby")
+        || (at.matches("[data-close]") ? "close" : at.tagName.toLowerCase());
+    return [name, `${outlineStyle} ${outlineWidth}`, outlineColor];
+})()"""
+
+
+def tab_order(page, key="Tab", held=()):
+    """Where the focus goes until it comes back to the page, and that it can be seen there."""
+    order = []
+    while len(order) < 80:
+        page.press(key, *held)
+        name, ring, _ = page.ask(FOCUS)
+        if name == "body" or (order and name == order[0]):
+            return order
+        same(f"the ring of {name}", "solid 2px", ring)
+        order.append(name)
+    raise Differs(f"the focus does not come back: {order}")
+
+
+FOCUS_ORDER = [
+    "examples", "edit", "open", "link", "theme", "keys", "runBack", "stepBack", "step", "run",
+    "pause", "runToLine", "reset", "speed", "breakpoint", "listing", "radix", "output", "input",
+    "button", "endInput", "around", "address", "unit", "memoryUp", "memoryDown", "log-title",
+    "counts-title", "a",
+]
+FOCUS_IN = {
+    "editor": ["text", "base", "size", "stack", "close", "take"],
+    "shared": ["link", "close", "copy"],
+    "help": ["keys-on", "close"],
+}
+
+
+def focus(machine):
+    """Tab goes to each part in order and back, the ring is seen, and dialogs keep the focus"""
+    page = machine.page
+    machine.choose("three")
+    page.ask("(() => { document.activeElement.blur(); getSelection().removeAllRanges(); })()")
+    page.click_at([3, 3])
+    same("the order of the focus", FOCUS_ORDER, tab_order(page))
+    for name, key in DIALOGS.items():
+        machine.leave_fields()
+        page.press(key)
+        page.wait(f"document.querySelector('#{name}').open")
+        first = page.ask(FOCUS)[0]
+        order = [first]
+        while len(order) < len(FOCUS_IN[name]):
+            page.press("Tab")
+            order.append(page.ask(FOCUS)[0])
+        same(f"the order of the focus in {name}", FOCUS_IN[name], order)
+        machine.escape()
+
+
+# ---- contrast
+
+TEXT_CONTRAST = 4.5
+MARK_CONTRAST = 3
+
+
+def show_all(machine):
+    """Puts the page into states in which each colour is used, one after another."""
+    page = machine.page
+    machine.choose("fibonacci")
+    page.click("#line-13 .gutter")
+    page.click("#line-6 .gutter")
+    machine.leave_fields()
+    machine.run()
+    yield "wait"
+    machine.keys("sssm")
+    page.choose("#around", "store")
+    page.press("Tab")
+    yield "bytes"
+    page.mouse("mouseMoved", page.middle("#line-7 .address"))
+    yield "hover"
+    machine.leave_fields()
+    machine.keys("m")
+    page.click("#line-6 .gutter")
+    page.click("#line-13 .gutter")
+    machine.leave_fields()
+    machine.run()
+    yield "done"
+    machine.choose("illegal")
+    machine.run()
+    page.replace("#address", "nowhere")
+    page.press("Enter")
+    yield "end"
+    machine.leave_fields()
+    machine.choose("console")
+    machine.run()
+    yield "waiting"
+    machine.edit("nothing")
+    yield "mistake"
+    machine.escape()
+    for name, key in DIALOGS.items():
+        page.press(key)
+        page.wait(f"document.querySelector('#{name}').open")
+        yield name
+        machine.escape()
+    page.ask("(() => { refuseBrowser('No machine.'); $('drop').hidden = false; })()")
+    yield "refusal"
+    page.ask("$('refusal').hidden = $('drop').hidden = true")
+
+
+def contrast(machine):
+    """the contrast of each text is 4.5 at the least, and that of each mark 3, light and dark"""
+    page = machine.page
+    looked = set()
+    low = {}
+    for dark in (False, True):
+        page.prefer(dark)
+        for state in show_all(machine):
+            for what, ratio in page.ask(f"{SEEN}.contrasts()").items():
+                looked.add(what)
+                least = MARK_CONTRAST if what.startswith("mark") else TEXT_CONTRAST
+                if ratio < least:
+                    low[f"{what}, {'dark' if dark else 'light'}, {state}"] = round(ratio, 2)
+    page.prefer(False)
+    same("what has too little contrast", {}, low)
+    same("how many texts and marks were looked at", LOOKED_AT, len(looked))
+
+
+LOOKED_AT = 83
+
+# ---- boxes and marks
+
+WANTED_MARKS = {
+    "dot": ["1", "50%", True, True], "noDot": "0", "pc": True, "edge": "4px", "selected": True,
+    "last": True, "bold": "700", "changed": True, "target": True,
+    "output": ["pre-wrap", "anywhere"], "letters": "pre", "code": True, "disabled": True,
+    "sticky": "sticky",
+}
+
+ALL_IN_PLACE = {"cut": [], "controls": [], "overlaps": [], "isWide": False}
+WIDTHS = ((1360, 900), (1080, 800), (900, 900), (768, 1024), (560, 900), (360, 740))
+
+
+def show_fibonacci(machine):
+    """Runs an example to a breakpoint twice, and makes a few steps more."""
+    machine.choose("fibonacci")
+    machine.page.click("#line-13 .gutter")
+    machine.leave_fields()
+    machine.run()
+    machine.run()
+    machine.keys("ssss")
+
+
+def boxes(machine):
+    """marks are seen, and nothing is cut off, covered, or wider than the page, at six widths"""
+    page = machine.page
+    show_fibonacci(machine)
+    for width, height in WIDTHS:
+        page.resize(width, height)
+        page.ask("scrollTo(0, 0)")
+        same(f"the marks at {width}", WANTED_MARKS, page.ask(f"{SEEN}.marks()"))
+        for _ in range(4):
+            same(f"the boxes at {width}", ALL_IN_PLACE, page.ask(f"{SEEN}.boxes()"))
+            machine.keys("n")
+        page.ask("scrollTo(0, 400)")
+        same(f"the buttons at {width}, scrolled down", 0, page.ask(
+            "document.querySelector('.controls').getBoundingClientRect().top"))
+        page.ask("scrollTo(0, 0)")
+        for name in DIALOGS:
+            page.ask(f"document.getElementById('{name}').showModal()")
+            same(f"the dialog {name} at {width}", True, page.ask(f"""(() => {{
+                const {{ left, right, top, bottom }} =
+                    document.getElementById("{name}").getBoundingClientRect();
+                return left >= 0 && right <= innerWidth && top >= 0 && bottom <= innerHeight;
+            }})()"""))
+            page.ask(f"document.getElementById('{name}').close()")
+    page.resize(*SIZE)
+    machine.keys("s")
+    same("the log", "[0x0000ffdc] ← 0x00000038", machine.rows("log")[0][3])
+    same("a stored word", ["700", True, True], page.ask(f"{SEEN}.storedMark()"))
+
+
+def theme(machine):
+    """light and dark: by the system and by the switch"""
+    page = machine.page
+    ground = "getComputedStyle(document.body).backgroundColor"
+    colours = {}
+    for dark in (False, True):
+        page.prefer(dark)
+        seen = []
+        for key in ("", "d", "d"):
+            machine.keys(key)
+            seen.append(page.ask(ground))
+        colours[dark] = seen
+    light, darker = "rgb(238, 241, 245)", "rgb(15, 19, 25)"
+    same("the colours", {False: [light, darker, light], True: [light, darker, light]}, colours)
+    page.prefer(False)
+    page.ask("document.documentElement.removeAttribute('data-theme')")
+
+
+def picture(browser, path):
+    """the picture of the page for README, of a page that was opened anew"""
+    machine = opened(browser, Subject.page.as_uri())
+    show_fibonacci(machine)
+    machine.page.ask("scrollTo(0, 0)")
+    machine.page.picture(path)
+
+
+def pictures(machine, folder):
+    """pictures in light and dark, wide and narrow"""
+    page = machine.page
+    show_fibonacci(machine)
+    for name, width, height, dark in (
+        ("wide-light", 1360, 900, False), ("wide-dark", 1360, 900, True),
+        ("middle-light", 768, 900, False),
+        ("narrow-light", 360, 740, False), ("narrow-dark", 360, 740, True),
+    ):
+        page.resize(width, height)
+        page.prefer(dark)
+        page.ask("scrollTo(0, 0)")
+        page.picture(folder / f"{name}.png")
+    page.resize(*SIZE)
+    page.prefer(False)
+
+
+TRIALS = [accessibility_tree, focus, contrast, boxes, theme]

@@ -1,0 +1,244 @@
+"""Programs that are opened: files, the editor, links, and what is refused."""
+
+import base64
+import pathlib
+import tempfile
+import time
+import zlib
+
+from trials.report import Differs, same
+from trials.view import Subject, js
+
+TOO_LONG = "A text of words has 8,388,608 bytes at most, and this one has more."
+UNREADABLE = "can't be read: it is a folder, or it was changed after it was chosen."
+WHAT_IS_OPEN = "addi x10, x0, 1071"
+
+
+def drop(machine, name, content):
+    """Drops a file on the page, as a mouse does."""
+    page = machine.page
+    with tempfile.TemporaryDirectory() as folder:
+        path = pathlib.Path(folder) / name
+        path.write_bytes(content)
+        data = {"items": [], "files": [str(path)], "dragOperationsMask": 1}
+        for kind in ("dragEnter", "dragOver"):
+            page.send("Input.dispatchDragEvent", type=kind, x=300, y=300, data=data)
+        same("whether the page says to drop it", True, page.ask(
+            "!document.querySelector('#drop').hidden"))
+        page.send("Input.dispatchDragEvent", type="drop", x=300, y=300, data=data)
+        page.wait(f"document.querySelector('#program-title').textContent === {js(name)}")
+    same("whether the page still says so", True, page.ask("document.querySelector('#drop').hidden"))
+
+
+def files(machine):
+    """files: programs, texts, what is too long, what is empty, and one that is dropped"""
+    with tempfile.TemporaryDirectory() as name:
+        folder = pathlib.Path(name)
+        (folder / "long.bin").write_bytes(bytes(65540))
+        (folder / "full.bin").write_bytes(b"\x13\0\0\0" * 16384)
+        (folder / "empty.bin").write_bytes(b"")
+        (folder / "odd.bin").write_bytes(b"\x37\xb1\x34\x12\x01")
+        (folder / "<b>words.txt").write_text("1234b137\nf387e1b7 # <b>two\n")
+        machine.choose("gcd")
+        machine.give(folder / "long.bin")
+        machine.says("Not opened", "long.bin has 65,540 bytes, and the memory has 65,536. A larger "
+                     "memory can be chosen at Edit.")
+        same("line 0, of what was open", WHAT_IS_OPEN, machine.line(0)[2])
+        machine.give(folder / "empty.bin")
+        machine.says("Not opened", "empty.bin is empty.")
+        machine.give(folder / "full.bin")
+        machine.says("Ready", "65,536 bytes from 0x00000000 on.")
+        machine.run()
+        machine.says("Fetch fault")
+        same("the steps", 16384, machine.steps())
+        machine.give(folder / "odd.bin")
+        same("the title", ["odd.bin", ""], [machine.page.text("#program-title"), machine.page.ask(
+            "document.querySelector('#examples').value")])
+        same("line 1", ["00000004", "00000001", "no instruction", ""], machine.line(1))
+        same("how many lines", 3, machine.page.ask("document.querySelectorAll('.line').length"))
+        machine.give(folder / "<b>words.txt")
+        same("line 1", "lui x3, 0xf387e000", machine.line(1)[2])
+        same("a title and a comment are no HTML", ["<b>words.txt", "<b>two"], [
+            machine.page.text("#program-title"), machine.page.text("#line-1 .comment")])
+    drop(machine, "dropped.bin", b"\x37\xb1\x34\x12")
+    same("line 0", "lui x2, 0x1234b000", machine.line(0)[2])
+
+
+def files_that_cannot_be_read(machine):
+    """files: a folder, and one that was changed after it was chosen"""
+    machine.choose("gcd")
+    with tempfile.TemporaryDirectory() as name:
+        folder = pathlib.Path(name)
+        machine.give(folder)
+        machine.says("Not opened", f"{folder.name} {UNREADABLE}")
+        changed = folder / "changed.bin"
+        changed.write_bytes(b"\x13\0\0\0")
+        machine.page.ask("document.body.append(Object.assign("
+                         "document.createElement('input'), { type: 'file', id: 'other' }))")
+        machine.page.give_file("#other", changed)
+        changed.write_bytes(b"\x13\0\0\0" * 2)
+        machine.page.ask("rrs.openFiles(document.querySelector('#other').files)")
+        machine.says("Not opened", f"changed.bin {UNREADABLE}")
+        machine.page.ask("document.querySelector('#other').remove()")
+    same("line 0, of what was open", WHAT_IS_OPEN, machine.line(0)[2])
+    same("the file that is chosen", 0,
+         machine.page.ask("document.querySelector('#file').files.length"))
+
+
+def editor(machine):
+    """the editor: words, labels, mistakes by their lines, memory, and how it is left"""
+    page = machine.page
+    machine.choose("gcd")
+    for text, mistake in {
+        "1234b137\n\nfoo": 'Line 3: "foo" is no word of 1 to 8 hexadecimal digits',
+        "a:\n1\na: 2": "Line 3: the label a stands on line 1 too",
+        "# nothing": "There is no word in it.",
+    }.items():
+        machine.edit(text)
+        same("the mistake", mistake, page.text("#mistake"))
+        machine.escape()
+    same("line 0, of what was open", WHAT_IS_OPEN, machine.line(0)[2])
+    machine.edit("go: 1234b137, f387e1b7 ; both", base="80000000")
+    same("line 1", ["80000004", "f387e1b7", "lui x3, 0xf387e000", ""], machine.line(1))
+    same("the label", "go:", page.text("#line-0 .label"))
+    same("the pc", "0x80000000", machine.register("pc"))
+    machine.keys("e")
+    same("what stands in the editor",
+         ["go: 1234b137, f387e1b7 ; both", "0x80000000", "65536", False],
+         page.ask("['text', 'base', 'size'].map((id) => document.getElementById(id).value)"
+                  ".concat(document.getElementById('stack').checked)"))
+    page.click("#editor [data-close]")
+    same("whether the editor is closed", False, page.ask(EDITOR_OPEN))
+
+
+EDITOR_OPEN = "document.querySelector('#editor').open"
+
+
+def editor_by_keys(machine):
+    """the editor: Enter in its fields and Ctrl+Enter load the program, and nothing is lost"""
+    page = machine.page
+    machine.choose("gcd")
+    machine.keys("e")
+    page.replace("#text", "00100293")
+    page.replace("#base", "2")
+    page.press("Enter")
+    same("a base that is none", [True, "Memory can start at a multiple of 4 up to 0xfff00000.",
+                                 "00100293"],
+         [page.ask(EDITOR_OPEN), page.text("#mistake"), page.ask(
+             "document.querySelector('#text').value")])
+    page.replace("#base", "1000")
+    page.press("Enter")
+    machine.wait_closed()
+    same("Enter in the first address", ["0x00001000", "addi x5, x0, 1"],
+         [machine.register("pc"), machine.line(0)[2]])
+    machine.keys("e")
+    page.replace("#text", "00200293")
+    page.press("Enter")
+    page.type("00300293")
+    page.press("Enter", "Ctrl")
+    machine.wait_closed()
+    same("Ctrl and Enter in the text", ["addi x5, x0, 2", "addi x5, x0, 3"],
+         [machine.line(0)[2], machine.line(1)[2]])
+    machine.keys("e")
+    page.choose("#size", "262144")
+    page.click("#stack")
+    page.click("#take")
+    same("the stack at the end of memory", "0x00041000", machine.register("x2"))
+
+
+def in_time(what, action, *arguments):
+    """Does something, which may take ten seconds, and gives its answer."""
+    begun = time.monotonic()
+    answer = action(*arguments)
+    took = time.monotonic() - begun
+    if took > 10:
+        raise Differs(f"{what} took {took:.1f} s")
+    return answer
+
+
+def long_texts(machine):
+    """long texts are read, or refused, in time"""
+    machine.choose("gcd")
+    for text, mistake in {
+        r"'#'.repeat(100000) + '\u2028'": "There is no word in it.",
+        "'13 '.repeat(300000)": "It has more than 1,048,576 bytes, and a memory has no more.",
+        r"'\n'.repeat(1 << 23)": "There is no word in it.",
+        r"'\n'.repeat((1 << 23) + 1)": TOO_LONG,
+        r"('#' + '\u2028'.repeat(1365) + '\n').repeat(1 << 11)": TOO_LONG,
+    }.items():
+        same(f"the mistake in {text}", mistake, in_time(
+            text, machine.page.ask, f"rrs.tryToOpen({{ name: 'long', text: {text} }})"))
+    same("line 0, of what was open", WHAT_IS_OPEN, machine.line(0)[2])
+    text = r"Array.from({ length: 100000 }, (_, at) => `a${at}:\n`).join('') + '13 # a\u2028b'"
+    same("the mistake in many labels", "", in_time(
+        "labels", machine.page.ask, f"rrs.tryToOpen({{ name: 'long', text: {text} }})"))
+    same("the labels", "a0, a1, a2, a3, a4, a5, a6, a7, 99,992 more:",
+         machine.page.text("#line-0 .label"))
+    same("the choices of memory", 1004, machine.page.ask(
+        "document.querySelector('#around').options.length"))
+    same("the comment", "a\u2028b", machine.page.text("#line-0 .comment"))
+    same("the last label", 0, machine.page.ask("rrs.session.addressOf('a99999')"))
+    in_time("ten steps there and back", machine.keys, 10 * "sb")
+    machine.says("Back at step 0", "Next: addi x0, x0, 0")
+
+
+def link_to(text, fields=""):
+    """The address of the page with a program in it."""
+    packer = zlib.compressobj(9, wbits=-15)
+    packed = base64.urlsafe_b64encode(packer.compress(text.encode()) + packer.flush())
+    return f"{Subject.page.as_uri()}#{fields}program={packed.decode().rstrip('=')}"
+
+
+def follow(machine, link):
+    """Opens the page anew by a link."""
+    machine.page.go("about:blank")
+    machine.page.go(link)
+    machine.page.wait("document.documentElement.dataset.ready")
+
+
+def links(machine):
+    """a link holds the program and its memory, is copied, and a damaged one says so"""
+    page = machine.page
+    machine.choose("three")
+    machine.edit("go: 00a00513 # ten\n05d00893 00000073", base="80000000")
+    machine.keys("l")
+    page.wait("document.querySelector('#shared').open")
+    link = page.ask("document.querySelector('#link').value")
+    note = page.text("#shared-note")
+    same("its note", f"{len(link)} characters. It leads to a file of this computer: put the page "
+         "on a server to send it.", note)
+    page.browser.send("Browser.grantPermissions", permissions=["clipboardReadWrite",
+                                                               "clipboardSanitizedWrite"])
+    page.click("#copy")
+    page.wait("document.querySelector('#shared-note').textContent.endsWith('clipboard.')")
+    same("what is on the clipboard", link, page.ask("navigator.clipboard.readText()"))
+    page.click("#shared [data-close]")
+    machine.choose("gcd")
+    follow(machine, link)
+    same("the program", ["Program of the link", "go: 00a00513 # ten\n05d00893 00000073", ""],
+         [page.text("#program-title"), page.ask("rrs.session.text"),
+          page.ask("document.querySelector('#examples').value")])
+    machine.run()
+    machine.says("Exit", "The program ended by the ecall at 0x80000008, with status 10.")
+    page.ask(f"location.hash = {js(link_to('13 # by its hash').split('#', 1)[1])}")
+    page.wait("rrs.session.text === '13 # by its hash'")
+    follow(machine, link[:-9])
+    machine.says("Not opened", "The link is damaged: its program can't be read.")
+    same("line 0, of the first example", "lui x2, 0x1234b000", machine.line(0)[2])
+
+
+def refused_links(machine):
+    """links with long texts, and with addresses that are none, are refused at once"""
+    not_opened = "Program of the link was not opened."
+    at = f"{not_opened} Memory can start at a multiple of 4 up to 0xfff00000."
+    size = f"{not_opened} Memory can have 65536, 262144, 1048576 bytes."
+    for text, fields, sentence in (
+        (100000 * "#" + "\u2028", "", f"{not_opened} There is no word in it."),
+        (16000000 * "13\n", "", TOO_LONG), ("13", "base=&", at), ("13", "size=0x10000&", size),
+    ):
+        in_time("the link", follow, machine, link_to(text, fields))
+        machine.says("Not opened", sentence)
+
+
+TRIALS = [editor, editor_by_keys, files, files_that_cannot_be_read, long_texts]
+LINKS = [links, refused_links]

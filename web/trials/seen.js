@@ -1,0 +1,191 @@
+// What is seen of the page: contrast, marks and boxes. It is run in the page, and gives functions.
+(() => {
+  const style = (element, pseudo) => getComputedStyle(element, pseudo);
+  const box = (element) => element.getBoundingClientRect();
+  const all = (selector) => [...document.querySelectorAll(selector)];
+
+  /* ---- contrast, by WCAG */
+
+  const canvas = document.createElement("canvas").getContext("2d", { willReadFrequently: true });
+
+  /* The red, green, blue and opacity of a colour. */
+  function parse(text) {
+    canvas.clearRect(0, 0, 1, 1);
+    canvas.fillStyle = text;
+    canvas.fillRect(0, 0, 1, 1);
+    const [red, green, blue, alpha] = canvas.getImageData(0, 0, 1, 1).data;
+    return [red, green, blue, alpha / 255];
+  }
+
+  const over = ([r, g, b, a], [x, y, z]) =>
+    [r * a + x * (1 - a), g * a + y * (1 - a), b * a + z * (1 - a), 1];
+
+  const luminance = ([r, g, b]) => [r, g, b].map((part) => part / 255)
+    .map((part) => (part <= 0.04045 ? part / 12.92 : ((part + 0.055) / 1.055) ** 2.4))
+    .reduce((sum, part, at) => sum + part * [0.2126, 0.7152, 0.0722][at], 0);
+
+  function ratio(one, other) {
+    const [low, high] = [luminance(one), luminance(other)].sort((a, b) => a - b);
+    return (high + 0.05) / (low + 0.05);
+  }
+
+  /* The colour behind an element's text: of it and what it stands in. */
+  function ground(element) {
+    const layers = [];
+    for (let at = element; at; at = at.parentElement) {
+      layers.unshift(parse(style(at).backgroundColor));
+      if (at.matches("dialog")) break;
+    }
+    return layers.reduce((below, layer) => over(layer, below), [255, 255, 255, 1]);
+  }
+
+  const nameOf = (element) => element.id || element.className || element.parentElement?.id
+    || element.tagName;
+
+  /* The least contrast of each kind of text and of mark. A button that can't be used is left
+   * out. */
+  class Contrasts {
+    constructor() {
+      this.found = new Map();
+    }
+
+    add(name, ink, below) {
+      const value = ratio(over(parse(ink), below), below);
+      if (!(this.found.get(name) <= value)) this.found.set(name, value);
+    }
+
+    addTexts(element) {
+      const below = ground(element);
+      const hasText = [...element.childNodes].some((node) =>
+        node.nodeType === Node.TEXT_NODE && node.data.trim() !== "");
+      if (hasText || element.matches("select, textarea, input[type=text]")) {
+        this.add(`text ${nameOf(element)}`, style(element).color, below);
+      }
+      if (element.placeholder && element.value === "") {
+        const { color } = style(element, "::placeholder");
+        this.add(`placeholder ${nameOf(element)}`, color, below);
+      }
+      for (const pseudo of ["::before", "::after"]) {
+        const { content, color } = style(element, pseudo);
+        if (/^".+"$/.test(content)) this.add(`${pseudo} ${nameOf(element)}`, color, below);
+      }
+    }
+
+    addMarks(selector, colour, isOnItself = false) {
+      for (const element of all(selector)) {
+        const below = ground(isOnItself ? element : element.parentElement);
+        this.add(`mark ${selector}`, colour(element), below);
+      }
+    }
+
+    /* The number of a line stands over its bar, which is no part of what it stands in. */
+    addCounts() {
+      for (const line of all(".line")) {
+        const [bar, count] = line.lastChild.children;
+        const [red, green, blue] = parse(style(bar).backgroundColor);
+        const opacity = Number(style(bar).opacity);
+        this.add("text count over its bar", style(count).color,
+          over([red, green, blue, opacity], ground(line)));
+      }
+    }
+  }
+
+  function contrasts() {
+    const seen = new Contrasts();
+    for (const element of all("body *")) {
+      if (!element.checkVisibility({ visibilityProperty: true })) continue;
+      if (!element.closest("option, [aria-disabled=true]")) seen.addTexts(element);
+    }
+    const fill = (element) => style(element).backgroundColor;
+    seen.addMarks(".line.stop .gutter", (at) => style(at, "::before").backgroundColor, true);
+    seen.addMarks(".line.pc", (line) => style(line).borderLeftColor);
+    seen.addMarks("#mix span", fill);
+    seen.addMarks("#counts .bar", fill);
+    seen.addMarks("input, select, textarea", (field) => style(field).borderTopColor);
+    seen.addMarks(":focus-visible", (at) => style(at).outlineColor);
+    seen.addCounts();
+    return Object.fromEntries(seen.found);
+  }
+
+  /* ---- marks */
+
+  function marks() {
+    const of = (selector, pseudo) => style(document.querySelector(selector), pseudo);
+    const differs = (one, other) => of(one).backgroundColor !== of(other).backgroundColor;
+    const dot = of(".line.stop .gutter", "::before");
+    return {
+      dot: [dot.opacity, dot.borderRadius, parseFloat(dot.width) >= 8,
+        parseFloat(dot.height) >= 8],
+      noDot: of(".line:not(.stop) .gutter", "::before").opacity,
+      pc: differs(".line.pc", ".line:not(.pc)"),
+      edge: of(".line.pc").borderLeftWidth,
+      selected: of(".line.selected").boxShadow.includes("inset"),
+      last: differs(".register.last", ".register:not(.last)"),
+      bold: of(".register.last .value").fontWeight,
+      changed: differs("#memory .changed", "#memory .zero"),
+      target: of("#memory .target").boxShadow.includes("inset"),
+      output: [of("#output").whiteSpace, of("#output").overflowWrap],
+      letters: of("#memory .letters").whiteSpace,
+      code: ["#output", ".line", ".register", "#memory", "#text"].every((selector) =>
+        of(selector).fontFamily.includes("monospace")),
+      disabled: of("[data-action=pause]").opacity < 0.6,
+      sticky: of(".controls").position,
+    };
+  }
+
+  /* How a stored word is marked: its weight, and whether its ground is another than others'. */
+  function storedMark() {
+    const [stored, zero, changed] = ["stored", "zero", "changed"].map((name) =>
+      style(document.querySelector(`#memory .${name}`)));
+    return [stored.fontWeight, stored.backgroundColor !== zero.backgroundColor,
+      stored.backgroundColor !== changed.backgroundColor];
+  }
+
+  /* ---- boxes */
+
+  const TEXTS = ".register .value, .register .name, .register .number, #memory th, #memory td,"
+    + " .line .address, .line .word, .line .instruction, .line .count, .head h2, button span,"
+    + " #heading";
+  const AROUND = ".text, td, th, .register, button, .head, .line, .state";
+
+  /* The texts that are cut off, and those outside the page, where nothing scrolls to them. */
+  function cutTexts() {
+    return all(TEXTS).filter((element) => {
+      const text = document.createRange();
+      text.selectNodeContents(element);
+      const inner = box(text);
+      const outer = box(element.closest(AROUND));
+      const isCut = inner.width > 0
+        && (inner.right > outer.right + 1 || inner.left < outer.left - 1);
+      const { left, right, width } = box(element);
+      const isOutside = width > 0 && (left < 0 || right > innerWidth);
+      return isCut || (isOutside && !element.closest(".scroll"));
+    }).map((element) => `${element.className || element.tagName}: ${element.textContent}`);
+  }
+
+  /* The controls outside the page, and those that are too small for a finger. */
+  function badControls() {
+    return all("button, select, input:not([hidden])").filter((element) => {
+      const { left, right, width, height } = box(element);
+      const isSmall = !element.matches("[type=checkbox]") && (width < 24 || height < 24);
+      return element.checkVisibility() && (left < 0 || right > innerWidth || isSmall);
+    }).map((element) => element.id || element.textContent);
+  }
+
+  /* The panels that lie over each other. */
+  function overlaps() {
+    const panels = all("header, .controls, main > section, footer");
+    const areOver = (one, other) => one.left < other.right - 1 && other.left < one.right - 1
+      && one.top < other.bottom - 1 && other.top < one.bottom - 1;
+    return panels.flatMap((one, at) => panels.slice(at + 1)
+      .filter((other) => areOver(box(one), box(other)))
+      .map((other) => `${one.className} ${other.className}`));
+  }
+
+  function boxes() {
+    const isWide = document.documentElement.scrollWidth > innerWidth;
+    return { cut: cutTexts(), controls: badControls(), overlaps: overlaps(), isWide };
+  }
+
+  return { boxes, contrasts, marks, storedMark };
+})()

@@ -1,0 +1,158 @@
+"""The page, as those who use the machine see it."""
+
+import json
+import pathlib
+
+from trials.report import same
+
+WEB = pathlib.Path(__file__).resolve().parent.parent
+EXPECTED = WEB / "trials" / "expected"
+SIZE = (1360, 900)
+
+NOTHING = "Nothing was changed by it."
+
+
+class Subject:
+    """What is tried: the page as it was built, the folder of its scripts, and the module in it."""
+
+    page = WEB / "out" / "rrs.html"
+    scripts = WEB
+    module = WEB / "out" / "rrs_c.wasm"
+
+
+class Machine:
+    """A page that is open, and what is done with it by keys, clicks and typed text."""
+
+    def __init__(self, page):
+        self.page = page
+
+    def choose(self, example):
+        """Chooses a program of the menu, and leaves the menu."""
+        if self.page.ask("document.querySelector('#examples').value") == example:
+            self.keys("x")
+            self.page.ask("rrs.openExample(document.querySelector('#examples').value)")
+        self.page.choose("#examples", example)
+        self.leave_fields()
+
+    def clean(self):
+        """Has everything that a person can set as it is when the page opens, but the program."""
+        self.page.ask(CLEAN)
+
+    def leave_fields(self):
+        self.page.ask("document.activeElement.blur()")
+
+    def keys(self, keys):
+        for key in keys:
+            self.page.press(key)
+
+    def run(self, key="r", seconds=60):
+        self.page.press(key)
+        self.page.wait("!rrs.session.isRunning", seconds)
+
+    def says(self, heading, sentence=None):
+        same("the heading", heading, self.page.text("#heading"))
+        if sentence is not None:
+            same("the sentence", sentence, self.page.text("#sentence"))
+
+    def steps(self):
+        return int(self.page.text("#steps").split()[0].replace(",", ""))
+
+    def registers(self):
+        """The pc and x1 to x31, as the page has them in hexadecimal."""
+        return self.page.ask("[...document.querySelectorAll('.register .value')]"
+                             ".map((value) => value.textContent)")
+
+    def register(self, name):
+        return self.page.text(f"#{name} .value")
+
+    def marked(self):
+        """The registers that are marked as the last written."""
+        return self.page.ask(
+            "[...document.querySelectorAll('.register.last')].map((cell) => cell.id)")
+
+    def line(self, index):
+        """The texts of a line of the program: address, word, instruction, how often executed."""
+        return self.page.ask(
+            f"['.address', '.word', '.instruction', '.count'].map((part) =>"
+            f" document.querySelector('#line-{index} ' + part).textContent)")
+
+    def rows(self, table):
+        return self.page.ask(f"[...document.querySelectorAll('#{table} tbody tr')].map((row) =>"
+                             " [...row.children].map((cell) => cell.textContent))")
+
+    def give(self, path):
+        """Gives a file to the page, and waits until the page has done with it: it was told of the
+        file, and has emptied the field."""
+        self.page.ask("globalThis.given = false; document.querySelector('#file')"
+                      ".addEventListener('change', () => { given = true; }, { once: true }); null")
+        self.page.give_file("#file", path)
+        self.page.wait("given && document.querySelector('#file').files.length === 0")
+
+    def edit(self, text, base=None):
+        """Types a program into the editor, and loads it."""
+        self.page.press("e")
+        self.page.replace("#text", text)
+        if base is not None:
+            self.page.replace("#base", base)
+        self.page.click("#take")
+
+    def escape(self):
+        """Leaves a dialog by its key."""
+        self.page.press("Escape")
+        self.wait_closed()
+
+    def wait_closed(self):
+        """Waits until no dialog is open. The focus leaves it when the page is drawn next."""
+        self.page.wait("document.querySelector('dialog[open]') === null"
+                       " && !document.activeElement.closest('dialog')", 5)
+
+    def take_memory_of_exec(self):
+        """Takes 1 MiB of memory with sp at its end, as rrs exec has it."""
+        self.page.press("e")
+        self.page.choose("#size", "1048576")
+        if not self.page.ask("document.querySelector('#stack').checked"):
+            self.page.click("#stack")
+        self.page.click("#take")
+
+    def is_first_state(self):
+        return self.page.ask(FIRST_STATE)
+
+
+CLEAN = """(() => {
+    rrs.session.stop();
+    for (const dialog of document.querySelectorAll("dialog[open]")) dialog.close();
+    document.activeElement.blur();
+    document.documentElement.removeAttribute("data-theme");
+    document.getElementById("keys-on").checked = true;
+    for (const name of ["input", "address"]) document.getElementById(name).value = "";
+    rrs.markAddress(true);
+    rrs.setSpeed(SPEEDS.length - 1);
+    rrs.setRadix("hex");
+    rrs.setUnit(4);
+    rrs.memory.around = "sp";
+    rrs.memory.open();
+    rrs.render();
+    scrollTo(0, 0);
+})()"""
+
+FIRST_STATE = """(() => {
+    const { kit, program, history, executed, kinds, terminal, hasStack } = rrs.session.machine;
+    const sp = hasStack ? kit.base + kit.size : 0;
+    return kit.x.every((value, number) => value === (number === 2 ? sp : 0))
+        && kit.pc === kit.base && kit.last === 0
+        && kit.words.every((word, at) => word === (program[at] ?? 0)) && history.length === 0
+        && executed.every((count) => count === 0) && kinds.every((count) => count === 0)
+        && terminal.printed === 0 && terminal.held === 0 && terminal.taken === 0
+        && terminal.port === 0;
+})()"""
+
+
+def opened(browser, address):
+    """A page that was opened anew, and has started."""
+    page = browser.open(address, *SIZE)
+    page.wait("document.documentElement.dataset.ready")
+    return Machine(page)
+
+
+def js(value):
+    return json.dumps(value)
