@@ -226,7 +226,8 @@ WANTED_MARKS = {
 }
 
 ALL_IN_PLACE = {"cut": [], "controls": [], "overlaps": [], "isWide": False}
-WIDTHS = ((1360, 900), (1080, 800), (900, 900), (768, 1024), (560, 900), (360, 740))
+WIDTHS = ((1360, 900), (1080, 800), (900, 900), (768, 1024), (560, 900), (430, 900),
+          (360, 740))
 
 
 def show_fibonacci(machine):
@@ -240,7 +241,7 @@ def show_fibonacci(machine):
 
 
 def boxes(machine):
-    """marks are seen, and nothing is cut off, covered, or wider than the page, at six widths"""
+    """marks are seen, and nothing is cut off, covered, or wider than the page, at seven widths"""
     page = machine.page
     show_fibonacci(machine)
     for width, height in WIDTHS:

@@ -1,6 +1,7 @@
 """Programs that are opened: files, the editor, links, and what is refused."""
 
 import base64
+import os
 import pathlib
 import tempfile
 import time
@@ -76,7 +77,11 @@ def files_that_cannot_be_read(machine):
         machine.page.ask("document.body.append(Object.assign("
                          "document.createElement('input'), { type: 'file', id: 'other' }))")
         machine.page.give_file("#other", changed)
+        # the browser keeps what the file was like when it is asked for the first time
+        same("the size of the file", 4, machine.page.ask(
+            "document.querySelector('#other').files[0].size"))
         changed.write_bytes(b"\x13\0\0\0" * 2)
+        os.utime(changed, (0, 0))
         machine.page.ask("rrs.openFiles(document.querySelector('#other').files)")
         machine.says("Not opened", f"changed.bin {UNREADABLE}")
         machine.page.ask("document.querySelector('#other').remove()")

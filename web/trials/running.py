@@ -42,6 +42,23 @@ def three_words(machine):
     same("whether it is the first state", True, machine.is_first_state())
 
 
+# the registers' names in calls, by the psABI
+NAMES = ("ra sp gp tp t0 t1 t2 s0 s1 a0 a1 a2 a3 a4 a5 a6 a7 s2 s3 s4 s5 s6 s7 s8 s9 s10 s11 t3 t4"
+         " t5 t6").split()
+
+
+def registers(machine):
+    """each register by its number and its name, with its own value"""
+    machine.choose("three")
+    # addi xN, x0, N
+    machine.edit(" ".join(f"{programs.i_type(0x13, 0, n, 0, n):x}" for n in range(1, 32)))
+    machine.run()
+    cells = machine.page.ask("[...document.querySelectorAll('.register')].map((register) =>"
+                             " [...register.children].map((cell) => cell.textContent))")
+    same("the registers", [["pc", "", "0x0000007c"]] + [
+        [f"x{n}", NAMES[n - 1], f"0x{n:08x}"] for n in range(1, 32)], cells)
+
+
 def radixes_and_counts(machine):
     """registers in each radix, the counts, the mix and the log"""
     machine.choose("three")
@@ -464,7 +481,7 @@ def addresses(machine):
 
 
 TRIALS = [
-    three_words, radixes_and_counts, console, end_of_input, stops, clicks_on_lines, memory,
-    addresses, long_listing, long_output, pace, pace_of_writes, c_programs, calls_as_proved,
+    three_words, registers, radixes_and_counts, console, end_of_input, stops, clicks_on_lines,
+    memory, addresses, long_listing, long_output, pace, pace_of_writes, c_programs, calls_as_proved,
     million_steps, more_than_is_kept,
 ]
