@@ -103,7 +103,8 @@ has_names() {
     # members, their empty lines, and local labels
     awk 'NF > 1 { print $(NF - 1), $NF }' "$room/nm" | sort -u >"$room/names" || return 1
     sed -n 's/^T //p' "$room/names" >"$room/exported"
-    "$here/layouts.py" functions "$header" | diff - "$room/exported" || return 1
+    "$here/layouts.py" functions "$header" | sed 's/^[^ ]* //; s/(.*//' | sort |
+        diff - "$room/exported" || return 1
     sed -n 's/^[Uwv] //p' "$room/names" | sort -u >"$room/asked"
     ! printf '%s\n' memcpy memmove memset | comm -13 - "$room/asked" | grep . || return 1
     ! grep '^[^TtrRUwva] ' "$room/names"
@@ -133,6 +134,10 @@ header_asserts() {
     done
 }
 
+declares() {
+    "$here/layouts.py" functions "$header" | diff "$here/functions" -
+}
+
 asserts_all() {
     "$here/layouts.py" assertions "$header" <"$layouts"
 }
@@ -140,6 +145,7 @@ asserts_all() {
 header_is_right() {
     try "rrs.h has the stored layouts and constants, in C" header_has "gcc -std=c99 -x c"
     try "rrs.h has the stored layouts and constants, in C++" header_has "g++ -std=c++11 -x c++"
+    try "rrs.h declares the stored functions" declares
     try "rrs.h asserts each layout" asserts_all
     try "rrs.h is C99 to C++20, and refuses another layout" header_asserts
 }
@@ -263,7 +269,7 @@ all() {
     try "python: three_words prints what is stored" python_prints
     try "python: replay answers as is stored" answers python replay.py
     try "python: the structs and constants are those of rrs.h" python_has_layouts
-    finish 41
+    finish 42
 }
 
 # What is small, with something wrong in it: nothing, answers, lines, layouts, assertions, names,

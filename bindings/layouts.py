@@ -4,10 +4,10 @@
 usage: layouts.py program HEADER      prints a program in C, which prints the list
        layouts.py assertions HEADER   compares the assertions of the header with the list, which is
                                       on standard input
-       layouts.py functions HEADER    prints the names of the functions
+       layouts.py functions HEADER    prints the functions, as they are declared
 
-The list has a line `STRUCT SIZE` for each struct, `STRUCT.FIELD OFFSET SIZE` for each field, and
-`NAME VALUE` for each constant. The status is 1 where the assertions are others.
+The list has a line `STRUCT SIZE` for each struct, `STRUCT.FIELD OFFSET SIZE` for each field, with
+`signed` behind it where its values may be negative, and `NAME VALUE` for each constant. The status is 1 where the assertions are others.
 """
 import re
 import subprocess
@@ -20,10 +20,11 @@ def preprocessed(header, *flags):
 
 
 def structs(header):
-    """Each struct with the names of its fields."""
+    """Each struct with the names of its fields, and whether each is a number."""
     text = preprocessed(header, "-P")
     for body, name in re.findall(r"typedef struct \w+ \{([^}]*)\} (rrs_\w+);", text):
-        yield name, re.findall(r"(\w+)(?:\[\d+\])?;", body)
+        fields = re.findall(r"(\w+) (\w+)(\[\d+\])?;", body)
+        yield name, [(field, kind.endswith("_t") and not count) for kind, field, count in fields]
 
 
 def constants(header):
@@ -35,13 +36,18 @@ def constants(header):
 
 
 def print_program(header):
-    print('#include <stdio.h>\n#include "rrs.h"\nint main(void) {')
+    print('#include <stdio.h>\n#include <string.h>\n#include "rrs.h"\nint main(void) {')
     for struct, fields in structs(header):
+        print(f'    {struct} {struct[4:]};')
+    for struct, fields in structs(header):
+        value = struct[4:]
+        print(f"    memset(&{value}, 255, sizeof {value});")
         print(f'    printf("{struct} %u\\n", (unsigned)sizeof({struct}));')
-        for field in fields:
-            size = f"(unsigned)sizeof((({struct} *)0)->{field})"
+        for field, is_number in fields:
+            size = f"(unsigned)sizeof {value}.{field}"
             offset = f"(unsigned)offsetof({struct}, {field})"
-            print(f'    printf("{struct}.{field} %u %u\\n", {offset}, {size});')
+            sign = f'(double){value}.{field} < 0 ? " signed" : ""' if is_number else '""'
+            print(f'    printf("{struct}.{field} %u %u%s\\n", {offset}, {size}, {sign});')
     for name in constants(header):
         print(f'    printf("{name} %u\\n", (unsigned)({name}));')
     print("    return 0;\n}")
@@ -73,8 +79,8 @@ def main():
     if what == "program":
         print_program(header)
     elif what == "functions":
-        text = preprocessed(header, "-P")
-        print("\n".join(sorted(re.findall(r"^\w+ (rrs_\w+)\(", text, re.M))))
+        text = " ".join(preprocessed(header, "-P").split())
+        print("\n".join(re.findall(r"(?<=[;}] )(\w+ rrs_\w+\([^()]*\));", text)))
     else:
         sys.exit(check_assertions(header, sys.stdin.read().splitlines()))
 

@@ -10,6 +10,7 @@
 #define UART 0x10000000u
 #define RAM 0x80000000u
 #define RAM_SIZE 256u
+#define WORD 124 /* the offset of a word of RAM that the program stores to */
 
 /* As a 16550 has them: the data at offset 0, and the line status at 5. */
 enum { DATA = 0, STATUS = 5, RECEIVED = 0x01, READY = 0x20 };
@@ -116,11 +117,17 @@ static void make_program(uint8_t *ram, const char *text) {
     words[i++] = load(4, 12, 10, DATA);        /* lbu   x12, DATA(x10): takes the byte away */
     i += put_send(words + i);
     words[i++] = jal(0, -4 * 8);               /* j     receive */
-    words[i++] = 0x00100073;                   /* done: ebreak */
+    words[i++] = u_type(0x37, 14, RAM);        /* done: lui x14, RAM */
+    words[i++] = u_type(0x37, 15, 0x12345000); /* lui   x15, 0x12345000 */
+    words[i++] = addi(15, 15, 0x678);          /* addi  x15, x15, 0x678 */
+    words[i++] = s_type(1, 14, 15, WORD);      /* sh    x15, WORD(x14) */
+    words[i++] = load(2, 16, 14, WORD);        /* lw    x16, WORD(x14) */
+    words[i++] = 0x00100073;                   /* ebreak */
     for (k = 0; k < i; k++) {
         unsigned b;
         for (b = 0; b < 4; b++) ram[4 * k + b] = (uint8_t)(words[k] >> 8 * b);
     }
+    memset(ram + WORD, 255, 4);
     memcpy(ram + 128, text, strlen(text) + 1);
 }
 
@@ -135,7 +142,7 @@ int main(void) {
         fault = step(&machine);
         steps++;
     } while (fault.kind == RRS_OK && steps < 100000);
-    printf("steps %u, fault kind %u at 0x%08x, bytes refused %u\n", steps - 1, fault.kind,
-           fault.address, machine.uart.refused);
+    printf("steps %u, fault kind %u at 0x%08x, bytes refused %u, x16 = 0x%08x\n", steps - 1,
+           fault.kind, fault.address, machine.uart.refused, machine.hart.x[16]);
     return fault.kind != RRS_EBREAK || machine.uart.refused != 0;
 }

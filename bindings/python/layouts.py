@@ -15,9 +15,10 @@ STRUCTS = {
 
 for name, struct in STRUCTS.items():
     print(name, rrs.ctypes.sizeof(struct))
-    for field, *_ in struct._fields_:
+    for field, kind in struct._fields_:
         place = getattr(struct, field)
-        print(f"{name}.{field} {place.offset} {place.size}")
+        sign = " signed" if kind is rrs.ctypes.c_int32 else ""
+        print(f"{name}.{field} {place.offset} {place.size}{sign}")
 print("RRS_OK 0")
 for kind in rrs.FaultKind:
     print(f"RRS_{kind.name} {kind.value}")

@@ -28,7 +28,9 @@ class Faces(unittest.TestCase):
         self.assertEqual([repr(value) for value in shown], [*shown.values()])
 
     def test_registers_are_a_sequence(self):
-        registers = Machine([0]).registers
+        machine = Machine([0])
+        machine._hart.x[0] = 5  # which no register is
+        registers = machine.registers
         registers[0], registers[1], registers[-1] = 7, -1, 2**31
         self.assertEqual((len(registers), registers[0], registers[-32]), (32, 0, 0))
         self.assertEqual((registers[1], registers[31]), (2**32 - 1, 2**31))

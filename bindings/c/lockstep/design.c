@@ -115,7 +115,8 @@ static int stored(struct design *design, rrs_retired *retired, uint32_t word) {
     uint32_t value = design->x[word >> 20 & 31], i;
     uint8_t *bytes = place(design, address, width);
     if (bytes == NULL) return 0;
-    for (i = 0; i < width; i++) bytes[i] = (uint8_t)(value >> 8 * i);
+    if (design->planted != PLANTED_LOST_STORE || bytes < design->bytes + design->size - 4)
+        for (i = 0; i < width; i++) bytes[i] = (uint8_t)(value >> 8 * i);
     retired->mem_addr = address;
     retired->mem_wmask = ((uint32_t)1 << width) - 1;
     if (width == 2 && design->planted == PLANTED_STORE_MASK) retired->mem_wmask = 7;

@@ -14,7 +14,8 @@ enum planted {
     PLANTED_MULHSU_SIGNED, /* mulhsu takes both numbers as signed. */
     PLANTED_STORE_MASK,    /* The mask of sh has a bit more. */
     PLANTED_JALR_ODD,      /* jalr leaves bit 0 of its target. */
-    PLANTED_REM_LEAST      /* rem of the least number by -1 is the least number. */
+    PLANTED_REM_LEAST,     /* rem of the least number by -1 is the least number. */
+    PLANTED_LOST_STORE     /* A store to the last word of memory is told, and not made. */
 };
 
 struct design {

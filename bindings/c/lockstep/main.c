@@ -175,7 +175,8 @@ int main(void) {
                 check("mulhsu takes both as signed", PLANTED_MULHSU_SIGNED) +
                 check("the mask of sh is off by a byte", PLANTED_STORE_MASK) +
                 check("jalr leaves bit 0", PLANTED_JALR_ODD) +
-                check("rem of the least number by -1 is that number", PLANTED_REM_LEAST);
-    printf("%d of 5 planted faults found\n", found);
-    return wrong || found != 5;
+                check("rem of the least number by -1 is that number", PLANTED_REM_LEAST) +
+                check("a store to the last word is lost", PLANTED_LOST_STORE);
+    printf("%d of 6 planted faults found\n", found);
+    return wrong || found != 6;
 }

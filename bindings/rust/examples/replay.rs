@@ -179,13 +179,16 @@ fn answer_memory(name: &str, line: &mut Line) -> String {
         return answers.join(";") + &told_state(&hart, &words);
     }
     let number: u64 = if name == "step" { 0 } else { decimal(line.word()) };
-    let stops: Vec<u32> = match name {
+    let mut stops: Vec<u32> = match name {
         "until" => entries(line.word()).map(hex).collect(),
         _ => Vec::new(),
     };
     let (base, part) = line.place();
     let (mut hart, mut words) = line.state();
     let mut memory = Memory::new(&mut words[part], base);
+    // behind the stops stand others, which are not lent
+    let listed = stops.len();
+    stops.extend((0..64).map(|place| base.wrapping_add(4 * place)));
     let answer = match name {
         "step" => told(hart.step(&mut memory)),
         "rvfi" => {
@@ -193,7 +196,7 @@ fn answer_memory(name: &str, line: &mut Line) -> String {
             told(answer) + &told_record(&record)
         }
         "run" => told_end(hart.run(&mut memory, number)),
-        "until" => told_end(hart.run_until(&mut memory, number, &stops)),
+        "until" => told_end(hart.run_until(&mut memory, number, &stops[..listed])),
         _ => panic!("no question: {name}"),
     };
     answer + &told_state(&hart, &words)

@@ -2,15 +2,17 @@
 //! `bindings/layouts.py` makes of `rrs.h`, which stands beside this crate.
 
 use rrs::{Hart, Instruction, VERSION};
+use std::any::type_name;
 use std::mem::{offset_of, size_of};
 
 #[allow(dead_code)]
 #[path = "../src/sys.rs"]
 mod sys;
 
-/// How many bytes a field takes.
-fn size_of_field<T, F>(_field: impl Fn(T) -> F) -> usize {
-    size_of::<F>()
+/// How many bytes a field takes, and whether its values may be negative.
+fn size_of_field<T, F>(_field: impl Fn(T) -> F) -> String {
+    let is_signed = type_name::<F>().starts_with('i');
+    format!("{}{}", size_of::<F>(), if is_signed { " signed" } else { "" })
 }
 
 /// The lines of a struct.
