@@ -4,3 +4,5 @@ pub mod MachineStepping
 pub mod Straying
 pub mod MachineRuns
 pub mod MachineLaws
+pub mod Returning
+pub mod KitRuns

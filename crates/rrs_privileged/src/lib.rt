@@ -10,6 +10,7 @@
 
 pub mod csrs;
 pub mod instructions;
+pub mod laws;
 pub mod machine;
 pub mod runs;
 pub mod traps;

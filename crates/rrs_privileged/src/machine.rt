@@ -39,7 +39,7 @@ pub enum MachineAnswer {
 }
 
 /// Takes a trap: with a cause, a value for `mtval`, to a place.
-fn trap(hart: &mut HartState, csrs: &mut CsrFile, cause: u32, value: u32, target: u32)
+pub(crate) fn trap(hart: &mut HartState, csrs: &mut CsrFile, cause: u32, value: u32, target: u32)
     ensures trapped { (bytes : ByteMap) (writable : ℕ → Bool)
         → machine_of hart.new csrs.new bytes writable
         ≡ trapped cause value target (machine_of hart.old csrs.old bytes writable) }
@@ -91,7 +91,7 @@ fn pass(hart: &mut HartState, csrs: &mut CsrFile)
 }
 
 /// Goes back from a trap.
-fn return_from_trap(hart: &mut HartState, csrs: &mut CsrFile, inputs: &Inputs)
+pub(crate) fn return_from_trap(hart: &mut HartState, csrs: &mut CsrFile, inputs: &Inputs)
     ensures returned { (bytes : ByteMap) (writable : ℕ → Bool)
         → machine_of hart.new csrs.new bytes writable
         ≡ returned inputs.now (machine_of hart.old csrs.old bytes writable) }
