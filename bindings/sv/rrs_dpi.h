@@ -1,0 +1,21 @@
+/* An instance of the kit behind SystemVerilog's DPI: what its chandle points to. */
+#ifndef RRS_DPI_H
+#define RRS_DPI_H
+
+#include <stddef.h>
+#include <stdint.h>
+
+#include "rrs.h"
+
+struct rrs_dpi {
+    rrs_hart hart;
+    uint32_t base;   /* the address of the first word */
+    uint32_t count;  /* how many words */
+    uint32_t *words;
+    char text[RRS_TEXT_SIZE]; /* what rrs_dpi_text gave */
+};
+
+/* The word of memory at an address, or NULL where there is none. */
+uint32_t *rrs_dpi_place(struct rrs_dpi *model, uint32_t address);
+
+#endif
