@@ -69,6 +69,13 @@ class History {
     this.steps++;
   }
 
+  /** What else the latest step changed, an object that is kept with it. */
+  extraOfLatest() {
+    const step = this.steps - 1;
+    if (!this.extras.has(step)) this.extras.set(step, {});
+    return this.extras.get(step);
+  }
+
   startBlock() {
     const index = this.steps / BLOCK_STEPS % BLOCKS;
     this.blocks[index] ??= new Uint32Array(BLOCK_STEPS * RECORD_WORDS);

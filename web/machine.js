@@ -5,8 +5,7 @@
 
 const REGISTER = { SP: 2, A0: 10, A1: 11, A2: 12, A7: 17 };
 
-/* The system calls that are served, by Linux's numbers, and their errors. */
-const CALL = { READ: 63, WRITE: 64, EXIT: 93 };
+/* The errors of Linux's calls. */
 const NO_SUCH_FILE = -9;
 const BAD_ADDRESS = -14;
 
@@ -35,6 +34,7 @@ class Machine {
     this.kit = kit;
     this.terminal = new Terminal();
     this.history = new History();
+    this.environment = ENVIRONMENTS.linux;
     this.load(new Uint32Array(0), 0, PAGE_BYTES, false);
   }
 
@@ -63,6 +63,8 @@ class Machine {
     this.kinds = new Float64Array(KINDS);
     this.wordOfKind = new Uint32Array(KINDS);
     this.transferred = 0;
+    // where more memory begins that a program asks for
+    this.heap = kit.base + 4 * this.program.length;
     this.terminal.reset();
     this.history.clear();
   }
@@ -176,23 +178,37 @@ class Machine {
     return null;
   }
 
-  /* A system call by the numbers of Linux. */
+  /* A call of the environment. */
   serveCall(fault, lastBefore) {
-    const { kit, terminal } = this;
-    const number = kit.x[REGISTER.A7];
-    if (number === CALL.EXIT) return { reason: "exit", status: kit.x[REGISTER.A0] & 0xff };
-    if (number !== CALL.READ && number !== CALL.WRITE) return { reason: "fault", ...fault };
-    const extra = { mark: terminal.mark(), words: [] };
-    const answer = number === CALL.READ ? this.readCall(extra) : this.writeCall();
+    const { kit, terminal, environment, heap } = this;
+    const call = environment.calls[kit.x[environment.number]];
+    if (call === undefined) return { reason: "fault", ...fault };
+    const extra = { mark: terminal.mark(), heap, name: call.name, words: [] };
+    const answer = call.serve(this, extra);
     if (answer === null) return { reason: "waiting" };
+    if (typeof answer === "object") return answer;
     const { pc } = kit;
     const word = this.wordAtPc();
-    kit.x[REGISTER.A0] = answer;
+    const rd = answer === undefined ? 0 : REGISTER.A0;
+    if (rd !== 0) kit.x[rd] = answer;
     kit.pc = pc + 4;
-    kit.last = REGISTER.A0;
-    const flags = packFlags(REGISTER.A0, lastBefore, 0, 0, MADE_BY.CALL);
-    this.keep(pc, word, flags, REGISTER.A0, 0, 0, number, extra);
+    kit.last = rd;
+    const flags = packFlags(rd, lastBefore, 0, 0, MADE_BY.CALL);
+    this.keep(pc, word, flags, rd, 0, 0, 0, extra);
     return null;
+  }
+
+  /** Prints bytes for a call. */
+  print(bytes) {
+    this.terminal.print(bytes);
+    this.transferred += bytes.length;
+  }
+
+  /** The bytes of memory from an address on, none where it is outside. */
+  bytesFrom(address) {
+    const { bytes, base, size } = this.kit;
+    const offset = address - base;
+    return offset < 0 ? bytes.subarray(size) : bytes.subarray(offset);
   }
 
   /* How many of `length` bytes from an address on the memory has, up to the first that it lacks. */
@@ -203,7 +219,7 @@ class Machine {
 
   /* write(a0, a1, a2): prints the bytes, and answers how many they are. */
   writeCall() {
-    const { kit, terminal } = this;
+    const { kit } = this;
     const file = kit.x[REGISTER.A0];
     if (file !== 1 && file !== 2) return NO_SUCH_FILE;
     const address = kit.x[REGISTER.A1];
@@ -212,8 +228,7 @@ class Machine {
     const count = this.countMapped(address, most);
     if (count === 0) return BAD_ADDRESS;
     const offset = address - kit.base;
-    terminal.print(kit.bytes.subarray(offset, offset + count));
-    this.transferred += count;
+    this.print(kit.bytes.subarray(offset, offset + count));
     return count;
   }
 
@@ -248,12 +263,52 @@ class Machine {
     extra.stored = { address, length: given.length };
   }
 
+  /* ---- changes by hand */
+
+  /** Changes one of the registers x1 to x31. */
+  setRegister(register, value) {
+    const { kit } = this;
+    this.keepChange({ register, before: kit.x[register] });
+    kit.x[register] = this.xBefore[register] = value;
+  }
+
+  setPc(value) {
+    this.keepChange({ before: this.kit.pc });
+    this.kit.pc = value;
+  }
+
+  /** Changes a byte, or the word at a multiple of 4, of memory. */
+  setMemory(address, value, bytes) {
+    const { kit } = this;
+    const index = this.indexOf(address);
+    this.keepChange({ index, before: kit.words[index] });
+    if (bytes === 1) kit.bytes[address - kit.base] = value;
+    else kit.words[index] = value;
+    this.wordsBefore[index] = kit.words[index];
+  }
+
+  /* Keeps what a change took away with the latest step, if there is one: who takes this step back
+   * takes back the change too. */
+  keepChange(change) {
+    if (this.history.length === 0) return;
+    const extra = this.history.extraOfLatest();
+    extra.changes ??= [];
+    extra.changes.push(change);
+  }
+
+  takeBack({ register, index, before }) {
+    if (register !== undefined) this.kit.x[register] = this.xBefore[register] = before;
+    else if (index !== undefined) this.putBack(index, before);
+    else this.kit.pc = before;
+  }
+
   /** Takes the latest step back by its record. Returns whether one was kept. */
   stepBack() {
     const { kit, history } = this;
     if (history.length === 0) return false;
     history.pop();
     const { block, at, extra } = history;
+    for (const change of extra?.changes?.reverse() ?? []) this.takeBack(change);
     const pc = block[at + RECORD.pc];
     const flags = block[at + RECORD.flags];
     kit.pc = pc;
@@ -270,8 +325,9 @@ class Machine {
   }
 
   /* Takes back what a system call or the port did beside the registers. */
-  restore({ mark, words }) {
+  restore({ mark, heap, words }) {
     this.terminal.restore(mark);
+    this.heap = heap ?? this.heap;
     for (const [index, word] of words ?? []) this.putBack(index, word);
   }
 

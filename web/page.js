@@ -21,8 +21,8 @@ class Page {
     this.registers = new RegistersView(session);
     this.memory = new MemoryView(session);
     this.views = [
-      this.listing, this.registers, this.memory, new ConsoleView(session), new LogView(session),
-      new CountsView(session),
+      this.listing, this.registers, this.memory, new ConsoleView(session), new FramesView(session),
+      new LogView(session), new CountsView(session),
     ];
     this.handlers = this.makeHandlers();
     this.fillMenus();
@@ -45,11 +45,14 @@ class Page {
       slower: () => this.setSpeed(session.speed - 1),
       faster: () => this.setSpeed(session.speed + 1),
       radix: () => this.nextRadix(),
+      names: () => this.setNames(session.names === NAMES.abi ? "number" : "abi"),
+      change: () => this.openChange("", ""),
       unit: () => this.setUnit(this.memory.unit === 4 ? 1 : 4),
       around: () => $("around").focus(),
       address: () => $("address").focus(),
       memoryUp: () => this.pageMemory(-8),
       memoryDown: () => this.pageMemory(8),
+      calls: () => $("calls").focus(),
       console: () => $("input").focus(),
       endInput: () => session.endInput(),
       examples: () => $("examples").focus(),
@@ -72,6 +75,9 @@ class Page {
       new Option(speed === Infinity ? "full" : `${speed.toLocaleString("en")}/s`, at)));
     $("speed").value = this.session.speed;
     $("size").append(...SIZES.map((size) => new Option(`${size / 1024} KiB`, size)));
+    for (const [id, { name }] of Object.entries(ENVIRONMENTS)) {
+      $("calls").append(new Option(`calls of ${name}`, id));
+    }
     this.fillExamples();
     for (const button of document.querySelectorAll("[data-action]")) {
       const { label, key } = ACTIONS[button.dataset.action];
@@ -113,6 +119,12 @@ class Page {
     this.registers.render();
   }
 
+  setNames(choice) {
+    this.session.names = NAMES[choice];
+    $("names").value = choice;
+    this.render();
+  }
+
   setUnit(unit) {
     this.memory.unit = unit;
     $("unit").value = unit;
@@ -132,6 +144,8 @@ class Page {
     $("examples").addEventListener("change", (event) => this.openExample(event.target.value));
     $("speed").addEventListener("change", (event) => this.setSpeed(Number(event.target.value)));
     $("radix").addEventListener("change", (event) => this.setRadix(event.target.value));
+    $("calls").addEventListener("change", ({ target }) => this.session.setCalls(target.value));
+    $("names").addEventListener("change", (event) => this.setNames(event.target.value));
     $("unit").addEventListener("change", (event) => this.setUnit(Number(event.target.value)));
     $("around").addEventListener("change", (event) => this.showAround(event.target.value));
     $("address").addEventListener("change", () => this.showAddress());
@@ -142,6 +156,12 @@ class Page {
       this.take();
     });
     $("copy").addEventListener("click", () => this.copyLink());
+    $("changing").addEventListener("submit", (event) => {
+      event.preventDefault();
+      this.change();
+    });
+    this.registers.onChoose = (place, value) => this.openChange(place, value);
+    this.memory.onChoose = (place, value) => this.openChange(place, value);
     $("text").addEventListener("keydown", (event) => {
       if (event.key === "Enter" && (event.ctrlKey || event.metaKey)) this.take();
     });
@@ -235,6 +255,25 @@ class Page {
     this.memory.page(rows);
   }
 
+  /* ---- changes by hand */
+
+  /* Asks for another value of a register or of memory. A program that runs is paused. */
+  openChange(place, value) {
+    this.session.pause();
+    const register = registerNamed(place);
+    $("place").value = register === undefined ? place : this.session.names[register];
+    $("value").value = value;
+    setText($("change-mistake"), "");
+    $("change").showModal();
+    $(place ? "value" : "place").select();
+  }
+
+  change() {
+    const mistake = this.session.change($("place").value, $("value").value, this.memory.unit);
+    setText($("change-mistake"), mistake);
+    if (!mistake) $("change").close();
+  }
+
   /* ---- programs */
 
   /** Opens a program. Returns "", or why it can't be opened; then what was open stays. */
@@ -277,7 +316,9 @@ class Page {
     if (bytes === null) {
       this.refuse(`${file.name} ${mistake || UNREADABLE}`);
     } else {
-      this.open({ name: file.name, text: textOfFile(file.name, bytes), base, size, hasStack });
+      const { calls } = this.session;
+      const text = textOfFile(file.name, bytes);
+      this.open({ name: file.name, text, base, size, hasStack, calls });
     }
     $("file").value = "";
   }
@@ -301,6 +342,8 @@ class Page {
       base: parseHex($("base").value.trim()),
       size: Number($("size").value),
       hasStack: $("stack").checked,
+      calls: this.session.calls,
+      keepsStops: true,
     };
     const mistake = this.tryToOpen(program);
     setText($("mistake"), mistake);
@@ -308,9 +351,9 @@ class Page {
   }
 
   async showLink() {
-    const { machine, text } = this.session;
+    const { machine, text, calls } = this.session;
     const { kit: { base, size }, hasStack } = machine;
-    const hash = await encodeLink({ text, base, size, hasStack });
+    const hash = await encodeLink({ text, base, size, hasStack, calls });
     const link = location.href.replace(/#.*$/, "") + hash;
     $("link").value = link;
     const isLong = link.length > 8000 ? " Some programs that send mail cut such a long one." : "";
@@ -355,6 +398,7 @@ class Page {
     $("state").className = `state ${notice.kind}`;
     $("state").firstElementChild.setAttribute("aria-busy", session.isRunning);
     setText($("steps"), counted(machine.steps, "step"));
+    $("calls").value = session.calls;
     setText($("kept"), `can go back ${machine.history.length.toLocaleString("en")}`);
     $("kept").title = `The records of the latest ${STEPS_KEPT.toLocaleString("en")} steps at least `
       + "are kept.";

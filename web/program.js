@@ -37,6 +37,22 @@ function parseHex(text) {
   return word ? parseInt(word[2], 16) : NaN;
 }
 
+/* What a value can be, by how many bytes it has. */
+const VALUE_WANTED = {
+  4: "A number is wanted: 0x and hexadecimal digits, 0b and binary ones, or decimal ones from "
+    + "-2147483648 to 4294967295.",
+  1: "A number is wanted: 0x and hexadecimal digits, 0b and binary ones, or decimal ones from -128 "
+    + "to 255.",
+};
+
+/** The value of some bytes that a number of digits is, as a text writes it, or NaN. */
+function parseValue(text, bytes) {
+  if (!/^(0x[0-9a-f]{1,8}|0b[01]{1,32}|-?[0-9]{1,10})$/i.test(text)) return NaN;
+  const value = Number(text);
+  const most = 2 ** (8 * bytes);
+  return value < -most / 2 || value >= most ? NaN : (value + most) % most;
+}
+
 /** Reads words of hexadecimal digits, with or without 0x, apart by blanks, commas or lines. A
  * comment begins with #, ; or //, and a name with : is a label of the next word. Answers the words,
  * the labels by the number of their word, the comments likewise by the first word of their line,
@@ -195,14 +211,15 @@ async function piped(bytes, through, most) {
 }
 
 /** What stands behind # in a link to a program. */
-async function encodeLink({ text, base, size, hasStack }) {
+async function encodeLink({ text, base, size, hasStack, calls = "linux" }) {
   const bytes = await piped(
     new TextEncoder().encode(text), new CompressionStream("deflate-raw"), Infinity);
   let letters = "";
   for (const byte of bytes) letters += String.fromCharCode(byte);
   const words = btoa(letters).replaceAll("+", "-").replaceAll("/", "_").replaceAll("=", "");
   const stack = hasStack ? "&stack=1" : "";
-  return `#base=0x${hexOf(base)}&size=${size}${stack}&program=${words}`;
+  const served = calls === "linux" ? "" : `&calls=${calls}`;
+  return `#base=0x${hexOf(base)}&size=${size}${stack}${served}&program=${words}`;
 }
 
 /* The text that is packed in a link. Throws a ProgramError. */
@@ -230,5 +247,6 @@ async function decodeLink(hash) {
     base: parseHex(fields.get("base") ?? "0"),
     size: /^\d+$/.test(size) ? Number(size) : NaN,
     hasStack: fields.get("stack") === "1",
+    calls: fields.get("calls") ?? "linux",
   };
 }

@@ -20,27 +20,65 @@ class Session {
   constructor(machine) {
     this.machine = machine;
     this.speed = SPEEDS.length - 1;
+    this.names = NAMES.abi;
     this.turn = 0;
     this.isRunning = false;
     this.onChange = () => {};
   }
 
-  /** Opens a program: `{ name, about, text, base, size, hasStack }`. Throws a ProgramError, and
-   * then what was open stays. */
-  open({ name, about = "", text, base = 0, size = SIZES[0], hasStack = false }) {
+  /** The text of a word at an address, with the names of registers that were chosen. */
+  disassemble(word, address) {
+    return withNames(this.machine.kit.disassemble(word, address), this.names);
+  }
+
+  /** What a step did, by its record. */
+  effectOf(record) {
+    return effectOf(record, this.names);
+  }
+
+  /** Opens a program: `{ name, about, text, base, size, hasStack, calls }`, of which the last names
+   * one of ENVIRONMENTS. With `keepsStops` breakpoints
+   * stay at their words, found by the label before them where it is still there. Throws a
+   * ProgramError, and then what was open stays. */
+  open({
+    name, about = "", text, base = 0, size = SIZES[0], hasStack = false, calls = "linux",
+    keepsStops = false,
+  }) {
     if (!Number.isInteger(base) || base < 0 || base > LARGEST_BASE || base % 4 !== 0) {
       throw new ProgramError(0, `Memory can start at a multiple of 4 up to ${hex(LARGEST_BASE)}.`);
     }
     if (!SIZES.includes(size)) {
       throw new ProgramError(0, `Memory can have ${SIZES.join(", ")} bytes.`);
     }
+    if (!Object.hasOwn(ENVIRONMENTS, calls)) {
+      const known = Object.values(ENVIRONMENTS).map((environment) => environment.name).join(", ");
+      throw new ProgramError(0, `The calls can be those of ${known}.`);
+    }
     const { words, labels, places, comments } = parseProgram(text, size);
     this.stop();
+    const stops = keepsStops ? this.stopsIn(places) : [];
     Object.assign(this, { name, about, text, labels, places, comments });
+    this.machine.environment = ENVIRONMENTS[calls];
     this.machine.load(words, base, size, hasStack);
     this.stops = new Uint8Array(size / 4);
+    for (const index of stops) if (index < this.stops.length) this.stops[index] = STOP.BREAKPOINT;
     this.selected = 0;
     this.start();
+  }
+
+  /* The words of another program at which breakpoints stand, by the places of its labels: as far
+   * behind a label as in this one, and before the first label as far behind the start. */
+  stopsIn(places) {
+    const found = [];
+    let label = { name: undefined, index: 0 };
+    for (let index = 0; index < this.stops.length; index++) {
+      const names = this.labels.get(index) ?? [];
+      const name = names.find((each) => places.has(each));
+      if (name !== undefined) label = { name, index };
+      if ((this.stops[index] & STOP.BREAKPOINT) === 0) continue;
+      found.push((places.get(label.name)?.index ?? 0) + index - label.index);
+    }
+    return found;
   }
 
   /** The state before the first step. */
@@ -57,6 +95,7 @@ class Session {
     const port = isPortCovered
       ? `Memory covers the port: a byte stored to ${hex(PORT_ADDRESS)} is not printed.` : "";
     this.lines = this.machine.program.length + 1;
+    this.remember();
     this.say("Ready", [what, port, this.about].filter((part) => part).join(" "));
   }
 
@@ -70,7 +109,7 @@ class Session {
   }
 
   sayEnd(end) {
-    const { heading, sentence, kind } = explain(end, this.machine);
+    const { heading, sentence, kind } = explain(end, this.machine, this.names);
     this.isWaiting = end.reason === "waiting";
     this.say(heading, sentence, kind);
   }
@@ -78,7 +117,7 @@ class Session {
   /* ---- one step */
 
   step() {
-    this.stop();
+    this.begin();
     const end = this.machine.step();
     if (end !== null) return this.sayEnd(end);
     this.sayStep();
@@ -87,13 +126,13 @@ class Session {
   sayStep() {
     const { machine } = this;
     const record = machine.history.read(machine.steps - 1);
-    const text = machine.kit.disassemble(record.word, record.pc);
-    const effect = effectOf(record);
+    const text = this.disassemble(record.word, record.pc);
+    const effect = this.effectOf(record);
     this.say(`Step ${machine.steps.toLocaleString("en")}`, effect ? `${text}: ${effect}` : text);
   }
 
   stepBack() {
-    this.stop();
+    this.begin();
     if (!this.machine.stepBack()) return this.sayOldest();
     this.sayBack();
   }
@@ -101,7 +140,7 @@ class Session {
   sayBack() {
     const { steps } = this.machine;
     const word = this.machine.wordAtPc();
-    const text = word === undefined ? "" : this.machine.kit.disassemble(word, this.machine.kit.pc);
+    const text = word === undefined ? "" : this.disassemble(word, this.machine.kit.pc);
     this.say(`Back at step ${steps.toLocaleString("en")}`, text && `Next: ${text}`);
   }
 
@@ -113,6 +152,18 @@ class Session {
   }
 
   /* ---- many steps */
+
+  /* Stops what goes on, and keeps the state from which something else begins. */
+  begin() {
+    this.stop();
+    this.remember();
+  }
+
+  /* Keeps registers and memory, so that what changes from here on can be told. */
+  remember() {
+    const { x, words } = this.machine.kit;
+    this.before = { x: x.slice(), words: words.slice() };
+  }
 
   stop() {
     this.turn++;
@@ -131,13 +182,13 @@ class Session {
 
   /** Runs to an end, a breakpoint, or `pause`. */
   run() {
-    this.stop();
+    this.begin();
     return this.goOn("Running", (most) => this.runSlice(most));
   }
 
   /** Runs to the selected line. */
   runToLine() {
-    this.stop();
+    this.begin();
     this.line = this.selected;
     this.stops[this.line] |= STOP.LINE;
     return this.goOn("Running", (most) => this.runSlice(most));
@@ -145,7 +196,7 @@ class Session {
 
   /** Takes steps back to a breakpoint or the first state. */
   runBack() {
-    this.stop();
+    this.begin();
     return this.goOn("Running back", (most) => this.backSlice(most));
   }
 
@@ -217,6 +268,18 @@ class Session {
 
   /* ---- the console */
 
+  /** Which calls are served: one of the names of ENVIRONMENTS. */
+  get calls() {
+    const { environment } = this.machine;
+    return Object.keys(ENVIRONMENTS).find((name) => ENVIRONMENTS[name] === environment);
+  }
+
+  /** Has the calls of another environment served from here on. */
+  setCalls(name) {
+    this.machine.environment = ENVIRONMENTS[name];
+    this.onChange();
+  }
+
   /** Gives typed text to the program. Answers whether it takes it: not after the end of input. */
   type(text) {
     const { terminal } = this.machine;
@@ -242,7 +305,7 @@ class Session {
     else this.onChange();
   }
 
-  /* ---- lines */
+  /* ---- breakpoints and lines */
 
   toggleBreakpoint(index) {
     this.stops[index] ^= STOP.BREAKPOINT;
@@ -253,6 +316,41 @@ class Session {
     this.selected = Math.max(0, Math.min(index, this.lines - 1));
     this.onChange();
   }
+
+  /* ---- changes by hand */
+
+  /** Changes a register, the pc, or memory at an address or a label, to what a text says, while the
+   * program does not run: `bytes` at an address, 1 or 4. Answers "", or why nothing was changed. */
+  change(place, text, bytes) {
+    const target = this.targetOf(place.trim(), bytes);
+    if (typeof target === "string") return target;
+    const value = parseValue(text.trim(), target.bytes);
+    if (Number.isNaN(value)) return VALUE_WANTED[target.bytes];
+    this.stop();
+    const { machine } = this;
+    if (target.register !== undefined) machine.setRegister(target.register, value);
+    else if (target.address === undefined) machine.setPc(value);
+    else machine.setMemory(target.address, value, bytes);
+    this.say("Changed", `${target.name} = 0x${hexOf(value, 2 * target.bytes)}.`);
+    return "";
+  }
+
+  /* What is meant by a place that can be changed, or why it can't be. */
+  targetOf(place, bytes) {
+    const { kit } = this.machine;
+    const register = registerNamed(place);
+    if (register === 0) return `${place} is always 0.`;
+    if (register !== undefined) return { register, bytes: 4, name: this.names[register] };
+    if (place === "pc") return { bytes: 4, name: "pc" };
+    const address = this.addressOf(place) ?? parseHex(place);
+    if (this.machine.indexOf(address) < 0) {
+      return `${place || "That"} is no register, label or address. ${whereMemoryIs(this.machine)}`;
+    }
+    if ((address - kit.base) % bytes !== 0) return `A word has an address that is a multiple of 4.`;
+    return { address, bytes, name: `[${hex(address)}]` };
+  }
+
+  /* ---- lines and labels */
 
   /** The address of a label, or undefined. */
   addressOf(name) {

@@ -74,6 +74,25 @@ class Terminal {
     return this.input.slice(this.taken, this.held);
   }
 
+  /** Whether no input will come any more. */
+  get isEmptyForGood() {
+    return this.taken === this.input.length && this.isClosed;
+  }
+
+  /** Takes some bytes of the input. */
+  takeBytes(count) {
+    const bytes = this.input.slice(this.taken, this.taken + count);
+    this.held = this.taken += bytes.length;
+    return bytes;
+  }
+
+  /** Takes a line of the input with its end, or what is left of it, as bytes. */
+  takeLine() {
+    const end = this.input.indexOf(10, this.taken);
+    const count = (end < 0 ? this.input.length : end + 1) - this.taken;
+    return Uint8Array.from(this.takeBytes(count));
+  }
+
   /** What a step may change, for `restore`. */
   mark() {
     const { printed, lost, held, taken, port } = this;

@@ -138,7 +138,7 @@ class ListingView {
     const { kit } = machine;
     const address = kit.base + 4 * index;
     const word = kit.words[index];
-    const text = kit.disassemble(word, address);
+    const text = session.disassemble(word, address);
     const labels = labelsShown(session.labels.get(index) ?? []);
     const comment = shortened(session.comments.get(index) ?? "", COMMENT_SHOWN);
     const count = machine.executed[index];
@@ -171,6 +171,12 @@ class ListingView {
 
 /* ---- the registers */
 
+/* What is said of a register or a word that has another value than where the machine stood last. */
+const SINCE = "changed since the last stop";
+
+/* The choices of how registers are called. */
+const NAME_CHOICES = [["abi", "names (a0)"], ["number", "numbers (x10)"]];
+
 /** The pc and the registers x1 to x31. */
 class RegistersView {
   constructor(session) {
@@ -178,13 +184,19 @@ class RegistersView {
     this.radix = "hex";
     this.cells = ABI_NAMES.map((name, number) => this.makeCell(name, number));
     $("registers").append(...this.cells);
+    this.onChoose = () => {};
+    $("registers").addEventListener("click", ({ target }) => {
+      const cell = target.closest(".register");
+      if (cell) this.onChoose(cell.id, cell.lastChild.textContent);
+    });
+    for (const [id, name] of NAME_CHOICES) $("names").append(new Option(name, id));
     for (const [id, { name }] of Object.entries(RADIXES)) $("radix").append(new Option(name, id));
   }
 
   makeCell(name, number) {
     const cell = makeRow("div", [
-      make("span", "number", number ? `x${number}` : "pc"),
-      make("span", "name", number ? name : ""),
+      make("span", "name", number ? name : "pc"),
+      make("span", "number", number ? `x${number}` : ""),
       make("span", "value"),
     ]);
     cell.id = number ? `x${number}` : "pc";
@@ -193,14 +205,19 @@ class RegistersView {
   }
 
   render() {
-    const { kit } = this.session.machine;
+    const { machine: { kit }, names, before } = this.session;
     const { write } = RADIXES[this.radix];
     $("registers").dataset.radix = this.radix;
     this.cells.forEach((cell, number) => {
-      setText(cell.lastChild, number ? write(kit.x[number]) : hex(kit.pc));
+      const [name, other, value] = cell.children;
+      if (number) setText(name, names[number]);
+      if (number) setText(other, names === NAMES.abi ? `x${number}` : ABI_NAMES[number]);
+      setText(value, number ? write(kit.x[number]) : hex(kit.pc));
       const isLast = number !== 0 && number === kit.last;
-      cell.className = `register${isLast ? " last" : ""}`;
-      if (isLast) cell.setAttribute("aria-description", "the last written");
+      const isChanged = number !== 0 && kit.x[number] !== before.x[number];
+      cell.className = `register${isLast ? " last" : ""}${isChanged ? " since" : ""}`;
+      const said = [isLast && "the last written", isChanged && SINCE].filter((part) => part);
+      if (said.length > 0) cell.setAttribute("aria-description", said.join(", "));
       else cell.removeAttribute("aria-description");
     });
   }
@@ -209,6 +226,11 @@ class RegistersView {
 /* ---- memory */
 
 const MEMORY_ROWS = 13;
+
+/* What the marks of memory mean. */
+const MARKS_OF_MEMORY = {
+  stored: "the last store", since: SINCE, changed: "changed since the start",
+};
 
 /* How many labels the menu of memory has at most. Each other can be typed as an address. */
 const LABELS_IN_MENU = 1000;
@@ -221,6 +243,10 @@ class MemoryView {
     this.unit = 4;
     this.start = 0;
     this.typed = 0;
+    this.onChoose = () => {};
+    $("memory").addEventListener("click", ({ target }) => {
+      if (target.dataset.address) this.onChoose(target.dataset.address, `0x${target.textContent}`);
+    });
   }
 
   /** Takes up a program that was just opened. */
@@ -315,7 +341,7 @@ class MemoryView {
   }
 
   fillRow(row, address, target, stored) {
-    const { kit, program } = this.session.machine;
+    const { machine: { kit, program }, before: { words } } = this.session;
     const cells = [...row.children];
     const letters = cells.pop();
     setText(cells.shift(), hexOf(address));
@@ -324,15 +350,17 @@ class MemoryView {
       const index = (here - kit.base) >>> 2;
       const isByte = this.unit === 1;
       const value = isByte ? kit.bytes[here - kit.base] : kit.words[index];
-      const first = program[index] ?? 0;
-      const before = isByte ? first >>> 8 * (here % 4) & 0xff : first;
+      const part = (word) => (isByte ? word >>> 8 * (here % 4) & 0xff : word);
+      const before = part(program[index] ?? 0);
+      const isSince = value !== part(words[index]);
       const isStored = stored && here < stored.address + stored.length
         && stored.address < here + this.unit;
       const isTarget = here <= target && target < here + this.unit;
       setText(cell, hexOf(value, 2 * this.unit));
-      cell.className = (isStored ? "stored" : value !== before ? "changed" : value ? "" : "zero")
-        + (isTarget ? " target" : "");
-      cell.title = isStored ? "the last store" : value !== before ? "changed since the start" : "";
+      const mark = isStored ? "stored" : isSince ? "since" : value !== before ? "changed" : "";
+      cell.className = (mark || (value ? "" : "zero")) + (isTarget ? " target" : "");
+      cell.title = MARKS_OF_MEMORY[mark] ?? "";
+      cell.dataset.address = hex(here);
     });
     setText(letters, this.lettersAt(address));
   }
@@ -394,9 +422,53 @@ class LogView {
       const [step, address, text, effect] = rows[i].children;
       setText(step, (record.step + 1).toLocaleString("en"));
       setText(address, hexOf(record.pc));
-      setText(text, machine.kit.disassemble(record.word, record.pc));
-      setText(effect, effectOf(record));
+      setText(text, this.session.disassemble(record.word, record.pc));
+      setText(effect, this.session.effectOf(record));
     }
+  }
+}
+
+/* ---- the calls */
+
+const FRAMES_SHOWN = 100;
+
+/** The calls that have not returned, the innermost first. */
+class FramesView {
+  constructor(session) {
+    this.session = session;
+    this.body = $("frames").tBodies[0];
+  }
+
+  /* An address, as the label before it and how far it is behind. */
+  nameOf(address) {
+    const { session } = this;
+    const index = session.machine.indexOf(address);
+    for (let at = index; at >= 0; at--) {
+      const [name] = session.labels.get(at) ?? [];
+      if (name === undefined) continue;
+      const bytes = address - session.machine.kit.base - 4 * at;
+      return shortened(name, LABEL_SHOWN) + (bytes ? ` + ${bytes}` : "");
+    }
+    return hex(address);
+  }
+
+  render() {
+    const { session } = this;
+    // while it runs it would be gone before it is read
+    if (session.isRunning) return;
+    const frames = framesOf(session.machine);
+    const shown = frames.slice(0, FRAMES_SHOWN);
+    const makeOne = () => makeRow("tr", [1, 2, 3].map(() => make("td")));
+    const rows = resize(this.body, shown.length, makeOne);
+    shown.forEach(({ entry, from, back, sp }, at) => {
+      const [name, caller, stack] = rows[at].children;
+      setText(name, this.nameOf(entry));
+      setText(caller, this.nameOf(from));
+      caller.title = `from ${hex(from)}, back to ${hex(back)}`;
+      setText(stack, hexOf(sp));
+    });
+    const others = frames.length - shown.length;
+    setText($("frames-note"), frames.length === 0 ? "none" : others > 0 ? `${others} more` : "");
   }
 }
 

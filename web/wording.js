@@ -8,6 +8,21 @@ const ABI_NAMES = [
   "a6", "a7", "s2", "s3", "s4", "s5", "s6", "s7", "s8", "s9", "s10", "s11", "t3", "t4", "t5", "t6",
 ];
 
+/* How registers are called: by their names in calls, or by their numbers. */
+const NAMES = { abi: ABI_NAMES, number: ABI_NAMES.map((_, number) => `x${number}`) };
+
+/** A text of the disassembler, which has numbers, with other names of the registers. */
+function withNames(text, names) {
+  return text.replace(/\bx(\d+)\b/g, (_, number) => names[number]);
+}
+
+/** The number of a register by any of its names, or undefined. */
+function registerNamed(name) {
+  if (name === "fp") return ABI_NAMES.indexOf("s0");
+  const number = Math.max(NAMES.abi.indexOf(name), NAMES.number.indexOf(name));
+  return number < 0 ? undefined : number;
+}
+
 /* The ways to write a register's value. */
 const RADIXES = {
   hex: { name: "hexadecimal", write: (value) => `0x${hexOf(value)}` },
@@ -81,10 +96,11 @@ const FAULT_SENTENCES = {
     return `The instruction at ${hex(pc)} ${does} ${bytes} bytes at ${hex(address)}, which is no `
       + `multiple of ${bytes}.`;
   },
-  [FAULT.ECALL]({ address }, machine) {
-    const number = machine.kit.x[REGISTER.A7];
-    return `The ecall at ${hex(address)} asks for system call ${number} (a7). This page serves 63 `
-      + "(read), 64 (write) and 93 (exit).";
+  [FAULT.ECALL]({ address }, { kit, environment }, names) {
+    const number = kit.x[environment.number];
+    const register = names[environment.number];
+    return `The ecall at ${hex(address)} asks for system call ${number} (${register}). This page `
+      + `serves ${callsOf(environment)}, as ${environment.name} has them.`;
   },
   [FAULT.EBREAK]({ address }) {
     return `The program asked to stop, by the ebreak at ${hex(address)}.`;
@@ -103,12 +119,18 @@ const FAULT_NAMES = {
 
 /** A heading and a sentence for why the machine stands where it stands, and which kind of news that
  * is: a fault is an "end", exit is "done", and "wait" is none, since the program can go on. */
-function explain(end, machine) {
+function explain(end, machine, names) {
   switch (end.reason) {
     case "fault":
       return {
         heading: FAULT_NAMES[end.kind],
-        sentence: `${FAULT_SENTENCES[end.kind](end, machine)} Nothing was changed by it.`,
+        sentence: `${FAULT_SENTENCES[end.kind](end, machine, names)} Nothing was changed by it.`,
+        kind: "end",
+      };
+    case "refused":
+      return {
+        heading: "Call refused",
+        sentence: `The ecall at ${hex(machine.kit.pc)} could not be served: ${end.why}.`,
         kind: "end",
       };
     case "exit":
@@ -130,11 +152,11 @@ function explain(end, machine) {
 }
 
 /** What a step did, as `t0 = 0x0000002a`, from its record. */
-function effectOf(record) {
-  const written = record.rd ? `${ABI_NAMES[record.rd]} = ${hex(record.rdAfter)}` : "";
+function effectOf(record, names) {
+  const written = record.rd ? `${names[record.rd]} = ${hex(record.rdAfter)}` : "";
   const value = `0x${hexOf(record.value, 2 * bytesOf(record.word))}`;
   if (record.madeBy === MADE_BY.CALL) {
-    return `${record.value === CALL.READ ? "read" : "write"}, ${written}`;
+    return written ? `${record.extra.name}, ${written}` : record.extra.name;
   }
   if (record.writeMask) return `[${hex(record.address)}] ← ${value}`;
   if (record.readMask) return `${written || value} ← [${hex(record.address)}]`;

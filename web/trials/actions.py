@@ -18,16 +18,18 @@ PREPARE = """(async () => {
     rrs.session.select(3);
     rrs.setSpeed(3);
     rrs.setRadix("hex");
+    rrs.setNames("abi");
     rrs.setUnit(4);
     rrs.memory.show("0x2000");
     document.getElementById("address").value = "0x00002000";
     scrollTo(0, 0);
 })()"""
 
-# the same program, of which one step was made at one a second
-PREPARE_RUN = """(async () => {
-    rrs.setSpeed(0);
+# the same program in a run that has made one step, and would wait some days for the next
+PREPARE_RUN = """(() => {
+    rrs.session.pace = () => ({ steps: 1, wait: 1e9 });
     rrs.session.run();
+    delete rrs.session.pace;
 })()"""
 
 STATE = """(() => {
@@ -43,7 +45,8 @@ STATE = """(() => {
         speed: chosen("speed"), radix: chosen("radix"), unit: chosen("unit"),
         memory: [...document.querySelector("#memory tr").children].slice(0, 2)
             .map(({ textContent }) => textContent).join(": "),
-        pace: SPEEDS[rrs.session.speed],
+        pace: SPEEDS[rrs.session.speed], names: chosen("names"), calls: chosen("calls"),
+        line: document.querySelector("#line-5 .instruction").textContent,
         around: chosen("around"), address: document.getElementById("address").value,
         note: text("lost"), theme: getComputedStyle(document.documentElement).colorScheme,
         focus: focus.id || focus.tagName,
@@ -57,19 +60,20 @@ BASE = {
     "steps": "5 steps", "pc": "0x00000014", "a2": "0x00000000", "selected": "line-3",
     "stops": "line-5", "speed": "64/s", "radix": "hexadecimal", "unit": "words",
     "memory": "00002000: 00000000", "pace": 64, "around": "at the address",
+    "names": "names (a0)", "line": "add a2, a2, a3", "calls": "calls of Linux",
     "address": "0x00002000", "note": "", "theme": "light dark", "focus": "BODY", "dialog": "",
 }
 
 # what each action changes
 EFFECTS = {
-    "step": {"heading": "Step 6", "sentence": "add x12, x12, x13: a2 = 0x00000003",
+    "step": {"heading": "Step 6", "sentence": "add a2, a2, a3: a2 = 0x00000003",
              "steps": "6 steps", "pc": "0x00000018", "a2": "0x00000003"},
-    "stepBack": {"heading": "Back at step 4", "sentence": "Next: lw x13, 0(x10)",
+    "stepBack": {"heading": "Back at step 4", "sentence": "Next: lw a3, 0(a0)",
                  "steps": "4 steps", "pc": "0x00000010"},
     "run": {"sentence": "Stopped before a breakpoint at 0x00000014, after 6 steps more.",
             "steps": "11 steps", "a2": "0x00000003"},
     "pause": {"heading": "Paused", "sentence": "After 6 steps.", "steps": "6 steps",
-              "pc": "0x00000018", "a2": "0x00000003", "speed": "1/s", "pace": 1},
+              "pc": "0x00000018", "a2": "0x00000003"},
     "runBack": {"heading": "At the start", "sentence": "This is the first state.",
                 "steps": "0 steps", "pc": "0x00000000"},
     "runToLine": {"heading": "At the line",
@@ -82,11 +86,14 @@ EFFECTS = {
     "slower": {"speed": "16/s", "pace": 16},
     "faster": {"speed": "256/s", "pace": 256},
     "radix": {"radix": "signed decimal", "a2": "0"},
+    "names": {"names": "numbers (x10)", "line": "add x12, x12, x13"},
+    "change": {"dialog": "change", "focus": "place"},
     "unit": {"unit": "bytes", "memory": "00002000: 00"},
     "around": {"focus": "around"},
     "address": {"focus": "address"},
     "memoryUp": {"address": "0x00001f80", "memory": "00001f80: 00000000"},
     "memoryDown": {"address": "0x00002080", "memory": "00002080: 00000000"},
+    "calls": {"focus": "calls"},
     "console": {"focus": "input"},
     "endInput": {"note": "input ended"},
     "examples": {"focus": "examples"},
@@ -99,15 +106,17 @@ EFFECTS = {
 
 # the actions that have a button, and those that a menu does too: its name, and the arrow key
 BUTTONS = ["edit", "open", "link", "theme", "keys", "runBack", "stepBack", "step", "run", "pause",
-           "runToLine", "reset", "breakpoint", "endInput", "memoryUp", "memoryDown"]
+           "runToLine", "reset", "breakpoint", "change", "endInput", "memoryUp", "memoryDown"]
 MENUS = {"slower": ("speed", "ArrowUp"), "faster": ("speed", "ArrowDown"),
-         "radix": ("radix", "ArrowDown"), "unit": ("unit", "ArrowDown")}
+         "radix": ("radix", "ArrowDown"), "names": ("names", "ArrowDown"),
+         "unit": ("unit", "ArrowDown")}
 OTHER_MENUS = {
+    ("calls", "ArrowDown"): {"calls": "calls of RARS"},
     ("around", "ArrowUp"): {"around": "at numbers", "memory": "00000030: 00000003"},
     ("examples", "ArrowDown"): {
         "heading": "Ready", "sentence": "44 bytes from 0x00000000 on. gcd(1071, 462) by Euclid's "
         "algorithm, as gcc makes it of C. The status is the divisor.", "steps": "0 steps",
-        "pc": "0x00000000", "selected": "line-0", "stops": ""},
+        "pc": "0x00000000", "selected": "line-0", "stops": "", "line": "bne a1, zero, 0x0000001c"},
 }
 
 
@@ -185,7 +194,8 @@ def where_none_acts(machine):
         same(f"keys in {field}", state, page.ask(STATE))
         if field == "input":
             same("what was typed", keys, page.ask("document.getElementById('input').value"))
-    for name, dialog in (("edit", "editor"), ("keys", "help"), ("link", "shared")):
+    for name, dialog in (("edit", "editor"), ("keys", "help"), ("link", "shared"),
+                         ("change", "change")):
         prepare(page)
         page.press(page.ask(f"ACTIONS.{name}.key"))
         page.wait(f"document.querySelector('#{dialog}').open")

@@ -15,6 +15,8 @@ const { tryRecords } = require("./cases/records.js");
 const { tryPrograms } = require("./cases/programs.js");
 const { tryWording } = require("./cases/wording.js");
 const { trySessions } = require("./cases/sessions.js");
+const { tryCalls } = require("./cases/calls.js");
+const { tryChanges } = require("./cases/changes.js");
 
 async function main([folder, module]) {
   const clock = makeClock();
@@ -28,6 +30,8 @@ async function main([folder, module]) {
   await tryPrograms(report, page, kit);
   tryWording(report, page, kit);
   await trySessions(report, page, kit, clock);
+  tryCalls(report, page, kit);
+  await tryChanges(report, page, kit, clock);
   for (const [subject, count] of report.counts) console.log(`${subject} ${count}`);
   return report.failed === 0 ? 0 : 1;
 }

@@ -57,7 +57,7 @@ def tree(page, inside=None):
             ((line, len(list(same_lines))) for line, same_lines in itertools.groupby(lines))]
 
 
-DIALOGS = {"editor": "e", "shared": "l", "help": "?"}
+DIALOGS = {"editor": "e", "shared": "l", "help": "?", "change": "u"}
 
 
 def trees(machine):
@@ -115,14 +115,15 @@ def tab_order(page, key="Tab", held=()):
 
 FOCUS_ORDER = [
     "examples", "edit", "open", "link", "theme", "keys", "runBack", "stepBack", "step", "run",
-    "pause", "runToLine", "reset", "speed", "breakpoint", "listing", "radix", "output", "input",
-    "button", "endInput", "around", "address", "unit", "memoryUp", "memoryDown", "log-title",
-    "counts-title", "a",
+    "pause", "runToLine", "reset", "speed", "breakpoint", "listing", "names", "radix", "change",
+    "calls", "output", "input", "button", "endInput", "frames-title", "around", "address", "unit",
+    "memoryUp", "memoryDown", "log-title", "counts-title", "a",
 ]
 FOCUS_IN = {
     "editor": ["text", "base", "size", "stack", "close", "take"],
     "shared": ["link", "close", "copy"],
     "help": ["keys-on", "close"],
+    "change": ["place", "value", "close", "set"],
 }
 
 
@@ -214,7 +215,7 @@ def contrast(machine):
     same("how many texts and marks were looked at", LOOKED_AT, len(looked))
 
 
-LOOKED_AT = 83
+LOOKED_AT = 90
 
 # ---- boxes and marks
 

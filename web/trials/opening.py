@@ -12,7 +12,7 @@ from trials.view import Subject, js
 
 TOO_LONG = "A text of words has 8,388,608 bytes at most, and this one has more."
 UNREADABLE = "can't be read: it is a folder, or it was changed after it was chosen."
-WHAT_IS_OPEN = "addi x10, x0, 1071"
+WHAT_IS_OPEN = "addi a0, zero, 1071"
 
 
 def drop(machine, name, content):
@@ -58,11 +58,11 @@ def files(machine):
         same("line 1", ["00000004", "00000001", "no instruction", ""], machine.line(1))
         same("how many lines", 3, machine.page.ask("document.querySelectorAll('.line').length"))
         machine.give(folder / "<b>words.txt")
-        same("line 1", "lui x3, 0xf387e000", machine.line(1)[2])
+        same("line 1", "lui gp, 0xf387e000", machine.line(1)[2])
         same("a title and a comment are no HTML", ["<b>words.txt", "<b>two"], [
             machine.page.text("#program-title"), machine.page.text("#line-1 .comment")])
     drop(machine, "dropped.bin", b"\x37\xb1\x34\x12")
-    same("line 0", "lui x2, 0x1234b000", machine.line(0)[2])
+    same("line 0", "lui sp, 0x1234b000", machine.line(0)[2])
 
 
 def files_that_cannot_be_read(machine):
@@ -104,7 +104,7 @@ def editor(machine):
         machine.escape()
     same("line 0, of what was open", WHAT_IS_OPEN, machine.line(0)[2])
     machine.edit("go: 1234b137, f387e1b7 ; both", base="80000000")
-    same("line 1", ["80000004", "f387e1b7", "lui x3, 0xf387e000", ""], machine.line(1))
+    same("line 1", ["80000004", "f387e1b7", "lui gp, 0xf387e000", ""], machine.line(1))
     same("the label", "go:", page.text("#line-0 .label"))
     same("the pc", "0x80000000", machine.register("pc"))
     machine.keys("e")
@@ -134,7 +134,7 @@ def editor_by_keys(machine):
     page.replace("#base", "1000")
     page.press("Enter")
     machine.wait_closed()
-    same("Enter in the first address", ["0x00001000", "addi x5, x0, 1"],
+    same("Enter in the first address", ["0x00001000", "addi t0, zero, 1"],
          [machine.register("pc"), machine.line(0)[2]])
     machine.keys("e")
     page.replace("#text", "00200293")
@@ -142,7 +142,7 @@ def editor_by_keys(machine):
     page.type("00300293")
     page.press("Enter", "Ctrl")
     machine.wait_closed()
-    same("Ctrl and Enter in the text", ["addi x5, x0, 2", "addi x5, x0, 3"],
+    same("Ctrl and Enter in the text", ["addi t0, zero, 2", "addi t0, zero, 3"],
          [machine.line(0)[2], machine.line(1)[2]])
     machine.keys("e")
     page.choose("#size", "262144")
@@ -184,7 +184,7 @@ def long_texts(machine):
     same("the comment", "a\u2028b", machine.page.text("#line-0 .comment"))
     same("the last label", 0, machine.page.ask("rrs.session.addressOf('a99999')"))
     in_time("ten steps there and back", machine.keys, 10 * "sb")
-    machine.says("Back at step 0", "Next: addi x0, x0, 0")
+    machine.says("Back at step 0", "Next: addi zero, zero, 0")
 
 
 def link_to(text, fields=""):
@@ -229,7 +229,7 @@ def links(machine):
     page.wait("rrs.session.text === '13 # by its hash'")
     follow(machine, link[:-9])
     machine.says("Not opened", "The link is damaged: its program can't be read.")
-    same("line 0, of the first example", "lui x2, 0x1234b000", machine.line(0)[2])
+    same("line 0, of the first example", "lui sp, 0x1234b000", machine.line(0)[2])
 
 
 def refused_links(machine):

@@ -20,14 +20,14 @@ def three_words(machine):
         machine.keys("s")
         seen.append((machine.page.text("#heading"), machine.page.text("#sentence")))
     same("the steps", [
-        ("Step 1", "lui x2, 0x1234b000: sp = 0x1234b000"),
-        ("Step 2", "lui x3, 0xf387e000: gp = 0xf387e000"),
-        ("Step 3", "add x1, x2, x3: ra = 0x05bc9000"),
+        ("Step 1", "lui sp, 0x1234b000: sp = 0x1234b000"),
+        ("Step 2", "lui gp, 0xf387e000: gp = 0xf387e000"),
+        ("Step 3", "add ra, sp, gp: ra = 0x05bc9000"),
     ], seen)
     same("the marked register", ["x1"], machine.marked())
     same("the line at the pc", "line-3", machine.page.ask("document.querySelector('.line.pc').id"))
-    same("line 2", ["00000008", "003100b3", "add x1, x2, x3", "1"], machine.line(2))
-    same("the log", ["3", "00000008", "add x1, x2, x3", "ra = 0x05bc9000"], machine.rows("log")[0])
+    same("line 2", ["00000008", "003100b3", "add ra, sp, gp", "1"], machine.line(2))
+    same("the log", ["3", "00000008", "add ra, sp, gp", "ra = 0x05bc9000"], machine.rows("log")[0])
     machine.run()
     machine.says("Illegal instruction", "The word at 0x0000000c is 0x00000000, which is no "
                  f"instruction of RV32IM. Memory is 0 behind a program's end. {NOTHING}")
@@ -37,7 +37,7 @@ def three_words(machine):
     machine.keys("b")
     same("x1, a step back", "0x00000000", machine.register("x1"))
     same("the marked register, a step back", ["x3"], machine.marked())
-    machine.says("Back at step 2", "Next: add x1, x2, x3")
+    machine.says("Back at step 2", "Next: add ra, sp, gp")
     machine.keys("bb")
     same("whether it is the first state", True, machine.is_first_state())
 
@@ -56,7 +56,7 @@ def registers(machine):
     cells = machine.page.ask("[...document.querySelectorAll('.register')].map((register) =>"
                              " [...register.children].map((cell) => cell.textContent))")
     same("the registers", [["pc", "", "0x0000007c"]] + [
-        [f"x{n}", NAMES[n - 1], f"0x{n:08x}"] for n in range(1, 32)], cells)
+        [NAMES[n - 1], f"x{n}", f"0x{n:08x}"] for n in range(1, 32)], cells)
 
 
 def radixes_and_counts(machine):
@@ -107,7 +107,7 @@ def million_steps(machine):
     there = time.monotonic()
     machine.says("Exit", "The program ended by the ecall at 0x00000018, with status 0.")
     same("the steps", 1000000, machine.steps())
-    same("the loop", ["00000010", "fff28293", "addi x5, x5, -1", "499,998"], machine.line(4))
+    same("the loop", ["00000010", "fff28293", "addi t0, t0, -1", "499,998"], machine.line(4))
     same("the rows of the log", 50, len(machine.rows("log")))
     machine.run("B")
     machine.says("At the start", "This is the first state.")
@@ -333,7 +333,7 @@ def long_listing(machine):
     machine.keys("g")
     page.press("End")
     page.wait(IN_VIEW % "#line-2000")
-    same("the active line", [True, ["00001f3c", "00100293", "addi x5, x0, 1", ""]],
+    same("the active line", [True, ["00001f3c", "00100293", "addi t0, zero, 1", ""]],
          [page.ask(active), machine.line(1999)])
     for key, index in (("ArrowUp", 1999), ("Home", 0)):
         page.press(key)
@@ -357,9 +357,12 @@ def run_and_pause(machine):
         begun = time.monotonic()
         machine.page.ask("1")
         slowest = max(slowest, time.monotonic() - begun)
-    same("whether it runs", True, machine.page.ask("rrs.session.isRunning"))
+    busy = "document.querySelector('[role=status]').getAttribute('aria-busy')"
+    same("whether it runs", [True, "true"],
+         [machine.page.ask("rrs.session.isRunning"), machine.page.ask(busy)])
     machine.keys("p")
     machine.says("Paused")
+    same("whether it is busy", "false", machine.page.ask(busy))
     return slowest
 
 
@@ -402,7 +405,7 @@ def memory(machine):
     for _ in range(9):
         page.press("ArrowDown")
     machine.run("t")
-    same("the log", ["7", "00000020", "sw x1, 12(x2)", "[0x0000fffc] ← 0x0000000c"],
+    same("the log", ["7", "00000020", "sw ra, 12(sp)", "[0x0000fffc] ← 0x0000000c"],
          machine.rows("log")[0])
     same("the marked store", [["0000000c", "the last store"]], page.ask(
         "[...document.querySelectorAll('#memory .stored')]"

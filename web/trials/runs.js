@@ -21,7 +21,7 @@ async function main([folder, module, ...programs]) {
     const states = [short(machine)];
     let end = machine.step();
     for (; end === null && machine.steps < LIMIT; end = machine.step()) states.push(short(machine));
-    const { heading, sentence } = page.explain(end, machine);
+    const { heading, sentence } = page.explain(end, machine, page.NAMES.abi);
     const registers = [kit.pc, ...kit.x.subarray(1)].map(page.hex);
     const { steps } = machine;
     const last = digest(machine);

@@ -8,13 +8,18 @@
 
   const canvas = document.createElement("canvas").getContext("2d", { willReadFrequently: true });
 
+  const parsed = new Map();
+
   /* The red, green, blue and opacity of a colour. */
   function parse(text) {
-    canvas.clearRect(0, 0, 1, 1);
-    canvas.fillStyle = text;
-    canvas.fillRect(0, 0, 1, 1);
-    const [red, green, blue, alpha] = canvas.getImageData(0, 0, 1, 1).data;
-    return [red, green, blue, alpha / 255];
+    if (!parsed.has(text)) {
+      canvas.clearRect(0, 0, 1, 1);
+      canvas.fillStyle = text;
+      canvas.fillRect(0, 0, 1, 1);
+      const [red, green, blue, alpha] = canvas.getImageData(0, 0, 1, 1).data;
+      parsed.set(text, [red, green, blue, alpha / 255]);
+    }
+    return parsed.get(text);
   }
 
   const over = ([r, g, b, a], [x, y, z]) =>

@@ -128,6 +128,7 @@ CLEAN = """(() => {
     rrs.markAddress(true);
     rrs.setSpeed(SPEEDS.length - 1);
     rrs.setRadix("hex");
+    rrs.setNames("abi");
     rrs.setUnit(4);
     rrs.memory.around = "sp";
     rrs.memory.open();

@@ -6,8 +6,8 @@ const fs = require("node:fs");
 const path = require("node:path");
 
 const SCRIPTS = [
-  "kit", "terminal", "history", "actions", "machine", "program", "examples", "wording", "session",
-  "views",
+  "kit", "terminal", "history", "actions", "machine", "calls", "frames", "program", "examples",
+  "wording", "session", "views",
 ];
 const DEFINED = /^(?:const|class|function|async function) ([A-Za-z_]\w*)/gm;
 

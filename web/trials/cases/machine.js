@@ -23,12 +23,12 @@ function nonzero(numbers) {
 }
 
 /* All that a step may change, as one text. */
-function digest({ kit, xBefore, wordsBefore, executed, kinds, terminal, history }) {
+function digest({ kit, xBefore, wordsBefore, executed, kinds, terminal, heap, history }) {
   const { output, printed, lost, input, held, taken, isClosed, port } = terminal;
   return JSON.stringify([
     [...kit.x], kit.pc, kit.last, nonzero(kit.words), [...xBefore], nonzero(wordsBefore),
     nonzero(executed), nonzero(kinds), [...output.subarray(0, printed)], lost, input, held, taken,
-    isClosed, port, history.steps, history.first, [...history.extras.keys()],
+    isClosed, port, heap, history.steps, history.first, [...history.extras.keys()],
   ]);
 }
 

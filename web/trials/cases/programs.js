@@ -111,9 +111,9 @@ function linkTo(text, fields = "") {
 async function links(report, page) {
   const texts = ["13", "go: 13 # é\u2028\n", "13 ".repeat(5000), "", "\ufeff13"];
   for (const text of texts) {
-    for (const [base, size, hasStack] of [[0, 65536, false], [0x80000000, MIB, true],
-      [4, 262144, false]]) {
-      const program = { text, base, size, hasStack };
+    for (const [base, size, hasStack, calls] of [[0, 65536, false, "linux"],
+      [0x80000000, MIB, true, "rars"], [4, 262144, false, "venus"]]) {
+      const program = { text, base, size, hasStack, calls };
       const link = await page.encodeLink(program);
       report.same(`there and back, ${text.length} letters`, program, await followed(page, link));
       report.same("the letters of a link", true, /^#[\w=&-]+$/.test(link));
@@ -122,7 +122,10 @@ async function links(report, page) {
   report.same("the fields of a link", "#base=0x80000000&size=1048576&stack=1&program=",
     (await page.encodeLink({ text: "13", base: 0x80000000, size: MIB, hasStack: true }))
       .replace(/[^=]*$/, ""));
-  const plain = { text: "13", base: 0, size: 65536, hasStack: false };
+  report.same("and its calls", "#base=0x00000000&size=65536&calls=venus&program=",
+    (await page.encodeLink({ text: "13", base: 0, size: 65536, calls: "venus" }))
+      .replace(/[^=]*$/, ""));
+  const plain = { text: "13", base: 0, size: 65536, hasStack: false, calls: "linux" };
   for (const [hash, wanted] of [
     ["", null], ["#", null], ["#base=0x10", null], [linkTo("13"), plain],
     [linkTo("13", "base=100&"), { ...plain, base: 256 }],
@@ -132,7 +135,9 @@ async function links(report, page) {
     [linkTo("13", "size=&"), { ...plain, size: NaN }],
     [linkTo("13", "size=262144&"), { ...plain, size: 262144 }],
     [linkTo("13", "stack=1&"), { ...plain, hasStack: true }],
-    [linkTo("13", "stack=0&"), plain], [linkTo("13").slice(0, -2), DAMAGED],
+    [linkTo("13", "stack=0&"), plain], [linkTo("13", "calls=rars&"), { ...plain, calls: "rars" }],
+    [linkTo("13", "calls=else&"), { ...plain, calls: "else" }],
+    [linkTo("13").slice(0, -2), DAMAGED],
     ["#program=!", DAMAGED], ["#program=AAAA", DAMAGED], ["#program=", DAMAGED],
     [linkTo(Buffer.from([0x31, 0xff])), DAMAGED],
     [linkTo("\n".repeat(8 * MIB)), { ...plain, text: "\n".repeat(8 * MIB) }],

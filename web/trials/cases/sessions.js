@@ -54,6 +54,8 @@ function opening(report, over) {
     [{ base: 0xfff00004 }, at], [{ base: NaN }, at], [{ base: -4 }, at], [{ base: 2 }, at],
     [{ base: 1.5 }, at], [{ base: 0xfff00000 + 65536 }, at], [{ size: 65532 }, sizes],
     [{ size: NaN }, sizes], [{ size: 2097152 }, sizes], [{ size: 0 }, sizes],
+    [{ calls: "else" }, "The calls can be those of Linux, RARS, Venus."],
+    [{ calls: "toString" }, "The calls can be those of Linux, RARS, Venus."],
     [{ text: "" }, "There is no word in it."], [{ base: 2, text: "" }, at],
   ], (options) => Report.refused(() => opened(over, [0x13], options)));
   const session = opened(over, "a: 13 # one\n13 b: 73", { base: 0x1000 });
@@ -78,11 +80,12 @@ function singleSteps(report, over) {
     act(name);
   }
   report.same("steps there and back", [
-    ["Step 1", "addi x5, x0, 7: t0 = 0x00000007", "ready"],
-    ["Step 2", "jal x0, 0x0000000c", "ready"],
-    ["Step 3", "addi x0, x0, 0", "ready"], ["Back at step 2", "Next: addi x0, x0, 0", "ready"],
-    ["Back at step 1", "Next: jal x0, 0x0000000c", "ready"],
-    ["Back at step 0", "Next: addi x5, x0, 7", "ready"],
+    ["Step 1", "addi t0, zero, 7: t0 = 0x00000007", "ready"],
+    ["Step 2", "jal zero, 0x0000000c", "ready"],
+    ["Step 3", "addi zero, zero, 0", "ready"],
+    ["Back at step 2", "Next: addi zero, zero, 0", "ready"],
+    ["Back at step 1", "Next: jal zero, 0x0000000c", "ready"],
+    ["Back at step 0", "Next: addi t0, zero, 7", "ready"],
     ["At the start", "This is the first state.", "ready"],
   ], seen);
   session.machine.kit.words[0] = 0;
@@ -248,4 +251,4 @@ async function trySessions(report, page, kit, clock) {
   }
 }
 
-module.exports = { trySessions };
+module.exports = { opened, trySessions };

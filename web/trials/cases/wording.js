@@ -60,7 +60,7 @@ function effectOfLast(page, kit, words, steps, typed = "") {
   const machine = machineWith(page, kit, words);
   machine.terminal.type(typed);
   for (let made = 0; made < steps; made++) machine.step();
-  return page.effectOf(machine.history.read(steps - 1));
+  return page.effectOf(machine.history.read(steps - 1), page.NAMES.abi);
 }
 
 function effects(report, page, kit) {
@@ -106,7 +106,8 @@ function ends() {
   const stores = (address) => ["Store fault", `The instruction at ${at} stores to ${address}, `
     + `where there is no memory. ${MEMORY} ${NOTHING}`, "end"];
   const call = (number) => ["Environment call", `The ecall at 0x80000004 asks for system call `
-    + `${number} (a7). This page serves 63 (read), 64 (write) and 93 (exit). ${NOTHING}`, "end"];
+    + `${number} (a7). This page serves 63 (read), 64 (write) and 93 (exit), as Linux has them. `
+    + NOTHING, "end"];
   return [
     [[0xffffffff], ["Illegal instruction", "The word at 0x80000000 is 0xffffffff, which is no "
       + `instruction of RV32IM. ${NOTHING}`, "end"]],
@@ -136,7 +137,7 @@ function explanations(report, page, kit) {
   report.cases("why a program stands", ends(), (words) => {
     const machine = machineWith(page, kit, words, 0x80000000);
     const end = machine.run(99, new Uint8Array(16384));
-    const { heading, sentence, kind } = page.explain(end, machine);
+    const { heading, sentence, kind } = page.explain(end, machine, page.NAMES.abi);
     return [heading, sentence, kind];
   });
 }
@@ -145,8 +146,10 @@ function explanations(report, page, kit) {
 
 const KEYS = {
   step: "s", stepBack: "b", run: "r", pause: "p", runBack: "B", runToLine: "t", reset: "x",
-  breakpoint: "k", program: "g", slower: "-", faster: "+", radix: "n", unit: "m", around: "w",
-  address: "a", memoryUp: "[", memoryDown: "]", console: "c", endInput: "z", examples: "y",
+  breakpoint: "k", program: "g", slower: "-", faster: "+", radix: "n", names: "h", change: "u",
+  unit: "m", around: "w",
+  address: "a", memoryUp: "[", memoryDown: "]", calls: "f", console: "c",
+  endInput: "z", examples: "y",
   edit: "e", open: "o", link: "l", theme: "d", keys: "?",
 };
 

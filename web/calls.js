@@ -1,0 +1,126 @@
+"use strict";
+
+// The calls that an `ecall` makes, by the environments that programs are written for: of each a
+// table. A call is served by a function over the machine. It answers what goes into a0, undefined
+// for nothing, null where the program has to wait for input, or an end.
+
+const exitWith = (register) => ({ kit }) => ({ reason: "exit", status: kit.x[register] & 0xff });
+const exitWithZero = () => ({ reason: "exit", status: 0 });
+
+/* Prints what a function makes of a register's value. */
+const printed = (register, textOf) => (machine) => {
+  machine.print(new TextEncoder().encode(textOf(machine.kit.x[register])));
+};
+
+const decimal = (value) => String(value | 0);
+const upperHex = (value) => `0x${hexOf(value).toUpperCase()}`;
+const binary = (value) => value.toString(2).padStart(32, "0");
+
+/* Prints the lowest byte of a register. */
+const printByte = (register) => (machine) => {
+  machine.print(Uint8Array.of(machine.kit.x[register] & 0xff));
+};
+
+/* Prints the bytes from an address on, up to the first that is 0. */
+const printString = (register) => (machine) => {
+  const address = machine.kit.x[register];
+  const mapped = machine.bytesFrom(address);
+  const length = mapped.indexOf(0);
+  const why = `no byte of memory from ${hex(address)} on is 0`;
+  if (length < 0) return { reason: "refused", why };
+  return machine.print(mapped.subarray(0, length));
+};
+
+/* Gives the program bytes behind those that it has, up to the end of memory. */
+const moreMemory = (register) => (machine) => {
+  const { kit, heap } = machine;
+  const bytes = kit.x[register] | 0;
+  const next = heap + (bytes + 3 & ~3);
+  if (bytes < 0 || next > kit.base + kit.size) {
+    return { reason: "refused", why: `there is no room for ${numbered(bytes)} bytes more` };
+  }
+  machine.heap = next;
+  return heap;
+};
+
+const NO_INPUT = { reason: "refused", why: "the input has ended" };
+
+/* Reads a line with a decimal number. A line that is none is dropped. */
+function readNumber({ terminal }) {
+  if (terminal.isEmpty) return null;
+  const line = new TextDecoder().decode(terminal.takeLine()).trim();
+  if (line === "" && terminal.isEmptyForGood) return NO_INPUT;
+  const value = /^[+-]?[0-9]{1,10}$/.test(line) ? Number(line) : NaN;
+  if (value >= -(2 ** 31) && value < 2 ** 31) return value >>> 0;
+  return { reason: "refused", why: `"${shortened(line, 20)}" is no number from -2147483648 to `
+    + "2147483647. The line is dropped: another can be typed" };
+}
+
+/* Reads a byte. */
+function readByte({ terminal }) {
+  if (terminal.isEmpty) return null;
+  return terminal.isEmptyForGood ? NO_INPUT : terminal.takeBytes(1)[0];
+}
+
+/* Reads a line to an address, a0, of which a1 - 1 bytes at most are stored, and a 0 behind them. */
+function readString(machine, extra) {
+  const { kit, terminal } = machine;
+  const [address, room] = [kit.x[REGISTER.A0], kit.x[REGISTER.A1] | 0];
+  if (room < 1) return undefined;
+  if (room > 1 && terminal.isEmpty) return null;
+  if (machine.countMapped(address, room) < room) {
+    return { reason: "refused", why: `memory does not have ${numbered(room)} bytes from `
+      + `${hex(address)} on` };
+  }
+  const line = room > 1 ? terminal.takeLine().slice(0, room - 1) : [];
+  machine.storeBytes(address, [...line, 0], extra);
+  return undefined;
+}
+
+/* Of each environment: what it is called, the register that has the number of a call, and its
+ * calls. Linux's are those of `rrs exec` that the page serves. */
+const ENVIRONMENTS = {
+  linux: {
+    name: "Linux", number: REGISTER.A7,
+    calls: {
+      63: { name: "read", serve: (machine, extra) => machine.readCall(extra) },
+      64: { name: "write", serve: (machine) => machine.writeCall() },
+      93: { name: "exit", serve: exitWith(REGISTER.A0) },
+    },
+  },
+  rars: {
+    name: "RARS", number: REGISTER.A7,
+    calls: {
+      1: { name: "PrintInt", serve: printed(REGISTER.A0, decimal) },
+      4: { name: "PrintString", serve: printString(REGISTER.A0) },
+      5: { name: "ReadInt", serve: readNumber },
+      8: { name: "ReadString", serve: readString },
+      9: { name: "Sbrk", serve: moreMemory(REGISTER.A0) },
+      10: { name: "Exit", serve: exitWithZero },
+      11: { name: "PrintChar", serve: printByte(REGISTER.A0) },
+      12: { name: "ReadChar", serve: readByte },
+      34: { name: "PrintIntHex", serve: printed(REGISTER.A0, (value) => hex(value)) },
+      35: { name: "PrintIntBinary", serve: printed(REGISTER.A0, binary) },
+      36: { name: "PrintIntUnsigned", serve: printed(REGISTER.A0, String) },
+      93: { name: "Exit2", serve: exitWith(REGISTER.A0) },
+    },
+  },
+  venus: {
+    name: "Venus", number: REGISTER.A0,
+    calls: {
+      1: { name: "print_int", serve: printed(REGISTER.A1, decimal) },
+      4: { name: "print_string", serve: printString(REGISTER.A1) },
+      9: { name: "sbrk", serve: moreMemory(REGISTER.A1) },
+      10: { name: "exit", serve: exitWithZero },
+      11: { name: "print_character", serve: printByte(REGISTER.A1) },
+      17: { name: "exit2", serve: exitWith(REGISTER.A1) },
+      34: { name: "print_hex", serve: printed(REGISTER.A1, upperHex) },
+    },
+  },
+};
+
+/** The calls of an environment, as a sentence has them: `63 (read), 64 (write) and 93 (exit)`. */
+function callsOf({ calls }) {
+  const all = Object.entries(calls).map(([number, { name }]) => `${number} (${name})`);
+  return `${all.slice(0, -1).join(", ")} and ${all.at(-1)}`;
+}

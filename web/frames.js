@@ -1,0 +1,57 @@
+"use strict";
+
+// The calls that a program is in, found by the steps that it made. Nothing here knows the page.
+
+const OPCODE = { JALR: 0x67, JAL: 0x6f };
+
+/* The registers that hold a return address: ra, and t0 as the alternate link register. */
+const isLink = (register) => register === 1 || register === 5;
+
+/* What a jump does by the convention of the unprivileged specification, in its part on JALR and the
+ * return-address stack: "call", "return", or "" for neither. One that does both is a call. */
+function kindOfJump(word) {
+  const opcode = word & 0x7f;
+  if (opcode !== OPCODE.JAL && opcode !== OPCODE.JALR) return "";
+  if (isLink(word >>> 7 & 31)) return "call";
+  return opcode === OPCODE.JALR && isLink(word >>> 15 & 31) ? "return" : "";
+}
+
+/* The most frames that are kept. A deeper recursion loses its outermost ones. */
+const MOST_FRAMES = 1000;
+
+/* Calls `visit` with each kept record, oldest first: its block, and its place there. */
+function eachRecord({ blocks, first, steps }, visit) {
+  for (let step = first; step < steps; step++) {
+    const block = blocks[Math.floor(step / BLOCK_STEPS) % BLOCKS];
+    visit(block, step % BLOCK_STEPS * RECORD_WORDS);
+  }
+}
+
+/** The calls that have not returned, the innermost first, by the steps whose records are kept. Of
+ * each: the addresses `from` of the call, `entry` of the function, and `back` where it returns to,
+ * and `sp` where it was entered. */
+function framesOf({ kit, history }) {
+  const frames = [];
+  const withoutSp = [];
+  let sp;
+  let called = null;
+  eachRecord(history, (block, at) => {
+    const pc = block[at + RECORD.pc];
+    if (called !== null) called.entry = pc;
+    called = null;
+    if (rdIn(block[at + RECORD.flags]) === REGISTER.SP) {
+      const before = block[at + RECORD.rdBefore];
+      for (const frame of withoutSp.splice(0)) frame.sp = before;
+      sp = block[at + RECORD.rdAfter];
+    }
+    const kind = kindOfJump(block[at + RECORD.word]);
+    if (kind === "return") frames.pop();
+    if (kind !== "call") return;
+    called = { from: pc, entry: kit.pc, back: (pc + 4) % 2 ** 32, sp };
+    if (sp === undefined) withoutSp.push(called);
+    frames.push(called);
+    if (frames.length > MOST_FRAMES) frames.shift();
+  });
+  for (const frame of withoutSp) frame.sp = kit.x[REGISTER.SP];
+  return frames.reverse();
+}

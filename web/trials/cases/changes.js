@@ -1,0 +1,185 @@
+"use strict";
+
+// What a person changes by hand, the calls that a program is in, and names of registers.
+
+const { digest, machineWith } = require("./machine.js");
+const { opened } = require("./sessions.js");
+const w = require("./words.js");
+
+const WORD = "A number is wanted: 0x and hexadecimal digits, 0b and binary ones, or decimal ones "
+  + "from -2147483648 to 4294967295.";
+const BYTE = "A number is wanted: 0x and hexadecimal digits, 0b and binary ones, or decimal ones "
+  + "from -128 to 255.";
+
+function values(report, page) {
+  report.cases("the value of a text, of four bytes", [
+    ["0", 0], ["10", 10], ["-1", 0xffffffff], ["4294967295", 0xffffffff], ["4294967296", NaN],
+    ["-2147483648", 0x80000000], ["-2147483649", NaN], ["0xFFFFFFFF", 0xffffffff], ["0x10", 16],
+    ["0b101", 5], ["0b102", NaN], ["", NaN], ["1.5", NaN], ["1e3", NaN], ["x", NaN], ["0x", NaN],
+    ["0x100000000", NaN], ["--1", NaN],
+  ], (text) => page.parseValue(text, 4));
+  report.cases("and of one", [
+    ["255", 255], ["256", NaN], ["-128", 128], ["-129", NaN], ["0xff", 255], ["0x100", NaN],
+  ], (text) => page.parseValue(text, 1));
+  report.cases("the number of a register", [
+    ["zero", 0], ["x0", 0], ["ra", 1], ["sp", 2], ["x31", 31], ["t6", 31], ["fp", 8], ["s0", 8],
+    ["x32", undefined], ["pc", undefined], ["", undefined], ["x01", undefined], ["A0", undefined],
+  ], page.registerNamed);
+  report.cases("a text with the names of calls", [
+    ["addi x10, x0, -1", "addi a0, zero, -1"], ["lw x31, 12(x2)", "lw t6, 12(sp)"],
+    ["lui x1, 0x12345000", "lui ra, 0x12345000"], ["xor x3, x30, x11", "xor gp, t5, a1"],
+    ["ecall", "ecall"],
+  ], (text) => page.withNames(text, page.NAMES.abi));
+  report.same("and with their numbers", "sw x1, 0(x2)",
+    page.withNames("sw x1, 0(x2)", page.NAMES.number));
+}
+
+/* A change is taken back with the step before it, and steps after it begin with it. */
+function changesThereAndBack(report, page, kit) {
+  const words = [w.addi(5, 5, 1), w.sw(5, 0, 8), w.addi(6, 5, 0), w.ecall];
+  const machine = machineWith(page, kit, words);
+  kit.x[8] = machine.xBefore[8] = 0x2000;
+  const states = [digest(machine)];
+  machine.step();
+  states.push(digest(machine));
+  machine.setRegister(5, 100);
+  machine.setRegister(5, 200);
+  machine.setMemory(0x2004, 0x12345678, 4);
+  machine.setMemory(0x2005, 0xff, 1);
+  report.same("what was changed", [200, 0x1234ff78], [kit.x[5], kit.words[0x801]]);
+  machine.step();
+  machine.step();
+  report.same("steps after it", [200, 200], [kit.words[0x800], kit.x[6]]);
+  machine.setPc(0);
+  machine.stepBack();
+  report.same("the pc, a step back", [8, 0], [kit.pc, kit.x[6]]);
+  machine.stepBack();
+  report.same("before the store", [0, 200, 0x1234ff78],
+    [kit.words[0x800], kit.x[5], kit.words[0x801]]);
+  machine.stepBack();
+  report.same("before the change", states[0], digest(machine));
+  machine.step();
+  report.same("and once more there", states[1], digest(machine));
+  machine.stepBack();
+  machine.setRegister(5, 7);
+  machine.step();
+  machine.stepBack();
+  report.same("a change before the first step stays", [7, 0], [kit.x[5], machine.steps]);
+  machine.reset();
+  report.same("and is gone after a reset", 0, kit.x[5]);
+}
+
+function changesOfSessions(report, over) {
+  const session = opened(over, "13 go: 13", { base: 0x1000 });
+  const { kit } = session.machine;
+  const where = "Memory goes from 0x00001000 to 0x00010fff.";
+  report.cases("a change, and what is said of it", [
+    [["sp", "-1", 4], ["", "sp = 0xffffffff."]], [["x5", "0b11", 1], ["", "t0 = 0x00000003."]],
+    [["fp", "5", 4], ["", "s0 = 0x00000005."]], [["pc", "0x1004", 4], ["", "pc = 0x00001004."]],
+    [["go", "7", 4], ["", "[0x00001004] = 0x00000007."]],
+    [["1009", "7", 1], ["", "[0x00001009] = 0x07."]],
+    [[" 0x1010 ", " 7 ", 4], ["", "[0x00001010] = 0x00000007."]],
+    [["x0", "1", 4], ["x0 is always 0."]], [["zero", "1", 4], ["zero is always 0."]],
+    [["a0", "x", 4], [WORD]], [["1008", "256", 1], [BYTE]],
+    [["1009", "1", 4], ["A word has an address that is a multiple of 4."]],
+    [["fff", "1", 4], [`fff is no register, label or address. ${where}`]],
+    [["11000", "1", 4], [`11000 is no register, label or address. ${where}`]],
+    [["", "1", 4], [`That is no register, label or address. ${where}`]],
+  ], ([place, text, bytes]) => {
+    const before = session.notice;
+    const mistake = session.change(place, text, bytes);
+    const { heading, sentence } = session.notice;
+    if (mistake) return session.notice === before ? [mistake] : ["something was said"];
+    return heading === "Changed" ? ["", sentence] : [heading];
+  });
+  report.same("what was changed", [0xffffffff, 3, 5, 0x1004, 7, 0x700, 7],
+    [kit.x[2], kit.x[5], kit.x[8], kit.pc, ...kit.words.subarray(1, 3), kit.words[4]]);
+  session.names = over.page.NAMES.number;
+  session.change("t0", "1", 4);
+  report.same("by the names that were chosen", "x5 = 0x00000001.", session.notice.sentence);
+  session.run();
+  session.change("a0", "1", 4);
+  report.same("a change pauses a run", [false, 1], [session.isRunning, kit.x[10]]);
+}
+
+/* What was there where the machine stood last. */
+async function sinceTheLastStop(report, over) {
+  const session = opened(over, [w.addi(5, 5, 1), w.addi(6, 6, 1), w.jal(0, -8)]);
+  const since = () => [5, 6].map((register) =>
+    session.machine.kit.x[register] - session.before.x[register]);
+  report.same("nothing, at first", [0, 0], since());
+  session.step();
+  report.same("a step", [1, 0], since());
+  session.step();
+  report.same("and the next", [0, 1], since());
+  session.toggleBreakpoint(2);
+  session.run();
+  report.same("a run", [1, 1], since());
+  session.stepBack();
+  report.same("a step back", [0, -1], since());
+  session.machine.setMemory(0, 5, 4);
+  report.same("a word of memory", [5, w.addi(5, 5, 1)],
+    [session.machine.kit.words[0], session.before.words[0]]);
+  session.reset();
+  report.same("nothing, after a reset", [0, 0], since());
+}
+
+function keptBreakpoints(report, over) {
+  const session = opened(over, "13 a: 13 13 b: 13 13 c: 13");
+  for (const index of [0, 2, 4, 5]) session.toggleBreakpoint(index);
+  const stops = () => [...session.stops.entries()].filter(([, stop]) => stop).map(([at]) => at);
+  session.open({ name: "p", text: "13 13 13 a: 13 13 d: 13 13 c: 13", keepsStops: true });
+  report.same("breakpoints behind their labels", [0, 4, 6, 7], stops());
+  session.open({ name: "p", text: "13", keepsStops: true });
+  report.same("with no label of theirs", [0, 4, 6, 7], stops());
+  session.open({ name: "p", text: "13" });
+  report.same("of another program", [], stops());
+}
+
+function frames(report, page, kit) {
+  const call = (offset, rd = 1) => w.jal(rd, offset);
+  const ret = (rs = 1) => w.jalr(0, rs, 0);
+  const push = w.addi(2, 2, -16);
+  const pop = w.addi(2, 2, 16);
+  // 0 calls 12, which calls 24 by t0, which calls 40 by a register, which returns
+  const words = [call(12), w.ebreak, w.ebreak, push, call(8, 5), w.ebreak, w.addi(6, 0, 40),
+    w.jalr(1, 6, 0), pop, ret(), w.addi(7, 7, 1), ret()];
+  const machine = machineWith(page, kit, words, 0, true);
+  const seen = [];
+  for (let made = 0; made < 6; made++) {
+    seen.push(page.framesOf(machine).map(({ from, entry, back, sp }) => [from, entry, back, sp]));
+    machine.step();
+  }
+  const top = 0x10000;
+  const outer = [0, 12, 4, top];
+  const inner = [16, 24, 20, top - 16];
+  report.same("the calls that a program is in", [
+    [], [outer], [outer], [inner, outer], [inner, outer], [[28, 40, 32, top - 16], inner, outer],
+  ], seen);
+  machine.step();
+  report.same("after a return", [inner, outer],
+    [page.framesOf(machine).map(({ from, entry, back, sp }) => [from, entry, back, sp])].flat());
+  report.cases("what a jump does", [
+    [w.jal(0, 8), ""], [w.jal(1, 8), "call"], [w.jal(5, 8), "call"], [w.jalr(0, 1, 0), "return"],
+    [w.jalr(0, 5, 0), "return"], [w.jalr(0, 6, 0), ""], [w.jalr(1, 1, 0), "call"],
+    [w.addi(1, 1, 0), ""], [w.b(0, 1, 1, 8), ""],
+  ], page.kindOfJump);
+  const deep = machineWith(page, kit, [call(0)]);
+  for (let made = 0; made < 1500; made++) deep.step();
+  report.same("a recursion without end", 1000, page.framesOf(deep).length);
+}
+
+/** Tries changes by hand, what changed since the last stop, kept breakpoints, and frames. */
+async function tryChanges(report, page, kit, clock) {
+  report.begin("changes");
+  const over = { page, kit, clock };
+  values(report, page);
+  changesThereAndBack(report, page, kit);
+  changesOfSessions(report, over);
+  await sinceTheLastStop(report, over);
+  keptBreakpoints(report, over);
+  report.begin("frames");
+  frames(report, page, kit);
+}
+
+module.exports = { tryChanges };

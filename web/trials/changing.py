@@ -1,0 +1,210 @@
+"""What a person changes by hand, what changed since the last stop, names, calls, and breakpoints
+that are kept."""
+
+import pathlib
+import tempfile
+
+from trials.report import same
+from trials.view import js
+
+OPEN = "document.querySelector('dialog[open]')?.id ?? null"
+FIELDS = "['place', 'value'].map((id) => document.getElementById(id).value)"
+
+
+def set_to(machine, text):
+    """Types a value into the dialog, whose field for it has the focus, and takes it."""
+    machine.page.type(text)
+    machine.page.press("Enter")
+
+
+def changes_by_hand(machine):
+    """registers and memory by a click and by a key; a step back takes the change back"""
+    page = machine.page
+    machine.choose("three")
+    machine.keys("s")
+    page.click("#x5 .value")
+    same("what is asked for", ["change", ["t0", "0x00000000"], "value"], page.ask(
+        f"[{OPEN}, {FIELDS}, document.activeElement.id]"))
+    set_to(machine, "-2")
+    machine.wait_closed()
+    machine.says("Changed", "t0 = 0xfffffffe.")
+    same("t0", "0xfffffffe", machine.register("x5"))
+    page.choose("#around", "pc")
+    machine.leave_fields()
+    page.click("#memory .target")
+    same("a word at a click", ["0x00000004", "0xf387e1b7"], page.ask(FIELDS))
+    set_to(machine, "0x00300093")
+    machine.wait_closed()
+    same("the line", "addi ra, zero, 3", machine.line(1)[2])
+    machine.keys("m")
+    page.click("#memory .target")
+    same("a byte at a click", ["0x00000004", "0x93"], page.ask(FIELDS))
+    set_to(machine, "256")
+    same("a value that is none", ["change", "A number is wanted: 0x and hexadecimal digits, 0b and "
+                                  "binary ones, or decimal ones from -128 to 255."],
+         [page.ask(OPEN), page.text("#change-mistake")])
+    page.click("#change [data-close]")
+    machine.keys("mu")
+    same("the dialog by its key", [["", ""], "place"],
+         page.ask(f"[{FIELDS}, document.activeElement.id]"))
+    page.type("pc")
+    page.press("Tab")
+    page.type("8")
+    page.click("#set")
+    same("the pc", "0x00000008", machine.register("pc"))
+    machine.keys("b")
+    same("a step back", ["0x00000000", "0x00000000", "lui gp, 0xf387e000"],
+         [machine.register("pc"), machine.register("x5"), machine.line(1)[2]])
+
+
+SINCE = ("[...document.querySelectorAll('.register.since')].map((cell) => [cell.id,"
+         " cell.getAttribute('aria-description')])")
+SINCE_MEMORY = ("[...document.querySelectorAll('#memory .since')].map((cell) =>"
+                " [cell.textContent, cell.title])")
+
+
+def since_the_last_stop(machine):
+    """what changed since the machine stood last is marked, of registers and of memory"""
+    page = machine.page
+    machine.choose("fibonacci")
+    same("at the start", [[], []], [page.ask(SINCE), page.ask(SINCE_MEMORY)])
+    changed = "changed since the last stop"
+    machine.keys("s")
+    same("after a step", [["x2", f"the last written, {changed}"]], page.ask(SINCE))
+    machine.keys("s")
+    same("after another", [["x10", f"the last written, {changed}"]], page.ask(SINCE))
+    page.click("#line-12 .gutter")
+    machine.leave_fields()
+    machine.run()
+    same("after a run", [[name, changed] for name in ("x1", "x2", "x5")] + [
+        ["x8", f"the last written, {changed}"]], page.ask(SINCE))
+    same("a word of memory", [["0000000c", changed]], page.ask(SINCE_MEMORY))
+    same("how it looks", True, page.ask(
+        "getComputedStyle(document.querySelector('#memory .since')).backgroundColor"
+        " !== getComputedStyle(document.querySelector('#memory .zero')).backgroundColor"))
+    same("and a register", "underline", page.ask(
+        "getComputedStyle(document.querySelector('.since .value')).textDecorationLine"))
+    machine.keys("b")
+    same("after a step back", [["x8", changed]], page.ask(SINCE))
+    same("of memory", [], page.ask(SINCE_MEMORY))
+    machine.keys("x")
+    same("after a reset", [], page.ask(SINCE))
+
+
+def names(machine):
+    """names of registers: the listing, the log, the state and the panel agree by one switch"""
+    page = machine.page
+    machine.choose("three")
+    machine.keys("sss")
+
+    def seen():
+        return [machine.line(2)[2], *machine.rows("log")[0][2:], page.text("#sentence"),
+                page.text("#x1 .name"), page.text("#x1 .number")]
+
+    by_name = ["add ra, sp, gp", "add ra, sp, gp", "ra = 0x05bc9000",
+               "add ra, sp, gp: ra = 0x05bc9000", "ra", "x1"]
+    same("by names", by_name, seen())
+    machine.keys("hbs")
+    same("by numbers", ["add x1, x2, x3", "add x1, x2, x3", "x1 = 0x05bc9000",
+                        "add x1, x2, x3: x1 = 0x05bc9000", "x1", "ra"], seen())
+    machine.choose("ecall")
+    machine.run()
+    same("in a sentence", True, "system call 500 (x17)." in page.text("#sentence"))
+    page.click("#x10 .value")
+    same("in the dialog", ["x10", "0x00000000"], page.ask(FIELDS))
+    machine.escape()
+    machine.keys("h")
+    machine.choose("three")
+    machine.keys("sss")
+    same("by names again", by_name, seen())
+
+
+def calls_made(machine):
+    """the calls that a program is in, with where they return to and sp at their entry"""
+    page = machine.page
+    machine.choose("fibonacci")
+    same("no call", [[], "none"], [machine.rows("frames"), page.text("#frames-note")])
+    page.click("#line-7 .gutter")
+    machine.leave_fields()
+    machine.run()
+    machine.run()
+    same("two calls", [["fib", "fib + 32", "0000fff0"], ["fib", "start + 8", "00010000"]],
+         machine.rows("frames"))
+    same("where they return to", ["from 0x00000034, back to 0x00000038",
+                                  "from 0x00000008, back to 0x0000000c"],
+         page.ask("[...document.querySelectorAll('#frames td:nth-child(2)')]"
+                  ".map((cell) => cell.title)"))
+    page.click("#line-7 .gutter")
+    machine.leave_fields()
+    machine.run("B")
+    same("back at the start", [], machine.rows("frames"))
+    machine.edit("loop:\n000000ef # jal ra, loop")
+    machine.page.press("r")
+    page.wait("rrs.session.machine.steps > 2000")
+    machine.keys("p")
+    same("of very many calls", [100, "900 more"],
+         [len(machine.rows("frames")), page.text("#frames-note")])
+
+
+def kept_breakpoints(machine):
+    """Load keeps the breakpoints, and another program has none"""
+    page = machine.page
+    stops = "[...document.querySelectorAll('.line.stop')].map(({ id }) => id)"
+    machine.choose("gcd")
+    for line in (6, 8):
+        page.click(f"#line-{line} .gutter")
+    machine.leave_fields()
+    text = page.ask("rrs.session.text")
+    machine.edit("13 13\n" + text)
+    same("two words on", ["line-8", "line-10"], page.ask(stops))
+    machine.run()
+    machine.says("Breakpoint", "Stopped before a breakpoint at 0x00000028, after 7 steps more.")
+    machine.choose("gcd")
+    same("another program", [], page.ask(stops))
+
+
+def calls_of_others(machine):
+    """a program with the calls of RARS, typed, from a file and from a link; and an example"""
+    page = machine.page
+    machine.choose("three")
+    machine.keys("f")
+    page.press("ArrowDown")
+    machine.leave_fields()
+    # ReadInt, PrintInt, Exit
+    words = "00500893 00000073 00100893 00000073 00a00893 00000073"
+    chosen = "document.querySelector('#calls').value"
+    machine.edit(words)
+    same("the calls of what is typed", "rars", page.ask(chosen))
+    machine.run()
+    machine.says("Waiting for input")
+    page.replace("#input", "forty")
+    page.press("Enter")
+    page.wait("!rrs.session.isRunning")
+    machine.says("Call refused", 'The ecall at 0x00000004 could not be served: "forty" is no '
+                 "number from -2147483648 to 2147483647. The line is dropped: another can be typed.")
+    page.replace("#input", "-42")
+    page.press("Enter")
+    machine.leave_fields()
+    machine.run()
+    machine.says("Exit")
+    same("the output", "-42", page.text("#output"))
+    with tempfile.TemporaryDirectory() as name:
+        path = pathlib.Path(name) / "read.hex"
+        path.write_text(words)
+        machine.give(path)
+    same("the calls of a file", "rars", page.ask(chosen))
+    machine.keys("l")
+    page.wait("document.querySelector('#shared').open")
+    link = page.ask("document.querySelector('#link').value")
+    machine.escape()
+    machine.choose("gcd")
+    same("the calls of an example", "linux", page.ask(chosen))
+    page.ask(f"location.hash = {js(link.split('#', 1)[1])}; null")
+    page.wait("document.querySelector('#program-title').textContent === 'Program of the link'")
+    same("the calls of a link", "rars", page.ask(chosen))
+    machine.choose("three")
+
+
+TRIALS = [
+    calls_of_others, changes_by_hand, since_the_last_stop, names, calls_made, kept_breakpoints,
+]
