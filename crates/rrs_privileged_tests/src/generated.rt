@@ -1,0 +1,227 @@
+//! 10,000 generated programs, beside a model that is written from the specifications:
+//! `examples/machine/model.py` makes the same programs and prints the table of this test.
+
+use crate::steps::step_over;
+use rrs_lib::HartState;
+use rrs_lib::memories::VecMemory;
+use rrs_privileged::{CsrFile, Inputs};
+use std::alloc::{AllocError, Global};
+use std::test::Fail;
+
+/// How many programs a checksum is of.
+const PROGRAMS: u32 = 500;
+
+/// How many steps a program makes.
+const STEPS: u64 = 24;
+
+/// How many words its memory has, all of which are generated.
+const WORDS: usize = 64;
+
+/// What the model answers: a checksum of what 500 programs left.
+const CHECKSUMS: [u32; 20] = [
+    0xa847_c2c6,
+    0xbdb6_0d74,
+    0x0b07_688c,
+    0x9d95_04f2,
+    0xb3a1_90b8,
+    0xa494_32ec,
+    0xee87_a8bd,
+    0xc63e_e076,
+    0xd4b4_d9d9,
+    0x32e8_b11b,
+    0x881c_7061,
+    0x8ac8_ded3,
+    0xb42a_95e2,
+    0x2e98_05e9,
+    0x6d38_5af8,
+    0xba79_c2eb,
+    0xe401_b280,
+    0x447f_3a03,
+    0x97ec_9fdf,
+    0x4e21_7548,
+];
+
+/// The CSRs of the programs, and one that is none.
+const NUMBERS: [u32; 24] = [
+    0x300, 0x301, 0x304, 0x305, 0x310, 0x320, 0x340, 0x341, 0x342, 0x343, 0x344, 0xb00, 0xb02,
+    0xb80, 0xb82, 0xb03, 0x323, 0xb9f, 0xc00, 0xc01, 0xc02, 0xc81, 0xf14, 0x180,
+];
+
+/// Pseudo-random numbers of 24 bits: a linear congruence modulo 2^32.
+#[derive(Drop)]
+struct Numbers {
+    state: u32,
+}
+
+impl Numbers {
+    fn next(&mut self) -> u32 {
+        self.state = self
+            .state
+            .wrapping_mul(1_664_525)
+            .wrapping_add(1_013_904_223);
+        self.state >> 8
+    }
+}
+
+/// A word of the I format.
+fn i_type(imm: u32, rs1: u32, funct3: u32, rd: u32, opcode: u32) -> u32 {
+    (imm << 20) | (rs1 << 15) | (funct3 << 12) | (rd << 7) | opcode
+}
+
+/// A store.
+fn s_type(imm: u32, rs2: u32, funct3: u32) -> u32 {
+    ((imm >> 5) << 25) | (rs2 << 20) | (funct3 << 12) | ((imm & 31) << 7) | 0x23
+}
+
+/// A branch to an offset below 64.
+fn b_type(imm: u32, rs2: u32, rs1: u32, funct3: u32) -> u32 {
+    ((imm >> 5) << 25)
+        | (rs2 << 20)
+        | (rs1 << 15)
+        | (funct3 << 12)
+        | (((imm >> 1) & 15) << 8)
+        | 0x63
+}
+
+/// An instruction on a CSR.
+fn csr_word(a: u32, rs1: u32, c: u32, rd: u32) -> u32 {
+    let number = NUMBERS.get(c as usize % 24).copied().unwrap_or(0);
+    let funct3 = [1, 2, 3, 5, 6, 7]
+        .get(a as usize / 8 % 6)
+        .copied()
+        .unwrap_or(0);
+    i_type(number, rs1, funct3, rd, 0x73)
+}
+
+/// An instruction of sixteen kinds.
+fn word_of(numbers: &mut Numbers) -> u32 {
+    let kind = numbers.next() % 16;
+    let (a, b, c) = (numbers.next(), numbers.next(), numbers.next());
+    let (rd, rs1) = (a % 8, b % 8);
+    match kind {
+        0..=4 => csr_word(a, rs1, c, rd),
+        5 => i_type(c % 4096, rs1, 0, rd, 0x13),
+        6 => ((c % 8) << 20) | (rs1 << 15) | (rd << 7) | 0x33,
+        7 => {
+            let funct3 = [0, 1, 2, 4, 5].get(b as usize % 5).copied().unwrap_or(0);
+            i_type(c % 288, 0, funct3, rd, 0x03)
+        }
+        8 => s_type(c % 288, rd, b % 3),
+        9 => ((c % 64) << 21) | (rd << 7) | 0x6f,
+        10 => b_type(c % 32 * 2, rd, rs1, b / 8 % 2),
+        11 => i_type(c % 256, rs1, 0, rd, 0x67),
+        12 => ((c % 2) << 20) | 0x73,
+        13 => 0x3020_0073,
+        14 => { if c % 2 == 0 { 0x1050_0073 } else { 0x0000_100f } }
+        _ => (c << 8) | (a % 256),
+    }
+}
+
+/// The memory of a program.
+fn memory_of(alloc: Global, numbers: &mut Numbers) -> Result<VecMemory, AllocError> {
+    let mut words = Vec::with_capacity(alloc, WORDS)?;
+    for _ in 0..WORDS {
+        words.push(word_of(numbers))?;
+    }
+    Ok(VecMemory::new(words))
+}
+
+/// The hart of a program.
+fn hart_of(numbers: &mut Numbers) -> HartState {
+    let mut hart = HartState::new();
+    for register in 1..8 {
+        let high = numbers.next();
+        let low = numbers.next();
+        hart.registers[register] = (high << 8) ^ low;
+    }
+    hart
+}
+
+/// The CSRs of a program.
+fn csrs_of(numbers: &mut Numbers) -> CsrFile {
+    let mut csrs = CsrFile::new();
+    csrs.mstatus = numbers.next() & 0x88;
+    csrs.mie = numbers.next() & 0x888;
+    let base = numbers.next() % 32 * 4;
+    csrs.mtvec = base + numbers.next() % 2;
+    csrs.mepc = numbers.next() % 32 * 4;
+    csrs.mcycle = u64::from(numbers.next()) << 20;
+    csrs.minstret = u64::from(numbers.next()) << 20;
+    csrs
+}
+
+/// What a step is told.
+fn inputs_of(numbers: &mut Numbers, step: u64) -> Inputs {
+    let told = numbers.next();
+    let some = told / 8 % 4 == 0;
+    Inputs {
+        external: some && told % 2 == 1,
+        software: some && told / 2 % 2 == 1,
+        timer: some && told / 4 % 2 == 1,
+        time: (u64::from(told) << 16) | step,
+    }
+}
+
+/// A checksum with one more value.
+fn mixed(checksum: u32, value: u32) -> u32 {
+    (checksum ^ value).wrapping_mul(16_777_619)
+}
+
+/// A checksum with the CSRs.
+fn with_csrs(checksum: u32, csrs: &CsrFile) -> u32 {
+    let mut checksum = checksum;
+    for value in [
+        csrs.mstatus,
+        csrs.mie,
+        csrs.mtvec,
+        csrs.mscratch,
+        csrs.mepc,
+        csrs.mcause,
+        csrs.mtval,
+        csrs.mcountinhibit,
+        (csrs.mcycle % 0x1_0000_0000) as u32,
+        (csrs.mcycle >> 32) as u32,
+        (csrs.minstret % 0x1_0000_0000) as u32,
+        (csrs.minstret >> 32) as u32,
+    ] {
+        checksum = mixed(checksum, value);
+    }
+    checksum
+}
+
+/// Runs a program, and goes on with a checksum of what it left.
+fn run_program(alloc: Global, numbers: &mut Numbers, checksum: u32) -> Result<u32, AllocError> {
+    let mut memory = memory_of(alloc, numbers)?;
+    let mut hart = hart_of(numbers);
+    let mut csrs = csrs_of(numbers);
+    for step in 0..STEPS {
+        let inputs = inputs_of(numbers, step);
+        step_over(&mut memory, &mut hart, &mut csrs, &inputs);
+    }
+    let mut checksum = checksum;
+    for register in 1..32 {
+        checksum = mixed(checksum, hart.registers[register]);
+    }
+    checksum = with_csrs(mixed(checksum, hart.pc), &csrs);
+    for word in &memory.mem {
+        checksum = mixed(checksum, *word);
+    }
+    Ok(checksum)
+}
+
+#[test]
+fn generated_programs(rt: HostRuntime) -> Result<(), Fail> {
+    let mut seen = [0; 20];
+    let mut seed: u32 = 0;
+    for place in seen.iter_mut() {
+        seed = seed.wrapping_add(1);
+        let mut numbers = Numbers { state: seed };
+        let mut checksum = 2_166_136_261;
+        for _ in 0..PROGRAMS {
+            checksum = run_program(rt.alloc(), &mut numbers, checksum)?;
+        }
+        *place = checksum;
+    }
+    assert_eq!(rt; seen, CHECKSUMS);
+    Ok(())
+}
