@@ -3,3 +3,4 @@ mod TracedAccesses
 pub mod Stopping
 -- An access that is made outside of the machine.
 mod OutsideSteps
+mod LastWritten

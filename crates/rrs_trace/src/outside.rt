@@ -13,6 +13,7 @@ ghost use Rattle.rrs_lib.specs.Table.{table};
 ghost use Rattle.rrs_lib.specs.Instructions.{row_of, fields_of};
 ghost use Rattle.rrs_lib.specs.Machine.{State, state_of, reg, plus_immediate, put};
 ghost use Rattle.rrs_lib.specs.Words.{word};
+ghost use Rattle.rrs_lib.specs.Steps.{LastIsRegister};
 ghost use Rattle.rrs_lib.specs.Executor.{state_in, KeepsTheRest};
 ghost use Rattle.rrs_lib.specs.Accesses.{read_if_aligned, Makes, size_of};
 ghost use Rattle.rrs_trace.specs.Outside.{requested, AccessesAfterFetch, Foretells, WithEachMemory, Completes, LoadsGiven, StoresElsewhere, request_by, call_fault, answer_to, address_of, size_asked, FindsAccess, GoesBehind, Asks, Loads, Advances, Grants, StepsAlone, Performs};
@@ -94,9 +95,10 @@ pub fn request(hart: &HartState, word: u32) -> Result<Option<DataRequest>, Instr
 /// accesses nothing, and of one with an exception before its access, it is not looked at. The word
 /// is as in [request].
 ///
-/// The clause: with each memory that has this word at the pc, and that answers the access so, this
-/// is the step: its answer, and the hart that it leaves. The bytes are as before, but that those of
-/// a store that was granted are stored. The caller stores them, before the call or after it.
+/// The clauses: with each memory that has this word at the pc, and that answers the access so, this
+/// is the step: its answer, and the hart that it leaves (`step`). The bytes are as before, but that
+/// those of a store that was granted are stored. The caller stores them, before the call or after
+/// it. The last written register is one of 1 to 31, or none, whatever is given (`last`).
 ///
 /// # Errors
 ///
@@ -109,6 +111,7 @@ pub fn complete(
     given: Option<u32>,
 ) -> Result<(), InstructionException>
     ensures step { Completes hart.old hart.new word given result }
+    ensures last { LastIsRegister hart.new.last_register_write }
     ensures entry_zero { slice_index hart.new.registers 0 ≡ slice_index hart.old.registers 0 }
 {
     hart.last_register_write = None;
