@@ -9,6 +9,7 @@ use Rattle.rrs_cli.specs.Printed.{zero_words, start_of}
 use Rattle.rrs_env.specs.declared.Ending.{Ending}
 use Rattle.rrs_env.specs.Serving.{Served}
 use Rattle.rrs_linux.specs.declared.Process.{Process}
+use Rattle.rrs_linux.specs.declared.host_writer.HostWriter.{HostWriter}
 use Rattle.rrs_linux.specs.declared.input_buffer.InputBuffer.{InputBuffer}
 use Rattle.rrs_linux.specs.SystemCalls.{Serves}
 
@@ -23,7 +24,8 @@ program_start bytes = start_of 262144 (0 ∷ 2 ^ 20 ∷ replicate 29 0) bytes
 -- gave to the program.
 pub record ExecutesProgram {R W E : Type 0} (remaining : R → Option (List ℕ))
     (contents : W → Option (List ℕ)) (errors_of : E → Option (List ℕ)) (limit : ℕ)
-    (input rest : Option (List ℕ)) (old new : Process R W E InputBuffer) (ending : Ending) : Type 0 where
+    (input rest : Option (List ℕ))
+    (old new : Process R (HostWriter W) (HostWriter E) InputBuffer) (ending : Ending) : Type 0 where
   pub bytes : ByteMap
   pub loaded : Loads input rest (bytes_of_words (zero_words 262144)) bytes
       (lies_in_words (zero_words 262144)) 0 (Ok tt)

@@ -70,7 +70,8 @@ error. Both options are required, in either order.
 
 Status: the program's own; 124 at the limit; 125 where it can't be run; 128 and
 the number of a signal for a fault: 132 illegal instruction, 133 breakpoint,
-135 misaligned address, 139 address outside the memory.
+135 misaligned address, 139 address outside the memory; 141 where nobody reads
+what the program writes.
 ",
 };
 

@@ -117,10 +117,13 @@ module _ {M : Type 0} {reads : M → ℕ → MemAccessSize → M → Option ℕ 
       (written, omega (arith, length-append text (take taken front)), λ all. omega (arith, length-take copied chunk))
 
   -- what was written, by how it ended
-  pub writes_text : {before after : Option (List ℕ)} {text : List ℕ} {count n answer : ℕ} {old new : M}
-      → Written reads writes bytes a before after text n old new → WriteEnds bytes a count text n answer
-      → MakesSome reads writes (WritesText bytes a count before after answer) old new
-  writes_text {before = before} {after = after} {text = text} {count = count} {n = n} {answer = answer} w ended =
-      let these : WritesText bytes a count before after answer (byte_reads bytes a n) =
+  pub writes_text : {before after : Option (List ℕ)} {text : List ℕ} {count short short' n answer : ℕ} {broken : Bool}
+      {old new : M}
+      → Written reads writes bytes a before after text n old new
+      → WriteEnds bytes a count text short short' broken n answer
+      → MakesSome reads writes (WritesText bytes a count before after short short' broken answer) old new
+  writes_text {before = before} {after = after} {text = text} {count = count} {short = short} {short' = short'} {n = n}
+      {answer = answer} {broken = broken} w ended =
+      let these : WritesText bytes a count before after short short' broken answer (byte_reads bytes a n) =
       record { text = text; stands = w.stands; appended = w.appended; reads = n; ended = ended; accessed = refl } in
       record { accesses = byte_reads bytes a n; these = these; made = w.made }

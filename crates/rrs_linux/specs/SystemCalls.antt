@@ -1,14 +1,15 @@
 -- What a system call does to the environment and to the machine, and whether it ends the program.
-use Rattle.std.specs.Prelude.{◌≡◌, ℕ, ◌&&◌, nat_le, if◌then◌else◌, List, [], Option, Some, None, pos}
+use Rattle.std.specs.Prelude.{◌≡◌, ℕ, ◌==◌, ◌&&◌, nat_le, if◌then◌else◌, List, [], Option, Some, None, pos}
 use Rattle.rrs_lib.specs.Bytes.{ByteMap}
 use Rattle.rrs_lib.specs.AccessLists.{Access}
 use Rattle.rrs_lib.specs.Machine.{State, put}
 use Rattle.rrs_linux.specs.declared.Heap.{Heap}
 use Rattle.rrs_linux.specs.declared.Process.{Process}
+use Rattle.rrs_linux.specs.declared.host_writer.HostWriter.{HostWriter}
 use Rattle.rrs_linux.specs.declared.input_buffer.InputBuffer.{InputBuffer}
 use Rattle.rrs_linux.specs.declared.requests.Request.{Request}
 use Rattle.rrs_linux.specs.declared.requests.Request.TheVariants.{Exit, Answer, SetBreak, Read, WriteOutput, WriteErrors}
-use Rattle.rrs_linux.specs.Requests.{Asks}
+use Rattle.rrs_linux.specs.Requests.{Asks, error}
 use Rattle.rrs_linux.specs.BufferedBytes.{buffered_bytes}
 use Rattle.rrs_linux.specs.Transfers.{Gives, Takes, WritesText, ReadsText}
 
@@ -21,6 +22,12 @@ moved heap address =
 -- the answer in a0
 abbrev pub answered : State → ℕ → State
 answered s answer = put s 10 (pos answer)
+
+-- How a write ends the program: by the signal SIGPIPE (13) where nobody reads what is written, as
+-- its default action is (signal(7), pipe(7)), with the status that a shell gives it, 128 + 13. The
+-- answer stands in a0 then.
+abbrev pub ended_by : ℕ → Option ℕ
+ended_by answer = if answer == error 32 then Some 141 else None
 
 -- By what the streams do with the bytes of a buffer:
 module _ {R W E K : Type 0} (gives : Gives R K) (takes : Takes W) (takes_errors : Takes E) where
@@ -40,13 +47,11 @@ module _ {R W E K : Type 0} (gives : Gives R K) (takes : Takes W) (takes_errors 
       × (new ≡ record old { input = input; held = held })
       × (t ≡ answered (record s { bytes = bytes }) answer)
   Does (WriteOutput a count) old s new t accesses end =
-      (end ≡ None) × (output : W) × (answer : ℕ)
-      × takes s.bytes a count old.output output answer accesses
-      × (new ≡ record old { output = output }) × (t ≡ answered s answer)
+      (output : W) × (answer : ℕ) × takes s.bytes a count old.output output answer accesses
+      × (new ≡ record old { output = output }) × (t ≡ answered s answer) × (end ≡ ended_by answer)
   Does (WriteErrors a count) old s new t accesses end =
-      (end ≡ None) × (errors : E) × (answer : ℕ)
-      × takes_errors s.bytes a count old.errors errors answer accesses
-      × (new ≡ record old { errors = errors }) × (t ≡ answered s answer)
+      (errors : E) × (answer : ℕ) × takes_errors s.bytes a count old.errors errors answer accesses
+      × (new ≡ record old { errors = errors }) × (t ≡ answered s answer) × (end ≡ ended_by answer)
 
   -- What a call does: it asks for something, and that is done.
   pub record ServesBy (old : Process R W E K) (s : State) (new : Process R W E K) (t : State)
@@ -57,10 +62,12 @@ module _ {R W E K : Type 0} (gives : Gives R K) (takes : Takes W) (takes_errors 
 
 -- ---- streams of the host
 
--- a write to a writer, by the bytes that it holds, where these are known
-abbrev pub WritesOutput : {W : Type 0} → (W → Option (List ℕ)) → Takes W
+-- A write to a writer, by the bytes that it holds, where these are known, and by how many of its
+-- writes were short. The library's contract of a writer doesn't say when one is.
+abbrev pub WritesOutput : {W : Type 0} → (W → Option (List ℕ)) → Takes (HostWriter W)
 WritesOutput contents bytes a count old new answer accesses =
-    WritesText bytes a count (contents old) (contents new) answer accesses
+    WritesText bytes a count (contents old.stream) (contents new.stream)
+    old.short_writes new.short_writes new.is_broken answer accesses
 
 -- A read of a reader, by the bytes that it has left, where these are known, by those held, and by
 -- how many reads failed. The library's contract of a reader doesn't say when it fails.
@@ -71,7 +78,7 @@ ReadsInput remaining writable bytes bytes' a count old held new held' answer acc
 
 -- What a call does over a reader and two writers of the host, by what is known of each.
 abbrev pub Serves : {R W E : Type 0} → (R → Option (List ℕ)) → (W → Option (List ℕ))
-    → (E → Option (List ℕ)) → Process R W E InputBuffer → State → Process R W E InputBuffer → State
-    → List Access → Option ℕ → Type 0
+    → (E → Option (List ℕ)) → Process R (HostWriter W) (HostWriter E) InputBuffer → State
+    → Process R (HostWriter W) (HostWriter E) InputBuffer → State → List Access → Option ℕ → Type 0
 Serves remaining contents errors_of =
     ServesBy (ReadsInput remaining) (WritesOutput contents) (WritesOutput errors_of)

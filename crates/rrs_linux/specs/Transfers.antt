@@ -1,6 +1,6 @@
 -- What write and read transfer (write(2) and read(2)): which bytes, by which accesses of the
 -- memory, and what the call answers. A stream's bytes are given where they are known.
-use Rattle.std.specs.Prelude.{◌≡◌, ◌⊎◌, ℕ, zero, suc, ◌+◌, ◌%◌, ◌^◌, ◌<◌, ◌≤◌, min, Bool, false, List, [], ◌∷◌, ◌++◌, length, slice_index, Option, Some, None}
+use Rattle.std.specs.Prelude.{◌≡◌, ◌⊎◌, ℕ, zero, suc, ◌+◌, ◌%◌, ◌^◌, ◌<◌, ◌≤◌, min, Bool, false, if◌then◌else◌, List, [], ◌∷◌, ◌++◌, length, slice_index, Option, Some, None}
 use Rattle.std.specs.Io.KnownBytes.{Appends, Consumes, IsAtEnd}
 use Rattle.rrs_lib.specs.declared.MemAccessSize.TheVariants.{Byte}
 use Rattle.rrs_lib.specs.Bytes.{ByteMap}
@@ -40,37 +40,46 @@ abbrev pub byte_reads : ByteMap → ℕ → ℕ → List Access
 byte_reads bytes a zero = []
 byte_reads bytes a (suc n) = byte_reads bytes a n ++ Read (a + n) Byte (bytes (a + n)) ∷ []
 
--- How the write of a buffer at a, of a text that stands at its beginning, ended: how many bytes of
--- the memory were read, and the answer.
-pub data WriteEnds (bytes : ByteMap) (a count : ℕ) (text : List ℕ) (reads answer : ℕ) : Type 0 where
+-- the error of a write that failed: nobody reads what is written (EPIPE is 32), or another (EIO is 5)
+abbrev pub failure : Bool → ℕ
+failure broken = error (if broken then 32 else 5)
+
+-- How the write of a buffer at a, of a text that stands at its beginning, ended: by how many writes
+-- of the host had been short before and have been after, modulo 2^64, and whether the latest of
+-- these failed because nobody reads; how many bytes of the memory were read, and the answer.
+pub data WriteEnds (bytes : ByteMap) (a count : ℕ) (text : List ℕ) (short short' : ℕ)
+    (broken : Bool) (reads answer : ℕ) : Type 0 where
   -- the whole buffer is written, or as much of it as one call writes
   Whole :
-      a + count ≤ 2 ^ 32 → length text ≡ min count most_bytes
+      a + count ≤ 2 ^ 32 → length text ≡ min count most_bytes → short' ≡ short
       → reads ≡ length text → answer ≡ length text
-      → WriteEnds bytes a count text reads answer
-  -- the next byte is not mapped (EFAULT is 14)
+      → WriteEnds bytes a count text short short' broken reads answer
+  -- all bytes before one that is not mapped are written (EFAULT is 14)
   IsUnmapped :
       a + count ≤ 2 ^ 32 → length text < min count most_bytes → bytes (a + length text) ≡ None
+      → short' ≡ short
       → reads ≡ length text + 1 → answer ≡ counted (length text) (error 14)
-      → WriteEnds bytes a count text reads answer
-  -- the stream took no more, though more was read of the buffer (EIO is 5)
+      → WriteEnds bytes a count text short short' broken reads answer
+  -- a write of the host was short in this call: it failed, or took less than it was offered
   IsShort :
       a + count ≤ 2 ^ 32 → length text < reads → reads ≤ min count most_bytes
-      → answer ≡ counted (length text) (error 5)
-      → WriteEnds bytes a count text reads answer
+      → short' ≡ (short + 1) % 2 ^ 64
+      → answer ≡ counted (length text) (failure broken)
+      → WriteEnds bytes a count text short short' broken reads answer
   -- the buffer passes the last address
   PassesEnd :
-      2 ^ 32 < a + count → text ≡ [] → reads ≡ 0 → answer ≡ error 14
-      → WriteEnds bytes a count text reads answer
+      2 ^ 32 < a + count → text ≡ [] → short' ≡ short → reads ≡ 0 → answer ≡ error 14
+      → WriteEnds bytes a count text short short' broken reads answer
 
--- the bytes of a buffer are appended to a stream, in order, from its first on
+-- The bytes of a buffer are appended to a stream, in order, from its first on: all of them, but
+-- where one is not mapped or a write of the host is short.
 pub record WritesText (bytes : ByteMap) (a count : ℕ) (before after : Option (List ℕ))
-    (answer : ℕ) (accesses : List Access) : Type 0 where
+    (short short' : ℕ) (broken : Bool) (answer : ℕ) (accesses : List Access) : Type 0 where
   pub text : List ℕ
   pub stands : Stands bytes a text
   pub appended : Appends before after text
   pub reads : ℕ
-  pub ended : WriteEnds bytes a count text reads answer
+  pub ended : WriteEnds bytes a count text short short' broken reads answer
   pub accessed : accesses ≡ byte_reads bytes a reads
 
 -- ---- read

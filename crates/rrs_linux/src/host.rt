@@ -1,19 +1,23 @@
 //! Streams of the host.
 
-ghost use Rattle.std.specs.Prelude.{◌≤◌, take, length};
-ghost use Rattle.std.specs.Io.KnownBytes.{Appends};
+ghost use Rattle.std.specs.Prelude.{◌≡◌};
 ghost use Rattle.rrs_linux.specs.SystemCalls.{ReadsInput, WritesOutput};
+ghost use Rattle.rrs_linux.specs.Transfers;
 
 use crate::buffers::{BAD_ADDRESS, CHUNK, answer_of, copy_chunk, give_bytes, most_of};
+use crate::host_writer::HostWriter;
 use crate::input_buffer::InputBuffer;
 use crate::streams::{Input, Output};
 use rrs_lib::Memory;
-use std::io::{ErrorKind, Read, Write};
+use std::io::{Read, Write};
 
 /// The answer where the host's read or write failed: -5, `EIO`.
 const HOST_FAILED: u32 = 0xffff_fffb;
 
-impl<W: Write> Output<InputBuffer> for W {
+/// The answer where nobody reads what is written: -32, `EPIPE`.
+pub const NOBODY_READS: u32 = 0xffff_ffe0;
+
+impl<W: Write> Output for HostWriter<W> {
     ghost takes = { WritesOutput W.contents };
 
     /// Writes the bytes of a buffer in memory, some at a time.
@@ -26,10 +30,10 @@ impl<W: Write> Output<InputBuffer> for W {
         'chunks: while done < count {
             let wanted = (count - done).min(CHUNK as u32);
             let copied = copy_chunk(memory, address + done, wanted, &mut chunk);
-            let taken = write_once(self, &chunk[..copied as usize]);
+            let taken = self.offer(&chunk[..copied as usize]);
             done += taken;
             if taken < copied {
-                return answer_of(done, HOST_FAILED);
+                return answer_of(done, failure(self.is_broken()));
             }
             if copied < wanted {
                 return answer_of(done, BAD_ADDRESS);
@@ -39,28 +43,11 @@ impl<W: Write> Output<InputBuffer> for W {
     }
 }
 
-/// Writes once, and gives how many bytes were taken: none where the write failed. An interrupted
-/// write is made again.
-fn write_once<W: Write>(out: &mut W, bytes: &[u8]) -> u32
-    requires { length bytes.now ≤ 256 }
-    ensures within { result ≤ length bytes.now }
-    ensures appended { Appends (W.contents out.old) (W.contents out.new)
-        (take result bytes.now) }
+/// The answer where a write of the host failed.
+fn failure(is_broken: bool) -> u32
+    ensures { result ≡ Transfers.failure is_broken }
 {
-    if bytes.is_empty() {
-        return 0;
-    }
-    for _ in 0..u64::MAX {
-        match out.write(bytes) {
-            Ok(count) => return count as u32,
-            Err(error) => {
-                if error.kind() != ErrorKind::Interrupted {
-                    return 0;
-                }
-            }
-        }
-    }
-    0
+    if is_broken { NOBODY_READS } else { HOST_FAILED }
 }
 
 impl<R: Read> Input<InputBuffer> for R {

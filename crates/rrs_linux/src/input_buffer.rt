@@ -1,10 +1,12 @@
 //! Bytes of the input that were read and not given to the program yet.
 
-ghost use Rattle.std.specs.Prelude.{◌≡◌, ◌≤◌, ◌<◌, ◌+◌, ◌%◌, ◌^◌, [], drop, length, IfSome, IfNone, IsTrue, ◌↔◌};
-ghost use Rattle.std.specs.Io.KnownBytes.{Keeps, IsAtEnd, prepend_known};
+ghost use Rattle.std.specs.Prelude.{◌≡◌, ◌≢◌, ◌≤◌, ◌<◌, ◌+◌, ◌%◌, ◌^◌, [], drop, length, IfSome, IfNone, IfErr, IsTrue, ◌↔◌};
+ghost use Rattle.std.specs.Io.{ReadsAtMost};
+ghost use Rattle.std.specs.Io.KnownBytes.{Keeps, IsAtEnd, ReadConsumes, prepend_known};
+ghost use Rattle.std.specs.IoError.{error_kind};
 ghost use Rattle.rrs_linux.specs.Transfers.{Fills};
 
-use std::io::{ErrorKind, Read};
+use std::io::{self, ErrorKind, Read};
 
 /// The most bytes that are read of the input at a time.
 const CHUNK: usize = 256;
@@ -44,6 +46,13 @@ impl InputBuffer {
         ensures { IsTrue result ↔ (buffered_bytes self.now ≡ []) }
     {
         self.start == self.end
+    }
+
+    /// How many reads of the input failed, modulo 2^64.
+    pub fn failures(&self) -> u64
+        ensures { result ≡ self.now.failures }
+    {
+        self.failures
     }
 
     /// The bytes that were not given yet.
@@ -94,27 +103,40 @@ impl InputBuffer {
         ensures counted { IfNone result (self.new.failures ≡ (self.old.failures + 1) % 2 ^ 64) }
         ensures within { length (buffered_bytes self.new) ≤ most }
     {
-        let most = most.min(CHUNK);
         let mut bytes = [0; CHUNK];
-        for _ in 0..u64::MAX {
-            match input.read(&mut bytes[..most]) {
-                Ok(count) => {
-                    *self = InputBuffer {
-                        bytes,
-                        start: 0,
-                        end: count,
-                        failures: self.failures,
-                    };
-                    return Some(count);
-                }
-                Err(error) => {
-                    if error.kind() != ErrorKind::Interrupted {
-                        break;
-                    }
+        match read_once(input, &mut bytes[..most.min(CHUNK)]) {
+            Ok(count) => {
+                *self = InputBuffer {
+                    bytes,
+                    start: 0,
+                    end: count,
+                    failures: self.failures,
+                };
+                Some(count)
+            }
+            Err(_) => {
+                self.failures = self.failures.wrapping_add(1);
+                None
+            }
+        }
+    }
+}
+
+/// Reads once. A read that is interrupted is made again.
+fn read_once<R: Read>(input: &mut R, buf: &mut [u8]) -> io::Result<usize>
+    ensures bound { ReadsAtMost result buf.new }
+    ensures bytes { ReadConsumes (R.remaining input.old) (R.remaining input.new) result buf.new }
+    ensures again { IfErr result (λ e. error_kind e ≢ ErrorKind.Interrupted) }
+{
+    for _ in 0..u64::MAX {
+        match input.read(buf) {
+            Ok(count) => return Ok(count),
+            Err(error) => {
+                if error.kind() != ErrorKind::Interrupted {
+                    return Err(error);
                 }
             }
         }
-        self.failures = self.failures.wrapping_add(1);
-        None
     }
+    Err(io::Error::from(ErrorKind::TimedOut))
 }

@@ -11,6 +11,7 @@
 
 mod buffers;
 mod host;
+mod host_writer;
 mod input_buffer;
 mod recorder;
 mod requests;
@@ -19,9 +20,11 @@ mod streams;
 ghost use Rattle.std.specs.Prelude.{◌≡◌, ℕ, Bool, Option, None, slice_index, []};
 ghost use Rattle.rrs_lib.specs.Machine.{state_of};
 ghost use Rattle.rrs_linux.specs.BufferedBytes.{buffered_bytes};
-ghost use Rattle.rrs_linux.specs.SystemCalls.{ServesBy, moved, answered};
+ghost use Rattle.rrs_linux.specs.SystemCalls.{ServesBy, moved, answered, ended_by};
 
+use crate::host::NOBODY_READS;
 use crate::requests::system_call_of;
+pub use host_writer::HostWriter;
 pub use input_buffer::InputBuffer;
 pub use recorder::{Known, OutputRecorder};
 pub use requests::Request;
@@ -29,6 +32,9 @@ use rrs_env::Environment;
 use rrs_lib::instruction_executor::InstructionExecutor;
 use rrs_lib::{HartState, Memory};
 pub use streams::{Input, Output};
+
+/// The status of a program that writes what nobody reads: 128 and the number of `SIGPIPE`.
+const ENDED_BY_SIGPIPE: u32 = 141;
 
 /// Where a program's heap lies, and where it ends at present.
 #[derive(Clone, Copy, Debug, PartialEq)]
@@ -83,28 +89,28 @@ pub struct Process<R, W, E, K> {
 
 /// The environment of a program whose standard input is a reader of the host, and whose standard
 /// output and standard error are writers.
-pub type Linux<R, W, E> = Process<R, W, E, InputBuffer>;
+pub type Linux<R, W, E> = Process<R, HostWriter<W>, HostWriter<E>, InputBuffer>;
 
-impl<R, W, E> Process<R, W, E, InputBuffer> {
+impl<R, W, E> Process<R, HostWriter<W>, HostWriter<E>, InputBuffer> {
     /// An environment with these streams and this heap, which holds nothing of the input yet.
     pub fn new(input: R, output: W, errors: E, heap: Heap) -> Self
         ensures input { result.input ≡ input }
-        ensures output { result.output ≡ output }
-        ensures errors { result.errors ≡ errors }
+        ensures output { result.output.stream ≡ output }
+        ensures errors { result.errors.stream ≡ errors }
         ensures heap { result.heap ≡ heap }
         ensures held { buffered_bytes result.held ≡ [] }
     {
         Process {
             input,
-            output,
-            errors,
+            output: HostWriter::new(output),
+            errors: HostWriter::new(errors),
             heap,
             held: InputBuffer::new(),
         }
     }
 }
 
-impl<R: Input<K>, W: Output<K>, E: Output<K>, K> Environment for Process<R, W, E, K> {
+impl<R: Input<K>, W: Output, E: Output, K> Environment for Process<R, W, E, K> {
     ghost serves = { ServesBy R.gives W.takes E.takes };
 
     /// Serves a system call: the number is in a7, the arguments in a0 to a2, the answer in a0.
@@ -124,11 +130,11 @@ impl<R: Input<K>, W: Output<K>, E: Output<K>, K> Environment for Process<R, W, E
             }
             Request::WriteOutput(address, count) => {
                 let answer = self.output.write_from(executor.mem, address, count);
-                go_on(executor.hart_state, answer)
+                go_on_if_read(executor.hart_state, answer)
             }
             Request::WriteErrors(address, count) => {
                 let answer = self.errors.write_from(executor.mem, address, count);
-                go_on(executor.hart_state, answer)
+                go_on_if_read(executor.hart_state, answer)
             }
         }
     }
@@ -142,5 +148,19 @@ fn go_on(hart: &mut HartState, answer: u32) -> Option<u32>
     ensures zero_kept { slice_index hart.new.registers 0 ≡ slice_index hart.old.registers 0 }
 {
     hart.write_register(10, answer);
+    None
+}
+
+/// Puts the answer of a write into a0. The program goes on, unless nobody reads what it writes.
+fn go_on_if_read(hart: &mut HartState, answer: u32) -> Option<u32>
+    ensures ends { result ≡ ended_by answer }
+    ensures answered { (bytes : ℕ → Option ℕ) (writable : ℕ → Bool)
+        → state_of hart.new bytes writable ≡ answered (state_of hart.old bytes writable) answer }
+    ensures zero_kept { slice_index hart.new.registers 0 ≡ slice_index hart.old.registers 0 }
+{
+    hart.write_register(10, answer);
+    if answer == NOBODY_READS {
+        return Some(ENDED_BY_SIGPIPE);
+    }
     None
 }

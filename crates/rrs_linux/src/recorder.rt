@@ -12,7 +12,7 @@ use std::alloc::{AllocError, Global};
 /// The answer where a record has no room for a byte: -28, `ENOSPC`.
 const NO_ROOM: u32 = 0xffff_ffe4;
 
-/// Says of streams that they are known bytes. Nothing is kept of the input between two reads.
+/// Says of an input that it is known bytes. Nothing is kept of it between two reads.
 #[derive(Drop)]
 pub struct Known;
 
@@ -74,7 +74,7 @@ impl Input<Known> for &[u8] {
     }
 }
 
-impl Output<Known> for Vec<u8> {
+impl Output for Vec<u8> {
     ghost takes = { TakesOutput };
 
     /// Takes the bytes of a buffer one by one, as far as there is room.

@@ -22,8 +22,8 @@ pub trait Input<K> {
         ensures layout_kept { M.layout memory.new ≡ M.layout memory.old };
 }
 
-/// A standard output or a standard error, of the kind that `K` says.
-pub trait Output<K> {
+/// A standard output or a standard error.
+pub trait Output {
     /// What a write of a buffer does to the stream, by the bytes of memory; by which accesses, in
     /// order, and with which answer.
     ghost takes: { Takes Self };

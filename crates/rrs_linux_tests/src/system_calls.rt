@@ -18,8 +18,10 @@ const WRITE: u32 = 64;
 
 const BRK: u32 = 214;
 
-/// The answers -5, -9, -14, -28 and -38.
+/// The answers -5, -32, -9, -14, -28 and -38.
 const EIO: u32 = 0xffff_fffb;
+
+const EPIPE: u32 = 0xffff_ffe0;
 
 const EBADF: u32 = 0xffff_fff7;
 
@@ -177,10 +179,16 @@ fn calls_answer(rt: HostRuntime) -> Result<(), Fail> {
     let mut linux = environment(rt.alloc(), &[], &[]);
     for &(request, end, answer, written) in &CALLS {
         let seen = call(&mut linux, &mut memory, request);
-        let lengths = (linux.output.written.len(), linux.errors.written.len());
+        let lengths = (
+            linux.output.stream.written.len(),
+            linux.errors.stream.written.len(),
+        );
         assert!(rt; seen == (end, answer) && lengths == written, "{request:?}");
     }
-    assert!(rt; counts_from(&linux.output.written, 0) && counts_from(&linux.errors.written, 34));
+    assert!(rt;
+        counts_from(&linux.output.stream.written, 0)
+            && counts_from(&linux.errors.stream.written, 34)
+    );
     Ok(())
 }
 
@@ -248,12 +256,40 @@ fn writes_that_are_short_or_fail(rt: HostRuntime) -> Result<(), Fail> {
         let mut memory = numbered(rt.alloc())?;
         let mut linux = environment(rt.alloc(), &[], turns);
         for answer in answers {
-            let done = linux.output.written.len().min(300) as u32;
+            let done = linux.output.stream.written.len().min(300) as u32;
             let seen = call(&mut linux, &mut memory, (WRITE, 1, done, 300 - done));
-            let is_right = seen == (None, *answer) && counts_from(&linux.output.written, 0);
+            let is_right = seen == (None, *answer) && counts_from(&linux.output.stream.written, 0);
             assert!(rt; is_right, "at {index}");
         }
     }
+    Ok(())
+}
+
+const BREAKS: Turn = Turn::Fails(ErrorKind::BrokenPipe);
+
+/// Writes of so many bytes, each with how it ends, its answer, and how many writes of the stream
+/// were short until then. The stream takes 256 bytes, and then finds twice that nobody reads.
+static UNREAD_WRITES: [(u32, Option<u32>, u32, u64); 4] = [
+    (300, None, 256, 1),
+    (4, Some(141), EPIPE, 2),
+    (4, None, 4, 2),
+    (0, None, 0, 2),
+];
+
+// A program that writes to a pipe that nobody reads ends as by SIGPIPE.
+#[test]
+fn a_program_ends_where_nobody_reads(rt: HostRuntime) -> Result<(), Fail> {
+    let mut memory = numbered(rt.alloc())?;
+    let turns = [Turn::Takes(256), BREAKS, BREAKS];
+    let mut linux = environment(rt.alloc(), &[], &turns);
+    for &(count, end, answer, short) in &UNREAD_WRITES {
+        let seen = call(&mut linux, &mut memory, (WRITE, 1, 0, count));
+        assert!(rt;
+            (seen, linux.output.short_writes()) == ((end, answer), short),
+            "{count} bytes"
+        );
+    }
+    assert!(rt; linux.output.is_broken() && linux.output.stream.written.len() == 260);
     Ok(())
 }
 
@@ -289,7 +325,8 @@ fn no_byte_of_the_input_is_lost(rt: HostRuntime) -> Result<(), Fail> {
     }
     let first = call(&mut linux, &mut memory, (WRITE, 1, 0, 5));
     let later = call(&mut linux, &mut memory, (WRITE, 2, 5, 79));
-    let is_right = counts_from(&linux.output.written, 0) && counts_from(&linux.errors.written, 21);
+    let is_right = counts_from(&linux.output.stream.written, 0)
+        && counts_from(&linux.errors.stream.written, 21);
     assert!(rt; first == (None, 5) && later == (None, 79) && is_right);
     Ok(())
 }

@@ -1,7 +1,8 @@
 -- What the calls of these programs do to an environment, and to its streams.
-use Rattle.std.proofs.Common.{◌≡◌, ℕ, ◌+◌, ◌-◌, ◌%◌, ◌^◌, ◌≤◌, min, List, ◌++◌, length, take, pos, Option, Some, None, Bool, inl, inr, sym, ap, subst, ◌∙◌, arith, ext_get_or, Vec, vec_capacity}
+use Rattle.std.proofs.Common.{◌≡◌, ◌≢◌, ◌⊎◌, ℕ, zero, suc, ◌+◌, ◌-◌, ◌%◌, ◌^◌, ◌≤◌, min, true, false, IsTrue, refl, List, ◌++◌, length, take, pos, Option, Some, None, Bool, inl, inr, sym, ap, subst, ◌∙◌, arith, ext_get_or, Vec, vec_capacity}
 use Rattle.std.specs.declared.alloc.Global.{Global}
-use Rattle.std.proofs.lemmas.Bool.{false≢true}
+use Rattle.std.proofs.lemmas.Bool.{false≢true, ne_eqb}
+use Rattle.std.proofs.lemmas.Bool.Decides.{eqb_tells}
 use Rattle.std.proofs.lemmas.Option.{none-some, same_Some}
 use Rattle.std.proofs.lemmas.List.{length-take-le}
 use Rattle.std.specs.Io.KnownBytes.{Appends}
@@ -15,12 +16,13 @@ use Rattle.rrs_env.specs.Serving.{Relation, Served}
 use Rattle.rrs_env.proofs.Following.{Follows, Ended, WentOn}
 use Rattle.rrs_extra.specs.Programs.{IsWritable}
 use Rattle.rrs_linux.specs.declared.Process.{Process}
+use Rattle.rrs_linux.specs.declared.host_writer.HostWriter.{HostWriter}
 use Rattle.rrs_linux.specs.declared.requests.Request.{Request}
 use Rattle.rrs_linux.specs.declared.requests.Request.TheVariants.{Exit, Read, WriteOutput}
-use Rattle.rrs_linux.specs.Requests.{Asks, AsksBy, ToExit, ToRead, ToWriteOutput, ToWriteErrors, ToSetBreak, ToClose, OfNoFile, OfNoCall}
-use Rattle.rrs_linux.specs.SystemCalls.{Does, ServesBy, WritesOutput}
+use Rattle.rrs_linux.specs.Requests.{Asks, error, AsksBy, ToExit, ToRead, ToWriteOutput, ToWriteErrors, ToSetBreak, ToClose, OfNoFile, OfNoCall}
+use Rattle.rrs_linux.specs.SystemCalls.{Does, ServesBy, WritesOutput, ended_by}
 use Rattle.rrs_linux.specs.Transfers
-use Rattle.rrs_linux.specs.Transfers.{Gives, Takes, Stands, WriteEnds, most_bytes}
+use Rattle.rrs_linux.specs.Transfers.{Gives, Takes, Stands, WriteEnds, counted, most_bytes}
 use Rattle.rrs_linux.specs.Recording.{TakingEnds, TakesOutput, GivingEnds}
 use Rattle.rrs_linux.specs.Recording
 use Rattle.rrs_linux.proofs.Written.{Stands-take}
@@ -53,6 +55,42 @@ asked (OfNoFile (inr (inl read)) is) =
 asked (OfNoFile (inr (inr write)) is) =
     let c = write.0 in none_of (λ e. omega (arith, c)) (λ e f. omega (arith, c)) (λ e f. write.1 f)
 asked (OfNoCall none is) = none_of (λ e. none.3 e) (λ e f. none.1 e) (λ e f. none.2 e)
+
+-- ---- how a write ends the program
+
+pub goes_on_by : (answer : ℕ) → answer ≢ error 32 → ended_by answer ≡ None
+goes_on_by answer other = rw (ne_eqb answer (error 32) other) refl
+
+-- it ends by the signal alone
+pub ended_by_signal : (answer status : ℕ) → Some status ≡ ended_by answer → (answer ≡ error 32) × (status ≡ 141)
+ended_by_signal answer status ends =
+    elim (eqb_tells answer (error 32)) [
+      | inl same ↦ (same.1, same_Some _ _ (ends ∙ rw same.0 refl))
+      | inr other ↦ absurd (none-some status (sym (ends ∙ goes_on_by answer other.1)))
+    ]
+
+counted_below : (n e : ℕ) → n ≤ most_bytes → e ≢ error 32 → counted n e ≢ error 32
+counted_below zero e small other = other
+counted_below (suc n) e small other = λ same. omega (arith, same, small)
+
+-- a write to a record does not
+pub taking_goes_on : {bytes : ByteMap} {a count room reads answer : ℕ} {text : List ℕ}
+    → TakingEnds bytes a count room text reads answer → answer ≢ error 32
+taking_goes_on (Recording.IsWhole fits long room are answers) = λ same. omega (arith, answers, long, same)
+taking_goes_on {text = text} (Recording.IsFull fits short full are answers) =
+    λ same. counted_below (length text) (error 28) (omega (arith, short)) (λ e. omega (arith, e)) (sym answers ∙ same)
+taking_goes_on {text = text} (Recording.IsUnmapped fits short more unmapped are answers) =
+    λ same. counted_below (length text) (error 14) (omega (arith, short)) (λ e. omega (arith, e)) (sym answers ∙ same)
+taking_goes_on (Recording.PassesEnd past none are answers) = λ same. omega (arith, answers, same)
+
+-- no write to such a stream does
+abbrev pub Continues : {W : Type 0} → Takes W → Type 0
+Continues {W = W} takes =
+    (bytes : ByteMap) (a count : ℕ) (old new : W) (answer : ℕ) (accesses : List Access)
+    → takes bytes a count old new answer accesses → ended_by answer ≡ None
+
+pub never_breaks : Continues TakesOutput
+never_breaks bytes a count old new answer accesses took = goes_on_by answer (taking_goes_on took.0.ended)
 
 -- ---- what follows a call, over any streams
 
@@ -87,6 +125,14 @@ module _ {R W E K : Type 0} (gives : Gives R K) (takes : Takes W) (takes_errors 
         of_later
     pub counted : steps ≡ n + 1 + later
 
+  -- a call ended the program
+  pub record Stopped (n steps : ℕ) (e : Process R W E K) (u : State) (request : Request) : Type 0 where
+    pub of_call : List Access
+    pub status : ℕ
+    pub does : Does gives takes takes_errors request e u new t of_call (Some status)
+    pub ends : ending ≡ Exits status
+    pub counted : steps ≡ n + 1
+
   module _ {limit n pc steps : ℕ} {e : Process R W E K} {u : State} where
     pub exited : reg u 17 ≡ 93 → Follows serves ending new t limit n pc e u steps → Exited n steps e u
     exited call (Ended status of_call by is made) =
@@ -113,9 +159,32 @@ module _ {R W E K : Type 0} (gives : Gives R K) (takes : Takes W) (takes_errors 
     }
 
     pub wrote : reg u 17 ≡ 64 → reg u 10 ≡ 1 → Follows serves ending new t limit n pc e u steps
+        → Stopped n steps e u (WriteOutput (reg u 11) (reg u 12))
+        ⊎ Answered limit n pc steps e u (WriteOutput (reg u 11) (reg u 12))
+    wrote call fd (Ended status of_call by is made) = inl (record {
+      of_call = of_call;
+      status = status;
+      does = done (WriteOutput (reg u 11) (reg u 12)) by ((asked by.asks).2 call fd);
+      ends = is;
+      counted = made;
+    })
+    wrote call fd (WentOn d m of_call of_later later by behind made) = inr (record {
+      after = d;
+      there = m;
+      of_call = of_call;
+      of_later = of_later;
+      later = later;
+      does = done (WriteOutput (reg u 11) (reg u 12)) by ((asked by.asks).2 call fd);
+      goes_on = behind;
+      counted = made;
+    })
+
+    -- where no write ends the program
+    pub wrote_on : Continues takes → reg u 17 ≡ 64 → reg u 10 ≡ 1 → Follows serves ending new t limit n pc e u steps
         → Answered limit n pc steps e u (WriteOutput (reg u 11) (reg u 12))
-    wrote call fd = answers (WriteOutput (reg u 11) (reg u 12)) (λ r asks. (asked asks).2 call fd)
-        (λ d m accesses status does. none-some status (sym does.0))
+    wrote_on continues call fd = answers (WriteOutput (reg u 11) (reg u 12)) (λ r asks. (asked asks).2 call fd)
+        (λ d m accesses status does. none-some status
+        (sym (does.5 ∙ continues u.bytes (reg u 11) (reg u 12) e.output does.0 does.1 accesses does.2)))
 
     pub got : reg u 17 ≡ 63 → reg u 10 ≡ 0 → Follows serves ending new t limit n pc e u steps
         → Answered limit n pc steps e u (Read (reg u 11) (reg u 12))
@@ -145,11 +214,12 @@ module _ (bytes : ByteMap) (a count : ℕ) (text text' : List ℕ) (known : coun
   taken_from room reads answer at_once fits large (Recording.PassesEnd past none are answers) = absurd (omega arith)
 
   -- what is written of it to a writer of the host is no longer than it
-  no_longer : (reads answer : ℕ) → WriteEnds bytes a count text' reads answer → length text' ≤ length text
-  no_longer reads answer (Transfers.Whole fits long are answers) = omega arith
-  no_longer reads answer (Transfers.IsUnmapped fits short unmapped are answers) = omega arith
-  no_longer reads answer (Transfers.IsShort fits short read answers) = omega arith
-  no_longer reads answer (Transfers.PassesEnd past none are answers) = omega (arith, ap length none)
+  no_longer : {short short' : ℕ} {broken : Bool} (reads answer : ℕ)
+      → WriteEnds bytes a count text' short short' broken reads answer → length text' ≤ length text
+  no_longer reads answer (Transfers.Whole fits long none are answers) = omega arith
+  no_longer reads answer (Transfers.IsUnmapped fits short unmapped none are answers) = omega arith
+  no_longer reads answer (Transfers.IsShort fits short read one answers) = omega arith
+  no_longer reads answer (Transfers.PassesEnd past none short are answers) = omega (arith, ap length none)
 
 pub took_all : (bytes : ByteMap) (a count : ℕ) (text : List ℕ) (old new : Vec ℕ Global) (answer : ℕ)
     (accesses : List Access)
@@ -163,22 +233,46 @@ took_all bytes a count text old new answer accesses known stands at_once fits ro
     (of.appended ∙ ap (λ l. old.items ++ l) all.0, all.1)
 
 -- a beginning of the text was written
-pub record WroteSome {W : Type 0} (contents : W → Option (List ℕ)) (text : List ℕ) (old new : W) : Type 0 where
+pub record WroteSome {W : Type 0} (contents : W → Option (List ℕ)) (text : List ℕ) (old new : HostWriter W)
+    : Type 0 where
   pub count : ℕ
   pub within : count ≤ length text
-  pub appended : Appends (contents old) (contents new) (take count text)
+  pub appended : Appends (contents old.stream) (contents new.stream) (take count text)
+
+-- nobody reads it, as one write more has shown
+abbrev pub IsUnread : {W : Type 0} → HostWriter W → HostWriter W → Type 0
+IsUnread old new = IsTrue new.is_broken × (new.short_writes ≡ (old.short_writes + 1) % 2 ^ 64)
+
+-- a write that answers so was short, and nobody reads
+unread : {bytes : ByteMap} {a count short short' reads answer : ℕ} {text : List ℕ} {broken : Bool}
+    → WriteEnds bytes a count text short short' broken reads answer → answer ≡ error 32
+    → IsTrue broken × (short' ≡ (short + 1) % 2 ^ 64)
+unread (Transfers.Whole fits long none are answers) is = absurd (omega (arith, is, answers, long))
+unread {text = text} (Transfers.IsUnmapped fits less unmapped none are answers) is =
+    absurd (counted_below (length text) (error 14) (omega (arith, less)) (λ e. omega (arith, e)) (sym answers ∙ is))
+unread {broken = true} (Transfers.IsShort fits less read one answers) is = (refl, one)
+unread {text = text} {broken = false} (Transfers.IsShort fits less read one answers) is =
+    absurd (counted_below (length text) (error 5) (omega (arith, less, read)) (λ e. omega (arith, e))
+    (sym answers ∙ is))
+unread (Transfers.PassesEnd past nothing none are answers) is = absurd (omega (arith, is, answers))
 
 pub took_some : {W : Type 0} (contents : W → Option (List ℕ)) (bytes : ByteMap) (a count : ℕ) (text : List ℕ)
-    (old new : W)
+    (old new : HostWriter W)
     (answer : ℕ) (accesses : List Access) → count ≡ length text → Stands bytes a text
-    → WritesOutput contents bytes a count old new answer accesses → WroteSome contents text old new
+    → WritesOutput contents bytes a count old new answer accesses
+    → WroteSome contents text old new × (answer ≡ error 32 → IsUnread old new)
 took_some contents bytes a count text old new answer accesses known stands writes =
     let n = length writes.text in
     let short = no_longer bytes a count text writes.text known stands writes.stands writes.reads answer writes.ended in
     let long = sym (length-take-le n text short) in
     let same = same_text bytes a writes.text (take n text) long writes.stands
     (Stands-take bytes a n text short stands) in
-    record { count = n; within = short; appended = subst (Appends (contents old) (contents new)) same writes.appended }
+    let some : WroteSome contents text old new = record {
+      count = n;
+      within = short;
+      appended = subst (Appends (contents old.stream) (contents new.stream)) same writes.appended;
+    } in
+    (some, unread writes.ended)
 
 -- ---- bytes of the input that are given to a buffer that is writable
 

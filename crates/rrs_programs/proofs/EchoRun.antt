@@ -23,7 +23,7 @@ use Rattle.rrs_extra.specs.Programs.{HoldsWords, IsWritable, AreApart}
 use Rattle.rrs_extra.proofs.Words.{words-end, writable-ends, holds_after, at_word, writes, Chain, ◌▸◌, done}
 use Rattle.rrs_programs.specs.Echoing.{echo_program, EchoStarts, TakesRounds}
 use Rattle.rrs_programs.proofs.Calls
-use Rattle.rrs_programs.proofs.Calls.{exited, wrote, took_all, given_all}
+use Rattle.rrs_programs.proofs.Calls.{exited, wrote_on, never_breaks, took_all, given_all}
 use Rattle.rrs_programs.proofs.Runs.{registers_by, opened, to_call}
 
 -- a count of bytes is no negative number
@@ -240,23 +240,23 @@ module _ (r : ℕ → ℕ) (writable : ℕ → Bool) (p b size : ℕ) (aligned :
         let d = read.after in
         let same_room = ap (λ y. vec_capacity y.output) read.others in
         let held = ap (λ y. length y.output.items) read.others in
-        let write = wrote GivesInput TakesOutput TakesOutput ending new t refl refl (follows Records ending new t
+        let write = wrote_on GivesInput TakesOutput TakesOutput ending new t never_breaks refl refl (follows Records ending new t
         (limit - (k + 4 + 1)) 4 (p + 64) d _ (at_write n x13 read.bytes') read.later read.of_later
         (to_write (limit - (k + 4 + 1)) n x13 read.bytes' there (omega (arith, within)) more (omega (arith, read.long)))
         read.goes_on) in
         let e = write.after in
-        let others = write.does.4 in
-        let took = took_all read.bytes' b n read.text d.output write.does.1 write.does.2 write.of_call refl read.stands
+        let others = write.does.3 in
+        let took = took_all read.bytes' b n read.text d.output write.does.0 write.does.1 write.of_call refl read.stands
         (omega (arith, read.long)) (omega (arith, read.long, buffer_fits))
-        (omega (arith, left, room, held, same_room)) write.does.3 in
+        (omega (arith, left, room, held, same_room)) write.does.2 in
         let input : e.input.now ≡ d.input.now = ap (λ y. y.input.now) others in
         let output : e.output.items ≡ d.output.items ++ read.text = ap (λ y. y.output.items) others ∙ took.0 in
         let capacity : vec_capacity e.output ≡ vec_capacity d.output =
-        ap (λ y. vec_capacity y.output) others ∙ write.does.3.1 in
-        let value : word (pos write.does.2) ≡ n = omega (arith, read.long, took.1) in
+        ap (λ y. vec_capacity y.output) others ∙ write.does.2.1 in
+        let value : word (pos write.does.1) ≡ n = omega (arith, read.long, took.1) in
         let pc : word (pos (p + 64 + 4)) ≡ p + 68 = omega (arith, fits) in
         let here : with_pc write.there (word (pos (p + 64 + 4))) ≡ behind_write n x13 read.bytes' =
-        ap (λ y. with_pc y (word (pos (p + 64 + 4)))) write.does.5
+        ap (λ y. with_pc y (word (pos (p + 64 + 4)))) write.does.4
         ∙ (λ i. at (registers_by r (value i) b n x13 size b 64) (pc i) (Some 10) read.bytes' writable) in
         let fewer : length e.input.now ≡ length d.input.now = ap length input in
         let longer : length e.output.items ≡ length d.output.items + n =

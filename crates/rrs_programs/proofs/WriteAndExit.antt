@@ -1,5 +1,5 @@
 -- The program that writes a text and ends, as a served run over any streams, by what its output does with the text.
-use Rattle.std.proofs.Common.{◌≡◌, ℕ, ◌+◌, ◌-◌, ◌%◌, ◌^◌, ◌<◌, ◌≤◌, List, length, Bool, pos, Option, Some, None, IsSome, refl, sym, ap, subst, ◌∙◌, arith}
+use Rattle.std.proofs.Common.{◌≡◌, ◌⊎◌, inl, inr, ℕ, ◌+◌, ◌-◌, ◌%◌, ◌^◌, ◌<◌, ◌≤◌, List, length, Bool, pos, Option, Some, None, IsSome, refl, sym, ap, subst, ◌∙◌, arith}
 use Rattle.rrs_lib.specs.declared.instruction_executor.InstructionException.TheVariants.{EnvironmentCall}
 use Rattle.rrs_lib.specs.Words.{word}
 use Rattle.rrs_lib.specs.Bytes.{ByteMap, EndsAtLastAddress}
@@ -12,12 +12,14 @@ use Rattle.rrs_env.specs.declared.Ending.TheVariants.{Exit}
 use Rattle.rrs_env.specs.Serving.{Relation, Served}
 use Rattle.rrs_env.proofs.Following.{follows}
 use Rattle.rrs_linux.specs.declared.Process.{Process}
+use Rattle.rrs_linux.specs.declared.requests.Request.TheVariants.{WriteOutput}
+use Rattle.rrs_linux.specs.Requests.{error}
 use Rattle.rrs_linux.specs.SystemCalls.{ServesBy}
 use Rattle.rrs_linux.specs.Transfers.{Gives, Takes, Stands}
 use Rattle.rrs_extra.specs.Programs.{IsMapped}
 use Rattle.rrs_extra.proofs.Words.{words-end, mapped-ends, writes, ◌▸◌, done}
 use Rattle.rrs_programs.specs.WritingAndExiting.{write_and_exit_program, WriteAndExitStarts}
-use Rattle.rrs_programs.proofs.Calls.{exited, wrote}
+use Rattle.rrs_programs.proofs.Calls.{Stopped, Answered, exited, wrote, ended_by_signal}
 use Rattle.rrs_programs.proofs.Runs.{registers_by, opened, to_call}
 
 -- a text that stands is mapped
@@ -26,18 +28,22 @@ text_mapped bytes a text stands = λ i less. subst (λ (o : Option ℕ). IsSome 
 
 module _ {R W E K : Type 0} (gives : Gives R K) (takes : Takes W) (takes_errors : Takes E) (text : List ℕ)
     (old : Process R W E K)
-    (Left : W → Type 0) where
-  -- whatever a write of the text does to the output, this holds of it then
+    (Left Unread : W → Type 0) where
+  -- whatever a write of the text does to the output, this holds of it then, and that if it ends the program
   abbrev pub Leaves : Type 0
   Leaves =
       (bytes : ByteMap) (a count answer : ℕ) (output : W) (accesses : List Access) → count ≡ length text
       → Stands bytes a text → a + length text ≤ 2 ^ 32 → takes bytes a count old.output output answer accesses
-      → Left output
+      → Left output × (answer ≡ error 32 → Unread output)
+
+  -- how it ends: with its status, or at the write
+  abbrev pub Ends : W → ℕ → ℕ → Ending → Type 0
+  Ends output status steps ending =
+      ((steps ≡ 13) × (ending ≡ Exit (status % 256))) ⊎ (Unread output × (steps ≡ 8) × (ending ≡ Exit 141))
 
   -- what the program leaves
   pub record WritesAndExits (new : Process R W E K) (s t : State) (steps : ℕ) (ending : Ending) : Type 0 where
-    pub counted : steps ≡ 13
-    pub ends : ending ≡ Exit (reg s 12 % 256)
+    pub ends : Ends new.output (reg s 12) steps ending
     pub left : Left new.output × (new ≡ record old { output = new.output })
     pub bytes_kept : t.bytes ≡ s.bytes
 
@@ -85,29 +91,57 @@ module _ {R W E K : Type 0} (gives : Gives R K) (takes : Takes W) (takes_errors 
         ▸ writes there aligned fits 10 11 0 (pos 0) refl refl refl refl
         ▸ writes there aligned fits 11 16 93 (pos 93) refl refl refl refl ▸ done)
 
-    -- the write, and then the exit
-    from_start : (steps : ℕ) (accesses : List Access) → Served serves ending new t limit old start steps accesses
+    -- what the write leaves
+    left : (output : W) (answer : ℕ) (accesses : List Access) → takes bytes a n old.output output answer accesses
+        → Left output × (answer ≡ error 32 → Unread output)
+    left output answer accesses takes =
+        leaves bytes a n answer output accesses starts.length_given starts.text_there within takes
+
+    -- the write ends the program
+    stops : (steps : ℕ) → Stopped gives takes takes_errors ending new t 7 steps old at_write (WriteOutput a n)
         → WritesAndExits new start t steps ending
-    from_start steps accesses served =
-        let write = wrote gives takes takes_errors ending new t refl refl
-        (follows serves ending new t limit 7 (p + 28) old start at_write steps accesses to_write served) in
-        let x10 = word (pos write.does.2) in
+    stops steps stopped =
+        let did = left stopped.does.0 stopped.does.1 stopped.of_call stopped.does.2 in
+        let by = ended_by_signal stopped.does.1 stopped.status stopped.does.5 in
+        let same : new ≡ record old { output = stopped.does.0 } = stopped.does.3 in
+        record {
+          ends = inr (
+            subst Unread (sym (ap (λ x. x.output) same)) (did.1 by.0),
+            stopped.counted,
+            stopped.ends ∙ ap Exit by.1,
+          );
+          left = subst (λ x. Left x.output × (x ≡ record old { output = x.output })) (sym same) (did.0, refl);
+          bytes_kept = ap (λ y. y.bytes) stopped.does.4;
+        }
+
+    -- the write is answered, and then comes the exit
+    goes_on : (steps : ℕ) → Answered gives takes takes_errors ending new t limit 7 (p + 28) steps old at_write
+        (WriteOutput a n) → WritesAndExits new start t steps ending
+    goes_on steps write =
+        let x10 = word (pos write.does.1) in
         let pc : word (pos (p + 28 + 4)) ≡ p + 32 = omega arith in
         let here : with_pc write.there (word (pos (p + 28 + 4))) ≡ behind x10 =
-        ap (λ y. with_pc y (word (pos (p + 28 + 4)))) write.does.5 ∙ (λ i. with_pc (behind x10) (pc i)) in
+        ap (λ y. with_pc y (word (pos (p + 28 + 4)))) write.does.4 ∙ (λ i. with_pc (behind x10) (pc i)) in
         let rest = subst (λ y. Served serves ending new t (limit - 8) write.after y write.later write.of_later) here
         write.goes_on in
         let exit = exited gives takes takes_errors ending new t refl (follows serves ending new t (limit - 8) 4 (p + 48)
         write.after (behind x10) at_exit write.later write.of_later (to_exit x10) rest) in
-        let left = leaves bytes a n write.does.2 write.does.1 write.of_call starts.length_given starts.text_there within
-        write.does.3 in
+        let did = left write.does.0 write.does.1 write.of_call write.does.2 in
         record {
-          counted = omega (arith, write.counted, exit.counted);
-          ends = exit.ends;
-          left = subst (λ x. Left x.output × (x ≡ record old { output = x.output })) (sym (exit.same ∙ write.does.4))
-              (left, refl);
+          ends = inl (omega (arith, write.counted, exit.counted), exit.ends);
+          left = subst (λ x. Left x.output × (x ≡ record old { output = x.output })) (sym (exit.same ∙ write.does.3))
+              (did.0, refl);
           bytes_kept = ap (λ y. y.bytes) exit.stays;
         }
+
+    from_start : (steps : ℕ) (accesses : List Access) → Served serves ending new t limit old start steps accesses
+        → WritesAndExits new start t steps ending
+    from_start steps accesses served =
+        elim (wrote gives takes takes_errors ending new t refl refl
+        (follows serves ending new t limit 7 (p + 28) old start at_write steps accesses to_write served)) [
+          | inl stopped ↦ stops steps stopped
+          | inr write ↦ goes_on steps write
+        ]
 
   pub writes_and_exits : Leaves
       → (new : Process R W E K) (t : State) (ending : Ending) (limit : ℕ) (s : State) (steps : ℕ)

@@ -1,8 +1,11 @@
 -- A program that writes a text and ends, as gcc makes it. Registers go by their numbers: x10 to x12
 -- have the arguments, as the C calling convention has it.
-use Rattle.std.specs.Prelude.{◌≡◌, ℕ, ◌%◌, ◌≤◌, List, [], ◌∷◌, length}
+use Rattle.std.specs.Prelude.{◌≡◌, ℕ, ◌+◌, ◌%◌, ◌^◌, ◌≤◌, List, [], ◌∷◌, length, IsTrue}
 use Rattle.rrs_lib.specs.Machine.{State, reg}
 use Rattle.rrs_extra.specs.Programs.{HoldsWords}
+use Rattle.rrs_env.specs.declared.Ending.{Ending}
+use Rattle.rrs_env.specs.declared.Ending.TheVariants.{Exit}
+use Rattle.rrs_linux.specs.declared.host_writer.HostWriter.{HostWriter}
 use Rattle.rrs_linux.specs.Transfers.{Stands, most_bytes}
 
 -- the words of the program
@@ -31,3 +34,13 @@ pub record WriteAndExitStarts (text : List ℕ) (s : State) : Type 0 where
   pub text_there : Stands s.bytes (reg s 10) text
   pub length_given : reg s 11 ≡ length text
   pub at_once : length text ≤ most_bytes
+
+-- How the program ends over a writer of the host, after so many steps: with its status; or at its
+-- write, as by SIGPIPE (13), where that write has shown that nobody reads what is written.
+pub data EndsOver {W : Type 0} (status : ℕ) (old new : HostWriter W) (steps : ℕ) (ending : Ending)
+    : Type 0 where
+  AtExit : steps ≡ 13 → ending ≡ Exit (status % 256) → EndsOver status old new steps ending
+  AtWrite :
+      IsTrue new.is_broken → new.short_writes ≡ (old.short_writes + 1) % 2 ^ 64
+      → steps ≡ 8 → ending ≡ Exit 141
+      → EndsOver status old new steps ending

@@ -8,7 +8,7 @@ ghost use Rattle.rrs_env.specs.Serving.{Served, MakesSome};
 ghost use Rattle.rrs_env.specs.declared.Ending.TheVariants.{Exit};
 ghost use Rattle.rrs_linux.specs.Recording.{Records};
 ghost use Rattle.rrs_linux.specs.SystemCalls.{Serves};
-ghost use Rattle.rrs_programs.specs.WritingAndExiting.{WriteAndExitStarts};
+ghost use Rattle.rrs_programs.specs.WritingAndExiting.{WriteAndExitStarts, EndsOver};
 
 use rrs_env::{ServedEnd, run_served};
 use rrs_fast::DecodeCache;
@@ -54,9 +54,10 @@ pub fn write_and_exit<M: Memory>(
 
 /// Calls the program of [write_and_exit] over the streams of a host.
 ///
-/// Whatever they do, the run makes its 13 steps and ends with the status. The output has grown by a
-/// beginning of the text, where its bytes are known: all of it, but where the host's write was
-/// short or failed, which the program does not look at.
+/// Whatever they do, the run makes its 13 steps and ends with the status; but where nobody reads the
+/// output any more it ends at its write, the eighth step, with status 141. The output has grown by a
+/// beginning of the text, where its bytes are known: all of it, but where the host's write was short
+/// or failed, which the program does not look at.
 pub fn write_and_exit_over<M: Memory, R: Read, W: Write, E: Write>(
     executor: &mut InstructionExecutor<M>,
     environment: &mut Linux<R, W, E>,
@@ -70,12 +71,11 @@ pub fn write_and_exit_over<M: Memory, R: Read, W: Write, E: Write>(
         environment.new (state_in M.bytes M.writable executor.new)
         limit environment.old (state_in M.bytes M.writable executor.old) result.steps)
         executor.old.mem.now executor.new.mem.now }
-    ensures steps { result.steps ≡ 13 }
-    ensures ending { result.ending
-        ≡ Exit (reg (state_in M.bytes M.writable executor.old) 12 % 256) }
+    ensures ends { EndsOver (reg (state_in M.bytes M.writable executor.old) 12)
+        environment.old.output environment.new.output result.steps result.ending }
     ensures output { (count : ℕ) × (count ≤ length text.now)
-        × Appends (W.contents environment.old.output) (W.contents environment.new.output)
-        (take count text.now) }
+        × Appends (W.contents environment.old.output.stream)
+        (W.contents environment.new.output.stream) (take count text.now) }
     ensures input_kept { environment.new.input ≡ environment.old.input }
     ensures held_kept { environment.new.held ≡ environment.old.held }
     ensures errors_kept { environment.new.errors ≡ environment.old.errors }

@@ -117,7 +117,7 @@ fn writes_a_text_to_a_stream(rt: HostRuntime) -> Result<(), Fail> {
     let mut linux = Linux::new(none, Vec::new(rt.alloc()), errors, Heap::new(0, 0));
     let text = b"Hello, RISC-V!";
     let end = write_over(&mut memory, &mut hart, &mut linux, 52, text);
-    assert!(rt; end == exit_at(13, 7) && linux.output.as_slice() == text.as_slice());
+    assert!(rt; end == exit_at(13, 7) && linux.output.stream.as_slice() == text.as_slice());
     Ok(())
 }
 
@@ -217,7 +217,7 @@ fn run_streamed(
 ) -> Result<(ServedEnd, bool), AllocError> {
     let mut linux = Linux::new(input, Vec::new(alloc), Vec::new(alloc), Heap::new(0, 0));
     let end = run_words(alloc, program, arguments, &mut linux)?;
-    Ok((end, linux.output.as_slice() == text))
+    Ok((end, linux.output.stream.as_slice() == text))
 }
 
 /// Asserts that a run made so many steps, exited with this status, and wrote what it had to.

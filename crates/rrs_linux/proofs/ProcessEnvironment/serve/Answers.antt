@@ -60,18 +60,18 @@ returns-in-Read-clause-served g c =
 
 pub returns-in-WriteOutput-clause-served : goal.returns-in-WriteOutput-clause-served
 returns-in-WriteOutput-clause-served g c =
-    let went = c.go_on-in-WriteOutput.ensures in
+    let went = c.go_on_if_read.ensures in
     let call = c.write_from-answer in
     let did = call.ensures in
     let kept = after c.args.executor.now.hart_state.now call.result did.bytes_kept did.writable_kept in
     served did.taken.accesses (WriteOutput c.in-WriteOutput.address c.in-WriteOutput.count) c.in-WriteOutput.ensures
-    (went.goes_on, call.new.self, call.result, did.taken.these, refl, went.answered _ _ ∙ kept) did.taken.made
+    (call.new.self, call.result, did.taken.these, refl, went.answered _ _ ∙ kept, went.ends) did.taken.made
 
 pub returns-in-WriteErrors-clause-served : goal.returns-in-WriteErrors-clause-served
 returns-in-WriteErrors-clause-served g c =
-    let went = c.go_on-in-WriteErrors.ensures in
+    let went = c.go_on_if_read-in-WriteErrors.ensures in
     let call = c.write_from-answer-in-WriteErrors in
     let did = call.ensures in
     let kept = after c.args.executor.now.hart_state.now call.result did.bytes_kept did.writable_kept in
     served did.taken.accesses (WriteErrors c.in-WriteErrors.address c.in-WriteErrors.count) c.in-WriteErrors.ensures
-    (went.goes_on, call.new.self, call.result, did.taken.these, refl, went.answered _ _ ∙ kept) did.taken.made
+    (call.new.self, call.result, did.taken.these, refl, went.answered _ _ ∙ kept, went.ends) did.taken.made

@@ -1,9 +1,10 @@
 -- The run that the call made is the one that the program makes.
-use Rattle.std.proofs.Common.{ap, arith}
+use Rattle.std.proofs.Common.{ap, arith, inl, inr}
 use Rattle.std.proofs.lemmas.List.{length-drop}
 use Rattle.rrs_lib.specs.Executor.{state_in}
 use Rattle.rrs_linux.specs.SystemCalls.{ReadsInput, WritesOutput}
-use Rattle.rrs_programs.proofs.Calls.{WroteSome, took_some}
+use Rattle.rrs_programs.specs.WritingAndExiting.{EndsOver, AtExit, AtWrite}
+use Rattle.rrs_programs.proofs.Calls.{WroteSome, IsUnread, took_some}
 use Rattle.rrs_programs.proofs.WriteAndExit.{writes_and_exits}
 use Rattle.rrs_programs.proofs.writing.write_and_exit_over.Goals as goal
 
@@ -18,6 +19,7 @@ returns g c =
     let contents = g.W.Write.contents in
     let run = writes_and_exits (ReadsInput g.R.Read.remaining) (WritesOutput contents)
     (WritesOutput g.E.Write.contents) text old (WroteSome contents text old.output)
+    (IsUnread old.output)
     (λ bytes a count answer o accesses known stands fits writes. took_some contents bytes a count text old.output o
     answer accesses known stands writes)
     c.run_served.new.environment t c.run_served.result.ending c.args.limit s c.run_served.result.steps _
@@ -26,8 +28,10 @@ returns g c =
     c.requires.starts words.0 words.1 words.2 ends c.run_served.ensures.served.these in
     record {
       served = c.run_served.ensures.served;
-      steps = run.counted;
-      ending = run.ends;
+      ends = elim run.ends [
+        | inl exit ↦ AtExit exit.0 exit.1
+        | inr write ↦ AtWrite write.0.0 write.0.1 write.1 write.2
+      ];
       output = (run.left.0.count, run.left.0.within, run.left.0.appended);
       input_kept = ap (λ e. e.input) run.left.1;
       held_kept = ap (λ e. e.held) run.left.1;

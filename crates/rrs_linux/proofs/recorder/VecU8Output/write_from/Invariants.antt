@@ -1,7 +1,7 @@
 use Rattle.std.proofs.Common.{◌≡◌, ℕ, List, ◌++◌, length, vec_capacity}
 use Rattle.rrs_lib.specs.AccessLists.{Makes}
 use Rattle.rrs_linux.specs.Transfers.{Stands, byte_reads}
-use Rattle.rrs_linux.proofs.recorder.VecU8OutputKnown.write_from.Given as goal
+use Rattle.rrs_linux.proofs.recorder.VecU8Output.write_from.Given as goal
 
 -- what was read so far is taken
 abbrev pub invariant-loop-done : goal.invariant-loop-done

@@ -1,5 +1,5 @@
 use Rattle.std.specs.Io.KnownBytes.{Keeps}
-use Rattle.rrs_linux.proofs.host.write_once.Given as goal
+use Rattle.rrs_linux.proofs.host_writer.write_once.Given as goal
 
 -- nothing is written so far
 abbrev pub invariant-loop : goal.invariant-loop

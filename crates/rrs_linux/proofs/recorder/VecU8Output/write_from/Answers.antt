@@ -5,7 +5,7 @@ use Rattle.rrs_linux.specs.Transfers.{counted}
 use Rattle.rrs_linux.specs.Recording.{IsUnmapped, PassesEnd}
 use Rattle.rrs_linux.proofs.Written.{reads_more}
 use Rattle.rrs_linux.proofs.KnownStreams.{Stands-more, takes_text}
-use Rattle.rrs_linux.proofs.recorder.VecU8OutputKnown.write_from.Goals as goal
+use Rattle.rrs_linux.proofs.recorder.VecU8Output.write_from.Goals as goal
 
 pub returns-in_default-clause-taken : goal.returns-in_default-clause-taken
 returns-in_default-clause-taken g c =
