@@ -9,7 +9,7 @@ use Rattle.rrs_env.specs.declared.Ending.{Ending}
 use Rattle.rrs_env.specs.declared.Ending.TheVariants.{Limit, Fault, Exit}
 use Rattle.rrs_cli.specs.Failures as Failures
 use Rattle.rrs_commands.specs.declared.ending.Refusal.{Refusal}
-use Rattle.rrs_commands.specs.declared.ending.Refusal.TheVariants.{SourceErrors, UnreadableSource, LargeSource, WrongLimit, Failed}
+use Rattle.rrs_commands.specs.declared.ending.Refusal.TheVariants.{SourceErrors, UnreadableSource, LargeSource, LargeProgram, WrongLimit, Image, IsElf, Failed}
 use Rattle.rrs_commands.specs.declared.subcommands.Task.{Task}
 use Rattle.rrs_commands.specs.declared.subcommands.Task.TheVariants.{Run, Execute, Assemble, Help}
 
@@ -28,7 +28,10 @@ refused_status Execute refusal = 125
 refused_status task SourceErrors = 1
 refused_status task UnreadableSource = 1
 refused_status task LargeSource = 1
+refused_status task LargeProgram = 1
 refused_status task WrongLimit = 2
+refused_status task (Image error) = 1
+refused_status task IsElf = 1
 refused_status task (Failed failure) = Failures.status_of failure
 
 abbrev pub status_of : Task → Result Ending Refusal → ℕ

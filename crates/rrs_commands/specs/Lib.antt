@@ -2,7 +2,6 @@
 -- and rrs_linux are passed on, since contracts here cite them.
 pub use Rattle.rrs_linux.specs.SystemCalls
 pub use Rattle.rrs_cli.specs.Faults
-pub mod Requests
 pub mod Quiet
 pub mod Execution
 pub mod Endings

@@ -4,9 +4,11 @@ ghost use Rattle.std.specs.Prelude.{◌≡◌};
 ghost use Rattle.std.specs.Process.{exit_status};
 ghost use Rattle.rrs_commands.specs.Endings.{refused_status, signal_of, status_of};
 
+use crate::image_errors::ToldImageError;
 use crate::subcommands::{Subcommand, Task};
 use rrs_cli::command::{Failure, NamedFailure};
 use rrs_env::Ending;
+use rrs_exec::ImageError;
 use rrs_lib::instruction_executor::InstructionException;
 use std::process::ExitCode;
 
@@ -19,8 +21,14 @@ pub enum Refusal {
     UnreadableSource,
     /// The source has more bytes than are read.
     LargeSource,
-    /// The word for a limit is no limit.
+    /// The program's file has more bytes than are read.
+    LargeProgram,
+    /// The word for a limit, or for a number of bytes, is no number.
     WrongLimit,
+    /// The file can't be made a process.
+    Image(ImageError),
+    /// The file is an ELF file, and its bytes are not to be run as they stand.
+    IsElf,
     /// Something else failed.
     Failed(Failure),
 }
@@ -92,8 +100,18 @@ pub fn conclude<H: Eprint>(
             eprintln!(rt; "{}: a source has at most 64 MiB", program.name)
         }
         Err(Refusal::WrongLimit) => {
-            eprintln!(rt; "{}: a limit has one to nine decimal digits", program.name)
+            eprintln!(rt;
+                "{}: a limit, or a number of bytes, has decimal digits and is below 2^64",
+                program.name
+            )
         }
+        Err(Refusal::LargeProgram) => {
+            eprintln!(rt; "{}: a program has at most 256 MiB", program.name)
+        }
+        Err(Refusal::Image(error)) => {
+            eprintln!(rt; "{}: {}", program.name, ToldImageError(error))
+        }
+        Err(Refusal::IsElf) => { eprintln!(rt; "{}: an ELF file: rrs exec runs it", program.name) }
         Err(Refusal::Failed(failure)) => rt.eprintln(NamedFailure { program, failure }),
     };
     ExitCode::from(status)

@@ -8,7 +8,9 @@
 
 pub mod assembly;
 pub mod ending;
+pub mod executables;
 pub mod execution;
+pub mod image_errors;
 pub mod program;
 pub mod quiet;
 pub mod requests;

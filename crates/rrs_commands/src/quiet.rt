@@ -3,7 +3,6 @@
 ghost use Rattle.std.specs.Prelude.{OnOk, IfErr};
 ghost use Rattle.rrs_commands.specs.Quiet.{QuietAccount, StopsQuietRun};
 
-use rrs_cli::command::{Failure, open_file, output};
 use rrs_cli::fault::RunFault;
 use rrs_cli::loading::load;
 use rrs_cli::report::print_ending;
@@ -13,7 +12,6 @@ use rrs_lib::HartState;
 use rrs_lib::instruction_executor::InstructionExecutor;
 use std::alloc::Global;
 use std::io::{Read, Write};
-use std::rt::Files;
 
 /// Runs the reader's bytes as `simulate` does, and prints how the run ended and the registers, but
 /// no instruction. The run is one call, over a cache of decoded words.
@@ -45,19 +43,4 @@ pub fn simulate_quietly<R: Read, W: Write>(
     };
     let end = DecodeCache::new().run(&mut executor, limit);
     print_ending(alloc, &end, executor.hart_state, out)
-}
-
-/// Runs the bytes of a file, and prints how the run ended and the registers.
-///
-/// # Errors
-///
-/// `Failure::CannotOpen` where the file can't be opened, and else `Failure::Run`.
-pub fn run_file_quietly<H: Files + Print + AllocGlobal>(
-    rt: &H,
-    path: &str,
-    limit: u64,
-) -> Result<(), Failure> {
-    let mut reader = open_file(rt, path)?;
-    let mut out = output(rt)?;
-    simulate_quietly(rt.alloc(), &mut reader, limit, &mut out).map_err(Failure::Run)
 }

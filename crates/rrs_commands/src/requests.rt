@@ -1,12 +1,7 @@
 //! What the words of a command line ask of a subcommand, the subcommand's own word among them.
 
-ghost use Rattle.std.specs.Prelude.{◌≡◌, IfOk, IfErr, None, Some, map, string_bytes};
-ghost use Rattle.rrs_cli.specs.Limits.{limit_in};
-ghost use Rattle.rrs_commands.specs.Requests.{AsksToExecute};
-
 use crate::ending::Refusal;
 use rrs_cli::command::Failure;
-use rrs_cli::limits::limit_of;
 use rrs_cli::requests::file_and_limit;
 
 /// A run that is asked for: a file, a limit, and whether its instructions are not to be printed.
@@ -35,35 +30,96 @@ pub fn run_request_of(words: &[String]) -> Option<RunRequest<'_>> {
     })
 }
 
-/// The file and the limit of a program that is to be run: `--raw FILE --limit N`, in either order.
+/// The bytes of memory of a process where nothing else is asked for: 16 MiB.
+const MEMORY_BYTES: u64 = 1 << 24;
+
+/// A program that is to be run, and how.
+#[derive(Clone, Copy)]
+pub struct ProgramRequest<'a> {
+    /// Whether the file's bytes are the program, and not an ELF file.
+    pub is_raw: bool,
+    /// The most steps that are made.
+    pub limit: u64,
+    /// How many bytes of memory an executable has.
+    pub memory: u64,
+    /// The program's path, and then its arguments.
+    pub words: &'a [String],
+}
+
+/// What the next word of a command line is.
+#[derive(Clone, Copy)]
+enum Wanted {
+    /// An option, or the program.
+    Option,
+    /// The number of an option `--limit`.
+    Limit,
+    /// The number of an option `--memory`.
+    Memory,
+}
+
+/// The program that is to be run: the options `--raw`, `--limit N` and `--memory BYTES`, in any
+/// order, and then the program and its arguments.
 ///
 /// # Errors
 ///
-/// `Refusal::WrongLimit` where N is no limit, and for other words `Failure::Usage`.
-pub fn execute_request_of(words: &[String]) -> Result<(&str, u64), Refusal>
-    ensures { IfOk result (λ request.
-        AsksToExecute (map string_bytes words.now) request.0.now request.1) }
-{
-    let [_, first, one, second, other] = words else {
-        return Err(Refusal::Failed(Failure::Usage));
+/// `Refusal::WrongLimit` where a number is none, and where there is no program `Failure::Usage`.
+pub fn program_request_of(words: &[String]) -> Result<ProgramRequest<'_>, Refusal> {
+    let mut request = ProgramRequest {
+        is_raw: false,
+        limit: u64::MAX,
+        memory: MEMORY_BYTES,
+        words: &[],
     };
-    match (first.as_str(), second.as_str()) {
-        ("--raw", "--limit") => path_and_limit(one.as_str(), other.as_str()),
-        ("--limit", "--raw") => path_and_limit(other.as_str(), one.as_str()),
+    let mut wanted = Wanted::Option;
+    for index in 1..words.len() {
+        let word = words[index].as_str();
+        match wanted {
+            Wanted::Limit => request.limit = number_of(word)?,
+            Wanted::Memory => request.memory = number_of(word)?,
+            Wanted::Option => {}
+        }
+        wanted = match (wanted, word) {
+            (Wanted::Limit | Wanted::Memory, _) => Wanted::Option,
+            (Wanted::Option, "--limit") => Wanted::Limit,
+            (Wanted::Option, "--memory") => Wanted::Memory,
+            (Wanted::Option, "--raw") => {
+                request.is_raw = true;
+                Wanted::Option
+            }
+            (Wanted::Option, _) => {
+                request.words = &words[index..];
+                return Ok(request);
+            }
+        };
+    }
+    Err(Refusal::Failed(Failure::Usage))
+}
+
+/// The file and the limit of a raw program: its words are its path, or its path and `--limit N`.
+///
+/// # Errors
+///
+/// `Refusal::WrongLimit` where N is no number, and for other words `Failure::Usage`.
+pub fn raw_request_of(request: ProgramRequest<'_>) -> Result<(&str, u64), Refusal> {
+    match request.words {
+        [path] => Ok((path.as_str(), request.limit)),
+        [path, option, limit] if option.as_str() == "--limit" => {
+            Ok((path.as_str(), number_of(limit.as_str())?))
+        }
         _ => Err(Refusal::Failed(Failure::Usage)),
     }
 }
 
-/// A file and the limit that a word is.
-fn path_and_limit<'a>(path: &'a str, limit: &str) -> Result<(&'a str, u64), Refusal>
-    ensures request { IfOk result (λ request. request.0.now ≡ path.now
-        × limit_in limit.now ≡ Some request.1) }
-    ensures refused { IfErr result (λ refusal. refusal ≡ Refusal.WrongLimit
-        × limit_in limit.now ≡ None) }
-{
-    match limit_of(limit) {
-        Some(limit) => Ok((path, limit)),
-        None => Err(Refusal::WrongLimit),
+/// The number that decimal digits are.
+fn number_of(word: &str) -> Result<u64, Refusal> {
+    for byte in word.as_bytes() {
+        if !byte.is_ascii_digit() {
+            return Err(Refusal::WrongLimit);
+        }
+    }
+    match word.parse() {
+        Ok(number) => Ok(number),
+        Err(_) => Err(Refusal::WrongLimit),
     }
 }
 

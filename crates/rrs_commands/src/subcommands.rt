@@ -60,18 +60,21 @@ const EXECUTE: Subcommand = Subcommand {
     task: Task::Execute,
     command: Command {
         name: "rrs exec",
-        usage: "rrs exec --raw FILE --limit N",
+        usage: "rrs exec [--limit STEPS] [--memory BYTES] [--raw] PROGRAM [ARGUMENT] ..",
     },
     summary: "runs a program that makes system calls of Linux",
-    help: "Puts the bytes of FILE at address 0 of a memory of 1 MiB, starts a hart there with
-sp (x2) at the end of the memory, and makes at most N steps (one to nine digits),
-of which each system call is one. The program has standard input, output and
-error. Both options are required, in either order.
+    help: "Runs PROGRAM, an ELF executable for RV32IM, as a process of Linux with these
+ARGUMENTs: in a memory of 16 MiB (--memory), with its heap behind its segments,
+its stack at the end, and a gap between them; code and constants are read-only.
+It makes at most STEPS steps, of which each system call is one, or any number.
+The program has standard input, output and error. A fault is told with its pc.
+With --raw the file's bytes stand at address 0 of 1 MiB and sp at its end, and
+there are no ARGUMENTs.
 
 Status: the program's own; 124 at the limit; 125 where it can't be run; 128 and
 the number of a signal for a fault: 132 illegal instruction, 133 breakpoint,
-135 misaligned address, 139 address outside the memory; 141 where nobody reads
-what the program writes.
+135 misaligned address, 139 address that is not mapped or not writable; 141 where
+nobody reads what the program writes.
 ",
 };
 
