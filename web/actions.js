@@ -27,6 +27,7 @@ const ACTIONS = {
   console: { label: "Go to the console's input", key: "c" },
   endInput: { label: "End the console's input", key: "z" },
   examples: { label: "Go to the examples", key: "y" },
+  preset: { label: "Go to the choice of the machine's memory", key: "v" },
   edit: { label: "Edit the program's words", key: "e" },
   open: { label: "Open a .bin file, or a text of words", key: "o" },
   link: { label: "A link that holds the program", key: "l" },

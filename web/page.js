@@ -56,6 +56,7 @@ class Page {
       console: () => $("input").focus(),
       endInput: () => session.endInput(),
       examples: () => $("examples").focus(),
+      preset: () => $("preset").focus(),
       edit: () => this.edit(session),
       open: () => $("file").click(),
       link: () => this.showLink(),
@@ -74,6 +75,7 @@ class Page {
     $("speed").append(...SPEEDS.map((speed, at) =>
       new Option(speed === Infinity ? "full" : `${speed.toLocaleString("en")}/s`, at)));
     $("speed").value = this.session.speed;
+    $("preset").append(...PRESETS.map(({ name }, at) => new Option(name, at)));
     $("size").append(...SIZES.map((size) => new Option(`${size / 1024} KiB`, size)));
     for (const [id, { name }] of Object.entries(ENVIRONMENTS)) {
       $("calls").append(new Option(`calls of ${name}`, id));
@@ -142,6 +144,7 @@ class Page {
 
   listen() {
     $("examples").addEventListener("change", (event) => this.openExample(event.target.value));
+    $("preset").addEventListener("change", ({ target }) => this.takePreset(target.value));
     $("speed").addEventListener("change", (event) => this.setSpeed(Number(event.target.value)));
     $("radix").addEventListener("change", (event) => this.setRadix(event.target.value));
     $("calls").addEventListener("change", ({ target }) => this.session.setCalls(target.value));
@@ -303,6 +306,22 @@ class Page {
     this.session.say("Not opened", sentence, "end");
   }
 
+  /* Opens the program again in another memory. */
+  takePreset(choice) {
+    const { name, about, text, calls } = this.session;
+    const { base, size, hasStack } = PRESETS[choice];
+    const program = { name, about, text, base, size, hasStack, calls, keepsStops: true };
+    this.open(program, $("examples").value);
+  }
+
+  /* Which of the presets the machine is, or "". */
+  presetNow() {
+    const { kit: { base, size }, hasStack } = this.session.machine;
+    const at = PRESETS.findIndex((preset) =>
+      preset.base === base && preset.size === size && preset.hasStack === hasStack);
+    return at < 0 ? "" : String(at);
+  }
+
   openExample(id) {
     this.open(EXAMPLES.find((example) => example.id === id), id);
   }
@@ -310,17 +329,21 @@ class Page {
   async openFiles(files) {
     const [file] = files;
     if (!file) return;
-    const { kit: { base, size }, hasStack } = this.session.machine;
-    const mistake = mistakeOfFile(file, size);
+    const mistake = mistakeOfSize(file.size);
     const bytes = mistake ? null : await contentOf(file);
-    if (bytes === null) {
-      this.refuse(`${file.name} ${mistake || UNREADABLE}`);
-    } else {
-      const { calls } = this.session;
-      const text = textOfFile(file.name, bytes);
-      this.open({ name: file.name, text, base, size, hasStack, calls });
-    }
+    if (bytes === null) this.refuse(`${file.name} ${mistake || UNREADABLE}`);
+    else this.openBytes(file.name, bytes);
     $("file").value = "";
+  }
+
+  openBytes(name, bytes) {
+    const { machine: { kit: { base, size }, hasStack }, calls } = this.session;
+    try {
+      this.open({ name, text: textOfFile(bytes, size), base, size, hasStack, calls });
+    } catch (error) {
+      if (!(error instanceof ProgramError)) throw error;
+      this.refuse(`${name} was not opened. ${error.message}`);
+    }
   }
 
   edit({ text, machine }) {
@@ -399,6 +422,7 @@ class Page {
     $("state").firstElementChild.setAttribute("aria-busy", session.isRunning);
     setText($("steps"), counted(machine.steps, "step"));
     $("calls").value = session.calls;
+    $("preset").value = this.presetNow();
     setText($("kept"), `can go back ${machine.history.length.toLocaleString("en")}`);
     $("kept").title = `The records of the latest ${STEPS_KEPT.toLocaleString("en")} steps at least `
       + "are kept.";

@@ -141,28 +141,42 @@ function parseProgram(text, size) {
   return program;
 }
 
-/** Whether a file has words as text, by its name. Each other is taken byte by byte. */
-function isTextFile(name) {
-  return /\.(txt|hex|words)$/i.test(name);
-}
+/* What a text has no byte of: control characters, but for tabs and the ends of lines and pages. */
+const NO_TEXT = /[\0-\x08\x0e-\x1f\x7f]/;
 
-/** Why a file, by its `name` and its `size` in bytes, is no program for a memory of `room` bytes,
- * or "". It is told before the file is read. */
-function mistakeOfFile({ name, size }, room) {
-  const is = numbered(size);
-  if (size === 0) return "is empty.";
-  if (isTextFile(name)) {
-    const most = numbered(MOST_TEXT);
-    return size > MOST_TEXT ? `has ${is} bytes, and a text of words ${most} at most.` : "";
+/** The text that a file's bytes are, or null. They are one in UTF-8 with no control characters. */
+function textIn(bytes) {
+  try {
+    const text = new TextDecoder("utf-8", { fatal: true }).decode(bytes);
+    return NO_TEXT.test(text) ? null : text;
+  } catch {
+    return null;
   }
-  if (size <= room) return "";
-  return `has ${is} bytes, and the memory has ${numbered(room)}. A larger memory can be chosen at `
-    + "Edit.";
 }
 
-/** The text of a program that a file holds. */
-function textOfFile(name, bytes) {
-  return isTextFile(name) ? new TextDecoder().decode(bytes) : textOfBytes(bytes);
+/** Why a file of some bytes is not even read, or "". */
+function mistakeOfSize(size) {
+  if (size === 0) return "is empty.";
+  const most = numbered(MOST_TEXT);
+  return size > MOST_TEXT ? `has ${numbered(size)} bytes, and a program ${most} at most.` : "";
+}
+
+const ELF = [0x7f, 0x45, 0x4c, 0x46];
+
+/** The text of the program that a file's bytes are, by what they hold: a text of words, or else raw
+ * bytes for a memory of `room` bytes. Throws a ProgramError. */
+function textOfFile(bytes, room) {
+  if (ELF.every((byte, at) => bytes[at] === byte)) {
+    throw new ProgramError(0, "It is an executable in the ELF format, and the page takes raw "
+      + "bytes: objcopy -O binary makes them of it.");
+  }
+  const text = textIn(bytes);
+  if (text !== null) return text;
+  if (bytes.length > room) {
+    throw new ProgramError(0, `It has ${numbered(bytes.length)} bytes, and the memory has `
+      + `${numbered(room)}. A larger memory can be chosen at Machine.`);
+  }
+  return textOfBytes(bytes);
 }
 
 /** The text of a file's bytes as words, lowest byte first, the last one filled up with zeros. */

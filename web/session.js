@@ -15,6 +15,12 @@ const SLICE_STEPS = 4096;
 const LARGEST_BASE = 2 ** 32 - MOST_BYTES;
 const SIZES = [1 << 16, 1 << 18, 1 << 20];
 
+/* The memories of the two programs of the kit, and where sp starts in them. */
+const PRESETS = [
+  { name: "as rrs run: 64 KiB", base: 0, size: 1 << 16, hasStack: false },
+  { name: "as rrs exec: 1 MiB, sp at its end", base: 0, size: 1 << 20, hasStack: true },
+];
+
 /** A machine with its program, breakpoints, and what was last said of it. */
 class Session {
   constructor(machine) {
@@ -26,10 +32,19 @@ class Session {
     this.onChange = () => {};
   }
 
-  /** The text of a word at an address, with the names of registers that were chosen. */
+  /** The text of a word at an address, with the names of registers that were chosen, and a target
+   * by its label. */
   disassemble(word, address) {
-    return withNames(this.machine.kit.disassemble(word, address), this.names);
+    const text = withNames(this.machine.kit.disassemble(word, address), this.names);
+    return isJumpToTarget(word) ? text.replace(/0x[0-9a-f]{8}$/, this.labelled) : text;
   }
+
+  /* The label at an address, as eight digits write it, or the address. */
+  labelled = (text) => {
+    const index = (Number(text) - this.machine.kit.base) / 4;
+    const [name] = this.labels.get(index) ?? [];
+    return name === undefined ? text : shortened(name, LABEL_SHOWN);
+  };
 
   /** What a step did, by its record. */
   effectOf(record) {

@@ -42,9 +42,8 @@ function mostOf(counts) {
 const LINE_HEIGHT = 24;
 const LINES_AROUND = 4;
 
-/* How many characters of a comment and of a label are shown, and how many labels of a word. */
+/* How many characters of a comment are shown, and how many labels of a word. */
 const COMMENT_SHOWN = 200;
-const LABEL_SHOWN = 60;
 const LABELS_SHOWN = 8;
 
 /** The labels of a word, as one text. */

@@ -55,6 +55,12 @@ function groupOf(word) {
   return opcode === 0x33 && word >>> 25 === 1 ? "multiply" : GROUP_OF_OPCODE[opcode];
 }
 
+/** Whether the text of a word ends with the address that it goes to: a branch or jal. */
+const isJumpToTarget = (word) => [0x63, 0x6f].includes(word & 0x7f);
+
+/* How many characters of a label are shown. */
+const LABEL_SHOWN = 60;
+
 /* How many bytes the load or the store of a word has. */
 const bytesOf = (word) => 1 << (word >>> 12 & 3);
 

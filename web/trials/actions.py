@@ -46,6 +46,7 @@ STATE = """(() => {
         memory: [...document.querySelector("#memory tr").children].slice(0, 2)
             .map(({ textContent }) => textContent).join(": "),
         pace: SPEEDS[rrs.session.speed], names: chosen("names"), calls: chosen("calls"),
+        preset: chosen("preset"),
         line: document.querySelector("#line-5 .instruction").textContent,
         around: chosen("around"), address: document.getElementById("address").value,
         note: text("lost"), theme: getComputedStyle(document.documentElement).colorScheme,
@@ -61,6 +62,7 @@ BASE = {
     "stops": "line-5", "speed": "64/s", "radix": "hexadecimal", "unit": "words",
     "memory": "00002000: 00000000", "pace": 64, "around": "at the address",
     "names": "names (a0)", "line": "add a2, a2, a3", "calls": "calls of Linux",
+    "preset": "as rrs run: 64 KiB",
     "address": "0x00002000", "note": "", "theme": "light dark", "focus": "BODY", "dialog": "",
 }
 
@@ -97,6 +99,7 @@ EFFECTS = {
     "console": {"focus": "input"},
     "endInput": {"note": "input ended"},
     "examples": {"focus": "examples"},
+    "preset": {"focus": "preset"},
     "edit": {"dialog": "editor", "focus": "text"},
     "open": {},
     "link": {"dialog": "shared", "focus": "link"},
@@ -116,7 +119,11 @@ OTHER_MENUS = {
     ("examples", "ArrowDown"): {
         "heading": "Ready", "sentence": "44 bytes from 0x00000000 on. gcd(1071, 462) by Euclid's "
         "algorithm, as gcc makes it of C. The status is the divisor.", "steps": "0 steps",
-        "pc": "0x00000000", "selected": "line-0", "stops": "", "line": "bne a1, zero, 0x0000001c"},
+        "pc": "0x00000000", "selected": "line-0", "stops": "", "line": "bne a1, zero, divide"},
+    ("preset", "ArrowDown"): {
+        "heading": "Ready", "sentence": "80 bytes from 0x00000000 on. A loop adds eight words of "
+        "memory. The status is their sum.", "steps": "0 steps", "pc": "0x00000000",
+        "selected": "line-0", "preset": "as rrs exec: 1 MiB, sp at its end"},
 }
 
 

@@ -181,7 +181,8 @@ def calls_of_others(machine):
     page.press("Enter")
     page.wait("!rrs.session.isRunning")
     machine.says("Call refused", 'The ecall at 0x00000004 could not be served: "forty" is no '
-                 "number from -2147483648 to 2147483647. The line is dropped: another can be typed.")
+                 "number from -2147483648 to 2147483647. The line is dropped: another can be "
+                 "typed.")
     page.replace("#input", "-42")
     page.press("Enter")
     machine.leave_fields()

@@ -114,8 +114,8 @@ def tab_order(page, key="Tab", held=()):
 
 
 FOCUS_ORDER = [
-    "examples", "edit", "open", "link", "theme", "keys", "runBack", "stepBack", "step", "run",
-    "pause", "runToLine", "reset", "speed", "breakpoint", "listing", "names", "radix", "change",
+    "examples", "preset", "edit", "open", "link", "theme", "keys", "runBack", "stepBack", "step",
+    "run", "pause", "runToLine", "reset", "speed", "breakpoint", "listing", "names", "radix", "change",
     "calls", "output", "input", "button", "endInput", "frames-title", "around", "address", "unit",
     "memoryUp", "memoryDown", "log-title", "counts-title", "a",
 ]
@@ -215,7 +215,7 @@ def contrast(machine):
     same("how many texts and marks were looked at", LOOKED_AT, len(looked))
 
 
-LOOKED_AT = 90
+LOOKED_AT = 91
 
 # ---- boxes and marks
 
@@ -270,6 +270,30 @@ def boxes(machine):
     same("a stored word", ["700", True, True], page.ask(f"{SEEN}.storedMark()"))
 
 
+def one_screen(machine):
+    """at 1366 x 768 registers, memory around sp and the listing are on one screen"""
+    page = machine.page
+    show_fibonacci(machine)
+    page.resize(1366, 768)
+    page.ask("scrollTo(0, 0)")
+    same("what is not on the screen", [], page.ask(f"{SEEN}.notInView()"))
+    page.resize(*SIZE)
+
+
+def nothing_moves(machine):
+    """a sentence, however long, moves nothing"""
+    page = machine.page
+    for width in (1360, 768, 360):
+        page.resize(width, 900)
+        tops = set()
+        for example in ("three", "fetch", "misaligned", "ecall"):
+            machine.choose(example)
+            machine.run()
+            tops.add(page.ask("document.querySelector('main').offsetTop"))
+        same(f"the place of the panels at {width}", 1, len(tops))
+    page.resize(*SIZE)
+
+
 def theme(machine):
     """light and dark: by the system and by the switch"""
     page = machine.page
@@ -313,4 +337,4 @@ def pictures(machine, folder):
     page.prefer(False)
 
 
-TRIALS = [accessibility_tree, focus, contrast, boxes, theme]
+TRIALS = [accessibility_tree, focus, contrast, boxes, one_screen, nothing_moves, theme]

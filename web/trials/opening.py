@@ -39,14 +39,22 @@ def files(machine):
         (folder / "full.bin").write_bytes(b"\x13\0\0\0" * 16384)
         (folder / "empty.bin").write_bytes(b"")
         (folder / "odd.bin").write_bytes(b"\x37\xb1\x34\x12\x01")
-        (folder / "<b>words.txt").write_text("1234b137\nf387e1b7 # <b>two\n")
+        (folder / "<b>words").write_text("1234b137\nf387e1b7 # <b>two\n")
         machine.choose("gcd")
         machine.give(folder / "long.bin")
-        machine.says("Not opened", "long.bin has 65,540 bytes, and the memory has 65,536. A larger "
-                     "memory can be chosen at Edit.")
+        machine.says("Not opened", "long.bin was not opened. It has 65,540 bytes, and the memory "
+                     "has 65,536. A larger memory can be chosen at Machine.")
         same("line 0, of what was open", WHAT_IS_OPEN, machine.line(0)[2])
         machine.give(folder / "empty.bin")
         machine.says("Not opened", "empty.bin is empty.")
+        (folder / "program.hex").write_bytes(b"\x7fELF\x01")
+        machine.give(folder / "program.hex")
+        machine.says("Not opened", "program.hex was not opened. It is an executable in the ELF "
+                     "format, and the page takes raw bytes: objcopy -O binary makes them of it.")
+        (folder / "source.s").write_text("# a program\nli a0, 5\n")
+        machine.give(folder / "source.s")
+        machine.says("Not opened", "source.s was not opened. Line 2: \"li\" is no word of 1 to 8 "
+                     "hexadecimal digits")
         machine.give(folder / "full.bin")
         machine.says("Ready", "65,536 bytes from 0x00000000 on.")
         machine.run()
@@ -57,9 +65,9 @@ def files(machine):
             "document.querySelector('#examples').value")])
         same("line 1", ["00000004", "00000001", "no instruction", ""], machine.line(1))
         same("how many lines", 3, machine.page.ask("document.querySelectorAll('.line').length"))
-        machine.give(folder / "<b>words.txt")
+        machine.give(folder / "<b>words")
         same("line 1", "lui gp, 0xf387e000", machine.line(1)[2])
-        same("a title and a comment are no HTML", ["<b>words.txt", "<b>two"], [
+        same("a title and a comment are no HTML", ["<b>words", "<b>two"], [
             machine.page.text("#program-title"), machine.page.text("#line-1 .comment")])
     drop(machine, "dropped.bin", b"\x37\xb1\x34\x12")
     same("line 0", "lui sp, 0x1234b000", machine.line(0)[2])

@@ -6,7 +6,12 @@ import hashlib
 import html.parser
 import http.server
 import json
+import os
+import pathlib
 import re
+import subprocess
+import sys
+import tempfile
 import threading
 
 from trials import chromium
@@ -159,6 +164,16 @@ def quiet(browser):
         "[document.cookie, location.protocol === 'file:' && localStorage.length,"
         " sessionStorage.length]")
     same("what is stored", ["", 0, 0], stored)
+
+
+def joined_anywhere():
+    """the page is joined of the same bytes whatever the locale says"""
+    with tempfile.TemporaryDirectory() as folder:
+        page = pathlib.Path(folder) / "rrs.html"
+        environment = {"LC_ALL": "C", "PYTHONUTF8": "0", "PYTHONCOERCECLOCALE": "0"}
+        subprocess.run([sys.executable, WEB / "join.py", Subject.module, "../../README.md", page],
+                       check=True, capture_output=True, env={**os.environ, **environment})
+        same("the page", True, page.read_bytes() == Subject.page.read_bytes())
 
 
 def address_of_readme():

@@ -108,11 +108,8 @@ class Machine:
 
     def take_memory_of_exec(self):
         """Takes 1 MiB of memory with sp at its end, as rrs exec has it."""
-        self.page.press("e")
-        self.page.choose("#size", "1048576")
-        if not self.page.ask("document.querySelector('#stack').checked"):
-            self.page.click("#stack")
-        self.page.click("#take")
+        self.page.choose("#preset", "1")
+        self.leave_fields()
 
     def is_first_state(self):
         return self.page.ask(FIRST_STATE)

@@ -64,26 +64,30 @@ function sizesOfTexts(report, page) {
 }
 
 function files(report, page) {
-  report.cases("whether a file is a text of words", [
-    ["a.txt", true], ["a.HEX", true], ["a.b.words", true], ["a.bin", false], ["txt", false],
-    ["a.txt.bin", false], ["a.txtx", false], ["", false],
-  ], (name) => page.isTextFile(name));
-  const textTooLong = "has 8,388,609 bytes, and a text of words 8,388,608 at most.";
-  report.cases("why a file is no program", [
-    [["a.bin", 0, 65536], "is empty."], [["a.txt", 0, 65536], "is empty."],
-    [["a.bin", 1, 65536], ""], [["a.bin", 65536, 65536], ""],
-    [["a.bin", 65537, 65536],
-      "has 65,537 bytes, and the memory has 65,536. A larger memory can be chosen at Edit."],
-    [["a.txt", 65537, 65536], ""], [["a.txt", 8 * MIB, 65536], ""],
-    [["a.txt", 8 * MIB + 1, MIB], textTooLong],
-  ], ([name, size, room]) => page.mistakeOfFile({ name, size }, room));
-  const bytes = Uint8Array.from([0x37, 0xb1, 0x34, 0x12, 0x01]);
-  report.cases("the text of a file", [
-    [["a.bin", bytes], "0x1234b137\n0x00000001\n"],
-    [["a.bin", bytes.subarray(0, 4)], "0x1234b137\n"],
-    [["a.bin", bytes.subarray(1)], "0x011234b1\n"],
-    [["a.txt", new TextEncoder().encode("13 # é")], "13 # é"],
-  ], ([name, content]) => page.textOfFile(name, content));
+  const bytes = (...values) => Uint8Array.from(values);
+  const written = (text) => new TextEncoder().encode(text);
+  const elf = "It is an executable in the ELF format, and the page takes raw bytes: objcopy -O "
+    + "binary makes them of it.";
+  const tooLong = "It has 65,537 bytes, and the memory has 65,536. A larger memory can be chosen "
+    + "at Machine.";
+  const raw = bytes(0x37, 0xb1, 0x34, 0x12, 0x01);
+  report.cases("the program of a file of some bytes", [
+    [raw, "0x1234b137\n0x00000001\n"], [raw.subarray(0, 4), "0x1234b137\n"],
+    [raw.subarray(1), "0x011234b1\n"], [written("13 # é\t\r\n\f"), "13 # é\t\r\n\f"],
+    [written("nothing"), "nothing"], [bytes(0x31, 0), "0x00000031\n"],
+    [bytes(0x31, 0x80), "0x00008031\n"], [bytes(0x31, 0x1b), "0x00001b31\n"],
+    [bytes(0x7f, 0x45, 0x4c, 0x46, 1), elf], [bytes(0x7f, 0x45, 0x4c), "0x004c457f\n"],
+    [new Uint8Array(65536), "0x00000000\n".repeat(16384)], [new Uint8Array(65537), tooLong],
+    [written("# ".repeat(40000)), "# ".repeat(40000)],
+  ], (content) => {
+    let text;
+    const refused = Report.refused(() => { text = page.textOfFile(content, 65536); });
+    return refused ?? text;
+  });
+  report.cases("why a file of a size is not read", [
+    [0, "is empty."], [1, ""], [8 * MIB, ""],
+    [8 * MIB + 1, "has 8,388,609 bytes, and a program 8,388,608 at most."],
+  ], page.mistakeOfSize);
   report.cases("a number of hexadecimal digits", [
     ["0", 0], ["ffffffff", 0xffffffff], ["0x10", 16], ["0b1", 0xb1], ["100000000", NaN], ["", NaN],
     ["0x", NaN], [" 1", NaN], ["-1", NaN], ["1e9g", NaN],

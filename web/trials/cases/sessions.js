@@ -69,6 +69,21 @@ function opening(report, over) {
   report.same("the sizes of a memory", [65536, 262144, 1048576], page.SIZES);
 }
 
+/* Branches and jumps by the label that they go to, and by its address where there is none. */
+function targets(report, over) {
+  const words = [w.b(0, 5, 6, -4), w.jal(1, -8), w.jalr(0, 1, 0), w.jal(0, 2), w.lui(5, 0x1000)];
+  const session = opened(over, `a: 13 b: ${textOf(words)}`, { base: 0x1000 });
+  const shown = () => [1, 2, 3, 4, 5].map((index) =>
+    session.disassemble(session.machine.kit.words[index], 0x1000 + 4 * index));
+  report.same("the targets", ["beq t0, t1, a", "jal ra, a", "jalr zero, 0x000(ra)",
+    "jal zero, 0x00001012", "lui t0, 0x00001000"], shown());
+  session.names = over.page.NAMES.number;
+  report.same("with numbers", "beq x5, x6, a", shown()[0]);
+  const long = opened(over, `${"l".repeat(70)}: ${w.jal(0, 0).toString(16)}`);
+  report.same("a long label", `jal zero, ${"l".repeat(60)}…`,
+    long.disassemble(long.machine.kit.words[0], 0));
+}
+
 function singleSteps(report, over) {
   const session = opened(over, [w.addi(5, 0, 7), w.jal(0, 8), 0, w.addi(0, 0, 0)]);
   const seen = [];
@@ -246,7 +261,7 @@ async function input(report, over) {
 async function trySessions(report, page, kit, clock) {
   report.begin("sessions");
   const over = { page, kit, clock };
-  for (const part of [opening, singleSteps, runsThereAndBack, paces, stops, input]) {
+  for (const part of [opening, targets, singleSteps, runsThereAndBack, paces, stops, input]) {
     await part(report, over);
   }
 }

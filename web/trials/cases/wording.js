@@ -149,7 +149,7 @@ const KEYS = {
   breakpoint: "k", program: "g", slower: "-", faster: "+", radix: "n", names: "h", change: "u",
   unit: "m", around: "w",
   address: "a", memoryUp: "[", memoryDown: "]", calls: "f", console: "c",
-  endInput: "z", examples: "y",
+  endInput: "z", examples: "y", preset: "v",
   edit: "e", open: "o", link: "l", theme: "d", keys: "?",
 };
 
