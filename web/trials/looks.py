@@ -248,7 +248,10 @@ def boxes(machine):
     for width, height in WIDTHS:
         page.resize(width, height)
         page.ask("scrollTo(0, 0)")
-        same(f"the marks at {width}", WANTED_MARKS, page.ask(f"{SEEN}.marks()"))
+        for dark in (True, False):
+            page.prefer(dark)
+            same(f"the marks at {width}, {'dark' if dark else 'light'}", WANTED_MARKS,
+                 page.ask(f"{SEEN}.marks()"))
         for _ in range(4):
             same(f"the boxes at {width}", ALL_IN_PLACE, page.ask(f"{SEEN}.boxes()"))
             machine.keys("n")

@@ -114,9 +114,15 @@
 
   /* ---- marks */
 
+  /* Whether the ground of an element can be told from that of another. */
+  function differs(one, other) {
+    const [first, second] = [one, other].map((selector) =>
+      ground(document.querySelector(selector)));
+    return ratio(first, second) > 1.05;
+  }
+
   function marks() {
     const of = (selector, pseudo) => style(document.querySelector(selector), pseudo);
-    const differs = (one, other) => of(one).backgroundColor !== of(other).backgroundColor;
     const dot = of(".line.stop .gutter", "::before");
     return {
       dot: [dot.opacity, dot.borderRadius, parseFloat(dot.width) >= 8,
@@ -140,10 +146,9 @@
 
   /* How a stored word is marked: its weight, and whether its ground is another than others'. */
   function storedMark() {
-    const [stored, zero, changed] = ["stored", "zero", "changed"].map((name) =>
-      style(document.querySelector(`#memory .${name}`)));
-    return [stored.fontWeight, stored.backgroundColor !== zero.backgroundColor,
-      stored.backgroundColor !== changed.backgroundColor];
+    const stored = "#memory .stored";
+    return [style(document.querySelector(stored)).fontWeight, differs(stored, "#memory .zero"),
+      differs(stored, "#memory .changed")];
   }
 
   /* ---- boxes */
