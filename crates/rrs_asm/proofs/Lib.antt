@@ -1,2 +1,4 @@
-pub mod LaidOut
+pub mod Cutting
 pub mod Halves
+pub mod Made
+pub mod Tables

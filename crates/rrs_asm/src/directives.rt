@@ -1,6 +1,9 @@
 //! Directives.
 
-ghost use Rattle.std.specs.Prelude.{◌<◌};
+ghost use Rattle.std.specs.Prelude.{◌≡◌, ◌<◌, ℕ, true, IfOk};
+ghost use Rattle.rrs_asm.specs.Names.{IsNamed};
+ghost use Rattle.rrs_asm.specs.Source.{items_named};
+ghost use Rattle.rrs_asm.specs.Forms.{fits_placed, items_of_read, HasItsName};
 
 use crate::errors::{Halt, LineError, SourceErrorKind};
 use crate::literals::escaped;
@@ -13,52 +16,77 @@ use std::alloc::{AllocError, Global};
 /// The greatest alignment, as a power of 2.
 const MOST_ALIGNED: u32 = 16;
 
-/// What a directive says.
+/// What a part of a line says.
 #[derive(Drop)]
-pub enum Directive<'a> {
-    /// What stands at the address.
-    Place(Statement),
+pub enum Read<'a> {
+    /// A label of this name stands here.
+    Label(&'a [u8]),
+    /// A statement of this name is laid out here.
+    Laid(&'a [u8], Statement),
     /// A constant has this value.
-    Set(&'a [u8], u32),
+    Constant(&'a [u8], u32),
     /// Nothing.
     Nothing,
 }
 
 /// Reads the operands of a directive of this name, which begins with a dot. Its name stands at
-/// `stop`.
+/// `error`.
 pub fn read_directive<'a>(
     alloc: Global,
     line: &mut Line<'a, '_>,
-    name: &[u8],
+    name: &'a [u8],
     error: LineError,
-) -> Result<Directive<'a>, Halt> {
+) -> Result<Read<'a>, Halt>
+    ensures items { (number : ℕ) → IfOk result (λ read.
+        items_of_read number read ≡ items_named number name.now) }
+    ensures name { IfOk result HasItsName }
+{
     match directive_named(name) {
-        Some(DirectiveForm::Place(form)) => Ok(Directive::Place(read_placed(alloc, line, form)?)),
-        Some(DirectiveForm::Constant) => read_constant(line).map_err(Halt::Error),
-        Some(DirectiveForm::Names) => read_names(line).map_err(Halt::Error),
-        Some(DirectiveForm::Text) => Ok(Directive::Nothing),
+        Some(DirectiveForm::Place(form)) => {
+            Ok(Read::Laid(name, read_placed(alloc, line, name, form)?))
+        }
+        Some(DirectiveForm::Constant) => {
+            let (constant, value) = read_constant(line)?;
+            Ok(Read::Constant(constant, value))
+        }
+        Some(DirectiveForm::Names) => {
+            read_names(line)?;
+            Ok(Read::Nothing)
+        }
+        Some(DirectiveForm::Text) => Ok(Read::Nothing),
         Some(DirectiveForm::Section) => Err(Halt::Error(error.with_kind(SourceErrorKind::Section))),
         None => Err(Halt::Error(error)),
     }
 }
 
-/// Reads the operands of a directive that puts something at its address.
-fn read_placed(alloc: Global, line: &mut Line, form: PlacedForm) -> Result<Statement, Halt> {
+/// Reads the operands of a directive of this name that puts something at its address.
+fn read_placed(
+    alloc: Global,
+    line: &mut Line,
+    name: &[u8],
+    form: PlacedForm,
+) -> Result<Statement, Halt>
+    requires { fits_placed name.now form ≡ true }
+    ensures { IfOk result (IsNamed name.now) }
+{
     match form {
-        PlacedForm::Data(bits) => read_data(alloc, line, bits),
-        PlacedForm::Strings(is_ended) => read_strings(alloc, line, is_ended),
-        PlacedForm::Power => read_power(alloc, line),
-        PlacedForm::Alignment => read_alignment(alloc, line),
-        PlacedForm::Space => read_space(line).map_err(Halt::Error),
-        PlacedForm::Origin => read_origin(line).map_err(Halt::Error),
+        PlacedForm::Data(bits) => Ok(Statement::Data(read_data(alloc, line, bits)?)),
+        PlacedForm::Strings(is_ended) => Ok(Statement::Data(read_strings(alloc, line, is_ended)?)),
+        PlacedForm::Power => Ok(Statement::Data(read_power(alloc, line)?)),
+        PlacedForm::Alignment => Ok(Statement::Data(read_alignment(alloc, line)?)),
+        PlacedForm::Space => {
+            let (count, byte) = read_space(line)?;
+            Ok(Statement::Fill(count, byte))
+        }
+        PlacedForm::Origin => Ok(Statement::Fill(read_origin(line)?, 0)),
     }
 }
 
 /// Reads the name and the value of a constant.
-fn read_constant<'a>(line: &mut Line<'a, '_>) -> Result<Directive<'a>, LineError> {
+fn read_constant<'a>(line: &mut Line<'a, '_>) -> Result<(&'a [u8], u32), LineError> {
     let name = read_name(line)?;
     line.comma()?;
-    Ok(Directive::Set(name, line.known_value()?))
+    Ok((name, line.known_value()?))
 }
 
 /// Reads the name of a symbol.
@@ -72,18 +100,18 @@ fn read_name<'a>(line: &mut Line<'a, '_>) -> Result<&'a [u8], LineError> {
 }
 
 /// Reads names that mean nothing here.
-fn read_names<'a>(line: &mut Line<'a, '_>) -> Result<Directive<'a>, LineError> {
+fn read_names(line: &mut Line) -> Result<(), LineError> {
     for _ in 0..u64::MAX {
         let _ = read_name(line)?;
         if !line.take(b',') {
             break;
         }
     }
-    Ok(Directive::Nothing)
+    Ok(())
 }
 
 /// Reads numbers of so many bits each, with commas between them.
-fn read_data(alloc: Global, line: &mut Line, bits: u32) -> Result<Statement, Halt> {
+fn read_data(alloc: Global, line: &mut Line, bits: u32) -> Result<Vec<u8>, Halt> {
     let mut bytes = Vec::new(alloc);
     for _ in 0..u64::MAX {
         push_datum(&mut bytes, line.datum(bits)?, bits)?;
@@ -91,7 +119,7 @@ fn read_data(alloc: Global, line: &mut Line, bits: u32) -> Result<Statement, Hal
             break;
         }
     }
-    Ok(Statement::Data(bytes))
+    Ok(bytes)
 }
 
 /// Appends a number of so many bits, its lowest byte first.
@@ -105,7 +133,7 @@ fn push_datum(bytes: &mut Vec<u8>, value: u32, bits: u32) -> Result<(), AllocErr
 }
 
 /// Reads strings with commas between them, and puts a zero byte behind each if that is asked.
-fn read_strings(alloc: Global, line: &mut Line, is_ended: bool) -> Result<Statement, Halt> {
+fn read_strings(alloc: Global, line: &mut Line, is_ended: bool) -> Result<Vec<u8>, Halt> {
     let mut bytes = Vec::new(alloc);
     for _ in 0..u64::MAX {
         read_string(line, &mut bytes)?;
@@ -116,7 +144,7 @@ fn read_strings(alloc: Global, line: &mut Line, is_ended: bool) -> Result<Statem
             break;
         }
     }
-    Ok(Statement::Data(bytes))
+    Ok(bytes)
 }
 
 /// Reads a string, and appends its bytes.
@@ -151,14 +179,14 @@ fn next_escaped(line: &mut Line) -> Result<Option<u8>, LineError> {
 }
 
 /// Reads how many bytes, and which byte where another than zero is meant.
-fn read_space(line: &mut Line) -> Result<Statement, LineError> {
+fn read_space(line: &mut Line) -> Result<(u32, u8), LineError> {
     let count = read_count(line)?;
     let byte = if line.take(b',') {
         (line.datum(8)? % 256) as u8
     } else {
         0
     };
-    Ok(Statement::Fill(count, byte))
+    Ok((count, byte))
 }
 
 /// Reads a number of bytes that is known here.
@@ -173,21 +201,22 @@ fn read_count(line: &mut Line) -> Result<u32, LineError> {
     }
 }
 
-/// Reads the address of what follows, which is no lower than that of the directive.
-fn read_origin(line: &mut Line) -> Result<Statement, LineError> {
+/// Reads the address of what follows, which is no lower than that of the directive: how many bytes
+/// it is behind.
+fn read_origin(line: &mut Line) -> Result<u32, LineError> {
     line.skip_blanks();
     let error = line.error(SourceErrorKind::Backward);
     let target = line.known_value()?;
     let count = target.checked_sub(line.here()).ok_or(error)?;
     if count as usize <= MOST_BYTES {
-        Ok(Statement::Fill(count, 0))
+        Ok(count)
     } else {
         Err(error.with_kind(SourceErrorKind::TooLong))
     }
 }
 
 /// Reads an alignment as a power of 2.
-fn read_power(alloc: Global, line: &mut Line) -> Result<Statement, Halt> {
+fn read_power(alloc: Global, line: &mut Line) -> Result<Vec<u8>, Halt> {
     line.skip_blanks();
     let error = line.error(SourceErrorKind::Range);
     let power = line.known_value()?;
@@ -198,7 +227,7 @@ fn read_power(alloc: Global, line: &mut Line) -> Result<Statement, Halt> {
 }
 
 /// Reads an alignment in bytes, a power of 2.
-fn read_alignment(alloc: Global, line: &mut Line) -> Result<Statement, Halt> {
+fn read_alignment(alloc: Global, line: &mut Line) -> Result<Vec<u8>, Halt> {
     line.skip_blanks();
     let error = line.error(SourceErrorKind::Range);
     let alignment = line.known_value()?;
@@ -210,7 +239,7 @@ fn read_alignment(alloc: Global, line: &mut Line) -> Result<Statement, Halt> {
 
 /// The bytes from an address to the next multiple of the alignment: zeros up to a multiple of 4,
 /// and then `nop`s.
-fn padding(alloc: Global, here: u32, alignment: u32) -> Result<Statement, Halt>
+fn padding(alloc: Global, here: u32, alignment: u32) -> Result<Vec<u8>, Halt>
     requires { 0 < alignment }
 {
     let count = 0u32.wrapping_sub(here) % alignment;
@@ -221,5 +250,5 @@ fn padding(alloc: Global, here: u32, alignment: u32) -> Result<Statement, Halt>
     for _ in 0..count / 4 {
         bytes.extend_from_slice(&[0x13, 0, 0, 0])?;
     }
-    Ok(Statement::Data(bytes))
+    Ok(bytes)
 }

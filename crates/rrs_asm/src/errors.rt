@@ -47,6 +47,8 @@ pub enum SourceErrorKind {
     Misplaced,
     /// The bytes are more than `MOST_BYTES`, or go past the end of addresses.
     TooLong,
+    /// The two readings of the source put what stands here at different addresses.
+    Moved,
 }
 
 impl fmt::Display for SourceErrorKind {
@@ -72,6 +74,7 @@ impl fmt::Display for SourceErrorKind {
             SourceErrorKind::Backward => "the address goes back",
             SourceErrorKind::Misplaced => "the address of an instruction is misaligned",
             SourceErrorKind::TooLong => "the program is too long",
+            SourceErrorKind::Moved => "the address differs between the two readings",
         })
     }
 }

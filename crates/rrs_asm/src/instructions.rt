@@ -1,6 +1,10 @@
 //! Reading the operands of instructions and pseudo-instructions.
 
-ghost use Rattle.std.specs.Prelude.{◌<◌, IfOk, IfSome};
+ghost use Rattle.std.specs.Prelude.{◌≡◌, ◌<◌, IfOk, IfSome, codes};
+ghost use Rattle.rrs_instruction.specs.Table.{table};
+ghost use Rattle.rrs_instruction.specs.Instructions.{row_of};
+ghost use Rattle.rrs_asm.specs.Names.{IsNamed, pseudo_name, unary_name, zero_branch_name, swapped_name};
+ghost use Rattle.rrs_asm.specs.Forms.{form_name};
 
 use crate::errors::{LineError, SourceErrorKind};
 use crate::names::{PseudoForm, pseudo_named};
@@ -25,12 +29,14 @@ const NONE: Operands = Operands {
 };
 
 /// Reads the operands of an instruction or a pseudo-instruction of this name. Its name stands at
-/// `stop`.
+/// `error`.
 pub fn read_instruction(
     line: &mut Line,
     name: &[u8],
     error: LineError,
-) -> Result<Statement, LineError> {
+) -> Result<Statement, LineError>
+    ensures { IfOk result (IsNamed name.now) }
+{
     if line.here() % 4 != 0 {
         return Err(error.with_kind(SourceErrorKind::Misplaced));
     }
@@ -38,13 +44,15 @@ pub fn read_instruction(
         return read_row(line, template);
     }
     match pseudo_named(name) {
-        Some(form) => read_pseudo(line, form).map(Statement::Pseudo),
+        Some(form) => Ok(Statement::Pseudo(read_pseudo(line, form)?)),
         None => Err(error),
     }
 }
 
 /// Reads the operands of a row.
-fn read_row(line: &mut Line, template: Instruction) -> Result<Statement, LineError> {
+fn read_row(line: &mut Line, template: Instruction) -> Result<Statement, LineError>
+    ensures { IfOk result (IsNamed (table (row_of template)).name) }
+{
     let operands = match template {
         Instruction::Ecall(_) | Instruction::Ebreak(_) => return Ok(Statement::Instruction(
             template,
@@ -63,7 +71,9 @@ fn read_row(line: &mut Line, template: Instruction) -> Result<Statement, LineErr
 }
 
 /// The statement that is an instruction with these operands, whose ranges the readers saw to.
-fn statement_of(template: Instruction, operands: Operands) -> Result<Statement, LineError> {
+fn statement_of(template: Instruction, operands: Operands) -> Result<Statement, LineError>
+    ensures { IfOk result (IsNamed (table (row_of template)).name) }
+{
     let instruction = with_operands(&template, operands).ok_or(LineError {
         kind: SourceErrorKind::Range,
         left: 0,
@@ -120,7 +130,10 @@ fn load_operands(line: &mut Line) -> Result<Operands, LineError> {
 }
 
 /// Reads `rd, target`, or `target` alone.
-fn read_jal(line: &mut Line, template: Instruction) -> Result<Statement, LineError> {
+fn read_jal(line: &mut Line, template: Instruction) -> Result<Statement, LineError>
+    requires { (table (row_of template)).name ≡ codes "jal" }
+    ensures { IfOk result (IsNamed (table (row_of template)).name) }
+{
     let mut ahead = *line;
     if let Ok(rd) = ahead.register() {
         if ahead.take(b',') {
@@ -134,7 +147,10 @@ fn read_jal(line: &mut Line, template: Instruction) -> Result<Statement, LineErr
 }
 
 /// Reads `rd, immediate(rs1)`, `rd, rs1, immediate`, `rd, rs1`, or `rs1` alone.
-fn read_jalr(line: &mut Line, template: Instruction) -> Result<Statement, LineError> {
+fn read_jalr(line: &mut Line, template: Instruction) -> Result<Statement, LineError>
+    requires { (table (row_of template)).name ≡ codes "jalr" }
+    ensures { IfOk result (IsNamed (table (row_of template)).name) }
+{
     let rd = line.register()?;
     if !line.take(b',') {
         return Ok(Statement::Pseudo(Pseudo::Jalr(rd)));
@@ -162,7 +178,10 @@ fn read_jalr(line: &mut Line, template: Instruction) -> Result<Statement, LineEr
 }
 
 /// Reads two sets of accesses, or nothing.
-fn read_fence(line: &mut Line, template: Instruction) -> Result<Statement, LineError> {
+fn read_fence(line: &mut Line, template: Instruction) -> Result<Statement, LineError>
+    requires { (table (row_of template)).name ≡ codes "fence" }
+    ensures { IfOk result (IsNamed (table (row_of template)).name) }
+{
     if line.is_over() {
         return Ok(Statement::Pseudo(Pseudo::Fence));
     }
@@ -208,7 +227,9 @@ fn accesses_of(word: &[u8]) -> Option<u32>
 }
 
 /// Reads the operands of a pseudo-instruction.
-fn read_pseudo(line: &mut Line, form: PseudoForm) -> Result<Pseudo, LineError> {
+fn read_pseudo(line: &mut Line, form: PseudoForm) -> Result<Pseudo, LineError>
+    ensures { IfOk result (λ pseudo. pseudo_name pseudo ≡ form_name form) }
+{
     match form {
         PseudoForm::Nop => Ok(Pseudo::Nop),
         PseudoForm::Ret => Ok(Pseudo::Ret),
@@ -217,39 +238,49 @@ fn read_pseudo(line: &mut Line, form: PseudoForm) -> Result<Pseudo, LineError> {
         PseudoForm::OfOne(name) => read_of_one(line, name),
         PseudoForm::AgainstZero(name) => read_against_zero(line, name),
         PseudoForm::Swapped(name) => read_swapped(line, name),
-        PseudoForm::J => line.offset(JUMP_REACH).map(Pseudo::J),
-        PseudoForm::Jr => line.register().map(Pseudo::Jr),
-        PseudoForm::Call => read_distance(line).map(Pseudo::Call),
-        PseudoForm::Tail => read_distance(line).map(Pseudo::Tail),
+        PseudoForm::J => Ok(Pseudo::J(line.offset(JUMP_REACH)?)),
+        PseudoForm::Jr => Ok(Pseudo::Jr(line.register()?)),
+        PseudoForm::Call => Ok(Pseudo::Call(read_distance(line)?)),
+        PseudoForm::Tail => Ok(Pseudo::Tail(read_distance(line)?)),
     }
 }
 
 /// Reads `rd, value`.
-fn read_li(line: &mut Line) -> Result<Pseudo, LineError> {
+fn read_li(line: &mut Line) -> Result<Pseudo, LineError>
+    ensures { IfOk result (λ pseudo. pseudo_name pseudo ≡ codes "li") }
+{
     let rd = line.register_before_comma()?;
     Ok(Pseudo::Li(rd, line.known_value()?))
 }
 
 /// Reads `rd, symbol`.
-fn read_la(line: &mut Line) -> Result<Pseudo, LineError> {
+fn read_la(line: &mut Line) -> Result<Pseudo, LineError>
+    ensures { IfOk result (λ pseudo. pseudo_name pseudo ≡ codes "la") }
+{
     let rd = line.register_before_comma()?;
     Ok(Pseudo::La(rd, read_distance(line)?))
 }
 
 /// Reads `rd, rs`.
-fn read_of_one(line: &mut Line, name: Unary) -> Result<Pseudo, LineError> {
+fn read_of_one(line: &mut Line, name: Unary) -> Result<Pseudo, LineError>
+    ensures { IfOk result (λ pseudo. pseudo_name pseudo ≡ unary_name name) }
+{
     let rd = line.register_before_comma()?;
     Ok(Pseudo::OfOne(name, rd, line.register()?))
 }
 
 /// Reads `rs, target`.
-fn read_against_zero(line: &mut Line, name: ZeroBranch) -> Result<Pseudo, LineError> {
+fn read_against_zero(line: &mut Line, name: ZeroBranch) -> Result<Pseudo, LineError>
+    ensures { IfOk result (λ pseudo. pseudo_name pseudo ≡ zero_branch_name name) }
+{
     let rs = line.register_before_comma()?;
     Ok(Pseudo::AgainstZero(name, rs, line.offset(BRANCH_REACH)?))
 }
 
 /// Reads `rs, rt, target`.
-fn read_swapped(line: &mut Line, name: SwappedBranch) -> Result<Pseudo, LineError> {
+fn read_swapped(line: &mut Line, name: SwappedBranch) -> Result<Pseudo, LineError>
+    ensures { IfOk result (λ pseudo. pseudo_name pseudo ≡ swapped_name name) }
+{
     let (rs, rt) = line.registers_before_comma()?;
     Ok(Pseudo::Swapped(name, rs, rt, line.offset(BRANCH_REACH)?))
 }

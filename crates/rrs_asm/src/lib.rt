@@ -4,9 +4,10 @@
 //! numbers, labels, pseudo-instructions and directives. `docs/ASSEMBLY.md` has the syntax.
 //!
 //! A source is read twice: first for what its symbols stand for, and then for its statements, each
-//! of which is placed behind the one before. What is made is a list of placed statements, and their
-//! bytes: see [Assembled]. What a statement's bytes are is written in `specs/Statements.antt`, and
-//! which instructions a pseudo-instruction is in `specs/Pseudo.antt`.
+//! of which is placed behind the one before. What is made is a list of labels, a list of placed
+//! statements, and their bytes: see [Assembled]. Which labels and statements a source has is written
+//! in `specs/Source.antt`, what a statement's name and bytes are in `specs/Names.antt` and
+//! `specs/Statements.antt`, and which instructions a pseudo-instruction is in `specs/Pseudo.antt`.
 
 #![tactic(auto)]
 
@@ -15,6 +16,7 @@ mod directives;
 mod errors;
 mod gnu;
 mod instructions;
+mod lexing;
 mod literals;
 mod names;
 mod output;
@@ -27,6 +29,6 @@ mod symbols;
 pub use assembling::assemble_source;
 pub use errors::{SourceError, SourceErrorKind, SourceFault};
 pub use gnu::gnu_text;
-pub use output::{Assembled, MOST_BYTES, Placed};
+pub use output::{Assembled, Label, MOST_BYTES, Placed};
 pub use pseudo::{Expansion, Pseudo, SwappedBranch, Unary, ZeroBranch};
 pub use statements::Statement;

@@ -1,5 +1,9 @@
 //! The names of pseudo-instructions and of directives.
 
+ghost use Rattle.std.specs.Prelude.{◌≡◌, ℕ, Bool, true, List, IfSome};
+ghost use Rattle.std.specs.List.{list_all};
+ghost use Rattle.rrs_asm.specs.Forms.{form_name, IsForm};
+
 use crate::pseudo::{SwappedBranch, Unary, ZeroBranch};
 
 /// A pseudo-instruction by how its operands are written.
@@ -57,7 +61,9 @@ const FORMS: [(&[u8], PseudoForm); 25] = [
 ];
 
 /// The pseudo-instruction of a name.
-pub fn pseudo_named(name: &[u8]) -> Option<PseudoForm> {
+pub fn pseudo_named(name: &[u8]) -> Option<PseudoForm>
+    ensures { IfSome result (λ form. form_name form ≡ name.now) }
+{
     value_named(&FORMS, name)
 }
 
@@ -124,12 +130,17 @@ const DIRECTIVES: [(&[u8], DirectiveForm); 26] = [
 ];
 
 /// What the directive of a name says.
-pub fn directive_named(name: &[u8]) -> Option<DirectiveForm> {
+pub fn directive_named(name: &[u8]) -> Option<DirectiveForm>
+    ensures { IfSome result (IsForm name.now) }
+{
     value_named(&DIRECTIVES, name)
 }
 
-/// What stands beside a name in a table.
-fn value_named<T: Copy>(table: &[(&[u8], T)], name: &[u8]) -> Option<T> {
+/// What stands beside a name in a table. A test that all entries pass, it passes with the name.
+fn value_named<T: Copy>(table: &[(&[u8], T)], name: &[u8]) -> Option<T>
+    ensures { (fits : List ℕ → T → Bool) → list_all (λ e. fits e.0.now e.1) table.now ≡ true
+        → IfSome result (λ value. fits name.now value ≡ true) }
+{
     for (own, value) in table {
         if *own == name {
             return Some(*value);

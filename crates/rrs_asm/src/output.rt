@@ -1,7 +1,7 @@
 //! What is made of a source.
 
 ghost use Rattle.std.specs.Prelude.{◌≡◌, ◌≤◌, ◌+◌, ◌^◌, ℕ, List, [], ◌∷◌, ◌++◌, OnOk, IfOk, length, replicate};
-ghost use Rattle.rrs_asm.specs.Statements.{AreWords, AreBytes, LaysOut};
+ghost use Rattle.rrs_asm.specs.Statements.{AreWords, AreBytes, AddsPlaced};
 ghost use Rattle.rrs_asm.specs.Pseudo.{listed};
 
 use crate::errors::{Halt, LineError, SourceErrorKind};
@@ -25,22 +25,37 @@ pub struct Placed {
     pub statement: Statement,
 }
 
+/// A label and its place.
+#[derive(Debug, PartialEq, Clone, Copy)]
+pub struct Label<'a> {
+    /// The line where it stands, counted from 1.
+    pub line: usize,
+    /// Its name, or its digit.
+    pub name: &'a [u8],
+    /// The address of what stands behind it. Behind the last address that is 0.
+    pub address: u32,
+}
+
 /// A source that was assembled.
 #[derive(Debug, Drop)]
-pub struct Assembled {
+pub struct Assembled<'a> {
+    /// The labels in the order of the source, local labels too.
+    pub labels: Vec<Label<'a>>,
     /// The statements in the order of their addresses, which is that of the source.
     pub placed: Vec<Placed>,
     /// The bytes from the first address on.
     pub bytes: Vec<u8>,
 }
 
-impl Assembled {
+impl<'a> Assembled<'a> {
     /// Nothing.
     pub fn new(alloc: Global) -> Self
+        ensures labels { result.labels.items ≡ [] }
         ensures placed { result.placed.items ≡ [] }
         ensures bytes { result.bytes.items ≡ [] }
     {
         Assembled {
+            labels: Vec::new(alloc),
             placed: Vec::new(alloc),
             bytes: Vec::new(alloc),
         }
@@ -48,8 +63,9 @@ impl Assembled {
 
     /// Puts a statement of a line behind the others, the first of which stands at `base`.
     pub fn place(&mut self, base: u32, line: usize, statement: Statement) -> Result<(), Halt>
-        ensures { OnOk result (LaysOut base self.old.placed.items self.old.bytes.items
-            → LaysOut base self.new.placed.items self.new.bytes.items) }
+        ensures placed { OnOk result (AddsPlaced base line statement self.old.placed.items
+            self.new.placed.items self.old.bytes.items self.new.bytes.items) }
+        ensures labels { self.new.labels.items ≡ self.old.labels.items }
     {
         let address = address_behind(base, &self.bytes)?;
         append(&mut self.bytes, &statement)?;

@@ -1,44 +1,33 @@
-//! Reading a line: its words, its registers and its values.
+//! Reading a statement: its words, its registers and its values.
 
 ghost use Rattle.std.specs.Prelude.{pos, ◌<ℤ◌};
 
 use crate::errors::{LineError, SourceErrorKind};
+use crate::lexing::{behind_blanks, split_word};
 use crate::literals::{escaped, local_label, number_of};
 use crate::registers::register_number;
 use crate::symbols::{Known, Symbols};
 
-/// What is left of a line, and where it stands.
+/// What is left of a statement, and where it stands.
 #[derive(Clone, Copy)]
 pub struct Line<'a, 's> {
     rest: &'a [u8],
+    /// How many bytes of the line are behind the statement.
+    behind: usize,
     symbols: &'s Symbols<'a>,
     /// The address of the statement.
     here: u32,
 }
 
-/// Whether a byte can stand in a word: a name, or a number.
-fn is_in_word(byte: u8) -> bool {
-    matches!(byte, b'a'..=b'z' | b'A'..=b'Z' | b'0'..=b'9' | b'_' | b'.' | b'$')
-}
-
-/// Whether a byte separates words and means nothing else.
-fn is_blank(byte: u8) -> bool {
-    matches!(byte, b' ' | b'\t' | b'\r')
-}
-
 impl<'a, 's> Line<'a, 's> {
-    /// The rest of a line, whose next statement stands at an address.
-    pub fn new(rest: &'a [u8], symbols: &'s Symbols<'a>, here: u32) -> Self {
+    /// The rest of a statement at an address, with so many bytes of the line behind it.
+    pub fn new(rest: &'a [u8], behind: usize, symbols: &'s Symbols<'a>, here: u32) -> Self {
         Line {
             rest,
+            behind,
             symbols,
             here,
         }
-    }
-
-    /// What is left.
-    pub fn rest(&self) -> &'a [u8] {
-        self.rest
     }
 
     /// The address of the statement.
@@ -50,26 +39,13 @@ impl<'a, 's> Line<'a, 's> {
     pub fn error(&self, kind: SourceErrorKind) -> LineError {
         LineError {
             kind,
-            left: self.rest.len(),
+            left: self.rest.len().saturating_add(self.behind),
         }
     }
 
     /// Goes on to the next byte that is no blank.
     pub fn skip_blanks(&mut self) {
-        let text = self.rest;
-        let length = text.len();
-        let blanks = text.iter().position(|byte| !is_blank(*byte));
-        self.rest = &text[blanks.unwrap_or(length)..];
-    }
-
-    /// Goes on to the next byte that is neither a blank nor a semicolon.
-    pub fn skip_separators(&mut self) {
-        let text = self.rest;
-        let length = text.len();
-        let separators = text
-            .iter()
-            .position(|byte| !is_blank(*byte) && *byte != b';');
-        self.rest = &text[separators.unwrap_or(length)..];
+        self.rest = behind_blanks(self.rest);
     }
 
     /// Takes the next byte, whatever it is.
@@ -111,24 +87,15 @@ impl<'a, 's> Line<'a, 's> {
 
     /// Takes a word, behind blanks. It is empty where none stands there.
     pub fn word(&mut self) -> &'a [u8] {
-        self.skip_blanks();
-        let text = self.rest;
-        let length = text.len();
-        let end = text.iter().position(|byte| !is_in_word(*byte));
-        let (word, rest) = text.split_at(end.unwrap_or(length));
+        let (word, rest) = split_word(self.rest);
         self.rest = rest;
         word
     }
 
-    /// Whether the statement is over: at the end of the line, at a comment, or at a semicolon.
+    /// Whether the statement is over.
     pub fn is_over(&mut self) -> bool {
         self.skip_blanks();
-        matches!(self.rest, [] | [b'#', ..] | [b'/', b'/', ..] | [b';', ..])
-    }
-
-    /// Whether a word ends here: at a blank, or where the statement is over.
-    pub fn is_word_over(&mut self) -> bool {
-        matches!(self.rest, [b' ' | b'\t' | b'\r', ..]) || self.is_over()
+        self.rest.is_empty()
     }
 
     /// Takes a register.

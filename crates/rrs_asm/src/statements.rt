@@ -1,5 +1,8 @@
 //! Statements: what stands at an address.
 
+ghost use Rattle.std.specs.Prelude.{◌≡◌, ℕ, List, length};
+ghost use Rattle.rrs_asm.specs.Statements.{AreBytes};
+
 use crate::pseudo::Pseudo;
 use rrs_instruction::instruction::Instruction;
 
@@ -17,8 +20,10 @@ pub enum Statement {
 }
 
 impl Statement {
-    /// How many bytes it takes.
-    pub fn size(&self) -> usize {
+    /// How many bytes it takes: as many as it is laid out as.
+    pub fn size(&self) -> usize
+        ensures { (own : List ℕ) → AreBytes self.now own → result ≡ length own }
+    {
         match self {
             Statement::Instruction(_) => 4,
             Statement::Pseudo(pseudo) => match pseudo.expand().second {

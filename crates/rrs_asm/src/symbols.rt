@@ -1,5 +1,8 @@
 //! Symbols: labels, local labels and constants.
 
+ghost use Rattle.std.specs.Prelude.{◌≡◌, false};
+ghost use Rattle.rrs_asm.specs.declared.symbols.Pass.{Pass};
+
 use crate::errors::{Halt, SourceErrorKind};
 use std::alloc::{AllocError, Global};
 use std::collections::BTreeMap;
@@ -60,14 +63,21 @@ impl<'a> Symbols<'a> {
     }
 
     /// Begins the second reading.
-    pub fn begin_again(&mut self) {
+    pub fn begin_again(&mut self)
+        ensures { self.new.pass ≡ Pass.Second }
+    {
         self.counts = [0; 10];
         self.pass = Pass::Second;
     }
 
     /// Whether the source is read for the first time.
-    pub fn is_first(&self) -> bool {
-        self.pass == Pass::First
+    pub fn is_first(&self) -> bool
+        ensures { self.now.pass ≡ Pass.Second → result ≡ false }
+    {
+        match self.pass {
+            Pass::First => true,
+            Pass::Second => false,
+        }
     }
 
     /// What is known of a symbol.
@@ -112,7 +122,9 @@ impl<'a> Symbols<'a> {
     }
 
     /// Defines a local label of a digit.
-    pub fn define_local(&mut self, digit: u8, address: u32) -> Result<(), Halt> {
+    pub fn define_local(&mut self, digit: u8, address: u32) -> Result<(), Halt>
+        ensures { self.new.pass ≡ self.old.pass }
+    {
         let count = self.count_of(digit);
         self.locals.insert((digit, count), address)?;
         if let Some(slot) = self.counts.get_mut(usize::from(digit)) {
@@ -127,7 +139,9 @@ impl<'a> Symbols<'a> {
         name: &'a [u8],
         value: u32,
         is_label: bool,
-    ) -> Result<Option<SourceErrorKind>, AllocError> {
+    ) -> Result<Option<SourceErrorKind>, AllocError>
+        ensures { self.new.pass ≡ self.old.pass }
+    {
         if let Some(old) = self.names.get(name).copied() {
             if (is_label || old.is_label) && (old.met == self.pass || old.is_label != is_label) {
                 return Ok(Some(SourceErrorKind::Duplicate));

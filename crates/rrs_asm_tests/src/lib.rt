@@ -1,5 +1,5 @@
-//! The tests of `rrs_asm`: lines and their words, mistakes and their places, and the example
-//! programs of `examples/assembly`, which are assembled, compared with their words, and run.
+//! The tests of `rrs_asm`: lines and their words, the places of labels, statements and mistakes, and
+//! the programs of `examples/assembly`, which are assembled, compared with their words, and run.
 //!
 //! The words of pseudo-instructions are those that GNU `as` makes.
 
@@ -11,5 +11,7 @@ mod assembled;
 mod lines;
 #[cfg(test)]
 mod mistakes;
+#[cfg(test)]
+mod places;
 #[cfg(test)]
 mod programs;

@@ -1,8 +1,10 @@
 //! What is written of a source of RISC-V.
 
 ghost use Rattle.std.specs.Prelude.{◌≡◌, List, false, IfOk};
+ghost use Rattle.rrs_asm.specs.declared.output.Label.{Label};
 ghost use Rattle.rrs_asm.specs.declared.output.Placed.{Placed};
-ghost use Rattle.rrs_asm.specs.Statements.{LaysOut};
+ghost use Rattle.rrs_asm.specs.Source.{items_of};
+ghost use Rattle.rrs_asm.specs.Statements.{IsMade};
 
 use crate::ending::Refusal;
 use crate::requests::AssemblyRequest;
@@ -18,15 +20,16 @@ use std::{fs, io};
 /// The most bytes of a source, 64 MiB. A device may have bytes without an end.
 const SOURCE_BYTES: u64 = 1 << 26;
 
-/// What is to be written of a source: the bytes of statements one after another from address 0 on,
-/// or a source for GNU `as`. Its mistakes are printed on standard error.
+/// What is to be written of a source: the bytes that are made of its items from address 0 on, or a
+/// source for GNU `as`. Its mistakes are printed on standard error.
 pub fn assembled_text<H: Eprint + AllocGlobal>(
     rt: &H,
     source: &[u8],
     request: AssemblyRequest<'_>,
 ) -> Result<Vec<u8>, Refusal>
     ensures bytes { request.entry.is_gnu ≡ false
-        → IfOk result (λ text. (placed : List Placed) × LaysOut 0 placed text.items) }
+        → IfOk result (λ text. (labels : List Label) × (placed : List Placed)
+        × IsMade 0 (items_of source.now) labels placed text.items) }
 {
     let bytes = match assemble_source(rt.alloc(), source, 0) {
         Ok(made) => made.bytes,

@@ -1,8 +1,18 @@
-use Rattle.rrs_asm.specs.Statements.{LaysOut}
+use Rattle.std.proofs.Common.{◌≡◌, ◌+◌, length}
+use Rattle.std.specs.Option.{option_map_or}
+use Rattle.rrs_asm.specs.declared.symbols.Pass.{Pass}
+use Rattle.rrs_asm.specs.declared.assembling.Reading.{Reading}
+use Rattle.rrs_asm.specs.Source.{items_of_parts, parts}
+use Rattle.rrs_asm.specs.Forms.{ReadsOn, left_in_line}
 use Rattle.rrs_asm.proofs.assembling.read_line.Given as goal
 
--- statements that stood one after another still do
-abbrev pub invariant-loop : goal.invariant-loop
-invariant-loop l =
-    LaysOut l.base l.fn.reading.made.placed.items l.fn.reading.made.bytes.items
-    → LaysOut l.base l.reading.made.placed.items l.reading.made.bytes.items
+-- who reads what is left, reads the line
+abbrev pub invariant-loop-rest : goal.invariant-loop-rest
+invariant-loop-rest l =
+    (l.symbols.pass ≡ l.fn.symbols.pass)
+    × (l.fn.symbols.pass ≡ Pass.Second → (end : Reading)
+    → ReadsOn l.base (left_in_line l.number l.rest) l.reading end
+    → ReadsOn l.base (items_of_parts l.number (parts l.line)) l.fn.reading end)
+
+abbrev pub decreases-loop-rest : goal.decreases-loop-rest
+decreases-loop-rest l = option_map_or (λ rest. length rest.now + 1) l.rest 0

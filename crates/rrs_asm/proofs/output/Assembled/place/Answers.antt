@@ -1,6 +1,7 @@
-use Rattle.rrs_asm.proofs.LaidOut.{LaysOut-place}
+use Rattle.std.proofs.Common.{refl}
+use Rattle.rrs_asm.proofs.Made.{adds-placed}
 use Rattle.rrs_asm.proofs.output.Assembled.place.Goals as goal
 
 -- the statement stands behind the others
-pub returns : goal.returns
-returns c = LaysOut-place _ _ _ _ _ _ c.in_ok-address.ensures c.in_ok-append.ensures c.in_ok-push.ensures.items
+pub returns-clause-placed : goal.returns-clause-placed
+returns-clause-placed c = adds-placed _ _ _ _ _ _ _ _ c.in_ok-push.ensures.items refl c.in_ok-address.ensures refl c.in_ok-append.ensures

@@ -1,0 +1,18 @@
+use Rattle.std.proofs.Common.{◌≡◌, true, false, sym, ap, ◌∙◌, rules, arith}
+use Rattle.std.proofs.lemmas.Grind.{common_steps}
+use Rattle.rrs_asm.specs.Source.{is_empty, is_constant, behind_blanks, items_named}
+use Rattle.rrs_asm.proofs.Cutting.{items-constant, items-statement}
+use Rattle.rrs_asm.proofs.assembling.read_statement.Goals as goal
+
+-- a constant
+pub returns-then-begins_with-clause-items : goal.returns-then-begins_with-clause-items
+returns-then-begins_with-clause-items c = λ number.
+    let is : is_constant c.args.text.now ≡ true = first_of (cc, search rules, grind (arith, common_steps)) in
+    c.in_ok-constant.ensures.items number ∙ sym (items-constant number c.args.text.now is)
+
+-- a statement by its name
+pub returns-clause-items : goal.returns-clause-items
+returns-clause-items c = λ number.
+    let some : is_empty (behind_blanks c.args.text.now) ≡ false = first_of (cc, search rules, grind (arith, common_steps)) in
+    let plain : is_constant c.args.text.now ≡ false = first_of (cc, search rules, grind (arith, common_steps)) in
+    c.in_ok-read.ensures.items number ∙ ap (items_named number) c.split_word.ensures.word ∙ sym (items-statement number c.args.text.now some plain)

@@ -1,0 +1,92 @@
+-- The names of statements: of instructions, which are those of the table, of pseudo-instructions
+-- (RISC-V unprivileged specification, "RISC-V Assembly Programmer's Handbook"), and of directives
+-- (GNU assembler manual, "Assembler Directives").
+use Rattle.std.specs.Prelude.{◌≡◌, ℕ, Bool, true, false, ◌&&◌, ◌==◌, List, [], ◌∷◌, codes}
+use Rattle.std.specs.List.{list_any}
+use Rattle.std.specs.Str.{bytes_eq}
+use Rattle.rrs_instruction.specs.Table.{table}
+use Rattle.rrs_instruction.specs.Instructions.{row_of}
+use Rattle.rrs_asm.specs.declared.pseudo.Unary.{Unary}
+use Rattle.rrs_asm.specs.declared.pseudo.ZeroBranch.{ZeroBranch}
+use Rattle.rrs_asm.specs.declared.pseudo.SwappedBranch.{SwappedBranch}
+use Rattle.rrs_asm.specs.declared.pseudo.Pseudo.{Pseudo}
+use Rattle.rrs_asm.specs.declared.statements.Statement.{Statement}
+
+-- ---- pseudo-instructions
+
+abbrev pub unary_name : Unary → List ℕ
+unary_name Unary.Mv = codes "mv"
+unary_name Unary.Not = codes "not"
+unary_name Unary.Neg = codes "neg"
+unary_name Unary.Seqz = codes "seqz"
+unary_name Unary.Snez = codes "snez"
+unary_name Unary.Sltz = codes "sltz"
+unary_name Unary.Sgtz = codes "sgtz"
+
+abbrev pub zero_branch_name : ZeroBranch → List ℕ
+zero_branch_name ZeroBranch.Beqz = codes "beqz"
+zero_branch_name ZeroBranch.Bnez = codes "bnez"
+zero_branch_name ZeroBranch.Blez = codes "blez"
+zero_branch_name ZeroBranch.Bgez = codes "bgez"
+zero_branch_name ZeroBranch.Bltz = codes "bltz"
+zero_branch_name ZeroBranch.Bgtz = codes "bgtz"
+
+abbrev pub swapped_name : SwappedBranch → List ℕ
+swapped_name SwappedBranch.Bgt = codes "bgt"
+swapped_name SwappedBranch.Ble = codes "ble"
+swapped_name SwappedBranch.Bgtu = codes "bgtu"
+swapped_name SwappedBranch.Bleu = codes "bleu"
+
+abbrev pub pseudo_name : Pseudo → List ℕ
+pseudo_name Pseudo.Nop = codes "nop"
+pseudo_name Pseudo.Ret = codes "ret"
+pseudo_name Pseudo.Fence = codes "fence"
+pseudo_name (Pseudo.Li rd value) = codes "li"
+pseudo_name (Pseudo.La rd offset) = codes "la"
+pseudo_name (Pseudo.OfOne name rd rs) = unary_name name
+pseudo_name (Pseudo.AgainstZero name rs offset) = zero_branch_name name
+pseudo_name (Pseudo.Swapped name rs rt offset) = swapped_name name
+pseudo_name (Pseudo.J offset) = codes "j"
+pseudo_name (Pseudo.Jal offset) = codes "jal"
+pseudo_name (Pseudo.Jr rs) = codes "jr"
+pseudo_name (Pseudo.Jalr rs) = codes "jalr"
+pseudo_name (Pseudo.Call offset) = codes "call"
+pseudo_name (Pseudo.Tail offset) = codes "tail"
+
+-- ---- directives
+
+abbrev pub is_one_of : List (List ℕ) → List ℕ → Bool
+is_one_of names name = list_any (bytes_eq name) names
+
+-- the directives that lay data out
+abbrev pub data_names : List (List ℕ)
+data_names =
+    codes ".word" ∷ codes ".long" ∷ codes ".4byte"
+    ∷ codes ".half" ∷ codes ".short" ∷ codes ".2byte" ∷ codes ".byte"
+    ∷ codes ".ascii" ∷ codes ".asciz" ∷ codes ".string"
+    ∷ codes ".align" ∷ codes ".p2align" ∷ codes ".balign" ∷ []
+
+-- the directives that lay out so many of a byte
+abbrev pub fill_names : List (List ℕ)
+fill_names = codes ".space" ∷ codes ".zero" ∷ codes ".skip" ∷ codes ".org" ∷ []
+
+-- the directives that lay nothing out
+abbrev pub silent_names : List (List ℕ)
+silent_names =
+    codes ".equ" ∷ codes ".set" ∷ codes ".globl" ∷ codes ".global" ∷ codes ".text" ∷ []
+
+abbrev pub begins_with_dot : List ℕ → Bool
+begins_with_dot [] = false
+begins_with_dot (b ∷ bs) = b == 46
+
+abbrev pub is_silent_name : List ℕ → Bool
+is_silent_name name = begins_with_dot name && is_one_of silent_names name
+
+-- ---- statements
+
+-- a statement is one of this name
+abbrev pub IsNamed : List ℕ → Statement → Type 0
+IsNamed name (Statement.Instruction i) = (table (row_of i)).name ≡ name
+IsNamed name (Statement.Pseudo pseudo) = pseudo_name pseudo ≡ name
+IsNamed name (Statement.Data own) = is_one_of data_names name ≡ true
+IsNamed name (Statement.Fill count byte) = is_one_of fill_names name ≡ true
