@@ -50,7 +50,12 @@ pub fn execute_executable<H: Files + Eprint + AllocGlobal, R: Read, W: Write, E:
 }
 
 /// The bytes of a program's file.
-fn read_program<H: Files + AllocGlobal>(rt: &H, path: &str) -> Result<Vec<u8>, Refusal> {
+///
+/// # Errors
+///
+/// `Failure::CannotOpen` where it can't be opened, `Refusal::UnreadableSource` where it can't be read,
+/// and `Refusal::LargeProgram` where it is too large.
+pub fn read_program<H: Files + AllocGlobal>(rt: &H, path: &str) -> Result<Vec<u8>, Refusal> {
     let reader = open_file(rt, path)?;
     read_all(rt.alloc(), reader)
 }

@@ -11,6 +11,8 @@ pub enum Task {
     Execute,
     /// It assembles a source.
     Assemble,
+    /// It lists what an executable has.
+    List,
     /// It says what the others do.
     Help,
 }
@@ -31,7 +33,7 @@ pub struct Subcommand {
 }
 
 /// The subcommands.
-pub static SUBCOMMANDS: [Subcommand; 3] = [RUN, EXECUTE, ASSEMBLE];
+pub static SUBCOMMANDS: [Subcommand; 4] = [RUN, EXECUTE, ASSEMBLE, LIST];
 
 /// The program itself, where it is asked for help or for no subcommand.
 pub static ITSELF: Subcommand = HELP;
@@ -95,13 +97,30 @@ Status: 0; 1 for mistakes, and where FILE can't be assembled; 2 for other words.
 ",
 };
 
+/// `rrs elf`.
+const LIST: Subcommand = Subcommand {
+    word: "elf",
+    task: Task::List,
+    command: Command {
+        name: "rrs elf",
+        usage: "rrs elf FILE",
+    },
+    summary: "lists the entry, the segments and the symbols of an executable",
+    help: "Lists what FILE, an ELF executable for RV32IM, has: the entry, the program headers
+and the symbols, in the columns of readelf -lsW.
+
+Status: 0; 1 where FILE is no such executable, and where it can't be read; 2 for
+other words.
+",
+};
+
 /// `rrs help`.
 const HELP: Subcommand = Subcommand {
     word: "help",
     task: Task::Help,
     command: Command {
         name: "rrs",
-        usage: "rrs run|exec|as|help ..",
+        usage: "rrs run|exec|as|elf|help ..",
     },
     summary: "says this, as --help does",
     help: "A subcommand's own --help says more, such as rrs run --help. The status is 0, 1
