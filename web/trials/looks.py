@@ -280,6 +280,9 @@ def one_screen(machine):
     page.resize(1366, 768)
     page.ask("scrollTo(0, 0)")
     same("what is not on the screen", [], page.ask(f"{SEEN}.notInView()"))
+    same("what scrolls sideways", [], page.ask(
+        "[...document.querySelectorAll('.scroll, #listing')].filter((panel) =>"
+        " panel.scrollWidth > panel.clientWidth).map((panel) => panel.firstElementChild.id)"))
     page.resize(*SIZE)
 
 
