@@ -273,22 +273,24 @@ all() {
 }
 
 # What is small, with something wrong in it: nothing, answers, lines, layouts, assertions, names,
-# state or tries
+# asks, state or tries
 wrong() {
     checks=-O0
     gather_questions || exit 2
     sed -i '40,$d' "$room/questions"
     sed -i '40,$d' "$room/answers"
-    printf 'int printf(const char *, ...);\nvoid rrs_more(void) { printf("more"); }\n' >"$room/more.c"
-    printf 'int rrs_state = 1;\n' >"$room/state.c"
+    echo 'void rrs_more(void) {}' >"$room/names.c"
+    echo '__attribute__((used)) static int state = 1;' >"$room/state.c"
+    printf 'int printf(const char *, ...);\n%s static void more(void) { printf("more"); }\n' \
+        '__attribute__((used))' >"$room/asks.c"
     case $1 in
     answers) sed -i '39s/.$/9/' "$room/answers" ;;
     lines) sed -i '39d' "$room/answers" ;;
-    layouts) sed 's/^rrs_fault.word 8 4$/rrs_fault.word 12 4/' "$layouts" >"$room/wrong" &&
+    layouts) sed 's/^RRS_STORE 2$/RRS_STORE 3/' "$layouts" >"$room/wrong" &&
         layouts=$room/wrong ;;
     assertions) grep -v 'fault_word' "$header" >"$room/rrs.h" && header=$room/rrs.h ;;
-    names | state) cp "$library" "$room/wrong.a" && library=$room/wrong.a &&
-        gcc -c -o "$room/more.o" "$room/${1/names/more}.c" && ar r "$library" "$room/more.o" ;;
+    names | asks | state) cp "$library" "$room/wrong.a" && library=$room/wrong.a &&
+        gcc -c -o "$room/more.o" "$room/$1.c" && ar r "$library" "$room/more.o" ;;
     esac
     try "rrs.h has the stored layouts and constants, in C" header_has "gcc -std=c99 -x c"
     try "rrs.h asserts each layout" asserts_all
@@ -302,7 +304,7 @@ wrong() {
 # Each wrong subject must be seen, and the right one must pass.
 self_test() {
     local what status
-    for what in nothing answers lines layouts assertions names state tries; do
+    for what in nothing answers lines layouts assertions names asks state tries; do
         status=0
         "$here/check.sh" --wrong "$what" >"$room/seen" 2>&1 || status=$?
         case $what:$status in

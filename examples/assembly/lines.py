@@ -5,6 +5,9 @@ usage: lines.py SEED COUNT            a source of so many statements, all of the
        lines.py SEED COUNT changed    lines of such a source, cut short or with a byte changed
        lines.py SEED COUNT each       of so many lines each beginning, and each with one byte
                                       changed, at each place
+       lines.py --refused SOURCE ERRORS   the lines of a source that GNU as refuses, by the errors
+                                      that it printed, but for those that docs/ASSEMBLY.md names;
+                                      the status is 1 where there is one
 """
 import random
 import re
@@ -27,6 +30,15 @@ EDGES = [0, 1, 2047, 2048, 2049, 4095, 4096, 0x7ffff7ff, 0x7ffff800, 0x7fffffff,
 
 BRANCH = re.compile(rb"\s*([12]\s*:)?\s*(nop\s*;)?\s*b[a-z]+\s")
 ADDRESS = re.compile(rb"\s*([12]\s*:)?\s*(nop\s*;)?\s*la\s")
+OF_ZERO = re.compile(rb"\bli\s+(x0|zero)\b")
+STATEMENT = re.compile(rb"\s*(?:\w+\s*:\s*|nop\s*;\s*)*([.a-z]+)\s+(.*)")
+SYMBOL = re.compile(rb"(?<![\w.$%])(?:\.(?![\w.$])|[A-Za-z_][\w.$]*)")
+NEGATED = re.compile(rb"-\s*[.A-Za-z_]")
+NUMBERS = {name.encode() for name in [f"x{n}" for n in range(32)] + ABI + ["fp", "constant"]}
+TAKES_NUMBER = {name.encode() for name in IMMEDIATE + SHIFTS + LOADS + STORES
+                + ["lui", "auipc", "jalr", "li"]}
+TWO_PLACES = re.compile(rb"(?<![\w.$])\.(?![\w.$]).*(?<![\w.$])\.(?![\w.$])")
+MINUS_PLACE = re.compile(rb"[-~]\s*\.(?![\w.$])")
 
 
 class Source:
@@ -174,8 +186,11 @@ ALPHABET = [bytes([b]) for b in range(256) if b != 10]
 
 def means_the_same(line):
     """Whether GNU as makes the same of a line, if it takes it: of a branch to an absolute address
-    it makes two instructions, and of `la` of a constant what `li` is."""
+    it makes two instructions, of `la` of a constant what `li` is, and of `li` of x0 two where the
+    value has low bits that are 0. A `-.` and a `. + .` are other addresses there."""
     statement = line.split(b"#")[0]
+    if any(form.search(statement) for form in (OF_ZERO, MINUS_PLACE, TWO_PLACES)):
+        return False
     if BRANCH.match(line) and b"." not in statement:
         return False
     return not (ADDRESS.match(line) and b"first" not in statement and b"last" not in statement)
@@ -206,7 +221,42 @@ def each(source, count):
             yield line[:at] + source.random.choice(ALPHABET) + line[at + 1:]
 
 
+def is_named(statement):
+    """Whether docs/ASSEMBLY.md says that GNU as refuses a statement: an address that is negated or
+    added to another, an address or %lo where it takes a number alone, or `//`."""
+    found = STATEMENT.match(statement)
+    if b"//" in statement or not found:
+        return bool(found)
+    name, operands = found.groups()
+    addresses = [symbol for symbol in SYMBOL.findall(operands) if symbol not in NUMBERS]
+    if name in (b"la", b"call", b"tail"):
+        return bool(NEGATED.search(operands)) or len(addresses) > 1
+    if name.decode() in SHIFTS and b"%" in operands:
+        return True
+    if name in TAKES_NUMBER:
+        return bool(addresses)
+    return name in (b".word", b".half", b".byte") and bool(NEGATED.search(operands))
+
+
+def refused(source, errors):
+    """Prints the lines that GNU as refuses, but for those that docs/ASSEMBLY.md names. Returns
+    whether there is one."""
+    with open(source, "rb") as file:
+        lines = file.read().split(b"\n")
+    with open(errors, "rb") as file:
+        told = [error.split(b":", 2) for error in file]
+    found = False
+    for _, number, what in told:
+        line = lines[int(number) - 1]
+        if not is_named(line.split(b"#")[0]):
+            found = True
+            print(number.decode(), repr(line)[1:], what.decode(errors="replace").strip())
+    return found
+
+
 def main():
+    if sys.argv[1] == "--refused":
+        sys.exit(refused(*sys.argv[2:]))
     kinds = {"changed": changed, "each": each}
     kind = kinds.get(sys.argv[3]) if len(sys.argv) > 3 else None
     source = Source(int(sys.argv[1]), kind is not None)
