@@ -248,8 +248,6 @@ class Hart:
             if self.pc % 4:
                 raise Trap(0, self.pc)
             word = self.load(self.pc, 4, 1)
-            if word == 0x10500073 and not ready:
-                return None
             after, write = self.execute(word)
         except Trap as trap:
             self.trap(trap.cause, trap.value, 0)

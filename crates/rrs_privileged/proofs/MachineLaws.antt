@@ -17,7 +17,7 @@ use Rattle.rrs_lib.specs.Steps.{Step, next_word}
 use Rattle.rrs_privileged.specs.Csrs.{csr_at, is_read_only, csr_written, cycle_counted, instruction_counted, retired_file, counted_beside}
 use Rattle.rrs_privileged.specs.SystemInstructions.{csr_number, writes_csr}
 use Rattle.rrs_privileged.specs.Traps.{ready_interrupt, trap_file, return_file, exception_of}
-use Rattle.rrs_privileged.specs.MachineSteps.{MachineState, MachineOutcome, ends, trapped, raises, accessed, csr_outcome, wait_outcome, system_outcome, IsNoSystem, Retires, Strays, Faults, Executes, MachineStep, Interrupts, Proceeds}
+use Rattle.rrs_privileged.specs.MachineSteps.{MachineState, MachineOutcome, ends, trapped, raises, accessed, csr_outcome, passed, wait_answer, system_outcome, IsNoSystem, Retires, Strays, Faults, Executes, MachineStep, Interrupts, Proceeds}
 use Rattle.rrs_privileged.specs.Laws.{KeepsValues, KeepsUnlessRetired, WritesNeither, instructions_after, cycles_after}
 
 -- ---- what a trap keeps
@@ -45,7 +45,7 @@ csr_keeps row f w None i s = raises_keeps w s
 csr_keeps row f w (Some csr) i s =
     choice_keeps (writes_csr row f && is_read_only (csr_number f)) s (accessed row f csr i s) (raises (IllegalInstruction w) s) (raises_keeps w s)
 
-wait_keeps : (x : Option Interrupt) (s : MachineState) → Keeping s (wait_outcome x s)
+wait_keeps : (x : Option Interrupt) (s : MachineState) → Keeping s (ends (passed s) (wait_answer x))
 wait_keeps (Some x) s = tt
 wait_keeps None s = record { registers_kept = refl; bytes_kept = refl; writable_kept = refl }
 
@@ -138,7 +138,7 @@ IsTrap _ = ⊥
 module _ (counter : CsrFile → ℕ) (after : MachineAnswer → ℕ → ℕ) (low high : Csr) (s : MachineState)
     (at_trap : (cause value : ℕ) (a : MachineAnswer) → IsTrap a
     → counter (cycle_counted (trap_file cause value s.hart.pc s.csrs)) ≡ after a (counter s.csrs))
-    (at_wait : counter s.csrs ≡ after Waiting (counter s.csrs))
+    (at_wait : counter (retired_file s.csrs) ≡ after Waiting (counter s.csrs))
     (at_retired : counter (retired_file s.csrs) ≡ after Retired (counter s.csrs))
     (at_return : counter (retired_file (return_file s.csrs)) ≡ after Retired (counter s.csrs))
     (at_written : (csr : Csr) (v : ℕ) → (csr ≢ low) × (csr ≢ high)
@@ -163,7 +163,7 @@ module _ (counter : CsrFile → ℕ) (after : MachineAnswer → ℕ → ℕ) (lo
       if_allowed (writes_csr row f && is_read_only (csr_number f)) w (accessed row f csr i s)
       (if_written (writes_csr row f) csr _ (λ writes. spares csr writes refl))
 
-  wait_counts : (x : Option Interrupt) → Counts (wait_outcome x s)
+  wait_counts : (x : Option Interrupt) → Counts (ends (passed s) (wait_answer x))
   wait_counts (Some x) = at_retired
   wait_counts None = at_wait
 
@@ -197,7 +197,7 @@ pub step_minstret : (i : Inputs) (s t : MachineState) (a : MachineAnswer) → Ma
     → WritesNeither Minstret Minstreth s.hart → t.csrs.minstret ≡ instructions_after a s.csrs.minstret
 step_minstret i s t a step on spares =
     step_counts (λ f. f.minstret) instructions_after Minstret Minstreth s
-    at_trap refl (retired-minstret s.csrs on) (retired-minstret (return_file s.csrs) on)
+    at_trap (retired-minstret s.csrs on) (retired-minstret s.csrs on) (retired-minstret (return_file s.csrs) on)
     (λ csr v other. written-minstret csr v s.csrs other on) i t a step spares
   where
     at_trap : (cause value : ℕ) (a : MachineAnswer) → IsTrap a
@@ -207,12 +207,12 @@ step_minstret i s t a step on spares =
     at_trap cause value Retired trap = absurd trap
     at_trap cause value Waiting trap = absurd trap
 
--- mcycle counts the steps that do not wait
+-- mcycle counts the steps
 pub step_mcycle : (i : Inputs) (s t : MachineState) (a : MachineAnswer) → MachineStep i s t a → bit s.csrs.mcountinhibit 0 ≡ 0
     → WritesNeither Mcycle Mcycleh s.hart → t.csrs.mcycle ≡ cycles_after a s.csrs.mcycle
 step_mcycle i s t a step on spares =
     step_counts (λ f. f.mcycle) cycles_after Mcycle Mcycleh s
-    at_trap refl (retired-mcycle s.csrs on) (retired-mcycle (return_file s.csrs) on)
+    at_trap (retired-mcycle s.csrs on) (retired-mcycle s.csrs on) (retired-mcycle (return_file s.csrs) on)
     (λ csr v other. written-mcycle csr v s.csrs other on) i t a step spares
   where
     at_trap : (cause value : ℕ) (a : MachineAnswer) → IsTrap a

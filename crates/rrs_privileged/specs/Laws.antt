@@ -33,8 +33,8 @@ WritesNeither low high h =
 -- a counter of instructions, and one of steps, after a step
 abbrev pub instructions_after : MachineAnswer → ℕ → ℕ
 instructions_after Retired n = (n + 1) % 2 ^ 64
+instructions_after Waiting n = (n + 1) % 2 ^ 64
 instructions_after _ n = n
 
 abbrev pub cycles_after : MachineAnswer → ℕ → ℕ
-cycles_after Waiting n = n
 cycles_after _ n = (n + 1) % 2 ^ 64

@@ -11,9 +11,8 @@ ghost use Rattle.rrs_lib.specs.Executor.{state_in, KeepsTheRest};
 ghost use Rattle.rrs_lib.specs.Accesses.{AccessesOf, accesses_of_row, Makes, MakesExactly};
 ghost use Rattle.rrs_privileged.specs.declared.csrs.Inputs.{Inputs as InputsOfStep};
 ghost use Rattle.rrs_privileged.specs.Csrs.{csr_at};
-ghost use Rattle.rrs_privileged.specs.Traps.{ready_interrupt};
 ghost use Rattle.rrs_privileged.specs.SystemInstructions.{csr_number, IsSystem};
-ghost use Rattle.rrs_privileged.specs.MachineSteps.{machine_of, machine_in, ends, operand_of, file_updated, accessed, trapped, raised, raises, interrupted, csr_outcome, returned, passed, wait_outcome, system_outcome, InstructionStep, MachineStep, IsOnlyMachineStep, AccessesOfMachineStep, IsNoSystem};
+ghost use Rattle.rrs_privileged.specs.MachineSteps.{machine_of, machine_in, ends, operand_of, file_updated, accessed, trapped, raised, raises, interrupted, csr_outcome, returned, passed, wait_answer, system_outcome, InstructionStep, MachineStep, IsOnlyMachineStep, AccessesOfMachineStep, IsNoSystem};
 ghost use Rattle.rrs_privileged.specs.Laws.{KeepsUnlessRetired, WritesNeither, instructions_after, cycles_after};
 ghost use Rattle.rrs_instruction.specs.Words.{bit};
 
@@ -29,8 +28,8 @@ use rrs_lib::{HartState, Memory};
 pub enum MachineAnswer {
     /// An instruction retired.
     Retired,
-    /// The instruction is a `wfi`, and no interrupt is pending that `mie` enables. Nothing changed
-    /// but that no register is the one written last.
+    /// A `wfi` retired, and no interrupt is pending that `mie` enables. The hart is behind it, and
+    /// waits: the caller makes the next step once an interrupt is.
     Waiting,
     /// The instruction raised this exception, and the hart is at the handler.
     Raised(Exception),
@@ -103,23 +102,13 @@ pub(crate) fn return_from_trap(hart: &mut HartState, csrs: &mut CsrFile, inputs:
     csrs.count_retired();
 }
 
-/// Waits for an interrupt.
-fn wait(hart: &mut HartState, csrs: &mut CsrFile, inputs: &Inputs) -> MachineAnswer
-    ensures outcome { (bytes : ByteMap) (writable : ℕ → Bool)
-        → ends (machine_of hart.new csrs.new bytes writable) result
-        ≡ wait_outcome (ready_interrupt csrs.old inputs.now)
-        (machine_of hart.old csrs.old bytes writable) }
-    ensures registers_kept { hart.new.registers ≡ hart.old.registers }
+/// What a `wfi` answers, by the interrupt that is ready.
+fn answer_of_wait(ready: Option<Interrupt>) -> MachineAnswer
+    ensures { result ≡ wait_answer ready }
 {
-    match csrs.ready_interrupt(inputs) {
-        Some(_) => {
-            pass(hart, csrs);
-            MachineAnswer::Retired
-        }
-        None => {
-            hart.last_register_write = None;
-            MachineAnswer::Waiting
-        }
+    match ready {
+        Some(_) => MachineAnswer::Retired,
+        None => MachineAnswer::Waiting,
     }
 }
 
@@ -222,7 +211,11 @@ fn execute_system(
             return_from_trap(hart, csrs, inputs);
             MachineAnswer::Retired
         }
-        SystemRow::Wfi => wait(hart, csrs, inputs),
+        SystemRow::Wfi => {
+            let answer = answer_of_wait(csrs.ready_interrupt(inputs));
+            pass(hart, csrs);
+            answer
+        }
         SystemRow::FenceI => {
             pass(hart, csrs);
             MachineAnswer::Retired
@@ -326,8 +319,9 @@ fn step_instruction<M: Memory>(
 ///
 /// An exception is no error here: the hart takes the trap, and is at its handler. A jump or a taken
 /// branch to a misaligned address raises its exception at the jump, with no register written. A
-/// `wfi` that nothing wakes is `Waiting`: the pc stays at it, and the caller decides what passes
-/// meanwhile. `mcycle` counts each step but these, and `minstret` those that are `Retired`.
+/// `wfi` that nothing wakes is `Waiting`: it has retired, the hart is behind it, and the caller
+/// decides what passes meanwhile. `mcycle` counts each step, and `minstret` those that are
+/// `Retired` or `Waiting`.
 ///
 /// The clauses: what happened is a step (`step`), and no other one leads from there (`only`); what
 /// is no part of the state stays (`rest`); the memory goes from what it was to what it is by
@@ -336,7 +330,7 @@ fn step_instruction<M: Memory>(
 /// registers and bytes stay (`traps`). An instruction that retires, and is none of those that the
 /// 48 rows leave out, is a step of the kit (`kit`). While IR of `mcountinhibit` is 0 and the
 /// instruction does not write it, `minstret` counts the instructions that retire (`minstret`).
-/// Likewise, by CY, `mcycle` counts the steps that do not wait (`mcycle`).
+/// Likewise, by CY, `mcycle` counts the steps (`mcycle`).
 #[inline(always)]
 pub fn step_machine<M: Memory>(
     executor: &mut InstructionExecutor<M>,

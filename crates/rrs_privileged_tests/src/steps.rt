@@ -102,7 +102,7 @@ fn runs_to_a_wfi(rt: HostRuntime) -> Result<(), Fail> {
     let left = (hart.pc, csrs.mepc, csrs.mstatus);
     assert_eq!(rt;
         (end.steps, end.waiting, seen, left),
-        (8, true, (0x8000_0007, 5, 5), (32, 12, 0x80))
+        (8, true, (0x8000_0007, 5, 5), (36, 12, 0x80))
     );
     Ok(())
 }

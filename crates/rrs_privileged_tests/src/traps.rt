@@ -136,7 +136,7 @@ fn each_interrupt(rt: HostRuntime) -> Result<(), Fail> {
         } else if mie & bits != 0 {
             (MachineAnswer::Retired, START + 4, 0, 0, mstatus)
         } else {
-            (MachineAnswer::Waiting, START, 0, 0, mstatus)
+            (MachineAnswer::Waiting, START + 4, 0, 0, mstatus)
         };
         assert_eq!(rt;
             (answer, hart.pc, csrs.mcause, csrs.mepc, csrs.mstatus),
