@@ -1,13 +1,18 @@
 // Copies a string to no address, where nothing is mapped.
 #include <stdio.h>
-#include <string.h>
+
+static char *volatile nowhere;
+
+__attribute__((noipa)) static void copy(char *to, const char *from)
+{
+    while ((*to++ = *from++) != '\0') {
+    }
+}
 
 int main(void)
 {
-    char *volatile nowhere = NULL;
     puts("before the copy");
-    strcpy(nowhere, "nothing is mapped at address 0");
-    puts(nowhere);
+    copy(nowhere, "nothing is mapped at address 0");
     puts("after it");
     return 0;
 }
