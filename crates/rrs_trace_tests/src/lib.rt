@@ -1,9 +1,11 @@
-//! The tests of `rrs_trace`, written as a user's crate would be.
+//! The tests of `rrs_trace` and `rrs_history`, written as a user's crate would be.
 //!
-//! `tracing` has examples of `docs/HOSTS.md`, and `devices` two of `docs/MEMORIES.md`.
+//! `tracing` and `back` have examples of `docs/HOSTS.md`, and `devices` two of `docs/MEMORIES.md`.
 
 #![tactic(auto)]
 
+#[cfg(test)]
+mod back;
 #[cfg(test)]
 mod devices;
 #[cfg(test)]

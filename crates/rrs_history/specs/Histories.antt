@@ -1,0 +1,51 @@
+-- The states that a history leads back to. A step goes from one state to one other (RISC-V
+-- unprivileged specification, RV32I, "Programmers' Model"), so the states before it are a list.
+use Rattle.std.specs.Prelude.{◌≡◌, ℕ, ◌<◌, ◌≤◌, if◌then◌else◌, List, [], ◌∷◌, ◌++◌, All, length, true, false}
+use Rattle.rrs_lib.specs.Machine.{State}
+use Rattle.rrs_lib.specs.Accesses.{Access}
+use Rattle.rrs_history.specs.declared.change.Change.{Change}
+use Rattle.rrs_history.specs.declared.history.History.{History}
+use Rattle.rrs_history.specs.Changes.{undone, accesses_back}
+
+-- the changes that a history keeps, newest first, and how many it may keep
+abbrev pub changes : History → List Change
+changes h = h.ring.items
+
+abbrev pub room : History → ℕ
+room h = h.ring.capacity
+
+-- The states that changes lead back to, newest first, each from the one that follows it: those in
+-- which a step or a call began.
+abbrev pub past : List Change → State → List State
+past [] t = []
+past (c ∷ cs) t =
+    if c.starts then undone c t ∷ past cs (undone c t) else past cs (undone c t)
+
+-- A step or a call led from s to t, and the history keeps it: it leads back to s, and from there to
+-- where it led before. The oldest state may be forgotten, if there was no room.
+pub record Remembers (old : History) (s : State) (new : History) (t : State) : Type 0 where
+  pub forgotten : List State
+  pub leads_back : s ∷ past (changes old) s ≡ past (changes new) t ++ forgotten
+  pub at_most_one : length forgotten ≤ 1
+  pub none_with_room : length (changes old) < room old → forgotten ≡ []
+  pub room_kept : room new ≡ room old
+
+-- changes taken back, one after the other, newest first, and the accesses of that
+abbrev pub all_undone : List Change → State → State
+all_undone [] t = t
+all_undone (c ∷ cs) t = all_undone cs (undone c t)
+
+abbrev pub all_accesses : List Change → State → List Access
+all_accesses [] t = []
+all_accesses (c ∷ cs) t = accesses_back c t ++ all_accesses cs (undone c t)
+
+-- From s to t the latest step or call is taken back, by these accesses: the parts that came after
+-- the change with which it began, the latest first, and that change.
+pub record TakesBack (old : List Change) (first : Change) (new : List Change)
+    (s t : State) (accesses : List Access) : Type 0 where
+  pub parts : List Change
+  pub are : old ≡ parts ++ first ∷ new
+  pub begins : first.starts ≡ true
+  pub go_on : All (λ (c : Change). c.starts ≡ false) parts
+  pub leads : t ≡ all_undone (parts ++ first ∷ []) s
+  pub accessed : accesses ≡ all_accesses (parts ++ first ∷ []) s

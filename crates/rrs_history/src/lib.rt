@@ -1,0 +1,19 @@
+//! Steps that can be taken back, for debuggers of `rrs_lib`'s machine.
+//!
+//! [step_noted] makes a step and tells the [Change] that takes it back, and [undo] does that. A
+//! [History] keeps the latest changes, to a bound that its owner sets: [step_recorded] is a step
+//! that it keeps, and [step_back] takes the latest one back. Registers, pc, last written register
+//! and bytes are then as they were before it, over every memory that keeps its laws. What a device
+//! keeps beside its bytes is not taken back.
+//!
+//! What a change takes back is written in `specs/Changes.antt`, and which states a history leads
+//! back to in `specs/Histories.antt`.
+
+#![tactic(auto)]
+
+mod change;
+mod history;
+mod noting;
+
+pub use change::{Change, step_noted, step_noted_parts, undo};
+pub use history::{History, step_back, step_recorded};
