@@ -1,5 +1,5 @@
 -- Chains of runs and calls: how they are made of rounds, and that one leads from each state where calls are determined.
-use Rattle.std.proofs.Common.{◌≡◌, ℕ, ◌+◌, ◌-◌, ◌≤◌, List, [], ◌++◌, Bool, Option, Some, None, refl, sym, subst, ap}
+use Rattle.std.proofs.Common.{◌≡◌, ℕ, ◌+◌, ◌-◌, ◌≤◌, List, ◌++◌, Bool, Option, Some, None, refl, sym, subst, ap}
 use Rattle.std.proofs.Common.{◌∙◌, append_assoc, arith}
 use Rattle.std.proofs.lemmas.Option.{none-some, same_Some}
 use Rattle.rrs_lib.specs.declared.MemAccessSize.{MemAccessSize}
@@ -10,10 +10,11 @@ use Rattle.rrs_env.specs.declared.Ending.TheVariants.{Fault, Exit}
 use Rattle.rrs_lib.specs.Machine.{State}
 use Rattle.rrs_lib.specs.Steps.{RunUntil}
 use Rattle.rrs_lib.specs.Accesses.{Access, AccessesOfRun, answers_of_run, Makes, MakesExactly}
-use Rattle.rrs_lib.proofs.Making.{Makes-append}
+use Rattle.rrs_lib.proofs.Making.{Makes-append, AccessesOfRun-unique}
 use Rattle.rrs_lib.proofs.Rows.{one_row_at_most}
 use Rattle.rrs_lib.proofs.Stepping.{RunUntil-unique}
-use Rattle.rrs_env.specs.Serving.{Relation, resumed, EndsBy, Called, Served, Last, Exits, GoesOn, IsDetermined}
+use Rattle.rrs_env.specs.Serving.{Relation, resumed, EndsBy, Called, Served, Last, Exits, GoesOn}
+use Rattle.rrs_env.specs.Serving.{IsDetermined, IsOnlyServed, IsDeterminedBy, IsOnlyAlike}
 use Rattle.rrs_env.specs.Serving.{MakesSome}
 
 -- ---- ends
@@ -120,21 +121,37 @@ module _ {E : Type 0} (serves : Relation E) {M : Type 0} (reads : M → ℕ → 
 
 -- ---- no other chain
 
-module _ {E : Type 0} (serves : Relation E) (determined : IsDetermined serves) where
-  Called-unique : (limit : ℕ) (e d d' : E) (s t t' : State) (k k' : ℕ) (answer answer' : Option ℕ) (a a' : List Access)
-      → Called serves limit e s k answer d t a → Called serves limit e s k' answer' d' t' a'
-      → (k ≡ k') × (answer ≡ answer') × (d ≡ d') × (t ≡ t')
-  Called-unique limit e d d' s t t' k k' answer answer' a a' c c' =
-      let same =
-      RunUntil-unique one_row_at_most limit s c.before c'.before (Some (EnvironmentCall c.pc))
-      (Some (EnvironmentCall c'.pc)) c.at_call c'.at_call c.run c'.run in
-      let call : EnvironmentCall c.pc ≡ EnvironmentCall c'.pc = same_Some _ _ same.1 in
+module _ {E : Type 0} (serves : Relation E) (alike : E → E → Type 0) (by : IsDeterminedBy serves alike) where
+  -- two calls from environments that are alike
+  record SameCalls (k k' : ℕ) (answer answer' : Option ℕ) (d d' : E) (t t' : State) (a a' : List Access) : Type 0 where
+    steps : k ≡ k'
+    answers : answer ≡ answer'
+    are_alike : alike d d'
+    states : t ≡ t'
+    accesses : a ≡ a'
+
+  same_calls : {limit : ℕ} {e e' d d' : E} {s t t' : State} {k k' : ℕ} {answer answer' : Option ℕ} {a a' : List Access}
+      → alike e e' → Called serves limit e s k answer d t a → Called serves limit e' s k' answer' d' t' a'
+      → SameCalls k k' answer answer' d d' t t' a a'
+  same_calls {limit = limit} {e = e} {e' = e'} {d = d} {d' = d'} {s = s} {answer = answer} {answer' = answer'} same c c' =
+      let x = Some (EnvironmentCall c.pc) in
+      let x' = Some (EnvironmentCall c'.pc) in
+      let run = RunUntil-unique one_row_at_most limit s c.before c'.before x x' c.at_call c'.at_call c.run c'.run in
+      let call : EnvironmentCall c.pc ≡ EnvironmentCall c'.pc = same_Some _ _ run.1 in
       let pcs : c.pc ≡ c'.pc = cc in
-      let served = subst (λ x. serves e x d c.after_call c.of_call answer) same.2 c.served in
-      let one =
-      determined e d d' c'.at_call c.after_call c'.after_call c.of_call c'.of_call answer answer' served c'.served in
-      let ends = c.goes_on ∙ (λ i. resumed (one.3 i) (pcs i) (one.1 i)) ∙ sym c'.goes_on in
-      (c.counted ∙ ap (λ n. n + 1) same.0 ∙ sym c'.counted, one.3, one.0, ends)
+      let served = subst (λ x. serves e x d c.after_call c.of_call answer) run.2 c.served in
+      let one = by.determined e e' d d' c'.at_call c.after_call c'.after_call c.of_call c'.of_call answer answer' same
+      served c'.served in
+      let accessed = subst (λ l. AccessesOfRun s l c.of_run) (λ i. answers_of_run (run.0 i) (run.1 i)) c.accessed in
+      let of_run = AccessesOfRun-unique one_row_at_most s (answers_of_run c'.before x') c.of_run c'.of_run accessed
+      c'.accessed in
+      record {
+        steps = c.counted ∙ ap (λ n. n + 1) run.0 ∙ sym c'.counted;
+        answers = one.3;
+        are_alike = one.0;
+        states = c.goes_on ∙ (λ i. resumed (one.3 i) (pcs i) (one.1 i)) ∙ sym c'.goes_on;
+        accesses = c.all ∙ (λ i. of_run i ++ one.2 i) ∙ sym c'.all;
+      }
 
   -- a run that no call follows is none that one follows
   last_or_call : (limit : ℕ) (e d : E) (s t u : State) (k k' : ℕ) (x : Option InstructionException) (ending : Ending)
@@ -145,33 +162,73 @@ module _ {E : Type 0} (serves : Relation E) (determined : IsDetermined serves) w
       RunUntil-unique one_row_at_most limit s k c.before x (Some (EnvironmentCall c.pc)) t c.at_call run c.run in
       subst (λ y. EndsBy y ending) same.1 ends
 
-  pub Served-unique : (ending ending' : Ending) (d d' : E) (t t' : State) (limit : ℕ) (e : E) (s : State)
-      (k k' : ℕ) (a a' : List Access) → Served serves ending d t limit e s k a → Served serves ending' d' t' limit e s k' a'
-      → (k' ≡ k) × (ending' ≡ ending) × (d' ≡ d) × (t' ≡ t)
-  Served-unique _ ending' _ _ _ _ limit e s k k' _ _ (Last _ _ _ _ _ x run _ ends same)
-      (Last _ _ _ _ _ x' run' _ ends' same') =
-      let one = RunUntil-unique one_row_at_most limit s k' k x' x _ _ run' run in
-      (one.0, EndsBy-unique x ending' _ (subst (λ y. EndsBy y ending') one.1 ends') ends, same' ∙ sym same, one.2)
-  Served-unique _ _ _ _ _ _ _ _ _ _ _ _ _ (Last _ _ _ _ _ x run _ ends _) (Exits _ _ _ _ _ _ c _) =
+  -- two chains from environments that are alike
+  abbrev pub Same : (k k' : ℕ) (ending ending' : Ending) (d d' : E) (t t' : State) (a a' : List Access) → Type 0
+  Same k k' ending ending' d d' t t' a a' = (k' ≡ k) × (ending' ≡ ending) × alike d d' × (t' ≡ t) × (a' ≡ a)
+
+  pub Served-unique : (ending ending' : Ending) (d d' : E) (t t' : State) (limit : ℕ) (e e' : E) (s : State)
+      (k k' : ℕ) (a a' : List Access) → alike e e' → Served serves ending d t limit e s k a
+      → Served serves ending' d' t' limit e' s k' a' → Same k k' ending ending' d d' t t' a a'
+  Served-unique ending ending' d d' t t' limit e e' s k k' a a' like (Last _ _ _ _ _ x run made ends same)
+      (Last _ _ _ _ _ x' run' made' ends' same') =
+      let one = RunUntil-unique one_row_at_most limit s k' k x' x t' t run' run in
+      let accessed = subst (λ l. AccessesOfRun s l a') (λ i. answers_of_run (one.0 i) (one.1 i)) made' in (
+        one.0,
+        EndsBy-unique x ending' ending (subst (λ y. EndsBy y ending') one.1 ends') ends,
+        subst (λ y. alike y d') (sym same) (subst (alike e) (sym same') like),
+        one.2,
+        AccessesOfRun-unique one_row_at_most s (answers_of_run k x) a' a accessed made,
+      )
+  Served-unique _ _ _ _ _ _ _ _ _ _ _ _ _ _ like (Last _ _ _ _ _ x run _ ends _) (Exits _ _ _ _ _ _ c _) =
       absurd (last_or_call _ _ _ _ _ _ _ _ x _ _ _ run ends c)
-  Served-unique _ _ _ _ _ _ _ _ _ _ _ _ _ (Last _ _ _ _ _ x run _ ends _) (GoesOn _ _ _ _ _ _ _ _ _ c _) =
+  Served-unique _ _ _ _ _ _ _ _ _ _ _ _ _ _ like (Last _ _ _ _ _ x run _ ends _) (GoesOn _ _ _ _ _ _ _ _ _ c _) =
       absurd (last_or_call _ _ _ _ _ _ _ _ x _ _ _ run ends c)
-  Served-unique _ _ _ _ _ _ _ _ _ _ _ _ _ (Exits _ _ _ _ _ _ c _) (Last _ _ _ _ _ x run _ ends _) =
+  Served-unique _ _ _ _ _ _ _ _ _ _ _ _ _ _ like (Exits _ _ _ _ _ _ c _) (Last _ _ _ _ _ x run _ ends _) =
       absurd (last_or_call _ _ _ _ _ _ _ _ x _ _ _ run ends c)
-  Served-unique _ _ _ _ _ _ _ _ _ _ _ _ _ (GoesOn _ _ _ _ _ _ _ _ _ c _) (Last _ _ _ _ _ x run _ ends _) =
+  Served-unique _ _ _ _ _ _ _ _ _ _ _ _ _ _ like (GoesOn _ _ _ _ _ _ _ _ _ c _) (Last _ _ _ _ _ x run _ ends _) =
       absurd (last_or_call _ _ _ _ _ _ _ _ x _ _ _ run ends c)
-  Served-unique _ _ _ _ _ _ _ _ _ _ _ _ _ (Exits _ _ _ _ _ status c is) (Exits _ _ _ _ _ status' c' is') =
-      let one = Called-unique _ _ _ _ _ _ _ _ _ _ _ _ _ c' c in
-      (one.0, is' ∙ ap Exit (same_Some _ _ one.1) ∙ sym is, one.2, one.3)
-  Served-unique _ _ _ _ _ _ _ _ _ _ _ _ _ (Exits _ _ _ _ _ _ c _) (GoesOn _ _ _ _ _ _ _ _ _ c' _) =
-      absurd (none-some _ (Called-unique _ _ _ _ _ _ _ _ _ _ _ _ _ c' c).1)
-  Served-unique _ _ _ _ _ _ _ _ _ _ _ _ _ (GoesOn _ _ _ _ _ _ _ _ _ c _) (Exits _ _ _ _ _ _ c' _) =
-      absurd (none-some _ (Called-unique _ _ _ _ _ _ _ _ _ _ _ _ _ c c').1)
-  Served-unique ending ending' d d' t t' limit e s _ _ _ _ (GoesOn _ _ _ first later b bl p m c rest)
+  Served-unique _ _ _ _ _ _ _ _ _ _ _ _ _ _ like (Exits _ _ _ _ _ status c is) (Exits _ _ _ _ _ status' c' is') =
+      let one = same_calls like c c' in (
+        sym one.steps,
+        is' ∙ ap Exit (same_Some _ _ (sym one.answers)) ∙ sym is,
+        one.are_alike,
+        sym one.states,
+        sym one.accesses,
+      )
+  Served-unique _ _ _ _ _ _ _ _ _ _ _ _ _ _ like (Exits _ _ _ _ _ _ c _) (GoesOn _ _ _ _ _ _ _ _ _ c' _) =
+      absurd (none-some _ (sym (same_calls like c c').answers))
+  Served-unique _ _ _ _ _ _ _ _ _ _ _ _ _ _ like (GoesOn _ _ _ _ _ _ _ _ _ c _) (Exits _ _ _ _ _ _ c' _) =
+      absurd (none-some _ (same_calls like c c').answers)
+  Served-unique ending ending' d d' t t' limit e e' s _ _ _ _ like (GoesOn _ _ _ first later b bl p m c rest)
       (GoesOn _ _ _ first' later' b' bl' p' m' c' rest') =
-      let one = Called-unique limit e p' p s m' m first' first None None b' b c' c in
-      let moved : Served serves ending' d' t' (limit - first) p m later' bl' =
-      subst (λ x. Served serves ending' d' t' (limit - first) p x later' bl') one.3
-      (subst (λ x. Served serves ending' d' t' (limit - first) x m' later' bl') one.2 (subst (λ n. Served serves ending' d' t' (limit - n) p' m' later' bl') one.0 rest')) in
-      let tail = Served-unique ending ending' d d' t t' (limit - first) p m later later' bl bl' rest moved in
-      (omega (arith, one.0, tail.0), tail.1, tail.2, tail.3)
+      let one = same_calls like c c' in
+      let moved : Served serves ending' d' t' (limit - first) p' m later' bl' =
+      subst (λ x. Served serves ending' d' t' (limit - first) p' x later' bl') (sym one.states)
+      (subst (λ n. Served serves ending' d' t' (limit - n) p' m' later' bl') (sym one.steps) rest') in
+      let tail = Served-unique ending ending' d d' t t' (limit - first) p p' m later later' bl bl' one.are_alike rest
+      moved in
+      let steps : first' + later' ≡ first + later = omega (arith, one.steps, tail.0) in
+      (steps, tail.1, tail.2, tail.3, λ i. sym one.accesses i ++ tail.4 i)
+
+-- Calls that are determined are so up to equality.
+equally : {E : Type 0} (serves : Relation E) → IsDetermined serves → IsDeterminedBy serves (λ d e. d ≡ e)
+equally serves determined = record {
+  reflexive = λ e. refl;
+  determined = λ e e' d d' s t t' a a' answer answer' same served served'. determined e' d d' s t t' a a' answer answer'
+      (subst (λ x. serves x s d t a answer) same served) served';
+}
+
+pub only_served : {E : Type 0} (serves : Relation E) (limit : ℕ) (e d : E) (s t : State) (steps : ℕ) (ending : Ending)
+    (a : List Access) → Served serves ending d t limit e s steps a → IsOnlyServed serves limit e s steps ending d t
+only_served serves limit e d s t steps ending a served = λ determined steps' ending' d' t' a' other.
+    let same = Served-unique serves (λ x y. x ≡ y) (equally serves determined) ending ending' d d' t t' limit e e s steps
+    steps' a a' refl served other in
+    (same.0, same.1, sym same.2, same.3)
+
+pub only_alike : {E : Type 0} (serves : Relation E) (alike : E → E → Type 0) (IsMade : List Access → Type 0) (limit : ℕ)
+    (e d : E) (s t : State) (steps : ℕ) (ending : Ending) (a : List Access) → IsMade a
+    → Served serves ending d t limit e s steps a → IsDeterminedBy serves alike
+    → IsOnlyAlike serves alike IsMade limit e s steps ending d t
+only_alike serves alike IsMade limit e d s t steps ending a made served by = λ e' d' t' steps' ending' a' like other.
+    let same = Served-unique serves alike by ending ending' d d' t t' limit e e' s steps steps' a a' like served other in
+    (same.0, same.1, same.2, same.3, subst IsMade (sym same.4) made)

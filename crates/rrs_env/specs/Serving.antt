@@ -87,6 +87,27 @@ module _ {E : Type 0} (serves : Relation E) where
       → Served ending' d' t' limit e s steps' a'
       → (steps' ≡ steps) × (ending' ≡ ending) × (d' ≡ d) × (t' ≡ t)
 
+  -- By which environments are alike:
+  module _ (alike : E → E → Type 0) where
+    -- A call does one thing at most, up to a likeness: in one state, environments that are alike
+    -- make the same accesses, leave one state, give one answer, and are alike again.
+    pub record IsDeterminedBy : Type 0 where
+      pub reflexive : (e : E) → alike e e
+      pub determined :
+          (e e' d d' : E) (s t t' : State) (a a' : List Access) (answer answer' : Option ℕ)
+          → alike e e' → serves e s d t a answer → serves e' s d' t' a' answer'
+          → alike d d' × (t ≡ t') × (a ≡ a') × (answer ≡ answer')
+
+    -- Each chain that leads from there, from this environment or one that is alike, has as many
+    -- steps, ends so, with an environment that is alike and in this state, and by accesses that
+    -- are made.
+    abbrev pub IsOnlyAlike : (List Access → Type 0)
+        → ℕ → E → State → ℕ → Ending → E → State → Type 0
+    IsOnlyAlike IsMade limit e s steps ending d t =
+        (e' d' : E) (t' : State) (steps' : ℕ) (ending' : Ending) (a' : List Access)
+        → alike e e' → Served ending' d' t' limit e' s steps' a'
+        → (steps' ≡ steps) × (ending' ≡ ending) × alike d d' × (t' ≡ t) × IsMade a'
+
 -- Exactly the accesses of some list that is meant take the memory from old to new. There may be
 -- more than one such list, since an environment may leave open what a call accesses.
 pub record MakesSome {M : Type 0}

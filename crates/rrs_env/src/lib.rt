@@ -10,9 +10,9 @@
 ghost use Rattle.std.specs.Prelude.{◌≡◌, ◌%◌, ◌<◌, ◌≤◌, ℕ, List, Option, None};
 ghost use Rattle.rrs_lib.specs.Machine.{State};
 ghost use Rattle.rrs_lib.specs.Executor.{state_in, KeepsTheRest};
-ghost use Rattle.rrs_lib.specs.Accesses.{Access};
+ghost use Rattle.rrs_lib.specs.Accesses.{Access, Makes};
 ghost use Rattle.rrs_lib.specs.Bytes.{EndsAtLastAddress};
-ghost use Rattle.rrs_env.specs.Serving.{Served, IsOnlyServed, MakesSome};
+ghost use Rattle.rrs_env.specs.Serving.{Served, IsOnlyServed, IsDeterminedBy, IsOnlyAlike, MakesSome};
 ghost use Rattle.rrs_env.specs.Rounds.{RoundOf, StepsWithin};
 
 use rrs_fast::DecodeCache;
@@ -23,14 +23,18 @@ use rrs_lib::instruction_executor::{InstructionException, InstructionExecutor};
 ///
 /// An implementation says in its own words what a call does, by `serves`, and `serve` is proved to
 /// do that over every memory. So `serves` speaks of the state of the machine and of the accesses
-/// that are made, and not of the memory's type. Where it says of each call what the outcome is, and
-/// allows no second one (`IsDetermined`), a run that is served has one outcome too.
+/// that are made, and not of the memory's type. Where it allows one outcome of each call
+/// (`IsDetermined`, or `IsDeterminedBy` up to `alike`), a run that is served has one outcome too.
 pub trait Environment {
     /// What a call does: the environment and the machine before, both after, the accesses that the
     /// call makes, in order, and its answer. The machine before is at the `ecall`, with no
     /// register as the one written last. The machine after still has to go on to the next
     /// instruction.
     ghost serves: { Self → State → Self → State → List Access → Option ℕ → Type 0 };
+
+    /// Which environments are alike, for a program that they serve. Without this member those are
+    /// that are equal. Two `Vec`s with the same elements are not: they lie at different places.
+    ghost alike: { Self → Self → Type 0 } = { λ d e. d ≡ e };
 
     /// Serves the call of a hart that is at an `ecall`.
     ///
@@ -121,7 +125,9 @@ fn serve_next<M: Memory, E: Environment>(
 /// The clauses: from the machine and the environment before, a chain of runs and calls, each within
 /// what is left of the limit, leads to those after, and exactly its accesses are made, those of the
 /// steps and those of the calls in their order (`served`); where the environment's calls are
-/// determined no other chain leads from there (`only`); what is no part of the state stays
+/// determined no other chain leads from there (`only`); where they are determined up to a likeness,
+/// each chain from an environment that is alike has the same steps, accesses, end and state, and
+/// leads to an environment that is alike (`only_alike`); what is no part of the state stays
 /// (`rest`). Where the first step fetches, nothing is mapped or writable from 2^32 on (`ends`), as
 /// by `run`.
 pub fn run_served<M: Memory, E: Environment>(
@@ -136,6 +142,12 @@ pub fn run_served<M: Memory, E: Environment>(
         limit environment.old (state_in M.bytes M.writable executor.old) result.steps)
         executor.old.mem.now executor.new.mem.now }
     ensures only { IsOnlyServed E.serves
+        limit environment.old (state_in M.bytes M.writable executor.old)
+        result.steps result.ending
+        environment.new (state_in M.bytes M.writable executor.new) }
+    ensures only_alike { IsDeterminedBy E.serves E.alike
+        → IsOnlyAlike E.serves E.alike
+        (λ accesses. Makes M.reads M.writes accesses executor.old.mem.now executor.new.mem.now)
         limit environment.old (state_in M.bytes M.writable executor.old)
         result.steps result.ending
         environment.new (state_in M.bytes M.writable executor.new) }

@@ -1,3 +1,4 @@
+pub mod Determined
 pub mod KnownStreams
 pub mod Placed
 pub mod Written

@@ -12,7 +12,7 @@ use Rattle.rrs_lib.specs.Machine.{State}
 use Rattle.rrs_linux.specs.declared.Process.{Process}
 use Rattle.rrs_linux.specs.declared.recorder.Known.{Known}
 use Rattle.rrs_linux.specs.Requests.{error}
-use Rattle.rrs_linux.specs.SystemCalls.{ServesBy}
+use Rattle.rrs_linux.specs.SystemCalls.{ServesBy, AreAlike}
 use Rattle.rrs_linux.specs.Transfers.{Gives, Takes, Stands, byte_reads, counted, most_bytes}
 
 -- ---- write
@@ -105,3 +105,17 @@ Recording = Process (Bor (List ℕ)) (Vec ℕ Global) (Vec ℕ Global) Known
 -- What a call does over known bytes.
 abbrev pub Records : Recording → State → Recording → State → List Access → Option ℕ → Type 0
 Records = ServesBy GivesInput TakesOutput TakesOutput
+
+-- ---- which are alike
+
+-- inputs that have the same bytes left
+abbrev pub AlikeInputs : Bor (List ℕ) → Bor (List ℕ) → Type 0
+AlikeInputs a b = a.now ≡ b.now
+
+-- records that hold the same bytes, with a capacity for as many
+abbrev pub AlikeRecords : Vec ℕ Global → Vec ℕ Global → Type 0
+AlikeRecords a b = (a.items ≡ b.items) × (vec_capacity a ≡ vec_capacity b)
+
+-- environments with such an input and such records, and with one heap
+abbrev pub AlikeRecordings : Recording → Recording → Type 0
+AlikeRecordings = AreAlike AlikeInputs AlikeRecords AlikeRecords

@@ -29,6 +29,16 @@ answered s answer = put s 10 (pos answer)
 abbrev pub ended_by : ℕ → Option ℕ
 ended_by answer = if answer == error 32 then Some 141 else None
 
+-- By which streams are alike: environments are alike that have such streams, one heap, and the same
+-- kept of the input.
+pub record AreAlike {R W E K : Type 0} (input : R → R → Type 0) (output : W → W → Type 0)
+    (errors : E → E → Type 0) (d e : Process R W E K) : Type 0 where
+  pub inputs : input d.input e.input
+  pub outputs : output d.output e.output
+  pub error_outputs : errors d.errors e.errors
+  pub heap : d.heap ≡ e.heap
+  pub held : d.held ≡ e.held
+
 -- By what the streams do with the bytes of a buffer:
 module _ {R W E K : Type 0} (gives : Gives R K) (takes : Takes W) (takes_errors : Takes E) where
   -- what is asked for takes the environment and the machine from the first to the second

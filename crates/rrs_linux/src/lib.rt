@@ -20,13 +20,13 @@ mod streams;
 ghost use Rattle.std.specs.Prelude.{◌≡◌, ℕ, Bool, Option, None, slice_index, []};
 ghost use Rattle.rrs_lib.specs.Machine.{state_of};
 ghost use Rattle.rrs_linux.specs.BufferedBytes.{buffered_bytes};
-ghost use Rattle.rrs_linux.specs.SystemCalls.{ServesBy, moved, answered, ended_by};
+ghost use Rattle.rrs_linux.specs.SystemCalls.{ServesBy, AreAlike, moved, answered, ended_by};
 
 use crate::host::NOBODY_READS;
 use crate::requests::system_call_of;
 pub use host_writer::HostWriter;
 pub use input_buffer::InputBuffer;
-pub use recorder::{Known, OutputRecorder};
+pub use recorder::{Known, OutputRecorder, records_determined};
 pub use requests::Request;
 use rrs_env::Environment;
 use rrs_lib::instruction_executor::InstructionExecutor;
@@ -112,6 +112,8 @@ impl<R, W, E> Process<R, HostWriter<W>, HostWriter<E>, InputBuffer> {
 
 impl<R: Input<K>, W: Output, E: Output, K> Environment for Process<R, W, E, K> {
     ghost serves = { ServesBy R.gives W.takes E.takes };
+
+    ghost alike = { AreAlike R.alike W.alike E.alike };
 
     /// Serves a system call: the number is in a7, the arguments in a0 to a2, the answer in a0.
     fn serve<M: Memory>(&mut self, executor: &mut InstructionExecutor<M>) -> Option<u32> {

@@ -1,7 +1,8 @@
 //! Streams that are bytes in the host's memory.
 
 ghost use Rattle.std.specs.Prelude.{◌≡◌, [], IfOk, vec_capacity};
-ghost use Rattle.rrs_linux.specs.Recording.{GivesInput, TakesOutput};
+ghost use Rattle.rrs_env.specs.Serving.{IsDeterminedBy};
+ghost use Rattle.rrs_linux.specs.Recording.{GivesInput, TakesOutput, AlikeInputs, AlikeRecords, Records, AlikeRecordings};
 
 use crate::buffers::{BAD_ADDRESS, answer_of, give_bytes, most_of};
 use crate::streams::{Input, Output};
@@ -56,8 +57,19 @@ impl<'a> Process<&'a [u8], Vec<u8>, Vec<u8>, Known> {
     }
 }
 
+/// The law that the calls of an [OutputRecorder] are determined: two that are alike, at one state,
+/// make the same accesses, leave one state, give one answer, and are alike again.
+///
+/// They are alike if they have the same input left, the same output and errors, room for as many
+/// bytes, and one heap. So each run over them is the only one (`only_alike` of `run_served`).
+pub fn records_determined()
+    ensures { IsDeterminedBy Records AlikeRecordings }
+{}
+
 impl Input<Known> for &[u8] {
     ghost gives = { GivesInput };
+
+    ghost alike = { AlikeInputs };
 
     /// Gives as many bytes as there are and were asked for.
     fn read_to<M: Memory>(
@@ -76,6 +88,8 @@ impl Input<Known> for &[u8] {
 
 impl Output for Vec<u8> {
     ghost takes = { TakesOutput };
+
+    ghost alike = { AlikeRecords };
 
     /// Takes the bytes of a buffer one by one, as far as there is room.
     fn write_from<M: Memory>(&mut self, memory: &mut M, address: u32, count: u32) -> u32 {

@@ -12,6 +12,10 @@ pub trait Input<K> {
     /// input and to what is kept of it; by which accesses, in order, and with which answer.
     ghost gives: { Gives Self K };
 
+    /// Which inputs are alike, for a program that reads them. Without this member those are that
+    /// are equal.
+    ghost alike: { Self → Self → Type 0 } = { λ a b. a ≡ b };
+
     /// Gives bytes of the input to a buffer in memory, and gives the answer of the call.
     fn read_to<M: Memory>(&mut self, held: &mut K, memory: &mut M, address: u32, count: u32) -> u32
         ensures given { MakesSome M.reads M.writes
@@ -27,6 +31,10 @@ pub trait Output {
     /// What a write of a buffer does to the stream, by the bytes of memory; by which accesses, in
     /// order, and with which answer.
     ghost takes: { Takes Self };
+
+    /// Which streams are alike, for a program that writes to them. Without this member those are
+    /// that are equal.
+    ghost alike: { Self → Self → Type 0 } = { λ a b. a ≡ b };
 
     /// Takes the bytes of a buffer in memory, and gives the answer of the call.
     fn write_from<M: Memory>(&mut self, memory: &mut M, address: u32, count: u32) -> u32

@@ -5,7 +5,7 @@ use rrs_env::Environment;
 use rrs_lib::HartState;
 use rrs_lib::instruction_executor::InstructionExecutor;
 use rrs_lib::memories::VecMemory;
-use rrs_linux::{Heap, Linux, OutputRecorder};
+use rrs_linux::{Heap, Linux, OutputRecorder, records_determined};
 use std::alloc::{AllocError, Global};
 use std::io;
 use std::io::{ErrorKind, Read, Write};
@@ -229,6 +229,28 @@ fn a_recorder_answers(rt: HostRuntime) -> Result<(), Fail> {
     }
     let errors = recorder.errors.as_slice() == [42, 43, 0, 1, 2].as_slice();
     assert!(rt; counts_from(&recorder.output, 0) && errors);
+    Ok(())
+}
+
+// Two recorders that are alike answer each call alike, and hold the same afterwards.
+#[test]
+fn alike_recorders_answer_alike(rt: HostRuntime) -> Result<(), Fail> {
+    records_determined();
+    let mut memories = (numbered(rt.alloc())?, numbered(rt.alloc())?);
+    let heap = Heap::new(64, 96);
+    let mut first = OutputRecorder::new(rt.alloc(), &[0, 1, 2], 10, heap)?;
+    let mut second = OutputRecorder::new(rt.alloc(), &[0, 1, 2], 10, heap)?;
+    for &(request, _, _, _) in &RECORDED {
+        let answer = call(&mut first, &mut memories.0, request);
+        assert!(rt;
+            answer == call(&mut second, &mut memories.1, request),
+            "{request:?}"
+        );
+        let outputs = first.output.as_slice() == second.output.as_slice();
+        let errors = first.errors.as_slice() == second.errors.as_slice();
+        let rest = first.input == second.input && first.heap == second.heap;
+        assert!(rt; outputs && errors && rest, "{request:?}");
+    }
     Ok(())
 }
 

@@ -1,5 +1,5 @@
 -- What the calls of these programs do to an environment, and to its streams.
-use Rattle.std.proofs.Common.{◌≡◌, ◌≢◌, ◌⊎◌, ℕ, zero, suc, ◌+◌, ◌-◌, ◌%◌, ◌^◌, ◌≤◌, min, true, false, IsTrue, refl, List, ◌++◌, length, take, pos, Option, Some, None, Bool, inl, inr, sym, ap, subst, ◌∙◌, arith, ext_get_or, Vec, vec_capacity}
+use Rattle.std.proofs.Common.{◌≡◌, ◌≢◌, ◌⊎◌, ℕ, zero, suc, ◌+◌, ◌-◌, ◌%◌, ◌^◌, ◌≤◌, min, true, false, IsTrue, refl, List, ◌++◌, length, take, pos, Option, Some, None, Bool, inl, inr, sym, ap, subst, ◌∙◌, arith, Vec, vec_capacity}
 use Rattle.std.specs.declared.alloc.Global.{Global}
 use Rattle.std.proofs.lemmas.Bool.{false≢true, ne_eqb}
 use Rattle.std.proofs.lemmas.Bool.Decides.{eqb_tells}
@@ -25,6 +25,7 @@ use Rattle.rrs_linux.specs.Transfers
 use Rattle.rrs_linux.specs.Transfers.{Gives, Takes, Stands, WriteEnds, counted, most_bytes}
 use Rattle.rrs_linux.specs.Recording.{TakingEnds, TakesOutput, GivingEnds}
 use Rattle.rrs_linux.specs.Recording
+use Rattle.rrs_linux.proofs.Determined.{same_text}
 use Rattle.rrs_linux.proofs.Written.{Stands-take}
 
 -- ---- what is asked for
@@ -192,12 +193,6 @@ module _ {R W E K : Type 0} (gives : Gives R K) (takes : Takes W) (takes_errors 
         (λ d m accesses status does. none-some status (sym does.0))
 
 -- ---- what a stream does with a text that stands
-
--- one text of each length stands at an address
-same_text : (bytes : ByteMap) (a : ℕ) (text text' : List ℕ) → length text ≡ length text' → Stands bytes a text
-    → Stands bytes a text' → text ≡ text'
-same_text bytes a text text' long stands stands' =
-    ext_get_or 0 text text' long (λ i less. same_Some _ _ (sym (stands i less) ∙ stands' i (omega (arith, less, long))))
 
 module _ (bytes : ByteMap) (a count : ℕ) (text text' : List ℕ) (known : count ≡ length text)
     (stands : Stands bytes a text)

@@ -1,11 +1,12 @@
 //! A program that writes all that it reads.
 
 ghost use Rattle.std.specs.Prelude.{◌≡◌, ◌⊎◌, ℕ, ◌+◌, ◌*◌, ◌<◌, ◌≤◌, min, [], ◌++◌, length, vec_capacity};
+ghost use Rattle.rrs_lib.specs.AccessLists.{Makes};
 ghost use Rattle.rrs_lib.specs.Executor.{state_in, KeepsTheRest};
 ghost use Rattle.rrs_lib.specs.Machine.{reg};
-ghost use Rattle.rrs_env.specs.Serving.{Served, MakesSome};
+ghost use Rattle.rrs_env.specs.Serving.{Served, IsOnlyAlike, MakesSome};
 ghost use Rattle.rrs_env.specs.declared.Ending.TheVariants.{Exit};
-ghost use Rattle.rrs_linux.specs.Recording.{Records};
+ghost use Rattle.rrs_linux.specs.Recording.{Records, AlikeRecordings};
 ghost use Rattle.rrs_linux.specs.Transfers.{most_bytes};
 ghost use Rattle.rrs_programs.specs.Echoing.{EchoStarts, TakesRounds};
 
@@ -24,7 +25,8 @@ use rrs_linux::OutputRecorder;
 /// run makes 11 steps for each buffer that it fills, the last perhaps in part, and 14 more, its
 /// calls included. Then the output has grown by exactly the input, whatever that was, the input is
 /// at its end, and the rest of the environment, and each byte of memory outside the buffer, are as
-/// before.
+/// before. Each run from this state, over this environment or one that is alike, has these steps,
+/// this end and these accesses, and leaves this state and an environment that is alike (`only`).
 pub fn echo<M: Memory>(
     executor: &mut InstructionExecutor<M>,
     environment: &mut OutputRecorder,
@@ -39,6 +41,11 @@ pub fn echo<M: Memory>(
         environment.new (state_in M.bytes M.writable executor.new)
         limit environment.old (state_in M.bytes M.writable executor.old) result.steps)
         executor.old.mem.now executor.new.mem.now }
+    ensures only { IsOnlyAlike Records AlikeRecordings
+        (λ accesses. Makes M.reads M.writes accesses executor.old.mem.now executor.new.mem.now)
+        limit environment.old (state_in M.bytes M.writable executor.old)
+        result.steps result.ending
+        environment.new (state_in M.bytes M.writable executor.new) }
     ensures steps { (rounds : ℕ)
         × TakesRounds (length environment.old.input.now)
         (min (reg (state_in M.bytes M.writable executor.old) 11) most_bytes) rounds

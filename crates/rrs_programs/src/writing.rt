@@ -2,11 +2,12 @@
 
 ghost use Rattle.std.specs.Prelude.{◌≡◌, ℕ, ◌+◌, ◌%◌, ◌^◌, ◌<◌, ◌≤◌, ◌++◌, Bool, Option, length, take, vec_capacity};
 ghost use Rattle.std.specs.Io.KnownBytes.{Appends};
+ghost use Rattle.rrs_lib.specs.AccessLists.{Makes};
 ghost use Rattle.rrs_lib.specs.Executor.{state_in, KeepsTheRest};
 ghost use Rattle.rrs_lib.specs.Machine.{state_of, reg};
-ghost use Rattle.rrs_env.specs.Serving.{Served, MakesSome};
+ghost use Rattle.rrs_env.specs.Serving.{Served, IsOnlyAlike, MakesSome};
 ghost use Rattle.rrs_env.specs.declared.Ending.TheVariants.{Exit};
-ghost use Rattle.rrs_linux.specs.Recording.{Records};
+ghost use Rattle.rrs_linux.specs.Recording.{Records, AlikeRecordings};
 ghost use Rattle.rrs_linux.specs.SystemCalls.{Serves};
 ghost use Rattle.rrs_programs.specs.WritingAndExiting.{WriteAndExitStarts, EndsOver};
 
@@ -22,7 +23,9 @@ use std::io::{Read, Write};
 ///
 /// The program is at the pc, and the bytes are `text`. The limit is 13 or more: the run makes 13
 /// steps, its two calls included. Then the output has grown by exactly the text, the status is the
-/// low byte of x12, and the rest of the environment and the bytes of memory are as before.
+/// low byte of x12, and the rest of the environment and the bytes of memory are as before. Each run
+/// from this state, over this environment or one that is alike, has these steps, this end and these
+/// accesses, and leaves this state and an environment that is alike (`only`).
 pub fn write_and_exit<M: Memory>(
     executor: &mut InstructionExecutor<M>,
     environment: &mut OutputRecorder,
@@ -38,6 +41,11 @@ pub fn write_and_exit<M: Memory>(
         environment.new (state_in M.bytes M.writable executor.new)
         limit environment.old (state_in M.bytes M.writable executor.old) result.steps)
         executor.old.mem.now executor.new.mem.now }
+    ensures only { IsOnlyAlike Records AlikeRecordings
+        (λ accesses. Makes M.reads M.writes accesses executor.old.mem.now executor.new.mem.now)
+        limit environment.old (state_in M.bytes M.writable executor.old)
+        result.steps result.ending
+        environment.new (state_in M.bytes M.writable executor.new) }
     ensures steps { result.steps ≡ 13 }
     ensures ending { result.ending
         ≡ Exit (reg (state_in M.bytes M.writable executor.old) 12 % 256) }

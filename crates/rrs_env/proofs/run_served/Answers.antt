@@ -1,8 +1,9 @@
 use Rattle.std.proofs.Common.{◌≡◌, ℕ, ◌-◌, ◌%◌, ◌≤◌, ◌<◌, subst, inl, inr, arith}
 use Rattle.std.proofs.lemmas.Bool.{cases_lt}
+use Rattle.rrs_lib.specs.AccessLists.{Makes}
 use Rattle.rrs_lib.specs.Bytes.{EndsAtLastAddress}
 use Rattle.rrs_lib.proofs.Stepping.{KeepsTheRest-trans}
-use Rattle.rrs_env.proofs.Rounds.{reached_more, reached_end, Served-unique}
+use Rattle.rrs_env.proofs.Rounds.{reached_more, reached_end, only_served, only_alike}
 use Rattle.rrs_env.proofs.run_served.Goals as goal
 
 -- where addresses end, by the first round
@@ -35,9 +36,15 @@ returns-in-Ended-clause-served g c =
     reached_end _ _ _ _ _ _ _ _ _ _ _ _ _ _ _ _ c.rounds.invariant.reached c.in-Ended.ensures.round
 
 pub returns-in-Ended-clause-only : goal.returns-in-Ended-clause-only
-returns-in-Ended-clause-only g c = λ determined steps ending d t a other.
-    Served-unique g.E.Environment.serves determined _ ending _ d _ t _ _ _ _ steps _ a
-    (returns-in-Ended-clause-served g c).these other
+returns-in-Ended-clause-only g c =
+    only_served g.E.Environment.serves _ _ _ _ _ _ _ _ (returns-in-Ended-clause-served g c).these
+
+pub returns-in-Ended-clause-only_alike : goal.returns-in-Ended-clause-only_alike
+returns-in-Ended-clause-only_alike g c =
+    let served = returns-in-Ended-clause-served g c in
+    only_alike g.E.Environment.serves g.E.Environment.alike
+    (λ a. Makes g.M.Memory.reads g.M.Memory.writes a c.args.executor.now.mem.now c.serve_next.new.executor.mem.now)
+    _ _ _ _ _ _ _ _ served.made served.these
 
 pub returns-in-Ended-clause-ends : goal.returns-in-Ended-clause-ends
 returns-in-Ended-clause-ends g c = λ some.

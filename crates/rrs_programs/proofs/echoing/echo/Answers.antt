@@ -2,6 +2,7 @@
 use Rattle.std.proofs.Common.{arith}
 use Rattle.std.proofs.lemmas.List.{length-drop}
 use Rattle.rrs_lib.specs.Executor.{state_in}
+use Rattle.rrs_linux.proofs.Determined.{determined}
 use Rattle.rrs_programs.proofs.EchoRun.{echoes}
 use Rattle.rrs_programs.proofs.echoing.echo.Goals as goal
 
@@ -17,6 +18,7 @@ returns g c =
     c.requires.starts words.0 words.1 ends c.requires.room c.requires.enough c.run_served.ensures.served.these in
     record {
       served = c.run_served.ensures.served;
+      only = c.run_served.ensures.only_alike determined;
       steps = (run.rounds, run.takes, omega (arith, run.counted));
       ending = run.ends;
       output = run.output;

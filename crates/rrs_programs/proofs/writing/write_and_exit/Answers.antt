@@ -7,6 +7,7 @@ use Rattle.rrs_env.specs.declared.Ending.TheVariants.{Exit}
 use Rattle.rrs_linux.specs.Recording.{GivesInput, TakesOutput}
 use Rattle.rrs_programs.proofs.Calls.{took_all, taking_goes_on}
 use Rattle.rrs_programs.proofs.WriteAndExit.{writes_and_exits}
+use Rattle.rrs_linux.proofs.Determined.{determined}
 use Rattle.rrs_programs.proofs.writing.write_and_exit.Goals as goal
 
 pub returns : goal.returns
@@ -32,6 +33,7 @@ returns g c =
     elim run.ends [ inl exit ↦ exit | inr write ↦ absurd write.0 ] in
     record {
       served = c.run_served.ensures.served;
+      only = c.run_served.ensures.only_alike determined;
       steps = end.0;
       ending = end.1;
       output = run.left.0;

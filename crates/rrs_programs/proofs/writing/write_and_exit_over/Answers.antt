@@ -3,7 +3,7 @@ use Rattle.std.proofs.Common.{ap, arith, inl, inr}
 use Rattle.std.proofs.lemmas.List.{length-drop}
 use Rattle.rrs_lib.specs.Executor.{state_in}
 use Rattle.rrs_linux.specs.SystemCalls.{ReadsInput, WritesOutput}
-use Rattle.rrs_programs.specs.WritingAndExiting.{EndsOver, AtExit, AtWrite}
+use Rattle.rrs_programs.specs.WritingAndExiting.{AtExit, AtWrite}
 use Rattle.rrs_programs.proofs.Calls.{WroteSome, IsUnread, took_some}
 use Rattle.rrs_programs.proofs.WriteAndExit.{writes_and_exits}
 use Rattle.rrs_programs.proofs.writing.write_and_exit_over.Goals as goal

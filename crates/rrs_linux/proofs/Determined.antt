@@ -1,0 +1,333 @@
+-- The calls of an environment over known bytes are determined: what is asked for, which text is transferred, and what is
+-- left.
+use Rattle.std.proofs.Common.{◌≡◌, ℕ, ◌+◌, ◌-◌, ◌%◌, ◌<◌, ◌≤◌, ◌==◌, ◌||◌, if◌then◌else◌, Bool, true, List, [], ◌∷◌, ◌++◌, length, take, get_or, Option, inl, inr, refl, sym, subst, ap, ◌∙◌, arith, ext_get_or, Vec, vec_capacity}
+use Rattle.std.proofs.lemmas.Bool.{cases_lt, ne_eqb, false≢true}
+use Rattle.std.proofs.lemmas.Bool.Decides.{nat_tests}
+use Rattle.std.proofs.lemmas.Option.{none-some, same_Some}
+use Rattle.std.proofs.lemmas.List.{length-append, append_cancel_left}
+use Rattle.std.proofs.Math.Seq.{take-append_seam}
+use Rattle.std.specs.declared.alloc.Global.{Global}
+use Rattle.rrs_lib.specs.Bytes.{ByteMap}
+use Rattle.rrs_lib.specs.AccessLists.{Access}
+use Rattle.rrs_lib.specs.Loading.{Loaded, byte_writes}
+use Rattle.rrs_lib.specs.Machine.{State}
+use Rattle.rrs_env.specs.Serving.{IsDeterminedBy}
+use Rattle.rrs_linux.specs.declared.requests.Request.{Request}
+use Rattle.rrs_linux.specs.declared.requests.Request.TheVariants.{Exit, Answer, SetBreak, Read, WriteOutput, WriteErrors}
+use Rattle.rrs_linux.specs.Requests.{Asks, AsksBy, error, ToExit, ToRead, ToWriteOutput, ToWriteErrors, ToSetBreak, ToClose, OfNoFile, OfNoCall}
+use Rattle.rrs_linux.specs.Transfers.{Stands, byte_reads}
+use Rattle.rrs_linux.specs.SystemCalls.{Does, answered, moved, ended_by}
+use Rattle.rrs_linux.specs.Recording.{TakingEnds, GivingEnds, GivesText, TakesText, GivesInput, TakesOutput, Recording, Records, AlikeInputs, AlikeRecords, AlikeRecordings}
+use Rattle.rrs_linux.specs.Recording
+
+-- ---- what is asked for
+
+-- what a call asks for, by tests
+asked_for : (call a0 a1 a2 : ℕ) → Request
+asked_for call a0 a1 a2 =
+    if (call == 93) || (call == 94) then Exit (a0 % 256)
+    else (if call == 63 then (if a0 == 0 then Read a1 a2 else Answer (error 9))
+    else (if call == 64 then (if a0 == 1 then WriteOutput a1 a2
+    else (if a0 == 2 then WriteErrors a1 a2 else Answer (error 9)))
+    else (if call == 214 then SetBreak a0
+    else (if call == 57 then (if (a0 == 0) || (a0 == 1) || (a0 == 2) then Answer 0 else Answer (error 9))
+    else Answer (error 38)))))
+
+asks_for : {call a0 a1 a2 : ℕ} {r : Request} → AsksBy call a0 a1 a2 r → r ≡ asked_for call a0 a1 a2
+unfolding asked_for
+asks_for {a0 = a0} {a1 = a1} {a2 = a2} (ToExit (inl c) is) = is ∙ (λ i. asked_for (sym c i) a0 a1 a2)
+asks_for {a0 = a0} {a1 = a1} {a2 = a2} (ToExit (inr c) is) = is ∙ (λ i. asked_for (sym c i) a0 a1 a2)
+asks_for {a1 = a1} {a2 = a2} (ToRead c d is) = is ∙ (λ i. asked_for (sym c i) (sym d i) a1 a2)
+asks_for {a1 = a1} {a2 = a2} (ToWriteOutput c d is) = is ∙ (λ i. asked_for (sym c i) (sym d i) a1 a2)
+asks_for {a1 = a1} {a2 = a2} (ToWriteErrors c d is) = is ∙ (λ i. asked_for (sym c i) (sym d i) a1 a2)
+asks_for {a0 = a0} {a1 = a1} {a2 = a2} (ToSetBreak c is) = is ∙ (λ i. asked_for (sym c i) a0 a1 a2)
+asks_for {a0 = a0} {a1 = a1} {a2 = a2} (ToClose c open_there is) =
+    is ∙ sym (ap (λ n. asked_for n a0 a1 a2) c ∙ grind (arith, nat_tests))
+asks_for {a0 = a0} {a1 = a1} {a2 = a2} (OfNoFile (inl close) is) =
+    is ∙ sym (ap (λ n. asked_for n a0 a1 a2) close.0
+    ∙ rw (ne_eqb a0 0 (omega arith)) (rw (ne_eqb a0 1 (omega arith)) (rw (ne_eqb a0 2 (omega arith)) refl)))
+asks_for {a0 = a0} {a1 = a1} {a2 = a2} (OfNoFile (inr (inl read)) is) =
+    is ∙ sym (ap (λ n. asked_for n a0 a1 a2) read.0 ∙ rw (ne_eqb a0 0 read.1) refl)
+asks_for {a0 = a0} {a1 = a1} {a2 = a2} (OfNoFile (inr (inr write)) is) =
+    is ∙ sym (ap (λ n. asked_for n a0 a1 a2) write.0 ∙ rw (ne_eqb a0 1 write.1) (rw (ne_eqb a0 2 write.2) refl))
+asks_for {call = call} (OfNoCall none is) =
+    is ∙ sym (rw (ne_eqb call 93 none.3) (rw (ne_eqb call 94 none.4) (rw (ne_eqb call 63 none.1)
+    (rw (ne_eqb call 64 none.2) (rw (ne_eqb call 214 none.5) (rw (ne_eqb call 57 none.0) refl))))))
+
+asks_one : (s : State) {r r' : Request} → Asks s r → Asks s r' → r ≡ r'
+asks_one s asks asks' = asks_for asks ∙ sym (asks_for asks')
+
+-- ---- a write
+
+-- one text of each length stands at an address
+pub same_text : (bytes : ByteMap) (a : ℕ) (text text' : List ℕ) → length text ≡ length text' → Stands bytes a text
+    → Stands bytes a text' → text ≡ text'
+same_text bytes a text text' long stands stands' =
+    ext_get_or 0 text text' long (λ i less. same_Some _ _ (sym (stands i less) ∙ stands' i (omega (arith, less, long))))
+
+module _ {bytes : ByteMap} {a count room : ℕ} where
+  -- of two texts that are taken neither is longer
+  taken_no_longer : {n n' answer answer' : ℕ} {text text' : List ℕ} → Stands bytes a text'
+      → TakingEnds bytes a count room text n answer → TakingEnds bytes a count room text' n' answer'
+      → length text' ≤ length text
+  taken_no_longer stands (Recording.IsWhole _ long _ _ _) (Recording.IsWhole _ long' _ _ _) = omega (arith, long, long')
+  taken_no_longer stands (Recording.IsWhole _ long _ _ _) (Recording.IsFull _ short' _ _ _) = omega (arith, long, short')
+  taken_no_longer stands (Recording.IsWhole _ long _ _ _) (Recording.IsUnmapped _ short' _ _ _ _) =
+      omega (arith, long, short')
+  taken_no_longer stands _ (Recording.PassesEnd _ none _ _) = omega (arith, ap length none)
+  taken_no_longer stands (Recording.IsFull _ _ full _ _) (Recording.IsWhole _ _ room _ _) = omega (arith, full, room)
+  taken_no_longer stands (Recording.IsFull _ _ full _ _) (Recording.IsFull _ _ full' _ _) = omega (arith, full, full')
+  taken_no_longer stands (Recording.IsFull _ _ full _ _) (Recording.IsUnmapped _ _ more _ _ _) =
+      omega (arith, full, more)
+  taken_no_longer {text = text} {text' = text'} stands (Recording.IsUnmapped _ _ _ unmapped _ _) _ =
+      elim (cases_lt (length text) (length text')) as (λ _. length text' ≤ length text) [
+        | inl less ↦ absurd (none-some _ (sym unmapped ∙ stands (length text) less))
+        | inr least ↦ least
+      ]
+  taken_no_longer stands (Recording.PassesEnd past _ _ _) (Recording.IsWhole fits _ _ _ _) =
+      absurd (omega (arith, past, fits))
+  taken_no_longer stands (Recording.PassesEnd past _ _ _) (Recording.IsFull fits _ _ _ _) =
+      absurd (omega (arith, past, fits))
+  taken_no_longer stands (Recording.PassesEnd past _ _ _) (Recording.IsUnmapped fits _ _ _ _ _) =
+      absurd (omega (arith, past, fits))
+
+  -- how one text is taken
+  taken_one : {text : List ℕ} {n n' answer answer' : ℕ} → TakingEnds bytes a count room text n answer
+      → TakingEnds bytes a count room text n' answer' → (n ≡ n') × (answer ≡ answer')
+  taken_one (Recording.IsWhole _ _ _ n is) (Recording.IsWhole _ _ _ n' is') = (n ∙ sym n', is ∙ sym is')
+  taken_one (Recording.IsWhole _ long _ _ _) (Recording.IsFull _ short _ _ _) = absurd (omega (arith, long, short))
+  taken_one (Recording.IsWhole _ long _ _ _) (Recording.IsUnmapped _ short _ _ _ _) = absurd (omega (arith, long, short))
+  taken_one (Recording.IsWhole fits _ _ _ _) (Recording.PassesEnd past _ _ _) = absurd (omega (arith, fits, past))
+  taken_one (Recording.IsFull _ short _ _ _) (Recording.IsWhole _ long _ _ _) = absurd (omega (arith, long, short))
+  taken_one (Recording.IsFull _ _ _ n is) (Recording.IsFull _ _ _ n' is') = (n ∙ sym n', is ∙ sym is')
+  taken_one (Recording.IsFull _ _ full _ _) (Recording.IsUnmapped _ _ more _ _ _) = absurd (omega (arith, full, more))
+  taken_one (Recording.IsFull fits _ _ _ _) (Recording.PassesEnd past _ _ _) = absurd (omega (arith, fits, past))
+  taken_one (Recording.IsUnmapped _ short _ _ _ _) (Recording.IsWhole _ long _ _ _) = absurd (omega (arith, long, short))
+  taken_one (Recording.IsUnmapped _ _ more _ _ _) (Recording.IsFull _ _ full _ _) = absurd (omega (arith, full, more))
+  taken_one (Recording.IsUnmapped _ _ _ _ n is) (Recording.IsUnmapped _ _ _ _ n' is') = (n ∙ sym n', is ∙ sym is')
+  taken_one (Recording.IsUnmapped fits _ _ _ _ _) (Recording.PassesEnd past _ _ _) = absurd (omega (arith, fits, past))
+  taken_one (Recording.PassesEnd past _ _ _) (Recording.IsWhole fits _ _ _ _) = absurd (omega (arith, fits, past))
+  taken_one (Recording.PassesEnd past _ _ _) (Recording.IsFull fits _ _ _ _) = absurd (omega (arith, fits, past))
+  taken_one (Recording.PassesEnd past _ _ _) (Recording.IsUnmapped fits _ _ _ _ _) = absurd (omega (arith, fits, past))
+  taken_one (Recording.PassesEnd _ _ n is) (Recording.PassesEnd _ _ n' is') = (n ∙ sym n', is ∙ sym is')
+
+-- what a write leaves of a record, its answer and its accesses
+record SameWrites (new new' : Vec ℕ Global) (answer answer' : ℕ) (xs xs' : List Access) : Type 0 where
+  records : AlikeRecords new new'
+  answers : answer ≡ answer'
+  accesses : xs ≡ xs'
+
+same_writes : {bytes : ByteMap} {a count answer answer' : ℕ} (old old' new new' : Vec ℕ Global)
+    {xs xs' : List Access} → AlikeRecords old old' → TakesOutput bytes a count old new answer xs → TakesOutput bytes a count old' new' answer' xs'
+    → SameWrites new new' answer answer' xs xs'
+same_writes {bytes = bytes} {a = a} {count = count} {answer' = answer'} old old' new new' alike took took' =
+    let first = took.0 in
+    let second = took'.0 in
+    let room : vec_capacity old' - length old'.items ≡ vec_capacity old - length old.items =
+    sym (λ i. alike.1 i - length (alike.0 i)) in
+    let ended' = subst (λ k. TakingEnds bytes a count k second.text second.reads answer') room second.ended in
+    let shorter : length first.text ≤ length second.text = taken_no_longer first.stands ended' first.ended in
+    let longer : length second.text ≤ length first.text = taken_no_longer second.stands first.ended ended' in
+    let text = same_text bytes a first.text second.text (omega (arith, shorter, longer)) first.stands second.stands in
+    let one = taken_one (subst (λ t. TakingEnds bytes a count (vec_capacity old - length old.items) t first.reads _) text
+    first.ended) ended' in
+    record {
+      records = (
+        first.appended ∙ (λ i. alike.0 i ++ text i) ∙ sym second.appended,
+        took.1 ∙ alike.1 ∙ sym took'.1,
+      );
+      answers = one.1;
+      accesses = first.accessed ∙ ap (byte_reads bytes a) one.0 ∙ sym second.accessed;
+    }
+
+-- ---- a read
+
+-- what was loaded
+same_loaded : {bytes new new' : ByteMap} {writable : ℕ → Bool} {a : ℕ} {text : List ℕ}
+    → Loaded bytes new writable a text → Loaded bytes new' writable a text → (x : ℕ) → new x ≡ new' x
+same_loaded {new = new} {new' = new'} {a = a} {text = text} loaded loaded' x =
+    elim (cases_lt x a) as (λ _. new x ≡ new' x) [
+      | inl below ↦ loaded.others x (inl below) ∙ sym (loaded'.others x (inl below))
+      | inr above ↦ elim (cases_lt (x - a) (length text)) as (λ _. new x ≡ new' x) [
+        | inl within ↦
+            let here : a + (x - a) ≡ x = omega (arith, above) in
+            ap new (sym here) ∙ loaded.loaded (x - a) within ∙ sym (loaded'.loaded (x - a) within) ∙ ap new' here
+        | inr behind ↦
+            let past : a + length text ≤ x = omega (arith, above, behind) in
+            loaded.others x (inr past) ∙ sym (loaded'.others x (inr past))
+      ]
+    ]
+
+module _ {writable : ℕ → Bool} {a count : ℕ} {left : List ℕ} where
+  -- of two texts that are given neither is longer
+  given_no_longer : (rest' : List ℕ) {text text' : List ℕ} {xs xs' : List Access} {answer answer' : ℕ}
+      → left ≡ text' ++ rest' → ((i : ℕ) → i < length text' → writable (a + i) ≡ true)
+      → GivingEnds writable a count left text xs answer → GivingEnds writable a count left text' xs' answer'
+      → length text' ≤ length text
+  given_no_longer rest' parts open_there (Recording.IsWhole _ long _ _) (Recording.IsWhole _ long' _ _) =
+      omega (arith, long, long')
+  given_no_longer rest' {text' = text'} parts open_there (Recording.IsWhole _ long _ _)
+      (Recording.IsRefused byte rest _ short is _ _ _) =
+      omega (arith, long, short, ap length is, length-append text' (byte ∷ rest))
+  given_no_longer rest' parts open_there _ (Recording.PassesEnd _ none _ _) = omega (arith, ap length none)
+  given_no_longer rest' {text = text} {text' = text'} parts open_there (Recording.IsRefused _ _ _ _ _ refused _ _) _ =
+      elim (cases_lt (length text) (length text')) as (λ _. length text' ≤ length text) [
+        | inl less ↦ absurd (false≢true (sym refused ∙ open_there (length text) less))
+        | inr least ↦ least
+      ]
+  given_no_longer rest' parts open_there (Recording.PassesEnd past _ _ _) (Recording.IsWhole fits _ _ _) =
+      absurd (omega (arith, past, fits))
+  given_no_longer rest' parts open_there (Recording.PassesEnd past _ _ _) (Recording.IsRefused _ _ fits _ _ _ _ _) =
+      absurd (omega (arith, past, fits))
+
+  -- how one text is given
+  given_one : {text : List ℕ} {xs xs' : List Access} {answer answer' : ℕ}
+      → GivingEnds writable a count left text xs answer → GivingEnds writable a count left text xs' answer'
+      → (xs ≡ xs') × (answer ≡ answer')
+  given_one (Recording.IsWhole _ _ xs is) (Recording.IsWhole _ _ xs' is') = (xs ∙ sym xs', is ∙ sym is')
+  given_one {text = text} (Recording.IsWhole _ long _ _) (Recording.IsRefused byte rest _ short parts _ _ _) =
+      absurd (omega (arith, long, short, ap length parts, length-append text (byte ∷ rest)))
+  given_one (Recording.IsWhole fits _ _ _) (Recording.PassesEnd past _ _ _) = absurd (omega (arith, fits, past))
+  given_one {text = text} (Recording.IsRefused byte rest _ short parts _ _ _) (Recording.IsWhole _ long _ _) =
+      absurd (omega (arith, long, short, ap length parts, length-append text (byte ∷ rest)))
+  given_one {text = text} (Recording.IsRefused byte rest _ _ parts _ xs is)
+      (Recording.IsRefused byte' rest' _ _ parts' _ xs' is') =
+      let behind = append_cancel_left text (byte ∷ rest) (byte' ∷ rest') (sym parts ∙ parts') in
+      let next : byte ≡ byte' = ap (λ l. get_or l 0 0) behind in
+      (xs ∙ ap (λ b. byte_writes writable a (text ++ b ∷ [])) next ∙ sym xs', is ∙ sym is')
+  given_one (Recording.IsRefused _ _ fits _ _ _ _ _) (Recording.PassesEnd past _ _ _) =
+      absurd (omega (arith, fits, past))
+  given_one (Recording.PassesEnd past _ _ _) (Recording.IsWhole fits _ _ _) = absurd (omega (arith, fits, past))
+  given_one (Recording.PassesEnd past _ _ _) (Recording.IsRefused _ _ fits _ _ _ _ _) =
+      absurd (omega (arith, fits, past))
+  given_one (Recording.PassesEnd _ _ xs is) (Recording.PassesEnd _ _ xs' is') = (xs ∙ sym xs', is ∙ sym is')
+
+-- what a read leaves of the input and of the memory, its answer and its accesses
+record SameReads (left left' : List ℕ) (bytes bytes' : ByteMap) (answer answer' : ℕ) (xs xs' : List Access) : Type 0 where
+  inputs : left ≡ left'
+  memories : (x : ℕ) → bytes x ≡ bytes' x
+  answers : answer ≡ answer'
+  accesses : xs ≡ xs'
+
+same_reads : {writable : ℕ → Bool} {bytes new new' : ByteMap} {a count answer answer' : ℕ}
+    {left left' after after' : List ℕ} {xs xs' : List Access} → left ≡ left'
+    → GivesText writable bytes new a count left after answer xs
+    → GivesText writable bytes new' a count left' after' answer' xs'
+    → SameReads after after' new new' answer answer' xs xs'
+same_reads {writable = writable} {bytes = bytes} {new' = new'} {a = a} {count = count} {answer = answer}
+    {answer' = answer'} {left = left} {after = after} {after' = after'} {xs = xs} {xs' = xs'} same gave gave' =
+    let text = gave.text in
+    let text' = gave'.text in
+    let parts' = same ∙ gave'.consumed in
+    let ended' = subst (λ l. GivingEnds writable a count l text' xs' answer') (sym same) gave'.ended in
+    let shorter : length text ≤ length text' =
+    given_no_longer after gave.consumed gave.loaded.writable_there ended' gave.ended in
+    let longer : length text' ≤ length text = given_no_longer after' parts' gave'.loaded.writable_there gave.ended ended' in
+    let long : length text ≡ length text' = omega (arith, shorter, longer) in
+    let front : text ≡ text' = sym (take-append_seam text after) ∙ (λ i. take (long i) (sym gave.consumed i))
+    ∙ ap (take (length text')) parts' ∙ take-append_seam text' after' in
+    let one = given_one (subst (λ t. GivingEnds writable a count left t xs answer) front gave.ended) ended' in
+    record {
+      inputs = append_cancel_left text' after after' (ap (λ t. t ++ after) (sym front) ∙ sym gave.consumed ∙ parts');
+      memories = same_loaded (subst (λ t. Loaded bytes _ writable a t) front gave.loaded) gave'.loaded;
+      answers = one.1;
+      accesses = one.0;
+    }
+
+-- ---- a call
+
+-- what a call leaves
+record SameCalls (d d' : Recording) (t t' : State) (xs xs' : List Access) (end end' : Option ℕ) : Type 0 where
+  environments : AlikeRecordings d d'
+  states : t ≡ t'
+  accesses : xs ≡ xs'
+  ends : end ≡ end'
+
+-- environments that are those that are alike
+alike_after : {d d' e e' : Recording} → d ≡ e → d' ≡ e' → AlikeRecordings e e' → AlikeRecordings d d'
+alike_after {d = d} {e' = e'} same same' alike =
+    subst (AlikeRecordings d) (sym same') (subst (λ x. AlikeRecordings x e') (sym same) alike)
+
+does_one : (request : Request) (s : State) {e e' d d' : Recording} {t t' : State} {xs xs' : List Access} {end end' : Option ℕ}
+    → AlikeRecordings e e' → Does GivesInput TakesOutput TakesOutput request e s d t xs end
+    → Does GivesInput TakesOutput TakesOutput request e' s d' t' xs' end' → SameCalls d d' t t' xs xs' end end'
+does_one (Exit status) s alike did did' = record {
+  environments = alike_after did.1 did'.1 alike;
+  states = did.2 ∙ sym did'.2;
+  accesses = did.3 ∙ sym did'.3;
+  ends = did.0 ∙ sym did'.0;
+}
+does_one (Answer answer) s alike did did' = record {
+  environments = alike_after did.1 did'.1 alike;
+  states = did.2 ∙ sym did'.2;
+  accesses = did.3 ∙ sym did'.3;
+  ends = did.0 ∙ sym did'.0;
+}
+does_one (SetBreak a) s alike did did' =
+    let heap = ap (λ h. moved h a) alike.heap in
+    record {
+      environments = alike_after did.1 did'.1 record {
+        inputs = alike.inputs;
+        outputs = alike.outputs;
+        error_outputs = alike.error_outputs;
+        heap = heap;
+        held = alike.held;
+      };
+      states = did.2 ∙ ap (λ h. answered s h.top) heap ∙ sym did'.2;
+      accesses = did.3 ∙ sym did'.3;
+      ends = did.0 ∙ sym did'.0;
+    }
+does_one (Read a count) s alike did did' =
+    let same = same_reads alike.inputs did.5 did'.5 in
+    let bytes : did.3 ≡ did'.3 = λ i x. same.memories x i in
+    record {
+      environments = alike_after did.6 did'.6 record {
+        inputs = same.inputs;
+        outputs = alike.outputs;
+        error_outputs = alike.error_outputs;
+        heap = alike.heap;
+        held = refl;
+      };
+      states = did.7 ∙ (λ i. answered (record s { bytes = bytes i }) (same.answers i)) ∙ sym did'.7;
+      accesses = same.accesses;
+      ends = did.0 ∙ sym did'.0;
+    }
+does_one (WriteOutput a count) s {e = e} {e' = e'} alike did did' =
+    let same = same_writes e.output e'.output did.0 did'.0 alike.outputs did.2 did'.2 in
+    record {
+      environments = alike_after did.3 did'.3 record {
+        inputs = alike.inputs;
+        outputs = same.records;
+        error_outputs = alike.error_outputs;
+        heap = alike.heap;
+        held = alike.held;
+      };
+      states = did.4 ∙ ap (answered s) same.answers ∙ sym did'.4;
+      accesses = same.accesses;
+      ends = did.5 ∙ ap ended_by same.answers ∙ sym did'.5;
+    }
+does_one (WriteErrors a count) s {e = e} {e' = e'} alike did did' =
+    let same = same_writes e.errors e'.errors did.0 did'.0 alike.error_outputs did.2 did'.2 in
+    record {
+      environments = alike_after did.3 did'.3 record {
+        inputs = alike.inputs;
+        outputs = alike.outputs;
+        error_outputs = same.records;
+        heap = alike.heap;
+        held = alike.held;
+      };
+      states = did.4 ∙ ap (answered s) same.answers ∙ sym did'.4;
+      accesses = same.accesses;
+      ends = did.5 ∙ ap ended_by same.answers ∙ sym did'.5;
+    }
+
+-- the calls of environments over known bytes are determined
+pub determined : IsDeterminedBy Records AlikeRecordings
+determined = record {
+  reflexive = λ e. record { inputs = refl; outputs = (refl, refl); error_outputs = (refl, refl); heap = refl; held = refl };
+  determined = λ e e' d d' s t t' xs xs' end end' alike served served'.
+      let asked = asks_one s served.asks served'.asks in
+      let does = subst (λ r. Does GivesInput TakesOutput TakesOutput r e s d t xs end) asked served.does in
+      let one = does_one served'.request s alike does served'.does in
+      (one.environments, one.states, one.accesses, one.ends);
+}
