@@ -451,20 +451,27 @@ def addresses(machine):
         page.replace("#address", text)
         page.press("Enter")
         same(f"memory at {text}", [text, "false", "", value], page.ask(state))
-    for text in ("nowhere", "10000", "-4", "0xfffffffff"):
+    def refused(text):
         page.replace("#address", text)
         page.press("Enter")
-        same(f"memory at {text}", [text, "true", nowhere, "00100293"], page.ask(state))
+        same(f"{text} is refused", [text, "true", nowhere], page.ask(state)[:3])
+
+    for text in ("nowhere", "10000", "-4", "0xfffffffff"):
+        refused(text)
+        same(f"memory stays at {text}", "00100293", page.ask(state)[3])
+    page.replace("#address", "fade")
+    page.press("Enter")
+    same("a label again, and no mark", ["fade", "false", ""], page.ask(state)[:3])
+    refused("nowhere")
     machine.leave_fields()
     machine.keys("]")
     same("a page on, and no mark", ["0x00000080", "false", ""], page.ask(state)[:3])
-    page.replace("#address", "nowhere")
-    page.press("Enter")
+    refused("nowhere")
     page.choose("#around", "sp")
     same("memory around sp, and no mark", ["false", "1234b137"],
          [page.ask(state)[1], page.ask(state)[3]])
-    page.replace("#address", "nowhere")
-    page.press("Enter")
+    # a field that is left with what it had tells no change, so this is another text
+    refused("elsewhere")
     machine.leave_fields()
     machine.choose("gcd")
     same("another program, and no mark", "false", page.ask(state)[1])
