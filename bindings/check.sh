@@ -174,9 +174,9 @@ make_refused() {
     local name flags
     for name in version old kind; do
         case $name in
-        version) flags="-DVERSION=512 -DKIND=9" ;;
-        old) flags="-DVERSION=256 -DKIND=9 -DOLD" ;;
-        kind) flags="-DVERSION=256 -DKIND=9" ;;
+        version) flags="-DVERSION=768 -DKIND=9" ;;
+        old) flags="-DVERSION=512 -DKIND=9 -DOLD" ;;
+        kind) flags="-DVERSION=512 -DKIND=9" ;;
         esac
         mkdir -p "$room/$name"
         # shellcheck disable=SC2086 # the flags are words

@@ -52,3 +52,41 @@ rrs_fault rrs_complete(rrs_hart *hart, uint32_t word, uint32_t granted, uint32_t
     (void)word, (void)granted, (void)value;
     return rrs_step(hart, 0, 0, 0);
 }
+
+rrs_fault rrs_complete_rvfi(rrs_hart *hart, uint32_t word, uint32_t granted, uint32_t value,
+                            uint64_t order, rrs_retired *retired) {
+    (void)order, (void)retired;
+    return rrs_complete(hart, word, granted, value);
+}
+
+rrs_fault rrs_step_rvfi_ialign32(rrs_hart *hart, uint32_t *words, size_t count, uint32_t base,
+                                 uint64_t order, rrs_retired *retired) {
+    return rrs_step_rvfi(hart, words, count, base, order, retired);
+}
+
+rrs_difference rrs_compare(const rrs_retired *model, const rrs_retired *core, uint32_t by_words) {
+    rrs_difference none = {0, 0, 0};
+    (void)model, (void)core, (void)by_words;
+    return none;
+}
+
+uint32_t rrs_cause(const rrs_fault *of, uint32_t pc, uint32_t word) {
+    (void)of, (void)pc, (void)word;
+    return 0;
+}
+
+size_t rrs_row_name(uint32_t row, char *text, size_t size) {
+    return rrs_disassemble(row, 0, text, size);
+}
+
+size_t rrs_fault_name(uint32_t kind, char *text, size_t size) {
+    return rrs_disassemble(kind, 0, text, size);
+}
+
+size_t rrs_register_name(uint32_t number, char *text, size_t size) {
+    return rrs_disassemble(number, 0, text, size);
+}
+
+size_t rrs_field_name(uint32_t field, char *text, size_t size) {
+    return rrs_disassemble(field, 0, text, size);
+}

@@ -177,7 +177,95 @@ static int answer_word(const char **at) {
     return 1;
 }
 
-/* `request WORD` and `complete WORD GIVEN`. Returns 0 where it is none of these. */
+static void print_record(const rrs_retired *r) {
+    printf(" order=%llu insn=", (unsigned long long)r->order);
+    if (r->fetched || r->insn != 0) printf("0x%08x", r->insn);
+    else printf("-");
+    if (r->fetched > 1) printf(" fetched=%u", r->fetched);
+    printf(" trap=%u pc_rdata=0x%08x pc_wdata=0x%08x", r->trap, r->pc_rdata, r->pc_wdata);
+    printf(" rs1_addr=%u rs1_rdata=0x%08x", r->rs1_addr, r->rs1_rdata);
+    printf(" rs2_addr=%u rs2_rdata=0x%08x", r->rs2_addr, r->rs2_rdata);
+    printf(" rd_addr=%u rd_wdata=0x%08x", r->rd_addr, r->rd_wdata);
+    printf(" mem_addr=0x%08x mem_rmask=%u mem_wmask=%u", r->mem_addr, r->mem_rmask, r->mem_wmask);
+    printf(" mem_rdata=0x%08x mem_wdata=0x%08x", r->mem_rdata, r->mem_wdata);
+}
+
+/* A name, in a buffer that is as long as it must be, and one that is a byte too short. */
+static void print_name(size_t (*name)(uint32_t, char *, size_t), uint32_t number) {
+    char text[RRS_NAME_SIZE];
+    size_t length;
+    memset(text, '#', sizeof text);
+    length = name(number, text, sizeof text);
+    if (length == 0) {
+        printf("%s", text[0] == '#' ? "none" : "changed");
+        return;
+    }
+    printf("%s", text);
+    memset(text, '#', sizeof text);
+    if (name(number, text, length) != length || text[0] != '#') printf(" changed");
+    if (name(number, text, length + 1) != length || strlen(text) != length) printf(" another");
+}
+
+/* Takes the fields of a record off, which commas separate, in the order of rrs.h. */
+static rrs_retired record_of(const char **at) {
+    rrs_retired r;
+    uint32_t *const fields[16] = {
+        &r.insn,      &r.fetched,  &r.trap,      &r.pc_rdata,  &r.pc_wdata,  &r.rs1_addr,
+        &r.rs1_rdata, &r.rs2_addr, &r.rs2_rdata, &r.rd_addr,   &r.rd_wdata,  &r.mem_addr,
+        &r.mem_rmask, &r.mem_wmask, &r.mem_rdata, &r.mem_wdata};
+    size_t i;
+    r.order = number(at);
+    for (i = 0; i < 16; i++) {
+        expect(at, ",");
+        *fields[i] = (uint32_t)number(at);
+    }
+    return r;
+}
+
+/* `name KIND NUMBER`, `cause FAULT PC WORD` and `compare BY_WORDS MODEL CORE`. Returns 0 where it is
+ * none of these. */
+static int answer_check(const char **at) {
+    if (take(at, "name row ")) {
+        print_name(rrs_row_name, (uint32_t)number(at));
+    } else if (take(at, "name fault ")) {
+        print_name(rrs_fault_name, (uint32_t)number(at));
+    } else if (take(at, "name register ")) {
+        print_name(rrs_register_name, (uint32_t)number(at));
+    } else if (take(at, "name field ")) {
+        print_name(rrs_field_name, (uint32_t)number(at));
+    } else if (take(at, "cause ")) {
+        rrs_fault fault = {0, 0, 0};
+        uint32_t pc, cause;
+        fault.kind = (uint32_t)number(at);
+        expect(at, " ");
+        pc = (uint32_t)number(at);
+        expect(at, " ");
+        cause = rrs_cause(&fault, pc, (uint32_t)number(at));
+        printf("%u", cause);
+    } else if (take(at, "compare ")) {
+        uint32_t by_words = (uint32_t)number(at);
+        rrs_retired model, core;
+        rrs_difference found;
+        expect(at, " ");
+        model = record_of(at);
+        expect(at, " ");
+        core = record_of(at);
+        found = rrs_compare(&model, &core, by_words);
+        if (found.field == RRS_SAME && (found.model | found.core) == 0) {
+            printf("same");
+        } else {
+            print_name(rrs_field_name, found.field);
+            printf(" 0x%llx 0x%llx", (unsigned long long)found.model,
+                   (unsigned long long)found.core);
+        }
+    } else {
+        return 0;
+    }
+    return 1;
+}
+
+/* `request WORD`, `complete WORD GIVEN` and `retire ORDER WORD GIVEN`, which is rrs_complete_rvfi.
+ * Returns 0 where it is none of these. */
 static int answer_access(const char **at, struct machine *machine) {
     if (take(at, "request ")) {
         uint32_t word = (uint32_t)number(at);
@@ -193,32 +281,30 @@ static int answer_access(const char **at, struct machine *machine) {
         if (access.kind == RRS_NO_ACCESS && (access.address | access.size | access.value))
             printf(" 0x%08x %u 0x%08x", access.address, access.size, access.value);
         if (access.kind == RRS_LOAD && access.value != 0) printf(" 0x%08x", access.value);
-    } else if (take(at, "complete ")) {
-        uint32_t word = (uint32_t)number(at), value = 0x5a5a5a5a;
+    } else if (strncmp(*at, "complete ", 9) == 0 || strncmp(*at, "retire ", 7) == 0) {
+        int is_record = !take(at, "complete ") && take(at, "retire ");
+        uint64_t order = is_record ? number(at) : 0;
+        uint32_t word, value = 0x5a5a5a5a, grant;
         int granted;
+        if (is_record) expect(at, " ");
+        word = (uint32_t)number(at);
         expect(at, " ");
         granted = !take(at, "-");
         if (granted) value = (uint32_t)number(at);
         take_state(at, machine);
-        /* any number but 0 grants it */
-        print_fault(rrs_complete(&machine->hart, word, granted ? 1 + (value & ~1u) : 0, value));
+        grant = granted ? 1 + (value & ~1u) : 0; /* any number but 0 grants it */
+        if (is_record) {
+            rrs_retired retired;
+            memset(&retired, '#', sizeof retired);
+            print_fault(rrs_complete_rvfi(&machine->hart, word, grant, value, order, &retired));
+            print_record(&retired);
+        } else {
+            print_fault(rrs_complete(&machine->hart, word, grant, value));
+        }
     } else {
         return 0;
     }
     return 1;
-}
-
-static void print_record(const rrs_retired *r) {
-    printf(" order=%llu insn=", (unsigned long long)r->order);
-    if (r->fetched || r->insn != 0) printf("0x%08x", r->insn);
-    else printf("-");
-    if (r->fetched > 1) printf(" fetched=%u", r->fetched);
-    printf(" trap=%u pc_rdata=0x%08x pc_wdata=0x%08x", r->trap, r->pc_rdata, r->pc_wdata);
-    printf(" rs1_addr=%u rs1_rdata=0x%08x", r->rs1_addr, r->rs1_rdata);
-    printf(" rs2_addr=%u rs2_rdata=0x%08x", r->rs2_addr, r->rs2_rdata);
-    printf(" rd_addr=%u rd_wdata=0x%08x", r->rd_addr, r->rd_wdata);
-    printf(" mem_addr=0x%08x mem_rmask=%u mem_wmask=%u", r->mem_addr, r->mem_rmask, r->mem_wmask);
-    printf(" mem_rdata=0x%08x mem_wdata=0x%08x", r->mem_rdata, r->mem_wdata);
 }
 
 /* `steps N`: as many steps, over all words from address 0 on. */
@@ -233,7 +319,8 @@ static void answer_steps(const char **at, struct machine *m) {
 
 /* The questions over memory. */
 static void answer_memory(const char **at, struct machine *m) {
-    int is_step = take(at, "step"), is_record = !is_step && take(at, "rvfi ");
+    int is_step = take(at, "step"), is_ialign32 = !is_step && take(at, "rvfi32 ");
+    int is_record = is_ialign32 || (!is_step && take(at, "rvfi "));
     int is_run = !is_step && !is_record && take(at, "run ");
     uint64_t amount;
     uint32_t *words, *stops = NULL;
@@ -252,7 +339,8 @@ static void answer_memory(const char **at, struct machine *m) {
     } else if (is_record) {
         rrs_retired retired;
         memset(&retired, '#', sizeof retired);
-        print_fault(rrs_step_rvfi(&m->hart, words, m->count, m->base, amount, &retired));
+        print_fault((is_ialign32 ? rrs_step_rvfi_ialign32 : rrs_step_rvfi)(
+            &m->hart, words, m->count, m->base, amount, &retired));
         print_record(&retired);
     } else if (is_run) {
         print_end(rrs_run(&m->hart, words, m->count, m->base, amount));
@@ -268,7 +356,7 @@ static void answer(const char *line) {
     memset(&machine, 0, sizeof machine);
     if (take(&at, "steps 0")) {
         printf("-%s", at); /* nothing is called */
-    } else if (answer_word(&at)) {
+    } else if (answer_word(&at) || answer_check(&at)) {
         if (*at != 0) fail(at);
     } else {
         if (take(&at, "steps ")) answer_steps(&at, &machine);

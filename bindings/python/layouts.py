@@ -9,6 +9,7 @@ STRUCTS = {
     "rrs_fault": rrs._Fault,
     "rrs_end": rrs._End,
     "rrs_retired": rrs._Retired,
+    "rrs_difference": rrs._Difference,
     "rrs_instruction": rrs._Instruction,
     "rrs_access": rrs._Access,
 }
@@ -22,9 +23,17 @@ for name, struct in STRUCTS.items():
 print("RRS_OK 0")
 for kind in rrs.FaultKind:
     print(f"RRS_{kind.name} {kind.value}")
+print("RRS_SAME 0")
+for field in rrs.Field:
+    print(f"RRS_FIELD_{field.name} {field.value}")
+print("RRS_ROW_ILLEGAL 0")
+for row in rrs.Row:
+    print(f"RRS_ROW_{row.name} {row.value}")
 print("RRS_NO_ACCESS 0")
 for kind in rrs.AccessKind:
     print(f"RRS_{kind.name} {kind.value}")
+print("RRS_NAME_SIZE", rrs._NAME_SIZE)
+print("RRS_NO_CAUSE", rrs._NO_CAUSE)
 print("RRS_TEXT_SIZE", rrs._TEXT_SIZE)
 print("RRS_VERSION", rrs._VERSION)
 print("RRS_VERSION_MAJOR", rrs._VERSION >> 16)

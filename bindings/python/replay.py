@@ -6,7 +6,8 @@ docs/C.md has the forms; those of rrs-replay are answered as it does.
 
 import sys
 
-from rrs import AccessKind, FaultKind, Machine, decode, disassemble
+import rrs
+from rrs import AccessKind, Fault, FaultKind, Machine, Retired, decode, disassemble
 
 NAMES = {
     FaultKind.ILLEGAL_INSTRUCTION: "IllegalInstruction",
@@ -133,6 +134,34 @@ def completed(word, given, *words):
     return told(state.machine.complete(int(word, 16), given)) + str(state)
 
 
+def retired(order, word, given, *words):
+    state = State(words)
+    given = None if given == "-" else int(given, 16)
+    fault, record = state.machine.complete_rvfi(int(word, 16), given, int(order))
+    return told(fault) + told_record(record) + str(state)
+
+
+def name(kind, number):
+    number = int(number)
+    if kind != "fault":
+        return getattr(rrs, f"{kind}_name")(number) or "none"
+    if number == 0:
+        return "no exception"  # a fault that there is not has no value here
+    return Fault(FaultKind(number), 0, 0).name if number in NAMES else "none"
+
+
+def cause(kind, pc, word):
+    if int(kind) not in NAMES:
+        return str(2**32 - 1)
+    return str(Fault(FaultKind(int(kind)), 0, 0).cause(int(pc, 16), int(word, 16)))
+
+
+def compared(by_words, *records):
+    model, core = (Retired._make(map(int, record.split(","))) for record in records)
+    found = rrs.compare(model, core, int(by_words) == 1)
+    return f"{rrs.field_name(found.field)} 0x{found.model:x} 0x{found.core:x}" if found else "same"
+
+
 def step(*words):
     state = State(words[2:], words[:2])
     return told(state.machine.step()) + str(state)
@@ -142,6 +171,12 @@ def record(order, *words):
     state = State(words[2:], words[:2])
     fault, retired = state.machine.step_rvfi(int(order))
     return told(fault) + told_record(retired) + str(state)
+
+
+def record_ialign32(order, *words):
+    state = State(words[2:], words[:2])
+    fault, told_of = state.machine.step_rvfi_ialign32(int(order))
+    return told(fault) + told_record(told_of) + str(state)
 
 
 def run(limit, *words):
@@ -161,8 +196,13 @@ QUESTIONS = {
     "steps": steps,
     "request": requested,
     "complete": completed,
+    "retire": retired,
+    "name": name,
+    "cause": cause,
+    "compare": compared,
     "step": step,
     "rvfi": record,
+    "rvfi32": record_ialign32,
     "run": run,
     "until": until,
 }

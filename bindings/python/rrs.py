@@ -21,6 +21,7 @@ import ctypes
 import enum
 import functools
 import os
+import struct
 from collections import namedtuple
 from pathlib import Path
 
@@ -33,8 +34,15 @@ __all__ = [
     "Access",
     "AccessKind",
     "Instruction",
+    "Row",
+    "Field",
+    "Difference",
+    "compare",
     "decode",
     "disassemble",
+    "row_name",
+    "register_name",
+    "field_name",
 ]
 
 _u32, _u64, _size = ctypes.c_uint32, ctypes.c_uint64, ctypes.c_size_t
@@ -61,6 +69,10 @@ class _Retired(ctypes.Structure):
             "rd_wdata mem_addr mem_rmask mem_wmask mem_rdata mem_wdata"
         ).split()
     ]
+
+
+class _Difference(ctypes.Structure):
+    _fields_ = [("model", _u64), ("core", _u64), ("field", _u32)]
 
 
 class _Instruction(ctypes.Structure):
@@ -93,7 +105,7 @@ def _function(name, result, *arguments):
 
 
 # The version of rrs.h that this module is written for: the numbers of RRS_VERSION.
-_VERSION = 0x00_01_00
+_VERSION = 0x00_02_00
 _version = _function("rrs_version", _u32)
 if _version() != _VERSION:
     raise ImportError(f"rrs.py is for version {_VERSION} of {_lib._name}, which has {_version()}")
@@ -103,12 +115,40 @@ _step = _function("rrs_step", _Fault, *_memory)
 _run = _function("rrs_run", _End, *_memory, _u64)
 _run_until = _function("rrs_run_until", _End, *_memory, _u64, _words, _size)
 _step_rvfi = _function("rrs_step_rvfi", _Fault, *_memory, _u64, ctypes.POINTER(_Retired))
+_step_rvfi_ialign32 = _function(
+    "rrs_step_rvfi_ialign32", _Fault, *_memory, _u64, ctypes.POINTER(_Retired)
+)
+_compare = _function(
+    "rrs_compare", _Difference, ctypes.POINTER(_Retired), ctypes.POINTER(_Retired), _u32
+)
+_cause = _function("rrs_cause", _u32, ctypes.POINTER(_Fault), _u32, _u32)
 _decode = _function("rrs_decode", _Instruction, _u32)
 _disassemble = _function("rrs_disassemble", _size, _u32, _u32, ctypes.c_char_p, _size)
 _request = _function("rrs_request", _Access, ctypes.POINTER(_Hart), _u32)
 _complete = _function("rrs_complete", _Fault, ctypes.POINTER(_Hart), _u32, _u32, _u32)
 
+_complete_rvfi = _function(
+    "rrs_complete_rvfi",
+    _Fault,
+    ctypes.POINTER(_Hart),
+    *(_u32, _u32, _u32, _u64),
+    ctypes.POINTER(_Retired),
+)
+_names = {
+    kind: _function(f"rrs_{kind}_name", _size, _u32, ctypes.c_char_p, _size)
+    for kind in ("row", "fault", "register", "field")
+}
+
 _TEXT_SIZE = 26
+_NAME_SIZE = 20
+_NO_CAUSE = 0xFFFFFFFF
+
+
+def _name(kind, number):
+    """The name of a number, and None where it has none."""
+    text = ctypes.create_string_buffer(_NAME_SIZE)
+    length = _names[kind](_word_of(number), text, _NAME_SIZE)
+    return text.raw[:length].decode("ascii") if length else None
 
 
 class FaultKind(enum.IntEnum):
@@ -131,6 +171,16 @@ class Fault(namedtuple("Fault", "kind address word")):
 
     __slots__ = ()
 
+    def cause(self, pc, word):
+        """The exception code that mcause has for this fault of ``word``, the word at the pc. Of
+        MISALIGNED it is 4 of a load, 6 of a store, and 0 of the pc, a jump or a branch."""
+        return _cause(ctypes.byref(_Fault(*self)), _word_of(pc), _word_of(word))
+
+    @property
+    def name(self):
+        """The name of the fault's kind, such as "illegal instruction"."""
+        return _name("fault", self.kind)
+
     def __repr__(self):
         word = f", word=0x{self.word:08x}" if self.kind == FaultKind.ILLEGAL_INSTRUCTION else ""
         return f"Fault({self.kind.name!r}, address=0x{self.address:08x}{word})"
@@ -141,6 +191,53 @@ End.__doc__ = """How a run ended: the steps, the Fault or None, and whether it i
 
 Retired = namedtuple("Retired", [name for name, _ in _Retired._fields_])
 Retired.__doc__ = """What a step retired, under the names of RVFI: rrs.h says of each what it is."""
+
+
+class Field(enum.IntEnum):
+    """The fields of a record, in the order in which they are compared."""
+
+    ORDER = 1
+    INSN = 2
+    TRAP = 3
+    PC_RDATA = 4
+    PC_WDATA = 5
+    RS1_ADDR = 6
+    RS1_RDATA = 7
+    RS2_ADDR = 8
+    RS2_RDATA = 9
+    RD_ADDR = 10
+    RD_WDATA = 11
+    MEM_ADDR = 12
+    MEM_RMASK = 13
+    MEM_WMASK = 14
+    MEM_RDATA = 15
+    MEM_WDATA = 16
+
+
+Difference = namedtuple("Difference", "field model core")
+Difference.__doc__ = """A Field in which two records differ, and what the model and the core have.
+The address and the masks of the model are as the core tells them, and of data these are the bytes
+of the mask, lowest first."""
+
+
+def compare(model, core, by_words=False):
+    """The first Difference of a core's Retired from the model's, and None where none differs.
+
+    ``by_words`` says that the core tells the address of the word that it accesses, and shifts masks
+    and data within the word. docs/C.md says which fields are compared.
+    """
+    records = [_Retired(_long_of(r[0], "order"), *map(_word_of, r[1:])) for r in (model, core)]
+    found = _compare(*map(ctypes.byref, records), bool(by_words))
+    return Difference(Field(found.field), found.model, found.core) if found.field else None
+
+
+Row = enum.IntEnum(
+    "Row",
+    "ADD SUB SLL SLT SLTU XOR SRL SRA OR AND ADDI SLLI SLTI SLTIU XORI SRLI SRAI ORI ANDI LUI AUIPC "
+    "BEQ BNE BLT BLTU BGE BGEU LB LBU LH LHU LW SB SH SW JAL JALR MUL MULH MULHU MULHSU DIV DIVU REM "
+    "REMU FENCE ECALL EBREAK",
+)
+Row.__doc__ = """The rows of the table, as decode() numbers them."""
 
 
 class AccessKind(enum.IntEnum):
@@ -157,6 +254,15 @@ bytes, and of a store the register's value, whose low bytes are stored."""
 Instruction = namedtuple("Instruction", [name for name, _ in _Instruction._fields_])
 Instruction.__doc__ = """The number of a row, 1 to 48, and its fields, 0 where its format has none.
 The immediate of ecall is 0 and of ebreak 1, and fence has any."""
+
+
+_record = struct.Struct("=Q16I")
+_fields = struct.Struct("=5Ii")
+
+
+def _retired_of(record):
+    """The record as a tuple, in one copy."""
+    return Retired._make(_record.unpack_from(record))
 
 
 def _fault_of(fault):
@@ -284,7 +390,15 @@ class Machine:
         """Executes the instruction at the pc. Returns the Fault or None, and what it Retired."""
         record = _Retired()
         fault = _step_rvfi(*self._arguments, _long_of(order, "order"), ctypes.byref(record))
-        return _fault_of(fault), Retired(*(getattr(record, name) for name in Retired._fields))
+        return _fault_of(fault), _retired_of(record)
+
+    def step_rvfi_ialign32(self, order=0):
+        """Does what step_rvfi does, but that a jump or a taken branch to an address that is no
+        multiple of 4 faults itself, as in a core whose IALIGN is 32."""
+        record = _Retired()
+        order = _long_of(order, "order")
+        fault = _step_rvfi_ialign32(*self._arguments, order, ctypes.byref(record))
+        return _fault_of(fault), _retired_of(record)
 
     def run(self, limit):
         """Makes steps until ``limit`` were made, or one faults. Returns the End."""
@@ -314,6 +428,20 @@ class Machine:
         value = 0 if given is None else _word_of(given)
         return _fault_of(_complete(self._arguments[0], _word_of(word), given is not None, value))
 
+    def complete_rvfi(self, word, given, order=0):
+        """Does what complete does. Returns the Fault or None, and what the step Retired."""
+        value = 0 if given is None else _word_of(given)
+        record = _Retired()
+        fault = _complete_rvfi(
+            self._arguments[0],
+            _word_of(word),
+            given is not None,
+            value,
+            _long_of(order, "order"),
+            ctypes.byref(record),
+        )
+        return _fault_of(fault), _retired_of(record)
+
     def __reduce__(self):
         return _restored, (type(self), bytes(self._memory), self._base, bytes(self._hart))
 
@@ -333,7 +461,7 @@ def decode(word):
     instruction = _decode(_word_of(word))
     if not instruction.row:
         return None
-    return Instruction(*(getattr(instruction, name) for name in Instruction._fields))
+    return Instruction._make(_fields.unpack_from(instruction))
 
 
 def disassemble(word, pc=0):
@@ -342,3 +470,18 @@ def disassemble(word, pc=0):
     text = ctypes.create_string_buffer(_TEXT_SIZE)
     length = _disassemble(_word_of(word), _word_of(pc), text, _TEXT_SIZE)
     return text.raw[:length].decode("ascii") if length else None
+
+
+def row_name(row):
+    """The name of a row of the table, 1 to 48, such as "addi", and None for another number."""
+    return _name("row", row)
+
+
+def register_name(number):
+    """The name of a register 0 to 31 in the ABI, such as "a0", and None for another number."""
+    return _name("register", number)
+
+
+def field_name(field):
+    """The name of a Field, such as "rd_wdata", "same" for 0, and None for another number."""
+    return _name("field", field)

@@ -159,7 +159,7 @@ class Libraries(unittest.TestCase):
     def test_refused_libraries_are_an_import_error(self):
         folder = os.environ["RRS_REFUSED"]
         for library, wanted in {
-            "version.so": f"rrs.py is for version 256 of {folder}/version.so, which has 512",
+            "version.so": f"rrs.py is for version 512 of {folder}/version.so, which has 768",
             "old.so": f"the kit's library has no rrs_request: {folder}/old.so",
             "none.so": "rrs.py can't load the kit's library: ",
         }.items():

@@ -1,7 +1,10 @@
 //! Answers questions about the kit, one a line, from standard input, over this crate alone.
 //! `docs/C.md` has the forms; those of `rrs-replay` are answered as it does.
 
-use rrs::{decode, disassemble, Access, End, Fault, Hart, Memory, Retired};
+use rrs::{
+    decode, disassemble, field_name, register_name, row_name, Access, End, Fault, Hart, Memory,
+    MemoryAccess, Retired,
+};
 use std::io::{self, BufRead, BufWriter, Write};
 
 /// What is left of a line.
@@ -139,6 +142,82 @@ fn answer_word(name: &str, line: &mut Line) -> Option<String> {
     })
 }
 
+/// The record whose fields commas separate, in the order of `rrs.h`.
+fn record_of(text: &str) -> Retired {
+    let (order, rest) = text.split_once(',').expect("an order");
+    let fields: Vec<u32> = rest.split(',').map(decimal).collect();
+    let &[insn, fetched, trap, pc_rdata, pc_wdata, rs1_addr, rs1_rdata, ref rest @ ..] = &fields[..]
+    else {
+        panic!("no record: {text}")
+    };
+    let &[rs2_addr, rs2_rdata, rd_addr, rd_wdata, addr, rmask, wmask, rdata, wdata] = rest else {
+        panic!("no record: {text}")
+    };
+    Retired {
+        order: decimal(order),
+        insn: (fetched != 0).then_some(insn),
+        trap: trap != 0,
+        pc_rdata,
+        pc_wdata,
+        rs1_addr,
+        rs1_rdata,
+        rs2_addr,
+        rs2_rdata,
+        rd_addr,
+        rd_wdata,
+        mem: MemoryAccess { addr, rmask, wmask, rdata, wdata },
+    }
+}
+
+/// A fault of a kind, if there is one.
+fn fault_of(kind: u32) -> Option<Fault> {
+    Some(match kind {
+        1 => Fault::IllegalInstruction(0, 0),
+        2 => Fault::Fetch(0),
+        3 => Fault::LoadAccess(0),
+        4 => Fault::StoreAccess(0),
+        5 => Fault::Alignment(0),
+        6 => Fault::EnvironmentCall(0),
+        7 => Fault::Breakpoint(0),
+        _ => return None,
+    })
+}
+
+/// The questions of names, causes and records.
+fn answer_check(name: &str, line: &mut Line) -> Option<String> {
+    let none = || "none".to_owned();
+    Some(match name {
+        "name" => {
+            let kind = line.word();
+            let number = decimal(line.word());
+            let text = match kind {
+                "row" => row_name(number),
+                // a fault that there is not has no value here
+                "fault" if number == 0 => return Some("no exception".to_owned()),
+                "fault" => fault_of(number).map(Fault::name),
+                "register" => register_name(number),
+                "field" => field_name(number),
+                _ => panic!("no kind of names: {kind}"),
+            };
+            text.map_or_else(none, |text| text.to_string())
+        }
+        "cause" => {
+            let fault = fault_of(decimal(line.word()));
+            let (pc, word) = (hex(line.word()), hex(line.word()));
+            fault.map_or(u32::MAX, |fault| fault.cause(pc, word)).to_string()
+        }
+        "compare" => {
+            let by_words: u32 = decimal(line.word());
+            let (model, core) = (record_of(line.word()), record_of(line.word()));
+            model.difference(&core, by_words == 1).map_or("same".to_owned(), |found| {
+                let name = field_name(found.field).map_or_else(none, |name| name.to_string());
+                format!("{name} 0x{:x} 0x{:x}", found.model, found.core)
+            })
+        }
+        _ => return None,
+    })
+}
+
 /// The questions of a word and a hart.
 fn answer_access(name: &str, line: &mut Line) -> Option<String> {
     let answer;
@@ -163,6 +242,15 @@ fn answer_access(name: &str, line: &mut Line) -> Option<String> {
             let given = line.word();
             state = line.state();
             answer = told(state.0.complete(word, (given != "-").then(|| hex(given))));
+        }
+        "retire" => {
+            let order = decimal(line.word());
+            let word = hex(line.word());
+            let given = line.word();
+            state = line.state();
+            let given = (given != "-").then(|| hex(given));
+            let (done, record) = state.0.complete_rvfi(word, given, order);
+            answer = told(done) + &told_record(&record);
         }
         _ => return None,
     }
@@ -195,6 +283,10 @@ fn answer_memory(name: &str, line: &mut Line) -> String {
             let (answer, record) = hart.step_rvfi(&mut memory, number);
             told(answer) + &told_record(&record)
         }
+        "rvfi32" => {
+            let (answer, record) = hart.step_rvfi_ialign32(&mut memory, number);
+            told(answer) + &told_record(&record)
+        }
         "run" => told_end(hart.run(&mut memory, number)),
         "until" => told_end(hart.run_until(&mut memory, number, &stops[..listed])),
         _ => panic!("no question: {name}"),
@@ -208,7 +300,9 @@ fn answer(text: &str) -> String {
     }
     let mut line = Line(text);
     let name = line.word();
-    let answer = answer_word(name, &mut line).or_else(|| answer_access(name, &mut line));
+    let answer = answer_word(name, &mut line)
+        .or_else(|| answer_check(name, &mut line))
+        .or_else(|| answer_access(name, &mut line));
     let answer = answer.unwrap_or_else(|| answer_memory(name, &mut line));
     assert!(line.0.is_empty(), "more on the line: {text}");
     answer

@@ -88,6 +88,34 @@ impl Fault {
             kind => panic!("librrs_c.a gives an exception of unknown kind {kind}"),
         }
     }
+
+    /// The fault as the library has it.
+    fn listed(self) -> sys::Fault {
+        let (kind, address, word) = match self {
+            Fault::IllegalInstruction(pc, word) => (1, pc, word),
+            Fault::Fetch(pc) => (2, pc, 0),
+            Fault::LoadAccess(address) => (3, address, 0),
+            Fault::StoreAccess(address) => (4, address, 0),
+            Fault::Alignment(address) => (5, address, 0),
+            Fault::EnvironmentCall(pc) => (6, pc, 0),
+            Fault::Breakpoint(pc) => (7, pc, 0),
+        };
+        sys::Fault { kind, address, word }
+    }
+
+    /// The exception code that `mcause` has for this fault of `word`, the word at the pc. A
+    /// misaligned address is 4 of a load, 6 of a store, and 0 of the pc, a jump or a branch.
+    pub fn cause(self, pc: u32, word: u32) -> u32 {
+        check_version();
+        unsafe { sys::rrs_cause(&self.listed(), pc, word) }
+    }
+
+    /// The name of the fault's kind, such as `illegal instruction`.
+    pub fn name(self) -> Text {
+        check_version();
+        let kind = self.listed().kind;
+        named(|text, size| unsafe { sys::rrs_fault_name(kind, text, size) }).unwrap_or(Text::EMPTY)
+    }
 }
 
 impl fmt::Display for Fault {
@@ -199,6 +227,53 @@ impl Retired {
     }
 }
 
+impl Retired {
+    /// The record as the library has it.
+    fn listed(&self) -> sys::Retired {
+        sys::Retired {
+            order: self.order,
+            insn: self.insn.unwrap_or(0),
+            fetched: self.insn.is_some().into(),
+            trap: self.trap.into(),
+            pc_rdata: self.pc_rdata,
+            pc_wdata: self.pc_wdata,
+            rs1_addr: self.rs1_addr,
+            rs1_rdata: self.rs1_rdata,
+            rs2_addr: self.rs2_addr,
+            rs2_rdata: self.rs2_rdata,
+            rd_addr: self.rd_addr,
+            rd_wdata: self.rd_wdata,
+            mem_addr: self.mem.addr,
+            mem_rmask: self.mem.rmask,
+            mem_wmask: self.mem.wmask,
+            mem_rdata: self.mem.rdata,
+            mem_wdata: self.mem.wdata,
+        }
+    }
+
+    /// The first field in which the record of a core differs from this one, and `None` where none
+    /// does. `by_words` says that the core tells the address of the word that it accesses, and
+    /// shifts masks and data within the word. `docs/C.md` says which fields are compared.
+    pub fn difference(&self, core: &Retired, by_words: bool) -> Option<Difference> {
+        check_version();
+        let found =
+            unsafe { sys::rrs_compare(&self.listed(), &core.listed(), u32::from(by_words)) };
+        let sys::Difference { model, core, field } = found;
+        (field != 0).then_some(Difference { field, model, core })
+    }
+}
+
+/// A field in which two records differ.
+#[derive(Clone, Copy, Debug, PartialEq, Eq)]
+pub struct Difference {
+    /// The number of the field, 1 to 16, which [`field_name`] names.
+    pub field: u32,
+    /// What the model has, with the address and the masks as the core tells them.
+    pub model: u64,
+    /// What the core has; of data the bytes of the mask, lowest first.
+    pub core: u64,
+}
+
 /// An instruction. A field that its format does not have is 0. `ecall`, `ebreak` and `fence` have
 /// the I format, and so an immediate: 0, 1, and any.
 #[repr(C)]
@@ -239,6 +314,9 @@ impl Text {
     /// Room for the text of every word, with the 0 that the library writes after it.
     const SIZE: usize = 26;
 
+    /// No text.
+    const EMPTY: Text = Text { bytes: [0; Text::SIZE], length: 0 };
+
     /// The text.
     pub fn as_str(&self) -> &str {
         str::from_utf8(&self.bytes[..self.length]).unwrap_or_default()
@@ -258,7 +336,7 @@ impl fmt::Debug for Text {
 }
 
 /// The version of the library that this crate is written for, as [`version`] gives it.
-pub const VERSION: u32 = 0x00_01_00;
+pub const VERSION: u32 = 0x00_02_00;
 
 /// Compares the version of the library with that of this crate, until they were equal once.
 fn check_version() {
@@ -323,6 +401,23 @@ impl Hart {
         (answer_of(fault), Retired::of(record))
     }
 
+    /// Does what [`Hart::step_rvfi`] does, but that a jump or a taken branch to an address that is
+    /// no multiple of 4 faults itself, as in a core whose IALIGN is 32.
+    pub fn step_rvfi_ialign32(
+        &mut self,
+        memory: &mut Memory<'_>,
+        order: u64,
+    ) -> (Result<(), Fault>, Retired) {
+        check_version();
+        let Memory { words, base } = memory;
+        let (words, count) = (words.as_mut_ptr(), words.len());
+        let mut record = sys::Retired::default();
+        let fault = unsafe {
+            sys::rrs_step_rvfi_ialign32(self, words, count, *base, order, &mut record)
+        };
+        (answer_of(fault), Retired::of(record))
+    }
+
     /// The load or the store that `word`, the word at the pc, asks for, and `None` where it asks
     /// for none.
     ///
@@ -353,6 +448,22 @@ impl Hart {
         let (granted, value) = given.map_or((0, 0), |value| (1, value));
         answer_of(unsafe { sys::rrs_complete(self, word, granted, value) })
     }
+
+    /// Does what [`Hart::complete`] does, and tells what the step retired, under this number.
+    pub fn complete_rvfi(
+        &mut self,
+        word: u32,
+        given: Option<u32>,
+        order: u64,
+    ) -> (Result<(), Fault>, Retired) {
+        check_version();
+        let (granted, value) = given.map_or((0, 0), |value| (1, value));
+        let mut record = sys::Retired::default();
+        let fault = unsafe {
+            sys::rrs_complete_rvfi(self, word, granted, value, order, &mut record)
+        };
+        (answer_of(fault), Retired::of(record))
+    }
 }
 
 /// The instruction that a word is, and `None` for an illegal instruction.
@@ -369,6 +480,30 @@ pub fn disassemble(word: u32, pc: u32) -> Option<Text> {
     let mut bytes = [0; Text::SIZE];
     let length = unsafe { sys::rrs_disassemble(word, pc, bytes.as_mut_ptr(), bytes.len()) };
     (length != 0).then_some(Text { bytes, length })
+}
+
+/// The name that a function of the library puts into a buffer.
+fn named(name: impl FnOnce(*mut u8, usize) -> usize) -> Option<Text> {
+    check_version();
+    let mut bytes = [0; Text::SIZE];
+    let length = name(bytes.as_mut_ptr(), bytes.len());
+    (length != 0).then_some(Text { bytes, length })
+}
+
+/// The name of a row of the table, 1 to 48, such as `addi`; `None` for another number.
+pub fn row_name(row: u32) -> Option<Text> {
+    named(|text, size| unsafe { sys::rrs_row_name(row, text, size) })
+}
+
+/// The name of a register 0 to 31 in the ABI, such as `a0`; `None` for another number.
+pub fn register_name(number: u32) -> Option<Text> {
+    named(|text, size| unsafe { sys::rrs_register_name(number, text, size) })
+}
+
+/// The name of a field of a record, 1 to 16, such as `rd_wdata`, and `same` of 0; `None` for
+/// another number.
+pub fn field_name(field: u32) -> Option<Text> {
+    named(|text, size| unsafe { sys::rrs_field_name(field, text, size) })
 }
 
 /// The version of the library: 65536 times the major number, plus 256 times the minor one, plus the

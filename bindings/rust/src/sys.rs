@@ -39,6 +39,13 @@ pub struct Retired {
 }
 
 #[repr(C)]
+pub struct Difference {
+    pub model: u64,
+    pub core: u64,
+    pub field: u32,
+}
+
+#[repr(C)]
 pub struct Access {
     pub fault: Fault,
     pub kind: u32,
@@ -68,8 +75,30 @@ extern "C" {
         order: u64,
         retired: *mut Retired,
     ) -> Fault;
+    pub fn rrs_step_rvfi_ialign32(
+        hart: *mut Hart,
+        words: *mut u32,
+        count: usize,
+        base: u32,
+        order: u64,
+        retired: *mut Retired,
+    ) -> Fault;
+    pub fn rrs_compare(model: *const Retired, core: *const Retired, by_words: u32) -> Difference;
+    pub fn rrs_cause(fault: *const Fault, pc: u32, word: u32) -> u32;
     pub fn rrs_decode(word: u32) -> crate::Instruction;
     pub fn rrs_disassemble(word: u32, pc: u32, text: *mut u8, size: usize) -> usize;
+    pub fn rrs_row_name(row: u32, text: *mut u8, size: usize) -> usize;
+    pub fn rrs_fault_name(kind: u32, text: *mut u8, size: usize) -> usize;
+    pub fn rrs_register_name(number: u32, text: *mut u8, size: usize) -> usize;
+    pub fn rrs_field_name(field: u32, text: *mut u8, size: usize) -> usize;
     pub fn rrs_request(hart: *const Hart, word: u32) -> Access;
     pub fn rrs_complete(hart: *mut Hart, word: u32, granted: u32, value: u32) -> Fault;
+    pub fn rrs_complete_rvfi(
+        hart: *mut Hart,
+        word: u32,
+        granted: u32,
+        value: u32,
+        order: u64,
+        retired: *mut Retired,
+    ) -> Fault;
 }

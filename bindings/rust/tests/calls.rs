@@ -46,7 +46,7 @@ fn texts_are_shown_as_strings_are() {
         "  beq x1, x2, 0x80000008|\"beq x1, x2, 0x80000008\""
     );
     assert!(decode(0xffff_ffff).is_none() && disassemble(0xffff_ffff, 0).is_none());
-    assert_eq!((version(), VERSION), (256, 256));
+    assert_eq!((version(), VERSION), (512, 512));
 }
 
 #[test]

@@ -38,6 +38,7 @@ fn the_structs_are_those_of_the_header() {
     listed!(lines, "rrs_retired", sys::Retired, order insn fetched trap pc_rdata pc_wdata rs1_addr
         rs1_rdata rs2_addr rs2_rdata rd_addr rd_wdata mem_addr mem_rmask mem_wmask mem_rdata
         mem_wdata);
+    listed!(lines, "rrs_difference", sys::Difference, model core field);
     listed!(lines, "rrs_instruction", Instruction, row rd rs1 rs2 shamt imm);
     listed!(lines, "rrs_access", sys::Access, fault kind address size value);
     lines.push(format!("RRS_VERSION {VERSION}"));

@@ -34,7 +34,7 @@ extern "C" {
 /* The version of this interface. rrs_version() gives that of the library that is linked: the two
  * are equal where the header belongs to it. */
 #define RRS_VERSION_MAJOR 0
-#define RRS_VERSION_MINOR 1
+#define RRS_VERSION_MINOR 2
 #define RRS_VERSION_PATCH 0
 #define RRS_VERSION (65536u * RRS_VERSION_MAJOR + 256u * RRS_VERSION_MINOR + RRS_VERSION_PATCH)
 
@@ -115,11 +115,115 @@ typedef struct rrs_retired {
 rrs_fault rrs_step_rvfi(rrs_hart *hart, uint32_t *words, size_t count, uint32_t base,
                         uint64_t order, rrs_retired *retired);
 
+/* Does what rrs_step_rvfi does, for a core whose IALIGN is 32, one without instructions of 16 bits: a
+ * jump or a taken branch to an address that is no multiple of 4 raises RRS_MISALIGNED itself, with
+ * that address, and the hart stays at it. rrs_step_rvfi has the jump succeed, and the next step
+ * raise the exception. */
+rrs_fault rrs_step_rvfi_ialign32(rrs_hart *hart, uint32_t *words, size_t count, uint32_t base,
+                                 uint64_t order, rrs_retired *retired);
+
+/* The fields of a record that rrs_compare compares, in its order. */
+enum rrs_field {
+    RRS_SAME = 0, /* No field differs. */
+    RRS_FIELD_ORDER = 1,
+    RRS_FIELD_INSN = 2,
+    RRS_FIELD_TRAP = 3,
+    RRS_FIELD_PC_RDATA = 4,
+    RRS_FIELD_PC_WDATA = 5,
+    RRS_FIELD_RS1_ADDR = 6,
+    RRS_FIELD_RS1_RDATA = 7,
+    RRS_FIELD_RS2_ADDR = 8,
+    RRS_FIELD_RS2_RDATA = 9,
+    RRS_FIELD_RD_ADDR = 10,
+    RRS_FIELD_RD_WDATA = 11,
+    RRS_FIELD_MEM_ADDR = 12,
+    RRS_FIELD_MEM_RMASK = 13,
+    RRS_FIELD_MEM_WMASK = 14,
+    RRS_FIELD_MEM_RDATA = 15,
+    RRS_FIELD_MEM_WDATA = 16
+};
+
+/* A field in which the records of the model and of a core differ. */
+typedef struct rrs_difference {
+    uint64_t model; /* What the model has, with the address and the masks as the core tells them. */
+    uint64_t core;  /* What the core has; of data the bytes of the mask, lowest first. */
+    uint32_t field; /* One of enum rrs_field, RRS_SAME where none differs; then both are 0. */
+} rrs_difference;
+
+/* The first field in which a core's record differs from the model's. `by_words` is 1 where the core
+ * tells the address of the word that it accesses, and shifts masks and data within the word. Any
+ * other number says that it tells the first byte's address. `fetched` of the core is not looked at.
+ * docs/C.md has the table of what is compared: a source register may be left out by 0 in a step that
+ * traps and in fence; mem_addr is compared where the model accesses memory, and data by the bytes of
+ * the model's mask. */
+rrs_difference rrs_compare(const rrs_retired *model, const rrs_retired *core, uint32_t by_words);
+
+/* Where rrs_cause has no exception. */
+#define RRS_NO_CAUSE 0xffffffffu
+
+/* The exception code that mcause has for a fault of the instruction `word`, the word at the pc that
+ * is given: 0 to 7 or 11, and RRS_NO_CAUSE for RRS_OK. RRS_MISALIGNED is 4 of a load, 6 of a store,
+ * and 0 of a misaligned pc, a jump or a branch. */
+uint32_t rrs_cause(const rrs_fault *fault, uint32_t pc, uint32_t word);
+
+/* The rows of the table, as rrs_decode numbers them. */
+enum rrs_row {
+    RRS_ROW_ILLEGAL = 0,
+    RRS_ROW_ADD = 1,
+    RRS_ROW_SUB = 2,
+    RRS_ROW_SLL = 3,
+    RRS_ROW_SLT = 4,
+    RRS_ROW_SLTU = 5,
+    RRS_ROW_XOR = 6,
+    RRS_ROW_SRL = 7,
+    RRS_ROW_SRA = 8,
+    RRS_ROW_OR = 9,
+    RRS_ROW_AND = 10,
+    RRS_ROW_ADDI = 11,
+    RRS_ROW_SLLI = 12,
+    RRS_ROW_SLTI = 13,
+    RRS_ROW_SLTIU = 14,
+    RRS_ROW_XORI = 15,
+    RRS_ROW_SRLI = 16,
+    RRS_ROW_SRAI = 17,
+    RRS_ROW_ORI = 18,
+    RRS_ROW_ANDI = 19,
+    RRS_ROW_LUI = 20,
+    RRS_ROW_AUIPC = 21,
+    RRS_ROW_BEQ = 22,
+    RRS_ROW_BNE = 23,
+    RRS_ROW_BLT = 24,
+    RRS_ROW_BLTU = 25,
+    RRS_ROW_BGE = 26,
+    RRS_ROW_BGEU = 27,
+    RRS_ROW_LB = 28,
+    RRS_ROW_LBU = 29,
+    RRS_ROW_LH = 30,
+    RRS_ROW_LHU = 31,
+    RRS_ROW_LW = 32,
+    RRS_ROW_SB = 33,
+    RRS_ROW_SH = 34,
+    RRS_ROW_SW = 35,
+    RRS_ROW_JAL = 36,
+    RRS_ROW_JALR = 37,
+    RRS_ROW_MUL = 38,
+    RRS_ROW_MULH = 39,
+    RRS_ROW_MULHU = 40,
+    RRS_ROW_MULHSU = 41,
+    RRS_ROW_DIV = 42,
+    RRS_ROW_DIVU = 43,
+    RRS_ROW_REM = 44,
+    RRS_ROW_REMU = 45,
+    RRS_ROW_FENCE = 46,
+    RRS_ROW_ECALL = 47,
+    RRS_ROW_EBREAK = 48
+};
+
 /* An instruction. A field that its format does not have is 0. The format of fence, ecall and ebreak
  * is I: the imm of ecall is 0 and of ebreak 1, and fence has any rd, rs1 and imm. */
 typedef struct rrs_instruction {
-    uint32_t row;   /* The number of its row in the table, 1 (add) to 48 (ebreak), or 0 for an
-                     * illegal instruction. */
+    uint32_t row;   /* One of enum rrs_row: its number in the table, 1 (add) to 48 (ebreak), or 0
+                     * for an illegal instruction. */
     uint32_t rd;    /* The register that is written, by the format. */
     uint32_t rs1;   /* The first register that is read. */
     uint32_t rs2;   /* The second register that is read. */
@@ -139,6 +243,21 @@ rrs_instruction rrs_decode(uint32_t word);
  * the length of the text without the 0, whether it had room or not: at most RRS_TEXT_SIZE - 1, and
  * 0 for an illegal instruction. What follows the 0 in the buffer is left as it was. */
 size_t rrs_disassemble(uint32_t word, uint32_t pc, char *text, size_t size);
+
+/* Room for every name below, with the 0 that ends it. */
+#define RRS_NAME_SIZE 20
+
+/* Each writes a name, and a 0 after it, where the `size` bytes at `text` have room for both, and
+ * else nothing. It returns the length of the name without the 0, whether it had room or not, and 0
+ * where the number has no name.
+ * - rrs_row_name: of enum rrs_row, as in the text of an instruction: "addi"
+ * - rrs_fault_name: of enum rrs_fault_kind: "illegal instruction"
+ * - rrs_register_name: of a register 0 to 31, in the ABI: "zero", "ra", .. "t6"
+ * - rrs_field_name: of enum rrs_field: "rd_wdata", and "same" of RRS_SAME */
+size_t rrs_row_name(uint32_t row, char *text, size_t size);
+size_t rrs_fault_name(uint32_t kind, char *text, size_t size);
+size_t rrs_register_name(uint32_t number, char *text, size_t size);
+size_t rrs_field_name(uint32_t field, char *text, size_t size);
 
 /* Memory and devices that the caller keeps, in place of words: C reads the word at the pc, asks
  * which access its instruction makes, makes it, and completes the step with what came of it. No
@@ -167,6 +286,12 @@ rrs_access rrs_request(const rrs_hart *hart, uint32_t word);
  * here. Of a store, and where there is no access, `value` is not looked at; where there is none
  * `granted` isn't either. */
 rrs_fault rrs_complete(rrs_hart *hart, uint32_t word, uint32_t granted, uint32_t value);
+
+/* Does what rrs_complete does, and says in *retired what the step retired, under the number
+ * `order`. mem_rdata is what was loaded, the bytes of the mask alone, not extended; an access that
+ * is refused is none in the record. */
+rrs_fault rrs_complete_rvfi(rrs_hart *hart, uint32_t word, uint32_t granted, uint32_t value,
+                            uint64_t order, rrs_retired *retired);
 
 /* The layout that the library has been built with. */
 #if defined(__cplusplus) && __cplusplus >= 201103L
@@ -207,6 +332,10 @@ RRS_ASSERT(retired_mem_rmask, offsetof(rrs_retired, mem_rmask) == 56);
 RRS_ASSERT(retired_mem_wmask, offsetof(rrs_retired, mem_wmask) == 60);
 RRS_ASSERT(retired_mem_rdata, offsetof(rrs_retired, mem_rdata) == 64);
 RRS_ASSERT(retired_mem_wdata, offsetof(rrs_retired, mem_wdata) == 68);
+RRS_ASSERT(size_of_difference, sizeof(rrs_difference) == 24);
+RRS_ASSERT(difference_model, offsetof(rrs_difference, model) == 0);
+RRS_ASSERT(difference_core, offsetof(rrs_difference, core) == 8);
+RRS_ASSERT(difference_field, offsetof(rrs_difference, field) == 16);
 RRS_ASSERT(size_of_instruction, sizeof(rrs_instruction) == 24);
 RRS_ASSERT(instruction_row, offsetof(rrs_instruction, row) == 0);
 RRS_ASSERT(instruction_rd, offsetof(rrs_instruction, rd) == 4);

@@ -1,2 +1,5 @@
 -- Lemmas of the exports.
 mod Carrying
+mod Jumping
+mod Logged
+mod Naming

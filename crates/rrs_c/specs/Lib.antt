@@ -13,3 +13,8 @@ pub mod Listing
 pub mod Records
 pub mod Buffers
 pub mod Asking
+pub mod Completing
+pub mod Comparing
+pub mod Causes
+pub mod Names
+pub mod Jumps

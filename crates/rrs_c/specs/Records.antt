@@ -1,5 +1,5 @@
 -- What a step retired, as C has it.
-use Rattle.std.specs.Prelude.{◌≡◌, ◌<◌, ◌==◌, if◌then◌else◌, Some, None}
+use Rattle.std.specs.Prelude.{◌≡◌, ◌<◌, ◌==◌, if◌then◌else◌, true, Some, None}
 use Rattle.rrs_trace.specs.declared.traced.MemoryAccess.{MemoryAccess}
 use Rattle.rrs_trace.specs.declared.retired.Retired.{Retired}
 use Rattle.rrs_c.specs.declared.retired.RrsRetired.{RrsRetired}
@@ -36,3 +36,9 @@ retired_in r = record {
   rd_wdata = r.rd_wdata;
   mem = access_in r;
 }
+
+-- ---- of the code
+
+-- the record of a step that raises an exception in place of one that is Ok
+abbrev pub refused : Retired → Retired
+refused r = record r { trap = true; pc_wdata = r.pc_rdata; rd_addr = 0; rd_wdata = 0 }

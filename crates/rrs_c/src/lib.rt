@@ -11,13 +11,18 @@
 #![tactic(auto)]
 
 mod access;
+mod causes;
+mod comparison;
+mod completed;
 mod hart;
 mod instruction;
+mod jumps;
 mod lent;
+mod names;
 mod retired;
 mod text;
 
-ghost use Rattle.std.specs.Prelude.{◌≡◌, ◌<◌, List, length, slice_index, OnErr};
+ghost use Rattle.std.specs.Prelude.{◌≡◌, ◌<◌, ◌==◌, List, length, slice_index, OnErr};
 ghost use Rattle.rrs_lib.specs.Encodings.{Fields};
 ghost use Rattle.rrs_lib.specs.Table.{Row, Decodes, IsIllegal};
 ghost use Rattle.rrs_lib.specs.Steps.{Step, IsOnlyStep, ChangesLittle, RunUntil, IsOnlyRunUntil, cleared};
@@ -29,28 +34,40 @@ ghost use Rattle.rrs_c.specs.Records.{retired_in, IsRecord};
 ghost use Rattle.rrs_c.specs.Buffers.{Disassembles};
 ghost use Rattle.rrs_trace.specs.Outside.{WithEachMemory, AccessesAfterFetch, requested, Foretells, Completes};
 ghost use Rattle.rrs_c.specs.Asking.{request_answer, IsAccess, given};
+ghost use Rattle.rrs_c.specs.Completing.{CompletesRetiring};
+ghost use Rattle.rrs_c.specs.Jumps.{StepAtJump, IsOnlyStepAtJump};
+ghost use Rattle.rrs_c.specs.Causes.{IsCode};
+ghost use Rattle.rrs_c.specs.Comparing.{first_different, record_fields};
+ghost use Rattle.rrs_c.specs.Names.{PutsRowName, PutsName, named, fault_names, register_names, field_names};
 
 use access::{RrsAccess, access_or_fault, given_by};
+use causes::code_of;
+use comparison::{RrsDifference, first_difference};
+use completed::complete_retired;
 use hart::{
-    RrsEnd, RrsFault, RrsHart, close, end_of_run, end_of_stop, fault_of_answer, number_of, opened,
+    RrsEnd, RrsFault, RrsHart, close, end_of_run, end_of_stop, fault_of, fault_of_answer,
+    number_of, opened,
 };
 use instruction::{RrsInstruction, listed, nothing};
+use jumps::jumps_aside;
 use lent::{run_lent, run_until_lent, step_lent, step_retired_lent};
-use retired::{RrsRetired, written_out};
+use names::{fault_name, field_name, put_name, register_name, row_name};
+use retired::{RrsRetired, refused, written_out};
 use rrs_lib::disassembly::Disassembled;
 use rrs_lib::instruction::decode;
+use rrs_lib::instruction_executor::InstructionException;
 use rrs_lib::memories::SliceMemory;
 use rrs_trace::{complete, request};
 use text::put_text;
 
 /// The version of this interface, 65536 times the major number plus 256 times the minor one plus
-/// the patch: 0.1.0.
-const VERSION: u32 = 256;
+/// the patch: 0.2.0.
+const VERSION: u32 = 512;
 
 /// The version of this interface.
 #[unsafe(no_mangle)]
 pub extern "C" fn rrs_version() -> u32
-    ensures { result ≡ 256 }
+    ensures { result ≡ 512 }
 {
     VERSION
 }
@@ -148,6 +165,44 @@ pub extern "C" fn rrs_step_rvfi(
     fault_of_answer(end.answer)
 }
 
+/// Makes a step of a machine whose jumps and taken branches to a misaligned address raise the
+/// exception themselves, as IALIGN 32 has it, and tells what it retired, under this number. All
+/// other steps are those of `rrs_step_rvfi`. The exception's address is the one that the jump goes
+/// to, and after it the hart and the words are as before.
+#[unsafe(no_mangle)]
+pub extern "C" fn rrs_step_rvfi_ialign32(
+    hart: &mut RrsHart,
+    words: &mut [u32],
+    base: u32,
+    order: u64,
+    retired: &mut RrsRetired,
+) -> RrsFault
+    ensures step { StepAtJump (state_in_c hart.old base words.old)
+        (state_in_c hart.new base words.new) (answer_of result) }
+    ensures only { IsOnlyStepAtJump (state_in_c hart.old base words.old)
+        (state_in_c hart.new base words.new) (answer_of result) }
+    ensures retires { Retires order (state_in_c hart.old base words.old)
+        (state_in_c hart.new base words.new) (answer_of result) (retired_in retired.new) }
+    ensures record { IsRecord retired.new }
+    ensures told { IsFault result }
+    ensures last { hart.new.last < 32 }
+    ensures entry_zero { slice_index hart.new.x 0 ≡ slice_index hart.old.x 0 }
+{
+    let before = hart.x;
+    let mut memory = SliceMemory { words, base };
+    let (end, seen) = step_retired_lent(&mut memory, &mut hart.x, hart.pc, order);
+    if jumps_aside(&end) {
+        hart.x = before;
+        hart.last = 0;
+        *retired = written_out(&refused(&seen));
+        return fault_of(Some(InstructionException::AlignmentFault(end.pc)));
+    }
+    hart.pc = end.pc;
+    hart.last = number_of(end.last_register_write);
+    *retired = written_out(&seen);
+    fault_of_answer(end.answer)
+}
+
 /// The instruction that a word is: the number of its row and its fields, and row 0 for an illegal
 /// instruction.
 #[unsafe(no_mangle)]
@@ -204,4 +259,86 @@ pub extern "C" fn rrs_complete(hart: &mut RrsHart, word: u32, granted: u32, valu
     let answer = complete(&mut state, word, given_by(granted, value));
     close(&state, hart);
     fault_of_answer(answer)
+}
+
+/// Does what `rrs_complete` does, and tells what the step retired, under this number. A load or a
+/// store that is refused is none in the record.
+#[unsafe(no_mangle)]
+pub extern "C" fn rrs_complete_rvfi(
+    hart: &mut RrsHart,
+    word: u32,
+    granted: u32,
+    value: u32,
+    order: u64,
+    retired: &mut RrsRetired,
+) -> RrsFault
+    ensures step { Completes (hart_in hart.old) (hart_in hart.new) word (given granted value)
+        (answer_of result) }
+    ensures retires { CompletesRetiring order (hart_in hart.old) (hart_in hart.new) word
+        (given granted value) (answer_of result) (retired_in retired.new) }
+    ensures record { IsRecord retired.new }
+    ensures told { IsFault result }
+    ensures last { hart.new.last < 32 }
+    ensures entry_zero { slice_index hart.new.x 0 ≡ slice_index hart.old.x 0 }
+{
+    let mut state = opened(hart);
+    let (answer, seen) = complete_retired(&mut state, word, given_by(granted, value), order);
+    close(&state, hart);
+    *retired = written_out(&seen);
+    fault_of_answer(answer)
+}
+
+/// The exception code of the machine cause register for a fault of the word at this pc: 0 to 7 or
+/// 11, and 0xffffffff where there is no exception.
+#[unsafe(no_mangle)]
+pub extern "C" fn rrs_cause(fault: &RrsFault, pc: u32, word: u32) -> u32
+    ensures { IsCode (exception_of fault.now) pc word result }
+{
+    code_of(fault, pc, word)
+}
+
+/// The first field in which the record of a core differs from that of the kit, and what each has;
+/// field 0 where none differs. `by_words` is 1 where the core tells the address of the word that it
+/// accesses, and shifts masks and data within it, and any other number where it tells the first
+/// byte's.
+#[unsafe(no_mangle)]
+pub extern "C" fn rrs_compare(model: &RrsRetired, core: &RrsRetired, by_words: u32) -> RrsDifference
+    ensures { result ≡ first_different (record_fields (by_words == 1) model.now core.now) }
+{
+    first_difference(by_words == 1, model, core)
+}
+
+/// Writes the name of a row, such as `addi`, and a 0 after it, where the buffer has room for both.
+/// Returns the length of the name without the 0, whether it had room or not, and 0 where there is
+/// no such row.
+#[unsafe(no_mangle)]
+pub extern "C" fn rrs_row_name(row: u32, buffer: &mut [u8]) -> usize
+    ensures { PutsRowName row buffer.old buffer.new result }
+{
+    put_name(row_name(row), buffer)
+}
+
+/// Writes the name of a kind of exception as `rrs_row_name` does.
+#[unsafe(no_mangle)]
+pub extern "C" fn rrs_fault_name(kind: u32, buffer: &mut [u8]) -> usize
+    ensures { PutsName (named fault_names kind) buffer.old buffer.new result }
+{
+    put_name(fault_name(kind), buffer)
+}
+
+/// Writes the name of a register in the ABI as `rrs_row_name` does.
+#[unsafe(no_mangle)]
+pub extern "C" fn rrs_register_name(register: u32, buffer: &mut [u8]) -> usize
+    ensures { PutsName (named register_names register) buffer.old buffer.new result }
+{
+    put_name(register_name(register), buffer)
+}
+
+/// Writes the name of a field of a record, such as `rd_wdata`, as `rrs_row_name` does. Field 0 is
+/// `same`.
+#[unsafe(no_mangle)]
+pub extern "C" fn rrs_field_name(field: u32, buffer: &mut [u8]) -> usize
+    ensures { PutsName (named field_names field) buffer.old buffer.new result }
+{
+    put_name(field_name(field), buffer)
 }

@@ -2,7 +2,7 @@
 
 ghost use Rattle.std.specs.Prelude.{◌≡◌, ◌<◌, ◌==◌, Some, None, if◌then◌else◌};
 ghost use Rattle.rrs_trace.specs.Retired.{HasRegisterNumbers};
-ghost use Rattle.rrs_c.specs.Records.{retired_in, IsRecord};
+ghost use Rattle.rrs_c.specs.Records.{retired_in, refused, IsRecord};
 
 use rrs_trace::Retired;
 
@@ -66,6 +66,20 @@ fn flag(value: bool) -> u32
     ensures flag { result < 2 }
 {
     if value { 1 } else { 0 }
+}
+
+/// The record of a jump that is refused in place of being retired.
+#[inline]
+pub(crate) fn refused(seen: &Retired) -> Retired
+    ensures { result ≡ refused seen.now }
+{
+    Retired {
+        trap: true,
+        pc_wdata: seen.pc_rdata,
+        rd_addr: 0,
+        rd_wdata: 0,
+        ..*seen
+    }
 }
 
 /// The record of C that a record of the kit is.
