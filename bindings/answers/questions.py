@@ -146,6 +146,9 @@ class Questions:
             yield f"request {hexed(word)} {state}"
             yield f"complete {hexed(word)} {hexed(self.value())} {state}"
             yield f"complete {hexed(word)} - {state}"
+            order = self.random.choice(ORDERS)
+            yield f"retire {order} {hexed(word)} {hexed(self.value())} {state}"
+            yield f"retire {order} {hexed(word)} - {state}"
 
     def steps(self):
         for row in ROWS * 2:
@@ -166,6 +169,17 @@ class Questions:
         for pc in (0, 0x80000002, 0xFFFFFFFC, 0x80000008):
             state = self.state(pc, 0, [0x13, 0x13])
             yield f"rvfi {2**40 + pc} at=0x80000000 part=0:2 {state}"
+            yield f"rvfi32 {2**40 + pc} at=0x80000000 part=0:2 {state}"
+
+    def jumps(self):
+        """Jumps and branches, to addresses that are misaligned and to others."""
+        for number, row in enumerate(ROWS):
+            base, at, state = self.program(lambda: self.word([row]), 1)
+            yield f"rvfi32 {ORDERS[number % len(ORDERS)]} {at} {state}"
+        rows = [row for row in ROWS if row[0] & 0x7F in (0x63, 0x67, 0x6F)]
+        for number in range(160):
+            base, at, state = self.program(lambda: self.word([rows[number % len(rows)]]), 1)
+            yield f"rvfi32 {number} {at} {state}"
 
     def runs(self):
         """Programs whose jumps go forward alone, so that they end; and loops, up to a limit."""
@@ -226,7 +240,7 @@ class Questions:
 def main():
     questions = Questions(20261124)
     for kind in (questions.fields, questions.texts, questions.requests, questions.steps,
-                 questions.records, questions.runs, questions.ends_of_addresses):
+                 questions.records, questions.jumps, questions.runs, questions.ends_of_addresses):
         for line in kind():
             print(line)
 

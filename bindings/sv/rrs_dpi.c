@@ -78,6 +78,32 @@ void rrs_dpi_set_pc(void *handle, uint32_t pc) {
     model->hart.pc = pc;
 }
 
+/* Gives the fields of the latest record, and returns the kind of its exception. */
+static uint32_t give(const struct rrs_dpi *model, uint32_t *insn, uint32_t *trap,
+                     uint32_t *pc_rdata, uint32_t *pc_wdata, uint32_t *rs1_addr,
+                     uint32_t *rs1_rdata, uint32_t *rs2_addr, uint32_t *rs2_rdata,
+                     uint32_t *rd_addr, uint32_t *rd_wdata, uint32_t *mem_addr,
+                     uint32_t *mem_rmask, uint32_t *mem_wmask, uint32_t *mem_rdata,
+                     uint32_t *mem_wdata) {
+    const rrs_retired *record = &model->record;
+    *insn = record->insn;
+    *trap = record->trap;
+    *pc_rdata = record->pc_rdata;
+    *pc_wdata = record->pc_wdata;
+    *rs1_addr = record->rs1_addr;
+    *rs1_rdata = record->rs1_rdata;
+    *rs2_addr = record->rs2_addr;
+    *rs2_rdata = record->rs2_rdata;
+    *rd_addr = record->rd_addr;
+    *rd_wdata = record->rd_wdata;
+    *mem_addr = record->mem_addr;
+    *mem_rmask = record->mem_rmask;
+    *mem_wmask = record->mem_wmask;
+    *mem_rdata = record->mem_rdata;
+    *mem_wdata = record->mem_wdata;
+    return model->fault.kind;
+}
+
 /* rrs_step_rvfi, whose record comes in as many arguments. Returns the kind of the exception. */
 uint32_t rrs_dpi_step(void *handle, unsigned long long order, uint32_t *insn, uint32_t *trap,
                       uint32_t *pc_rdata, uint32_t *pc_wdata, uint32_t *rs1_addr,
@@ -86,25 +112,84 @@ uint32_t rrs_dpi_step(void *handle, unsigned long long order, uint32_t *insn, ui
                       uint32_t *mem_rmask, uint32_t *mem_wmask, uint32_t *mem_rdata,
                       uint32_t *mem_wdata) {
     struct rrs_dpi *model = handle;
-    rrs_retired retired;
-    rrs_fault fault = rrs_step_rvfi(&model->hart, model->words, model->count, model->base, order,
-                                    &retired);
-    *insn = retired.insn;
-    *trap = retired.trap;
-    *pc_rdata = retired.pc_rdata;
-    *pc_wdata = retired.pc_wdata;
-    *rs1_addr = retired.rs1_addr;
-    *rs1_rdata = retired.rs1_rdata;
-    *rs2_addr = retired.rs2_addr;
-    *rs2_rdata = retired.rs2_rdata;
-    *rd_addr = retired.rd_addr;
-    *rd_wdata = retired.rd_wdata;
-    *mem_addr = retired.mem_addr;
-    *mem_rmask = retired.mem_rmask;
-    *mem_wmask = retired.mem_wmask;
-    *mem_rdata = retired.mem_rdata;
-    *mem_wdata = retired.mem_wdata;
-    return fault.kind;
+    model->fault = rrs_step_rvfi(&model->hart, model->words, model->count, model->base, order,
+                                 &model->record);
+    return give(model, insn, trap, pc_rdata, pc_wdata, rs1_addr, rs1_rdata, rs2_addr, rs2_rdata,
+                rd_addr, rd_wdata, mem_addr, mem_rmask, mem_wmask, mem_rdata, mem_wdata);
+}
+
+/* rrs_step_rvfi_ialign32, in the same way. */
+uint32_t rrs_dpi_step_ialign32(void *handle, unsigned long long order, uint32_t *insn,
+                               uint32_t *trap, uint32_t *pc_rdata, uint32_t *pc_wdata,
+                               uint32_t *rs1_addr, uint32_t *rs1_rdata, uint32_t *rs2_addr,
+                               uint32_t *rs2_rdata, uint32_t *rd_addr, uint32_t *rd_wdata,
+                               uint32_t *mem_addr, uint32_t *mem_rmask, uint32_t *mem_wmask,
+                               uint32_t *mem_rdata, uint32_t *mem_wdata) {
+    struct rrs_dpi *model = handle;
+    model->fault = rrs_step_rvfi_ialign32(&model->hart, model->words, model->count, model->base,
+                                          order, &model->record);
+    return give(model, insn, trap, pc_rdata, pc_wdata, rs1_addr, rs1_rdata, rs2_addr, rs2_rdata,
+                rd_addr, rd_wdata, mem_addr, mem_rmask, mem_wmask, mem_rdata, mem_wdata);
+}
+
+/* rrs_complete_rvfi, in the same way. */
+uint32_t rrs_dpi_complete_rvfi(void *handle, uint32_t word, uint32_t granted, uint32_t value,
+                               unsigned long long order, uint32_t *insn, uint32_t *trap,
+                               uint32_t *pc_rdata, uint32_t *pc_wdata, uint32_t *rs1_addr,
+                               uint32_t *rs1_rdata, uint32_t *rs2_addr, uint32_t *rs2_rdata,
+                               uint32_t *rd_addr, uint32_t *rd_wdata, uint32_t *mem_addr,
+                               uint32_t *mem_rmask, uint32_t *mem_wmask, uint32_t *mem_rdata,
+                               uint32_t *mem_wdata) {
+    struct rrs_dpi *model = handle;
+    model->fault = rrs_complete_rvfi(&model->hart, word, granted, value, order, &model->record);
+    return give(model, insn, trap, pc_rdata, pc_wdata, rs1_addr, rs1_rdata, rs2_addr, rs2_rdata,
+                rd_addr, rd_wdata, mem_addr, mem_rmask, mem_wmask, mem_rdata, mem_wdata);
+}
+
+/* rrs_compare, of the latest record with a core's. Returns the number of the field. */
+uint32_t rrs_dpi_compare(void *handle, uint32_t by_words, unsigned long long order, uint32_t insn,
+                         uint32_t trap, uint32_t pc_rdata, uint32_t pc_wdata, uint32_t rs1_addr,
+                         uint32_t rs1_rdata, uint32_t rs2_addr, uint32_t rs2_rdata,
+                         uint32_t rd_addr, uint32_t rd_wdata, uint32_t mem_addr,
+                         uint32_t mem_rmask, uint32_t mem_wmask, uint32_t mem_rdata,
+                         uint32_t mem_wdata, unsigned long long *own, unsigned long long *other) {
+    const struct rrs_dpi *model = handle;
+    rrs_retired core = {order,     insn,      1,         trap,      pc_rdata, pc_wdata,
+                        rs1_addr,  rs1_rdata, rs2_addr,  rs2_rdata, rd_addr,  rd_wdata,
+                        mem_addr,  mem_rmask, mem_wmask, mem_rdata, mem_wdata};
+    rrs_difference found = rrs_compare(&model->record, &core, by_words);
+    *own = found.model;
+    *other = found.core;
+    return found.field;
+}
+
+/* rrs_cause of the latest exception. */
+uint32_t rrs_dpi_cause(void *handle, uint32_t pc, uint32_t word) {
+    const struct rrs_dpi *model = handle;
+    return rrs_cause(&model->fault, pc, word);
+}
+
+/* A name, up to the next call over this instance, and "" where there is none. */
+static const char *named(struct rrs_dpi *model, size_t (*name)(uint32_t, char *, size_t),
+                         uint32_t number) {
+    if (name(number, model->text, sizeof model->text) == 0) model->text[0] = 0;
+    return model->text;
+}
+
+const char *rrs_dpi_row_name(void *handle, uint32_t row) {
+    return named(handle, rrs_row_name, row);
+}
+
+const char *rrs_dpi_fault_name(void *handle, uint32_t kind) {
+    return named(handle, rrs_fault_name, kind);
+}
+
+const char *rrs_dpi_register_name(void *handle, uint32_t number) {
+    return named(handle, rrs_register_name, number);
+}
+
+const char *rrs_dpi_field_name(void *handle, uint32_t field) {
+    return named(handle, rrs_field_name, field);
 }
 
 /* rrs_request. Returns the kind of the exception before any access. */

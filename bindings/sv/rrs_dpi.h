@@ -12,7 +12,9 @@ struct rrs_dpi {
     uint32_t base;   /* the address of the first word */
     uint32_t count;  /* how many words */
     uint32_t *words;
-    char text[RRS_TEXT_SIZE]; /* what rrs_dpi_text gave */
+    rrs_retired record; /* what the latest step retired, also one that was completed */
+    rrs_fault fault;    /* the exception of the latest step */
+    char text[RRS_TEXT_SIZE]; /* the latest text or name */
 };
 
 /* The word of memory at an address, or NULL where there is none. */
