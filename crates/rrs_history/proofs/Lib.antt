@@ -4,3 +4,4 @@ mod NotedAccesses
 mod Undoing
 -- Lemmas of histories.
 mod Remembering
+mod Carrying

@@ -22,7 +22,7 @@ choose-append : (b : Bool) (s : State) (xs ys zs : List State) → zs ≡ xs ++ 
 choose-append true s xs ys zs e = ap (λ l. s ∷ l) e
 choose-append false s xs ys zs e = e
 
-past-append : (xs ys : List Change) (t : State) → past (xs ++ ys) t ≡ past xs t ++ past ys (all_undone xs t)
+pub past-append : (xs ys : List Change) (t : State) → past (xs ++ ys) t ≡ past xs t ++ past ys (all_undone xs t)
 past-append [] ys t = refl
 past-append (c ∷ cs) ys t =
     choose-append c.starts (undone c t) (past cs (undone c t)) (past ys (all_undone cs (undone c t))) _ (past-append cs ys (undone c t))
@@ -37,11 +37,11 @@ past_length [] t = omega arith
 past_length (c ∷ cs) t = choose-length c.starts (undone c t) (past cs (undone c t)) (length cs) (past_length cs (undone c t))
 
 -- a change with which a step begins leads to the state before it
-past-starts : (c : Change) (cs : List Change) (s t : State) → c.starts ≡ true → undone c t ≡ s → past (c ∷ cs) t ≡ s ∷ past cs s
+pub past-starts : (c : Change) (cs : List Change) (s t : State) → c.starts ≡ true → undone c t ≡ s → past (c ∷ cs) t ≡ s ∷ past cs s
 past-starts c cs s t starts same =
     ap (λ b. if b then undone c t ∷ past cs (undone c t) else past cs (undone c t)) starts ∙ ap (λ x. x ∷ past cs x) same
 
-past-part : (c : Change) (cs : List Change) (t : State) → c.starts ≡ false → past (c ∷ cs) t ≡ past cs (undone c t)
+pub past-part : (c : Change) (cs : List Change) (t : State) → c.starts ≡ false → past (c ∷ cs) t ≡ past cs (undone c t)
 past-part c cs t part = ap (λ b. if b then undone c t ∷ past cs (undone c t) else past cs (undone c t)) part
 
 -- ---- a change that is kept
@@ -66,10 +66,10 @@ remembers old new s t c starts undoes kept same within =
 -- ---- a step that ended in an exception
 
 -- the same but for the pc and the last written register
-record Alike (s t : State) : Type 0 where
-  registers : t.registers ≡ s.registers
-  bytes : t.bytes ≡ s.bytes
-  writable : t.writable ≡ s.writable
+pub record Alike (s t : State) : Type 0 where
+  pub registers : t.registers ≡ s.registers
+  pub bytes : t.bytes ≡ s.bytes
+  pub writable : t.writable ≡ s.writable
 
 alike_one : (b : Bool) (c : Change) (cs : List Change) (s t : State) → c.starts ≡ b → Alike s t
     → (Alike (undone c s) (undone c t) → past cs (undone c t) ≡ past cs (undone c s)) → past (c ∷ cs) t ≡ past (c ∷ cs) s
@@ -88,7 +88,7 @@ alike_one false c cs s t part a rest =
       writable = a.writable;
     }) ∙ sym (past-part c cs s part)
 
-alike_past : (cs : List Change) (s t : State) → Alike s t → past cs t ≡ past cs s
+pub alike_past : (cs : List Change) (s t : State) → Alike s t → past cs t ≡ past cs s
 alike_past [] s t a = refl
 alike_past (c ∷ cs) s t a = alike_one c.starts c cs s t refl a (alike_past cs (undone c s) (undone c t))
 

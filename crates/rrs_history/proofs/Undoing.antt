@@ -10,11 +10,11 @@ use Rattle.rrs_history.specs.declared.change.Change.{Change}
 use Rattle.rrs_history.specs.Changes.{put_back, stored_back, last_before, undone, number_in, value_in}
 
 -- the entries after the first one
-dropped : (xs : List ℕ) (r : ℕ) → slice_index (drop 1 xs) r ≡ slice_index xs (suc r)
+pub dropped : (xs : List ℕ) (r : ℕ) → slice_index (drop 1 xs) r ≡ slice_index xs (suc r)
 dropped [] r = refl
 dropped (x ∷ xs) r = refl
 
-dropped_length : (xs : List ℕ) → length xs ≡ 32 → length (drop 1 xs) ≡ 31
+pub dropped_length : (xs : List ℕ) → length xs ≡ 32 → length (drop 1 xs) ≡ 31
 dropped_length [] e = absurd (omega (arith, e))
 dropped_length (x ∷ xs) e = omega (arith, e)
 

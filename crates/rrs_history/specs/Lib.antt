@@ -7,5 +7,6 @@ pub use Rattle.rrs_lib.specs.Accesses
 -- What a step changed, and the states that a history leads back to.
 pub mod Changes
 pub mod Histories
+pub mod Calls
 -- The code as seen by these.
 pub mod Noting

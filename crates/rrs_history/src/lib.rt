@@ -4,16 +4,19 @@
 //! [History] keeps the latest changes, to a bound that its owner sets: [step_recorded] is a step
 //! that it keeps, and [step_back] takes the latest one back. Registers, pc, last written register
 //! and bytes are then as they were before it, over every memory that keeps its laws. What a device
-//! keeps beside its bytes is not taken back.
+//! keeps beside its bytes is not taken back. [step_served] is for a program that calls its
+//! environment: it keeps a call with what the call wrote.
 //!
-//! What a change takes back is written in `specs/Changes.antt`, and which states a history leads
-//! back to in `specs/Histories.antt`.
+//! What a change takes back is written in `specs/Changes.antt`, which states a history leads back
+//! to in `specs/Histories.antt`, and what a call adds in `specs/Calls.antt`.
 
 #![tactic(auto)]
 
+mod calls;
 mod change;
 mod history;
 mod noting;
 
+pub use calls::{RecordedMemory, step_served};
 pub use change::{Change, step_noted, step_noted_parts, undo};
 pub use history::{History, step_back, step_recorded};
