@@ -1,9 +1,13 @@
 //! Steps that are taken back, as in a debugger of `docs/HOSTS.md`.
 
-use rrs_history::{History, step_back, step_recorded};
+ghost use Rattle.std.specs.Prelude.{List, Option};
+ghost use Rattle.rrs_lib.specs.Machine.{State};
+
+use rrs_env::Environment;
+use rrs_history::{History, step_back, step_recorded, step_served};
 use rrs_lib::instruction_executor::InstructionExecutor;
 use rrs_lib::memories::VecMemory;
-use rrs_lib::{HartState, Memory};
+use rrs_lib::{HartState, MemAccessSize, Memory};
 use rrs_test_machines::hart_of;
 use rrs_trace::Snapshot;
 use std::alloc::AllocError;
@@ -95,5 +99,57 @@ fn a_history_keeps_what_it_has_room_for(rt: HostRuntime) -> Result<(), Fail> {
         }
         assert_eq!(rt; (kept, hart.pc), (*steps, *pc));
     }
+    Ok(())
+}
+
+/// An environment whose calls write two words and two registers.
+#[derive(Drop)]
+struct Scribe;
+
+impl Environment for Scribe {
+    ghost serves = { λ e s e' t accesses answer. Unit {0} };
+
+    fn serve<M: Memory>(&mut self, executor: &mut InstructionExecutor<M>) -> Option<u32> {
+        let _first = executor
+            .mem
+            .write_mem(0x20, MemAccessSize::Word, 0x1122_3344);
+        let _second = executor
+            .mem
+            .write_mem(0x20, MemAccessSize::Word, 0x5566_7788);
+        executor.hart_state.write_register(11, 9);
+        executor.hart_state.write_register(10, 3);
+        None
+    }
+}
+
+/// Makes a step, which may be a call, and returns whether it was `Ok`.
+fn serve<M: Memory>(mem: &mut M, hart_state: &mut HartState, history: &mut History) -> bool {
+    let mut executor = InstructionExecutor { mem, hart_state };
+    step_served(&mut executor, &mut Scribe, history).is_ok()
+}
+
+// A call is one step, and what it wrote is taken back.
+#[test]
+fn a_call_is_taken_back(rt: HostRuntime) -> Result<(), Fail> {
+    let mut words = PROGRAM.to_vec(rt.alloc())?;
+    words[2] = 0x73; // ecall
+    let mut memory = VecMemory::new(words);
+    let mut hart = hart_of(0, &[(10, 8)]);
+    let mut history = History::new(rt.alloc(), 20)?;
+    let mut before = Vec::new(rt.alloc());
+    for _ in 0..9 {
+        let now = moment_of(&memory, &hart)?;
+        if serve(&mut memory, &mut hart, &mut history) {
+            before.push(now)?;
+        }
+    }
+    let mut after = Vec::new(rt.alloc());
+    for _ in 0..9 {
+        if back(&mut memory, &mut hart, &mut history) {
+            after.push(moment_of(&memory, &hart)?)?;
+        }
+    }
+    before.reverse();
+    assert!(rt; before.len() == 7 && after == before);
     Ok(())
 }
