@@ -11,7 +11,7 @@ use Rattle.rrs_cli.specs.Failures as Failures
 use Rattle.rrs_commands.specs.declared.ending.Refusal.{Refusal}
 use Rattle.rrs_commands.specs.declared.ending.Refusal.TheVariants.{SourceErrors, UnreadableSource, LargeSource, LargeProgram, WrongLimit, Image, IsElf, Failed}
 use Rattle.rrs_commands.specs.declared.subcommands.Task.{Task}
-use Rattle.rrs_commands.specs.declared.subcommands.Task.TheVariants.{Run, Execute, Assemble, Help}
+use Rattle.rrs_commands.specs.declared.subcommands.Task.TheVariants.{Execute}
 
 abbrev pub signal_of : InstructionException → ℕ
 signal_of (IllegalInstruction pc word) = 4  -- SIGILL

@@ -5,3 +5,4 @@ pub use Rattle.rrs_cli.specs.Faults
 pub mod Quiet
 pub mod Execution
 pub mod Endings
+pub mod Requests
