@@ -15,7 +15,7 @@ ghost use Rattle.rrs_lib.specs.Bytes.{EndsAtLastAddress};
 ghost use Rattle.rrs_env.specs.Serving.{Served, IsOnlyServed, IsDeterminedBy, IsOnlyAlike, MakesSome};
 ghost use Rattle.rrs_env.specs.Rounds.{RoundOf, StepsWithin};
 
-use rrs_fast::DecodeCache;
+use rrs_fast::Runner;
 use rrs_lib::Memory;
 use rrs_lib::instruction_executor::{InstructionException, InstructionExecutor};
 
@@ -80,8 +80,8 @@ enum Round {
 }
 
 /// Makes steps up to a call, and serves it.
-fn serve_next<M: Memory, E: Environment>(
-    cache: &mut DecodeCache,
+fn serve_next<M: Memory, R: Runner<M>, E: Environment>(
+    runner: &mut R,
     executor: &mut InstructionExecutor<M>,
     environment: &mut E,
     limit: u64,
@@ -96,7 +96,7 @@ fn serve_next<M: Memory, E: Environment>(
     ensures ends { 1 ≤ limit → executor.old.hart_state.now.pc % 4 ≡ 0
         → EndsAtLastAddress (M.bytes executor.old.mem.now) (M.writable executor.old.mem.now) }
 {
-    let end = cache.run(executor, limit);
+    let end = runner.run(executor, limit);
     let Some(exception) = end.exception else {
         return Round::Ended(end.steps, Ending::Limit);
     };
@@ -117,10 +117,11 @@ fn serve_next<M: Memory, E: Environment>(
 
 /// Makes steps up to `limit`, to an exception, or until the environment ends the program.
 ///
-/// Steps are made as by `run`, over the cache that is lent. At an `ecall` the environment serves
-/// the call, once, and a program that goes on does so at the next instruction, pc + 4 modulo 2^32.
-/// Each `ecall` that is served counts as a step, so that a program that does nothing but call ends
-/// too. With limit 0 nothing changes and no call is served.
+/// Steps are made by the runner that is lent: a `DecodeCache`, which each run between two calls
+/// clears, or `OwnCache` over a `CachedMemory`, whose words stay known. At an `ecall` the environment
+/// serves the call, once, and a program that goes on does so at the next instruction, pc + 4 modulo
+/// 2^32. Each `ecall` that is served counts as a step, so that a program that does nothing but call
+/// ends too. With limit 0 nothing changes and no call is served.
 ///
 /// The clauses: from the machine and the environment before, a chain of runs and calls, each within
 /// what is left of the limit, leads to those after, and exactly its accesses are made, those of the
@@ -130,8 +131,8 @@ fn serve_next<M: Memory, E: Environment>(
 /// leads to an environment that is alike (`only_alike`); what is no part of the state stays
 /// (`rest`). Where the first step fetches, nothing is mapped or writable from 2^32 on (`ends`), as
 /// by `run`.
-pub fn run_served<M: Memory, E: Environment>(
-    cache: &mut DecodeCache,
+pub fn run_served<M: Memory, R: Runner<M>, E: Environment>(
+    runner: &mut R,
     executor: &mut InstructionExecutor<M>,
     environment: &mut E,
     limit: u64,
@@ -157,7 +158,7 @@ pub fn run_served<M: Memory, E: Environment>(
 {
     let mut steps = 0;
     'rounds: loop {
-        match serve_next(cache, executor, environment, limit - steps) {
+        match serve_next(runner, executor, environment, limit - steps) {
             Round::GoneOn(more) => {
                 steps += more;
             }
