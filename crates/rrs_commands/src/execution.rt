@@ -8,7 +8,8 @@ use rrs_cli::command::{Failure, open_file};
 use rrs_cli::fault::RunFault;
 use rrs_cli::loading::load;
 use rrs_env::{Ending, ServedEnd, run_served};
-use rrs_fast::DecodeCache;
+use rrs_exec::DECODED_WORDS;
+use rrs_fast::{CachedMemory, OwnCache};
 use rrs_lib::HartState;
 use rrs_lib::instruction_executor::InstructionExecutor;
 use rrs_linux::Linux;
@@ -44,15 +45,16 @@ pub fn execute<P: Read, R: Read, W: Write, E: Write>(
         (StopsLoadInto 262144 (P.remaining program.old) (P.remaining program.new)) }
     ensures kept { OnErr result (environment.new ≡ environment.old) }
 {
-    let mut memory = load(alloc, WORDS, program)?;
+    let memory = load(alloc, WORDS, program)?;
+    let mut cached: CachedMemory<_, DECODED_WORDS> = CachedMemory::new(memory);
     let mut hart = HartState::new();
     hart.registers[2] = MEMORY_END;
     let mut executor = InstructionExecutor {
-        mem: &mut memory,
+        mem: &mut cached,
         hart_state: &mut hart,
     };
-    let mut cache = DecodeCache::new();
-    let ServedEnd { steps: _, ending } = run_served(&mut cache, &mut executor, environment, limit);
+    let runner = &mut OwnCache;
+    let ServedEnd { steps: _, ending } = run_served(runner, &mut executor, environment, limit);
     Ok(ending)
 }
 

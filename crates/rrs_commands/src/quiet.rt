@@ -7,14 +7,15 @@ use rrs_cli::fault::RunFault;
 use rrs_cli::loading::load;
 use rrs_cli::report::print_ending;
 use rrs_cli::simulation::WORDS;
-use rrs_fast::DecodeCache;
+use rrs_exec::DECODED_WORDS;
+use rrs_fast::{CachedMemory, run_cached};
 use rrs_lib::HartState;
 use rrs_lib::instruction_executor::InstructionExecutor;
 use std::alloc::Global;
 use std::io::{Read, Write};
 
 /// Runs the reader's bytes as `simulate` does, and prints how the run ended and the registers, but
-/// no instruction. The run is one call, over a cache of decoded words.
+/// no instruction. The run is one call, over a memory that keeps decoded words.
 ///
 /// # Errors
 ///
@@ -35,12 +36,13 @@ pub fn simulate_quietly<R: Read, W: Write>(
         (R.remaining reader.old) (R.remaining reader.new)
         (W.contents out.old) (W.contents out.new)) }
 {
-    let mut memory = load(alloc, WORDS, reader)?;
+    let memory = load(alloc, WORDS, reader)?;
+    let mut cached: CachedMemory<_, DECODED_WORDS> = CachedMemory::new(memory);
     let mut hart = HartState::new();
     let mut executor = InstructionExecutor {
-        mem: &mut memory,
+        mem: &mut cached,
         hart_state: &mut hart,
     };
-    let end = DecodeCache::new().run(&mut executor, limit);
+    let end = run_cached(&mut executor, limit);
     print_ending(alloc, &end, executor.hart_state, out)
 }

@@ -7,5 +7,5 @@
 
 mod process;
 
-pub use process::{ProcessEnd, execute_process};
+pub use process::{DECODED_WORDS, ProcessEnd, execute_process};
 pub use rrs_process::ImageError;

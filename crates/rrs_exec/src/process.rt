@@ -7,7 +7,7 @@ ghost use Rattle.rrs_lib.specs.SliceBytes.{slice_bytes, slice_writable};
 
 use rrs_elf::Executable;
 use rrs_env::{Ending, ServedEnd, run_served};
-use rrs_fast::DecodeCache;
+use rrs_fast::{CachedMemory, OwnCache};
 use rrs_lib::HartState;
 use rrs_lib::instruction_executor::InstructionExecutor;
 use rrs_lib::memories::SliceMemory;
@@ -15,6 +15,10 @@ use rrs_linux::{Heap, Linux};
 use rrs_process::{Image, ImageError, Layout, ProtectedMemory, fill, image_of};
 use std::alloc::Global;
 use std::io::{Read, Write};
+
+/// How many decoded words a process's memory has room for: those of loops of 64 KiB. They take
+/// 320 KiB of stack.
+pub const DECODED_WORDS: usize = 16_384;
 
 /// How a process ended.
 #[derive(Debug, PartialEq, Drop)]
@@ -107,13 +111,13 @@ fn run_image<R: Read, W: Write, E: Write>(
     } = image;
     environment.heap = Heap::new(layout.heap_start, layout.heap_end);
     let mut hart = started(entry, stack_pointer);
-    let mut protected = ProtectedMemory { memory, marks };
+    let protected = ProtectedMemory { memory, marks };
+    let mut cached: CachedMemory<_, DECODED_WORDS> = CachedMemory::new(protected);
     let mut executor = InstructionExecutor {
-        mem: &mut protected,
+        mem: &mut cached,
         hart_state: &mut hart,
     };
-    let mut cache = DecodeCache::new();
-    let ServedEnd { steps, ending } = run_served(&mut cache, &mut executor, environment, limit);
+    let ServedEnd { steps, ending } = run_served(&mut OwnCache, &mut executor, environment, limit);
     let pc = executor.hart_state.pc;
     ProcessEnd { ending, steps, pc }
 }

@@ -1,8 +1,9 @@
-use Rattle.std.proofs.Common.{◌≡◌, ℕ, List, [], Option, Result, IfErr, refl}
+use Rattle.std.proofs.Common.{◌≡◌, ℕ, List, [], Option, Result, IfErr, refl, subst}
 use Rattle.std.specs.Io.KnownBytes.{Appends}
 use Rattle.std.proofs.lemmas.Result.{err_from_is_err_and, on_ok_weaker}
 use Rattle.rrs_lib.specs.declared.instruction_executor.InstructionException.{InstructionException}
-use Rattle.rrs_lib.specs.Machine.{State}
+use Rattle.rrs_lib.specs.Machine.{State, state_of}
+use Rattle.rrs_lib.specs.declared.memories.VecMemory.{VecMemory}
 use Rattle.rrs_lib.specs.Executor.{state_in}
 use Rattle.rrs_lib.specs.Steps.{RunUntil}
 use Rattle.rrs_lib.specs.VecBytes.{vec_bytes, vec_writable}
@@ -46,9 +47,10 @@ returns g c =
       pc = c.new-hart.ensures.pc;
       last = c.new-hart.ensures.last;
     } in
-    let end = c.run-end.result in
-    let last = state_in vec_bytes vec_writable c.run-end.new.executor in
-    let made : RunUntil c.args.limit (ready_state new hart) end.steps end.exception last = c.run-end.ensures.run in
+    let end = c.run_cached-end.result in
+    let last = state_in vec_bytes vec_writable c.run_cached-end.new.executor in
+    let P : VecMemory → Type 0 = λ m. RunUntil c.args.limit (state_of hart (vec_bytes m) (vec_writable m)) end.steps end.exception last in
+    let made : RunUntil c.args.limit (ready_state new hart) end.steps end.exception last = subst P c.new-cached.ensures c.run_cached-end.ensures.run in
     record {
       account = on_ok_weaker c.print_ending.result
           (λ printed. run_printed (QuietAccountOf c.args.limit) _ _ new hart _ _ ready (ending_printed _ _ _ _ _ _ _ made printed))

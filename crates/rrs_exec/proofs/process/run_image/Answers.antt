@@ -1,9 +1,10 @@
 -- The served run begins in the image, with the heap that was set.
 use Rattle.std.proofs.Common.{subst, ℕ}
-use Rattle.rrs_lib.specs.Machine.{State}
+use Rattle.rrs_lib.specs.Machine.{State, state_of}
 use Rattle.rrs_lib.specs.Executor.{state_in}
 use Rattle.rrs_lib.specs.SliceBytes.{slice_bytes, slice_writable}
 use Rattle.rrs_process.specs.Protection.{bytes_under, writable_under, protected_bytes, protected_writable}
+use Rattle.rrs_process.specs.declared.protected.ProtectedMemory.{ProtectedMemory}
 use Rattle.rrs_env.specs.Serving.{Served}
 use Rattle.rrs_linux.specs.declared.Heap.{Heap}
 use Rattle.rrs_linux.specs.SystemCalls.{Serves}
@@ -21,10 +22,13 @@ returns g c =
     let last = state_in protected_bytes protected_writable c.run_served-steps.new.executor in
     let P : Heap → State → Type 0 = λ heap s.
     Served (Serves g.R.Read.remaining g.W.Write.contents g.E.Write.contents) end.ending c.run_served-steps.new.environment last c.args.limit (record c.args.environment.now { heap = heap }) s end.steps served.accesses in
+    let hart = c.started-hart.result in
+    let Q : ProtectedMemory → Type 0 = λ m. P c.new-environment.result (state_of hart (protected_bytes m) (protected_writable m)) in
+    let these = subst Q c.new-cached.ensures served.these in
     let from = started image.entry image.stack_pointer bytes writable in
     record {
       end = last;
       steps = end.steps;
       accesses = served.accesses;
-      served = subst (λ heap. P heap from) c.new-environment.ensures (subst (P c.new-environment.result) (c.started-hart.ensures bytes writable) served.these);
+      served = subst (λ heap. P heap from) c.new-environment.ensures (subst (P c.new-environment.result) (c.started-hart.ensures bytes writable) these);
     }
