@@ -198,7 +198,7 @@ c_refuses() {
 rust() {
     local folder=$1
     shift
-    CARGO_TARGET_DIR=$room/rust RUSTFLAGS=-Dwarnings RRS_LIB=$folder \
+    CARGO_TARGET_DIR=$room/rust RUSTFLAGS=-Dwarnings RRS_LIB_DIR=$folder \
         cargo "$@" --offline --quiet --manifest-path "$here/rust/Cargo.toml"
 }
 
@@ -206,7 +206,7 @@ rust() {
 rust_passes() {
     local count=$1 passed folder=$2
     shift 2
-    CARGO_TARGET_DIR=$room/rust RUSTFLAGS=-Dwarnings RRS_LIB=$folder \
+    CARGO_TARGET_DIR=$room/rust RUSTFLAGS=-Dwarnings RRS_LIB_DIR=$folder \
         cargo test --offline --manifest-path "$here/rust/Cargo.toml" "$@" >"$room/printed" 2>&1 ||
         { cat "$room/printed"; return 1; }
     passed=$(sed -n 's/^test result: ok\. \([0-9]*\) passed.*/\1/p' "$room/printed" | paste -sd+)

@@ -9,8 +9,8 @@ End(steps=3, fault=Fault('FETCH_FAULT', address=0x0000000c), at_stop=False)
 >>> disassemble(0x003100b3)
 'add x1, x2, x3'
 
-The library is the file that the environment's RRS_LIBRARY names, or ``crates/rrs_c/out/librrs.so``
-of the repository that this module stands in. The import is an ImportError where it can't be loaded,
+The library is the file that the environment's RRS_LIBRARY names; or ``librrs.so`` beside this module,
+as the wheel has it; or ``crates/rrs_c/out/librrs.so`` of the repository that it stands in. The import is an ImportError where it can't be loaded,
 or has another version than this module.
 
 Only one thread at a time may use a machine, its registers and its memory: a call lets other threads
@@ -85,9 +85,10 @@ class _Access(ctypes.Structure):
 
 def _library():
     here = Path(__file__).resolve().parent
-    default = here / "../../crates/rrs_c/out/librrs.so"
+    beside, default = here / "librrs.so", here / "../../crates/rrs_c/out/librrs.so"
+    path = beside if beside.exists() else default.resolve()
     try:
-        return ctypes.CDLL(os.environ.get("RRS_LIBRARY") or str(default.resolve()))
+        return ctypes.CDLL(os.environ.get("RRS_LIBRARY") or str(path))
     except OSError as error:
         raise ImportError(f"rrs.py can't load the kit's library: {error}") from error
 
