@@ -3,10 +3,10 @@
 ghost use Rattle.std.specs.Prelude.{◌<◌, ◌^◌};
 
 use rrs_extra::PagedMemory;
-use rrs_fast::DecodeCache;
+use rrs_fast::{CachedMemory, DecodeCache, run_cached};
 use rrs_lib::instruction_executor::{InstructionExecutor, RunEnd};
 use rrs_lib::memories::{BoxedMemory, MemorySpace, VecMemory};
-use rrs_lib::{HartState, Memory};
+use rrs_lib::{HartState, MemAccessSize, Memory};
 use rrs_test_machines::hart_of;
 use std::alloc::{AllocError, Global};
 use std::process::Abort;
@@ -139,6 +139,33 @@ fn run_in_box(cache: &mut DecodeCache, alloc: Global, change: &Change) -> Result
     Ok(run_once(cache, &mut BoxedMemory { memory }, change))
 }
 
+/// What a hart has after runs of so many steps each, over a memory with `N` decoded words.
+fn run_in_parts<M: Memory, const N: usize>(
+    cached: &mut CachedMemory<M, N>,
+    change: &Change,
+    part: u64,
+) -> Seen {
+    let mut hart_state = hart_for(change);
+    let mut executor = InstructionExecutor {
+        mem: cached,
+        hart_state: &mut hart_state,
+    };
+    let mut end = RunEnd {
+        steps: LIMIT,
+        exception: None,
+    };
+    let mut left = LIMIT;
+    for _ in 0..LIMIT {
+        let last = run_cached(&mut executor, part.min(left));
+        if last.exception.is_some() {
+            end = last;
+            break;
+        }
+        left = left.saturating_sub(part);
+    }
+    (end, hart_state.registers, hart_state.pc)
+}
+
 /// Asserts that a run leaves what is expected.
 fn same_seen(rt: &impl Abort, seen: &Seen, expected: &Seen) {
     assert!(rt; seen == expected);
@@ -170,5 +197,40 @@ fn a_word_that_is_changed_in_each_turn_adds_both_numbers(rt: HostRuntime) -> Res
     let (end, registers, pc) = run_once(&mut cache, &mut memory, &CHANGES[0]);
     // 1,000 turns of four steps, and the first step of the next one
     assert!(rt; (end.steps, end.exception, registers[5], pc) == (LIMIT, None, 50_501, 4));
+    Ok(())
+}
+
+#[test]
+fn each_change_is_seen_by_the_next_run(rt: HostRuntime) -> Result<(), Fail> {
+    let alloc = rt.alloc();
+    for change in &CHANGES {
+        let expected = step_by_step(&mut words_over(alloc, change)?, change);
+        let mut words: CachedMemory<_, 1024> = CachedMemory::new(words_over(alloc, change)?);
+        same_seen(&rt, &run_in_parts(&mut words, change, 7), &expected);
+        // Each even word has the place of each other one.
+        let mut pages: CachedMemory<_, 2> = CachedMemory::new(pages_of(alloc, change)?);
+        same_seen(&rt, &run_in_parts(&mut pages, change, 1000), &expected);
+        let mut space: CachedMemory<_, 64> = CachedMemory::new(space_of(alloc, change)?);
+        same_seen(&rt, &run_in_parts(&mut space, change, 1000), &expected);
+    }
+    Ok(())
+}
+
+#[test]
+fn what_the_owner_writes_between_two_runs_is_executed(rt: HostRuntime) -> Result<(), Fail> {
+    let alloc = rt.alloc();
+    let add_one_and_jump_back = vec![in alloc; 0x0012_8293, 0xffdf_f06f]?;
+    let mut cached: CachedMemory<_, 16> = CachedMemory::new(VecMemory::new(add_one_and_jump_back));
+    let mut hart_state = HartState::new();
+    let mut executor = InstructionExecutor {
+        mem: &mut cached,
+        hart_state: &mut hart_state,
+    };
+    let _ = run_cached(&mut executor, 100);
+    // addi x5, x5, 100, by its upper half
+    let is_written = executor.mem.write_mem(2, MemAccessSize::HalfWord, 0x0642);
+    let _ = run_cached(&mut executor, 100);
+    let word = cached.into_memory().mem[0];
+    assert!(rt; is_written && hart_state.registers[5] == 5050 && word == 0x0642_8293);
     Ok(())
 }
