@@ -5,3 +5,4 @@ mod Undoing
 -- Lemmas of histories.
 mod Remembering
 mod Carrying
+mod Returning

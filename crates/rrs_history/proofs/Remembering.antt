@@ -56,6 +56,10 @@ remembers old new s t c starts undoes kept same within =
     let parts : past all t ≡ past (take n all) t ++ gone =
     ap (λ xs. past xs t) (sym (take-append-drop n all)) ∙ past-append (take n all) (drop n all) t in
     record {
+      latest = c;
+      begins = starts;
+      undoes = undoes;
+      kept = kept;
       forgotten = gone;
       leads_back = sym (past-starts c (changes old) s t starts undoes) ∙ parts ∙ ap (λ xs. past xs t ++ gone) (sym kept);
       at_most_one = omega (arith, past_length (drop n all) (all_undone (take n all) t), length-drop n all, within);

@@ -1,6 +1,6 @@
 -- The states that a history leads back to. A step goes from one state to one other (RISC-V
 -- unprivileged specification, RV32I, "Programmers' Model"), so the states before it are a list.
-use Rattle.std.specs.Prelude.{◌≡◌, ℕ, ◌<◌, ◌≤◌, if◌then◌else◌, List, [], ◌∷◌, ◌++◌, All, length, true, false}
+use Rattle.std.specs.Prelude.{◌≡◌, ℕ, ◌<◌, ◌≤◌, if◌then◌else◌, List, [], ◌∷◌, ◌++◌, All, length, take, true, false}
 use Rattle.rrs_lib.specs.Machine.{State}
 use Rattle.rrs_lib.specs.Accesses.{Access}
 use Rattle.rrs_history.specs.declared.change.Change.{Change}
@@ -21,9 +21,14 @@ past [] t = []
 past (c ∷ cs) t =
     if c.starts then undone c t ∷ past cs (undone c t) else past cs (undone c t)
 
--- A step or a call led from s to t, and the history keeps it: it leads back to s, and from there to
--- where it led before. The oldest state may be forgotten, if there was no room.
+-- A step or a call led from s to t, and the history keeps it: the change that leads from t to s is
+-- its latest one, before those that it kept, as many as it has room for. So it leads back to s, and
+-- from there to where it led before. The oldest state may be forgotten, if there was no room.
 pub record Remembers (old : History) (s : State) (new : History) (t : State) : Type 0 where
+  pub latest : Change
+  pub begins : latest.starts ≡ true
+  pub undoes : undone latest t ≡ s
+  pub kept : changes new ≡ take (room old) (latest ∷ changes old)
   pub forgotten : List State
   pub leads_back : s ∷ past (changes old) s ≡ past (changes new) t ++ forgotten
   pub at_most_one : length forgotten ≤ 1

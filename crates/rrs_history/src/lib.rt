@@ -5,18 +5,21 @@
 //! that it keeps, and [step_back] takes the latest one back. Registers, pc, last written register
 //! and bytes are then as they were before it, over every memory that keeps its laws. What a device
 //! keeps beside its bytes is not taken back. [step_served] is for a program that calls its
-//! environment: it keeps a call with what the call wrote.
+//! environment: it keeps a call with what the call wrote. [look_ahead] makes steps and takes them
+//! back.
 //!
 //! What a change takes back is written in `specs/Changes.antt`, which states a history leads back
 //! to in `specs/Histories.antt`, and what a call adds in `specs/Calls.antt`.
 
 #![tactic(auto)]
 
+mod ahead;
 mod calls;
 mod change;
 mod history;
 mod noting;
 
+pub use ahead::look_ahead;
 pub use calls::{RecordedMemory, step_served};
 pub use change::{Change, step_noted, step_noted_parts, undo};
 pub use history::{History, step_back, step_recorded};
