@@ -4,8 +4,8 @@ ghost use Rattle.std.specs.Prelude.{List, Option};
 ghost use Rattle.rrs_lib.specs.Machine.{State};
 
 use rrs_env::Environment;
-use rrs_history::{History, step_back, step_recorded, step_served};
-use rrs_lib::instruction_executor::InstructionExecutor;
+use rrs_history::{History, look_ahead, step_back, step_recorded, step_served};
+use rrs_lib::instruction_executor::{InstructionException, InstructionExecutor, RunEnd};
 use rrs_lib::memories::VecMemory;
 use rrs_lib::{HartState, MemAccessSize, Memory};
 use rrs_test_machines::hart_of;
@@ -151,5 +151,35 @@ fn a_call_is_taken_back(rt: HostRuntime) -> Result<(), Fail> {
     }
     before.reverse();
     assert!(rt; before.len() == 7 && after == before);
+    Ok(())
+}
+
+/// Looks ahead.
+fn foretold<M: Memory>(
+    mem: &mut M,
+    hart_state: &mut HartState,
+    history: &mut History,
+    limit: u64,
+) -> Option<RunEnd> {
+    if limit > history.room() as u64 {
+        return None;
+    }
+    let mut executor = InstructionExecutor { mem, hart_state };
+    Some(look_ahead(&mut executor, history, limit))
+}
+
+// The end of the run is told, and the machine stays where it is.
+#[test]
+fn the_end_of_a_run_is_foretold(rt: HostRuntime) -> Result<(), Fail> {
+    let mut memory = VecMemory::new(PROGRAM.to_vec(rt.alloc())?);
+    let mut hart = hart_of(0, &[(2, 5)]);
+    let mut history = History::new(rt.alloc(), 20)?;
+    let before = moment_of(&memory, &hart)?;
+    let end = foretold(&mut memory, &mut hart, &mut history, 20);
+    let expected = RunEnd {
+        steps: 7,
+        exception: Some(InstructionException::IllegalInstruction(0x1c, 0)),
+    };
+    assert!(rt; end == Some(expected) && moment_of(&memory, &hart)? == before);
     Ok(())
 }
