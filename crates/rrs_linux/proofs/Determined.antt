@@ -1,8 +1,7 @@
 -- The calls of an environment over known bytes are determined: what is asked for, which text is transferred, and what is
 -- left.
-use Rattle.std.proofs.Common.{◌≡◌, ℕ, ◌+◌, ◌-◌, ◌%◌, ◌<◌, ◌≤◌, ◌==◌, ◌||◌, if◌then◌else◌, Bool, true, List, [], ◌∷◌, ◌++◌, length, take, get_or, Option, inl, inr, refl, sym, subst, ap, ◌∙◌, arith, ext_get_or, Vec, vec_capacity}
-use Rattle.std.proofs.lemmas.Bool.{cases_lt, ne_eqb, false≢true}
-use Rattle.std.proofs.lemmas.Bool.Decides.{nat_tests}
+use Rattle.std.proofs.Common.{nat_lt, false, ◌≡◌, ℕ, ◌+◌, ◌-◌, ◌%◌, ◌<◌, ◌≤◌, ◌==◌, ◌||◌, if◌then◌else◌, Bool, true, List, [], ◌∷◌, ◌++◌, length, take, get_or, Option, inl, inr, refl, sym, subst, ap, ◌∙◌, arith, ext_get_or, Vec, vec_capacity}
+use Rattle.std.proofs.lemmas.Bool.{cases_lt, ne_eqb, le-ltb, lt-ltb, false≢true}
 use Rattle.std.proofs.lemmas.Option.{none-some, same_Some}
 use Rattle.std.proofs.lemmas.List.{length-append, append_cancel_left}
 use Rattle.std.proofs.Math.Seq.{take-append_seam}
@@ -13,14 +12,26 @@ use Rattle.rrs_lib.specs.Loading.{Loaded, byte_writes}
 use Rattle.rrs_lib.specs.Machine.{State}
 use Rattle.rrs_env.specs.Serving.{IsDeterminedBy}
 use Rattle.rrs_linux.specs.declared.requests.Request.{Request}
-use Rattle.rrs_linux.specs.declared.requests.Request.TheVariants.{Exit, Answer, SetBreak, Read, WriteOutput, WriteErrors}
-use Rattle.rrs_linux.specs.Requests.{Asks, AsksBy, error, ToExit, ToRead, ToWriteOutput, ToWriteErrors, ToSetBreak, ToClose, OfNoFile, OfNoCall}
+use Rattle.rrs_linux.specs.declared.requests.Request.TheVariants.{Exit, Answer, Status, SetBreak, Read, WriteOutput, WriteErrors}
+use Rattle.rrs_linux.specs.Requests.{Asks, AsksBy, error, ToExit, ToRead, ToWriteOutput, ToWriteErrors, ToSetBreak, ToClose, ToControl, ToSeek, ToGetStatus, ToGetNumber, OfNoFile, OfNoCall}
+use Rattle.rrs_linux.specs.Statuses
+use Rattle.rrs_linux.specs.Statuses.{PutsBytes, IsPut}
 use Rattle.rrs_linux.specs.Transfers.{Stands, byte_reads}
 use Rattle.rrs_linux.specs.SystemCalls.{Does, answered, moved, ended_by}
 use Rattle.rrs_linux.specs.Recording.{TakingEnds, GivingEnds, GivesText, TakesText, GivesInput, TakesOutput, Recording, Records, AlikeInputs, AlikeRecords, AlikeRecordings}
 use Rattle.rrs_linux.specs.Recording
 
 -- ---- what is asked for
+
+-- what is asked of a stream that is open
+abbrev if_open : ℕ → Request → Request
+if_open fd request = if nat_lt 2 fd then Answer (error 9) else request
+
+is_open : (fd : ℕ) (request : Request) → fd ≤ 2 → if_open fd request ≡ request
+is_open fd request fits = rw (le-ltb 2 fd fits) refl
+
+is_closed : (fd : ℕ) (request : Request) → 2 < fd → if_open fd request ≡ Answer (error 9)
+is_closed fd request past = rw (lt-ltb 2 fd past) refl
 
 -- what a call asks for, by tests
 asked_for : (call a0 a1 a2 : ℕ) → Request
@@ -30,8 +41,11 @@ asked_for call a0 a1 a2 =
     else (if call == 64 then (if a0 == 1 then WriteOutput a1 a2
     else (if a0 == 2 then WriteErrors a1 a2 else Answer (error 9)))
     else (if call == 214 then SetBreak a0
-    else (if call == 57 then (if (a0 == 0) || (a0 == 1) || (a0 == 2) then Answer 0 else Answer (error 9))
-    else Answer (error 38)))))
+    else (if call == 172 then Answer 1
+    else (if call == 57 then if_open a0 (Answer 0)
+    else (if call == 29 then if_open a0 (Answer (error 25))
+    else (if call == 62 then if_open a0 (Answer (error 29))
+    else (if call == 80 then if_open a0 (Status a1) else Answer (error 38)))))))))
 
 asks_for : {call a0 a1 a2 : ℕ} {r : Request} → AsksBy call a0 a1 a2 r → r ≡ asked_for call a0 a1 a2
 unfolding asked_for
@@ -41,18 +55,32 @@ asks_for {a1 = a1} {a2 = a2} (ToRead c d is) = is ∙ (λ i. asked_for (sym c i)
 asks_for {a1 = a1} {a2 = a2} (ToWriteOutput c d is) = is ∙ (λ i. asked_for (sym c i) (sym d i) a1 a2)
 asks_for {a1 = a1} {a2 = a2} (ToWriteErrors c d is) = is ∙ (λ i. asked_for (sym c i) (sym d i) a1 a2)
 asks_for {a0 = a0} {a1 = a1} {a2 = a2} (ToSetBreak c is) = is ∙ (λ i. asked_for (sym c i) a0 a1 a2)
-asks_for {a0 = a0} {a1 = a1} {a2 = a2} (ToClose c open_there is) =
-    is ∙ sym (ap (λ n. asked_for n a0 a1 a2) c ∙ grind (arith, nat_tests))
-asks_for {a0 = a0} {a1 = a1} {a2 = a2} (OfNoFile (inl close) is) =
-    is ∙ sym (ap (λ n. asked_for n a0 a1 a2) close.0
-    ∙ rw (ne_eqb a0 0 (omega arith)) (rw (ne_eqb a0 1 (omega arith)) (rw (ne_eqb a0 2 (omega arith)) refl)))
+asks_for {a0 = a0} {a1 = a1} {a2 = a2} (ToGetNumber c is) = is ∙ (λ i. asked_for (sym c i) a0 a1 a2)
+asks_for {a0 = a0} {a1 = a1} {a2 = a2} (ToClose c fits is) =
+    is ∙ sym (is_open a0 (Answer 0) fits) ∙ (λ i. asked_for (sym c i) a0 a1 a2)
+asks_for {a0 = a0} {a1 = a1} {a2 = a2} (ToControl c fits is) =
+    is ∙ sym (is_open a0 (Answer (error 25)) fits) ∙ (λ i. asked_for (sym c i) a0 a1 a2)
+asks_for {a0 = a0} {a1 = a1} {a2 = a2} (ToSeek c fits is) =
+    is ∙ sym (is_open a0 (Answer (error 29)) fits) ∙ (λ i. asked_for (sym c i) a0 a1 a2)
+asks_for {a0 = a0} {a1 = a1} {a2 = a2} (ToGetStatus c fits is) =
+    is ∙ sym (is_open a0 (Status a1) fits) ∙ (λ i. asked_for (sym c i) a0 a1 a2)
+asks_for {a0 = a0} {a1 = a1} {a2 = a2} (OfNoFile (inl (inl c, past)) is) =
+    is ∙ sym (is_closed a0 (Answer (error 25)) past) ∙ (λ i. asked_for (sym c i) a0 a1 a2)
+asks_for {a0 = a0} {a1 = a1} {a2 = a2} (OfNoFile (inl (inr (inl c), past)) is) =
+    is ∙ sym (is_closed a0 (Answer 0) past) ∙ (λ i. asked_for (sym c i) a0 a1 a2)
+asks_for {a0 = a0} {a1 = a1} {a2 = a2} (OfNoFile (inl (inr (inr (inl c)), past)) is) =
+    is ∙ sym (is_closed a0 (Answer (error 29)) past) ∙ (λ i. asked_for (sym c i) a0 a1 a2)
+asks_for {a0 = a0} {a1 = a1} {a2 = a2} (OfNoFile (inl (inr (inr (inr c)), past)) is) =
+    is ∙ sym (is_closed a0 (Status a1) past) ∙ (λ i. asked_for (sym c i) a0 a1 a2)
 asks_for {a0 = a0} {a1 = a1} {a2 = a2} (OfNoFile (inr (inl read)) is) =
     is ∙ sym (ap (λ n. asked_for n a0 a1 a2) read.0 ∙ rw (ne_eqb a0 0 read.1) refl)
 asks_for {a0 = a0} {a1 = a1} {a2 = a2} (OfNoFile (inr (inr write)) is) =
     is ∙ sym (ap (λ n. asked_for n a0 a1 a2) write.0 ∙ rw (ne_eqb a0 1 write.1) (rw (ne_eqb a0 2 write.2) refl))
 asks_for {call = call} (OfNoCall none is) =
     is ∙ sym (rw (ne_eqb call 93 none.3) (rw (ne_eqb call 94 none.4) (rw (ne_eqb call 63 none.1)
-    (rw (ne_eqb call 64 none.2) (rw (ne_eqb call 214 none.5) (rw (ne_eqb call 57 none.0) refl))))))
+    (rw (ne_eqb call 64 none.2) (rw (ne_eqb call 214 none.5) (rw (ne_eqb call 172 none.9)
+    (rw (ne_eqb call 57 none.0) (rw (ne_eqb call 29 none.6) (rw (ne_eqb call 62 none.7)
+    (rw (ne_eqb call 80 none.8) refl))))))))))
 
 asks_one : (s : State) {r r' : Request} → Asks s r → Asks s r' → r ≡ r'
 asks_one s asks asks' = asks_for asks ∙ sym (asks_for asks')
@@ -234,6 +262,62 @@ same_reads {writable = writable} {bytes = bytes} {new' = new'} {a = a} {count = 
       accesses = one.0;
     }
 
+-- ---- a status
+
+-- neither is refused before the other
+no_sooner : {writable : ℕ → Bool} {bytes new : ByteMap} {a : ℕ} (text text' : List ℕ)
+    → Loaded bytes new writable a text' → writable (a + length text) ≡ false → length text' ≤ length text
+no_sooner text text' loaded closed =
+    elim (cases_lt (length text) (length text')) as (λ _. length text' ≤ length text) [
+      | inl less ↦ absurd (false≢true (sym closed ∙ loaded.writable_there (length text) less))
+      | inr least ↦ least
+    ]
+
+module _ {writable : ℕ → Bool} {bytes : ByteMap} {a : ℕ} {whole : List ℕ} where
+  same_put : {new new' : ByteMap} {xs xs' : List Access} {answer answer' : ℕ}
+      → PutsBytes writable bytes new a whole xs answer → PutsBytes writable bytes new' a whole xs' answer'
+      → SameReads whole whole new new' answer answer' xs xs'
+  same_put (IsPut loaded made is) (IsPut loaded' made' is') = record {
+    inputs = refl;
+    memories = same_loaded loaded loaded';
+    answers = is ∙ sym is';
+    accesses = made ∙ sym made';
+  }
+  same_put (IsPut loaded _ _) (Statuses.IsRefused text byte rest parts _ _ closed _ _) =
+      let long : length whole ≡ length text + length (byte ∷ rest) = ap length parts ∙ length-append text (byte ∷ rest) in
+      absurd (false≢true (sym closed ∙ loaded.writable_there (length text) (omega (arith, long))))
+  same_put (IsPut loaded _ _) (Statuses.PassesEnd past _ _ _) = absurd (omega (arith, loaded.in_range, past))
+  same_put (Statuses.IsRefused text byte rest parts _ _ closed _ _) (IsPut loaded _ _) =
+      let long : length whole ≡ length text + length (byte ∷ rest) = ap length parts ∙ length-append text (byte ∷ rest) in
+      absurd (false≢true (sym closed ∙ loaded.writable_there (length text) (omega (arith, long))))
+  same_put {new = new} (Statuses.IsRefused text byte rest parts _ loaded closed made is)
+      (Statuses.IsRefused text' byte' rest' parts' _ loaded' closed' made' is') =
+      let longer : length text' ≤ length text = no_sooner text text' loaded' closed in
+      let shorter : length text ≤ length text' = no_sooner text' text loaded closed' in
+      let long : length text ≡ length text' = omega (arith, longer, shorter) in
+      let front : text ≡ text' = sym (take-append_seam text (byte ∷ rest)) ∙ (λ i. take (long i) (sym parts i))
+      ∙ ap (take (length text')) parts' ∙ take-append_seam text' (byte' ∷ rest') in
+      let behind = append_cancel_left text' (byte ∷ rest) (byte' ∷ rest')
+      (ap (λ t. t ++ byte ∷ rest) (sym front) ∙ sym parts ∙ parts') in
+      let next : byte ≡ byte' = ap (λ l. get_or l 0 0) behind in
+      record {
+        inputs = refl;
+        memories = same_loaded (subst (λ t. Loaded bytes new writable a t) front loaded) loaded';
+        answers = is ∙ sym is';
+        accesses = made ∙ (λ i. byte_writes writable a (front i ++ next i ∷ [])) ∙ sym made';
+      }
+  same_put (Statuses.IsRefused _ _ _ _ fits _ _ _ _) (Statuses.PassesEnd past _ _ _) =
+      absurd (omega (arith, fits, past))
+  same_put (Statuses.PassesEnd past _ _ _) (IsPut loaded _ _) = absurd (omega (arith, loaded.in_range, past))
+  same_put (Statuses.PassesEnd past _ _ _) (Statuses.IsRefused _ _ _ _ fits _ _ _ _) =
+      absurd (omega (arith, fits, past))
+  same_put (Statuses.PassesEnd _ loaded made is) (Statuses.PassesEnd _ loaded' made' is') = record {
+    inputs = refl;
+    memories = same_loaded loaded loaded';
+    answers = is ∙ sym is';
+    accesses = made ∙ sym made';
+  }
+
 -- ---- a call
 
 -- what a call leaves
@@ -263,6 +347,15 @@ does_one (Answer answer) s alike did did' = record {
   accesses = did.3 ∙ sym did'.3;
   ends = did.0 ∙ sym did'.0;
 }
+does_one (Status a) s alike did did' =
+    let same = same_put did.4 did'.4 in
+    let bytes : did.2 ≡ did'.2 = λ i x. same.memories x i in
+    record {
+      environments = alike_after did.1 did'.1 alike;
+      states = did.5 ∙ (λ i. answered (record s { bytes = bytes i }) (same.answers i)) ∙ sym did'.5;
+      accesses = same.accesses;
+      ends = did.0 ∙ sym did'.0;
+    }
 does_one (SetBreak a) s alike did did' =
     let heap = ap (λ h. moved h a) alike.heap in
     record {

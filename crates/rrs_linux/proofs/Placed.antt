@@ -1,14 +1,17 @@
 -- Bytes of the input that are at hand, and given to a buffer.
 use Rattle.std.proofs.Common.{◌≡◌, ℕ, ◌+◌, ◌-◌, ◌^◌, ◌<◌, ◌≤◌, min, Bool, List, [], ◌++◌, length, take, drop, slice_range, Option, refl, sym, subst, ap, ◌∙◌, append-nil, inl, arith, rules}
-use Rattle.std.proofs.lemmas.List.{nil_from_length, drop-take, drop-drop, length-take}
+use Rattle.std.proofs.lemmas.List.{nil_from_length, drop-take, drop-drop, length-take, length-drop, length-append}
 use Rattle.std.proofs.KnownBytes.{Consumes-nil}
 use Rattle.rrs_lib.specs.declared.MemAccessSize.{MemAccessSize}
 use Rattle.rrs_lib.specs.Bytes.{ByteMap}
 use Rattle.rrs_lib.specs.AccessLists.{Access}
-use Rattle.rrs_lib.specs.Loading.{Loaded}
+use Rattle.rrs_lib.specs.Loading.{Loaded, byte_writes}
 use Rattle.rrs_env.specs.Serving.{MakesSome}
 use Rattle.rrs_linux.specs.Recording
 use Rattle.rrs_linux.specs.Recording.{GivesText, GivingEnds}
+use Rattle.rrs_linux.specs.Requests.{error}
+use Rattle.rrs_linux.specs.Statuses
+use Rattle.rrs_linux.specs.Statuses.{PutsBytes, IsPut}
 use Rattle.rrs_linux.specs.Transfers.{Fills, ReadEnds, IsGiven, IsRefused, PassesEnd, ReadsText, most_bytes}
 
 -- a range whose first elements are left out
@@ -92,3 +95,49 @@ module _ {M : Type 0} {reads : M → ℕ → MemAccessSize → M → Option ℕ 
         };
         made = made.made;
       }
+
+-- A structure is put: as many of its bytes are given as there are, or those before an address that is not writable.
+pub record Put (writable : ℕ → Bool) (bytes bytes' : ByteMap) (a : ℕ) (whole : List ℕ) (n : ℕ) (xs : List Access)
+    : Type 0 where
+  pub all : n ≡ length whole → PutsBytes writable bytes bytes' a whole xs 0
+  pub not_all : (n ≡ length whole → ⊥) → PutsBytes writable bytes bytes' a whole xs (error 14)
+
+put_by : {writable : ℕ → Bool} {bytes bytes' : ByteMap} {a count answer : ℕ} {xs : List Access}
+    (whole text left : List ℕ) (n : ℕ) → count ≡ length whole → length whole ≤ most_bytes → 0 < length whole
+    → length text ≡ n → whole ≡ text ++ left → Loaded bytes bytes' writable a text
+    → GivingEnds writable a count whole text xs answer → Put writable bytes bytes' a whole n xs
+put_by {writable = writable} {bytes = bytes} {bytes' = bytes'} {a = a} {xs = xs} whole text left n asked small some long
+    parts loaded (Recording.IsWhole fits given made _) =
+    let all : n ≡ length whole = omega (arith, given, asked, small, long) in
+    let none : length left ≡ 0 = omega (arith, ap length parts, length-append text left, long, all) in
+    let same : text ≡ whole = sym (append-nil text) ∙ ap (λ l. text ++ l) (sym (no_length left none)) ∙ sym parts in
+    record {
+      all = λ e. IsPut (subst (Loaded bytes bytes' writable a) same loaded) (made ∙ ap (byte_writes writable a) same)
+          refl;
+      not_all = λ other. absurd (other all);
+    }
+put_by whole text left n asked small some long parts loaded (Recording.IsRefused byte rest fits short is closed made _) =
+    let less : n < length whole = omega (arith, short, asked, long) in
+    record {
+      all = λ e. absurd (omega (arith, e, less));
+      not_all = λ other. Statuses.IsRefused text byte rest is (omega (arith, fits, asked)) loaded closed made refl;
+    }
+put_by {writable = writable} {bytes = bytes} {bytes' = bytes'} {a = a} whole text left n asked small some long parts
+    loaded (Recording.PassesEnd past none made _) =
+    let zero_given : n ≡ 0 = sym long ∙ ap length none in
+    record {
+      all = λ e. absurd (omega (arith, e, zero_given, some));
+      not_all = λ other. Statuses.PassesEnd (omega (arith, past, asked)) (subst (Loaded bytes bytes' writable a) none loaded)
+          made refl;
+    }
+
+pub put_of : {writable : ℕ → Bool} {bytes bytes' : ByteMap} {a count answer : ℕ} {xs : List Access} (whole : List ℕ)
+    (n : ℕ) → count ≡ length whole → length whole ≤ most_bytes → 0 < length whole → n ≤ length whole
+    → GivesText writable bytes bytes' a count whole (drop n whole) answer xs → Put writable bytes bytes' a whole n xs
+put_of {writable = writable} {bytes = bytes} {bytes' = bytes'} {a = a} {count = count} {answer = answer} {xs = xs} whole
+    n asked small some within gave =
+    let behind : length (drop n whole) ≡ length whole - n = length-drop n whole in
+    let both : length whole ≡ length gave.text + length (drop n whole) =
+    ap length gave.consumed ∙ length-append gave.text (drop n whole) in
+    put_by whole gave.text (drop n whole) n asked small some (omega (arith, behind, both, within)) gave.consumed
+    gave.loaded gave.ended

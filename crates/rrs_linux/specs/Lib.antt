@@ -3,5 +3,6 @@
 pub mod Requests
 pub mod BufferedBytes
 pub mod Transfers
+pub mod Statuses
 pub mod SystemCalls
 pub mod Recording

@@ -3,26 +3,32 @@
 -- asm-generic/unistd.h). Registers go by their numbers: a0 is x10, and a7 is x17.
 --
 -- Three choices are made here. Only the descriptors 0, 1 and 2 are open, 0 to read and the others
--- to write. close answers that it was done, and they stay open. Each other call, fstat (80) among
--- them, is one that there is not; a C library goes on without it.
+-- to write, each as a pipe is: it has no position, and is no terminal. close answers that it was
+-- done, and they stay open. The process is number 1. Each other call is one that there is not.
 use Rattle.std.specs.Prelude.{◌≡◌, ◌≢◌, ◌⊎◌, ℕ, ◌-◌, ◌%◌, ◌^◌, ◌<◌, ◌≤◌}
 use Rattle.rrs_linux.specs.declared.requests.Request.{Request}
-use Rattle.rrs_linux.specs.declared.requests.Request.TheVariants.{Exit, Answer, SetBreak, Read, WriteOutput, WriteErrors}
+use Rattle.rrs_linux.specs.declared.requests.Request.TheVariants.{Exit, Answer, Status, SetBreak, Read, WriteOutput, WriteErrors}
 use Rattle.rrs_lib.specs.Machine.{State, reg}
 
 -- the word that answers error n: -n
 abbrev pub error : ℕ → ℕ
 error n = 2 ^ 32 - n
 
+-- ioctl, close, lseek and fstat, which take each descriptor that is open
+abbrev pub TakesEach : ℕ → Type 0
+TakesEach call = (call ≡ 29) ⊎ (call ≡ 57) ⊎ (call ≡ 62) ⊎ (call ≡ 80)
+
 -- a descriptor that is not open for what this call does with it
 abbrev pub HasBadDescriptor : ℕ → ℕ → Type 0
 HasBadDescriptor call fd =
-    ((call ≡ 57) × (2 < fd)) ⊎ ((call ≡ 63) × (fd ≢ 0)) ⊎ ((call ≡ 64) × (fd ≢ 1) × (fd ≢ 2))
+    (TakesEach call × (2 < fd)) ⊎ ((call ≡ 63) × (fd ≢ 0))
+    ⊎ ((call ≡ 64) × (fd ≢ 1) × (fd ≢ 2))
 
 -- none of the calls that there are
 abbrev pub IsNoCall : ℕ → Type 0
 IsNoCall call =
     (call ≢ 57) × (call ≢ 63) × (call ≢ 64) × (call ≢ 93) × (call ≢ 94) × (call ≢ 214)
+    × (call ≢ 29) × (call ≢ 62) × (call ≢ 80) × (call ≢ 172)
 
 -- what a call with this number and these arguments asks for
 pub data AsksBy (call a0 a1 a2 : ℕ) (request : Request) : Type 0 where
@@ -37,6 +43,14 @@ pub data AsksBy (call a0 a1 a2 : ℕ) (request : Request) : Type 0 where
   ToSetBreak : call ≡ 214 → request ≡ SetBreak a0 → AsksBy call a0 a1 a2 request
   -- close
   ToClose : call ≡ 57 → a0 ≤ 2 → request ≡ Answer 0 → AsksBy call a0 a1 a2 request
+  -- ioctl: ENOTTY is 25
+  ToControl : call ≡ 29 → a0 ≤ 2 → request ≡ Answer (error 25) → AsksBy call a0 a1 a2 request
+  -- lseek: ESPIPE is 29
+  ToSeek : call ≡ 62 → a0 ≤ 2 → request ≡ Answer (error 29) → AsksBy call a0 a1 a2 request
+  -- fstat
+  ToGetStatus : call ≡ 80 → a0 ≤ 2 → request ≡ Status a1 → AsksBy call a0 a1 a2 request
+  -- getpid
+  ToGetNumber : call ≡ 172 → request ≡ Answer 1 → AsksBy call a0 a1 a2 request
   -- EBADF is 9
   OfNoFile : HasBadDescriptor call a0 → request ≡ Answer (error 9) → AsksBy call a0 a1 a2 request
   -- ENOSYS is 38

@@ -8,9 +8,10 @@ use Rattle.rrs_linux.specs.declared.Process.{Process}
 use Rattle.rrs_linux.specs.declared.host_writer.HostWriter.{HostWriter}
 use Rattle.rrs_linux.specs.declared.input_buffer.InputBuffer.{InputBuffer}
 use Rattle.rrs_linux.specs.declared.requests.Request.{Request}
-use Rattle.rrs_linux.specs.declared.requests.Request.TheVariants.{Exit, Answer, SetBreak, Read, WriteOutput, WriteErrors}
+use Rattle.rrs_linux.specs.declared.requests.Request.TheVariants.{Exit, Answer, Status, SetBreak, Read, WriteOutput, WriteErrors}
 use Rattle.rrs_linux.specs.Requests.{Asks, error}
 use Rattle.rrs_linux.specs.BufferedBytes.{buffered_bytes}
+use Rattle.rrs_linux.specs.Statuses.{PutsBytes, stream_status}
 use Rattle.rrs_linux.specs.Transfers.{Gives, Takes, WritesText, ReadsText}
 
 -- the break at an address, if it may lie there, and else as it was (brk(2), as the kernel answers)
@@ -48,6 +49,10 @@ module _ {R W E K : Type 0} (gives : Gives R K) (takes : Takes W) (takes_errors 
       (end ≡ Some status) × (new ≡ old) × (t ≡ s) × (accesses ≡ [])
   Does (Answer word) old s new t accesses end =
       (end ≡ None) × (new ≡ old) × (t ≡ answered s word) × (accesses ≡ [])
+  Does (Status a) old s new t accesses end =
+      (end ≡ None) × (new ≡ old) × (bytes : ByteMap) × (answer : ℕ)
+      × PutsBytes s.writable s.bytes bytes a stream_status accesses answer
+      × (t ≡ answered (record s { bytes = bytes }) answer)
   Does (SetBreak address) old s new t accesses end =
       (end ≡ None) × (new ≡ record old { heap = moved old.heap address })
       × (t ≡ answered s (moved old.heap address).top) × (accesses ≡ [])

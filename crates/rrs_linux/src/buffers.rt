@@ -4,6 +4,7 @@ ghost use Rattle.std.specs.Prelude.{◌≡◌, ◌≤◌, ◌<◌, ◌+◌, ◌^
 ghost use Rattle.rrs_lib.specs.AccessLists.{Makes};
 ghost use Rattle.rrs_env.specs.Serving.{MakesSome};
 ghost use Rattle.rrs_linux.specs.Recording.{GivesText};
+ghost use Rattle.rrs_linux.specs.Statuses.{PutsBytes, stream_status};
 ghost use Rattle.rrs_linux.specs.Transfers.{Stands, byte_reads, counted, most_bytes};
 
 use rrs_lib::{MemAccessSize, Memory};
@@ -13,6 +14,18 @@ pub const CHUNK: usize = 256;
 
 /// The most bytes that one call reads or writes, as on Linux.
 const MOST_BYTES: u32 = 0x7fff_f000;
+
+/// How many bytes the status of a stream has, as `struct stat64` has them.
+const STATUS_BYTES: u32 = 104;
+
+/// The status of a stream: a pipe that its owner may read and write, one link, blocks of 4,096
+/// bytes.
+const STATUS: [u8; STATUS_BYTES as usize] = [
+    0, 0, 0, 0, 0, 0, 0, 0, 0, 0, 0, 0, 0, 0, 0, 0, 0x80, 0x11, 0, 0, 1, 0, 0, 0, 0, 0, 0, 0, 0, 0,
+    0, 0, 0, 0, 0, 0, 0, 0, 0, 0, 0, 0, 0, 0, 0, 0, 0, 0, 0, 0, 0, 0, 0, 0, 0, 0, 0, 0x10, 0, 0, 0,
+    0, 0, 0, 0, 0, 0, 0, 0, 0, 0, 0, 0, 0, 0, 0, 0, 0, 0, 0, 0, 0, 0, 0, 0, 0, 0, 0, 0, 0, 0, 0, 0,
+    0, 0, 0, 0, 0, 0, 0, 0, 0, 0, 0,
+];
 
 /// The answer where a buffer's first byte can't be accessed, or the buffer passes the last address:
 /// -14, `EFAULT`.
@@ -86,4 +99,21 @@ pub fn give_bytes<M: Memory>(input: &[u8], memory: &mut M, address: u32, count: 
         }
     }
     (most as usize, most)
+}
+
+/// Puts the status of a stream into memory, and gives the answer of the call.
+pub fn put_status<M: Memory>(memory: &mut M, address: u32) -> u32
+    ensures put { MakesSome M.reads M.writes
+        (λ accesses. PutsBytes (M.writable memory.old) (M.bytes memory.old) (M.bytes memory.new)
+        address stream_status accesses result)
+        memory.old memory.new }
+    ensures writable_kept { M.writable memory.new ≡ M.writable memory.old }
+    ensures layout_kept { M.layout memory.new ≡ M.layout memory.old }
+{
+    let (given, _answer) = give_bytes(&STATUS, memory, address, STATUS_BYTES);
+    if given == STATUS.len() {
+        0
+    } else {
+        BAD_ADDRESS
+    }
 }

@@ -22,6 +22,7 @@ ghost use Rattle.rrs_lib.specs.Machine.{state_of};
 ghost use Rattle.rrs_linux.specs.BufferedBytes.{buffered_bytes};
 ghost use Rattle.rrs_linux.specs.SystemCalls.{ServesBy, AreAlike, moved, answered, ended_by};
 
+use crate::buffers::put_status;
 use crate::host::NOBODY_READS;
 use crate::requests::system_call_of;
 pub use host_writer::HostWriter;
@@ -120,6 +121,10 @@ impl<R: Input<K>, W: Output, E: Output, K> Environment for Process<R, W, E, K> {
         match system_call_of(executor.hart_state) {
             Request::Exit(status) => Some(status),
             Request::Answer(answer) => go_on(executor.hart_state, answer),
+            Request::Status(address) => {
+                let answer = put_status(executor.mem, address);
+                go_on(executor.hart_state, answer)
+            }
             Request::SetBreak(address) => {
                 let answer = self.heap.set_break(address);
                 go_on(executor.hart_state, answer)

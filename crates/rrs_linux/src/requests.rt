@@ -6,18 +6,33 @@ ghost use Rattle.rrs_linux.specs.Requests.{Asks, AsksBy};
 
 use rrs_lib::HartState;
 
+/// `ioctl`.
+const IOCTL: u32 = 29;
 /// `close`.
 const CLOSE: u32 = 57;
+/// `lseek`.
+const LSEEK: u32 = 62;
 /// `read`.
 const READ: u32 = 63;
 /// `write`.
 const WRITE: u32 = 64;
+/// `fstat`.
+const FSTAT: u32 = 80;
 /// `exit`.
 const EXIT: u32 = 93;
 /// `exit_group`.
 const EXIT_GROUP: u32 = 94;
+/// `getpid`.
+const GETPID: u32 = 172;
 /// `brk`.
 const BRK: u32 = 214;
+
+/// The number of the process.
+const PROCESS_ID: u32 = 1;
+/// The answer where a stream is no terminal: -25, `ENOTTY`.
+const NO_TERMINAL: u32 = 0xffff_ffe7;
+/// The answer where a stream has no position: -29, `ESPIPE`.
+const NO_POSITION: u32 = 0xffff_ffe3;
 
 /// The answer where a descriptor is not open for this: -9, `EBADF`.
 const BAD_DESCRIPTOR: u32 = 0xffff_fff7;
@@ -31,6 +46,8 @@ pub enum Request {
     Exit(u32),
     /// Nothing but this answer.
     Answer(u32),
+    /// To put the status of an open stream at an address.
+    Status(u32),
     /// To move the break to an address.
     SetBreak(u32),
     /// To read from standard input, to an address, so many bytes at most.
@@ -60,11 +77,15 @@ fn request_by(call: u32, first: u32, second: u32, third: u32) -> Request
     match call {
         EXIT | EXIT_GROUP => Request::Exit(first % 256),
         BRK => Request::SetBreak(first),
+        GETPID => Request::Answer(PROCESS_ID),
         CLOSE if first <= 2 => Request::Answer(0),
+        FSTAT if first <= 2 => Request::Status(second),
+        IOCTL if first <= 2 => Request::Answer(NO_TERMINAL),
+        LSEEK if first <= 2 => Request::Answer(NO_POSITION),
         READ if first == 0 => Request::Read(second, third),
         WRITE if first == 1 => Request::WriteOutput(second, third),
         WRITE if first == 2 => Request::WriteErrors(second, third),
-        CLOSE | READ | WRITE => Request::Answer(BAD_DESCRIPTOR),
+        CLOSE | FSTAT | IOCTL | LSEEK | READ | WRITE => Request::Answer(BAD_DESCRIPTOR),
         _ => Request::Answer(NO_SUCH_CALL),
     }
 }

@@ -2,9 +2,9 @@
 //! go on.
 
 use rrs_env::Environment;
-use rrs_lib::HartState;
 use rrs_lib::instruction_executor::InstructionExecutor;
 use rrs_lib::memories::VecMemory;
+use rrs_lib::{HartState, MemAccessSize, Memory};
 use rrs_linux::{Heap, Linux, OutputRecorder, records_determined};
 use std::alloc::{AllocError, Global};
 use std::io;
@@ -17,6 +17,20 @@ const READ: u32 = 63;
 const WRITE: u32 = 64;
 
 const BRK: u32 = 214;
+
+/// The numbers of `ioctl`, `lseek`, `fstat` and `getpid`.
+const IOCTL: u32 = 29;
+
+const LSEEK: u32 = 62;
+
+const FSTAT: u32 = 80;
+
+const GETPID: u32 = 172;
+
+/// The answers -25 and -29.
+const ENOTTY: u32 = 0xffff_ffe7;
+
+const ESPIPE: u32 = 0xffff_ffe3;
 
 /// The answers -5, -32, -9, -14, -28 and -38.
 const EIO: u32 = 0xffff_fffb;
@@ -146,12 +160,34 @@ fn environment<'a>(
     Linux::new(input, output, Stream::new(alloc, &[]), Heap::new(64, 96))
 }
 
+// The status of standard output, 104 bytes: st_mode at 16 is a pipe with 0600, st_nlink at 20 is 1,
+// st_blksize at 56 is 4096, all other bytes are 0, and what is behind them stays.
+#[test]
+fn a_stream_has_the_status_of_a_pipe(rt: HostRuntime) -> Result<(), Fail> {
+    let mut memory = VecMemory::new(vec![in rt.alloc(); 0xffff_ffff; 30]?);
+    let mut linux = environment(rt.alloc(), &[], &[]);
+    let seen = call(&mut linux, &mut memory, (FSTAT, 1, 4, 0));
+    assert!(rt; seen == (None, 0));
+    for index in 0..30u32 {
+        let word = memory.read_mem(4 * index, MemAccessSize::Word);
+        let expected = match index {
+            0 | 27..=29 => 0xffff_ffff,
+            5 => 0o010_600,
+            6 => 1,
+            15 => 4096,
+            _ => 0,
+        };
+        assert!(rt; word == Some(expected), "{index}");
+    }
+    Ok(())
+}
+
 /// The number of a call, and three arguments.
 type Request = (u32, u32, u32, u32);
 
 /// Calls, each with how it ends, its answer, and how much standard output and standard error hold
 /// after it.
-static CALLS: [(Request, Option<u32>, u32, (usize, usize)); 18] = [
+static CALLS: [(Request, Option<u32>, u32, (usize, usize)); 28] = [
     ((WRITE, 1, 0, 300), None, 300, (300, 0)),
     ((WRITE, 2, 290, 20), None, 10, (300, 10)),
     ((WRITE, 2, 44, 3), None, 3, (300, 13)),
@@ -167,7 +203,17 @@ static CALLS: [(Request, Option<u32>, u32, (usize, usize)); 18] = [
     ((BRK, 63, 0, 0), None, 96, (300, 13)),
     ((57, 2, 0, 0), None, 0, (300, 13)),
     ((57, 3, 0, 0), None, EBADF, (300, 13)),
-    ((80, 1, 0, 0), None, ENOSYS, (300, 13)),
+    ((LSEEK, 0, 0, 2), None, ESPIPE, (300, 13)),
+    ((LSEEK, 3, 0, 2), None, EBADF, (300, 13)),
+    ((IOCTL, 1, 0x5401, 0), None, ENOTTY, (300, 13)),
+    ((IOCTL, 3, 0x5401, 0), None, EBADF, (300, 13)),
+    ((GETPID, 0, 0, 0), None, 1, (300, 13)),
+    ((FSTAT, 3, 0, 0), None, EBADF, (300, 13)),
+    ((FSTAT, 1, 300, 0), None, EFAULT, (300, 13)),
+    ((FSTAT, 1, 0xffff_ff99, 0), None, EFAULT, (300, 13)),
+    ((79, 0, 0, 0), None, ENOSYS, (300, 13)),
+    ((169, 0, 0, 0), None, ENOSYS, (300, 13)),
+    ((81, 0, 0, 0), None, ENOSYS, (300, 13)),
     ((93, 0x107, 0, 0), Some(7), 0x107, (300, 13)),
     ((94, 255, 0, 0), Some(255), 255, (300, 13)),
 ];
@@ -194,7 +240,7 @@ fn calls_answer(rt: HostRuntime) -> Result<(), Fail> {
 
 /// Calls of a recorder, each with how it ends, its answer, and what is left of the input and held
 /// of the output and of the errors after it.
-static RECORDED: [(Request, Option<u32>, u32, (usize, usize, usize)); 18] = [
+static RECORDED: [(Request, Option<u32>, u32, (usize, usize, usize)); 19] = [
     ((WRITE, 1, 0, 4), None, 4, (3, 4, 0)),
     ((WRITE, 1, 4, 10), None, 6, (3, 10, 0)),
     ((WRITE, 1, 10, 1), None, ENOSPC, (3, 10, 0)),
@@ -211,7 +257,8 @@ static RECORDED: [(Request, Option<u32>, u32, (usize, usize, usize)); 18] = [
     ((WRITE, 2, 100, 3), None, 3, (0, 10, 5)),
     ((BRK, 96, 0, 0), None, 96, (0, 10, 5)),
     ((57, 3, 0, 0), None, EBADF, (0, 10, 5)),
-    ((80, 1, 0, 0), None, ENOSYS, (0, 10, 5)),
+    ((LSEEK, 2, 0, 0), None, ESPIPE, (0, 10, 5)),
+    ((FSTAT, 1, 200, 0), None, EFAULT, (0, 10, 5)),
     ((93, 0x107, 0, 0), Some(7), 0x107, (0, 10, 5)),
 ];
 

@@ -19,7 +19,7 @@ use Rattle.rrs_linux.specs.declared.Process.{Process}
 use Rattle.rrs_linux.specs.declared.host_writer.HostWriter.{HostWriter}
 use Rattle.rrs_linux.specs.declared.requests.Request.{Request}
 use Rattle.rrs_linux.specs.declared.requests.Request.TheVariants.{Exit, Read, WriteOutput}
-use Rattle.rrs_linux.specs.Requests.{Asks, error, AsksBy, ToExit, ToRead, ToWriteOutput, ToWriteErrors, ToSetBreak, ToClose, OfNoFile, OfNoCall}
+use Rattle.rrs_linux.specs.Requests.{Asks, error, AsksBy, TakesEach, ToExit, ToRead, ToWriteOutput, ToWriteErrors, ToSetBreak, ToClose, ToControl, ToSeek, ToGetStatus, ToGetNumber, OfNoFile, OfNoCall}
 use Rattle.rrs_linux.specs.SystemCalls.{Does, ServesBy, WritesOutput, ended_by}
 use Rattle.rrs_linux.specs.Transfers
 use Rattle.rrs_linux.specs.Transfers.{Gives, Takes, Stands, WriteEnds, counted, most_bytes}
@@ -41,6 +41,12 @@ none_of : {call a0 a1 a2 : ℕ} {request : Request} → (call ≡ 93 → ⊥) �
     → (call ≡ 64 → a0 ≡ 1 → ⊥) → Asked call a0 a1 a2 request
 none_of no_exit no_read no_write = (λ e. absurd (no_exit e), λ e f. absurd (no_read e f), λ e f. absurd (no_write e f))
 
+none_of_each : {call a0 a1 a2 : ℕ} {request : Request} → TakesEach call → Asked call a0 a1 a2 request
+none_of_each (inl c) = none_of (λ e. omega (arith, c)) (λ e f. omega (arith, c)) (λ e f. omega (arith, c))
+none_of_each (inr (inl c)) = none_of (λ e. omega (arith, c)) (λ e f. omega (arith, c)) (λ e f. omega (arith, c))
+none_of_each (inr (inr (inl c))) = none_of (λ e. omega (arith, c)) (λ e f. omega (arith, c)) (λ e f. omega (arith, c))
+none_of_each (inr (inr (inr c))) = none_of (λ e. omega (arith, c)) (λ e f. omega (arith, c)) (λ e f. omega (arith, c))
+
 asked : {call a0 a1 a2 : ℕ} {request : Request} → AsksBy call a0 a1 a2 request → Asked call a0 a1 a2 request
 asked (ToExit (inl c) is) = (λ e. is, λ e f. absurd (omega arith), λ e f. absurd (omega arith))
 asked (ToExit (inr c) is) = none_of (λ e. omega arith) (λ e f. omega arith) (λ e f. omega arith)
@@ -49,8 +55,11 @@ asked (ToWriteOutput c d is) = (λ e. absurd (omega arith), λ e f. absurd (omeg
 asked (ToWriteErrors c d is) = none_of (λ e. omega arith) (λ e f. omega arith) (λ e f. omega arith)
 asked (ToSetBreak c is) = none_of (λ e. omega arith) (λ e f. omega arith) (λ e f. omega arith)
 asked (ToClose c d is) = none_of (λ e. omega arith) (λ e f. omega arith) (λ e f. omega arith)
-asked (OfNoFile (inl close) is) =
-    let c = close.0 in none_of (λ e. omega (arith, c)) (λ e f. omega (arith, c)) (λ e f. omega (arith, c))
+asked (ToControl c d is) = none_of (λ e. omega arith) (λ e f. omega arith) (λ e f. omega arith)
+asked (ToSeek c d is) = none_of (λ e. omega arith) (λ e f. omega arith) (λ e f. omega arith)
+asked (ToGetStatus c d is) = none_of (λ e. omega arith) (λ e f. omega arith) (λ e f. omega arith)
+asked (ToGetNumber c is) = none_of (λ e. omega arith) (λ e f. omega arith) (λ e f. omega arith)
+asked (OfNoFile (inl each) is) = none_of_each each.0
 asked (OfNoFile (inr (inl read)) is) =
     let c = read.0 in none_of (λ e. omega (arith, c)) (λ e f. read.1 f) (λ e f. omega (arith, c))
 asked (OfNoFile (inr (inr write)) is) =

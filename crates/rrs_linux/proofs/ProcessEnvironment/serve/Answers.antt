@@ -7,7 +7,7 @@ use Rattle.rrs_env.specs.Serving.{MakesSome}
 use Rattle.rrs_lib.specs.declared.HartState.{HartState}
 use Rattle.rrs_linux.specs.declared.Process.{Process}
 use Rattle.rrs_linux.specs.declared.requests.Request.{Request}
-use Rattle.rrs_linux.specs.declared.requests.Request.TheVariants.{Exit, Answer, SetBreak, Read, WriteOutput, WriteErrors}
+use Rattle.rrs_linux.specs.declared.requests.Request.TheVariants.{Exit, Answer, Status, SetBreak, Read, WriteOutput, WriteErrors}
 use Rattle.rrs_linux.specs.Requests.{Asks}
 use Rattle.rrs_linux.specs.SystemCalls.{Does, ServesBy, answered}
 use Rattle.rrs_linux.specs.Transfers.{Gives, Takes}
@@ -48,6 +48,15 @@ returns-in-SetBreak-clause-served g c =
     let after = went.answered _ _ ∙ (λ i. answered s (set.answer i)) in
     served [] (SetBreak c.in-SetBreak.address) c.in-SetBreak.ensures
     (went.goes_on, (λ i. record process { heap = set.moved i }), after, refl) refl
+
+pub returns-in-Status-clause-served : goal.returns-in-Status-clause-served
+returns-in-Status-clause-served g c =
+    let went = c.go_on-in-Status.ensures in
+    let call = c.put_status-answer in
+    let did = call.ensures.put in
+    let kept = after c.args.executor.now.hart_state.now call.result refl call.ensures.writable_kept in
+    served did.accesses (Status c.in-Status.address) c.in-Status.ensures
+    (went.goes_on, refl, _, call.result, did.these, went.answered _ _ ∙ kept) did.made
 
 pub returns-in-Read-clause-served : goal.returns-in-Read-clause-served
 returns-in-Read-clause-served g c =
