@@ -5,6 +5,7 @@
 #include <stdlib.h>
 #include <string.h>
 
+#include "coverage.h"
 #include "rrs_dpi.h"
 
 #define DEVICE 0x10000000u /* a page: a UART at 0 and 4 */
@@ -24,14 +25,9 @@ struct lockstep {
     uint32_t device_reads;
     int has_trapped;        /* in the record before */
     int has_ended;
+    uint32_t field;         /* in which a record differed, or RRS_SAME */
+    struct coverage coverage;
     struct line lines[LINES];
-};
-
-/* A record of a core, whose addresses are those of words and whose masks and data are shifted. */
-struct record {
-    unsigned long long order;
-    uint32_t insn, trap, pc_rdata, pc_wdata, rs1_addr, rs1_rdata, rs2_addr, rs2_rdata, rd_addr,
-        rd_wdata, mem_addr, mem_rmask, mem_wmask, mem_rdata, mem_wdata;
 };
 
 void *lockstep_new(void *model) {
@@ -103,7 +99,7 @@ static void take_trap(struct lockstep *l, uint32_t epc, uint32_t cause, uint32_t
 }
 
 /* mret, or an instruction of CSRs. Returns 0 where the word is none of them. */
-static int system_step(struct lockstep *l, const struct record *core, rrs_retired *want) {
+static int system_step(struct lockstep *l, const rrs_retired *core, rrs_retired *want) {
     rrs_hart *hart = &l->model->hart;
     uint32_t insn = want->insn, funct3 = insn >> 12 & 7, rd = insn >> 7 & 31;
     uint32_t rs1 = insn >> 15 & 31, number = insn >> 20, old, value;
@@ -140,122 +136,28 @@ static int system_step(struct lockstep *l, const struct record *core, rrs_retire
 static int device_step(struct lockstep *l, rrs_retired *want) {
     rrs_hart *hart = &l->model->hart;
     rrs_access access = rrs_request(hart, want->insn);
-    uint32_t shift = 8 * (access.address & 3), given, bits, mask;
     if (access.fault.kind != RRS_OK || access.kind == RRS_NO_ACCESS ||
         access.address >> 12 != DEVICE >> 12)
         return 0;
-    mask = ((uint32_t)1 << access.size) - 1;
-    bits = access.size == 4 ? 0xffffffff : ((uint32_t)1 << 8 * access.size) - 1;
-    given = l->device_value >> shift;
-    rrs_complete(hart, want->insn, 1, given);
-    want->trap = 0;
-    want->pc_wdata = hart->pc;
-    want->rd_addr = hart->last;
-    want->rd_wdata = hart->last == 0 ? 0 : hart->x[hart->last];
-    want->mem_addr = access.address;
-    if (access.kind == RRS_LOAD) {
-        want->mem_rmask = mask;
-        want->mem_rdata = given & bits;
-    } else {
-        want->mem_wmask = mask;
-        want->mem_wdata = access.value & bits;
-    }
+    rrs_complete_rvfi(hart, want->insn, 1, l->device_value >> 8 * (access.address & 3), l->records,
+                      want);
     return 1;
-}
-
-/* The mcause of an exception. */
-static uint32_t cause_of(rrs_fault fault, uint32_t insn) {
-    switch (fault.kind) {
-    case RRS_ILLEGAL_INSTRUCTION: return 2;
-    case RRS_FETCH_FAULT: return 1;
-    case RRS_LOAD_FAULT: return 5;
-    case RRS_STORE_FAULT: return 7;
-    case RRS_MISALIGNED: return (insn & 127) == 0x23 ? 6 : 4;
-    case RRS_ECALL: return 11;
-    default: return 3;
-    }
 }
 
 /* One instruction of the model: its record, as the core must have it. */
-static void model_step(struct lockstep *l, const struct record *core, rrs_retired *want) {
+static void model_step(struct lockstep *l, const rrs_retired *core, rrs_retired *want) {
     struct rrs_dpi *model = l->model;
-    rrs_hart before = model->hart;
-    rrs_fault fault = rrs_step_rvfi(&model->hart, model->words, model->count, model->base,
-                                    l->records, want);
-    if (fault.kind == RRS_OK && want->pc_wdata % 4 != 0) {
-        /* in a core without C the jump itself traps */
-        uint32_t target = want->pc_wdata;
-        model->hart = before;
-        want->trap = 1;
-        want->rd_addr = want->rd_wdata = 0;
-        take_trap(l, before.pc, 0, target);
-        want->pc_wdata = model->hart.pc;
-    } else if (fault.kind != RRS_OK) {
-        int is_done = fault.kind == RRS_ILLEGAL_INSTRUCTION ? system_step(l, core, want)
-                      : fault.kind == RRS_LOAD_FAULT || fault.kind == RRS_STORE_FAULT
-                          ? device_step(l, want)
-                          : 0;
-        if (!is_done) {
-            uint32_t value = fault.kind == RRS_ILLEGAL_INSTRUCTION ? fault.word
-                             : fault.kind == RRS_ECALL             ? 0
-                                                                   : fault.address;
-            take_trap(l, before.pc, cause_of(fault, want->insn), value);
-            want->pc_wdata = model->hart.pc;
-        }
-    }
-    if ((want->insn & 127) == 0x0f) want->rs1_addr = want->rs1_rdata = 0; /* fence ignores it */
-}
-
-/* A record of the kit as a core tells it: the address of the word, masks and data shifted. */
-static void align(rrs_retired *record) {
-    uint32_t by = record->mem_addr % 4;
-    record->mem_addr -= by;
-    record->mem_rmask <<= by;
-    record->mem_wmask <<= by;
-    record->mem_rdata <<= 8 * by;
-    record->mem_wdata <<= 8 * by;
-}
-
-/* The bits of the bytes of a mask. */
-static uint32_t bits_of(uint32_t mask) {
-    uint32_t bits = 0, i;
-    for (i = 0; i < 4; i++)
-        if (mask >> i & 1) bits |= (uint32_t)255 << 8 * i;
-    return bits;
-}
-
-static int differs(const char *name, uint32_t model, uint32_t core, int is_shown) {
-    if (model == core) return 0;
-    if (is_shown) printf("    %-9s model 0x%08x, core 0x%08x\n", name, model, core);
-    return 1;
-}
-
-/* The number of fields that differ, each of which may be shown. The sources of an instruction that
- * traps may be left out. */
-static int compared(const rrs_retired *want, const struct record *core, int is_shown) {
-    int has_rs1 = core->rs1_addr != 0 || !want->trap, has_rs2 = core->rs2_addr != 0 || !want->trap;
-    int is_illegal = want->trap && want->rs1_addr == 0 && want->rs2_addr == 0;
-    uint32_t rbits = bits_of(core->mem_rmask), wbits = bits_of(core->mem_wmask);
-    int found = differs("order", (uint32_t)want->order, (uint32_t)core->order, is_shown) +
-                differs("insn", want->insn, core->insn, is_shown) +
-                differs("trap", want->trap, core->trap, is_shown) +
-                differs("pc_rdata", want->pc_rdata, core->pc_rdata, is_shown) +
-                differs("pc_wdata", want->pc_wdata, core->pc_wdata, is_shown) +
-                differs("rd_addr", want->rd_addr, core->rd_addr, is_shown) +
-                differs("rd_wdata", want->rd_wdata, core->rd_wdata, is_shown) +
-                differs("mem_rmask", want->mem_rmask, core->mem_rmask, is_shown) +
-                differs("mem_wmask", want->mem_wmask, core->mem_wmask, is_shown) +
-                differs("mem_rdata", want->mem_rdata, core->mem_rdata & rbits, is_shown) +
-                differs("mem_wdata", want->mem_wdata, core->mem_wdata & wbits, is_shown);
-    if (core->mem_rmask != 0 || core->mem_wmask != 0)
-        found += differs("mem_addr", want->mem_addr, core->mem_addr, is_shown);
-    if (has_rs1 && !is_illegal)
-        found += differs("rs1_addr", want->rs1_addr, core->rs1_addr, is_shown) +
-                 differs("rs1_rdata", want->rs1_rdata, core->rs1_rdata, is_shown);
-    if (has_rs2 && !is_illegal)
-        found += differs("rs2_addr", want->rs2_addr, core->rs2_addr, is_shown) +
-                 differs("rs2_rdata", want->rs2_rdata, core->rs2_rdata, is_shown);
-    return found;
+    rrs_fault fault = rrs_step_rvfi_ialign32(&model->hart, model->words, model->count, model->base,
+                                             l->records, want);
+    uint32_t value = fault.kind == RRS_ILLEGAL_INSTRUCTION ? fault.word
+                     : fault.kind == RRS_ECALL             ? 0
+                                                           : fault.address;
+    if (fault.kind == RRS_OK ||
+        (fault.kind == RRS_ILLEGAL_INSTRUCTION && system_step(l, core, want)) ||
+        ((fault.kind == RRS_LOAD_FAULT || fault.kind == RRS_STORE_FAULT) && device_step(l, want)))
+        return;
+    take_trap(l, want->pc_rdata, rrs_cause(&fault, want->pc_rdata, want->insn), value);
+    want->pc_wdata = model->hart.pc;
 }
 
 static void show(const struct line *line) {
@@ -268,40 +170,62 @@ static void show(const struct line *line) {
     printf("\n");
 }
 
-static void report(const struct lockstep *l, const rrs_retired *want, const struct record *core) {
+static void report(const struct lockstep *l, const rrs_retired *want, rrs_difference found) {
     unsigned long long i = l->records < LINES ? 0 : l->records - LINES + 1;
+    char name[RRS_NAME_SIZE];
     printf("record %llu differs; the model's last records:\n", l->records);
     for (; i <= l->records; i++) show(&l->lines[i % LINES]);
     printf("    x%u = 0x%08x, x%u = 0x%08x\n", want->rs1_addr, want->rs1_rdata, want->rs2_addr,
            want->rs2_rdata);
-    compared(want, core, 1);
+    rrs_field_name(found.field, name, sizeof name);
+    printf("    %-9s model 0x%08llx, core 0x%08llx\n", name, (unsigned long long)found.model,
+           (unsigned long long)found.core);
     fflush(stdout);
 }
 
-/* Compares a record. Returns 0 where it is the model's, and else 1, with a report. */
+/* Compares a record. Returns 0 where it is the model's, and else the number of the field that
+ * differs, with a report. */
 int lockstep_retire(void *handle, unsigned long long order, uint32_t insn, uint32_t trap,
                     uint32_t intr, uint32_t pc_rdata, uint32_t pc_wdata, uint32_t rs1_addr,
                     uint32_t rs1_rdata, uint32_t rs2_addr, uint32_t rs2_rdata, uint32_t rd_addr,
                     uint32_t rd_wdata, uint32_t mem_addr, uint32_t mem_rmask, uint32_t mem_wmask,
                     uint32_t mem_rdata, uint32_t mem_wdata) {
     struct lockstep *l = handle;
-    struct record core = {order,     insn,      trap,     pc_rdata, pc_wdata, rs1_addr,
-                          rs1_rdata, rs2_addr,  rs2_rdata, rd_addr, rd_wdata, mem_addr,
-                          mem_rmask, mem_wmask, mem_rdata, mem_wdata};
+    rrs_retired core = {order,    insn,      1,         trap,      pc_rdata, pc_wdata,
+                        rs1_addr, rs1_rdata, rs2_addr,  rs2_rdata, rd_addr,  rd_wdata,
+                        mem_addr, mem_rmask, mem_wmask, mem_rdata, mem_wdata};
     rrs_retired want;
+    rrs_difference found;
     /* the first record of a handler, and no exception before: an interrupt, which the core tells */
     if (intr && !l->has_trapped) take_trap(l, l->model->hart.pc, 0x80000007u, 0);
     model_step(l, &core, &want);
     l->has_trapped = (int)want.trap;
-    align(&want);
     l->lines[l->records % LINES] =
         (struct line){want.pc_rdata, want.insn, want.trap, want.rd_addr, want.rd_wdata,
                       want.mem_addr, want.mem_rmask | want.mem_wmask,
                       want.mem_rmask ? want.mem_rdata : want.mem_wdata};
-    if (compared(&want, &core, 0) != 0) {
-        report(l, &want, &core);
-        return 1;
+    found = rrs_compare(&want, &core, 1);
+    if (found.field != RRS_SAME) {
+        report(l, &want, found);
+        l->field = found.field;
+        return (int)found.field;
     }
+    cover(&l->coverage, &want);
     l->records++;
     return 0;
+}
+
+/* Appends the run to a file, as one line of JSON: its seed, its records, how it ended, and what it
+ * covered. Returns 0 where it is written. */
+int lockstep_tell(void *handle, const char *name, unsigned long long seed) {
+    const struct lockstep *l = handle;
+    char field[RRS_NAME_SIZE];
+    FILE *file = fopen(name, "a");
+    if (file == NULL) return -1;
+    rrs_field_name(l->field, field, sizeof field);
+    fprintf(file, "{\"seed\": %llu, \"records\": %llu, \"field\": \"%s\", \"coverage\": {", seed,
+            l->records, field);
+    tell_coverage(&l->coverage, file);
+    fprintf(file, "}}\n");
+    return fclose(file);
 }
