@@ -1,7 +1,7 @@
 #!/usr/bin/env python3
 """Measures `rrs run --quiet` beside interpreters in C, and prints a table.
 
-usage: measure.py [--counts] [--rounds N] [--peer NAME=BINARY] .. [FILE ..]
+usage: measure.py [--counts] [--rounds N] [--frame] [--save] [--draw] [--peer NAME=BINARY] .. [FILE ..]
 
 Each FILE is a raw program, run from address 0 on to its end; without one they are the programs in
 programs/, which gcc made. Beside these there are programs made here: a loop of so many
@@ -10,13 +10,19 @@ time of the rounds, which take turns, in seconds; with --counts, machine instruc
 valgrind, as the difference of two limits. A peer is called as BINARY FILE LIMIT, and prints
 "steps" with their number; all have to make the same number of steps.
 
-It needs gcc, and rrs built: `.ci/built program rrs` builds it.
+With --frame the seconds of qemu-riscv32, which compiles what it runs, and of Unicorn, which is
+QEMU as a library, stand beside these, for the programs of programs/ alone: both run a program to
+its end. With --save the numbers are written to numbers.tsv beside this script, seconds or counts;
+with --draw the chart of what stands there is drawn by gnuplot, counts.svg and seconds.svg.
+
+It needs gcc, clang where it is there, and rrs built: `.ci/built program rrs` builds it.
 """
 import argparse
 import glob
 import os
 import re
 import resource
+import shutil
 import struct
 import subprocess
 import sys
@@ -25,6 +31,13 @@ import tempfile
 HERE = os.path.dirname(os.path.abspath(__file__))
 CRATE = os.path.join(HERE, "..", "..", "..", "crates", "rrs")
 LIMIT = 20_000_000
+NUMBERS = os.path.join(HERE, "numbers.tsv")
+PEERS = [
+    ("C, decoding", "gcc", "interpreter.c", ["-std=c99"]),
+    ("C, a table", "gcc", "interpreter.c", ["-std=c99", "-DKEEPS"]),
+    ("C, a table, clang", "clang", "interpreter.c", ["-std=c99", "-DKEEPS"]),
+    ("C, computed goto", "gcc", "threaded.c", ["-std=gnu99", "-w", "-DGOTO"]),
+]
 
 
 def addi(rd, rs1, immediate):
@@ -53,10 +66,13 @@ def built(room):
     if not os.access(rrs, os.X_OK):
         sys.exit("measure.py: build rrs first: .ci/built program rrs")
     binaries = {"rrs run --quiet": [rrs, "run", "--quiet"]}
-    for name, flags in (("C, decoding", []), ("C, a table", ["-DKEEPS"])):
+    for name, compiler, source, flags in PEERS:
+        if not shutil.which(compiler):
+            print(f"measure.py: {name} is not compared: there is no {compiler}", file=sys.stderr)
+            continue
         binary = os.path.join(room, name.replace(", ", "-").replace(" ", "-"))
-        subprocess.run(["gcc", "-std=c99", "-O3", *flags, "-o", binary,
-                        os.path.join(HERE, "interpreter.c")], check=True)
+        subprocess.run([compiler, "-O3", *flags, "-o", binary, os.path.join(HERE, source)],
+                       check=True)
         binaries[name] = [binary]
     return binaries
 
@@ -96,13 +112,102 @@ def least(binaries, file, limit, rounds):
     return {name: f"{taken:.3f}" for name, taken in found.items()}, steps.pop()
 
 
+def as_executable(file, room):
+    """The program of a raw file as an ELF file, which is loaded at 0."""
+    with open(file, "rb") as words:
+        text = words.read()
+    header = b"\x7fELF\x01\x01\x01" + bytes(9) + struct.pack(
+        "<HHIIIIIHHHHHH", 2, 243, 1, 0, 52, 0, 0, 52, 32, 1, 40, 0, 0)
+    segment = struct.pack("<IIIIIIII", 1, 0x1000, 0, 0, len(text), 65536, 7, 0x1000)
+    path = os.path.join(room, os.path.basename(file) + ".elf")
+    with open(path, "wb") as out:
+        out.write((header + segment).ljust(0x1000, b"\0") + text)
+    os.chmod(path, 0o755)
+    return path
+
+
+UNICORN = """
+import sys, unicorn
+engine = unicorn.Uc(unicorn.UC_ARCH_RISCV, unicorn.UC_MODE_RISCV32)
+engine.mem_map(0, 65536)
+engine.mem_write(0, open(sys.argv[1], "rb").read())
+try:
+    engine.emu_start(0, 65536)
+except unicorn.UcError:
+    pass
+"""
+
+
+def frame(files, room, rounds):
+    """Prints the least user time of the two frames, which run each program to its end."""
+    frames = {}
+    if shutil.which("qemu-riscv32"):
+        frames["qemu-riscv32"] = lambda file: ["qemu-riscv32", as_executable(file, room)]
+    unicorn = ["/usr/bin/python3", "-c", "import unicorn"]
+    if subprocess.run(unicorn, capture_output=True).returncode == 0:
+        frames["Unicorn"] = lambda file: ["/usr/bin/python3", "-c", UNICORN, file]
+    for name, words in frames.items():
+        for file in files:
+            taken = []
+            for _ in range(rounds):
+                before = resource.getrusage(resource.RUSAGE_CHILDREN).ru_utime
+                subprocess.run(words(file), capture_output=True)
+                taken.append(resource.getrusage(resource.RUSAGE_CHILDREN).ru_utime - before)
+            print(f"{name}: {os.path.basename(file)} {min(taken):.3f}")
+
+
+def save(kind, names, rows):
+    """Replaces the numbers of one kind in the file of numbers."""
+    lines = []
+    if os.path.exists(NUMBERS):
+        with open(NUMBERS, encoding="utf-8") as old:
+            lines = [line for line in old if not line.startswith(kind + "\t")]
+    for program, row in rows:
+        for name in names:
+            lines.append("\t".join([kind, program, name, row[name]]) + "\n")
+    with open(NUMBERS, "w", encoding="utf-8") as out:
+        out.writelines(lines)
+
+
+def draw():
+    """Draws the numbers that are kept, a chart for each kind."""
+    with open(NUMBERS, encoding="utf-8") as kept:
+        numbers = [line.rstrip("\n").split("\t") for line in kept]
+    for kind, title in (("counts", "Machine instructions a step"), ("seconds", "Seconds")):
+        chosen = [number for number in numbers if number[0] == kind]
+        if not chosen:
+            continue
+        programs = list(dict.fromkeys(number[1] for number in chosen))
+        names = list(dict.fromkeys(number[2] for number in chosen))
+        cells = {(number[1], number[2]): number[3] for number in chosen}
+        lines = ["\t".join(["program", *names])]
+        lines += ["\t".join([p, *(cells.get((p, n), "?") for n in names)]) for p in programs]
+        said = [
+            "set terminal svg size 900,420 font 'sans,12' background 'white'",
+            f"set output '{os.path.join(HERE, kind)}.svg'",
+            f"set title '{title}, less is better'",
+            "set style data histogram", "set style histogram cluster gap 1",
+            "set style fill solid 0.8 noborder", "set boxwidth 0.9", "set yrange [0:*]",
+            "set datafile separator '\t'", "set datafile missing '?'", "set grid ytics",
+            "set xtics rotate by -20 noenhanced", "set key outside bottom center horizontal noenhanced",
+            "$numbers << END", *lines, "END",
+            f"plot for [i=2:{len(names) + 1}] $numbers using i:xtic(1) title columnheader(i)",
+        ]
+        subprocess.run(["gnuplot"], input="\n".join(said) + "\n", text=True, check=True)
+
+
 def main():
     parser = argparse.ArgumentParser(usage=__doc__)
     parser.add_argument("--counts", action="store_true")
     parser.add_argument("--rounds", type=int, default=9)
+    parser.add_argument("--frame", action="store_true")
+    parser.add_argument("--save", action="store_true")
+    parser.add_argument("--draw", action="store_true")
     parser.add_argument("--peer", action="append", default=[])
     parser.add_argument("files", nargs="*")
     given = parser.parse_args()
+    if given.draw:
+        return draw()
     with tempfile.TemporaryDirectory() as room:
         binaries = built(room)
         for name, binary in (peer.split("=", 1) for peer in given.peer):
@@ -116,6 +221,9 @@ def main():
             with open(file, "wb") as out:
                 out.write(struct.pack(f"<{len(words)}I", *words))
             programs.append((name, file, LIMIT))
+        if given.frame:
+            return frame(files, room, given.rounds)
+        rows = []
         print("| Program | Steps |", " | ".join(binaries), "|")
         print("|---" * (2 + len(binaries)) + "|")
         for name, file, limit in programs:
@@ -125,7 +233,10 @@ def main():
             else:
                 row, steps = least(binaries, file, limit, given.rounds)
                 steps = f"{steps:,}"
-            print(f"| {name} | {steps} |", " | ".join(row.values()), "|")
+            print(f"| {name} | {steps} |", " | ".join(row.values()), "|", flush=True)
+            rows.append((name, row))
+        if given.save:
+            save("counts" if given.counts else "seconds", list(binaries), rows)
 
 
 main()
