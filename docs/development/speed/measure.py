@@ -10,9 +10,8 @@ time of the rounds, which take turns, in seconds; with --counts, machine instruc
 valgrind, as the difference of two limits. A peer is called as BINARY FILE LIMIT, and prints
 "steps" with their number; all have to make the same number of steps.
 
-With --frame the seconds of qemu-riscv32, which compiles what it runs, and of Unicorn, which is
-QEMU as a library, stand beside these, for the programs of programs/ alone: both run a program to
-its end. With --save the numbers are written to numbers.tsv beside this script, seconds or counts;
+With --frame the seconds of Unicorn are printed, which is QEMU as a library and compiles what it
+runs (Debian's python3-unicorn), for each FILE, to its end. With --save the numbers are written to numbers.tsv beside this script, seconds or counts;
 with --draw the chart of what stands there is drawn by gnuplot, counts.svg and seconds.svg.
 
 It needs gcc, clang where it is there, and rrs built: `.ci/built program rrs` builds it.
@@ -112,20 +111,6 @@ def least(binaries, file, limit, rounds):
     return {name: f"{taken:.3f}" for name, taken in found.items()}, steps.pop()
 
 
-def as_executable(file, room):
-    """The program of a raw file as an ELF file, which is loaded at 0."""
-    with open(file, "rb") as words:
-        text = words.read()
-    header = b"\x7fELF\x01\x01\x01" + bytes(9) + struct.pack(
-        "<HHIIIIIHHHHHH", 2, 243, 1, 0, 52, 0, 0, 52, 32, 1, 40, 0, 0)
-    segment = struct.pack("<IIIIIIII", 1, 0x1000, 0, 0, len(text), 65536, 7, 0x1000)
-    path = os.path.join(room, os.path.basename(file) + ".elf")
-    with open(path, "wb") as out:
-        out.write((header + segment).ljust(0x1000, b"\0") + text)
-    os.chmod(path, 0o755)
-    return path
-
-
 UNICORN = """
 import sys, unicorn
 engine = unicorn.Uc(unicorn.UC_ARCH_RISCV, unicorn.UC_MODE_RISCV32)
@@ -138,22 +123,15 @@ except unicorn.UcError:
 """
 
 
-def frame(files, room, rounds):
-    """Prints the least user time of the two frames, which run each program to its end."""
-    frames = {}
-    if shutil.which("qemu-riscv32"):
-        frames["qemu-riscv32"] = lambda file: ["qemu-riscv32", as_executable(file, room)]
-    unicorn = ["/usr/bin/python3", "-c", "import unicorn"]
-    if subprocess.run(unicorn, capture_output=True).returncode == 0:
-        frames["Unicorn"] = lambda file: ["/usr/bin/python3", "-c", UNICORN, file]
-    for name, words in frames.items():
-        for file in files:
-            taken = []
-            for _ in range(rounds):
-                before = resource.getrusage(resource.RUSAGE_CHILDREN).ru_utime
-                subprocess.run(words(file), capture_output=True)
-                taken.append(resource.getrusage(resource.RUSAGE_CHILDREN).ru_utime - before)
-            print(f"{name}: {os.path.basename(file)} {min(taken):.3f}")
+def frame(files, rounds):
+    """Prints the least user time of Unicorn, which runs each program to its end."""
+    for file in files:
+        taken = []
+        for _ in range(rounds):
+            before = resource.getrusage(resource.RUSAGE_CHILDREN).ru_utime
+            subprocess.run(["/usr/bin/python3", "-c", UNICORN, file], check=True)
+            taken.append(resource.getrusage(resource.RUSAGE_CHILDREN).ru_utime - before)
+        print(f"Unicorn: {os.path.basename(file)} {min(taken):.3f}")
 
 
 def save(kind, names, rows):
@@ -222,7 +200,7 @@ def main():
                 out.write(struct.pack(f"<{len(words)}I", *words))
             programs.append((name, file, LIMIT))
         if given.frame:
-            return frame(files, room, given.rounds)
+            return frame(files, given.rounds)
         rows = []
         print("| Program | Steps |", " | ".join(binaries), "|")
         print("|---" * (2 + len(binaries)) + "|")
