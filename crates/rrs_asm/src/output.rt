@@ -14,9 +14,6 @@ use std::alloc::Global;
 /// The most bytes that are made of a source: 64 MiB.
 pub const MOST_BYTES: usize = 0x400_0000;
 
-/// The word of `unimp`.
-const UNIMP: u32 = 0xc000_1073;
-
 /// A statement and its place.
 #[derive(Debug, PartialEq, Drop)]
 pub struct Placed {
@@ -39,7 +36,7 @@ pub struct Label<'a> {
     pub address: u32,
 }
 
-/// What was made of the items of a section.
+/// A source that was assembled.
 #[derive(Debug, Drop)]
 pub struct Assembled<'a> {
     /// The labels in the order of the source, local labels too.
@@ -111,7 +108,6 @@ fn append(bytes: &mut Vec<u8>, statement: &Statement) -> Result<(), Halt>
         Statement::Pseudo(pseudo) => append_expansion(bytes, &pseudo.expand()),
         Statement::Data(data) => append_data(bytes, data),
         Statement::Fill(count, byte) => append_fill(bytes, *count, *byte),
-        Statement::Unimp => Ok(bytes.extend_from_slice(&UNIMP.to_le_bytes())?),
     }
 }
 

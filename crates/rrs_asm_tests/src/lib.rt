@@ -15,5 +15,3 @@ mod mistakes;
 mod places;
 #[cfg(test)]
 mod programs;
-#[cfg(test)]
-mod sections;
