@@ -11,7 +11,7 @@ use Rattle.rrs_cli.specs.Failures as Failures
 use Rattle.rrs_commands.specs.declared.ending.Refusal.{Refusal}
 use Rattle.rrs_commands.specs.declared.ending.Refusal.TheVariants.{SourceErrors, UnreadableSource, LargeSource, LargeProgram, WrongLimit, Image, IsElf, Failed}
 use Rattle.rrs_commands.specs.declared.subcommands.Task.{Task}
-use Rattle.rrs_commands.specs.declared.subcommands.Task.TheVariants.{Execute}
+use Rattle.rrs_commands.specs.declared.subcommands.Task.TheVariants.{Execute, Board}
 
 abbrev pub signal_of : InstructionException → ℕ
 signal_of (IllegalInstruction pc word) = 4  -- SIGILL
@@ -25,6 +25,7 @@ signal_of (EnvironmentCall pc) = 31  -- SIGSYS; each call is served
 -- where a subcommand refuses what it is asked
 abbrev pub refused_status : Task → Refusal → ℕ
 refused_status Execute refusal = 125
+refused_status Board refusal = 125
 refused_status task SourceErrors = 1
 refused_status task UnreadableSource = 1
 refused_status task LargeSource = 1

@@ -59,7 +59,7 @@ fn refused_status(task: Task, refusal: &Refusal) -> u8
     ensures { result ≡ refused_status task refusal.now }
 {
     match (task, refusal) {
-        (Task::Execute, _) => 125,
+        (Task::Execute | Task::Board, _) => 125,
         (_, Refusal::WrongLimit) => 2,
         (_, Refusal::Failed(failure)) => failure.status(),
         (_, _) => 1,

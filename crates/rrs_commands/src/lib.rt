@@ -7,6 +7,7 @@
 #![tactic(auto)]
 
 pub mod assembly;
+pub mod boards;
 pub mod elf_listing;
 pub mod ending;
 pub mod executables;

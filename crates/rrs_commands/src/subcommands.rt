@@ -13,6 +13,8 @@ pub enum Task {
     Assemble,
     /// It lists what an executable has.
     List,
+    /// It runs firmware on a board.
+    Board,
     /// It says what the others do.
     Help,
 }
@@ -33,7 +35,7 @@ pub struct Subcommand {
 }
 
 /// The subcommands.
-pub static SUBCOMMANDS: [Subcommand; 4] = [RUN, EXECUTE, ASSEMBLE, LIST];
+pub static SUBCOMMANDS: [Subcommand; 5] = [RUN, EXECUTE, ASSEMBLE, LIST, BOARD];
 
 /// The program itself, where it is asked for help or for no subcommand.
 pub static ITSELF: Subcommand = HELP;
@@ -114,13 +116,34 @@ other words.
 ",
 };
 
+/// `rrs board`.
+const BOARD: Subcommand = Subcommand {
+    word: "board",
+    task: Task::Board,
+    command: Command {
+        name: "rrs board",
+        usage: "rrs board [--limit STEPS] [--memory BYTES] PROGRAM",
+    },
+    summary: "runs firmware on a board with machine mode",
+    help: "Runs PROGRAM, an ELF executable for RV32IM, on a board like QEMU's virt: RAM of
+128 MiB (--memory) from 0x80000000 on, a UART 16550 at 0x10000000, whose two
+sides are standard output and standard input, a CLINT at 0x2000000, a finisher at
+0x100000. The hart has machine mode alone, and starts at the entry. It makes at
+most STEPS steps, or any number. Time goes by the instructions that retire, and
+wfi goes forward to the next alarm.
+
+Status: that of the finisher; 124 at the limit; 125 where it can't be run; 126 where
+wfi waits and nothing can wake it.
+",
+};
+
 /// `rrs help`.
 const HELP: Subcommand = Subcommand {
     word: "help",
     task: Task::Help,
     command: Command {
         name: "rrs",
-        usage: "rrs run|exec|as|elf|help ..",
+        usage: "rrs run|exec|as|elf|board|help ..",
     },
     summary: "says this, as --help does",
     help: "A subcommand's own --help says more, such as rrs run --help. The status is 0, 1

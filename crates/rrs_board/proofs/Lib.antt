@@ -1,0 +1,3 @@
+-- Lemmas of this crate.
+pub mod RegisterBytes
+pub mod BoardBytes

@@ -1,0 +1,49 @@
+-- A read is one of the devices, or one of RAM.
+use Rattle.std.proofs.Common.{◌≤◌, sym, ◌∙◌, refl, arith, rules}
+use Rattle.rrs_memory.specs.Bytes.{width}
+use Rattle.rrs_memory.specs.SliceBytes.{bytes_from, lies_from}
+use Rattle.rrs_memory.proofs.SliceWords.{value_from, lawful_from, ends_from}
+use Rattle.rrs_board.specs.Registers.{device_bytes, device_writable, ram_start}
+use Rattle.rrs_board.proofs.RegisterBytes.{lawful_devices}
+use Rattle.rrs_board.proofs.BoardBytes.{low_value, high_value, split_lawful, split_ends}
+use Rattle.rrs_board.proofs.memory.BoardMemoryMemory.read_mem.Goals as goal
+
+pub returns-then-addr-lt-RAM_START-clause-laws : goal.returns-then-addr-lt-RAM_START-clause-laws
+returns-then-addr-lt-RAM_START-clause-laws c =
+    let m = c.args.self.now in
+    let d = m.devices in
+    let a = c.args.addr in
+    let n = width c.args.size in
+    let words = m.ram.mem.items in
+    let laws = c.read_mem.ensures.laws in
+    let high = bytes_from ram_start words in
+    let whigh = lies_from ram_start words in
+    record {
+      value = laws.value ∙ sym (low_value (device_bytes d) high (device_writable d) whigh a c.args.size c.requires (omega (arith, c.if-addr-lt-RAM_START.true)));
+      bytes_kept = search rules;
+      writable_kept = search rules;
+      layout_kept = refl;
+      lawful = split_lawful (device_bytes d) high (device_writable d) whigh a n (lawful_devices d a n) (lawful_from ram_start words a n);
+      ends = split_ends (device_bytes d) high (device_writable d) whigh (ends_from ram_start words);
+    }
+
+pub returns-else-addr-lt-RAM_START-clause-laws : goal.returns-else-addr-lt-RAM_START-clause-laws
+returns-else-addr-lt-RAM_START-clause-laws c =
+    let m = c.args.self.now in
+    let d = m.devices in
+    let a = c.args.addr in
+    let n = width c.args.size in
+    let words = m.ram.mem.items in
+    let laws = c.read_mem-else-addr-lt-RAM_START.ensures.laws in
+    let high = bytes_from ram_start words in
+    let whigh = lies_from ram_start words in
+    let from : ram_start ≤ a = omega (arith, c.if-addr-lt-RAM_START.false) in
+    record {
+      value = laws.value ∙ sym (high_value (device_bytes d) high (device_writable d) whigh a n from
+          ∙ value_from ram_start a c.args.size c.requires (omega arith) words from);
+      bytes_kept = search rules;
+      writable_kept = search rules;
+      layout_kept = search rules;
+      lawful = split_lawful (device_bytes d) high (device_writable d) whigh a n (lawful_devices d a n) (lawful_from ram_start words a n);
+      ends = split_ends (device_bytes d) high (device_writable d) whigh (ends_from ram_start words);
+    }

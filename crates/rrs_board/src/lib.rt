@@ -1,0 +1,27 @@
+//! A board with a hart of machine mode, at the addresses of QEMU's `virt`: RAM, a UART, a CLINT and
+//! a finisher.
+//!
+//! [Board::step] makes a step of the hart, and then the devices answer to what it did. [Board::run]
+//! makes steps until a device has an event for the caller: a byte that is transmitted, input that
+//! is wanted, the end of the program, or a `wfi` that nothing wakes. The caller has the terminal:
+//! nothing here reads or writes a file.
+//!
+//! During a step the registers of the devices are a lawful memory (`specs/Registers.antt`): a byte
+//! that is written reads back. What they do of their own they do between two steps
+//! (`specs/Effects.antt`).
+
+#![tactic(auto)]
+
+pub mod board;
+pub mod devices;
+pub mod effects;
+pub mod loading;
+pub mod memory;
+pub mod terminal;
+
+pub use board::{Board, BoardEnd, BoardStep};
+pub use devices::{DeviceAccess, Devices};
+pub use effects::BoardEvent;
+pub use loading::BoardError;
+pub use memory::BoardMemory;
+pub use terminal::run_at_terminal;
