@@ -32,7 +32,6 @@ def contents():
         yield "rrs/__init__.py", file.read()
     with open(LIBRARY, "rb") as file:
         yield "rrs/librrs.so", file.read()
-    yield "rrs/py.typed", b""
     yield f"{INFO}/METADATA", METADATA.encode()
     yield f"{INFO}/WHEEL", WHEEL.encode()
 
