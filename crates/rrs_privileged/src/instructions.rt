@@ -3,7 +3,7 @@
 ghost use Rattle.std.specs.Prelude.{◌≡◌, ◌+◌, ◌-◌, ◌/◌, ◌%◌, ◌^◌, ◌<◌, IfSome, IfNone};
 ghost use Rattle.rrs_instruction.specs.declared.instruction_formats.IType.{IType as IFields};
 ghost use Rattle.rrs_instruction.specs.Encodings.{I, IsInRange};
-ghost use Rattle.rrs_privileged.specs.SystemInstructions.{IsSystem, csr_number, always_writes, writes_csr, has_immediate, updated, csr_row, privileged_row, system_row, fence_row, row_of_word, HasPlaces};
+ghost use Rattle.rrs_privileged.specs.SystemInstructions.{IsSystem, csr_number, always_writes, writes_csr, has_immediate, updated, HasPlaces};
 
 use rrs_instruction::arithmetic;
 use rrs_lib::instruction_formats::IType;
@@ -97,8 +97,9 @@ impl SystemInstruction {
 
 /// The row of a word with the opcode SYSTEM and funct3 0.
 fn privileged_row(word: u32) -> Option<SystemRow>
-    ensures row { result ≡ privileged_row word }
+    requires { (word % 2 ^ 7 ≡ 0x73) × (word / 2 ^ 12 % 2 ^ 3 ≡ 0) }
     ensures places { IfSome result (HasPlaces word) }
+    ensures none { IfNone result ((row : SystemRow) → ¬ HasPlaces word row) }
 {
     match word {
         0x3020_0073 => Some(SystemRow::Mret),
@@ -110,8 +111,8 @@ fn privileged_row(word: u32) -> Option<SystemRow>
 /// The row of a word with the opcode SYSTEM.
 fn system_row(word: u32) -> Option<SystemRow>
     requires { word % 2 ^ 7 ≡ 0x73 }
-    ensures row { result ≡ system_row word (word / 2 ^ 12 % 2 ^ 3) }
     ensures places { IfSome result (HasPlaces word) }
+    ensures none { IfNone result ((row : SystemRow) → ¬ HasPlaces word row) }
 {
     match word / 0x1000 % 8 {
         0 => privileged_row(word),
@@ -128,8 +129,8 @@ fn system_row(word: u32) -> Option<SystemRow>
 /// The row of a word with the opcode MISC-MEM.
 fn fence_row(word: u32) -> Option<SystemRow>
     requires { word % 2 ^ 7 ≡ 0x0f }
-    ensures row { result ≡ fence_row (word / 2 ^ 12 % 2 ^ 3) }
     ensures places { IfSome result (HasPlaces word) }
+    ensures none { IfNone result ((row : SystemRow) → ¬ HasPlaces word row) }
 {
     match word / 0x1000 % 8 {
         1 => Some(SystemRow::FenceI),
@@ -139,8 +140,8 @@ fn fence_row(word: u32) -> Option<SystemRow>
 
 /// The row of a word.
 fn row_of_word(word: u32) -> Option<SystemRow>
-    ensures row { result ≡ row_of_word word }
     ensures places { IfSome result (HasPlaces word) }
+    ensures none { IfNone result ((row : SystemRow) → ¬ HasPlaces word row) }
 {
     match word % 0x80 {
         0x73 => system_row(word),
