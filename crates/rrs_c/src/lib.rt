@@ -57,7 +57,7 @@ use rrs_lib::disassembly::Disassembled;
 use rrs_lib::instruction::decode;
 use rrs_lib::instruction_executor::InstructionException;
 use rrs_lib::memories::SliceMemory;
-use rrs_trace::{complete, request};
+use rrs_trace::{complete_parts, request_parts};
 use text::put_text;
 
 /// The version of this interface, 65536 times the major number plus 256 times the minor one plus
@@ -241,7 +241,7 @@ pub extern "C" fn rrs_request(hart: &RrsHart, word: u32) -> RrsAccess
         Foretells s (request_answer result)) }
     ensures told { IsAccess result }
 {
-    access_or_fault(request(&opened(hart), word))
+    access_or_fault(request_parts(&hart.x, hart.pc, word))
 }
 
 /// Executes the instruction `word`, the word at the pc, with what C's memory or device answered to
@@ -255,10 +255,10 @@ pub extern "C" fn rrs_complete(hart: &mut RrsHart, word: u32, granted: u32, valu
     ensures last { hart.new.last < 32 }
     ensures entry_zero { slice_index hart.new.x 0 ≡ slice_index hart.old.x 0 }
 {
-    let mut state = opened(hart);
-    let answer = complete(&mut state, word, given_by(granted, value));
-    close(&state, hart);
-    fault_of_answer(answer)
+    let end = complete_parts(&mut hart.x, hart.pc, word, given_by(granted, value));
+    hart.pc = end.pc;
+    hart.last = number_of(end.last_register_write);
+    fault_of_answer(end.answer)
 }
 
 /// Does what `rrs_complete` does, and tells what the step retired, under this number. A load or a
@@ -281,11 +281,12 @@ pub extern "C" fn rrs_complete_rvfi(
     ensures last { hart.new.last < 32 }
     ensures entry_zero { slice_index hart.new.x 0 ≡ slice_index hart.old.x 0 }
 {
-    let mut state = opened(hart);
-    let (answer, seen) = complete_retired(&mut state, word, given_by(granted, value), order);
-    close(&state, hart);
+    let given = given_by(granted, value);
+    let (end, seen) = complete_retired(&mut hart.x, hart.pc, word, given, order);
+    hart.pc = end.pc;
+    hart.last = number_of(end.last_register_write);
     *retired = written_out(&seen);
-    fault_of_answer(answer)
+    fault_of_answer(end.answer)
 }
 
 /// The exception code of the machine cause register for a fault of the word at this pc: 0 to 7 or

@@ -1,5 +1,5 @@
 -- The register that was written last by an instruction whose access was answered: one of 1 to 31, or none.
-use Rattle.std.proofs.Common.{◌≡◌, ℕ, zero, suc, ◌+◌, ◌%◌, ◌==◌, ◌<◌, ℤ, pos, Bool, true, false, if◌then◌else◌, Option, Some, None, Ok, Err, sym, ap, subst, ◌∙◌, arith}
+use Rattle.std.proofs.Common.{◌≡◌, ℕ, zero, suc, ◌+◌, ◌%◌, ◌==◌, ◌<◌, ℤ, pos, Bool, true, false, if◌then◌else◌, Option, Some, None, Ok, Err, sym, subst, ◌∙◌, arith}
 use Rattle.rrs_lib.specs.declared.HartState.{HartState}
 use Rattle.rrs_lib.specs.Encodings.{Fields, R, I, IShamt, S, B, U, J, IsInRange}
 use Rattle.rrs_lib.specs.Table.{Row, table, format_of, Decodes, Action, OnRegisters, OnImmediate, OnShamt, LoadUpper, AddUpperToPc, BranchIf, BranchUnless, Load, Store, JumpAndLink, JumpAndLinkRegister, NoEffect, CallEnvironment, Break}

@@ -14,7 +14,8 @@ use Rattle.rrs_lib.specs.Instructions.{row_of, fields_of, IsInstruction}
 use Rattle.rrs_lib.specs.Encodings.{Fields, R, I, IShamt, S, B, U, J}
 use Rattle.rrs_lib.specs.Table.{Row, table, Decodes, IsIllegal, Action, OnRegisters, OnImmediate, OnShamt, LoadUpper, AddUpperToPc, BranchIf, BranchUnless, Load, Store, JumpAndLink, JumpAndLinkRegister, NoEffect, CallEnvironment, Break}
 use Rattle.rrs_lib.specs.Bytes.{ByteMap, width, little_endian, all_writable}
-use Rattle.rrs_lib.specs.Machine.{State, execute, state_of, reg, put, plus_immediate, Answer, Outcome, outcome, branch_outcome, fault_outcome, load_outcome, read_outcome, store_outcome, granted_outcome, outcome_by, Executes}
+use Rattle.rrs_lib.specs.Machine.{State, execute, state_of, hart_of, reg, put, plus_immediate, Answer, Outcome, outcome, branch_outcome, fault_outcome, load_outcome, read_outcome, store_outcome, granted_outcome, outcome_by}
+use Rattle.rrs_lib.specs.Engines.{GoesOn, gone_on, if_gone_on}
 use Rattle.rrs_lib.specs.Steps.{Step, StepAnswer, next_word, Misaligned, Unmapped, Illegal, Legal, cleared, advanced, answered}
 use Rattle.rrs_lib.specs.Accesses.{Access, AccessesOf, fetch, read_if_aligned, accesses_by, size_of}
 use Rattle.rrs_lib.proofs.Rows.{one_row_at_most, these}
@@ -22,7 +23,7 @@ use Rattle.rrs_lib.proofs.ComputedSteps.{step_of-is_step}
 use Rattle.rrs_lib.proofs.Keeping.{same_reg, address-cleared}
 use Rattle.rrs_lib.proofs.Making.{AccessesOf-unique, accesses_of_legal, accesses_of_illegal}
 use Rattle.rrs_trace.specs.declared.outside.DataRequest.{DataRequest}
-use Rattle.rrs_trace.specs.Outside.{RequestAnswer, requested, Foretells, WithEachMemory, AccessesAfterFetch, Completes, AnsweredBy, bytes_after, request_by, call_fault, answer_to, answer_by, loaded, is_load, outcome_given, GoesTo, FindsAccess, GoesBehind, Asks, Advances, Performs, StepsAlone}
+use Rattle.rrs_trace.specs.Outside.{RequestAnswer, requested, Foretells, WithEachMemory, AccessesAfterFetch, Completes, AnsweredBy, bytes_after, request_by, call_fault, answer_to, answer_by, loaded, is_load, outcome_given, GoesTo, FindsAccess, GoesBehind, Asks, Performs, StepsAlone}
 
 -- ---- an action that accesses nothing, over another memory
 
@@ -169,17 +170,25 @@ performs_alone row f given old new r answer asks is alone = record {
       subst (GoesTo (state_of new bytes writable) answer) (sym moved) (goes, alone.answers);
 }
 
--- an instruction that did not set the program counter
-pub steps_on : (row : Row) (f : Fields) (s u t : State) (old new : HartState) (a : Answer)
-    → Executes row f s u a → a ≡ Ok false → u ≡ state_of old (λ a. None) (λ a. false)
-    → t ≡ state_of new (λ a. None) (λ a. false) → Advances old new → StepsAlone row f s t (Ok tt)
-steps_on row f s u t old new a executes is before after goes = record {
-  after = u;
-  set = Ok false;
-  executes = subst (Executes row f s u) is executes;
-  goes = after ∙ goes.advances (λ a. None) (λ a. false) ∙ ap (λ x. advanced x (Ok false)) (sym before);
-  answers = refl;
-}
+-- an instruction that was gone on from
+gone_from : (o : Option Outcome) (row : Row) (f : Fields) (s t : State) (a : Answer)
+    → execute row f s ≡ o → if_gone_on o ≡ Some (outcome t a) → StepsAlone row f s t (answered a)
+unfolding gone_on
+gone_from None row f s t a is goes = absurd (none-some _ goes)
+gone_from (Some o) row f s t a is goes =
+    let same : outcome (advanced o.after o.answer) o.answer ≡ outcome t a = same_Some _ _ goes in
+    record {
+      after = o.after;
+      set = o.answer;
+      executes = is;
+      goes = ap (λ (x : Outcome). x.after) (sym same);
+      answers = ap (λ (x : Outcome). answered x.answer) (sym same);
+    }
+
+pub gone_alone : (row : Row) (f : Fields) (s u t v : State) (a : Answer) (answer : StepAnswer)
+    → GoesOn row f u v a → answer ≡ answered a → u ≡ s → t ≡ v → StepsAlone row f s t answer
+gone_alone row f s u t v a answer goes is before after =
+    subst (λ x. x) (λ i. StepsAlone row f (before i) (sym after i) (sym is i)) (gone_from _ row f u v a refl goes)
 
 -- ---- the step
 
@@ -294,6 +303,14 @@ completes_illegal old w given aligned outside = λ bytes writable has accesses a
     let none = after_fetch s accesses [] aligned are (accesses_of_illegal s w aligned (has aligned) outside) in
     Illegal w aligned (has aligned) outside
     (ap (λ xs. state_of (without_last old) (bytes_after xs bytes) writable) none) refl
+
+pub completes_refused : (registers : List ℕ) (pc pc' w : ℕ) (last last' : Option ℕ) (given : Option ℕ)
+    (answer : StepAnswer) → answer ≡ Err (IllegalInstruction pc w) → pc' ≡ pc → last' ≡ None
+    → pc % 4 ≡ 0 → IsIllegal w → Completes (hart_of registers pc last) (hart_of registers pc' last') w given answer
+completes_refused registers pc pc' w last last' given answer is same none aligned outside =
+    let before = hart_of registers pc last in
+    subst (λ x. x) (λ i. Completes before (hart_of registers (sym same i) (sym none i)) w given (sym is i))
+    (completes_illegal before w given aligned outside)
 
 pub completes_row : (old new : HartState) (w : ℕ) (row : Row) (f : Fields) (given : Option ℕ)
     (answer : StepAnswer) → old.pc % 4 ≡ 0 → Decodes w row f

@@ -1,10 +1,11 @@
 -- An access that is made outside of the machine: what the instruction at the program counter asks
 -- of a memory, and what a hart is left as once the answer is known (RISC-V unprivileged
 -- specification, RV32I, "Load and Store Instructions").
-use Rattle.std.specs.Prelude.{◌≡◌, ◌≢◌, ℕ, ◌%◌, ◌^◌, List, [], ◌∷◌, ◌++◌, ℤ, ◌==◌, Bool, true, false, if◌then◌else◌, Option, Some, None, is_some, option_map, IfSome, IsSomeAnd, Result, Ok, Err}
+use Rattle.std.specs.Prelude.{◌≡◌, ◌≢◌, ℕ, ◌%◌, ◌^◌, List, [], ◌∷◌, ◌++◌, ℤ, ◌==◌, Bool, true, false, if◌then◌else◌, Option, Some, None, is_some, option_map, slice_index, IfSome, IsSomeAnd, Result, Ok, Err}
 use Rattle.rrs_lib.specs.declared.MemAccessSize.{MemAccessSize}
 use Rattle.rrs_lib.specs.declared.MemAccessSize.TheVariants.{Word}
 use Rattle.rrs_lib.specs.declared.HartState.{HartState}
+use Rattle.rrs_lib.specs.declared.instruction_executor.StepEnd.{StepEnd}
 use Rattle.rrs_lib.specs.declared.instruction_executor.InstructionException.{InstructionException}
 use Rattle.rrs_lib.specs.declared.instruction_executor.InstructionException.TheVariants.{AlignmentFault, LoadAccessFault, StoreAccessFault, EnvironmentCall, Breakpoint}
 use Rattle.rrs_instruction.specs.declared.instruction_formats.IType.{IType}
@@ -14,10 +15,11 @@ use Rattle.rrs_lib.specs.Encodings.{Fields, I, S}
 use Rattle.rrs_lib.specs.Instructions.{row_of, fields_of, IsInstruction}
 use Rattle.rrs_lib.specs.Table.{Row, table, Action, Load, Store, CallEnvironment, Break, Decodes}
 use Rattle.rrs_lib.specs.Bytes.{ByteMap, width, little_endian, store}
-use Rattle.rrs_lib.specs.Machine.{State, reg, put, state_of, plus_immediate, Answer, Outcome, outcome, fault_outcome, outcome_by, Executes}
+use Rattle.rrs_lib.specs.Machine.{State, reg, put, state_of, hart_of, plus_immediate, Answer, Outcome, outcome, fault_outcome, outcome_by, Executes}
 use Rattle.rrs_lib.specs.Steps.{Step, StepAnswer, next_word, cleared, advanced, answered}
 use Rattle.rrs_lib.specs.Accesses.{Access, Read, Write, AccessesOf, read_in, write_in, read_if_aligned, size_of}
 use Rattle.rrs_trace.specs.declared.outside.DataRequest.{DataRequest}
+use Rattle.rrs_trace.specs.declared.outside.Answered.{Answered}
 
 -- ---- what is asked
 
@@ -215,3 +217,10 @@ pub record Performs (row : Row) (f : Fields) (given : Option ℕ) (old new : Har
   pub asks : Asks row f old request
   pub performs : (bytes : ByteMap) (writable : ℕ → Bool) → GoesTo (state_of new bytes writable)
       answer (outcome_given (table row).action f request given (state_of old bytes writable))
+
+-- a hart that is taken apart performs so, in the place where it was
+pub record PerformsOn (row : Row) (f : Fields) (old new : Answered) (end : StepEnd) : Type 0 where
+  pub performs : Performs row f old.given (hart_of old.registers.now old.pc None)
+      (hart_of new.registers.now end.pc end.last_register_write) end.answer
+  pub entry_zero : slice_index new.registers.now 0 ≡ slice_index old.registers.now 0
+  pub same_registers : new.registers.ghost_name ≡ old.registers.ghost_name

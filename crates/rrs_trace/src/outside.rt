@@ -5,23 +5,25 @@
 //! [complete] executes it with what was answered; both work on a hart alone. [complete_load] and
 //! [complete_store] do the same for the load or the store at which a run ended.
 
-ghost use Rattle.std.specs.Prelude.{◌≡◌, ◌<◌, ℕ, [], Bool, true, false, Option, None, Some, Ok, IfSome, slice_index, ℤ};
+ghost use Rattle.std.specs.Prelude.{◌≡◌, ◌<◌, ℕ, List, [], Bool, true, false, Option, None, Some, Ok, Err, IfSome, slice_index, ℤ};
 ghost use Rattle.std.specs.Bool.{OnTrue, OnFalse};
 ghost use Rattle.rrs_lib.specs.Bytes.{ByteMap};
 ghost use Rattle.rrs_lib.specs.Encodings.{HasRegisters};
 ghost use Rattle.rrs_lib.specs.Table.{table};
 ghost use Rattle.rrs_lib.specs.Instructions.{row_of, fields_of};
-ghost use Rattle.rrs_lib.specs.Machine.{State, state_of, reg, plus_immediate, put};
+ghost use Rattle.rrs_lib.specs.Machine.{State, state_of, hart_of, reg, plus_immediate, put};
 ghost use Rattle.rrs_lib.specs.Words.{word};
 ghost use Rattle.rrs_lib.specs.Steps.{LastIsRegister};
 ghost use Rattle.rrs_lib.specs.Executor.{state_in, KeepsTheRest};
 ghost use Rattle.rrs_lib.specs.Accesses.{read_if_aligned, Makes, size_of};
-ghost use Rattle.rrs_trace.specs.Outside.{requested, AccessesAfterFetch, Foretells, WithEachMemory, Completes, LoadsGiven, StoresElsewhere, request_by, call_fault, answer_to, address_of, size_asked, FindsAccess, GoesBehind, Asks, Loads, Advances, Grants, StepsAlone, Performs};
+ghost use Rattle.rrs_trace.specs.Outside.{requested, AccessesAfterFetch, Foretells, WithEachMemory, Completes, LoadsGiven, StoresElsewhere, request_by, call_fault, refusal, answer_to, address_of, size_asked, FindsAccess, GoesBehind, Asks, Loads, Advances, Grants, StepsAlone, Performs, PerformsOn};
 
 use rrs_instruction::arithmetic;
-use rrs_lib::instruction::{DataAccess, Instruction, decode};
-use rrs_lib::instruction_executor::{InstructionException, InstructionExecutor};
-use rrs_lib::{HartState, InstructionHandler, MemAccessSize, Memory};
+use rrs_lib::instruction::{Instruction, decode};
+use rrs_lib::instruction_executor::engine::{Engine, step_answer};
+use rrs_lib::instruction_executor::{InstructionException, InstructionExecutor, StepEnd};
+use rrs_lib::instruction_formats::{IType, SType};
+use rrs_lib::{HartState, InstructionHandler, MemAccessSize, Memory, process_instruction};
 
 /// The load or the store that an instruction makes. The address is a multiple of the size.
 #[derive(Debug, PartialEq, Clone, Copy)]
@@ -34,7 +36,7 @@ pub enum DataRequest {
 
 impl DataRequest {
     /// The address of the first byte.
-    #[inline]
+    #[inline(always)]
     fn address(self) -> u32
         ensures { result ≡ address_of self }
     {
@@ -44,8 +46,19 @@ impl DataRequest {
         }
     }
 
+    /// The exception where the access is refused.
+    #[inline(always)]
+    fn refusal(self) -> InstructionException
+        ensures { result ≡ refusal self }
+    {
+        match self {
+            DataRequest::Load(address, _) => InstructionException::LoadAccessFault(address),
+            DataRequest::Store(address, _, _) => InstructionException::StoreAccessFault(address),
+        }
+    }
+
     /// The size of the access.
-    #[inline]
+    #[inline(always)]
     fn size(self) -> MemAccessSize
         ensures { result ≡ size_asked self }
     {
@@ -77,12 +90,55 @@ pub fn request(hart: &HartState, word: u32) -> Result<Option<DataRequest>, Instr
         AccessesAfterFetch s (requested s result)) }
     ensures foretold { WithEachMemory hart.now word (λ s. Foretells s result) }
 {
-    if !MemAccessSize::Word.is_aligned(hart.pc) {
-        return Err(InstructionException::AlignmentFault(hart.pc));
+    request_parts(&hart.registers, hart.pc, word)
+}
+
+/// The access that the instruction `word` makes on a hart whose registers and pc are handed in
+/// apart: [request] for a hart that is kept in another layout.
+///
+/// The clauses are those of [request], whatever register was written last.
+///
+/// # Errors
+///
+/// Those of [request].
+#[inline]
+pub fn request_parts(
+    registers: &[u32; 32],
+    pc: u32,
+    word: u32,
+) -> Result<Option<DataRequest>, InstructionException>
+    ensures access { (last : Option ℕ) → WithEachMemory (hart_of registers.now pc last) word (λ s.
+        AccessesAfterFetch s (requested s result)) }
+    ensures foretold { (last : Option ℕ) → WithEachMemory (hart_of registers.now pc last) word
+        (λ s. Foretells s result) }
+{
+    if !MemAccessSize::Word.is_aligned(pc) {
+        return Err(InstructionException::AlignmentFault(pc));
     }
-    match decode(word) {
-        Some(instruction) => data_request_of(hart, &instruction),
-        None => Err(InstructionException::IllegalInstruction(hart.pc, word)),
+    match process_instruction(&mut Asked { registers, pc }, word) {
+        Some(answer) => answer,
+        None => Err(InstructionException::IllegalInstruction(pc, word)),
+    }
+}
+
+/// A hart of which an instruction's access is asked.
+#[derive(Drop)]
+struct Asked<'a> {
+    /// Its registers.
+    registers: &'a [u32; 32],
+    /// Its pc.
+    pc: u32,
+}
+
+impl<'a> InstructionHandler for Asked<'a> {
+    type Answer = Result<Option<DataRequest>, InstructionException>;
+
+    ghost did = { λ row f old new answer.
+        (last : Option ℕ) → Asks row f (hart_of old.registers.now old.pc last) answer };
+
+    #[inline(always)]
+    fn handle(&mut self, instruction: &Instruction) -> Self::Answer {
+        data_request_of(self.registers, self.pc, instruction)
     }
 }
 
@@ -114,13 +170,74 @@ pub fn complete(
     ensures last { LastIsRegister hart.new.last_register_write }
     ensures entry_zero { slice_index hart.new.registers 0 ≡ slice_index hart.old.registers 0 }
 {
-    hart.last_register_write = None;
-    if !MemAccessSize::Word.is_aligned(hart.pc) {
-        return Err(InstructionException::AlignmentFault(hart.pc));
+    let end = complete_parts(&mut hart.registers, hart.pc, word, given);
+    hart.pc = end.pc;
+    hart.last_register_write = end.last_register_write;
+    end.answer
+}
+
+/// Executes the instruction `word` on a hart whose registers and pc are handed in apart, with what
+/// was answered to its access: [complete] for a hart that is kept in another layout.
+///
+/// The clauses are those of [complete], whatever register was written last before.
+///
+/// # Errors
+///
+/// The answer is that of [complete], with its exceptions; what each leaves is as there.
+#[inline]
+pub fn complete_parts(registers: &mut [u32; 32], pc: u32, word: u32, given: Option<u32>) -> StepEnd
+    ensures step { (last : Option ℕ) → Completes (hart_of registers.old pc last)
+        (hart_of registers.new result.pc result.last_register_write) word given result.answer }
+    ensures last { LastIsRegister result.last_register_write }
+    ensures entry_zero { slice_index registers.new 0 ≡ slice_index registers.old 0 }
+{
+    if !MemAccessSize::Word.is_aligned(pc) {
+        return refused(InstructionException::AlignmentFault(pc), pc);
     }
-    match decode(word) {
-        Some(instruction) => perform(hart, &instruction, given),
-        None => Err(InstructionException::IllegalInstruction(hart.pc, word)),
+    let mut hart = Answered {
+        registers,
+        pc,
+        given,
+    };
+    match process_instruction(&mut hart, word) {
+        Some(end) => end,
+        None => refused(InstructionException::IllegalInstruction(pc, word), pc),
+    }
+}
+
+/// A hart that executes an instruction, with the answer to its access.
+#[derive(Drop)]
+struct Answered<'a> {
+    /// Its registers.
+    registers: &'a mut [u32; 32],
+    /// Its pc.
+    pc: u32,
+    /// The answer.
+    given: Option<u32>,
+}
+
+impl<'a> InstructionHandler for Answered<'a> {
+    type Answer = StepEnd;
+
+    ghost did = { PerformsOn };
+
+    #[inline(always)]
+    fn handle(&mut self, instruction: &Instruction) -> StepEnd {
+        perform(self.registers, self.pc, instruction, self.given)
+    }
+}
+
+/// How a step ends that has an exception.
+#[inline(always)]
+fn refused(exception: InstructionException, pc: u32) -> StepEnd
+    ensures answer { result.answer ≡ Err exception }
+    ensures pc { result.pc ≡ pc }
+    ensures last { result.last_register_write ≡ None }
+{
+    StepEnd {
+        answer: Err(exception),
+        pc,
+        last_register_write: None,
     }
 }
 
@@ -141,7 +258,7 @@ fn access_at_pc<M: Memory>(
 {
     let word = executor.word_at_pc()?;
     let instruction = decode(word)?;
-    match data_request_of(executor.hart_state, &instruction) {
+    match data_request_at(executor.hart_state, &instruction) {
         Ok(Some(request)) => Some((instruction, request)),
         _ => None,
     }
@@ -168,8 +285,10 @@ fn go_behind<M: Memory>(executor: &mut InstructionExecutor<M>, is_load: bool, va
     if matches!(request, DataRequest::Load(..)) != is_load {
         return false;
     }
-    executor.hart_state.last_register_write = None;
-    grant(executor.hart_state, &instruction, value);
+    let hart = &mut *executor.hart_state;
+    let end = grant(&mut hart.registers, hart.pc, &instruction, value);
+    hart.pc = end.pc;
+    hart.last_register_write = end.last_register_write;
     true
 }
 
@@ -220,40 +339,69 @@ pub fn complete_store<M: Memory>(executor: &mut InstructionExecutor<M>) -> bool
     go_behind(executor, false, 0)
 }
 
-/// What an instruction asks of the memory, whether or not the address is aligned.
-#[inline]
-fn access_of(hart: &HartState, instruction: &Instruction) -> Option<DataRequest>
-    requires { HasRegisters (fields_of instruction.now) }
-    ensures { (bytes : ByteMap) (writable : ℕ → Bool) → result
-        ≡ request_by (table (row_of instruction.now)).action (fields_of instruction.now)
-        (state_of hart.now bytes writable) }
+/// The value of a register.
+#[inline(always)]
+fn read(registers: &[u32; 32], register: usize) -> u32
+    requires { register < 32 }
+    ensures { (pc : ℕ) (last : Option ℕ) (bytes : ByteMap) (writable : ℕ → Bool) → result
+        ≡ reg (state_of (hart_of registers.now pc last) bytes writable) register }
 {
-    let access = instruction.access()?;
-    let base = hart.read_register(instruction.rs1()?);
-    let address = arithmetic::plus_immediate(base, instruction.immediate()?);
-    match access {
-        DataAccess::Load(bytes) => Some(DataRequest::Load(address, size_of(bytes))),
-        DataAccess::Store(bytes) => {
-            let value = hart.read_register(instruction.rs2()?);
-            Some(DataRequest::Store(address, size_of(bytes), value))
-        }
+    if register == 0 {
+        0
+    } else {
+        registers[register]
     }
 }
 
-/// The size of an access of 1, 2 or 4 bytes.
-#[inline]
-fn size_of(bytes: u32) -> MemAccessSize
-    ensures { result ≡ size_of bytes }
+/// A load from the address that a register and an immediate give.
+#[inline(always)]
+fn load_at(registers: &[u32; 32], fields: IType, size: MemAccessSize) -> DataRequest
+    requires { fields.rs1 < 32 }
+    ensures { (pc : ℕ) (last : Option ℕ) (bytes : ByteMap) (writable : ℕ → Bool) → result
+        ≡ DataRequest.Load (plus_immediate
+        (reg (state_of (hart_of registers.now pc last) bytes writable) fields.rs1) fields.imm) size }
 {
-    match bytes {
-        1 => MemAccessSize::Byte,
-        2 => MemAccessSize::HalfWord,
-        _ => MemAccessSize::Word,
+    let base = read(registers, fields.rs1);
+    DataRequest::Load(arithmetic::plus_immediate(base, fields.imm), size)
+}
+
+/// A store of a register to the address that a register and an immediate give.
+#[inline(always)]
+fn store_at(registers: &[u32; 32], fields: SType, size: MemAccessSize) -> DataRequest
+    requires { (fields.rs1 < 32) × (fields.rs2 < 32) }
+    ensures { (pc : ℕ) (last : Option ℕ) (bytes : ByteMap) (writable : ℕ → Bool) → result
+        ≡ DataRequest.Store (plus_immediate
+        (reg (state_of (hart_of registers.now pc last) bytes writable) fields.rs1) fields.imm) size
+        (reg (state_of (hart_of registers.now pc last) bytes writable) fields.rs2) }
+{
+    let base = read(registers, fields.rs1);
+    let address = arithmetic::plus_immediate(base, fields.imm);
+    DataRequest::Store(address, size, read(registers, fields.rs2))
+}
+
+/// What an instruction asks of the memory, whether or not the address is aligned.
+#[inline(always)]
+fn access_of(registers: &[u32; 32], instruction: &Instruction) -> Option<DataRequest>
+    requires { HasRegisters (fields_of instruction.now) }
+    ensures { (pc : ℕ) (last : Option ℕ) (bytes : ByteMap) (writable : ℕ → Bool) → result
+        ≡ request_by (table (row_of instruction.now)).action (fields_of instruction.now)
+        (state_of (hart_of registers.now pc last) bytes writable) }
+{
+    match *instruction {
+        Instruction::Lb(fields) => Some(load_at(registers, fields, MemAccessSize::Byte)),
+        Instruction::Lbu(fields) => Some(load_at(registers, fields, MemAccessSize::Byte)),
+        Instruction::Lh(fields) => Some(load_at(registers, fields, MemAccessSize::HalfWord)),
+        Instruction::Lhu(fields) => Some(load_at(registers, fields, MemAccessSize::HalfWord)),
+        Instruction::Lw(fields) => Some(load_at(registers, fields, MemAccessSize::Word)),
+        Instruction::Sb(fields) => Some(store_at(registers, fields, MemAccessSize::Byte)),
+        Instruction::Sh(fields) => Some(store_at(registers, fields, MemAccessSize::HalfWord)),
+        Instruction::Sw(fields) => Some(store_at(registers, fields, MemAccessSize::Word)),
+        _ => None,
     }
 }
 
 /// The answer for an instruction that accesses nothing: the exception of `ecall` and `ebreak`.
-#[inline]
+#[inline(always)]
 fn answer_of_call(
     pc: u32,
     instruction: &Instruction,
@@ -268,15 +416,18 @@ fn answer_of_call(
 }
 
 /// The access that an instruction makes, or the exception before any.
+#[inline(always)]
 fn data_request_of(
-    hart: &HartState,
+    registers: &[u32; 32],
+    pc: u32,
     instruction: &Instruction,
 ) -> Result<Option<DataRequest>, InstructionException>
     requires { HasRegisters (fields_of instruction.now) }
-    ensures { Asks (row_of instruction.now) (fields_of instruction.now) hart.now result }
+    ensures { (last : Option ℕ) → Asks (row_of instruction.now) (fields_of instruction.now)
+        (hart_of registers.now pc last) result }
 {
-    let Some(request) = access_of(hart, instruction) else {
-        return answer_of_call(hart.pc, instruction);
+    let Some(request) = access_of(registers, instruction) else {
+        return answer_of_call(pc, instruction);
     };
     let address = request.address();
     if request.size().is_aligned(address) {
@@ -284,6 +435,18 @@ fn data_request_of(
     } else {
         Err(InstructionException::AlignmentFault(address))
     }
+}
+
+/// The access that an instruction makes on a hart, or the exception before any.
+#[inline]
+fn data_request_at(
+    hart: &HartState,
+    instruction: &Instruction,
+) -> Result<Option<DataRequest>, InstructionException>
+    requires { HasRegisters (fields_of instruction.now) }
+    ensures { Asks (row_of instruction.now) (fields_of instruction.now) hart.now result }
+{
+    data_request_of(&hart.registers, hart.pc, instruction)
 }
 
 /// A memory where nothing is mapped, for an instruction that accesses nothing.
@@ -310,101 +473,118 @@ impl Memory for Unmapped {
     }
 }
 
-/// Goes on to the next instruction.
-#[inline]
-fn advance(hart: &mut HartState)
-    ensures advances { Advances hart.old hart.new }
-    ensures registers_kept { hart.new.registers ≡ hart.old.registers }
+/// The address of the next instruction.
+#[inline(always)]
+fn next_pc(pc: u32) -> u32
+    ensures advances { (registers : List ℕ) (last : Option ℕ) → Advances
+        (hart_of registers pc last) (hart_of registers result last) }
 {
-    hart.pc = hart.pc.wrapping_add(4);
+    pc.wrapping_add(4)
 }
 
-/// Executes an instruction that accesses nothing, and goes on to the next one.
-fn step_alone(hart: &mut HartState, instruction: &Instruction) -> Result<(), InstructionException>
+/// Executes an instruction that accesses nothing, and goes on to the next one, on a hart that has
+/// written no register.
+#[inline(always)]
+fn step_alone(registers: &mut [u32; 32], pc: u32, instruction: &Instruction) -> StepEnd
     requires { HasRegisters (fields_of instruction.now) }
     ensures steps { StepsAlone (row_of instruction.now) (fields_of instruction.now)
-        (state_of hart.old (λ a. None) (λ a. false))
-        (state_of hart.new (λ a. None) (λ a. false)) result }
-    ensures entry_zero { slice_index hart.new.registers 0 ≡ slice_index hart.old.registers 0 }
+        (state_of (hart_of registers.old pc None) (λ a. None) (λ a. false))
+        (state_of (hart_of registers.new result.pc result.last_register_write)
+        (λ a. None) (λ a. false)) result.answer }
+    ensures entry_zero { slice_index registers.new 0 ≡ slice_index registers.old 0 }
 {
-    let mut executor = InstructionExecutor {
-        mem: &mut Unmapped,
-        hart_state: hart,
-    };
-    if !executor.handle(instruction)? {
-        advance(hart);
+    let mut nothing = Unmapped;
+    let mut engine = Engine::new(&mut nothing, registers, pc, None);
+    let answer = step_answer(engine.process(instruction));
+    let (pc, last_register_write) = engine.put_together();
+    StepEnd {
+        answer,
+        pc,
+        last_register_write,
     }
-    Ok(())
 }
 
-/// Writes a register with a whole number modulo 2^32.
-#[inline]
-fn write(hart: &mut HartState, rd: usize, value: u32)
+/// Writes a register with a whole number modulo 2^32, and returns which register was written.
+#[inline(always)]
+fn write(registers: &mut [u32; 32], rd: usize, value: u32) -> Option<usize>
     requires { rd < 32 }
-    ensures written { (bytes : ByteMap) (writable : ℕ → Bool) (z : ℤ) → value ≡ word z
-        → state_of hart.new bytes writable ≡ put (state_of hart.old bytes writable) rd z }
-    ensures entry_zero { slice_index hart.new.registers 0 ≡ slice_index hart.old.registers 0 }
+    ensures written { (pc : ℕ) (bytes : ByteMap) (writable : ℕ → Bool) (z : ℤ) → value ≡ word z
+        → state_of (hart_of registers.new pc result) bytes writable
+        ≡ put (state_of (hart_of registers.old pc None) bytes writable) rd z }
+    ensures entry_zero { slice_index registers.new 0 ≡ slice_index registers.old 0 }
 {
-    hart.write_register(rd, value);
+    if rd == 0 {
+        return None;
+    }
+    registers[rd] = value;
+    Some(rd)
 }
 
-/// Gives the register of a load a value that was read, extended as the load says.
-fn load_given(hart: &mut HartState, instruction: &Instruction, value: u32)
+/// Gives the register of a load a value that was read, extended as the load says, and returns which
+/// register was written.
+#[inline(always)]
+fn load_given(registers: &mut [u32; 32], instruction: &Instruction, value: u32) -> Option<usize>
     requires { HasRegisters (fields_of instruction.now) }
-    ensures loads { Loads (row_of instruction.now) (fields_of instruction.now) value
-        hart.old hart.new }
-    ensures entry_zero { slice_index hart.new.registers 0 ≡ slice_index hart.old.registers 0 }
+    ensures loads { (pc : ℕ) → Loads (row_of instruction.now) (fields_of instruction.now) value
+        (hart_of registers.old pc None) (hart_of registers.new pc result) }
+    ensures entry_zero { slice_index registers.new 0 ≡ slice_index registers.old 0 }
 {
     let byte = value & 0xff;
     let half_word = value & 0xffff;
     match *instruction {
-        Instruction::Lb(fields) => write(hart, fields.rd, arithmetic::sign_extended_byte(byte)),
-        Instruction::Lbu(fields) => write(hart, fields.rd, byte),
-        Instruction::Lh(fields) => {
-            write(
-                hart,
-                fields.rd,
-                arithmetic::sign_extended_half_word(half_word),
-            );
+        Instruction::Lb(fields) => {
+            write(registers, fields.rd, arithmetic::sign_extended_byte(byte))
         }
-        Instruction::Lhu(fields) => write(hart, fields.rd, half_word),
-        Instruction::Lw(fields) => write(hart, fields.rd, value),
-        _ => {}
+        Instruction::Lbu(fields) => write(registers, fields.rd, byte),
+        Instruction::Lh(fields) => {
+            let extended = arithmetic::sign_extended_half_word(half_word);
+            write(registers, fields.rd, extended)
+        }
+        Instruction::Lhu(fields) => write(registers, fields.rd, half_word),
+        Instruction::Lw(fields) => write(registers, fields.rd, value),
+        _ => None,
     }
 }
 
 /// Executes a load with a value that was read, or a store that was carried out, and goes on to the
-/// next instruction.
-fn grant(hart: &mut HartState, instruction: &Instruction, value: u32)
+/// next instruction, on a hart that has written no register.
+#[inline(always)]
+fn grant(registers: &mut [u32; 32], pc: u32, instruction: &Instruction, value: u32) -> StepEnd
     requires { HasRegisters (fields_of instruction.now) }
     ensures grants { Grants (row_of instruction.now) (fields_of instruction.now) value
-        hart.old hart.new }
-    ensures entry_zero { slice_index hart.new.registers 0 ≡ slice_index hart.old.registers 0 }
+        (hart_of registers.old pc None)
+        (hart_of registers.new result.pc result.last_register_write) }
+    ensures entry_zero { slice_index registers.new 0 ≡ slice_index registers.old 0 }
+    ensures fine { result.answer ≡ Ok tt }
 {
-    load_given(hart, instruction, value);
-    advance(hart);
+    let last_register_write = load_given(registers, instruction, value);
+    StepEnd {
+        answer: Ok(()),
+        pc: next_pc(pc),
+        last_register_write,
+    }
 }
 
 /// Executes an instruction with the answer to its access, on a hart that has written no register.
+#[inline(always)]
 fn perform(
-    hart: &mut HartState,
+    registers: &mut [u32; 32],
+    pc: u32,
     instruction: &Instruction,
     given: Option<u32>,
-) -> Result<(), InstructionException>
+) -> StepEnd
     requires { HasRegisters (fields_of instruction.now) }
     ensures performs { Performs (row_of instruction.now) (fields_of instruction.now) given
-        hart.old hart.new result }
-    ensures entry_zero { slice_index hart.new.registers 0 ≡ slice_index hart.old.registers 0 }
+        (hart_of registers.old pc None)
+        (hart_of registers.new result.pc result.last_register_write) result.answer }
+    ensures entry_zero { slice_index registers.new 0 ≡ slice_index registers.old 0 }
 {
-    let Some(request) = data_request_of(hart, instruction)? else {
-        return step_alone(hart, instruction);
-    };
-    let Some(value) = given else {
-        return Err(match request {
-            DataRequest::Load(address, _) => InstructionException::LoadAccessFault(address),
-            DataRequest::Store(address, _, _) => InstructionException::StoreAccessFault(address),
-        });
-    };
-    grant(hart, instruction, value);
-    Ok(())
+    match data_request_of(registers, pc, instruction) {
+        Err(exception) => refused(exception, pc),
+        Ok(None) => step_alone(registers, pc, instruction),
+        Ok(Some(request)) => match given {
+            Some(value) => grant(registers, pc, instruction, value),
+            None => refused(request.refusal(), pc),
+        },
+    }
 }

@@ -9,4 +9,4 @@ returns-in_default-clause-none g c = none_behind _ _ _ _ c.access_at_pc.ensures.
 pub returns-clause-behind : goal.returns-clause-behind
 returns-clause-behind g c =
     goes_behind _ _ _ _ _ c.in-Some.instruction c.in-Some.request _ c.access_at_pc.ensures.finds
-    (search rules) (search rules) c.access_at_pc.ensures.kept (c.grant.ensures.grants.grants _ _)
+    (search rules) (search rules) c.access_at_pc.ensures.kept (c.grant-end.ensures.grants.grants _ _)

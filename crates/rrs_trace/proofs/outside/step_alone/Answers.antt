@@ -1,9 +1,8 @@
--- An instruction that did not set the pc goes on to the next one.
-use Rattle.std.proofs.Common.{Ok, ap, ◌∙◌, rules}
-use Rattle.rrs_trace.proofs.OutsideSteps.{steps_on}
+-- What was gone on from is what the instruction leaves.
+use Rattle.std.proofs.Common.{rules}
+use Rattle.rrs_trace.proofs.OutsideSteps.{gone_alone}
 use Rattle.rrs_trace.proofs.outside.step_alone.Goals as goal
 
-pub returns-then-not-branch-clause-steps : goal.returns-then-not-branch-clause-steps
-returns-then-not-branch-clause-steps c =
-    let set = c.in_ok-handle.was ∙ ap (λ b. Ok b) c.if-not-branch.true in
-    steps_on _ _ _ _ _ _ _ _ c.handle.ensures.executes set (search rules) (search rules) c.advance.ensures.advances
+pub returns-clause-steps : goal.returns-clause-steps
+returns-clause-steps c =
+    gone_alone _ _ _ _ _ _ _ _ c.process.ensures.goes_on c.step_answer-answer.ensures (search rules) (search rules)
