@@ -265,7 +265,7 @@ all() {
     try "rust: README says which Rust it needs" rust_says_what_it_needs
     try "the library for Python" gcc -shared -o "$room/librrs.so" \
         -Wl,--whole-archive "$library" -Wl,--no-whole-archive
-    try "python: its tests" python_passes 16
+    try "python: its tests" python_passes 20
     try "python: three_words prints what is stored" python_prints
     try "python: replay answers as is stored" answers python replay.py
     try "python: the structs and constants are those of rrs.h" python_has_layouts

@@ -30,6 +30,7 @@ def contents():
     """The files of the wheel, but the record of them."""
     with open(MODULE, "rb") as file:
         yield "rrs/__init__.py", file.read()
+    yield "rrs/py.typed", b""
     with open(LIBRARY, "rb") as file:
         yield "rrs/librrs.so", file.read()
     yield f"{INFO}/METADATA", METADATA.encode()

@@ -10,20 +10,23 @@ End(steps=3, fault=Fault('FETCH_FAULT', address=0x0000000c), at_stop=False)
 'add x1, x2, x3'
 
 The library is the file that the environment's RRS_LIBRARY names; or ``librrs.so`` beside this module,
-as the wheel has it; or ``crates/rrs_c/out/librrs.so`` of the repository that it stands in. The import is an ImportError where it can't be loaded,
-or has another version than this module.
+as the wheel has it; or ``crates/rrs_c/out/librrs.so`` of the repository that it stands in. The
+import is an ImportError where it can't be loaded, or has another version than this module.
 
 Only one thread at a time may use a machine, its registers and its memory: a call lets other threads
 go on, and nothing checks this. Different machines may be used at the same time.
 """
+
+from __future__ import annotations
 
 import ctypes
 import enum
 import functools
 import os
 import struct
-from collections import namedtuple
+from collections.abc import Callable, Iterable, Iterator, MutableSequence, Sequence
 from pathlib import Path
+from typing import NamedTuple, Optional, Tuple, Union, overload
 
 __all__ = [
     "Machine",
@@ -145,7 +148,7 @@ _NAME_SIZE = 20
 _NO_CAUSE = 0xFFFFFFFF
 
 
-def _name(kind, number):
+def _name(kind: str, number: int) -> Optional[str]:
     """The name of a number, and None where it has none."""
     text = ctypes.create_string_buffer(_NAME_SIZE)
     length = _names[kind](_word_of(number), text, _NAME_SIZE)
@@ -164,34 +167,59 @@ class FaultKind(enum.IntEnum):
     EBREAK = 7
 
 
-class Fault(namedtuple("Fault", "kind address word")):
+class Fault(NamedTuple):
     """A fault: its FaultKind, the pc or the data address, and the word of ILLEGAL_INSTRUCTION.
 
     It leaves the registers, the pc and memory as they were.
     """
 
-    __slots__ = ()
+    kind: FaultKind
+    address: int
+    word: int
 
-    def cause(self, pc, word):
+    def cause(self, pc: int, word: int) -> int:
         """The exception code that mcause has for this fault of ``word``, the word at the pc. Of
         MISALIGNED it is 4 of a load, 6 of a store, and 0 of the pc, a jump or a branch."""
         return _cause(ctypes.byref(_Fault(*self)), _word_of(pc), _word_of(word))
 
     @property
-    def name(self):
+    def name(self) -> Optional[str]:
         """The name of the fault's kind, such as "illegal instruction"."""
         return _name("fault", self.kind)
 
-    def __repr__(self):
+    def __repr__(self) -> str:
         word = f", word=0x{self.word:08x}" if self.kind == FaultKind.ILLEGAL_INSTRUCTION else ""
         return f"Fault({self.kind.name!r}, address=0x{self.address:08x}{word})"
 
 
-End = namedtuple("End", "steps fault at_stop")
-End.__doc__ = """How a run ended: the steps, the Fault or None, and whether it is at a stop."""
+class End(NamedTuple):
+    """How a run ended: the steps, the Fault or None, and whether it is at a stop."""
 
-Retired = namedtuple("Retired", [name for name, _ in _Retired._fields_])
-Retired.__doc__ = """What a step retired, under the names of RVFI: rrs.h says of each what it is."""
+    steps: int
+    fault: Optional[Fault]
+    at_stop: bool
+
+
+class Retired(NamedTuple):
+    """What a step retired, under the names of RVFI: rrs.h says of each what it is."""
+
+    order: int
+    insn: int
+    fetched: int
+    trap: int
+    pc_rdata: int
+    pc_wdata: int
+    rs1_addr: int
+    rs1_rdata: int
+    rs2_addr: int
+    rs2_rdata: int
+    rd_addr: int
+    rd_wdata: int
+    mem_addr: int
+    mem_rmask: int
+    mem_wmask: int
+    mem_rdata: int
+    mem_wdata: int
 
 
 class Field(enum.IntEnum):
@@ -215,13 +243,19 @@ class Field(enum.IntEnum):
     MEM_WDATA = 16
 
 
-Difference = namedtuple("Difference", "field model core")
-Difference.__doc__ = """A Field in which two records differ, and what the model and the core have.
-The address and the masks of the model are as the core tells them, and of data these are the bytes
-of the mask, lowest first."""
+class Difference(NamedTuple):
+    """A Field in which two records differ, and what the model and the core have. The address and the
+    masks of the model are as the core tells them, and of data these are the bytes of the mask,
+    lowest first."""
+
+    field: Field
+    model: int
+    core: int
 
 
-def compare(model, core, by_words=False):
+def compare(
+    model: Sequence[int], core: Sequence[int], by_words: bool = False
+) -> Optional[Difference]:
     """The first Difference of a core's Retired from the model's, and None where none differs.
 
     ``by_words`` says that the core tells the address of the word that it accesses, and shifts masks
@@ -248,40 +282,54 @@ class AccessKind(enum.IntEnum):
     STORE = 2
 
 
-Access = namedtuple("Access", "kind address size value")
-Access.__doc__ = """A load or a store: its AccessKind, the address of the first byte, how many
-bytes, and of a store the register's value, whose low bytes are stored."""
+class Access(NamedTuple):
+    """A load or a store: its AccessKind, the address of the first byte, how many bytes, and of a
+    store the register's value, whose low bytes are stored."""
 
-Instruction = namedtuple("Instruction", [name for name, _ in _Instruction._fields_])
-Instruction.__doc__ = """The number of a row, 1 to 48, and its fields, 0 where its format has none.
-The immediate of ecall is 0 and of ebreak 1, and fence has any."""
-
-
-_record = struct.Struct("=Q16I")
-_fields = struct.Struct("=5Ii")
+    kind: AccessKind
+    address: int
+    size: int
+    value: int
 
 
-def _retired_of(record):
-    """The record as a tuple, in one copy."""
-    return Retired._make(_record.unpack_from(record))
+class Instruction(NamedTuple):
+    """The number of a row, 1 to 48, and its fields, 0 where its format has none. The immediate of
+    ecall is 0 and of ebreak 1, and fence has any."""
+
+    row: int
+    rd: int
+    rs1: int
+    rs2: int
+    shamt: int
+    imm: int
+
+
+# Each struct is read in one copy.
+_record = struct.Struct("=Q16I").unpack_from
+_fields = struct.Struct("=5Ii").unpack_from
+_access = struct.Struct("=12x4I").unpack_from
+
+_new = tuple.__new__
+_access_kinds = {int(kind): kind for kind in AccessKind}
 
 
 def _fault_of(fault):
-    return Fault(FaultKind(fault.kind), fault.address, fault.word) if fault.kind else None
+    kind = fault.kind
+    return Fault(FaultKind(kind), fault.address, fault.word) if kind else None
 
 
 def _end_of(end):
     return End(end.steps, _fault_of(end.fault), bool(end.at_stop))
 
 
-def _word_of(value):
+def _word_of(value: int) -> int:
     """A number of 32 bits; negative ones are meant in two's complement."""
     if not -(2**31) <= value < 2**32:
         raise ValueError(f"{value} is no number of 32 bits")
     return value % 2**32
 
 
-def _long_of(value, name):
+def _long_of(value: int, name: str) -> int:
     """A number of 64 bits, which is not negative."""
     if not 0 <= value < 2**64:
         raise ValueError(f"{name} {value} is no number of 64 bits")
@@ -303,11 +351,17 @@ def _words_type(count):
 class _Registers:
     """The registers x0 to x31 of a machine, as a sequence. x0 is 0, and a write to it is none."""
 
-    def __init__(self, hart):
+    def __init__(self, hart: _Hart) -> None:
         self._hart = hart
 
-    def __len__(self):
+    def __len__(self) -> int:
         return 32
+
+    @overload
+    def __getitem__(self, index: int) -> int: ...
+
+    @overload
+    def __getitem__(self, index: slice) -> list[int]: ...
 
     def __getitem__(self, index):
         if isinstance(index, slice):
@@ -316,13 +370,16 @@ class _Registers:
             raise IndexError(index)
         return self._hart.x[index % 32] if index % 32 else 0
 
-    def __setitem__(self, index, value):
+    def __setitem__(self, index: int, value: int) -> None:
         if not -32 <= index < 32:
             raise IndexError(index)
         if index % 32:
             self._hart.x[index % 32] = _word_of(value)
 
-    def __repr__(self):
+    def __iter__(self) -> Iterator[int]:
+        return iter(self[:])
+
+    def __repr__(self) -> str:
         return repr(self[:])
 
 
@@ -334,7 +391,12 @@ class Machine:
     has a hart and words of its own. Only one thread at a time may use a machine.
     """
 
-    def __init__(self, program, base=0, size=None):
+    def __init__(
+        self,
+        program: Union[bytes, bytearray, memoryview, Sequence[int]],
+        base: int = 0,
+        size: Optional[int] = None,
+    ) -> None:
         if _word_of(base) % 4:
             raise ValueError("base is misaligned")
         if isinstance(program, (bytes, bytearray, memoryview)):
@@ -353,59 +415,86 @@ class Machine:
             count,
             self._base,
         )
+        self._record = _Retired()
+        self._recorded = ctypes.byref(self._record)
 
     @property
-    def memory(self):
+    def memory(self) -> MutableSequence[int]:
         """The words of memory, which may be read and written."""
         return self._memory
 
     @property
-    def base(self):
+    def base(self) -> int:
         """The address of the first word."""
         return self._base
 
     @property
-    def registers(self):
+    def registers(self) -> _Registers:
         """The registers x0 to x31."""
         return _Registers(self._hart)
 
     @property
-    def pc(self):
+    def pc(self) -> int:
         """The address of the next instruction."""
         return self._hart.pc
 
     @pc.setter
-    def pc(self, value):
+    def pc(self, value: int) -> None:
         self._hart.pc = _word_of(value)
 
     @property
-    def last(self):
+    def last(self) -> Optional[int]:
         """The number of the register that the latest step wrote, or None."""
         return self._hart.last if 0 < self._hart.last < 32 else None
 
-    def step(self):
+    def step(self) -> Optional[Fault]:
         """Executes the instruction at the pc. Returns the Fault, or None."""
         return _fault_of(_step(*self._arguments))
 
-    def step_rvfi(self, order=0):
+    def step_rvfi(self, order: int = 0) -> Tuple[Optional[Fault], Retired]:
         """Executes the instruction at the pc. Returns the Fault or None, and what it Retired."""
-        record = _Retired()
-        fault = _step_rvfi(*self._arguments, _long_of(order, "order"), ctypes.byref(record))
-        return _fault_of(fault), _retired_of(record)
+        fault = _step_rvfi(*self._arguments, _long_of(order, "order"), self._recorded)
+        return _fault_of(fault), _new(Retired, _record(self._record))
 
-    def step_rvfi_ialign32(self, order=0):
+    def step_rvfi_ialign32(self, order: int = 0) -> Tuple[Optional[Fault], Retired]:
         """Does what step_rvfi does, but that a jump or a taken branch to an address that is no
         multiple of 4 faults itself, as in a core whose IALIGN is 32."""
-        record = _Retired()
-        order = _long_of(order, "order")
-        fault = _step_rvfi_ialign32(*self._arguments, order, ctypes.byref(record))
-        return _fault_of(fault), _retired_of(record)
+        fault = _step_rvfi_ialign32(*self._arguments, _long_of(order, "order"), self._recorded)
+        return _fault_of(fault), _new(Retired, _record(self._record))
 
-    def run(self, limit):
-        """Makes steps until ``limit`` were made, or one faults. Returns the End."""
-        return _end_of(_run(*self._arguments, _long_of(limit, "limit")))
+    def run(
+        self, limit: int, access: Optional[Callable[[Access], Optional[int]]] = None
+    ) -> End:
+        """Makes steps until ``limit`` were made, or one faults. Returns the End.
 
-    def run_until(self, stops, limit):
+        ``access`` is for devices. It is called with each Access that the words of memory refuse, in
+        the order of the program, and answers what complete calls ``given``: the value that a load
+        reads, of a store any number, and None where it refuses too, which ends the run with the
+        fault. The pc is then that of the instruction, and an exception that ``access`` raises leaves
+        the machine so too. It may read the machine, and write its memory.
+
+        >>> machine = Machine([0x0000_a103, 0x0020_a223])  # lw x2, 0(x1); sw x2, 4(x1)
+        >>> machine.registers[1] = 0x1000_0000
+        >>> machine.run(2, access=lambda asked: print(asked) or 7)
+        Access(kind=<AccessKind.LOAD: 1>, address=268435456, size=4, value=0)
+        Access(kind=<AccessKind.STORE: 2>, address=268435460, size=4, value=7)
+        End(steps=2, fault=None, at_stop=False)
+        """
+        end = _end_of(_run(*self._arguments, _long_of(limit, "limit")))
+        if access is None:
+            return end
+        made = end.steps
+        while end.fault and end.fault.kind in (FaultKind.LOAD_FAULT, FaultKind.STORE_FAULT):
+            word = self._memory[(self._hart.pc - self._base) // 4]
+            given = access(self.request(word)[1])
+            if given is None:
+                break
+            self.complete(word, given)
+            end = _end_of(_run(*self._arguments, limit - made - 1))
+            made += 1 + end.steps
+        return end._replace(steps=made)
+
+    def run_until(self, stops: Iterable[int], limit: int) -> End:
         """Makes steps until the pc is one of the addresses ``stops``, ``limit`` were made, or one
         faults. The first step is made wherever the pc is. Returns the End."""
         words = [*map(_word_of, stops)]
@@ -413,40 +502,42 @@ class Machine:
         limit = _long_of(limit, "limit")
         return _end_of(_run_until(*self._arguments, limit, addresses, len(words)))
 
-    def request(self, word):
+    def request(self, word: int) -> Tuple[Optional[Fault], Optional[Access]]:
         """The access that ``word``, the word at the pc, asks for. Returns the Fault before any
         access or None, and the Access or None. Nothing changes, and the memory isn't looked at."""
-        access = _request(self._arguments[0], _word_of(word))
-        if not access.kind:
-            return _fault_of(access.fault), None
-        kind = AccessKind(access.kind)
-        return None, Access(kind, access.address, access.size, access.value)
+        asked = _request(self._arguments[0], _word_of(word))
+        kind, address, size, value = _access(asked)
+        if not kind:
+            return _fault_of(asked.fault), None
+        known = _access_kinds.get(kind) or AccessKind(kind)
+        return None, _new(Access, (known, address, size, value))
 
-    def complete(self, word, given):
+    def complete(self, word: int, given: Optional[int]) -> Optional[Fault]:
         """Executes ``word``, the word at the pc, whose access the caller made: ``given`` is the
         value that a load read, of a store any number, and None where the access is refused. The
         memory isn't looked at. Returns the Fault, or None."""
         value = 0 if given is None else _word_of(given)
         return _fault_of(_complete(self._arguments[0], _word_of(word), given is not None, value))
 
-    def complete_rvfi(self, word, given, order=0):
+    def complete_rvfi(
+        self, word: int, given: Optional[int], order: int = 0
+    ) -> Tuple[Optional[Fault], Retired]:
         """Does what complete does. Returns the Fault or None, and what the step Retired."""
         value = 0 if given is None else _word_of(given)
-        record = _Retired()
         fault = _complete_rvfi(
             self._arguments[0],
             _word_of(word),
             given is not None,
             value,
             _long_of(order, "order"),
-            ctypes.byref(record),
+            self._recorded,
         )
-        return _fault_of(fault), _retired_of(record)
+        return _fault_of(fault), _new(Retired, _record(self._record))
 
-    def __reduce__(self):
+    def __reduce__(self) -> tuple:
         return _restored, (type(self), bytes(self._memory), self._base, bytes(self._hart))
 
-    def __repr__(self):
+    def __repr__(self) -> str:
         return f"Machine(pc=0x{self.pc:08x}, {len(self.memory)} words from 0x{self.base:08x})"
 
 
@@ -457,15 +548,13 @@ def _restored(kind, memory, base, hart):
     return machine
 
 
-def decode(word):
+def decode(word: int) -> Optional[Instruction]:
     """The Instruction that a word is, and None for an illegal instruction."""
-    instruction = _decode(_word_of(word))
-    if not instruction.row:
-        return None
-    return Instruction._make(_fields.unpack_from(instruction))
+    fields = _fields(_decode(_word_of(word)))
+    return _new(Instruction, fields) if fields[0] else None
 
 
-def disassemble(word, pc=0):
+def disassemble(word: int, pc: int = 0) -> Optional[str]:
     """The text of the instruction that a word is at the address ``pc``, and None for a word outside
     the table."""
     text = ctypes.create_string_buffer(_TEXT_SIZE)
@@ -473,16 +562,16 @@ def disassemble(word, pc=0):
     return text.raw[:length].decode("ascii") if length else None
 
 
-def row_name(row):
+def row_name(row: int) -> Optional[str]:
     """The name of a row of the table, 1 to 48, such as "addi", and None for another number."""
     return _name("row", row)
 
 
-def register_name(number):
+def register_name(number: int) -> Optional[str]:
     """The name of a register 0 to 31 in the ABI, such as "a0", and None for another number."""
     return _name("register", number)
 
 
-def field_name(field):
+def field_name(field: int) -> Optional[str]:
     """The name of a Field, such as "rd_wdata", "same" for 0, and None for another number."""
     return _name("field", field)

@@ -3,15 +3,20 @@
 
 import copy
 import doctest
+import inspect
 import os
 import pickle
+import pydoc
 import subprocess
 import sys
+import typing
 import unittest
 from pathlib import Path
+from types import SimpleNamespace
 
 import rrs
-from rrs import AccessKind, End, Fault, FaultKind, Machine
+from core_check import PORTS, check_core
+from rrs import Access, AccessKind, End, Fault, FaultKind, Machine
 
 
 class Faces(unittest.TestCase):
@@ -106,6 +111,86 @@ class Faces(unittest.TestCase):
         self.assertIsNone(machine.complete(load, -1))
         self.assertEqual((machine.registers[2], machine.pc, machine.last), (2**32 - 1, 8, 2))
 
+    def test_devices_are_asked_in_a_run(self):
+        load, store, add = 0x00008103, 0x0020A223, 0x00108093  # lb x2, (x1); sw x2, 4(x1); addi
+        loads = Access(AccessKind.LOAD, 0x10000000, 1, 0)
+        stores = Access(AccessKind.STORE, 0x10000004, 4, 2**32 - 128)
+        asked = []
+
+        def access(made):
+            asked.append(made)
+            return None if len(asked) == refused else 0x80
+
+        for refused, limit, wanted in (
+            (0, 5, (5, None, False)),  # the limit is reached behind an access
+            (0, 4, (4, None, False)),
+            (0, 2, (2, None, False)),
+            (0, 9, (6, (FaultKind.FETCH_FAULT, 40, 0), False)),
+            (1, 9, (1, (FaultKind.LOAD_FAULT, 0x10000000, 0), False)),
+            (2, 9, (3, (FaultKind.STORE_FAULT, 0x10000004, 0), False)),
+            (1, 1, (1, None, False)),
+        ):
+            asked.clear()
+            machine = Machine([0x100000B7, load, 0x13, store, 0x13, 0x13], base=16)  # lui x1
+            self.assertEqual(machine.run(limit, access), wanted)
+            self.assertEqual(machine.pc, 16 + 4 * wanted[0])
+            self.assertEqual(asked, [loads, stores][: 2 if wanted[0] > 2 else int(limit > 1)])
+        machine = Machine([add, load], base=16)
+        self.assertRaises(ZeroDivisionError, machine.run, 9, lambda made: 1 // 0)
+        self.assertRaises(ValueError, machine.run, 9, lambda made: 2**32)
+        self.assertEqual((machine.pc, machine.registers[1:3]), (20, [1, 0]))
+        self.assertEqual(machine.run(9), (0, (FaultKind.LOAD_FAULT, 1, 0), False))
+
+    def test_a_core_is_checked(self):
+        words = [0x00108093, 0x00000073, 0, 0x0210C133]  # addi x1, x1, 1; ecall; -; div x2, x1, x1
+        core, ports = Machine(words, 64), dict.fromkeys(PORTS, 0)
+
+        def records(wrong):
+            for order in range(3):
+                yield {"valid": 0, **ports}
+                record = core.step_rvfi_ialign32(order)[1]._asdict()
+                if record["trap"]:
+                    record["pc_wdata"] = core.pc = 76
+                if order == 2:
+                    record["rd_wdata"] += wrong
+                yield {"valid": 1, **record}
+
+        for wrong in (0, 1):
+            core.pc, core.registers[1], dut = 64, 0, SimpleNamespace()
+            edges = records(wrong)
+
+            async def edge():
+                values = next(edges)
+                vars(dut).update((f"rvfi_{n}", SimpleNamespace(value=v)) for n, v in values.items())
+
+            try:
+                check_core(dut, edge, Machine(words, 64), 3).send(None)
+            except StopIteration:
+                found = ""
+            except AssertionError as error:
+                found = str(error)
+            self.assertEqual(found, wrong * (
+                "record 2, pc 0x0000004c: Difference(field=<Field.RD_WDATA: 11>, model=1, core=2)"))
+
+    def test_all_that_is_public_has_types_and_a_text(self):
+        count = 0
+        for name in rrs.__all__:
+            public = getattr(rrs, name)
+            help_of = pydoc.render_doc(public, renderer=pydoc.plaintext).replace("|", " ").split()
+            self.assertIn(" ".join(public.__doc__.split()), " ".join(help_of))
+            members = vars(public).values() if inspect.isclass(public) else [public]
+            for member in members:
+                function = member.fget if isinstance(member, property) else member
+                if not inspect.isfunction(function) or function.__module__ != "rrs":
+                    continue
+                hints = typing.get_type_hints(function)
+                wanted = [*inspect.signature(function).parameters, "return"]
+                self.assertEqual([n for n in wanted if n != "self" and n not in hints], [],
+                                 (name, function.__name__))
+                self.assertTrue(function.__doc__ or function.__name__.startswith("__"))
+                count += 1
+        self.assertGreater(count, 20)
+
     def test_a_machine_keeps_its_memory_and_its_base(self):
         machine = Machine([1, 2], base=8)
         for name, value in {"memory": [3, 4], "base": 0, "registers": [0] * 32, "last": 1}.items():
@@ -176,7 +261,8 @@ class Libraries(unittest.TestCase):
 
     def test_an_unknown_kind_is_an_error(self):
         folder = os.environ["RRS_REFUSED"]
-        for call in ("step()", "run(1)", "run_until([], 1)", "step_rvfi()", "complete(0, 0)"):
+        for call in ("step()", "run(1)", "run_until([], 1)", "step_rvfi()", "complete(0, 0)",
+                     "step_rvfi_ialign32()", "complete_rvfi(0, 0)"):
             lines = f"import rrs\nrrs.Machine([0]).{call}"
             status, _, said = self.run_over(f"{folder}/kind.so", lines)
             self.assertIn("ValueError: 9 is not a valid FaultKind", said)
