@@ -25,6 +25,7 @@ struct lockstep {
     uint32_t device_reads;
     int has_trapped;        /* in the record before */
     int has_ended;
+    uint32_t end_at;        /* a store here ends the program too, where it is not 0 */
     uint32_t field;         /* in which a record differed, or RRS_SAME */
     struct coverage coverage;
     struct line lines[LINES];
@@ -53,6 +54,12 @@ uint32_t lockstep_device_load(void *handle, uint32_t address) {
 void lockstep_device_store(void *handle, uint32_t address) {
     struct lockstep *lockstep = handle;
     if (address == TO_HOST) lockstep->has_ended = 1;
+}
+
+/* A store to this address, which memory has, ends the program. */
+void lockstep_end_at(void *handle, uint32_t address) {
+    struct lockstep *lockstep = handle;
+    lockstep->end_at = address;
 }
 
 int lockstep_has_ended(void *handle) {
@@ -210,6 +217,7 @@ int lockstep_retire(void *handle, unsigned long long order, uint32_t insn, uint3
         l->field = found.field;
         return (int)found.field;
     }
+    if (want.mem_wmask != 0 && want.mem_addr == l->end_at) l->has_ended = 1;
     cover(&l->coverage, &want);
     l->records++;
     return 0;

@@ -1,0 +1,39 @@
+# A test in the shape that those of riscv-arch-test have: it leaves results between begin_signature
+# and end_signature, and a store to tohost ends it.
+    .globl _start
+    .section .text.init, "ax"
+_start:
+    la x1, begin_signature
+    lui x2, 0x80000
+    addi x3, x0, -1
+    mulhsu x4, x3, x2
+    sw x4, 0(x1)
+    div x5, x2, x3
+    sw x5, 4(x1)
+    rem x6, x2, x3
+    sw x6, 8(x1)
+    sra x7, x2, x3
+    sh x7, 12(x1)
+    sb x3, 15(x1)
+    lw x8, word
+    sw x8, 16(x1)
+    addi x9, x0, 1
+    la x10, tohost
+write_tohost:
+    sw x9, 0(x10)
+    j write_tohost
+
+    .section .tohost, "aw"
+    .globl tohost
+tohost:
+    .dword 0
+
+    .data
+word:
+    .word 0x12345678
+    .balign 16
+    .globl begin_signature
+begin_signature:
+    .fill 6, 4, 0xdeadbeef
+    .globl end_signature
+end_signature:
