@@ -49,7 +49,7 @@ def causes():
 
 def as_core(model, by_words):
     """The record as a core tells it, with what is not compared left out or arbitrary."""
-    core = dict(model)
+    core = dict(model, fetched=1)
     place = model["mem_addr"] % 4 if by_words else 0
     core["mem_addr"] -= place
     for field in ("mem_rmask", "mem_wmask"):

@@ -1,7 +1,7 @@
 //! Over the libraries of `bindings/c/refused.c`, which `bindings/check.sh` links: one of another
 //! version, and one whose exceptions and accesses have an unknown kind.
 
-use rrs::{decode, disassemble, Hart, Memory};
+use rrs::{decode, disassemble, field_name, register_name, row_name, Fault, Hart, Memory};
 use std::panic::{catch_unwind, UnwindSafe};
 
 /// What a call says where it panics.
@@ -22,10 +22,19 @@ fn all_said() -> (Vec<String>, Vec<String>) {
         said(move || void(hart.run(&mut Memory::new(&mut [0], 0), 1))),
         said(move || void(hart.run_until(&mut Memory::new(&mut [0], 0), 1, &[0]))),
         said(move || void(hart.step_rvfi(&mut Memory::new(&mut [0], 0), 0))),
+        said(move || void(hart.step_rvfi_ialign32(&mut Memory::new(&mut [0], 0), 0))),
         said(move || void(hart.request(0))),
         said(move || void(hart.complete(0, Some(0)))),
+        said(move || void(hart.complete_rvfi(0, Some(0), 0))),
     ];
-    let others = vec![said(|| void(decode(0))), said(|| void(disassemble(0, 0)))];
+    let others = vec![
+        said(|| void(decode(0))),
+        said(|| void(disassemble(0, 0))),
+        said(|| void(Fault::Fetch(0).cause(0, 0))),
+        said(|| void(row_name(1))),
+        said(|| void(register_name(1))),
+        said(|| void(field_name(1))),
+    ];
     (faults, others)
 }
 
@@ -45,5 +54,5 @@ fn an_unknown_kind_is_no_success() {
     for text in &faults {
         assert!(text.contains("unknown kind 9"), "it said {text}");
     }
-    assert_eq!(others, ["nothing", "nothing"]);
+    assert_eq!(others, ["nothing"; 6]);
 }
