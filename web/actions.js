@@ -28,9 +28,11 @@ const ACTIONS = {
   endInput: { label: "End the console's input", key: "z" },
   examples: { label: "Go to the examples", key: "y" },
   preset: { label: "Go to the choice of the machine's memory", key: "v" },
-  edit: { label: "Edit the program's words", key: "e" },
-  open: { label: "Open a .bin file, or a text of words", key: "o" },
+  edit: { label: "Edit the program", key: "e" },
+  open: { label: "Open a file: assembly, words, raw bytes, or a lesson", key: "o" },
   link: { label: "A link that holds the program", key: "l" },
+  lesson: { label: "Go to the exercises of the lesson", key: "j" },
+  closeLesson: { label: "Close the lesson", key: "q" },
   theme: { label: "Light or dark", key: "d" },
   keys: { label: "All keys", key: "?" },
 };

@@ -1,8 +1,9 @@
 "use strict";
 
-// The programs of the example menu, as words with labels and comments.
+// The programs of the example menu, as words with labels and comments, or as assembly.
 
-/* Of each: its name in the menu, whether it stands among those that fault, a sentence, its text. */
+/* Of each: its name in the menu, whether it stands among those that fault, a sentence, its text,
+ * and what it is read as and its memory, where they are not those of `Session.open`. */
 const EXAMPLES = [
   {
     id: "three",
@@ -247,6 +248,108 @@ loop:
 0xfff28293
 0xfe029ee3
 0x00000073  # exit
+`,
+  },
+  {
+    id: "sort",
+    name: "Sorting, in assembly",
+    isFault: false,
+    language: "assembly",
+    about: "Eight numbers are sorted by insertion, and printed. Edit shows the source.",
+    text: `# Sorts eight numbers, and prints them, a digit each.
+    .data
+numbers:
+    .word 3, 1, 4, 1, 5, 9, 2, 6
+count = (. - numbers) / 4
+digits:
+    .space count + 1
+
+    .text
+main:
+    la   a0, numbers
+    li   a1, count
+    call sort
+    la   a0, numbers
+    la   a1, digits
+    li   a2, count
+    call write_digits
+    li   a0, 1              # to the output
+    la   a1, digits
+    li   a2, count + 1
+    li   a7, 64             # write
+    ecall
+    li   a0, 0
+    li   a7, 93             # exit
+    ecall
+
+# Sorts the a1 words from a0 on, by insertion.
+sort:
+    slli a1, a1, 2
+    add  a1, a0, a1         # where they end
+    addi a2, a0, 4
+next:
+    bgeu a2, a1, sorted
+    lw   a3, (a2)
+    mv   a4, a2
+shift:
+    beq  a4, a0, put
+    lw   a5, -4(a4)
+    ble  a5, a3, put
+    sw   a5, (a4)
+    addi a4, a4, -4
+    j    shift
+put:
+    sw   a3, (a4)
+    addi a2, a2, 4
+    j    next
+sorted:
+    ret
+
+# Writes a digit for each of the a2 words from a0 on, to a1, and ends the line.
+write_digits:
+    lw   a3, (a0)
+    addi a3, a3, '0'
+    sb   a3, (a1)
+    addi a0, a0, 4
+    addi a1, a1, 1
+    addi a2, a2, -1
+    bnez a2, write_digits
+    li   a3, '\\n'
+    sb   a3, (a1)
+    ret
+`,
+  },
+  {
+    id: "convention",
+    name: "A register that is lost",
+    isFault: false,
+    language: "assembly",
+    size: 1 << 20,
+    hasStack: true,
+    about: "factorial(5) comes out wrong. The remarks at the call stack tell why.",
+    text: `# The status is to be 5! % 256, and is not: factorial does not save s0.
+main:
+    li   t0, 0              # a call may change t0
+    li   a0, 5
+    call factorial
+    add  a0, a0, t0
+    li   a7, 93             # exit
+    ecall
+
+# a0: a number, and then its factorial.
+factorial:
+    addi sp, sp, -16
+    sw   ra, 12(sp)
+    mv   s0, a0             # which has to be as it was at the return
+    li   a0, 1
+    beqz s0, done
+    addi a0, s0, -1
+    call factorial
+    mul  a0, a0, s0
+done:
+    lw   ra, 12(sp)
+    addi sp, sp, 16
+    ret
 `,
   },
   {

@@ -11,7 +11,7 @@ const LAYOUT = {
     size: 72, insn: 8, pcBefore: 20, rd: 44, rdValue: 48, memoryAddress: 52,
     readMask: 56, writeMask: 60, readValue: 64, writtenValue: 68,
   },
-  instruction: { size: 24, row: 0, rd: 4 },
+  instruction: { size: 24, row: 0, rd: 4, rs1: 8, rs2: 12, shamt: 16, imm: 20 },
   access: { size: 28, fault: 0, kind: 12, address: 16, bytes: 20, value: 24 },
   text: { size: 26 },
 };
@@ -120,11 +120,16 @@ class Kit {
     return this.u32[this.fault / 4];
   }
 
-  /** The number of the row of a word, 1 to 48, or 0, and the register that it writes, or 0. */
+  /** The number of the row of a word, 1 to 48, or 0, and its fields: registers, shift amount, and
+   * immediate, which is signed. */
   decode(word) {
     this.exports.rrs_decode(this.addresses.instruction, word);
-    const at = this.instruction / 4;
-    return { row: this.u32[at], rd: this.u32[at + LAYOUT.instruction.rd / 4] };
+    const { row, rd, rs1, rs2, shamt, imm } = LAYOUT.instruction;
+    const read = (offset) => this.u32[(this.instruction + offset) / 4];
+    return {
+      row: read(row), rd: read(rd), rs1: read(rs1), rs2: read(rs2), shamt: read(shamt),
+      imm: read(imm) | 0,
+    };
   }
 
   /** The text of a word at an address, or "" for a word outside the table. */

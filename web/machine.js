@@ -38,22 +38,23 @@ class Machine {
     this.load(new Uint32Array(0), 0, PAGE_BYTES, false);
   }
 
-  /** Has `size` bytes of memory from `base` on, with the words at its start, and starts there. With
-   * a stack sp starts as the end of memory. */
-  load(words, base, size, hasStack) {
+  /** Has `size` bytes of memory from `base` on, with the words at its start, and starts `entry`
+   * bytes behind it. With a stack sp starts as the end of memory. */
+  load(words, base, size, hasStack, entry = 0) {
     this.kit.setMemory(base, size);
+    this.entry = base + entry;
     this.program = Uint32Array.from(words);
     this.hasStack = hasStack;
     this.reset();
   }
 
-  /** The first state: registers 0 but for sp where there is a stack, the pc at the program's start,
-   * memory the program and then 0. */
+  /** The first state: registers 0 but for sp where there is a stack, the pc where the program
+   * starts, memory the program and then 0. */
   reset() {
     const { kit } = this;
     kit.x.fill(0);
     if (this.hasStack) kit.x[REGISTER.SP] = kit.base + kit.size;
-    kit.pc = kit.base;
+    kit.pc = this.entry;
     kit.last = 0;
     kit.words.fill(0);
     kit.words.set(this.program);

@@ -20,6 +20,8 @@ class Page {
     this.listing = new ListingView(session);
     this.registers = new RegistersView(session);
     this.memory = new MemoryView(session);
+    this.editor = new EditorView(session);
+    this.lesson = new LessonView(session);
     this.views = [
       this.listing, this.registers, this.memory, new ConsoleView(session), new FramesView(session),
       new LogView(session), new CountsView(session),
@@ -28,6 +30,7 @@ class Page {
     this.fillMenus();
     this.listen();
     session.onChange = () => this.render();
+    session.onEnd = () => this.lesson.check();
   }
 
   makeHandlers() {
@@ -57,9 +60,11 @@ class Page {
       endInput: () => session.endInput(),
       examples: () => $("examples").focus(),
       preset: () => $("preset").focus(),
-      edit: () => this.edit(session),
+      edit: () => this.editor.open(session),
       open: () => $("file").click(),
       link: () => this.showLink(),
+      lesson: () => $("exercises").querySelector("[aria-current]")?.focus(),
+      closeLesson: () => this.closeLesson(),
       theme: () => this.changeTheme(),
       keys: () => $("help").showModal(),
     };
@@ -308,9 +313,9 @@ class Page {
 
   /* Opens the program again in another memory. */
   takePreset(choice) {
-    const { name, about, text, calls } = this.session;
+    const { name, about, text, language, calls } = this.session;
     const { base, size, hasStack } = PRESETS[choice];
-    const program = { name, about, text, base, size, hasStack, calls, keepsStops: true };
+    const program = { name, about, text, language, base, size, hasStack, calls, keepsStops: true };
     this.open(program, $("examples").value);
   }
 
@@ -323,6 +328,7 @@ class Page {
   }
 
   openExample(id) {
+    this.closeLesson();
     this.open(EXAMPLES.find((example) => example.id === id), id);
   }
 
@@ -337,24 +343,18 @@ class Page {
   }
 
   openBytes(name, bytes) {
-    const { machine: { kit: { base, size }, hasStack }, calls } = this.session;
+    const { machine: { kit }, machine: { hasStack }, calls } = this.session;
+    const { base, size } = kit;
     try {
-      this.open({ name, text: textOfFile(bytes, size), base, size, hasStack, calls });
+      const text = textOfFile(bytes, size);
+      if (isLesson(text)) return this.openLesson(parseLesson(text), 1);
+      this.closeLesson();
+      const language = isAssembly(text, kit) ? "assembly" : "words";
+      this.open({ name, text, language, base, size, hasStack, calls });
     } catch (error) {
       if (!(error instanceof ProgramError)) throw error;
       this.refuse(`${name} was not opened. ${error.message}`);
     }
-  }
-
-  edit({ text, machine }) {
-    $("text").value = text;
-    $("base").value = hex(machine.kit.base);
-    $("size").value = machine.kit.size;
-    $("stack").checked = machine.hasStack;
-    setText($("mistake"), "");
-    $("editor").showModal();
-    $("text").setSelectionRange(0, 0);
-    $("text").scrollTop = 0;
   }
 
   /* Opens what stands in the editor, or says there what is wrong with it. */
@@ -362,6 +362,7 @@ class Page {
     const program = {
       name: "Program",
       text: $("text").value,
+      language: this.editor.language,
       base: parseHex($("base").value.trim()),
       size: Number($("size").value),
       hasStack: $("stack").checked,
@@ -374,9 +375,9 @@ class Page {
   }
 
   async showLink() {
-    const { machine, text, calls } = this.session;
+    const { machine, text, language, calls } = this.session;
     const { kit: { base, size }, hasStack } = machine;
-    const hash = await encodeLink({ text, base, size, hasStack, calls });
+    const hash = await encodeLink({ text, language, base, size, hasStack, calls });
     const link = location.href.replace(/#.*$/, "") + hash;
     $("link").value = link;
     const isLong = link.length > 8000 ? " Some programs that send mail cut such a long one." : "";
@@ -401,14 +402,46 @@ class Page {
   /** Opens the program of the page's own link, and answers whether there is one. */
   async openLink() {
     try {
+      const found = await decodeLesson(location.hash);
+      if (found !== null) {
+        await this.openLesson(found.lesson, found.number);
+        return true;
+      }
       const program = await decodeLink(location.hash);
       if (program === null) return false;
+      this.closeLesson();
       this.open({ name: "Program of the link", ...program });
     } catch (error) {
       if (!(error instanceof ProgramError)) throw error;
       this.refuse(error.message);
     }
     return true;
+  }
+
+  /* ---- lessons */
+
+  /* Opens a lesson at an exercise. Of one that is open already what was tried stays. */
+  async openLesson(lesson, number) {
+    this.keepTry();
+    const isSame = this.lesson.lesson?.text === lesson.text;
+    const own = isSame ? this.lesson.lesson : lesson;
+    own.link ??= await encodeLesson(own.text);
+    this.lesson.open(own, number, own.link);
+    const { title, about, language, calls, size, hasStack, program, tried } = this.lesson.exercise;
+    const name = title || "Exercise";
+    this.open({ name, about, text: program, language, calls, size, hasStack, ...tried });
+  }
+
+  /* Keeps the program of the exercise that is left. */
+  keepTry() {
+    const { exercise } = this.lesson;
+    if (!exercise) return;
+    const { text, language } = this.session;
+    exercise.tried = { text, language };
+  }
+
+  closeLesson() {
+    this.lesson.close();
   }
 
   /* ---- showing */

@@ -2,13 +2,18 @@
 
 // Programs as people give them: words as text, files, and links.
 
-/** Why a text is no program: the number of its line, and what is wrong there. */
+/** Why a text is no program: the number of its line, and what is wrong there. A source of assembly
+ * may have other mistakes too. */
 class ProgramError extends Error {
-  constructor(line, text) {
+  constructor(line, text, mistakes = line ? [{ line, column: 1, text }] : []) {
     super(line ? `Line ${line}: ${text}` : text);
     this.line = line;
+    this.mistakes = mistakes;
   }
 }
+
+/* What a text can be. */
+const LANGUAGES = { assembly: "assembly", words: "words of hexadecimal digits" };
 
 const numbered = (count) => count.toLocaleString("en");
 
@@ -108,7 +113,7 @@ function addLabel(name, text, at, { words, labels, places }) {
     throw new ProgramError(
       lineAt(text, at), `the label ${shortened(name, 20)} stands on line ${line} too`);
   }
-  places.set(name, { index, at });
+  places.set(name, { index, offset: 4 * index, at });
   if (labels.has(index)) labels.get(index).push(name);
   else labels.set(index, [name]);
 }
@@ -133,12 +138,78 @@ function parseProgram(text, size) {
   if (isTooLong(text)) throw new ProgramError(0, TOO_LONG);
   const program = parseWords(text);
   if (program.words.length === 0) throw new ProgramError(0, "There is no word in it.");
-  const bytes = 4 * program.words.length;
-  if (bytes > size) {
-    throw new ProgramError(
-      0, `It has ${numbered(bytes)} bytes, and the memory has ${numbered(size)}.`);
+  refuseLarger(4 * program.words.length, size);
+  return { ...program, sources: new Map(), entry: 0 };
+}
+
+/* Refuses a program that has more bytes than its memory. */
+function refuseLarger(bytes, size) {
+  if (bytes <= size) return;
+  throw new ProgramError(
+    0, `It has ${numbered(bytes)} bytes, and the memory has ${numbered(size)}.`);
+}
+
+/* Where a program of assembly starts: at the label _start, else at main, else at its first
+ * instruction. */
+const STARTS = ["_start", "main"];
+
+/** Reads a source of assembly for `size` bytes of memory from `base` on, or throws a ProgramError.
+ * Beside what `parseProgram` answers: of each word at which a statement begins its line and text,
+ * and where the program starts, in bytes from `base` on. */
+function parseAssembly(text, base, size, kit) {
+  if (isTooLong(text)) throw new ProgramError(0, TOO_LONG);
+  const { bytes, statements, labels, mistakes } = assemble(text, base, kit);
+  if (mistakes.length > 0) {
+    const [{ line, text: what }] = mistakes;
+    throw new ProgramError(line, what, mistakes);
   }
+  if (bytes.length === 0) throw new ProgramError(0, "There is no statement in it.");
+  refuseLarger(bytes.length, size);
+  const words = new Uint32Array(Math.ceil(bytes.length / 4));
+  new Uint8Array(words.buffer).set(bytes);
+  const program = { words, comments: new Map(), ...placesOf(labels, base, text) };
+  program.sources = sourcesOf(statements, base);
+  const start = STARTS.find((name) => program.places.has(name));
+  program.entry = start === undefined ? 0 : program.places.get(start).offset;
+  if (program.entry % 4 !== 0) program.entry = 0;
   return program;
+}
+
+/* The labels by the word in which they stand, and the place of each: its word, how many bytes it is
+ * behind the first address, and where it stands in the text. */
+function placesOf(all, base, text) {
+  const starts = [0];
+  for (let at = text.indexOf("\n"); at >= 0; at = text.indexOf("\n", at + 1)) starts.push(at + 1);
+  const labels = new Map();
+  const places = new Map();
+  for (const { name, address, line, at } of all) {
+    const offset = address - base;
+    const index = Math.floor(offset / 4);
+    places.set(name, { index, offset, at: starts[line - 1] + at });
+    if (labels.has(index)) labels.get(index).push(name);
+    else labels.set(index, [name]);
+  }
+  return { labels, places };
+}
+
+/* The line and the text of the statement that begins in a word. Where an instruction is made of
+ * several words, each behind the first has no text. */
+function sourcesOf(statements, base) {
+  const sources = new Map();
+  for (const { line, text, name, address, bytes } of statements) {
+    if (bytes.length === 0) continue;
+    const index = Math.floor((address - base) / 4);
+    const before = sources.get(index);
+    const all = before ? `${before.text}; ${text}` : text;
+    sources.set(index, { line: before?.line ?? line, text: all });
+    if (!name.startsWith(".") && bytes.length > 4) sources.set(index + 1, { line, text: "" });
+  }
+  return sources;
+}
+
+/** Reads a program in one of LANGUAGES, or throws a ProgramError. */
+function readProgram(text, language, base, size, kit) {
+  return language === "assembly" ? parseAssembly(text, base, size, kit) : parseProgram(text, size);
 }
 
 /* What a text has no byte of: control characters, but for tabs and the ends of lines and pages. */
@@ -224,24 +295,30 @@ async function piped(bytes, through, most) {
   }
 }
 
-/** What stands behind # in a link to a program. */
-async function encodeLink({ text, base, size, hasStack, calls = "linux" }) {
+/* A text, packed for a link. */
+async function packed(text) {
   const bytes = await piped(
     new TextEncoder().encode(text), new CompressionStream("deflate-raw"), Infinity);
   let letters = "";
   for (const byte of bytes) letters += String.fromCharCode(byte);
-  const words = btoa(letters).replaceAll("+", "-").replaceAll("/", "_").replaceAll("=", "");
+  return btoa(letters).replaceAll("+", "-").replaceAll("/", "_").replaceAll("=", "");
+}
+
+/** What stands behind # in a link to a program. */
+async function encodeLink({ text, language, base, size, hasStack, calls = "linux" }) {
   const stack = hasStack ? "&stack=1" : "";
   const served = calls === "linux" ? "" : `&calls=${calls}`;
-  return `#base=0x${hexOf(base)}&size=${size}${stack}${served}&program=${words}`;
+  const read = language === "assembly" ? "&language=assembly" : "";
+  const memory = `base=0x${hexOf(base)}&size=${size}${stack}`;
+  return `#${memory}${served}${read}&program=${await packed(text)}`;
 }
 
 /* The text that is packed in a link. Throws a ProgramError. */
 async function unpacked(given) {
   try {
     const letters = atob(given.replaceAll("-", "+").replaceAll("_", "/"));
-    const packed = Uint8Array.from(letters, (letter) => letter.charCodeAt(0));
-    const bytes = await piped(packed, new DecompressionStream("deflate-raw"), MOST_TEXT);
+    const held = Uint8Array.from(letters, (letter) => letter.charCodeAt(0));
+    const bytes = await piped(held, new DecompressionStream("deflate-raw"), MOST_TEXT);
     return new TextDecoder("utf-8", { fatal: true, ignoreBOM: true }).decode(bytes);
   } catch (error) {
     if (error instanceof ProgramError) throw error;
@@ -258,6 +335,7 @@ async function decodeLink(hash) {
   const size = fields.get("size") ?? String(PAGE_BYTES);
   return {
     text,
+    language: fields.get("language") ?? "words",
     base: parseHex(fields.get("base") ?? "0"),
     size: /^\d+$/.test(size) ? Number(size) : NaN,
     hasStack: fields.get("stack") === "1",

@@ -30,6 +30,7 @@ class Session {
     this.turn = 0;
     this.isRunning = false;
     this.onChange = () => {};
+    this.onEnd = () => {};
   }
 
   /** The text of a word at an address, with the names of registers that were chosen, and a target
@@ -51,13 +52,13 @@ class Session {
     return effectOf(record, this.names);
   }
 
-  /** Opens a program: `{ name, about, text, base, size, hasStack, calls }`, of which the last names
-   * one of ENVIRONMENTS. With `keepsStops` breakpoints
-   * stay at their words, found by the label before them where it is still there. Throws a
-   * ProgramError, and then what was open stays. */
+  /** Opens a program: `{ name, about, text, language, base, size, hasStack, calls }`, with one of
+   * LANGUAGES and one of ENVIRONMENTS. With `keepsStops` breakpoints stay at their words, found by
+   * the label before them where it is still there. Throws a ProgramError, and then what was open
+   * stays. */
   open({
-    name, about = "", text, base = 0, size = SIZES[0], hasStack = false, calls = "linux",
-    keepsStops = false,
+    name, about = "", text, language = "words", base = 0, size = SIZES[0], hasStack = false,
+    calls = "linux", keepsStops = false,
   }) {
     if (!Number.isInteger(base) || base < 0 || base > LARGEST_BASE || base % 4 !== 0) {
       throw new ProgramError(0, `Memory can start at a multiple of 4 up to ${hex(LARGEST_BASE)}.`);
@@ -69,16 +70,26 @@ class Session {
       const known = Object.values(ENVIRONMENTS).map((environment) => environment.name).join(", ");
       throw new ProgramError(0, `The calls can be those of ${known}.`);
     }
-    const { words, labels, places, comments } = parseProgram(text, size);
+    const { machine } = this;
+    const { words, labels, places, comments, sources, entry } =
+      this.read(text, language, base, size);
     this.stop();
     const stops = keepsStops ? this.stopsIn(places) : [];
-    Object.assign(this, { name, about, text, labels, places, comments });
-    this.machine.environment = ENVIRONMENTS[calls];
-    this.machine.load(words, base, size, hasStack);
+    Object.assign(this, { name, about, text, language, labels, places, comments, sources });
+    machine.environment = ENVIRONMENTS[calls];
+    machine.load(words, base, size, hasStack, entry);
     this.stops = new Uint8Array(size / 4);
     for (const index of stops) if (index < this.stops.length) this.stops[index] = STOP.BREAKPOINT;
     this.selected = 0;
     this.start();
+  }
+
+  /** Reads a text, as a program for a memory. Throws a ProgramError. */
+  read(text, language, base, size) {
+    if (!Object.hasOwn(LANGUAGES, language)) {
+      throw new ProgramError(0, `A program can be ${Object.values(LANGUAGES).join(" or ")}.`);
+    }
+    return readProgram(text, language, base, size, this.machine.kit);
   }
 
   /* The words of another program at which breakpoints stand, by the places of its labels: as far
@@ -127,6 +138,7 @@ class Session {
     const { heading, sentence, kind } = explain(end, this.machine, this.names);
     this.isWaiting = end.reason === "waiting";
     this.say(heading, sentence, kind);
+    if (!this.isWaiting) this.onEnd();
   }
 
   /* ---- one step */
@@ -370,6 +382,6 @@ class Session {
   /** The address of a label, or undefined. */
   addressOf(name) {
     const place = this.places.get(name);
-    return place && this.machine.kit.base + 4 * place.index;
+    return place && this.machine.kit.base + place.offset;
   }
 }

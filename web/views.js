@@ -91,6 +91,7 @@ class ListingView {
   render() {
     const { machine } = this.session;
     this.sheet.style.height = `${this.session.lines * LINE_HEIGHT}px`;
+    this.box.classList.toggle("with-sources", this.session.sources.size > 0);
     const pc = machine.indexOf(machine.kit.pc);
     if (pc !== this.pcShown && pc >= 0) this.reveal(pc);
     this.pcShown = pc;
@@ -139,7 +140,8 @@ class ListingView {
     const word = kit.words[index];
     const text = session.disassemble(word, address);
     const labels = labelsShown(session.labels.get(index) ?? []);
-    const comment = shortened(session.comments.get(index) ?? "", COMMENT_SHOWN);
+    const source = session.sources.get(index);
+    const comment = shortened(source?.text ?? session.comments.get(index) ?? "", COMMENT_SHOWN);
     const count = machine.executed[index];
     const isPc = kit.pc === address;
     const isStop = (session.stops[index] & STOP.BREAKPOINT) !== 0;
@@ -156,9 +158,11 @@ class ListingView {
     setText(textCell.children[0], labels && `${labels}:`);
     setText(textCell.children[1], text || "no instruction");
     setText(textCell.children[2], comment);
+    textCell.children[2].className = source ? "comment source" : "comment";
     setText(executed.lastChild, count ? count.toLocaleString("en") : "");
     executed.firstChild.style.width = `${100 * Math.log1p(count) / Math.log1p(this.most)}%`;
     const parts = [labels, hex(address), text || "no instruction"];
+    if (source) parts.push(`line ${source.line}`);
     if (isPc) parts.push("next");
     if (isStop) parts.push("breakpoint");
     if (count) parts.push(`executed ${counted(count, "time")}`);
@@ -467,7 +471,77 @@ class FramesView {
       setText(stack, hexOf(sp));
     });
     const others = frames.length - shown.length;
-    setText($("frames-note"), frames.length === 0 ? "none" : others > 0 ? `${others} more` : "");
+    const remarks = remarksOf(session.machine);
+    const notes = [frames.length === 0 ? "none" : others > 0 ? `${others} more` : ""];
+    if (remarks.length > 0) notes.push(counted(remarks.length, "remark"));
+    setText($("frames-note"), notes.filter((note) => note).join(", "));
+    const items = resize($("remarks"), remarks.length, () => make("li"));
+    remarks.forEach((remark, at) => setText(items[at],
+      sentenceOf(remark, session.names, (address) => this.nameOf(address))));
+  }
+}
+
+/* ---- the lesson */
+
+/** The exercises of the lesson that is open, and what came of the one that is tried. */
+class LessonView {
+  constructor(session) {
+    this.session = session;
+    this.lesson = null;
+  }
+
+  get exercise() {
+    return this.lesson?.exercises[this.number - 1];
+  }
+
+  /** Opens a lesson at an exercise. The link is that to the lesson. */
+  open(lesson, number, link) {
+    this.lesson = lesson;
+    this.number = number;
+    setText($("lesson-title"), lesson.title || "Lesson");
+    $("exercises").replaceChildren(...lesson.exercises.map(({ title }, at) => {
+      const anchor = make("a", "", title || `Exercise ${at + 1}`);
+      anchor.href = `${link}&exercise=${at + 1}`;
+      return makeRow("li", [anchor]);
+    }));
+    $("lesson").hidden = false;
+    this.show();
+  }
+
+  close() {
+    this.lesson = null;
+    $("lesson").hidden = true;
+  }
+
+  /** Compares what came out with what is expected. */
+  check() {
+    const { exercise, session } = this;
+    if (!exercise) return;
+    exercise.misses = missesOf(exercise, session.machine, session.names);
+    if (exercise.misses.length === 0) exercise.isSolved = true;
+    this.show();
+  }
+
+  show() {
+    const { lesson, number, exercise } = this;
+    const { exercises } = lesson;
+    const solved = exercises.filter(({ isSolved }) => isSolved).length;
+    setText($("lesson-solved"), `${solved} of ${exercises.length} solved`);
+    [...$("exercises").children].forEach((item, at) => {
+      item.className = exercises[at].isSolved ? "solved" : "";
+      if (at + 1 === number) item.firstChild.setAttribute("aria-current", "step");
+      else item.firstChild.removeAttribute("aria-current");
+      const said = exercises[at].isSolved ? "solved" : "not solved yet";
+      item.firstChild.setAttribute("aria-description", said);
+    });
+    setText($("exercise-title"), exercise.title);
+    setText($("exercise-about"), [lesson.about, exercise.about].filter((part) => part).join(" "));
+    const { misses } = exercise;
+    const isSolved = misses?.length === 0;
+    $("exercise-check").className = `check ${misses ? (isSolved ? "done" : "end") : ""}`;
+    const untried = "Run the program: what comes out is compared when it ends.";
+    const told = misses === undefined ? untried : misses.join(" ");
+    setText($("exercise-check"), isSolved ? "Solved." : told);
   }
 }
 

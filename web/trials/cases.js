@@ -17,6 +17,8 @@ const { tryWording } = require("./cases/wording.js");
 const { trySessions } = require("./cases/sessions.js");
 const { tryCalls } = require("./cases/calls.js");
 const { tryChanges } = require("./cases/changes.js");
+const { tryAssembly } = require("./cases/assembly.js");
+const { tryLessons } = require("./cases/lessons.js");
 
 async function main([folder, module]) {
   const clock = makeClock();
@@ -32,6 +34,8 @@ async function main([folder, module]) {
   await trySessions(report, page, kit, clock);
   tryCalls(report, page, kit);
   await tryChanges(report, page, kit, clock);
+  tryAssembly(report, page, kit);
+  await tryLessons(report, page, kit);
   for (const [subject, count] of report.counts) console.log(`${subject} ${count}`);
   return report.failed === 0 ? 0 : 1;
 }

@@ -5,6 +5,7 @@ import itertools
 import re
 
 from trials.report import Differs, same
+from trials.teaching import LESSON
 from trials.view import EXPECTED, SIZE, WEB, Subject, opened
 
 # functions that are run in the page
@@ -115,12 +116,13 @@ def tab_order(page, key="Tab", held=()):
 
 FOCUS_ORDER = [
     "examples", "preset", "edit", "open", "link", "theme", "keys", "runBack", "stepBack", "step",
-    "run", "pause", "runToLine", "reset", "speed", "breakpoint", "listing", "names", "radix", "change",
+    "run", "pause", "runToLine", "reset", "speed", "breakpoint", "listing", "names", "radix",
+    "change",
     "calls", "output", "input", "button", "endInput", "frames-title", "around", "address", "unit",
     "memoryUp", "memoryDown", "log-title", "counts-title", "a",
 ]
 FOCUS_IN = {
-    "editor": ["text", "base", "size", "stack", "close", "take"],
+    "editor": ["text", "base", "size", "stack", "close", "take", "body", "language"],
     "shared": ["link", "close", "copy"],
     "help": ["keys-on", "close"],
     "change": ["place", "value", "close", "set"],
@@ -151,6 +153,10 @@ def focus(machine):
 
 TEXT_CONTRAST = 4.5
 MARK_CONTRAST = 3
+
+
+# a source in which each colour is used, and a mistake
+COLOURED = "loop: li a0, 5 # so\n.ascii \"a\"\n  nothing\n"
 
 
 def show_all(machine):
@@ -187,6 +193,22 @@ def show_all(machine):
     machine.edit("nothing")
     yield "mistake"
     machine.escape()
+    machine.keys("e")
+    page.choose("#language", "assembly")
+    page.replace("#text", COLOURED)
+    page.wait("document.querySelectorAll('#mistakes button').length === 1", 5)
+    yield "source"
+    machine.escape()
+    machine.give(LESSON)
+    page.wait("!document.getElementById('lesson').hidden")
+    yield "lesson"
+    machine.run()
+    yield "not solved"
+    page.ask("(() => { rrs.lesson.exercise.registers = []; rrs.lesson.check(); })()")
+    yield "solved"
+    machine.choose("convention")
+    machine.run()
+    yield "remarks"
     for name, key in DIALOGS.items():
         page.press(key)
         page.wait(f"document.querySelector('#{name}').open")
@@ -215,7 +237,7 @@ def contrast(machine):
     same("how many texts and marks were looked at", LOOKED_AT, len(looked))
 
 
-LOOKED_AT = 91
+LOOKED_AT = 110
 
 # ---- boxes and marks
 
@@ -273,6 +295,20 @@ def boxes(machine):
     same("a stored word", ["700", True, True], page.ask(f"{SEEN}.storedMark()"))
 
 
+def boxes_of_a_lesson(machine):
+    """with a lesson and a source nothing is cut off, covered, or wider than the page either"""
+    page = machine.page
+    machine.give(LESSON)
+    page.wait("!document.getElementById('lesson').hidden")
+    machine.run()
+    for width, height in WIDTHS:
+        page.resize(width, height)
+        page.ask("scrollTo(0, 0)")
+        same(f"the boxes at {width}", ALL_IN_PLACE, page.ask(f"{SEEN}.boxes()"))
+    page.resize(*SIZE)
+    machine.keys("q")
+
+
 def one_screen(machine):
     """at 1366 x 768 registers, memory around sp and the listing are on one screen"""
     page = machine.page
@@ -321,7 +357,13 @@ def theme(machine):
 def picture(browser, path):
     """the picture of the page for README, of a page that was opened anew"""
     machine = opened(browser, Subject.page.as_uri())
-    show_fibonacci(machine)
+    machine.choose("sort")
+    machine.page.ask("rrs.session.toggleBreakpoint(30)")
+    for _ in range(5):
+        machine.run()
+    machine.keys("sss")
+    machine.page.choose("#around", "label numbers")
+    machine.leave_fields()
     machine.page.ask("scrollTo(0, 0)")
     machine.page.picture(path)
 
@@ -339,8 +381,28 @@ def pictures(machine, folder):
         page.prefer(dark)
         page.ask("scrollTo(0, 0)")
         page.picture(folder / f"{name}.png")
+    machine.give(LESSON)
+    page.wait("!document.getElementById('lesson').hidden")
+    machine.run()
+    machine.keys("e")
+    for name, width, height, dark in (
+        ("editor-light", 1366, 768, False), ("editor-dark", 768, 1024, True),
+        ("editor-narrow", 360, 740, False),
+    ):
+        page.resize(width, height)
+        page.prefer(dark)
+        page.picture(folder / f"{name}.png", whole=False)
+    machine.escape()
+    for name, width, height, dark in (
+        ("lesson-light", 1366, 768, False), ("lesson-dark", 768, 1024, True),
+        ("lesson-narrow", 360, 740, False),
+    ):
+        page.resize(width, height)
+        page.prefer(dark)
+        page.picture(folder / f"{name}.png")
     page.resize(*SIZE)
     page.prefer(False)
 
 
-TRIALS = [accessibility_tree, focus, contrast, boxes, one_screen, nothing_moves, theme]
+TRIALS = [accessibility_tree, focus, contrast, boxes, boxes_of_a_lesson, one_screen, nothing_moves,
+          theme]

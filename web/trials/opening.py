@@ -53,8 +53,7 @@ def files(machine):
                      "format, and the page takes raw bytes: objcopy -O binary makes them of it.")
         (folder / "source.s").write_text("# a program\nli a0, 5\n")
         machine.give(folder / "source.s")
-        machine.says("Not opened", "source.s was not opened. Line 2: \"li\" is no word of 1 to 8 "
-                     "hexadecimal digits")
+        machine.says("Ready", "4 bytes from 0x00000000 on.")
         machine.give(folder / "full.bin")
         machine.says("Ready", "65,536 bytes from 0x00000000 on.")
         machine.run()

@@ -5,7 +5,7 @@ import shutil
 import tempfile
 
 import join
-from trials import actions, chromium, generated, looks, policy
+from trials import actions, chromium, generated, looks, policy, teaching
 from trials.report import Report, differing_counts
 from trials.view import EXPECTED, WEB, Subject, opened
 
@@ -14,11 +14,16 @@ IN_NODE = [
     ("wording.js", '"zero", "ra", "sp"', '"zero", "sp", "ra"'),
     ("machine.js", "kit.last = lastBeforeIn(flags);", ""),
     ("terminal.js", "Object.assign(this, mark);", ""),
+    ("assembly.js", 'mv: ofOne((rd, rs1) => ["addi", { rd, rs1 }])',
+     'mv: ofOne((rd, rs1) => ["addi", { rd, imm: rs1 }])'),
+    ("convention.js", "if (after !== before && frame.isPlain)", "if (after < before)"),
+    ("lesson.js", "if (value === wanted) continue;", "if (value >= wanted) continue;"),
 ]
 IN_BROWSER = [
     (actions.by_each_way, "page.js", '"click", () => this.act(', '"click", () => void ('),
     (looks.theme, "style.css", "--back: light-dark(#eef1f5,", "--back: light-dark(#eef1f6,"),
     (looks.focus, "style.css", "outline: 2px solid var(--accent)", "outline: none"),
+    (teaching.while_one_types, "editor.js", "column - 1, Math.max(", "column, Math.max("),
     (policy.policy, "index.html", "default-src 'none'", "default-src 'self'"),
 ]
 

@@ -6,8 +6,9 @@ const fs = require("node:fs");
 const path = require("node:path");
 
 const SCRIPTS = [
-  "kit", "terminal", "history", "actions", "machine", "calls", "frames", "program", "examples",
-  "wording", "session", "views",
+  "kit", "terminal", "history", "actions", "machine", "calls", "frames", "convention", "operands",
+  "statements", "assembly", "colours", "program", "lesson", "examples", "wording", "session",
+  "views", "editor",
 ];
 const DEFINED = /^(?:const|class|function|async function) ([A-Za-z_]\w*)/gm;
 

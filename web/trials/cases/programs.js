@@ -117,7 +117,8 @@ async function links(report, page) {
   for (const text of texts) {
     for (const [base, size, hasStack, calls] of [[0, 65536, false, "linux"],
       [0x80000000, MIB, true, "rars"], [4, 262144, false, "venus"]]) {
-      const program = { text, base, size, hasStack, calls };
+      const language = calls === "venus" ? "assembly" : "words";
+      const program = { text, language, base, size, hasStack, calls };
       const link = await page.encodeLink(program);
       report.same(`there and back, ${text.length} letters`, program, await followed(page, link));
       report.same("the letters of a link", true, /^#[\w=&-]+$/.test(link));
@@ -129,7 +130,9 @@ async function links(report, page) {
   report.same("and its calls", "#base=0x00000000&size=65536&calls=venus&program=",
     (await page.encodeLink({ text: "13", base: 0, size: 65536, calls: "venus" }))
       .replace(/[^=]*$/, ""));
-  const plain = { text: "13", base: 0, size: 65536, hasStack: false, calls: "linux" };
+  const plain = {
+    text: "13", language: "words", base: 0, size: 65536, hasStack: false, calls: "linux",
+  };
   for (const [hash, wanted] of [
     ["", null], ["#", null], ["#base=0x10", null], [linkTo("13"), plain],
     [linkTo("13", "base=100&"), { ...plain, base: 256 }],
@@ -141,6 +144,8 @@ async function links(report, page) {
     [linkTo("13", "stack=1&"), { ...plain, hasStack: true }],
     [linkTo("13", "stack=0&"), plain], [linkTo("13", "calls=rars&"), { ...plain, calls: "rars" }],
     [linkTo("13", "calls=else&"), { ...plain, calls: "else" }],
+    [linkTo("13", "language=assembly&"), { ...plain, language: "assembly" }],
+    [linkTo("13", "language=else&"), { ...plain, language: "else" }],
     [linkTo("13").slice(0, -2), DAMAGED],
     ["#program=!", DAMAGED], ["#program=AAAA", DAMAGED], ["#program=", DAMAGED],
     [linkTo(Buffer.from([0x31, 0xff])), DAMAGED],
@@ -157,22 +162,28 @@ function examples(report, page, kit) {
   const ends = {
     three: fault(FAULT.ILLEGAL, 12), sum: exit(3 + 1 + 4 + 1 + 5 + 9 + 2 + 6), gcd: exit(21),
     port: exit(0), console: { reason: "waiting" }, fibonacci: exit(55), primes: exit(168),
-    million: exit(0), illegal: fault(FAULT.ILLEGAL, 4, 0xffffffff),
+    million: exit(0), sort: exit(0), convention: exit(0),
+    illegal: fault(FAULT.ILLEGAL, 4, 0xffffffff),
     fetch: fault(FAULT.FETCH, 0x20000000), load: fault(FAULT.LOAD, 0x20000000),
     store: fault(FAULT.STORE, 0x20000008), misaligned: fault(FAULT.MISALIGNED, 0x102),
     jump: fault(FAULT.MISALIGNED, 0x102), ecall: fault(FAULT.ECALL, 4),
     ebreak: fault(FAULT.EBREAK, 4),
   };
   report.same("the programs of the menu", Object.keys(ends), EXAMPLES.map(({ id }) => id));
-  report.same("those that fault", Object.keys(ends).slice(8),
+  report.same("those that fault", Object.keys(ends).slice(10),
     EXAMPLES.filter(({ isFault }) => isFault).map(({ id }) => id));
   const machine = new page.Machine(kit);
-  for (const { id, text } of EXAMPLES) {
-    machine.load(page.parseProgram(text, 65536).words, 0, 65536, false);
-    const end = machine.run(2e6, new Uint8Array(16384));
+  for (const { id, text, language, size = 65536, hasStack = false } of EXAMPLES) {
+    const { words, entry } = page.readProgram(text, language, 0, size, kit);
+    machine.load(words, 0, size, hasStack, entry);
+    const end = machine.run(2e6, new Uint8Array(size / 4));
     report.same(`the end of ${id}`, ends[id], end);
+    const printed = {
+      port: "Hello, RISC-V!\n", console: "What is your name? ", sort: "11234569\n",
+    };
+    report.same(`what ${id} prints`, printed[id] ?? "", machine.terminal.text(100));
   }
-  report.same("sentences and names", [8, 16],
+  report.same("sentences and names", [10, 18],
     [EXAMPLES.filter(({ about }) => about.endsWith(".")).length,
       new Set(EXAMPLES.map(({ name }) => name)).size]);
 }

@@ -150,7 +150,8 @@ const KEYS = {
   unit: "m", around: "w",
   address: "a", memoryUp: "[", memoryDown: "]", calls: "f", console: "c",
   endInput: "z", examples: "y", preset: "v",
-  edit: "e", open: "o", link: "l", theme: "d", keys: "?",
+  edit: "e", open: "o", link: "l", lesson: "j", closeLesson: "q",
+  theme: "d", keys: "?",
 };
 
 function keys(report, page) {
@@ -176,7 +177,7 @@ function keys(report, page) {
     [event("B"), "stepBack"], [event("b", ["Shift"]), "runBack"], [event("S"), "step"],
     [event("s", ["Shift"]), undefined], [event("S", ["Shift"]), undefined],
     [event("Enter"), undefined], [event(" "), undefined], [event("ArrowDown"), undefined],
-    [event("{", ["Shift"]), undefined], [event("q"), undefined], [event("F1"), undefined],
+    [event("{", ["Shift"]), undefined], [event("i"), undefined], [event("F1"), undefined],
     [event("["), "memoryUp"],
   ], page.actionOf);
 }

@@ -1,0 +1,217 @@
+"""What a class needs: assembly in the editor, its mistakes while one types, lessons, and remarks on
+the calling convention."""
+
+import pathlib
+import tempfile
+
+from trials.report import same
+from trials.view import WEB, js
+
+LESSON = WEB.parent / "examples" / "lesson" / "loops.txt"
+SOURCE = "main: li a0, 0x12345  # a number\n  call twice\n  ebreak\n.data\nx: .word 7\n.text\n" \
+    "twice: add a0, a0, a0; ret\n"
+MISTAKES = "[...document.querySelectorAll('#mistakes li')].map((item) => item.textContent)"
+PARTS = "[...document.querySelectorAll('#line-{} .text > *')].map((part) => part.textContent)"
+
+
+def type_source(machine, text):
+    machine.keys("e")
+    machine.page.choose("#language", "assembly")
+    machine.page.replace("#text", text)
+
+
+def assembly(machine):
+    """the editor takes assembly: the listing has its lines, its labels, and what each becomes"""
+    page = machine.page
+    machine.choose("three")
+    type_source(machine, SOURCE)
+    page.click("#take")
+    machine.wait_closed()
+    machine.says("Ready", "32 bytes from 0x00000000 on.")
+    same("the listing", [
+        ["main:", "lui a0, 0x00012000", "li a0, 0x12345  # a number"], ["", "addi a0, a0, 837", ""],
+        ["", "auipc ra, 0x00000008", "call twice"], ["", "jalr ra, 0x00c(ra)", ""],
+        ["", "ebreak", "ebreak"], ["twice:", "add a0, a0, a0", "add a0, a0, a0"],
+        ["", "jalr zero, 0x000(ra)", "ret"], ["x:", "no instruction", ".word 7"],
+    ], [page.ask(PARTS.format(index)) for index in range(8)])
+    same("what a line says", "main, 0x00000000, lui a0, 0x00012000, line 1, next", page.ask(
+        "document.querySelector('#line-0').ariaLabel"))
+    machine.run()
+    machine.says("Breakpoint instruction")
+    same("a0", "0x0002468a", machine.register("x10"))
+    page.replace("#address", "x")
+    page.press("Enter")
+    same("the memory at a label", "00000007", page.text("#memory .target"))
+    page.replace("#address", "")
+    page.press("Enter")
+    machine.leave_fields()
+    machine.keys("e")
+    same("what stands in the editor", [SOURCE, "assembly"], page.ask(
+        "['text', 'language'].map((id) => document.getElementById(id).value)"))
+    machine.escape()
+
+
+def while_one_types(machine):
+    """mistakes stand at their lines while one types, and a click goes there"""
+    page = machine.page
+    machine.choose("three")
+    type_source(machine, "nop\nmv a0, 5\n  addi a0, a0, 5000\nj nowhere\n")
+    page.wait(f"{MISTAKES}.length === 3", 5)
+    same("the mistakes", [
+        'Line 2: A register is wanted here, and "5" stands there. li loads a number into a '
+        "register.",
+        "Line 3: 5000 is out of range: from -2048 to 2047 is wanted here. li loads any number into "
+        "a register.", "Line 4: There is no symbol nowhere."], page.ask(MISTAKES))
+    same("the lines that are marked", ["2", "3", "4"], page.ask(
+        "[...document.querySelectorAll('#numbers b')].map((number) => number.textContent)"))
+    same("the places that are marked", ["5", "5000", "nowhere"], page.ask(
+        "[...document.querySelectorAll('.is-wrong')].map((part) => part.textContent)"))
+    page.click("#mistakes li:nth-child(2) button")
+    same("where the cursor is", ["text", 28], page.ask(
+        "[document.activeElement.id, document.getElementById('text').selectionStart]"))
+    page.click("#take")
+    same("the first one, at Load", 'Line 2: A register is wanted here, and "5" stands there. li '
+         "loads a number into a register.", page.text("#mistake"))
+    same("what was open", "lui sp, 0x1234b000", machine.line(0)[2])
+    page.replace("#text", "nop")
+    page.wait(f"{MISTAKES}.length === 0", 5)
+    same("the marks", 0, page.ask("document.querySelectorAll('#numbers b, .is-wrong').length"))
+    page.choose("#language", "words")
+    page.wait(f"{MISTAKES}.length === 1", 5)
+    same("as words", ['Line 1: "nop" is no word of 1 to 8 hexadecimal digits'], page.ask(MISTAKES))
+    page.choose("#language", "assembly")
+    page.replace("#text", "loop: li a0, 5 # so\n.word 'a'")
+    same("the colours", [["loop:", "is-label"], ["li", "is-name"], ["a0", "is-register"],
+                         ["5", "is-number"], ["# so", "is-comment"], [".word", "is-directive"],
+                         ["'a'", "is-string"]],
+         page.ask("[...document.querySelectorAll('#colours span')].map((part) =>"
+                  " [part.textContent, part.className])"))
+    same("the text under the colours", True, page.ask(
+        "document.getElementById('colours').textContent === $('text').value + '\\n'"))
+    page.replace("#text", "nop\n" * 60)
+    page.ask("$('text').scrollTop = 300; $('text').dispatchEvent(new Event('scroll')); null")
+    same("the numbers and the colours scroll with the text", [300, 300, 300], page.ask(
+        "['text', 'numbers', 'colours'].map((id) => $(id).scrollTop)"))
+    machine.escape()
+
+
+def assembly_from_elsewhere(machine):
+    """a file of assembly is known by what it holds, and a link holds the source"""
+    page = machine.page
+    with tempfile.TemporaryDirectory() as name:
+        path = pathlib.Path(name) / "program.txt"
+        path.write_text(SOURCE)
+        machine.give(path)
+        same("the language", "assembly", page.ask("rrs.session.language"))
+        path.write_text("add a0, a0, a1\nnop\nfoo\n")
+        machine.give(path)
+        machine.says("Not opened", "program.txt was not opened. Line 3: There is no instruction "
+                     "foo.")
+        path.write_text("add\ndead beef\n")
+        machine.give(path)
+        same("words", ["words", "00000add"], [page.ask("rrs.session.language"), machine.line(0)[1]])
+        path.write_text(SOURCE)
+        machine.give(path)
+    machine.keys("l")
+    page.wait("document.querySelector('#shared').open")
+    hash_of = page.ask("document.querySelector('#link').value").split("#", 1)[1]
+    machine.escape()
+    machine.choose("three")
+    page.ask(f"location.hash = {js(hash_of)}")
+    page.wait("rrs.session.language === 'assembly'")
+    same("the program of the link", SOURCE, page.ask("rrs.session.text"))
+    page.ask("history.replaceState(null, '', location.pathname)")
+    page.choose("#preset", "1")
+    machine.leave_fields()
+    same("in another memory", ["assembly", "0x00100000"],
+         [page.ask("rrs.session.language"), machine.register("x2")])
+
+
+CHECK = "document.getElementById('exercise-check').className"
+CURRENT = "document.querySelector('#exercises [aria-current]').textContent"
+
+
+def lesson(machine):
+    """a lesson: its exercises as links, what each expects, and what was tried stays"""
+    page = machine.page
+    machine.choose("three")
+    same("whether a lesson is open", True, page.ask("document.getElementById('lesson').hidden"))
+    machine.give(LESSON)
+    page.wait("!document.getElementById('lesson').hidden")
+    same("the lesson", ["Loops", "0 of 3 solved", "The sum of a list"],
+         [page.text("#lesson-title"), page.text("#lesson-solved"), page.ask(CURRENT)])
+    same("the exercises", ["The sum of a list", "Count down", "A function"], page.ask(
+        "[...document.querySelectorAll('#exercises a')].map((link) => link.textContent)"))
+    same("its text", "Edit the program, load it, and run it. Add the numbers of the list, and "
+         "leave their sum in a0.", page.text("#exercise-about"))
+    machine.run()
+    same("not solved", ["check end", "a0 is 0 (0x00000000), and 14 (0x0000000e) is expected."],
+         [page.ask(CHECK), page.text("#exercise-check")])
+    text = page.ask("rrs.session.text")
+    loop = "1: lw a3, (a1); add a0, a0, a3; addi a1, a1, 4; addi a2, a2, -1; bnez a2, 1b\nebreak"
+    machine.keys("e")
+    page.replace("#text", text.replace("ebreak", loop))
+    page.click("#take")
+    machine.wait_closed()
+    machine.run()
+    same("solved", ["check done", "Solved.", "1 of 3 solved"],
+         [page.ask(CHECK), page.text("#exercise-check"), page.text("#lesson-solved")])
+    page.click("#exercises li:nth-child(2) a")
+    page.wait(f"{CURRENT} === 'Count down'")
+    same("the calls of the exercise", "rars", page.ask("rrs.session.calls"))
+    machine.run()
+    same("the output", 'The output is "5\\n", and "5\\n4\\n3\\n2\\n1\\n" is expected.',
+         page.text("#exercise-check"))
+    page.click("#exercises li:nth-child(1) a")
+    page.wait(f"{CURRENT} === 'The sum of a list'")
+    same("what was tried", True, page.ask("rrs.session.text.includes('bnez a2, 1b')"))
+    same("and is solved", "check done", page.ask(CHECK))
+    machine.keys("j")
+    same("the key of the exercises", "The sum of a list", page.ask(
+        "document.activeElement.textContent"))
+    link = page.ask("document.querySelector('#exercises li:nth-child(3) a').href")
+    page.click("[data-action=closeLesson]")
+    same("closed", True, page.ask("document.getElementById('lesson').hidden"))
+    page.ask(f"location.hash = {js(link.split('#', 1)[1])}")
+    page.wait("!document.getElementById('lesson').hidden")
+    same("by a link", "A function", page.ask(CURRENT))
+    machine.run()
+    same("two registers", "s0 is 21 (0x00000015), and 7 (0x00000007) is expected.",
+         page.text("#exercise-check").split(". ", 1)[1])
+    page.ask("history.replaceState(null, '', location.pathname)")
+    machine.choose("three")
+    same("an example closes it", True, page.ask("document.getElementById('lesson').hidden"))
+    with tempfile.TemporaryDirectory() as name:
+        path = pathlib.Path(name) / "wrong.txt"
+        path.write_text("lesson: a\nexercise: b\noutput: c\n")
+        machine.give(path)
+        machine.says("Not opened", 'wrong.txt was not opened. Line 3: the output stands in '
+                     'quotation marks, as "31\\n"')
+
+
+REMARKS = "[...document.querySelectorAll('#remarks li')].map((item) => item.textContent)"
+
+
+def convention(machine):
+    """the calling convention: what does not keep to it is told, and a step back takes it back"""
+    page = machine.page
+    machine.choose("convention")
+    same("before the first step", [], page.ask(REMARKS))
+    machine.run()
+    machine.says("Exit")
+    told = page.ask(REMARKS)
+    same("the remarks", [
+        "factorial leaves s0 changed: it was 0x00000001, and is 0x00000000 at the return. (5 "
+        "times)",
+        "t0 is read at main + 16, and the call of factorial before may have changed it."], told)
+    same("its note", "none, 2 remarks", page.text("#frames-note"))
+    machine.keys("bbb")
+    same("three steps back", 1, len(page.ask(REMARKS)))
+    machine.keys("h")
+    same("with numbers", "factorial leaves x8 changed", page.ask(REMARKS)[0][:27])
+    machine.keys("h")
+    machine.run("B")
+    same("at the start", [], page.ask(REMARKS))
+
+
+TRIALS = [assembly, while_one_types, assembly_from_elsewhere, lesson, convention]
