@@ -1,6 +1,7 @@
 -- Lemmas of the steps that are told, and of the runs that stop.
 mod TracedAccesses
 pub mod Stopping
+pub mod StoppingCached
 -- An access that is made outside of the machine.
 mod OutsideSteps
 mod LastWritten
