@@ -86,6 +86,8 @@ const ENVIRONMENTS = {
       63: { name: "read", serve: (machine, extra) => machine.readCall(extra) },
       64: { name: "write", serve: (machine) => machine.writeCall() },
       93: { name: "exit", serve: exitWith(REGISTER.A0) },
+      94: { name: "exit_group", serve: exitWith(REGISTER.A0) },
+      214: { name: "brk", serve: (machine) => machine.breakCall() },
     },
   },
   rars: {
@@ -119,7 +121,7 @@ const ENVIRONMENTS = {
   },
 };
 
-/** The calls of an environment, as a sentence has them: `63 (read), 64 (write) and 93 (exit)`. */
+/** The calls of an environment, as a sentence has them: `1 (print_int), .. and 34 (print_hex)`. */
 function callsOf({ calls }) {
   const all = Object.entries(calls).map(([number, { name }]) => `${number} (${name})`);
   return `${all.slice(0, -1).join(", ")} and ${all.at(-1)}`;

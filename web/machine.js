@@ -66,6 +66,7 @@ class Machine {
     this.transferred = 0;
     // where more memory begins that a program asks for
     this.heap = kit.base + 4 * this.program.length;
+    this.break = this.heapRange().first;
     this.terminal.reset();
     this.history.clear();
   }
@@ -181,10 +182,11 @@ class Machine {
 
   /* A call of the environment. */
   serveCall(fault, lastBefore) {
-    const { kit, terminal, environment, heap } = this;
+    const { kit, terminal, environment, heap, break: breakBefore } = this;
     const call = environment.calls[kit.x[environment.number]];
     if (call === undefined) return { reason: "fault", ...fault };
-    const extra = { mark: terminal.mark(), heap, name: call.name, words: [] };
+    const { name } = call;
+    const extra = { mark: terminal.mark(), heap, breakBefore, name, words: [] };
     const answer = call.serve(this, extra);
     if (answer === null) return { reason: "waiting" };
     if (typeof answer === "object") return answer;
@@ -197,6 +199,21 @@ class Machine {
     const flags = packFlags(rd, lastBefore, 0, 0, MADE_BY.CALL);
     this.keep(pc, word, flags, rd, 0, 0, 0, extra);
     return null;
+  }
+
+  /* The heap of Linux's calls, from the middle of memory up to the last quarter, which is for the
+   * stack, as in the memory of `rrs exec --raw`. */
+  heapRange() {
+    const { base, size } = this.kit;
+    return { first: base + size / 2, last: base + 3 * size / 4 };
+  }
+
+  /* brk(a0): moves the break to an address of the heap, and answers where it is. */
+  breakCall() {
+    const address = this.kit.x[REGISTER.A0];
+    const { first, last } = this.heapRange();
+    if (address >= first && address <= last) this.break = address;
+    return this.break;
   }
 
   /** Prints bytes for a call. */
@@ -326,9 +343,10 @@ class Machine {
   }
 
   /* Takes back what a system call or the port did beside the registers. */
-  restore({ mark, heap, words }) {
+  restore({ mark, heap, breakBefore, words }) {
     this.terminal.restore(mark);
     this.heap = heap ?? this.heap;
+    this.break = breakBefore ?? this.break;
     for (const [index, word] of words ?? []) this.putBack(index, word);
   }
 

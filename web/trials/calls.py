@@ -7,7 +7,8 @@ import struct
 import subprocess
 import termios
 
-READ, WRITE, EXIT = 63, 64, 93
+READ, WRITE, EXIT, BRK = 63, 64, 93, 214
+NAMES = {READ: "read", WRITE: "write", BRK: "brk"}
 EFAULT, EBADF = -14, -9
 
 # sixteen letters to write, where reads put bytes, where the answers are kept, and the first address
@@ -55,6 +56,13 @@ CALLS = [
     (READ, 0, 0x80000000, 1000, EFAULT),
     (READ, 0, BUFFER + 266, 43, 43),
     (READ, 0, BUFFER + 309, 1, 1),
+    # the break moves in its heap, and stays where an address is in none
+    (BRK, 0, 0, 0, 0x80000),
+    (BRK, 0x9000C, 0, 0, 0x9000C),
+    (BRK, 0x7FFFF, 0, 0, 0x9000C),
+    (BRK, 0xC0001, 0, 0, 0x9000C),
+    (BRK, 0xC0000, 0, 0, 0xC0000),
+    (BRK, 0x80000, 0, 0, 0x80000),
     # at the end of the input there is nothing to store
     (READ, 0, BUFFER, 100, 0),
     (READ, 0, END, 4, 0),
@@ -115,8 +123,8 @@ def differences(output):
     """What is other than it should be in what the program wrote: the answers of calls first."""
     answers = output[-4 * len(CALLS):]
     found = [
-        f"{'read' if number == READ else 'write'}({', '.join(map(hex, arguments))}) should answer "
-        f"{wanted}, and answers {got}"
+        f"{NAMES[number]}({', '.join(map(hex, arguments))}) should answer {wanted}, and answers "
+        f"{got}"
         for (number, *arguments, wanted), (got,) in zip(CALLS, struct.iter_unpack("<i", answers))
         if wanted != got
     ]

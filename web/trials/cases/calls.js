@@ -132,15 +132,34 @@ function moreMemory(report, page, kit) {
   report.same("after a reset", 12, machine.heap);
 }
 
+/* The break of Linux's calls. */
+function breaks(report, page, kit) {
+  const machine = new page.Machine(kit);
+  machine.load(new Uint32Array(20).fill(0x73), 0, 1 << 20, true);
+  const seen = [0, 0x80000, 0x8000c, 0x7ffff, 0xc0001, 0xc0000].map((address) => {
+    kit.x[A7] = 214;
+    kit.x[A0] = address;
+    machine.step();
+    return kit.x[A0];
+  });
+  report.same("the answers of brk", [0x80000, 0x80000, 0x8000c, 0x8000c, 0x8000c, 0xc0000], seen);
+  for (let back = 0; back < 4; back++) machine.stepBack();
+  report.same("the break, four steps back", 0x80000, machine.break);
+  machine.run(1, new Uint8Array(1 << 18));
+  machine.reset();
+  report.same("after a reset", 0x80000, machine.break);
+}
+
 function tables(report, page) {
   const numbers = ({ calls }) => Object.keys(calls).map(Number);
   const { linux, rars: ofRars, venus: ofVenus } = page.ENVIRONMENTS;
-  report.same("the numbers of the calls", [[63, 64, 93],
+  report.same("the numbers of the calls", [[63, 64, 93, 94, 214],
     [1, 4, 5, 8, 9, 10, 11, 12, 34, 35, 36, 93], [1, 4, 9, 10, 11, 17, 34]],
   [linux, ofRars, ofVenus].map(numbers));
   report.same("the registers with the number", [A7, A7, A0],
     [linux, ofRars, ofVenus].map(({ number }) => number));
-  report.same("calls in a sentence", "63 (read), 64 (write) and 93 (exit)", page.callsOf(linux));
+  report.same("calls in a sentence",
+    "63 (read), 64 (write), 93 (exit), 94 (exit_group) and 214 (brk)", page.callsOf(linux));
 }
 
 /* What the page says of a call that was refused, and of one that it does not know. */
@@ -161,7 +180,7 @@ function sentences(report, page, kit) {
 /** Tries the calls of other environments. */
 function tryCalls(report, page, kit) {
   report.begin("calls");
-  for (const part of [tables, rars, rarsStrings, venus, moreMemory, sentences]) {
+  for (const part of [tables, rars, rarsStrings, venus, moreMemory, breaks, sentences]) {
     part(report, page, kit);
   }
 }

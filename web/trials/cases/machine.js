@@ -23,12 +23,13 @@ function nonzero(numbers) {
 }
 
 /* All that a step may change, as one text. */
-function digest({ kit, xBefore, wordsBefore, executed, kinds, terminal, heap, history }) {
+function digest(machine) {
+  const { kit, xBefore, wordsBefore, executed, kinds, terminal, heap, history } = machine;
   const { output, printed, lost, input, held, taken, isClosed, port } = terminal;
   return JSON.stringify([
     [...kit.x], kit.pc, kit.last, nonzero(kit.words), [...xBefore], nonzero(wordsBefore),
     nonzero(executed), nonzero(kinds), [...output.subarray(0, printed)], lost, input, held, taken,
-    isClosed, port, heap, history.steps, history.first, [...history.extras.keys()],
+    isClosed, port, heap, machine.break, history.steps, history.first, [...history.extras.keys()],
   ]);
 }
 
@@ -195,7 +196,8 @@ function endsOfCalls(report, page, kit) {
     [[93, 7, 0, 0], { reason: "exit", status: 7 }],
     [[93, 0xffffffff, 0, 0], { reason: "exit", status: 255 }],
     [[93, 256, 0, 0], { reason: "exit", status: 0 }],
-    [[94, 7, 0, 0], { reason: "fault", kind: ECALL, address: 0, word: 0 }],
+    [[94, 7, 0, 0], { reason: "exit", status: 7 }],
+    [[95, 7, 0, 0], { reason: "fault", kind: ECALL, address: 0, word: 0 }],
     [[0, 1, FIRST, 4], { reason: "fault", kind: ECALL, address: 0, word: 0 }],
     [[63, 0, FIRST, 4], { reason: "waiting" }],
   ];

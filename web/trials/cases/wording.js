@@ -106,7 +106,8 @@ function ends() {
   const stores = (address) => ["Store fault", `The instruction at ${at} stores to ${address}, `
     + `where there is no memory. ${MEMORY} ${NOTHING}`, "end"];
   const call = (number) => ["Environment call", `The ecall at 0x80000004 asks for system call `
-    + `${number} (a7). This page serves 63 (read), 64 (write) and 93 (exit), as Linux has them. `
+    + `${number} (a7). This page serves 63 (read), 64 (write), 93 (exit), 94 (exit_group) and 214 `
+    + "(brk), as Linux has them. "
     + NOTHING, "end"];
   return [
     [[0xffffffff], ["Illegal instruction", "The word at 0x80000000 is 0xffffffff, which is no "
