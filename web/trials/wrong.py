@@ -14,7 +14,7 @@ IN_NODE = [
     ("wording.js", '"zero", "ra", "sp"', '"zero", "sp", "ra"'),
     ("machine.js", "kit.last = lastBeforeIn(flags);", ""),
     ("terminal.js", "Object.assign(this, mark);", ""),
-    ("assembly.js", 'mv: ofOne((rd, rs1) => ["addi", { rd, rs1 }])',
+    ("statements.js", 'mv: ofOne((rd, rs1) => ["addi", { rd, rs1 }])',
      'mv: ofOne((rd, rs1) => ["addi", { rd, imm: rs1 }])'),
     ("convention.js", "if (after !== before && frame.isPlain)", "if (after < before)"),
     ("lesson.js", "if (value === wanted) continue;", "if (value >= wanted) continue;"),
