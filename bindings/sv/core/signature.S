@@ -17,6 +17,8 @@ _start:
     sb x3, 15(x1)
     lw x8, word
     sw x8, 16(x1)
+    lw x8, empty
+    sw x8, 20(x1)
     addi x9, x0, 1
     la x10, tohost
 write_tohost:
@@ -34,6 +36,10 @@ word:
     .balign 16
     .globl begin_signature
 begin_signature:
-    .fill 6, 4, 0xdeadbeef
+    .fill 7, 4, 0xdeadbeef
     .globl end_signature
 end_signature:
+
+    .bss
+empty:
+    .space 64
