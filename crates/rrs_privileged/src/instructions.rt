@@ -52,7 +52,7 @@ impl SystemRow {
     }
 
     /// Whether the operand is the number in the place of `rs1`, and not that register's value.
-    pub(crate) fn has_immediate(self) -> bool
+    pub fn has_immediate(self) -> bool
         ensures { result ≡ has_immediate self }
     {
         matches!(

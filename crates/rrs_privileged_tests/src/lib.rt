@@ -1,8 +1,8 @@
-//! The tests of `rrs_privileged`, written as a user's crate would be.
+//! The tests of `rrs_privileged` and `rrs_system`, written as a user's crate would be.
 //!
-//! Each CSR by each of the six instructions, each trap, interrupts, runs, and generated programs
-//! beside a model. The answers are those
-//! of the RISC-V privileged specification, and words are as GNU as makes them.
+//! Each CSR by each of the six instructions, each trap, interrupts, runs, generated programs beside a
+//! model, and the words and texts of the instructions. The answers are those of the RISC-V
+//! privileged specification, and words are as GNU as makes them.
 
 #![tactic(auto)]
 
@@ -14,3 +14,5 @@ mod generated;
 mod steps;
 #[cfg(test)]
 mod traps;
+#[cfg(test)]
+mod words;

@@ -1,0 +1,2 @@
+-- Texts of the instructions that the 48 rows leave out.
+pub mod SystemTexts
