@@ -62,7 +62,7 @@ impl SystemRow {
     }
 
     /// What the CSR gets, from its old value and the operand.
-    pub(crate) fn updated(self, old: u32, operand: u32) -> u32
+    pub fn updated(self, old: u32, operand: u32) -> u32
         ensures { result ≡ updated self old operand }
     {
         match self {

@@ -11,6 +11,8 @@ mod csrs;
 #[cfg(test)]
 mod generated;
 #[cfg(test)]
+mod records;
+#[cfg(test)]
 mod steps;
 #[cfg(test)]
 mod traps;

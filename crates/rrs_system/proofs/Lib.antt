@@ -1,1 +1,2 @@
 pub mod SystemDecoding
+pub mod TracedSteps

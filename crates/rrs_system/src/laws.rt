@@ -22,9 +22,7 @@ use rrs_privileged::instructions::decode_system;
 /// let back = SystemInstruction { row: SystemRow::Mret, fields };
 /// assert_eq!(rt; decode_of_encode(&back), Some((0x3020_0073, Some(back))));
 /// ```
-pub fn decode_of_encode(
-    instruction: &SystemInstruction,
-) -> Option<(u32, Option<SystemInstruction>)>
+pub fn decode_of_encode(instruction: &SystemInstruction) -> Option<(u32, Option<SystemInstruction>)>
     ensures word { IfSome result
         (λ both. IsSystem both.0 instruction.now.row instruction.now.fields) }
     ensures same { IfSome result (λ both. both.1 ≡ Some instruction.now) }

@@ -1,5 +1,5 @@
 -- Lemmas of the steps that are told, and of the runs that stop.
-mod TracedAccesses
+pub mod TracedAccesses
 pub mod Stopping
 pub mod StoppingCached
 -- An access that is made outside of the machine.
