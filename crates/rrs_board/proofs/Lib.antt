@@ -1,3 +1,4 @@
 -- Lemmas of this crate.
 pub mod RegisterBytes
 pub mod BoardBytes
+pub mod Sessions

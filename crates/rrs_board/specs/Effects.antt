@@ -108,6 +108,16 @@ showing received d = record d {
   uart_high = shown_high received d.uart_high;
 }
 
+-- ---- what the caller hands in
+
+abbrev pub is_end : Option ℕ → Bool
+is_end None = true
+is_end (Some byte) = false
+
+-- a byte, which the UART shows until the program takes it, or, by None, the end of the input
+abbrev pub handed : Option ℕ → Devices → Devices
+handed byte d = showing byte (record d { has_ended = is_end byte })
+
 -- ---- what they do
 
 -- the byte that is there after the access

@@ -1,7 +1,7 @@
 //! What the devices do between two steps.
 
 ghost use Rattle.std.specs.Prelude.{◌≡◌, ◌+◌, ◌/◌, ◌%◌, ◌^◌, ◌==◌};
-ghost use Rattle.rrs_board.specs.Effects.{inputs_of, wrote, read, has_divisor, transmits, takes_byte, has_byte, finds_none, shown_byte, line_status, shown_low, shown_high, showing, received_after, polled_after, answered_access, answered, finish_event, access_event, ticked, can_wake, forwarded, waited, settled, event_after};
+ghost use Rattle.rrs_board.specs.Effects.{inputs_of, wrote, read, has_divisor, transmits, takes_byte, has_byte, finds_none, shown_byte, line_status, shown_low, shown_high, showing, handed, received_after, polled_after, answered_access, answered, finish_event, access_event, ticked, can_wake, forwarded, waited, settled, event_after};
 
 use crate::devices::{DeviceAccess, Devices};
 use rrs_privileged::{CsrFile, Inputs, MachineAnswer};
@@ -108,7 +108,7 @@ impl Devices {
     /// The program has read the byte before it: this is for the answer to
     /// [BoardEvent::WantsInput].
     pub fn receive(&mut self, byte: Option<u8>)
-        ensures byte { self.new.received ≡ byte }
+        ensures { self.new ≡ handed byte self.old }
     {
         self.has_ended = byte.is_none();
         self.show(byte);

@@ -24,4 +24,4 @@ pub use devices::{DeviceAccess, Devices};
 pub use effects::BoardEvent;
 pub use loading::BoardError;
 pub use memory::BoardMemory;
-pub use terminal::run_at_terminal;
+pub use terminal::{TerminalError, run_at_terminal};

@@ -9,7 +9,7 @@ use Rattle.rrs_env.specs.declared.Ending.{Ending}
 use Rattle.rrs_env.specs.declared.Ending.TheVariants.{Limit, Fault, Exit}
 use Rattle.rrs_cli.specs.Failures as Failures
 use Rattle.rrs_commands.specs.declared.ending.Refusal.{Refusal}
-use Rattle.rrs_commands.specs.declared.ending.Refusal.TheVariants.{SourceErrors, UnreadableSource, LargeSource, LargeProgram, WrongLimit, Image, IsElf, Failed}
+use Rattle.rrs_commands.specs.declared.ending.Refusal.TheVariants.{SourceErrors, UnreadableSource, LargeSource, UnreadableInput, LargeProgram, WrongLimit, Image, IsElf, Failed}
 use Rattle.rrs_commands.specs.declared.subcommands.Task.{Task}
 use Rattle.rrs_commands.specs.declared.subcommands.Task.TheVariants.{Execute, Board}
 
@@ -29,6 +29,7 @@ refused_status Board refusal = 125
 refused_status task SourceErrors = 1
 refused_status task UnreadableSource = 1
 refused_status task LargeSource = 1
+refused_status task UnreadableInput = 1
 refused_status task LargeProgram = 1
 refused_status task WrongLimit = 2
 refused_status task (Image error) = 1

@@ -2,7 +2,7 @@
 
 use crate::ending::Refusal;
 use crate::executables::read_program;
-use rrs_board::{Board, BoardEnd, BoardError, BoardEvent, run_at_terminal};
+use rrs_board::{Board, BoardEnd, BoardError, BoardEvent, TerminalError, run_at_terminal};
 use rrs_cli::command::Failure;
 use rrs_cli::fault::RunFault;
 use rrs_env::Ending;
@@ -106,8 +106,9 @@ fn ending_of<H: Eprint>(rt: &H, board: &Board, end: BoardEnd) -> Ending {
 /// # Errors
 ///
 /// Those of `read_program`; `Refusal::WrongLimit` where a number is none, and `Failure::Usage` for
-/// other words; `Refusal::Image` where it is no executable for this board; `RunFault::OutOfMemory`,
-/// and `RunFault::Output` where a write fails.
+/// other words; `Refusal::Image` where it is no executable for this board;
+/// `Refusal::UnreadableInput` where a read of the input fails; `RunFault::OutOfMemory`, and
+/// `RunFault::Output` where a write fails.
 pub fn run_board<H: Files + Eprint + AllocGlobal, R: Read, W: Write>(
     rt: &H,
     words: &[String],
@@ -124,6 +125,7 @@ pub fn run_board<H: Files + Eprint + AllocGlobal, R: Read, W: Write>(
     };
     match run_at_terminal(&mut board, request.limit, input, &mut buffered) {
         Ok(end) => Ok(ending_of(rt, &board, end)),
-        Err(_) => Err(Refusal::Failed(Failure::Run(RunFault::Output))),
+        Err(TerminalError::Input) => Err(Refusal::UnreadableInput),
+        Err(TerminalError::Output) => Err(Refusal::Failed(Failure::Run(RunFault::Output))),
     }
 }

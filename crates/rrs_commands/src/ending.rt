@@ -21,6 +21,8 @@ pub enum Refusal {
     UnreadableSource,
     /// The source has more bytes than are read.
     LargeSource,
+    /// The input of a board can't be read.
+    UnreadableInput,
     /// The program's file has more bytes than are read.
     LargeProgram,
     /// The word for a limit, or for a number of bytes, is no number.
@@ -96,6 +98,7 @@ pub fn conclude<H: Eprint>(
         Ok(Ending::Limit) => eprintln!(rt; "{}: limit", program.name),
         Ok(Ending::Fault(fault)) => eprintln!(rt; "{}: {fault}", program.name),
         Err(Refusal::UnreadableSource) => eprintln!(rt; "{}: cannot read file", program.name),
+        Err(Refusal::UnreadableInput) => eprintln!(rt; "{}: cannot read input", program.name),
         Err(Refusal::LargeSource) => {
             eprintln!(rt; "{}: a source has at most 64 MiB", program.name)
         }

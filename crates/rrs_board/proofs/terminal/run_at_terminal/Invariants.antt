@@ -1,6 +1,15 @@
-use Rattle.std.proofs.Common.{◌≤◌}
+use Rattle.std.proofs.Common.{◌≤◌, ◌-◌}
+use Rattle.rrs_board.specs.Terminals.{Served}
 use Rattle.rrs_board.proofs.terminal.run_at_terminal.Given as goal
 
--- no more steps are left than the limit
-abbrev pub invariant-loop : goal.invariant-loop
-invariant-loop g l = l.left ≤ l.fn.limit
+-- the session so far
+abbrev pub invariant-runs : goal.invariant-runs
+invariant-runs g l = record {
+  within : l.steps ≤ l.fn.limit;
+  served : Served l.fn.limit l.fn.board
+      (g.R.Read.remaining l.fn.input) (g.R.Read.remaining l.input)
+      (g.W.Write.contents l.fn.output) (g.W.Write.contents l.output) l.steps l.board;
+}
+
+abbrev pub decreases-runs : goal.decreases-runs
+decreases-runs g l = l.fn.limit - l.steps
