@@ -1,10 +1,11 @@
 #!/usr/bin/env python3
-"""Questions whose answers come from tables and rules that are written here anew: names, causes, and
-comparisons of records. `make` stores them behind the others. docs/C.md has the forms.
+"""Questions whose answers come from tables and rules that are written here anew: names, causes,
+comparisons of records, and executables in the ELF format. `make` stores them behind the others. docs/C.md has the forms.
 
 usage: checks.py questions | checks.py answers
 """
 import random
+import struct
 import sys
 
 from questions import EDGES, ROWS, hexed
@@ -129,9 +130,178 @@ def comparisons():
         yield f"compare {by_words} {question}", difference(model, core, by_words == 1)
 
 
+# ---- executables, by the ELF specification
+
+def refusal_of(file):
+    """The first refusal, with its numbers, or None."""
+    if file[:4] != b"\x7fELF":
+        return 1, 0, 0
+    if len(file) < 52:
+        return 2, 0, 0
+    for number, at in ((3, 4), (4, 5), (5, 6)):
+        if file[at] != 1:
+            return number, file[at], 0
+    kind, machine, version, entry, phoff, _, flags, _, size, count = \
+        struct.unpack_from("<HHIIIIIHHH", file, 16)
+    if kind != 2:
+        return (6, 0, 0) if kind == 3 else (7, kind, 0)
+    for number, is_right, value in ((8, machine == 243, machine), (9, version == 1, version),
+                                    (10, flags & 1 == 0, 0), (11, flags & 6 == 0, 0),
+                                    (12, flags & 8 == 0, 0), (13, size == 32, size),
+                                    (14, count != 0xFFFF, 0)):
+        if not is_right:
+            return number, value, 0
+    if phoff + 32 * count > len(file):
+        return 15, 0, 0
+    loads = []
+    for index in range(count):
+        kind, offset, address, _, in_file, size, _, _ = \
+            struct.unpack_from("<8I", file, phoff + 32 * index)
+        if kind == 3:
+            return 16, index, 0
+        if kind != 1:
+            continue
+        for number, is_wrong in ((17, in_file and offset + in_file > len(file)),
+                                 (18, size < in_file), (19, address + size > 2**32)):
+            if is_wrong:
+                return number, index, 0
+        for earlier, start, end in loads:
+            if max(start, address) < min(end, address + size):
+                return 20, earlier, index
+        loads.append((index, address, address + size))
+    if entry % 4:
+        return 21, entry, 0
+    return None if any(start <= entry < end for _, start, end in loads) else (22, entry, 0)
+
+
+def symbols_of(file):
+    """The symbols that can be read: value, size, type, section, name. None where they can't be."""
+    start, size, count = (*struct.unpack_from("<I", file, 32), *struct.unpack_from("<HH", file, 46))
+    if count and (size != 40 or start + 40 * count > len(file)):
+        return None
+    sections = [struct.unpack_from("<10I", file, start + 40 * n) for n in range(count)]
+    table = next((s for s in sections if s[1] == 2), None)
+    if table is None:
+        return []
+    if table[9] != 16 or table[4] + table[5] > len(file) or table[6] >= count:
+        return None
+    strings = sections[table[6]]
+    if strings[1] != 3 or strings[4] + strings[5] > len(file):
+        return None
+    text = file[strings[4]:strings[4] + strings[5]]
+    if text and text[-1]:
+        return None
+    symbols = []
+    for n in range(table[5] // 16):
+        name, value, size, info, _, section = struct.unpack_from("<IIIBBH", file, table[4] + 16 * n)
+        if name >= len(text):
+            return None
+        symbols.append((value, size, info & 15, section, text[name:].split(b"\0")[0].decode()))
+    return symbols
+
+
+def place_of(file, segments, address):
+    """Where an address lies, by the symbols."""
+    symbols = [s for s in symbols_of(file) or [] if 0 < s[3] < 0xFF00]
+    for value, size, kind, _, name in symbols:
+        if kind == 2 and value <= address < value + size:
+            return f"in {name}+{address - value}"
+    segment = next((s for s in segments if s and s[0] <= address < s[0] + s[1]), None)
+    if segment is None:
+        return "none"
+    before = [(s[0], s[4]) for s in symbols if segment[0] <= s[0] <= address
+              and (s[2] == 2 or s[2] == 0 and not s[4].startswith("$"))]
+    if not before:
+        return "none"
+    nearest = max(value for value, _ in before)
+    name = next(name for value, name in before if value == nearest)
+    return f"behind {name}+{address - nearest}"
+
+
+def answer_elf(file, base, count, address):
+    refusal = refusal_of(file)
+    if refusal:
+        return "refused {} {} {} none".format(*refusal)
+    entry, phoff = struct.unpack_from("<II", file, 24)
+    headers = [struct.unpack_from("<8I", file, phoff + 32 * n)
+               for n in range(struct.unpack_from("<H", file, 44)[0])]
+    segments = [(h[2], h[5], h[1], h[4], h[6]) if h[0] == 1 else None for h in headers]
+    told = [f"entry={hexed(entry)}"]
+    told += [f"{hexed(s[0])},{s[1]},{s[2]},{s[3]},{s[4]}" if s else "none" for s in segments]
+    memory, ended = bytearray([255] * 4 * count), "loaded"
+    base -= base % 4
+    for s in filter(None, segments):
+        for at in range(s[0], s[0] + s[1]):
+            if not base <= at < min(base + len(memory), 2**32):
+                ended = f"refused 31 {hexed(at)}"
+                break
+            memory[at - base] = file[s[2] + at - s[0]] if at - s[0] < s[3] else 0
+        if ended != "loaded":
+            break
+    words = ",".join(hexed(word) for word, in struct.iter_unpack("<I", memory))
+    return " ".join([*told, ended, words, place_of(file, segments, address)])
+
+
+def executable(segments, symbols, entry=0x10000, with_sections=True):
+    """An executable of segments, each with its type, address, bytes, size and flags; and symbols."""
+    place = 52 + 32 * len(segments)
+    headers, body = b"", b""
+    for kind, address, own, size, flags in segments:
+        headers += struct.pack("<8I", kind, place + len(body), address, address ^ 0x100, len(own),
+                               size, flags, 4)
+        body += own
+    names, table = b"\0", bytes(16)
+    for value, size, kind, section, name in symbols:
+        table += struct.pack("<IIIBBH", len(names), value, size, kind | 16, 0, section)
+        names += name.encode() + b"\0"
+    at = place + len(body)
+    sections = [bytes(40), struct.pack("<10I", 0, 1, 6, 0x10000, place, 4, 0, 0, 4, 0),
+                struct.pack("<10I", 0, 2, 0, 0, at, len(table), 3, 1, 4, 16),
+                struct.pack("<10I", 0, 3, 0, 0, at + len(table), len(names), 0, 0, 1, 0)]
+    count = len(sections) if with_sections else 0
+    tail = table + names + b"".join(sections[:count])
+    start = at + len(table) + len(names) if count else 0
+    head = b"\x7fELF\1\1\1" + bytes(9) + struct.pack(
+        "<HHIIIIIHHHHHH", 2, 243, 1, entry, 52, start, 0, 52, 32, len(segments), 40 if count else 0,
+        count, 0)
+    return head + headers + body + (tail if count else b"")
+
+
+def executables():
+    code = bytes(range(1, 17))
+    main = (0x10004, 8, 2, 1, "main")
+    symbols = [(0x10000, 0, 0, 1, "_start"), main, (0x1000C, 4, 1, 1, "data"),
+               (0x10008, 0, 0, 1, "$x"), (0x20000, 4, 2, 0, "not_defined"), (0x20004, 0, 2, 1, "f")]
+    whole = executable([(1, 0x10000, code, 20, 5), (4, 0, b"", 0, 4), (1, 0x10020, b"abc", 9, 6)],
+                       symbols)
+    plain = executable([(1, 0x10000, code, 16, 5)], [], with_sections=False)
+    high = executable([(1, 0xFFFFFFF0, code[:8], 16, 7)], [main], 0xFFFFFFF0)
+    files = [(whole, 0x10000), (plain, 0x10000), (high, 0xFFFFFFF0)]
+    for file, base in files:
+        for offset in (0, 4, 11, 12, 24, 32, 41, 2**31):
+            for count, low in ((12, base), (9, base + 3), (0, base), (12, base + 4)):
+                yield file, low % 2**32, count, (base + offset) % 2**32
+    for one, other in ((0x10000, 0x1000F), (0x10000, 0x10010), (0x1000F, 0x10000), (0x20000, 0x20000)):
+        yield executable([(1, one, code, 16, 5), (1, other, code, 17, 6)], symbols), 0x10000, 12, one
+    for file, base in files:
+        places = [*range(52 + 32 * struct.unpack_from("<H", file, 44)[0])]
+        for at in places + [*range(max(places[-1], len(file) - 160), len(file))]:
+            for byte in (0, 1, 2, 3, 0x7F, 0xFF):
+                if file[at] != byte and (7 * at + byte) % 13 == 0:
+                    yield file[:at] + bytes([byte]) + file[at + 1:], base, 14, base + 4
+        for length in (0, 3, 4, 51, 52, 83, 84, len(file) - 1):
+            yield file[:length], base, 14, base
+
+
+def elfs():
+    for file, base, count, address in executables():
+        question = f"elf {file.hex()} {hexed(base)} {count} {hexed(address)}"
+        yield question, answer_elf(file, base, count, address)
+
+
 def main():
     which = ("questions", "answers").index(sys.argv[1])
-    for kind in (names, causes, comparisons):
+    for kind in (names, causes, comparisons, elfs):
         for pair in kind():
             print(pair[which])
 

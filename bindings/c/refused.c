@@ -90,3 +90,29 @@ size_t rrs_register_name(uint32_t number, char *text, size_t size) {
 size_t rrs_field_name(uint32_t field, char *text, size_t size) {
     return rrs_disassemble(field, 0, text, size);
 }
+
+rrs_elf rrs_elf_parse(const uint8_t *file, size_t size) {
+    rrs_elf none = {RRS_ELF_NOT_ELF, 0, 0, 0, 0};
+    (void)file, (void)size;
+    return none;
+}
+
+rrs_segment rrs_elf_segment(const uint8_t *file, size_t size, uint32_t index) {
+    rrs_segment none = {0, 0, 0, 0, 0, 0};
+    (void)file, (void)size, (void)index;
+    return none;
+}
+
+rrs_loaded rrs_elf_load(const uint8_t *file, size_t size, uint32_t *words, size_t count,
+                        uint32_t base) {
+    rrs_loaded none = {RRS_ELF_NOT_ELF, 0};
+    (void)file, (void)size, (void)words, (void)count, (void)base;
+    return none;
+}
+
+rrs_location rrs_elf_function_at(const uint8_t *file, size_t size, uint32_t address, char *text,
+                                 size_t room) {
+    rrs_location none = {RRS_NOWHERE, 0, 0};
+    (void)file, (void)size, (void)address, (void)text, (void)room;
+    return none;
+}

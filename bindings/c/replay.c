@@ -264,6 +264,82 @@ static int answer_check(const char **at) {
     return 1;
 }
 
+/* Takes bytes off, two hexadecimal digits each. Returns how many. */
+static size_t bytes_of(const char **at, uint8_t *bytes, size_t room) {
+    size_t count = 0;
+    while (**at != ' ' && **at != 0) {
+        char digits[3] = {0, 0, 0};
+        if (count == room || (*at)[1] == 0) fail(*at);
+        memcpy(digits, *at, 2);
+        bytes[count++] = (uint8_t)strtoul(digits, NULL, 16);
+        *at += 2;
+    }
+    return count;
+}
+
+/* The name and the place of an address, in a buffer that is as long as it must be, and one that is a
+ * byte too short. */
+static void print_location(const uint8_t *file, size_t size, uint32_t address) {
+    char text[256];
+    rrs_location at, again;
+    memset(text, '#', sizeof text);
+    at = rrs_elf_function_at(file, size, address, text, sizeof text);
+    if (at.found == RRS_NOWHERE) {
+        printf(" none%s", text[0] == '#' && (at.distance | at.length) == 0 ? "" : " changed");
+        return;
+    }
+    printf(" %s %s+%u", at.found == RRS_IN_FUNCTION ? "in" : "behind", text, at.distance);
+    if (strlen(text) != at.length || at.found > RRS_BEHIND) printf(" %u", at.found);
+    memset(text, '#', sizeof text);
+    again = rrs_elf_function_at(file, size, address, text, at.length);
+    if (memcmp(&again, &at, sizeof at) != 0 || text[0] != '#') printf(" changed");
+}
+
+/* `elf FILE BASE COUNT ADDRESS`. Returns 0 where it is no such question. */
+static int answer_elf(const char **at) {
+    static uint8_t file[LONGEST_LINE / 2];
+    uint32_t words[256], base, count, i;
+    rrs_elf elf;
+    rrs_loaded loaded;
+    size_t size;
+    if (!take(at, "elf ")) return 0;
+    size = bytes_of(at, file, sizeof file);
+    expect(at, " ");
+    base = (uint32_t)number(at);
+    expect(at, " ");
+    count = (uint32_t)number(at);
+    expect(at, " ");
+    if (count > 256) fail(*at);
+    elf = rrs_elf_parse(file, size);
+    if (elf.refusal != RRS_ELF_OK) printf("refused %u %u %u", elf.refusal, elf.number, elf.other);
+    else printf("entry=0x%08x", elf.entry);
+    if (elf.refusal != RRS_ELF_OK && (elf.entry | elf.segments)) printf(" changed");
+    for (i = 0; i < elf.segments + 2; i++) {
+        rrs_segment s = rrs_elf_segment(file, size, i);
+        if (s.loaded == 1)
+            printf(" 0x%08x,%u,%u,%u,%u", s.address, s.memory_size, s.offset, s.file_size, s.flags);
+        else if (s.loaded | s.address | s.memory_size | s.offset | s.file_size | s.flags)
+            printf(" changed");
+        else if (i < elf.segments) printf(" none");
+    }
+    memset(words, 255, sizeof words);
+    loaded = rrs_elf_load(file, size, words, count, base);
+    if (elf.refusal == RRS_ELF_OK) {
+        if (loaded.refusal == RRS_ELF_OK) printf(" loaded");
+        else printf(" refused %u 0x%08x", loaded.refusal, loaded.address);
+        if (count == 0) printf(" ");
+    }
+    for (i = 0; i < 256; i++) {
+        if (elf.refusal != RRS_ELF_OK || i >= count) {
+            if (words[i] != 0xffffffff) printf(" changed");
+        } else {
+            printf("%c0x%08x", i == 0 ? ' ' : ',', words[i]);
+        }
+    }
+    print_location(file, size, (uint32_t)number(at));
+    return 1;
+}
+
 /* `request WORD`, `complete WORD GIVEN` and `retire ORDER WORD GIVEN`, which is rrs_complete_rvfi.
  * Returns 0 where it is none of these. */
 static int answer_access(const char **at, struct machine *machine) {
@@ -356,7 +432,7 @@ static void answer(const char *line) {
     memset(&machine, 0, sizeof machine);
     if (take(&at, "steps 0")) {
         printf("-%s", at); /* nothing is called */
-    } else if (answer_word(&at) || answer_check(&at)) {
+    } else if (answer_word(&at) || answer_check(&at) || answer_elf(&at)) {
         if (*at != 0) fail(at);
     } else {
         if (take(&at, "steps ")) answer_steps(&at, &machine);

@@ -12,6 +12,10 @@ STRUCTS = {
     "rrs_difference": rrs._Difference,
     "rrs_instruction": rrs._Instruction,
     "rrs_access": rrs._Access,
+    "rrs_elf": rrs._Elf,
+    "rrs_segment": rrs._Segment,
+    "rrs_loaded": rrs._Loaded,
+    "rrs_location": rrs._Location,
 }
 
 for name, struct in STRUCTS.items():
@@ -32,6 +36,13 @@ for row in rrs.Row:
 print("RRS_NO_ACCESS 0")
 for kind in rrs.AccessKind:
     print(f"RRS_{kind.name} {kind.value}")
+print("RRS_ELF_OK 0")
+for refusal in rrs._ElfRefusal:
+    print(f"RRS_ELF_{refusal.name} {refusal.value}")
+print("RRS_ELF_NOT_IN_WORDS", rrs._NOT_IN_WORDS)
+print("RRS_NOWHERE 0")
+print("RRS_IN_FUNCTION", rrs._IN_FUNCTION)
+print("RRS_BEHIND 2")
 print("RRS_NAME_SIZE", rrs._NAME_SIZE)
 print("RRS_NO_CAUSE", rrs._NO_CAUSE)
 print("RRS_TEXT_SIZE", rrs._TEXT_SIZE)

@@ -189,6 +189,29 @@ def until(limit, stops, *words):
     return told_end(state.machine.run_until(words_of(stops), int(limit))) + str(state)
 
 
+def elf(file, base, count, address):
+    try:
+        program = rrs.Elf(bytes.fromhex(file))
+    except rrs.ElfError as error:
+        number = rrs._ElfRefusal[error.refusal].value
+        return f"refused {number} {error.number} {error.other} none"
+    told_of = [f"entry=0x{program.entry:08x}"]
+    for index in range(program.count):
+        s = program.segment(index)
+        told_of.append(f"0x{s[0]:08x},{s[1]},{s[2]},{s[3]},{s[4]}" if s else "none")
+    # the two lowest bits of a base are not looked at, and Machine refuses them
+    machine = rrs.Machine([2**32 - 1] * int(count), int(base, 16) // 4 * 4)
+    try:
+        program.load(machine)
+        told_of.append("loaded")
+    except rrs.ElfError as error:
+        told_of.append(f"refused {rrs._NOT_IN_WORDS} 0x{error.number:08x}")
+    told_of.append(",".join(f"0x{word:08x}" for word in machine.memory))
+    at = program.function_at(int(address, 16))
+    told_of.append(f"{'in' if at.is_inside else 'behind'} {at.name}+{at.distance}" if at else "none")
+    return " ".join(told_of)
+
+
 QUESTIONS = {
     "decode": lambda word: decoded(int(word, 16)),
     "text": lambda pc, word: disassemble(int(word, 16), int(pc, 16)) or "none",
@@ -200,6 +223,7 @@ QUESTIONS = {
     "name": name,
     "cause": cause,
     "compare": compared,
+    "elf": elf,
     "step": step,
     "rvfi": record,
     "rvfi32": record_ialign32,

@@ -46,6 +46,10 @@ __all__ = [
     "row_name",
     "register_name",
     "field_name",
+    "Elf",
+    "ElfError",
+    "Location",
+    "Segment",
 ]
 
 _u32, _u64, _size = ctypes.c_uint32, ctypes.c_uint64, ctypes.c_size_t
@@ -84,6 +88,24 @@ class _Instruction(ctypes.Structure):
 
 class _Access(ctypes.Structure):
     _fields_ = [("fault", _Fault)] + [(name, _u32) for name in "kind address size value".split()]
+
+
+class _Elf(ctypes.Structure):
+    _fields_ = [(name, _u32) for name in "refusal number other entry segments".split()]
+
+
+class _Segment(ctypes.Structure):
+    _fields_ = [
+        (name, _u32) for name in "loaded address memory_size offset file_size flags".split()
+    ]
+
+
+class _Loaded(ctypes.Structure):
+    _fields_ = [("refusal", _u32), ("address", _u32)]
+
+
+class _Location(ctypes.Structure):
+    _fields_ = [("found", _u32), ("distance", _u32), ("length", _size)]
 
 
 def _library():
@@ -137,6 +159,12 @@ _complete_rvfi = _function(
     ctypes.POINTER(_Hart),
     *(_u32, _u32, _u32, _u64),
     ctypes.POINTER(_Retired),
+)
+_elf_parse = _function("rrs_elf_parse", _Elf, ctypes.c_char_p, _size)
+_elf_segment = _function("rrs_elf_segment", _Segment, ctypes.c_char_p, _size, _u32)
+_elf_load = _function("rrs_elf_load", _Loaded, ctypes.c_char_p, _size, _words, _size, _u32)
+_elf_function_at = _function(
+    "rrs_elf_function_at", _Location, ctypes.c_char_p, _size, _u32, ctypes.c_char_p, _size
 )
 _names = {
     kind: _function(f"rrs_{kind}_name", _size, _u32, ctypes.c_char_p, _size)
@@ -383,6 +411,92 @@ class _Registers:
         return repr(self[:])
 
 
+_ElfRefusal = enum.IntEnum(
+    "_ElfRefusal",
+    "NOT_ELF HEADER_CUT_SHORT CLASS BYTE_ORDER IDENT_VERSION POSITION_INDEPENDENT NOT_EXECUTABLE "
+    "MACHINE VERSION COMPRESSED_CODE FLOATING_POINT EMBEDDED PROGRAM_HEADER_SIZE "
+    "TOO_MANY_PROGRAM_HEADERS PROGRAM_HEADERS_CUT_SHORT INTERPRETER SEGMENT_CUT_SHORT "
+    "SEGMENT_SIZES SEGMENT_PAST_LAST_ADDRESS SEGMENTS_OVERLAP ENTRY_MISALIGNED ENTRY_OUTSIDE",
+)
+_NOT_IN_WORDS = 31
+_IN_FUNCTION = 1
+
+
+class ElfError(ValueError):
+    """Bytes that are no executable for this machine: ``refusal`` names why, as rrs.h has it, and
+    ``number`` and ``other`` are the numbers that it tells, or 0. ``"NOT_IN_WORDS"`` is the refusal
+    of a load, whose number is the address that is not in the words."""
+
+    def __init__(self, refusal: str, number: int = 0, other: int = 0) -> None:
+        self.refusal, self.number, self.other = refusal, number, other
+        super().__init__(f"{refusal} {number} {other}")
+
+
+class Segment(NamedTuple):
+    """A segment that is loaded: its address and size in memory, where its bytes are in the file and
+    how many, and what may be done there: 4 to read, 2 to write, 1 to execute."""
+
+    address: int
+    memory_size: int
+    offset: int
+    file_size: int
+    flags: int
+
+
+class Location(NamedTuple):
+    """Where an address lies: the name of a function or label, how far the address is behind it, and
+    whether it is one of the function's."""
+
+    name: str
+    distance: int
+    is_inside: bool
+
+
+class Elf:
+    """An executable in the ELF format, of the bytes of its file.
+
+    An ElfError is raised where they are none for this machine.
+    """
+
+    def __init__(self, file: bytes) -> None:
+        self._file = bytes(file)
+        self._arguments = (self._file, len(self._file))
+        elf = _elf_parse(*self._arguments)
+        if elf.refusal:
+            raise ElfError(_ElfRefusal(elf.refusal).name, elf.number, elf.other)
+        self.entry, self.count = elf.entry, elf.segments
+
+    def segment(self, index: int) -> Optional[Segment]:
+        """The Segment of a program header, 0 to ``count`` - 1, and None where it is not loaded."""
+        s = _elf_segment(*self._arguments, _word_of(index))
+        if not s.loaded:
+            return None
+        return Segment(s.address, s.memory_size, s.offset, s.file_size, s.flags)
+
+    @property
+    def segments(self) -> list[Segment]:
+        """The segments that are loaded."""
+        return [s for s in map(self.segment, range(self.count)) if s]
+
+    def load(self, machine: Machine) -> None:
+        """Loads the segments into a machine's memory. An ElfError ``"NOT_IN_WORDS"`` is raised at an
+        address that is not in its words; the bytes before it are loaded."""
+        loaded = _elf_load(*self._arguments, *machine._arguments[1:])
+        if loaded.refusal:
+            raise ElfError("NOT_IN_WORDS", loaded.address)
+
+    def function_at(self, address: int) -> Optional[Location]:
+        """The Location of an address, by the symbols, and None where none tells it."""
+        address = _word_of(address)
+        at = _elf_function_at(*self._arguments, address, ctypes.create_string_buffer(1), 1)
+        if not at.found:
+            return None
+        text = ctypes.create_string_buffer(at.length + 1)
+        _elf_function_at(*self._arguments, address, text, len(text))
+        name = text.raw[: at.length].decode("utf-8", "surrogateescape")
+        return Location(name, at.distance, at.found == _IN_FUNCTION)
+
+
 class Machine:
     """A hart, and words of memory from the address ``base`` on.
 
@@ -417,6 +531,29 @@ class Machine:
         )
         self._record = _Retired()
         self._recorded = ctypes.byref(self._record)
+
+    @classmethod
+    def from_elf(cls, path: str, size: Optional[int] = None) -> Machine:
+        """The machine of an executable in the ELF format: its memory begins with the page of its
+        first address, 4,096 bytes, and its segments stand there; the pc is its entry. ``size`` is
+        the number of words of memory, at least those up to its last segment's end, which is what it
+        is without it. ``elf`` is the Elf, with the symbols: ``machine.elf.function_at(machine.pc)``.
+
+        An ElfError is raised where the file is no executable for this machine. The stack pointer is
+        0, and the caller sets it.
+        """
+        with open(path, "rb") as file:
+            elf = Elf(file.read())
+        segments = [segment for segment in elf.segments if segment.memory_size]
+        base = min(segment.address for segment in segments)
+        base -= base % 4096
+        end = max(segment.address + segment.memory_size for segment in segments)
+        needed = (end - base + 3) // 4
+        machine = cls([], base, needed if size is None else max(size, needed))
+        elf.load(machine)
+        machine.pc = elf.entry
+        machine.elf = elf
+        return machine
 
     @property
     def memory(self) -> MutableSequence[int]:

@@ -7,8 +7,10 @@ import inspect
 import os
 import pickle
 import pydoc
+import struct
 import subprocess
 import sys
+import tempfile
 import typing
 import unittest
 from pathlib import Path
@@ -222,6 +224,28 @@ class Faces(unittest.TestCase):
             self.assertEqual((other.registers[2], other.pc), (9, 72))
         self.assertEqual((machine.pc, machine.registers[:4]), (68, [0, 1, 0, 7]))
         self.assertEqual(machine.memory[2], 5)
+
+    def test_an_executable_is_loaded_where_it_says(self):
+        words = [0x00108093, 0x0000A103]  # addi x1, x1, 1; lw x2, (x1)
+        head = struct.pack("<16sHHIIIIIHHHHHH", b"\x7fELF\1\1\1", 2, 243, 1, 0x12344, 52, 0, 0, 52,
+                           32, 1, 0, 0, 0)
+        body = struct.pack("<8I", 1, 84, 0x12340, 0, 8, 16, 5, 4) + struct.pack("<2I", *words)
+        with tempfile.NamedTemporaryFile() as file:
+            file.write(head + body)
+            file.flush()
+            machine = Machine.from_elf(file.name)
+            larger = Machine.from_elf(file.name, size=4096)
+        self.assertEqual((machine.base, machine.pc, len(machine.memory)), (0x12000, 0x12344, 212))
+        self.assertEqual(machine.memory[208:], [*words, 0, 0])
+        self.assertEqual((len(larger.memory), sum(machine.memory)), (4096, sum(words)))
+        self.assertIsNone(machine.elf.function_at(0x12344))
+        self.assertEqual(machine.elf.segments, [rrs.Segment(0x12340, 16, 84, 8, 5)])
+        with self.assertRaises(rrs.ElfError) as caught:
+            rrs.Elf(b"none")
+        self.assertEqual(caught.exception.refusal, "NOT_ELF")
+        with self.assertRaises(rrs.ElfError) as caught:
+            machine.elf.load(Machine([0], base=0x12340))
+        self.assertEqual((caught.exception.refusal, caught.exception.number), ("NOT_IN_WORDS", 0x12344))
 
     def test_threads_are_told_of(self):
         for text in (rrs.__doc__, Machine.__doc__):

@@ -2,8 +2,8 @@
 //! `docs/C.md` has the forms; those of `rrs-replay` are answered as it does.
 
 use rrs::{
-    decode, disassemble, field_name, register_name, row_name, Access, End, Fault, Hart, Memory,
-    MemoryAccess, Retired,
+    decode, disassemble, field_name, register_name, row_name, Access, Elf, ElfRefusal, End, Fault,
+    Hart, Memory, MemoryAccess, Retired,
 };
 use std::io::{self, BufRead, BufWriter, Write};
 
@@ -257,6 +257,45 @@ fn answer_access(name: &str, line: &mut Line) -> Option<String> {
     Some(answer + &told_state(&state.0, &state.1))
 }
 
+/// An executable: its entry, its segments, what a load leaves, and the place of an address.
+fn answer_elf(name: &str, line: &mut Line) -> Option<String> {
+    if name != "elf" {
+        return None;
+    }
+    let digits = line.word();
+    let file: Vec<u8> = (0..digits.len() / 2)
+        .map(|at| u8::from_str_radix(&digits[2 * at..2 * at + 2], 16).expect("a byte"))
+        .collect();
+    let base = hex(line.word());
+    let mut words = vec![u32::MAX; decimal(line.word())];
+    let address = hex(line.word());
+    let program = match Elf::parse(&file) {
+        Ok(program) => program,
+        Err(ElfRefusal { refusal, number, other }) => {
+            return Some(format!("refused {refusal} {number} {other} none"));
+        }
+    };
+    let mut told = vec![format!("entry=0x{:08x}", program.entry)];
+    for index in 0..program.segments {
+        told.push(program.segment(index).map_or("none".to_owned(), |s| {
+            let (address, size) = (s.address, s.memory_size);
+            format!("0x{address:08x},{size},{},{},{}", s.offset, s.file_size, s.flags)
+        }));
+    }
+    told.push(match program.load(&mut Memory::new(&mut words, base)) {
+        Ok(()) => "loaded".to_owned(),
+        Err(stop) => format!("refused {} 0x{:08x}", stop.refusal, stop.number),
+    });
+    let words: Vec<_> = words.iter().map(|word| format!("0x{word:08x}")).collect();
+    told.push(words.join(","));
+    let mut text = [0; 256];
+    told.push(program.function_at(address, &mut text).map_or("none".to_owned(), |at| {
+        let name = String::from_utf8_lossy(&text[..at.length]);
+        format!("{} {name}+{}", if at.is_inside { "in" } else { "behind" }, at.distance)
+    }));
+    Some(told.join(" "))
+}
+
 /// The questions over memory.
 fn answer_memory(name: &str, line: &mut Line) -> String {
     if name == "steps" {
@@ -302,6 +341,7 @@ fn answer(text: &str) -> String {
     let name = line.word();
     let answer = answer_word(name, &mut line)
         .or_else(|| answer_check(name, &mut line))
+        .or_else(|| answer_elf(name, &mut line))
         .or_else(|| answer_access(name, &mut line));
     let answer = answer.unwrap_or_else(|| answer_memory(name, &mut line));
     assert!(line.0.is_empty(), "more on the line: {text}");

@@ -506,6 +506,121 @@ pub fn field_name(field: u32) -> Option<Text> {
     named(|text, size| unsafe { sys::rrs_field_name(field, text, size) })
 }
 
+/// Why bytes are no executable for this machine, or why a load ended.
+#[derive(Clone, Copy, Debug, PartialEq, Eq)]
+pub struct ElfRefusal {
+    /// One of `enum rrs_elf_refusal` of `rrs.h`, 1 to 22; 31 of a load at an address that is not in
+    /// the words.
+    pub refusal: u32,
+    /// The number that it tells, or 0.
+    pub number: u32,
+    /// The other number that it tells, or 0.
+    pub other: u32,
+}
+
+impl fmt::Display for ElfRefusal {
+    fn fmt(&self, f: &mut fmt::Formatter<'_>) -> fmt::Result {
+        write!(f, "no executable: refusal {}, {}, {}", self.refusal, self.number, self.other)
+    }
+}
+
+impl core::error::Error for ElfRefusal {}
+
+/// A segment that is loaded.
+#[derive(Clone, Copy, Debug, PartialEq, Eq)]
+pub struct Segment {
+    /// The address of its first byte.
+    pub address: u32,
+    /// How many bytes it has in memory.
+    pub memory_size: u32,
+    /// Where its bytes begin in the file.
+    pub offset: u32,
+    /// How many bytes it has in the file. Behind them are zeros.
+    pub file_size: u32,
+    /// What may be done there: 4 to read, 2 to write, 1 to execute.
+    pub flags: u32,
+}
+
+/// Where an address lies, by the symbols.
+#[derive(Clone, Copy, Debug, PartialEq, Eq)]
+pub struct Location {
+    /// Whether the address is one of the function's. If not, this is the nearest function or label
+    /// before it in its segment.
+    pub is_inside: bool,
+    /// How far the address is behind it.
+    pub distance: u32,
+    /// How many bytes its name has.
+    pub length: usize,
+}
+
+/// An executable in the ELF format: the bytes of its file, which were accepted.
+#[derive(Clone, Copy, Debug)]
+pub struct Elf<'a> {
+    file: &'a [u8],
+    /// The address of the first instruction.
+    pub entry: u32,
+    /// How many program headers there are.
+    pub segments: u32,
+}
+
+impl<'a> Elf<'a> {
+    /// Accepts the bytes of a file where they are an executable for this machine.
+    ///
+    /// # Errors
+    ///
+    /// The first refusal, in the order of `rrs.h`.
+    pub fn parse(file: &'a [u8]) -> Result<Elf<'a>, ElfRefusal> {
+        check_version();
+        let elf = unsafe { sys::rrs_elf_parse(file.as_ptr(), file.len()) };
+        let sys::Elf { refusal, number, other, entry, segments } = elf;
+        match refusal {
+            0 => Ok(Elf { file, entry, segments }),
+            _ => Err(ElfRefusal { refusal, number, other }),
+        }
+    }
+
+    /// The segment of this number, if there is one and it is loaded.
+    pub fn segment(&self, index: u32) -> Option<Segment> {
+        let s = unsafe { sys::rrs_elf_segment(self.file.as_ptr(), self.file.len(), index) };
+        (s.loaded != 0).then_some(Segment {
+            address: s.address,
+            memory_size: s.memory_size,
+            offset: s.offset,
+            file_size: s.file_size,
+            flags: s.flags,
+        })
+    }
+
+    /// Loads the segments into a memory.
+    ///
+    /// # Errors
+    ///
+    /// Refusal 31 with the address that is not in the words; the bytes before it are loaded.
+    pub fn load(&self, memory: &mut Memory<'_>) -> Result<(), ElfRefusal> {
+        let Memory { words, base } = memory;
+        let (words, count) = (words.as_mut_ptr(), words.len());
+        let (file, size) = (self.file.as_ptr(), self.file.len());
+        let loaded = unsafe { sys::rrs_elf_load(file, size, words, count, *base) };
+        match loaded.refusal {
+            0 => Ok(()),
+            refusal => Err(ElfRefusal { refusal, number: loaded.address, other: 0 }),
+        }
+    }
+
+    /// The function that an address lies in, or else the nearest function or label before it. Its
+    /// name is put into `text`, and a 0 behind it, where there is room for both.
+    pub fn function_at(&self, address: u32, text: &mut [u8]) -> Option<Location> {
+        let (file, size) = (self.file.as_ptr(), self.file.len());
+        let (into, room) = (text.as_mut_ptr(), text.len());
+        let at = unsafe { sys::rrs_elf_function_at(file, size, address, into, room) };
+        (at.found != 0).then_some(Location {
+            is_inside: at.found == 1,
+            distance: at.distance,
+            length: at.length,
+        })
+    }
+}
+
 /// The version of the library: 65536 times the major number, plus 256 times the minor one, plus the
 /// patch.
 pub fn version() -> u32 {

@@ -54,6 +54,38 @@ pub struct Access {
     pub value: u32,
 }
 
+#[repr(C)]
+pub struct Elf {
+    pub refusal: u32,
+    pub number: u32,
+    pub other: u32,
+    pub entry: u32,
+    pub segments: u32,
+}
+
+#[repr(C)]
+pub struct Segment {
+    pub loaded: u32,
+    pub address: u32,
+    pub memory_size: u32,
+    pub offset: u32,
+    pub file_size: u32,
+    pub flags: u32,
+}
+
+#[repr(C)]
+pub struct Loaded {
+    pub refusal: u32,
+    pub address: u32,
+}
+
+#[repr(C)]
+pub struct Location {
+    pub found: u32,
+    pub distance: u32,
+    pub length: usize,
+}
+
 extern "C" {
     pub fn rrs_version() -> u32;
     pub fn rrs_step(hart: *mut Hart, words: *mut u32, count: usize, base: u32) -> Fault;
@@ -101,4 +133,20 @@ extern "C" {
         order: u64,
         retired: *mut Retired,
     ) -> Fault;
+    pub fn rrs_elf_parse(file: *const u8, size: usize) -> Elf;
+    pub fn rrs_elf_segment(file: *const u8, size: usize, index: u32) -> Segment;
+    pub fn rrs_elf_load(
+        file: *const u8,
+        size: usize,
+        words: *mut u32,
+        count: usize,
+        base: u32,
+    ) -> Loaded;
+    pub fn rrs_elf_function_at(
+        file: *const u8,
+        size: usize,
+        address: u32,
+        text: *mut u8,
+        room: usize,
+    ) -> Location;
 }

@@ -41,6 +41,10 @@ fn the_structs_are_those_of_the_header() {
     listed!(lines, "rrs_difference", sys::Difference, model core field);
     listed!(lines, "rrs_instruction", Instruction, row rd rs1 rs2 shamt imm);
     listed!(lines, "rrs_access", sys::Access, fault kind address size value);
+    listed!(lines, "rrs_elf", sys::Elf, refusal number other entry segments);
+    listed!(lines, "rrs_segment", sys::Segment, loaded address memory_size offset file_size flags);
+    listed!(lines, "rrs_loaded", sys::Loaded, refusal address);
+    listed!(lines, "rrs_location", sys::Location, found distance length);
     lines.push(format!("RRS_VERSION {VERSION}"));
     let listed = include_str!("../../layouts").lines();
     let of_header: Vec<_> = listed

@@ -293,6 +293,88 @@ rrs_fault rrs_complete(rrs_hart *hart, uint32_t word, uint32_t granted, uint32_t
 rrs_fault rrs_complete_rvfi(rrs_hart *hart, uint32_t word, uint32_t granted, uint32_t value,
                             uint64_t order, rrs_retired *retired);
 
+/* An executable in the ELF format: the bytes of its file, which each function reads anew. It is
+ * accepted exactly where it is an executable for RV32IM that is linked to fixed addresses, and else
+ * refused for the first of these that holds, in this order. */
+enum rrs_elf_refusal {
+    RRS_ELF_OK = 0,
+    RRS_ELF_NOT_ELF = 1,               /* It does not begin with 0x7f and "ELF". */
+    RRS_ELF_HEADER_CUT_SHORT = 2,      /* It ends within the ELF header. */
+    RRS_ELF_CLASS = 3,                 /* e_ident[EI_CLASS] is this number, and not 1. */
+    RRS_ELF_BYTE_ORDER = 4,            /* e_ident[EI_DATA] is this number, and not 1. */
+    RRS_ELF_IDENT_VERSION = 5,         /* e_ident[EI_VERSION] is this number, and not 1. */
+    RRS_ELF_POSITION_INDEPENDENT = 6,  /* e_type is 3. */
+    RRS_ELF_NOT_EXECUTABLE = 7,        /* e_type is this number, and not 2. */
+    RRS_ELF_MACHINE = 8,               /* e_machine is this number, and not 243. */
+    RRS_ELF_VERSION = 9,               /* e_version is this number, and not 1. */
+    RRS_ELF_COMPRESSED_CODE = 10,      /* e_flags has RVC. */
+    RRS_ELF_FLOATING_POINT = 11,       /* e_flags has a floating-point ABI. */
+    RRS_ELF_EMBEDDED = 12,             /* e_flags has RVE. */
+    RRS_ELF_PROGRAM_HEADER_SIZE = 13,  /* e_phentsize is this number, and not 32. */
+    RRS_ELF_TOO_MANY_PROGRAM_HEADERS = 14, /* e_phnum is 0xffff. */
+    RRS_ELF_PROGRAM_HEADERS_CUT_SHORT = 15, /* It ends within the program headers. */
+    RRS_ELF_INTERPRETER = 16,          /* The segment of this number names a dynamic linker. */
+    RRS_ELF_SEGMENT_CUT_SHORT = 17,    /* It ends within the segment of this number. */
+    RRS_ELF_SEGMENT_SIZES = 18,        /* p_filesz of this segment is above p_memsz. */
+    RRS_ELF_SEGMENT_PAST_LAST_ADDRESS = 19, /* This segment ends past the last address. */
+    RRS_ELF_SEGMENTS_OVERLAP = 20,     /* Two segments, of these numbers, share an address. */
+    RRS_ELF_ENTRY_MISALIGNED = 21,     /* e_entry is this number, no multiple of 4. */
+    RRS_ELF_ENTRY_OUTSIDE = 22,        /* e_entry is this number, in no segment. */
+    RRS_ELF_NOT_IN_WORDS = 31          /* Of rrs_elf_load: this address is not in the words. */
+};
+
+typedef struct rrs_elf {
+    uint32_t refusal;  /* One of enum rrs_elf_refusal: RRS_ELF_OK for an executable. */
+    uint32_t number;   /* The number that the refusal tells, or 0. */
+    uint32_t other;    /* The other number that the refusal tells, or 0. */
+    uint32_t entry;    /* The address of the first instruction, or 0 where it is refused. */
+    uint32_t segments; /* How many program headers there are, or 0 where it is refused. */
+} rrs_elf;
+
+typedef struct rrs_segment {
+    uint32_t loaded;      /* 1 for a segment that is loaded. Else all fields are 0. */
+    uint32_t address;     /* The address of its first byte. */
+    uint32_t memory_size; /* How many bytes it has in memory. */
+    uint32_t offset;      /* Where its bytes begin in the file. */
+    uint32_t file_size;   /* How many bytes it has in the file. Behind them are zeros. */
+    uint32_t flags;       /* What may be done there: 4 to read, 2 to write, 1 to execute. */
+} rrs_segment;
+
+typedef struct rrs_loaded {
+    uint32_t refusal; /* One of enum rrs_elf_refusal: RRS_ELF_OK where all is loaded. */
+    uint32_t address; /* Of RRS_ELF_NOT_IN_WORDS the address, and else 0. */
+} rrs_loaded;
+
+enum rrs_location_kind {
+    RRS_NOWHERE = 0,     /* No symbol tells where the address lies. */
+    RRS_IN_FUNCTION = 1, /* The address is one of a function's. */
+    RRS_BEHIND = 2       /* It is behind this function or label, the nearest before it. */
+};
+
+typedef struct rrs_location {
+    uint32_t found;    /* One of enum rrs_location_kind. */
+    uint32_t distance; /* How far the address is behind the function's or the label's. */
+    size_t length;     /* How many bytes its name has. */
+} rrs_location;
+
+/* What the `size` bytes at `file` are. */
+rrs_elf rrs_elf_parse(const uint8_t *file, size_t size);
+
+/* The segment of this number, if the file is an executable that has it and it is loaded. */
+rrs_segment rrs_elf_segment(const uint8_t *file, size_t size, uint32_t index);
+
+/* Loads an executable into the words: of each segment, in their order, the bytes of the file and
+ * then zeros. All other bytes stay. A file that is refused changes nothing. At an address that is
+ * not in the words the load ends, and the bytes before it are loaded. */
+rrs_loaded rrs_elf_load(const uint8_t *file, size_t size, uint32_t *words, size_t count,
+                        uint32_t base);
+
+/* The function that an address lies in, or else the nearest function or label before it in its
+ * segment. Writes its name, and a 0 after it, where the `room` bytes at `text` have room for both,
+ * and else nothing. The name may have any bytes but 0. */
+rrs_location rrs_elf_function_at(const uint8_t *file, size_t size, uint32_t address, char *text,
+                                 size_t room);
+
 /* The layout that the library has been built with. */
 #if defined(__cplusplus) && __cplusplus >= 201103L
 #define RRS_ASSERT(name, condition) static_assert(condition, #name)
@@ -349,6 +431,26 @@ RRS_ASSERT(access_kind, offsetof(rrs_access, kind) == 12);
 RRS_ASSERT(access_address, offsetof(rrs_access, address) == 16);
 RRS_ASSERT(access_size, offsetof(rrs_access, size) == 20);
 RRS_ASSERT(access_value, offsetof(rrs_access, value) == 24);
+RRS_ASSERT(size_of_elf, sizeof(rrs_elf) == 20);
+RRS_ASSERT(elf_refusal, offsetof(rrs_elf, refusal) == 0);
+RRS_ASSERT(elf_number, offsetof(rrs_elf, number) == 4);
+RRS_ASSERT(elf_other, offsetof(rrs_elf, other) == 8);
+RRS_ASSERT(elf_entry, offsetof(rrs_elf, entry) == 12);
+RRS_ASSERT(elf_segments, offsetof(rrs_elf, segments) == 16);
+RRS_ASSERT(size_of_segment, sizeof(rrs_segment) == 24);
+RRS_ASSERT(segment_loaded, offsetof(rrs_segment, loaded) == 0);
+RRS_ASSERT(segment_address, offsetof(rrs_segment, address) == 4);
+RRS_ASSERT(segment_memory_size, offsetof(rrs_segment, memory_size) == 8);
+RRS_ASSERT(segment_offset, offsetof(rrs_segment, offset) == 12);
+RRS_ASSERT(segment_file_size, offsetof(rrs_segment, file_size) == 16);
+RRS_ASSERT(segment_flags, offsetof(rrs_segment, flags) == 20);
+RRS_ASSERT(size_of_loaded, sizeof(rrs_loaded) == 8);
+RRS_ASSERT(loaded_refusal, offsetof(rrs_loaded, refusal) == 0);
+RRS_ASSERT(loaded_address, offsetof(rrs_loaded, address) == 4);
+RRS_ASSERT(size_of_location, sizeof(rrs_location) == 16);
+RRS_ASSERT(location_found, offsetof(rrs_location, found) == 0);
+RRS_ASSERT(location_distance, offsetof(rrs_location, distance) == 4);
+RRS_ASSERT(location_length, offsetof(rrs_location, length) == 8);
 
 #undef RRS_ASSERT
 

@@ -14,6 +14,7 @@ mod access;
 mod causes;
 mod comparison;
 mod completed;
+mod elf;
 mod hart;
 mod instruction;
 mod jumps;
@@ -22,7 +23,7 @@ mod names;
 mod retired;
 mod text;
 
-ghost use Rattle.std.specs.Prelude.{◌≡◌, ◌<◌, ◌==◌, List, length, slice_index, OnErr};
+ghost use Rattle.std.specs.Prelude.{◌≡◌, ◌<◌, ◌==◌, ◌↔◌, List, length, slice_index, OnErr, Err};
 ghost use Rattle.rrs_lib.specs.Encodings.{Fields};
 ghost use Rattle.rrs_lib.specs.Table.{Row, Decodes, IsIllegal};
 ghost use Rattle.rrs_lib.specs.Steps.{Step, IsOnlyStep, ChangesLittle, RunUntil, IsOnlyRunUntil, cleared};
@@ -37,6 +38,10 @@ ghost use Rattle.rrs_c.specs.Asking.{request_answer, IsAccess, given};
 ghost use Rattle.rrs_c.specs.Completing.{CompletesRetiring};
 ghost use Rattle.rrs_c.specs.Jumps.{StepAtJump, IsOnlyStepAtJump};
 ghost use Rattle.rrs_c.specs.Causes.{IsCode};
+ghost use Rattle.rrs_elf.specs.Executables.{IsExecutable};
+ghost use Rattle.rrs_elf.specs.Refusals.{first_refusal, checks};
+ghost use Rattle.rrs_elf.specs.declared.errors.ElfError.{ElfError};
+ghost use Rattle.rrs_c.specs.Elf.{accepted_elf, refused_elf, SegmentIn, LoadsElf, FindsFunction};
 ghost use Rattle.rrs_c.specs.Comparing.{first_different, record_fields};
 ghost use Rattle.rrs_c.specs.Names.{PutsRowName, PutsName, named, fault_names, register_names, field_names};
 
@@ -44,6 +49,7 @@ use access::{RrsAccess, access_or_fault, given_by};
 use causes::code_of;
 use comparison::{RrsDifference, first_difference};
 use completed::complete_retired;
+use elf::{RrsElf, RrsLoaded, RrsLocation, RrsSegment, elf_of, function_of, load_into, segment_of};
 use hart::{
     RrsEnd, RrsFault, RrsHart, close, end_of_run, end_of_stop, fault_of, fault_of_answer,
     number_of, opened,
@@ -342,4 +348,42 @@ pub extern "C" fn rrs_field_name(field: u32, buffer: &mut [u8]) -> usize
     ensures { PutsName (named field_names field) buffer.old buffer.new result }
 {
     put_name(field_name(field), buffer)
+}
+
+/// What the bytes of a file are: an executable for this machine in the ELF format, with its entry
+/// and the number of its segments, or the first refusal.
+#[unsafe(no_mangle)]
+pub extern "C" fn rrs_elf_parse(file: &[u8]) -> RrsElf
+    ensures executable { (result.refusal ≡ 0) ↔ IsExecutable file.now }
+    ensures accepted { IsExecutable file.now → result ≡ accepted_elf file.now }
+    ensures refused { (error : ElfError) → first_refusal (checks file.now) ≡ Err error
+        → result ≡ refused_elf error }
+{
+    elf_of(file)
+}
+
+/// The segment of this number of an executable, if it is one that is loaded.
+#[unsafe(no_mangle)]
+pub extern "C" fn rrs_elf_segment(file: &[u8], index: u32) -> RrsSegment
+    ensures { SegmentIn file.now index result }
+{
+    segment_of(file, index)
+}
+
+/// Loads an executable into words from a base on: of each segment the bytes of the file, and then
+/// zeros. It ends at the first address that is not in the words.
+#[unsafe(no_mangle)]
+pub extern "C" fn rrs_elf_load(file: &[u8], words: &mut [u32], base: u32) -> RrsLoaded
+    ensures { LoadsElf file.now words.old words.new base result }
+{
+    load_into(file, words, base)
+}
+
+/// The function that an address lies in, or else the nearest function or label before it, whose name
+/// is written as `rrs_row_name` does.
+#[unsafe(no_mangle)]
+pub extern "C" fn rrs_elf_function_at(file: &[u8], address: u32, buffer: &mut [u8]) -> RrsLocation
+    ensures { FindsFunction file.now address buffer.old buffer.new result }
+{
+    function_of(file, address, buffer)
 }

@@ -1,0 +1,276 @@
+//! An executable in the ELF format, as C has it: bytes of the caller's, which each function reads
+//! anew.
+
+ghost use Rattle.std.specs.Prelude.{◌≡◌, ◌↔◌, Err, OnOk, IfErr, MatchOption};
+ghost use Rattle.rrs_lib.specs.SliceBytes.{StaysLent, slice_bytes, slice_writable};
+ghost use Rattle.rrs_elf.specs.Headers.{e_phnum};
+ghost use Rattle.rrs_elf.specs.Executables.{IsExecutable};
+ghost use Rattle.rrs_elf.specs.Loading.{Stands};
+ghost use Rattle.rrs_elf.specs.Refusals.{first_refusal, checks};
+ghost use Rattle.rrs_elf.specs.declared.errors.ElfError.{ElfError};
+ghost use Rattle.rrs_c.specs.Elf.{accepted_elf, refused_elf, SegmentIn, LoadsElf, StopsIn, FindsNone, Locates, FindsFunction, location_of, no_segment};
+
+use crate::text::put_text;
+use rrs_elf::{ElfError, Executable, Location, Refused};
+use rrs_lib::memories::SliceMemory;
+
+/// What a file is: an executable, or why it is refused.
+#[repr(C)]
+#[derive(Clone, Copy)]
+pub struct RrsElf {
+    /// 0 for an executable, or the number of the refusal.
+    pub refusal: u32,
+    /// The number that the refusal tells, or 0.
+    pub number: u32,
+    /// The other number that the refusal tells, or 0.
+    pub other: u32,
+    /// The address of the first instruction, or 0.
+    pub entry: u32,
+    /// How many segments there are, or 0.
+    pub segments: u32,
+}
+
+/// A segment that is loaded, or none: then all fields are 0.
+#[repr(C)]
+#[derive(Clone, Copy)]
+pub struct RrsSegment {
+    /// 1 for a segment that is loaded.
+    pub loaded: u32,
+    /// The address of its first byte.
+    pub address: u32,
+    /// How many bytes it has in memory.
+    pub memory_size: u32,
+    /// Where its bytes begin in the file.
+    pub offset: u32,
+    /// How many bytes it has in the file.
+    pub file_size: u32,
+    /// What may be done there: 4 to read, 2 to write, 1 to execute.
+    pub flags: u32,
+}
+
+/// How a load ended.
+#[repr(C)]
+#[derive(Clone, Copy)]
+pub struct RrsLoaded {
+    /// 0 where all was loaded, or the number of the refusal.
+    pub refusal: u32,
+    /// The address that is not in the words, where that is the refusal, and else 0.
+    pub address: u32,
+}
+
+/// Where an address lies.
+#[repr(C)]
+#[derive(Clone, Copy)]
+pub struct RrsLocation {
+    /// 0 in nothing, 1 in a function, 2 behind a function or a label.
+    pub found: u32,
+    /// How far it is behind the first byte of that.
+    pub distance: u32,
+    /// How many bytes the name of that has.
+    pub length: usize,
+}
+
+/// The refusal where an address is not in the words.
+const NOT_IN_WORDS: u32 = 31;
+
+/// A refusal that tells these numbers.
+fn told(refusal: u32, number: u32, other: u32) -> RrsElf
+    ensures { result ≡ record {
+      refusal = refusal;
+      number = number;
+      other = other;
+      entry = 0;
+      segments = 0;
+    } }
+{
+    RrsElf {
+        refusal,
+        number,
+        other,
+        entry: 0,
+        segments: 0,
+    }
+}
+
+/// What C is told of a refusal.
+fn refusal_of(error: ElfError) -> RrsElf
+    ensures { result ≡ refused_elf error }
+{
+    match error {
+        ElfError::NotElf => told(1, 0, 0),
+        ElfError::HeaderCutShort => told(2, 0, 0),
+        ElfError::Class(class) => told(3, u32::from(class), 0),
+        ElfError::ByteOrder(order) => told(4, u32::from(order), 0),
+        ElfError::IdentVersion(version) => told(5, u32::from(version), 0),
+        ElfError::PositionIndependent => told(6, 0, 0),
+        ElfError::NotExecutable(kind) => told(7, u32::from(kind), 0),
+        ElfError::Machine(machine) => told(8, u32::from(machine), 0),
+        ElfError::Version(version) => told(9, version, 0),
+        ElfError::CompressedCode => told(10, 0, 0),
+        ElfError::FloatingPoint => told(11, 0, 0),
+        ElfError::Embedded => told(12, 0, 0),
+        ElfError::ProgramHeaderSize(size) => told(13, u32::from(size), 0),
+        ElfError::TooManyProgramHeaders => told(14, 0, 0),
+        ElfError::ProgramHeadersCutShort => told(15, 0, 0),
+        ElfError::Interpreter(index) => told(16, u32::from(index), 0),
+        ElfError::SegmentCutShort(index) => told(17, u32::from(index), 0),
+        ElfError::SegmentSizes(index) => told(18, u32::from(index), 0),
+        ElfError::SegmentPastLastAddress(index) => told(19, u32::from(index), 0),
+        ElfError::SegmentsOverlap(one, other) => told(20, u32::from(one), u32::from(other)),
+        ElfError::EntryMisaligned(entry) => told(21, entry, 0),
+        ElfError::EntryOutside(entry) => told(22, entry, 0),
+        ElfError::SectionHeaderSize(size) => told(23, u32::from(size), 0),
+        ElfError::SectionHeadersCutShort => told(24, 0, 0),
+        ElfError::SymbolSize(size) => told(25, size, 0),
+        ElfError::SymbolTableCutShort => told(26, 0, 0),
+        ElfError::NoStringTable(link) => told(27, link, 0),
+        ElfError::StringTableCutShort => told(28, 0, 0),
+        ElfError::StringTableNotEnded => told(29, 0, 0),
+        ElfError::NameOutside(index) => told(30, index, 0),
+    }
+}
+
+/// What a file is.
+pub(crate) fn elf_of(file: &[u8]) -> RrsElf
+    ensures executable { (result.refusal ≡ 0) ↔ IsExecutable file.now }
+    ensures accepted { IsExecutable file.now → result ≡ accepted_elf file.now }
+    ensures refused { (error : ElfError) → first_refusal (checks file.now) ≡ Err error
+        → result ≡ refused_elf error }
+{
+    match Executable::parse(file) {
+        Ok(program) => RrsElf {
+            refusal: 0,
+            number: 0,
+            other: 0,
+            entry: program.entry(),
+            segments: u32::from(program.program_header_count()),
+        },
+        Err(error) => refusal_of(error),
+    }
+}
+
+/// No segment.
+fn nothing() -> RrsSegment
+    ensures { result ≡ no_segment }
+{
+    RrsSegment {
+        loaded: 0,
+        address: 0,
+        memory_size: 0,
+        offset: 0,
+        file_size: 0,
+        flags: 0,
+    }
+}
+
+/// The segment of a file that has this number, if it is loaded.
+pub(crate) fn segment_of(file: &[u8], index: u32) -> RrsSegment
+    ensures { SegmentIn file.now index result }
+{
+    let Ok(program) = Executable::parse(file) else {
+        return nothing();
+    };
+    if index >= u32::from(program.program_header_count()) {
+        return nothing();
+    }
+    match program.segment(index as u16) {
+        Some(segment) => RrsSegment {
+            loaded: 1,
+            address: segment.address,
+            memory_size: segment.memory_size,
+            offset: segment.offset,
+            file_size: segment.file_size,
+            flags: segment.flags,
+        },
+        None => nothing(),
+    }
+}
+
+/// Loads an executable into words.
+pub(crate) fn load_into(file: &[u8], words: &mut [u32], base: u32) -> RrsLoaded
+    ensures { LoadsElf file.now words.old words.new base result }
+{
+    let program = match Executable::parse(file) {
+        Ok(program) => program,
+        Err(error) => {
+            return RrsLoaded {
+                refusal: refusal_of(error).refusal,
+                address: 0,
+            };
+        }
+    };
+    let mut memory = SliceMemory { words, base };
+    match load_lent(&program, &mut memory) {
+        Ok(()) => RrsLoaded {
+            refusal: 0,
+            address: 0,
+        },
+        Err(Refused { address }) => RrsLoaded {
+            refusal: NOT_IN_WORDS,
+            address,
+        },
+    }
+}
+
+/// Loads an executable into words that are lent, which stay lent.
+fn load_lent<'a>(program: &Executable<'_>, memory: &mut SliceMemory<'a>) -> Result<(), Refused>
+    ensures loaded { OnOk result (Stands program.now.file.now (slice_bytes memory.old)
+        (slice_bytes memory.new) (slice_writable memory.old) (e_phnum program.now.file.now) 0) }
+    ensures stopped { IfErr result (λ refused. StopsIn program.now.file.now (slice_bytes memory.old)
+        (slice_bytes memory.new) (slice_writable memory.old) refused.address) }
+    ensures lent { StaysLent memory.old memory.new }
+{
+    match program.load(memory) {
+        Ok(()) => Ok(()),
+        Err(refused) => Err(refused),
+    }
+}
+
+/// Where an address lies, and the name of that.
+fn located(file: &[u8], address: u32) -> Option<(Location, &[u8])>
+    ensures { MatchOption result (FindsNone file.now address)
+        (λ found. Locates file.now address found.0 found.1.now) }
+{
+    let Ok(program) = Executable::parse(file) else {
+        return None;
+    };
+    let symbols = match program.symbols() {
+        Ok(Some(symbols)) => symbols,
+        Ok(None) => return None,
+        Err(_) => return None,
+    };
+    let location = match symbols.function_at(address) {
+        Some(location) => location,
+        None => return None,
+    };
+    let name = symbols.name(location.symbol)?;
+    Some((location, name))
+}
+
+/// Where an address lies, and how long the name of that is.
+fn place_of(location: &Location, name: &[u8]) -> RrsLocation
+    ensures { result ≡ location_of location.now name.now }
+{
+    RrsLocation {
+        found: if location.is_inside { 1 } else { 2 },
+        distance: location.distance,
+        length: name.len(),
+    }
+}
+
+/// The name of a function and where it is, if an address lies in one or behind one.
+pub(crate) fn function_of(file: &[u8], address: u32, buffer: &mut [u8]) -> RrsLocation
+    ensures { FindsFunction file.now address buffer.old buffer.new result }
+{
+    match located(file, address) {
+        Some((location, name)) => {
+            put_text(name, buffer);
+            place_of(&location, name)
+        }
+        None => RrsLocation {
+            found: 0,
+            distance: 0,
+            length: 0,
+        },
+    }
+}
