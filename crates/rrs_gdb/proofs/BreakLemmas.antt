@@ -1,0 +1,124 @@
+-- Steps that are kept one after another, and states that are passed on the way back.
+use Rattle.std.proofs.Common.{◌≡◌, ℕ, ◌+◌, ◌<◌, List, [], ◌∷◌, ◌++◌, All, Contains, length, Ok, ◌⊎◌, refl, sym, ap, subst, ◌∙◌, append_assoc, append-nil, inl, inr, arith}
+use Rattle.std.proofs.lemmas.List.{length_push}
+use Rattle.std.proofs.lemmas.List.Elements.{All-nil, All-push}
+use Rattle.rrs_lib.specs.Machine.{State}
+use Rattle.rrs_lib.specs.Steps.{Step, cleared}
+use Rattle.rrs_history.specs.declared.history.History.{History}
+use Rattle.rrs_history.specs.Histories.{changes, past, Remembers}
+use Rattle.rrs_trace.specs.declared.stops.StopReason.{StopReason}
+use Rattle.rrs_trace.specs.declared.stops.StopReason.TheVariants as Stop
+use Rattle.rrs_trace.specs.Stops.{RunsToStop, PassesNone}
+use Rattle.rrs_gdb.specs.declared.forward.ForwardReason.{ForwardReason}
+use Rattle.rrs_gdb.specs.Breaks.{IsTrail, KeepsSteps, ComesTo, GoesForward, reason_of}
+
+-- a run with stops alone
+as_reason : (stops : List ℕ) (limit : ℕ) (s : State) (steps : ℕ) (reason : StopReason) (t : State)
+    → RunsToStop stops limit s steps reason t → GoesForward stops limit s steps (reason_of reason) t
+as_reason stops limit s steps Stop.AtStop t run = run
+as_reason stops limit s steps Stop.Limit t run = run
+as_reason stops limit s steps (Stop.Fault e) t run = run
+
+pub as_stop : (stops : List ℕ) (limit : ℕ) (s : State) (steps : ℕ) (reason : StopReason) (reason' : ForwardReason)
+    (t : State) → reason' ≡ reason_of reason → RunsToStop stops limit s steps reason t
+    → GoesForward stops limit s steps reason' t
+as_stop stops limit s steps reason reason' t same run =
+    subst (λ (r : ForwardReason). GoesForward stops limit s steps r t) (sym same)
+    (as_reason stops limit s steps reason t run)
+
+-- the steps so far, all of them Ok
+pub record KeptSoFar (steps : ℕ) (old : History) (s : State) (new : History) (t : State) : Type 0 where
+  pub trail : List State
+  pub is_trail : IsTrail trail s t
+  pub as_many : length trail ≡ steps
+  pub forgotten : List State
+  pub leads_back : trail ++ past (changes old) s ≡ past (changes new) t ++ forgotten
+
+pub none_kept : (h : History) (s : State) → KeptSoFar 0 h s h s
+none_kept h s = record {
+  trail = [];
+  is_trail = refl;
+  as_many = refl;
+  forgotten = [];
+  leads_back = sym (append-nil (past (changes h) s));
+}
+
+pub one_more : (steps : ℕ) (old mid new : History) (s m t : State) → KeptSoFar steps old s mid m → Step m t (Ok tt)
+    → Remembers mid m new t → KeptSoFar (steps + 1) old s new t
+one_more steps old mid new s m t before step next = record {
+  trail = m ∷ before.trail;
+  is_trail = (step, before.is_trail);
+  as_many = omega (arith, before.as_many);
+  forgotten = next.forgotten ++ before.forgotten;
+  leads_back = ap (λ (xs : List State). m ∷ xs) before.leads_back
+      ∙ ap (λ (xs : List State). xs ++ before.forgotten) next.leads_back
+      ∙ append_assoc (past (changes new) t) next.forgotten before.forgotten;
+}
+
+pub kept_whole : (steps : ℕ) (old new : History) (s t : State) → KeptSoFar steps old s new t
+    → KeepsSteps steps old s new t
+kept_whole steps old new s t so_far = record {
+  end = t;
+  trail = so_far.trail;
+  is_trail = so_far.is_trail;
+  as_many = so_far.as_many;
+  ends = inl refl;
+  forgotten = so_far.forgotten;
+  leads_back = so_far.leads_back;
+}
+
+pub kept_fault : (steps : ℕ) (old mid new : History) (s m t : State) → KeptSoFar steps old s mid m → t ≡ cleared m
+    → past (changes new) t ≡ past (changes mid) m → KeepsSteps steps old s new t
+kept_fault steps old mid new s m t so_far fault same = record {
+  end = m;
+  trail = so_far.trail;
+  is_trail = so_far.is_trail;
+  as_many = so_far.as_many;
+  ends = inr fault;
+  forgotten = so_far.forgotten;
+  leads_back = so_far.leads_back ∙ ap (λ (xs : List State). xs ++ so_far.forgotten) (sym same);
+}
+
+-- ---- back
+
+-- the states that were passed
+pub record PassedSoFar (stops : List ℕ) (count : ℕ) (before after : List State) : Type 0 where
+  pub passed : List State
+  pub leads : before ≡ passed ++ after
+  pub none_stops : All (λ (u : State). ¬ Contains stops u.pc) passed
+  pub as_many : length passed ≡ count
+
+pub none_passed : (stops : List ℕ) (before : List State) → PassedSoFar stops 0 before before
+none_passed stops before = record { passed = []; leads = refl; none_stops = All-nil (λ (u : State). ¬ Contains stops u.pc); as_many = refl }
+
+pub one_passed : (stops : List ℕ) (count : ℕ) (before after others : List State) (m : State)
+    → PassedSoFar stops count before after → after ≡ m ∷ others → ¬ Contains stops m.pc
+    → PassedSoFar stops (count + 1) before others
+one_passed stops count before after others m so_far next other = record {
+  passed = so_far.passed ++ m ∷ [];
+  leads = so_far.leads ∙ ap (λ (xs : List State). so_far.passed ++ xs) next
+      ∙ sym (append_assoc so_far.passed (m ∷ []) others);
+  none_stops = All-push (λ (u : State). ¬ Contains stops u.pc) so_far.passed m so_far.none_stops other;
+  as_many = length_push so_far.passed m ∙ ap (λ (n : ℕ). n + 1) so_far.as_many;
+}
+
+pub comes_to : (stops : List ℕ) (count limit : ℕ) (before after others : List State) (m : State)
+    → PassedSoFar stops count before after → after ≡ m ∷ others → count < limit → ComesTo stops limit before m others
+comes_to stops count limit before after others m so_far next less = record {
+  passed = so_far.passed;
+  leads = so_far.leads ∙ ap (λ (xs : List State). so_far.passed ++ xs) next;
+  none_stops = so_far.none_stops;
+  within = omega (arith, less, so_far.as_many);
+}
+
+-- none is left
+pub all_passed : (stops : List ℕ) (count : ℕ) (before after : List State) → PassedSoFar stops count before after
+    → after ≡ [] → All (λ (u : State). ¬ Contains stops u.pc) before
+all_passed stops count before after so_far none =
+    subst (All (λ (u : State). ¬ Contains stops u.pc))
+    (sym (so_far.leads ∙ ap (λ (xs : List State). so_far.passed ++ xs) none ∙ append-nil so_far.passed))
+    so_far.none_stops
+
+-- no step was made
+pub none_stepped : (stops : List ℕ) (s : State) → PassesNone stops 1 s
+none_stepped stops s = λ k below some m runs at. absurd (omega (arith, below, some))

@@ -1,0 +1,3 @@
+pub mod BreakLemmas
+pub mod PacketLemmas
+pub mod ShownLemmas

@@ -1,0 +1,46 @@
+use Rattle.std.proofs.Common.{◌≡◌, ◌+◌, ◌-◌, ◌<◌, ◌≤◌, refl, sym, subst, ◌∙◌, ap, arith, ℕ, List}
+use Rattle.rrs_lib.specs.Machine.{State}
+use Rattle.rrs_lib.specs.Executor.{state_in}
+use Rattle.rrs_lib.specs.Steps.{Step}
+use Rattle.rrs_lib.proofs.Stepping.{KeepsTheRest-trans}
+use Rattle.rrs_history.specs.Histories.{past, changes}
+use Rattle.rrs_gdb.proofs.BreakLemmas.{PassedSoFar, one_passed, comes_to, all_passed}
+use Rattle.rrs_gdb.proofs.back.go_back.Goals as goal
+
+pub returns-in_default-clause-back : goal.returns-in_default-clause-back
+returns-in_default-clause-back g c =
+    let none = c.in_default.ensures.none in
+    let same = c.in_default.ensures.unchanged in
+    let i = c.steps.invariant.passed in (
+      ap (λ (t : State). past (changes c.step_back.new.history) t) same.1
+          ∙ ap (λ cs. past cs (state_in g.M.Memory.bytes g.M.Memory.writable c.steps.executor)) same.0 ∙ none,
+      all_passed _ _ _ _ i none,
+    )
+
+pub returns-in-Some-watch_at-clause-back : goal.returns-in-Some-watch_at-clause-back
+returns-in-Some-watch_at-clause-back g c =
+    let state = state_in g.M.Memory.bytes g.M.Memory.writable in (
+      state c.step_back.new.executor,
+      past (changes c.step_back.new.history) (state c.step_back.new.executor),
+      c.step_recorded-answer.result,
+      comes_to _ _ _ _ _ _ _ c.steps.invariant.passed c.in-Some.ensures.back
+          (omega (arith, c.steps-test.true, c.steps.invariant.within)),
+      subst (λ (m : State). Step m (state c.step_recorded-answer.new.executor) c.step_recorded-answer.result)
+          c.watch_at.ensures.kept c.step_recorded-answer.ensures.step,
+    )
+
+pub steps-preserved : goal.steps-preserved
+steps-preserved g c =
+    let state = state_in g.M.Memory.bytes g.M.Memory.writable in
+    let i = c.steps.invariant in
+    let count : c.args.limit - c.steps.left + 1 ≡ c.args.limit - (c.steps.left - 1) = omega (arith, c.steps-test.true, i.within) in
+    let kept = c.watch_at.ensures.kept in
+    let same_pc : (state c.step_back.new.executor).pc ≡ (state c.watch_at.new.executor).pc = sym (ap (λ (t : State). t.pc) kept) in
+    let other = rw c.deref-in-steps.ensures.value at c.if-is_stop.ensures.no in
+    let more = one_passed _ _ _ _ _ _ i.passed c.in-Some.ensures.back (rw same_pc other) in
+    record {
+      passed = subst (λ (n : ℕ). PassedSoFar c.args.breaks.now.stops.items n (past (changes c.args.history.now) (state c.args.executor.now)) (past (changes c.step_back.new.history) (state c.watch_at.new.executor))) count
+          (subst (λ (t : State). PassedSoFar c.args.breaks.now.stops.items (c.args.limit - c.steps.left + 1) (past (changes c.args.history.now) (state c.args.executor.now)) (past (changes c.step_back.new.history) t)) (sym kept) more);
+      within = omega (arith, i.within);
+      rest = KeepsTheRest-trans _ _ _ _ i.rest (KeepsTheRest-trans _ _ _ _ c.step_back.ensures.rest c.watch_at.ensures.rest);
+    }

@@ -1,0 +1,5 @@
+use Rattle.std.proofs.Common.{length}
+use Rattle.rrs_gdb.proofs.queries.catch_calls.Given as goal
+
+abbrev pub decreases-numbers : goal.decreases-numbers
+decreases-numbers l = length l.rest

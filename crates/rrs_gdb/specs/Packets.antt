@@ -1,0 +1,62 @@
+-- Packets (gdb's manual, "Remote Serial Protocol", "Overview"): `$`, the payload, `#`, and two
+-- hexadecimal digits of the sum of all bytes between, modulo 256. In a payload the bytes `#`, `$` and
+-- `}` are sent as `}` and the byte with its bit of value 32 turned; in an answer `*` too, which there
+-- begins a run of a byte.
+use Rattle.std.specs.Prelude.{◌≡◌, ℕ, ◌/◌, ◌%◌, ◌==◌, ◌||◌, if◌then◌else◌, List, [], ◌∷◌, ◌++◌, sum, slice_index, bit_xor, Bool, true, false, Option, Some, None, option_map, Ok}
+use Rattle.hex.specs.Hex.{lower_digits, decode_sized}
+use Rattle.rrs_gdb.specs.declared.framing.PacketError.{PacketError}
+use Rattle.rrs_gdb.specs.declared.framing.PacketError.TheVariants.{WrongSum, CutOff, OutOfMemory}
+
+-- a byte as two digits in lower case, the high four bits first
+abbrev pub digits_of : ℕ → List ℕ
+digits_of b = slice_index lower_digits (b / 16) ∷ slice_index lower_digits (b % 16) ∷ []
+
+-- the sum of bytes modulo 256
+abbrev pub checksum : List ℕ → ℕ
+checksum bytes = sum bytes % 256
+
+-- ---- what is sent
+
+-- `#`, `$`, `*` and `}`
+abbrev pub is_special : ℕ → Bool
+is_special b = b == 35 || b == 36 || b == 42 || b == 125
+
+-- with the bit of value 32 turned
+abbrev pub turned : ℕ → ℕ
+turned b = bit_xor b 32
+
+abbrev pub escaped_byte : ℕ → List ℕ
+escaped_byte b = if is_special b then 125 ∷ turned b ∷ [] else b ∷ []
+
+abbrev pub escaped : List ℕ → List ℕ
+escaped [] = []
+escaped (b ∷ bs) = escaped_byte b ++ escaped bs
+
+-- the packet of a payload
+abbrev pub packet : List ℕ → List ℕ
+packet payload = (36 ∷ escaped payload) ++ 35 ∷ digits_of (checksum (escaped payload))
+
+-- ---- what is received
+
+-- The payload that bytes stand for, the first of them behind a `}` or not. Behind a `}` a byte is
+-- missing where they end.
+abbrev pub unescaped_from : Bool → List ℕ → Option (List ℕ)
+unescaped_from false [] = Some []
+unescaped_from true [] = None
+unescaped_from true (b ∷ bs) = option_map (λ xs. turned b ∷ xs) (unescaped_from false bs)
+unescaped_from false (b ∷ bs) =
+    if b == 125 then unescaped_from true bs
+    else option_map (λ xs. b ∷ xs) (unescaped_from false bs)
+
+abbrev pub unescaped : List ℕ → Option (List ℕ)
+unescaped bytes = unescaped_from false bytes
+
+-- the digits behind these bytes are those of their sum
+abbrev pub HasSum : List ℕ → List ℕ → Type 0
+HasSum bytes digits = decode_sized digits 1 ≡ Ok (checksum bytes ∷ [])
+
+-- why bytes and the digits behind them are refused
+abbrev pub Refuses : PacketError → List ℕ → List ℕ → Type 0
+Refuses WrongSum bytes digits = HasSum bytes digits → ⊥
+Refuses CutOff bytes digits = unescaped bytes ≡ None
+Refuses OutOfMemory bytes digits = Unit {0}

@@ -1,0 +1,50 @@
+-- How gdb is shown the machine (gdb's manual, "Remote Serial Protocol", "Packets": g, p and m): each
+-- byte as two hexadecimal digits, and a register as its bytes, the lowest first. The registers are x0
+-- to x31 and then the pc, by the numbers of the target's description.
+use Rattle.std.specs.Prelude.{◌≡◌, ℕ, zero, suc, ◌+◌, ◌*◌, ◌/◌, ◌%◌, ◌<◌, ◌==◌, if◌then◌else◌, List, [], ◌∷◌, ◌++◌, length, slice_index, slice_set, Some}
+use Rattle.rrs_lib.specs.Bytes.{ByteMap}
+use Rattle.rrs_lib.specs.Machine.{State, reg, with_pc}
+use Rattle.rrs_gdb.specs.Packets.{digits_of}
+
+-- bytes as digits
+abbrev pub text_of : List ℕ → List ℕ
+text_of [] = []
+text_of (b ∷ bs) = digits_of b ++ text_of bs
+
+-- a word as four bytes, the lowest first
+abbrev pub word_bytes : ℕ → List ℕ
+word_bytes w = w % 256 ∷ w / 256 % 256 ∷ w / 65536 % 256 ∷ w / 16777216 % 256 ∷ []
+
+-- the register of a number: x0 to x31, or the pc
+abbrev pub register : State → ℕ → ℕ
+register s n = if n == 32 then s.pc else reg s n
+
+abbrev pub register_text : State → ℕ → List ℕ
+register_text s n = text_of (word_bytes (register s n))
+
+-- words, one after another
+abbrev pub words_text : List ℕ → List ℕ
+words_text [] = []
+words_text (w ∷ ws) = text_of (word_bytes w) ++ words_text ws
+
+-- all registers: x0, which is 0, the others, and the pc
+abbrev pub registers_text : State → List ℕ
+registers_text s = words_text (0 ∷ s.registers ++ s.pc ∷ [])
+
+-- The state with one of the registers 1 to 31 changed, or the pc. x0 is 0 and stays.
+abbrev pub with_general : State → ℕ → ℕ → State
+with_general s zero value = s
+with_general s (suc r) value = record s { registers = slice_set s.registers r value }
+
+abbrev pub with_register : State → ℕ → ℕ → State
+with_register s n value = if n == 32 then with_pc s value else with_general s n value
+
+-- the word whose bytes stand at a place of some bytes, the lowest first
+abbrev pub word_at : List ℕ → ℕ → ℕ
+word_at bytes i =
+    slice_index bytes i + 256 * slice_index bytes (i + 1) + 65536 * slice_index bytes (i + 2)
+    + 16777216 * slice_index bytes (i + 3)
+
+-- the memory has these bytes from a on
+abbrev pub HasBytes : ByteMap → ℕ → List ℕ → Type 0
+HasBytes bytes a values = (i : ℕ) → i < length values → bytes (a + i) ≡ Some (slice_index values i)

@@ -1,0 +1,64 @@
+//! Steps back, up to a stop.
+
+ghost use Rattle.rrs_lib.specs.Executor.{state_in, KeepsTheRest};
+ghost use Rattle.rrs_history.specs.Histories.{changes, past};
+ghost use Rattle.rrs_gdb.specs.Breaks.{GoesBack};
+
+use crate::breaks::{Breaks, Watch, watch_at};
+use crate::forward::is_stop;
+use rrs_history::{History, step_back, step_recorded};
+use rrs_lib::Memory;
+use rrs_lib::instruction_executor::InstructionExecutor;
+
+/// Why steps back ended.
+#[derive(Debug, PartialEq, Drop)]
+pub enum BackEnd {
+    /// The history leads back no further.
+    AtBegin,
+    /// A call was taken back, whose owner takes back what the environment keeps.
+    Call,
+    /// The pc is a stop, and at least one step was taken back.
+    AtStop,
+    /// The step that was made last touches this watchpoint.
+    Touched(Watch),
+    /// As many steps as the limit were taken back.
+    Limit,
+}
+
+/// Takes steps back, until the pc is a stop, the next one to take back touches a watchpoint, one was
+/// a call, as many as `limit` were taken back, or there are no more.
+///
+/// The states to which it went are those that the history leads back to, in order, and the first of
+/// them that is at a stop is the last (`back`). Whether a step touches a watchpoint shows where it
+/// was taken back: it is made again then.
+pub fn go_back<M: Memory>(
+    executor: &mut InstructionExecutor<M>,
+    history: &mut History,
+    limit: u64,
+    breaks: &Breaks,
+) -> BackEnd
+    ensures back { GoesBack breaks.now.stops.items limit
+        (past (changes history.old) (state_in M.bytes M.writable executor.old))
+        (past (changes history.new) (state_in M.bytes M.writable executor.new))
+        (state_in M.bytes M.writable executor.new) result }
+    ensures rest { KeepsTheRest M.layout executor.old executor.new }
+{
+    let mut left = limit;
+    'steps: while 0 < left {
+        let Some(change) = step_back(executor, history) else {
+            return BackEnd::AtBegin;
+        };
+        if change.of_call {
+            return BackEnd::Call;
+        }
+        if let Some(watch) = watch_at(executor, &breaks.watches) {
+            let _answer = step_recorded(executor, history);
+            return BackEnd::Touched(watch);
+        }
+        if is_stop(&breaks.stops, executor.hart_state.pc) {
+            return BackEnd::AtStop;
+        }
+        left -= 1;
+    }
+    BackEnd::Limit
+}

@@ -1,0 +1,154 @@
+//! Where a run stops.
+
+ghost use Rattle.std.specs.Prelude.{◌≡◌, ◌<◌, length, IfSome};
+ghost use Rattle.rrs_lib.specs.Executor.{state_in, KeepsTheRest};
+
+use rrs_lib::instruction_executor::{InstructionExecutor, fetch_word};
+use rrs_lib::{HartState, MemAccessSize, Memory};
+use rrs_trace::{DataRequest, request};
+use std::alloc::{AllocError, Global};
+
+/// Which accesses a watchpoint is for.
+#[derive(Clone, Copy, Debug, PartialEq)]
+pub enum WatchKind {
+    /// Stores.
+    Write,
+    /// Loads.
+    Read,
+    /// Both.
+    Access,
+}
+
+/// A watchpoint: addresses, and the accesses to them at which a run stops.
+#[derive(Clone, Copy, Debug, PartialEq)]
+pub struct Watch {
+    /// Which accesses.
+    pub kind: WatchKind,
+    /// The first address.
+    pub address: u32,
+    /// How many addresses there are.
+    pub length: u32,
+}
+
+impl Watch {
+    /// The name of its kind, as gdb is told.
+    pub(crate) fn name(&self) -> &'static [u8] {
+        match self.kind {
+            WatchKind::Write => b"watch",
+            WatchKind::Read => b"rwatch",
+            WatchKind::Access => b"awatch",
+        }
+    }
+
+    /// Whether an access touches one of the addresses.
+    fn is_touched(&self, access: DataRequest) -> bool {
+        let (is_kind, address, size) = match access {
+            DataRequest::Load(address, size) => (self.kind != WatchKind::Write, address, size),
+            DataRequest::Store(address, size, _) => (self.kind != WatchKind::Read, address, size),
+        };
+        let start = u64::from(self.address);
+        let from = u64::from(address);
+        is_kind && from < start + u64::from(self.length) && start < from + width_of(size)
+    }
+}
+
+/// The number of bytes of an access.
+fn width_of(size: MemAccessSize) -> u64
+    ensures { result < 5 }
+{
+    match size {
+        MemAccessSize::Byte => 1,
+        MemAccessSize::HalfWord => 2,
+        MemAccessSize::Word => 4,
+    }
+}
+
+/// Where a run stops: before instructions at addresses, and behind accesses.
+#[derive(Drop)]
+pub struct Breaks {
+    /// The addresses of instructions, each once.
+    pub stops: Vec<u32>,
+    /// The watchpoints, each once.
+    pub watches: Vec<Watch>,
+}
+
+impl Breaks {
+    /// None.
+    pub fn new(alloc: Global) -> Breaks {
+        Breaks {
+            stops: Vec::new(alloc),
+            watches: Vec::new(alloc),
+        }
+    }
+
+    /// Sets a breakpoint, if it isn't set already.
+    pub fn set_stop(&mut self, address: u32) -> Result<(), AllocError> {
+        if !self.stops.contains(&address) {
+            self.stops.push(address)?;
+        }
+        Ok(())
+    }
+
+    /// Removes a breakpoint, if it is set.
+    pub fn remove_stop(&mut self, address: u32) {
+        self.stops.retain(|stop| *stop != address);
+    }
+
+    /// Sets a watchpoint, if it isn't set already.
+    pub fn set_watch(&mut self, watch: Watch) -> Result<(), AllocError> {
+        if !self.watches.contains(&watch) {
+            self.watches.push(watch)?;
+        }
+        Ok(())
+    }
+
+    /// Removes a watchpoint, if it is set.
+    pub fn remove_watch(&mut self, watch: Watch) {
+        self.watches.retain(|other| *other != watch);
+    }
+}
+
+/// The first watchpoint that an access touches.
+fn touched(watches: &[Watch], access: DataRequest) -> Option<Watch> {
+    watches
+        .iter()
+        .copied()
+        .find(|watch| watch.is_touched(access))
+}
+
+/// The access that the step from here makes beside its fetch.
+fn access_at<M: Memory>(executor: &mut InstructionExecutor<M>) -> Option<DataRequest>
+    ensures kept { state_in M.bytes M.writable executor.new
+        ≡ state_in M.bytes M.writable executor.old }
+    ensures rest { KeepsTheRest M.layout executor.old executor.new }
+{
+    match fetch_word(executor.mem, executor.hart_state.pc) {
+        Ok(word) => access_of(executor.hart_state, word),
+        Err(_) => None,
+    }
+}
+
+/// The access that the step of a word makes.
+fn access_of(hart: &HartState, word: u32) -> Option<DataRequest> {
+    match request(hart, word) {
+        Ok(access) => access,
+        Err(_) => None,
+    }
+}
+
+/// The first watchpoint that the step from here touches.
+pub(crate) fn watch_at<M: Memory>(
+    executor: &mut InstructionExecutor<M>,
+    watches: &[Watch],
+) -> Option<Watch>
+    ensures kept { state_in M.bytes M.writable executor.new
+        ≡ state_in M.bytes M.writable executor.old }
+    ensures rest { KeepsTheRest M.layout executor.old executor.new }
+    ensures some { IfSome result (λ watch. 0 < length watches.now) }
+{
+    if watches.is_empty() {
+        return None;
+    }
+    let access = access_at(executor)?;
+    touched(watches, access)
+}

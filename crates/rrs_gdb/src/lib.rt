@@ -1,0 +1,35 @@
+//! The stub of gdb's remote protocol, for `rrs_lib`'s machine.
+//!
+//! A [Session] answers the packets that gdb sends, over any memory that keeps its laws, and over the
+//! calls of a process of Linux. Packets are framed by [encode] and [decode]. Registers and memory
+//! are shown and changed by the functions of `registers` and `contents`; the machine goes forward by
+//! [go_forward] and back by [go_back].
+//!
+//! What a packet is, is written in `specs/Packets.antt`, which texts show the machine in
+//! `specs/Shown.antt`, and where a run stops in `specs/Breaks.antt`.
+
+#![tactic(auto)]
+
+mod back;
+mod breaks;
+mod contents;
+mod forward;
+mod framing;
+mod link;
+mod numbers;
+mod queries;
+mod registers;
+mod resume;
+mod session;
+mod state;
+mod target;
+
+pub use back::{BackEnd, go_back};
+pub use breaks::{Breaks, Watch, WatchKind};
+pub use contents::{read_memory, write_memory};
+pub use forward::{ForwardEnd, ForwardReason, go_forward};
+pub use framing::{PacketError, decode, encode};
+pub use link::{Link, LinkError};
+pub use registers::{REGISTERS, push_register, push_registers, write_register, write_registers};
+pub use session::{SessionEnd, serve};
+pub use state::{SessionState, Settings};

@@ -1,0 +1,203 @@
+//! The two streams of a session.
+
+use crate::framing::{PacketError, decode, encode};
+use std::alloc::{AllocError, AllocFailed, Global};
+use std::io::{Read, Write};
+
+/// The most bytes between `$` and `#` that are read: 16 KiB, as `qSupported` says.
+pub(crate) const PACKET_BYTES: usize = 0x4000;
+
+/// Why a session can't go on.
+#[derive(Debug, PartialEq, Clone, Copy)]
+pub enum LinkError {
+    /// Out of memory.
+    OutOfMemory,
+    /// A write failed.
+    Output,
+}
+
+impl From<AllocError> for LinkError {
+    fn from(_error: AllocError) -> LinkError {
+        LinkError::OutOfMemory
+    }
+}
+
+impl From<AllocFailed<u8>> for LinkError {
+    fn from(_error: AllocFailed<u8>) -> LinkError {
+        LinkError::OutOfMemory
+    }
+}
+
+/// What was received.
+#[derive(Drop)]
+pub(crate) enum Received {
+    /// A packet with this payload.
+    Packet(Vec<u8>),
+    /// A packet that is no good: longer than said, cut off, or, where nothing is acknowledged, with
+    /// a wrong sum.
+    Bad,
+    /// The end of the input.
+    End,
+}
+
+/// The two streams of a session: packets come from the reader, and go to the writer.
+#[derive(Drop)]
+pub struct Link<R, W> {
+    /// Where memory comes from.
+    pub(crate) alloc: Global,
+    /// The reader.
+    reader: R,
+    /// The writer.
+    writer: W,
+    /// Whether packets are acknowledged.
+    pub(crate) acknowledges: bool,
+    /// The packet that was sent last.
+    last: Vec<u8>,
+}
+
+impl<R, W> Link<R, W> {
+    /// The two streams, on which packets are acknowledged.
+    pub fn new(alloc: Global, reader: R, writer: W) -> Link<R, W> {
+        Link {
+            alloc,
+            reader,
+            writer,
+            acknowledges: true,
+            last: Vec::new(alloc),
+        }
+    }
+}
+
+/// The next byte of a reader, if it has one. A read that fails is an end.
+fn next_byte<R: Read>(reader: &mut R) -> Option<u8> {
+    let mut byte = [0_u8; 1];
+    match reader.read(&mut byte) {
+        Ok(1) => Some(byte[0]),
+        _ => None,
+    }
+}
+
+/// The bytes of a packet behind its `$`: those up to `#`, and the two digits.
+#[derive(Drop)]
+struct Frame {
+    /// The bytes, as far as a packet may have them.
+    bytes: Vec<u8>,
+    /// The digits.
+    digits: [u8; 2],
+    /// Whether there were more.
+    is_long: bool,
+}
+
+/// The two digits of a packet.
+fn read_digits<R: Read>(reader: &mut R) -> Option<[u8; 2]> {
+    let high = next_byte(reader)?;
+    let low = next_byte(reader)?;
+    Some([high, low])
+}
+
+/// The bytes of a packet behind its `$`, from a reader; `None` at the end of the input. Of a packet
+/// that is too long the rest is skipped, and a `$` begins another one.
+fn read_frame<R: Read>(alloc: Global, reader: &mut R) -> Result<Option<Frame>, AllocError> {
+    let mut bytes = Vec::new(alloc);
+    let mut is_long = false;
+    for _ in 0..u64::MAX {
+        let Some(byte) = next_byte(reader) else {
+            return Ok(None);
+        };
+        match byte {
+            b'#' => break,
+            b'$' => {
+                bytes.clear();
+                is_long = false;
+            }
+            _ if bytes.len() < PACKET_BYTES => bytes.push(byte)?,
+            _ => is_long = true,
+        }
+    }
+    match read_digits(reader) {
+        Some(digits) => Ok(Some(Frame {
+            bytes,
+            digits,
+            is_long,
+        })),
+        None => Ok(None),
+    }
+}
+
+impl<R: Read, W: Write> Link<R, W> {
+    /// Writes bytes at once.
+    fn write(&mut self, bytes: &[u8]) -> Result<(), LinkError> {
+        if self.writer.write_all(bytes).is_err() || self.writer.flush().is_err() {
+            return Err(LinkError::Output);
+        }
+        Ok(())
+    }
+
+    /// Sends a payload.
+    pub(crate) fn send(&mut self, payload: &[u8]) -> Result<(), LinkError> {
+        let frame = encode(self.alloc, payload)?;
+        self.write(&frame)?;
+        self.last = frame;
+        Ok(())
+    }
+
+    /// Sends the last packet once more.
+    fn send_again(&mut self) -> Result<(), LinkError> {
+        if self.writer.write_all(&self.last).is_err() || self.writer.flush().is_err() {
+            return Err(LinkError::Output);
+        }
+        Ok(())
+    }
+
+    /// Acknowledges a packet, or asks for it again.
+    fn acknowledge(&mut self, is_good: bool) -> Result<(), LinkError> {
+        if !self.acknowledges {
+            return Ok(());
+        }
+        self.write(if is_good { b"+" } else { b"-" })
+    }
+
+    /// What a frame is; `None` where it is asked for again.
+    fn received(&mut self, frame: &Frame) -> Result<Option<Received>, LinkError> {
+        if frame.is_long {
+            self.acknowledge(true)?;
+            return Ok(Some(Received::Bad));
+        }
+        match decode(self.alloc, &frame.bytes, &frame.digits) {
+            Ok(payload) => {
+                self.acknowledge(true)?;
+                Ok(Some(Received::Packet(payload)))
+            }
+            Err(PacketError::OutOfMemory) => Err(LinkError::OutOfMemory),
+            Err(PacketError::WrongSum) if self.acknowledges => {
+                self.acknowledge(false)?;
+                Ok(None)
+            }
+            Err(_) => {
+                self.acknowledge(true)?;
+                Ok(Some(Received::Bad))
+            }
+        }
+    }
+
+    /// The next packet. What lies between two packets is skipped; a `-` there has the last packet
+    /// sent again.
+    pub(crate) fn receive(&mut self) -> Result<Received, LinkError> {
+        for _ in 0..u64::MAX {
+            match next_byte(&mut self.reader) {
+                None => return Ok(Received::End),
+                Some(b'$') => {
+                    let Some(frame) = read_frame(self.alloc, &mut self.reader)? else {
+                        return Ok(Received::End);
+                    };
+                    if let Some(received) = self.received(&frame)? {
+                        return Ok(received);
+                    }
+                }
+                Some(b'-') => self.send_again()?,
+                Some(_) => {}
+            }
+        }
+        Ok(Received::End)
+    }
+}

@@ -1,0 +1,84 @@
+//! The numbers and the fields of a payload.
+
+ghost use Rattle.std.specs.Prelude.{◌<◌, length, IfSome};
+
+/// The value of a hexadecimal digit.
+fn value_of(digit: u8) -> Option<u8> {
+    match digit {
+        b'0'..=b'9' => Some(digit - b'0'),
+        b'a'..=b'f' => Some(digit - b'a' + 10),
+        b'A'..=b'F' => Some(digit - b'A' + 10),
+        _ => None,
+    }
+}
+
+/// The number that one to eight hexadecimal digits are.
+pub(crate) fn number_of(digits: &[u8]) -> Option<u32> {
+    if digits.is_empty() || digits.len() > 8 {
+        return None;
+    }
+    let mut number = 0_u32;
+    for digit in digits {
+        let value = value_of(*digit)?;
+        number = number.checked_mul(16)?.checked_add(u32::from(value))?;
+    }
+    Some(number)
+}
+
+/// The number that decimal digits are.
+pub(crate) fn decimal_of(digits: &[u8]) -> Option<u64> {
+    if digits.is_empty() {
+        return None;
+    }
+    let mut number = 0_u64;
+    for digit in digits {
+        if !digit.is_ascii_digit() {
+            return None;
+        }
+        number = number
+            .checked_mul(10)?
+            .checked_add(u64::from(*digit - b'0'))?;
+    }
+    Some(number)
+}
+
+/// What stands before the first of these bytes, and behind it.
+pub(crate) fn cut(bytes: &[u8], at: u8) -> Option<(&[u8], &[u8])>
+    ensures { IfSome result (λ parts. length parts.1.now < length bytes.now) }
+{
+    for (index, byte) in bytes.iter().enumerate() {
+        if *byte == at {
+            return Some((&bytes[..index], &bytes[index + 1..]));
+        }
+    }
+    None
+}
+
+/// What stands before the first of these bytes, and behind it; all, and nothing, where there is
+/// none.
+pub(crate) fn cut_or_all(bytes: &[u8], at: u8) -> (&[u8], &[u8])
+    ensures { 0 < length bytes.now → length result.1.now < length bytes.now }
+{
+    match cut(bytes, at) {
+        Some(parts) => parts,
+        None => (bytes, &[]),
+    }
+}
+
+/// An address and a length, with a comma between.
+pub(crate) fn address_and_length(bytes: &[u8]) -> Option<(u32, u32)> {
+    let (address, length) = cut(bytes, b',')?;
+    Some((number_of(address)?, number_of(length)?))
+}
+
+/// An address and a length before a colon, and the bytes behind it.
+pub(crate) fn place_and_bytes(bytes: &[u8]) -> Option<(u32, u32, &[u8])> {
+    let (place, values) = cut(bytes, b':')?;
+    let (address, length) = address_and_length(place)?;
+    Some((address, length, values))
+}
+
+/// What is behind a prefix.
+pub(crate) fn behind<'a>(bytes: &'a [u8], prefix: &[u8]) -> Option<&'a [u8]> {
+    bytes.strip_prefix(prefix)
+}

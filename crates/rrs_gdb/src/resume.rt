@@ -1,0 +1,262 @@
+//! The program goes on, forward and back.
+
+use crate::back::{BackEnd, go_back};
+use crate::forward::{ForwardEnd, ForwardReason, go_forward};
+use crate::framing::push_hex;
+use crate::link::{Link, LinkError};
+use crate::state::{CallMark, SessionState, Stop};
+use rrs_history::step_served;
+use rrs_lib::Memory;
+use rrs_lib::instruction_executor::{InstructionException, InstructionExecutor};
+use rrs_linux::OutputRecorder;
+use std::io::{Read, Write};
+
+/// gdb's number of the signal of a stop by gdb itself: a limit that is reached.
+const INTERRUPTED: u8 = 2;
+/// gdb's number of the signal of a breakpoint, and of a step.
+const TRAPPED: u8 = 5;
+/// The number of `exit`.
+const EXIT: u32 = 93;
+/// The number of `exit_group`.
+const EXIT_GROUP: u32 = 94;
+/// The most bytes of output in a packet.
+const OUTPUT_BYTES: usize = 2048;
+
+/// gdb's number of the signal that a program gets for an exception.
+pub(crate) fn signal_of(fault: &InstructionException) -> u8 {
+    match fault {
+        InstructionException::IllegalInstruction(_, _) => 4,
+        InstructionException::Breakpoint(_) => 5,
+        InstructionException::AlignmentFault(_) => 10,
+        InstructionException::FetchError(_)
+        | InstructionException::LoadAccessFault(_)
+        | InstructionException::StoreAccessFault(_) => 11,
+        InstructionException::EnvironmentCall(_) => 12,
+    }
+}
+
+/// Sends output of the program, as `O` packets.
+fn send_output<R: Read, W: Write>(link: &mut Link<R, W>, bytes: &[u8]) -> Result<(), LinkError> {
+    for part in bytes.chunks(OUTPUT_BYTES) {
+        let mut payload = Vec::new(link.alloc);
+        payload.push(b'O')?;
+        for byte in part {
+            push_hex(&mut payload, *byte)?;
+        }
+        link.send(&payload)?;
+    }
+    Ok(())
+}
+
+/// Sends what was made of output, but for what was sent already, before steps were taken back.
+fn send_new<R: Read, W: Write>(
+    state: &mut SessionState<'_>,
+    link: &mut Link<R, W>,
+    bytes: &[u8],
+) -> Result<(), LinkError> {
+    let known = state.sent.saturating_sub(state.made);
+    state.made = state.made.saturating_add(bytes.len() as u64);
+    if known >= bytes.len() as u64 {
+        return Ok(());
+    }
+    state.sent = state.made;
+    send_output(link, &bytes[known as usize..])
+}
+
+/// Sends what a call made of output, and of errors.
+fn send_made<R: Read, W: Write>(
+    state: &mut SessionState<'_>,
+    environment: &mut OutputRecorder<'_>,
+    link: &mut Link<R, W>,
+) -> Result<(), LinkError> {
+    send_new(state, link, &environment.output)?;
+    environment.output.clear();
+    send_new(state, link, &environment.errors)?;
+    environment.errors.clear();
+    Ok(())
+}
+
+/// Whether a stop comes before the call at the pc is made.
+fn stop_before(state: &mut SessionState<'_>, number: u32) -> Option<Stop> {
+    if state.catches(number) && !state.has_entered {
+        state.has_entered = true;
+        return Some(Stop::Entry(number));
+    }
+    let is_exit = number == EXIT || number == EXIT_GROUP;
+    if is_exit && state.settings.stops_at_exit && !state.has_told_exit {
+        state.has_told_exit = true;
+        return Some(Stop::Signal(TRAPPED));
+    }
+    None
+}
+
+/// Whether a stop comes behind a call that was made.
+fn stop_behind(state: &mut SessionState<'_>, number: u32, pc: u32) -> Option<Stop> {
+    if state.has_entered {
+        state.has_entered = false;
+        return Some(Stop::Return(number));
+    }
+    if state.breaks.stops.contains(&pc) {
+        return Some(Stop::Signal(TRAPPED));
+    }
+    None
+}
+
+/// Has the call at the pc served, and sends its output. The answer is the stop that comes of it.
+fn make_call<M: Memory, R: Read, W: Write>(
+    state: &mut SessionState<'_>,
+    executor: &mut InstructionExecutor<M>,
+    environment: &mut OutputRecorder<'_>,
+    link: &mut Link<R, W>,
+) -> Result<Option<Stop>, LinkError> {
+    let number = executor.hart_state.read_register(17);
+    if let Some(stop) = stop_before(state, number) {
+        return Ok(Some(stop));
+    }
+    let mark = CallMark {
+        left: environment.input.len(),
+        top: environment.heap.top,
+        made: state.made,
+    };
+    match step_served(executor, environment, &mut state.history) {
+        Err(fault) => return Ok(Some(Stop::Signal(signal_of(&fault)))),
+        Ok(Some(status)) => return Ok(Some(Stop::Exited((status % 256) as u8))),
+        Ok(None) => {}
+    }
+    let _oldest = state.calls.push_front(mark);
+    send_made(state, environment, link)?;
+    state.steps = state.steps.saturating_add(1);
+    Ok(stop_behind(state, number, executor.hart_state.pc))
+}
+
+/// The stop of steps forward that ended, but for a call.
+fn stop_of(reason: &ForwardReason, at_limit: Stop) -> Stop {
+    match reason {
+        ForwardReason::AtStop => Stop::Signal(TRAPPED),
+        ForwardReason::Touches(watch) => Stop::Touched(*watch),
+        ForwardReason::Limit => at_limit,
+        ForwardReason::Fault(fault) => Stop::Signal(signal_of(fault)),
+    }
+}
+
+/// Goes forward, to a stop or for `limit` steps, each call that is served being one.
+fn forward<M: Memory, R: Read, W: Write>(
+    state: &mut SessionState<'_>,
+    executor: &mut InstructionExecutor<M>,
+    environment: &mut OutputRecorder<'_>,
+    link: &mut Link<R, W>,
+    limit: u64,
+    at_limit: Stop,
+) -> Result<Stop, LinkError> {
+    let mut left = limit;
+    'legs: while left > 0 {
+        let ForwardEnd { steps, reason } = go_forward(
+            executor,
+            &mut state.history,
+            left,
+            &state.breaks,
+        );
+        state.steps = state.steps.saturating_add(steps);
+        if steps > 0 {
+            state.has_entered = false;
+            state.has_told_exit = false;
+        }
+        let ForwardReason::Fault(InstructionException::EnvironmentCall(_)) = reason else {
+            return Ok(stop_of(&reason, at_limit));
+        };
+        if let Some(stop) = make_call(state, executor, environment, link)? {
+            return Ok(stop);
+        }
+        left = left.saturating_sub(steps).saturating_sub(1);
+    }
+    Ok(at_limit)
+}
+
+/// `s`: a step, or a call.
+pub(crate) fn step<M: Memory, R: Read, W: Write>(
+    state: &mut SessionState<'_>,
+    executor: &mut InstructionExecutor<M>,
+    environment: &mut OutputRecorder<'_>,
+    link: &mut Link<R, W>,
+) -> Result<(), LinkError> {
+    let stop = forward(state, executor, environment, link, 1, Stop::Signal(TRAPPED))?;
+    state.stop = stop;
+    Ok(())
+}
+
+/// `c`: to a stop.
+pub(crate) fn proceed<M: Memory, R: Read, W: Write>(
+    state: &mut SessionState<'_>,
+    executor: &mut InstructionExecutor<M>,
+    environment: &mut OutputRecorder<'_>,
+    link: &mut Link<R, W>,
+) -> Result<(), LinkError> {
+    let limit = state.settings.limit;
+    let stop = forward(
+        state,
+        executor,
+        environment,
+        link,
+        limit,
+        Stop::Signal(INTERRUPTED),
+    )?;
+    state.stop = stop;
+    Ok(())
+}
+
+/// Gives the environment what it had before the call that was taken back.
+fn take_call_back<'a>(state: &mut SessionState<'a>, environment: &mut OutputRecorder<'a>) {
+    if let Some(mark) = state.calls.pop_front() {
+        let input = state.input;
+        let start = input.len().saturating_sub(mark.left);
+        environment.input = &input[start..];
+        environment.heap.top = mark.top;
+        state.made = mark.made;
+    }
+}
+
+/// Goes back, to a stop or for `limit` steps.
+fn backward<'a, M: Memory>(
+    state: &mut SessionState<'a>,
+    executor: &mut InstructionExecutor<M>,
+    environment: &mut OutputRecorder<'a>,
+    limit: u64,
+) -> Stop {
+    state.has_entered = false;
+    state.has_told_exit = false;
+    let mut left = limit;
+    'legs: while left > 0 {
+        let end = go_back(executor, &mut state.history, left, &state.breaks);
+        match end {
+            BackEnd::AtBegin => return Stop::AtBegin,
+            BackEnd::Touched(watch) => return Stop::Touched(watch),
+            BackEnd::AtStop | BackEnd::Limit => return Stop::Signal(TRAPPED),
+            BackEnd::Call => take_call_back(state, environment),
+        }
+        if state.breaks.stops.contains(&executor.hart_state.pc) {
+            return Stop::Signal(TRAPPED);
+        }
+        left -= 1;
+    }
+    Stop::Signal(TRAPPED)
+}
+
+/// `bs`: a step back, or a call.
+pub(crate) fn step_backward<'a, M: Memory>(
+    state: &mut SessionState<'a>,
+    executor: &mut InstructionExecutor<M>,
+    environment: &mut OutputRecorder<'a>,
+) {
+    let stop = backward(state, executor, environment, 1);
+    state.stop = stop;
+}
+
+/// `bc`: back to a stop.
+pub(crate) fn go_backward<'a, M: Memory>(
+    state: &mut SessionState<'a>,
+    executor: &mut InstructionExecutor<M>,
+    environment: &mut OutputRecorder<'a>,
+) {
+    let stop = backward(state, executor, environment, u64::MAX);
+    state.stop = stop;
+}

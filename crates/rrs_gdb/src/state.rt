@@ -1,0 +1,229 @@
+//! What a session keeps beside the machine.
+
+use crate::breaks::{Breaks, Watch};
+use crate::framing::push_hex;
+use circular_buffer::HeapCircularBuffer;
+use rrs_history::History;
+use std::alloc::{AllocError, Global};
+
+/// What `monitor` sets.
+#[derive(Clone, Copy, Debug, PartialEq)]
+pub struct Settings {
+    /// The most steps of a `continue`.
+    pub limit: u64,
+    /// The most steps and parts of calls that are kept, of 32 bytes each.
+    pub history: usize,
+    /// Whether the program stops once where it is to exit.
+    pub stops_at_exit: bool,
+}
+
+impl Settings {
+    /// What holds where nothing is set: 10,000,000,000 steps, a history of 1,000,000, and a stop at
+    /// the exit.
+    pub fn new() -> Settings {
+        Settings {
+            limit: 10_000_000_000,
+            history: 1_000_000,
+            stops_at_exit: true,
+        }
+    }
+}
+
+/// Where a program stopped, and why.
+#[derive(Clone, Copy, Debug, PartialEq)]
+pub(crate) enum Stop {
+    /// By a signal, with gdb's number.
+    Signal(u8),
+    /// By an access to a watchpoint.
+    Touched(Watch),
+    /// At the begin of what the history keeps.
+    AtBegin,
+    /// Before a call of this number.
+    Entry(u32),
+    /// Behind a call of this number.
+    Return(u32),
+    /// It exited with this status.
+    Exited(u8),
+    /// It was killed by this signal.
+    Killed(u8),
+}
+
+/// What an environment had before a call.
+#[derive(Clone, Copy)]
+pub(crate) struct CallMark {
+    /// How many bytes of the input were left.
+    pub(crate) left: usize,
+    /// The break.
+    pub(crate) top: u32,
+    /// How many bytes of output had been made.
+    pub(crate) made: u64,
+}
+
+/// Which calls are caught.
+#[derive(Drop)]
+pub(crate) struct Caught {
+    /// Whether all are.
+    pub(crate) are_all: bool,
+    /// The numbers of those that are.
+    pub(crate) numbers: Vec<u32>,
+}
+
+/// What a session keeps beside the machine: where it stops, the history, and what was told.
+#[derive(Drop)]
+pub struct SessionState<'a> {
+    /// Where the program stops.
+    pub(crate) breaks: Breaks,
+    /// The steps that can be taken back.
+    pub(crate) history: History,
+    /// What the environment had before each call that is kept, the latest first.
+    pub(crate) calls: HeapCircularBuffer<CallMark>,
+    /// What `monitor` sets.
+    pub settings: Settings,
+    /// Which calls are caught.
+    pub(crate) caught: Caught,
+    /// How many steps were made, those that were taken back not among them.
+    pub(crate) steps: u64,
+    /// How many bytes of output were made, those of calls that were taken back not among them.
+    pub(crate) made: u64,
+    /// How many bytes of output were sent.
+    pub(crate) sent: u64,
+    /// Whether the call at the pc was told before it is made.
+    pub(crate) has_entered: bool,
+    /// Whether the exit at the pc was told.
+    pub(crate) has_told_exit: bool,
+    /// Where the program stopped last.
+    pub(crate) stop: Stop,
+    /// Whether the session goes on behind the program's end.
+    pub(crate) is_extended: bool,
+    /// Whether gdb waits for where the program stopped.
+    pub owes_stop: bool,
+    /// The program's path.
+    pub(crate) path: &'a [u8],
+    /// The whole input of the program.
+    pub(crate) input: &'a [u8],
+    /// The arguments of the program that `vRun` gave, without its name.
+    pub arguments: Vec<String>,
+    /// Whether `vRun` gave arguments.
+    pub has_arguments: bool,
+}
+
+impl<'a> SessionState<'a> {
+    /// What a session begins with, for a program at a path and with an input.
+    ///
+    /// # Errors
+    ///
+    /// Out of memory for the history.
+    pub fn new(
+        alloc: Global,
+        settings: Settings,
+        path: &'a [u8],
+        input: &'a [u8],
+    ) -> Result<SessionState<'a>, AllocError> {
+        Ok(SessionState {
+            breaks: Breaks::new(alloc),
+            history: History::new(alloc, settings.history)?,
+            calls: HeapCircularBuffer::with_capacity(alloc, settings.history)?,
+            settings,
+            caught: Caught {
+                are_all: false,
+                numbers: Vec::new(alloc),
+            },
+            steps: 0,
+            made: 0,
+            sent: 0,
+            has_entered: false,
+            has_told_exit: false,
+            stop: Stop::Signal(5),
+            is_extended: false,
+            owes_stop: false,
+            path,
+            input,
+            arguments: Vec::new(alloc),
+            has_arguments: false,
+        })
+    }
+
+    /// Forgets what was of the program, which begins again.
+    pub fn begin_again(&mut self) {
+        self.forget();
+        self.steps = 0;
+        self.made = 0;
+        self.sent = 0;
+        self.stop = Stop::Signal(5);
+    }
+
+    /// Forgets the history, as after a change that is not kept.
+    pub(crate) fn forget(&mut self) {
+        self.history.clear();
+        self.calls.clear();
+        self.has_entered = false;
+        self.has_told_exit = false;
+    }
+
+    /// Sets how much is kept, and forgets what was kept.
+    ///
+    /// # Errors
+    ///
+    /// Out of memory. Then all is as it was.
+    pub(crate) fn set_history(&mut self, alloc: Global, room: usize) -> Result<(), AllocError> {
+        let history = History::new(alloc, room)?;
+        let calls = HeapCircularBuffer::with_capacity(alloc, room)?;
+        self.history = history;
+        self.calls = calls;
+        self.settings.history = room;
+        Ok(())
+    }
+
+    /// Whether a call of this number is caught.
+    pub(crate) fn catches(&self, number: u32) -> bool {
+        self.caught.are_all || self.caught.numbers.contains(&number)
+    }
+}
+
+/// Appends bytes.
+pub(crate) fn push_text(text: &mut Vec<u8>, bytes: &[u8]) -> Result<(), AllocError> {
+    text.extend_from_slice(bytes)
+}
+
+/// Appends a number as hexadecimal digits.
+pub(crate) fn push_number(
+    alloc: Global,
+    text: &mut Vec<u8>,
+    number: u32,
+) -> Result<(), AllocError> {
+    let digits = format!(in alloc; "{number:x}")?;
+    text.extend_from_slice(digits.as_bytes())
+}
+
+/// Appends a signal or a status behind a letter.
+fn push_code(text: &mut Vec<u8>, letter: u8, code: u8) -> Result<(), AllocError> {
+    text.push(letter)?;
+    push_hex(text, code)
+}
+
+/// Appends a stop with a name and a number.
+fn push_named(
+    alloc: Global,
+    text: &mut Vec<u8>,
+    name: &[u8],
+    number: u32,
+) -> Result<(), AllocError> {
+    push_text(text, b"T05")?;
+    push_text(text, name)?;
+    push_text(text, b":")?;
+    push_number(alloc, text, number)?;
+    push_text(text, b";")
+}
+
+/// Appends where a program stopped, as gdb is told.
+pub(crate) fn push_stop(alloc: Global, text: &mut Vec<u8>, stop: Stop) -> Result<(), AllocError> {
+    match stop {
+        Stop::Signal(signal) => push_code(text, b'S', signal),
+        Stop::Touched(watch) => push_named(alloc, text, watch.name(), watch.address),
+        Stop::AtBegin => push_text(text, b"T05replaylog:begin;"),
+        Stop::Entry(number) => push_named(alloc, text, b"syscall_entry", number),
+        Stop::Return(number) => push_named(alloc, text, b"syscall_return", number),
+        Stop::Exited(status) => push_code(text, b'W', status),
+        Stop::Killed(signal) => push_code(text, b'X', signal),
+    }
+}
