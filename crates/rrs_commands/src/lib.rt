@@ -8,6 +8,7 @@
 
 pub mod assembly;
 pub mod boards;
+pub mod disassembling;
 pub mod elf_listing;
 pub mod ending;
 pub mod executables;

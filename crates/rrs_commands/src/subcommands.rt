@@ -13,6 +13,8 @@ pub enum Task {
     Assemble,
     /// It lists what an executable has.
     List,
+    /// It disassembles an executable.
+    Disassemble,
     /// It runs firmware on a board.
     Board,
     /// It says what the others do.
@@ -35,7 +37,7 @@ pub struct Subcommand {
 }
 
 /// The subcommands.
-pub static SUBCOMMANDS: [Subcommand; 5] = [RUN, EXECUTE, ASSEMBLE, LIST, BOARD];
+pub static SUBCOMMANDS: [Subcommand; 6] = [RUN, EXECUTE, ASSEMBLE, DISASSEMBLE, LIST, BOARD];
 
 /// The program itself, where it is asked for help or for no subcommand.
 pub static ITSELF: Subcommand = HELP;
@@ -99,6 +101,24 @@ Status: 0; 1 for mistakes, and where FILE can't be assembled; 2 for other words.
 ",
 };
 
+/// `rrs dis`.
+const DISASSEMBLE: Subcommand = Subcommand {
+    word: "dis",
+    task: Task::Disassemble,
+    command: Command {
+        name: "rrs dis",
+        usage: "rrs dis FILE",
+    },
+    summary: "disassembles an executable",
+    help: "Writes the code of FILE, an ELF executable for RV32IM, as objdump -d lays it out: of
+each section that has code, or, where there are no sections, of each segment that
+has, the symbols, and the address, the word and the text of each instruction.
+
+Status: 0; 1 where FILE is no such executable, and where it can't be read; 2 for
+other words.
+",
+};
+
 /// `rrs elf`.
 const LIST: Subcommand = Subcommand {
     word: "elf",
@@ -143,7 +163,7 @@ const HELP: Subcommand = Subcommand {
     task: Task::Help,
     command: Command {
         name: "rrs",
-        usage: "rrs run|exec|as|elf|board|help ..",
+        usage: "rrs run|exec|as|dis|elf|board|help ..",
     },
     summary: "says this, as --help does",
     help: "A subcommand's own --help says more, such as rrs run --help. The status is 0, 1

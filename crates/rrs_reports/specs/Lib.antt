@@ -1,0 +1,1 @@
+-- No contract of this crate cites a definition.

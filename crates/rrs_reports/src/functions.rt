@@ -1,0 +1,134 @@
+//! The functions of an executable, by the words that belong to each.
+
+use crate::sections::push;
+use rrs_elf::{Symbol, Symbols};
+use std::alloc::{AllocError, Global};
+
+/// A function, or a label of assembly with what follows it.
+#[derive(Clone, Copy)]
+pub struct Function<'a> {
+    /// Its name.
+    pub name: &'a [u8],
+    /// The address of its first instruction.
+    pub start: u32,
+    /// The address behind its last one.
+    pub end: u32,
+    /// Whether its size is known. If not, it goes on up to the next function.
+    pub is_sized: bool,
+}
+
+/// How well a symbol names an address: the highest is taken, and of equal ones the first. 0 is for
+/// symbols that name none.
+fn rank(symbol: &Symbol, name: &[u8]) -> u8 {
+    let has_section = symbol.section > 0 && symbol.section < 0xff00;
+    let is_mapping = matches!(name, [b'$', ..] | []);
+    if !has_section || is_mapping {
+        return 0;
+    }
+    let is_local = symbol.binding() == 0;
+    match symbol.kind() {
+        2 if !is_local => 4,
+        2 => 3,
+        0 if !is_local => 2,
+        0 => 1,
+        _ => 0,
+    }
+}
+
+/// The rank of the symbol of a number, 0 where there is none.
+fn rank_of(symbols: &Symbols<'_>, index: u32) -> u8 {
+    match (symbols.symbol(index), symbols.name(index)) {
+        (Some(symbol), Some(name)) => rank(&symbol, name),
+        _ => 0,
+    }
+}
+
+/// Of each word from `base` on 1 and the number of the symbol that names its address, or 0.
+pub fn names_of(
+    alloc: Global,
+    symbols: Option<&Symbols<'_>>,
+    base: u32,
+    words: usize,
+) -> Result<Vec<u32>, AllocError> {
+    let mut names = vec![in alloc; 0u32; words]?;
+    let Some(symbols) = symbols else {
+        return Ok(names);
+    };
+    for index in 0..symbols.count() {
+        let Some(symbol) = symbols.symbol(index) else {
+            continue;
+        };
+        if symbol.value % 4 != 0 {
+            continue;
+        }
+        let place = (symbol.value.wrapping_sub(base) / 4) as usize;
+        if let Some(best) = names.get_mut(place) {
+            let other = if *best > 0 {
+                rank_of(symbols, *best - 1)
+            } else {
+                0
+            };
+            if other < rank_of(symbols, index) {
+                *best = index.wrapping_add(1);
+            }
+        }
+    }
+    Ok(names)
+}
+
+/// The functions, in the order of their addresses, and of each word 1 and the number of the function
+/// that it belongs to, or 0. A label within the range of a function begins none.
+pub fn functions_of<'a>(
+    alloc: Global,
+    symbols: Option<&Symbols<'a>>,
+    base: u32,
+    names: &[u32],
+) -> Result<(Vec<Function<'a>>, Vec<u32>), AllocError> {
+    let mut functions = Vec::new(alloc);
+    let mut owners = Vec::new(alloc);
+    let mut inside_until = base;
+    let mut address = base;
+    for name in names {
+        if let Some(symbol) = symbols.and_then(|symbols| named(symbols, *name)) {
+            if inside_until <= address || symbol.is_sized {
+                push(&mut functions, symbol)?;
+                inside_until = symbol.end;
+            }
+        }
+        push(&mut owners, owner_of(&mut functions, address))?;
+        address = address.wrapping_add(4);
+    }
+    Ok((functions, owners))
+}
+
+/// The function that the symbol of a number less 1 names. Where its size is not known, its end is its
+/// start.
+fn named<'a>(symbols: &Symbols<'a>, number: u32) -> Option<Function<'a>> {
+    if number == 0 {
+        return None;
+    }
+    let symbol = symbols.symbol(number - 1)?;
+    let name = symbols.name(number - 1)?;
+    let is_sized = symbol.kind() == 2 && symbol.size > 0;
+    let size = if is_sized { symbol.size } else { 0 };
+    Some(Function {
+        name,
+        start: symbol.value,
+        end: symbol.value.saturating_add(size),
+        is_sized,
+    })
+}
+
+/// 1 and the number of the latest function, if the word at an address belongs to it: it is within
+/// its range, or the function has none and so goes on.
+fn owner_of(functions: &mut Vec<Function<'_>>, address: u32) -> u32 {
+    let count = functions.len().min(u32::MAX as usize) as u32;
+    match functions.last_mut() {
+        Some(function) if address < function.end => count,
+        Some(function) if !function.is_sized => {
+            function.end = address.saturating_add(4);
+            count
+        }
+        _ => 0,
+    }
+}

@@ -1,0 +1,156 @@
+//! The parts of a file that have code: by its sections, or, where it has none, by its segments.
+
+use rrs_elf::Executable;
+use std::alloc::{AllocError, Global};
+
+/// The flag of a section that has code (`SHF_EXECINSTR`).
+const HAS_CODE: u32 = 4;
+/// The type of a section that has bytes in the file (`SHT_PROGBITS`).
+const HAS_BYTES: u32 = 1;
+
+/// A part of an executable that has code.
+#[derive(Clone, Copy)]
+pub struct CodePart<'a> {
+    /// The name of the section, or none of a segment.
+    pub name: &'a [u8],
+    /// The address of its first byte, a multiple of 4.
+    pub address: u32,
+    /// Its bytes.
+    pub bytes: &'a [u8],
+}
+
+impl CodePart<'_> {
+    /// How many whole words it has.
+    pub fn words(&self) -> u32 {
+        (self.bytes.len() / 4).min(1 << 30) as u32
+    }
+
+    /// The word of this number.
+    pub fn word(&self, index: u32) -> Option<u32> {
+        word_at(self.bytes, index as usize * 4)
+    }
+
+    /// The address of the word of this number.
+    pub fn address_of(&self, index: u32) -> u32 {
+        self.address.wrapping_add(index.wrapping_mul(4))
+    }
+}
+
+/// The bytes of a file from an offset on.
+fn behind(file: &[u8], offset: usize) -> &[u8] {
+    if offset <= file.len() {
+        &file[offset..]
+    } else {
+        &[]
+    }
+}
+
+/// The word at an offset, the lowest byte first.
+fn word_at(file: &[u8], offset: usize) -> Option<u32> {
+    match behind(file, offset) {
+        [a, b, c, d, ..] => Some(u32::from_le_bytes([*a, *b, *c, *d])),
+        _ => None,
+    }
+}
+
+/// The half-word at an offset, the lowest byte first.
+fn half_at(file: &[u8], offset: usize) -> Option<u32> {
+    match behind(file, offset) {
+        [a, b, ..] => Some(u32::from(*a) + 256 * u32::from(*b)),
+        _ => None,
+    }
+}
+
+/// So many bytes of a file from an offset on, as far as it has them.
+fn bytes_at(file: &[u8], offset: u32, size: u32) -> &[u8] {
+    let bytes = behind(file, offset as usize);
+    &bytes[..bytes.len().min(size as usize)]
+}
+
+/// The bytes up to the first 0.
+fn text_of(bytes: &[u8]) -> &[u8] {
+    for (index, byte) in bytes.iter().enumerate() {
+        if *byte == 0 {
+            return &bytes[..index];
+        }
+    }
+    bytes
+}
+
+/// The word at a place of a header.
+fn field(file: &[u8], header: usize, place: usize) -> Option<u32> {
+    word_at(file, header.saturating_add(place))
+}
+
+/// Where the header of a section begins.
+fn header_of(file: &[u8], index: u32) -> Option<usize> {
+    let start = word_at(file, 32)?;
+    Some(start as usize + 40 * index as usize)
+}
+
+/// The name of a section, by the section with the names.
+fn name_of(file: &[u8], header: usize) -> Option<&[u8]> {
+    let names = header_of(file, half_at(file, 50)?)?;
+    let (offset, size) = (field(file, names, 16)?, field(file, names, 20)?);
+    let name = word_at(file, header)?;
+    Some(text_of(behind(bytes_at(file, offset, size), name as usize)))
+}
+
+/// The code of a section, if it has some.
+fn section_part(file: &[u8], index: u32) -> Option<CodePart<'_>> {
+    let header = header_of(file, index)?;
+    let (kind, flags) = (field(file, header, 4)?, field(file, header, 8)?);
+    let address = field(file, header, 12)?;
+    let (offset, size) = (field(file, header, 16)?, field(file, header, 20)?);
+    if kind != HAS_BYTES || flags / HAS_CODE % 2 == 0 || address % 4 != 0 {
+        return None;
+    }
+    Some(CodePart {
+        name: name_of(file, header)?,
+        address,
+        bytes: bytes_at(file, offset, size),
+    })
+}
+
+/// The code of a segment, if it has some.
+fn segment_part<'a>(file: &'a [u8], program: &Executable<'a>, index: u16) -> Option<CodePart<'a>> {
+    let header = program.program_header(index)?;
+    if !header.is_loaded() || !header.is_executable() || header.address % 4 != 0 {
+        return None;
+    }
+    Some(CodePart {
+        name: &[],
+        address: header.address,
+        bytes: bytes_at(file, header.offset, header.file_size),
+    })
+}
+
+/// The parts of a file that have code, in the order of the file's headers.
+pub fn code_parts<'a>(
+    alloc: Global,
+    file: &'a [u8],
+    program: &Executable<'a>,
+) -> Result<Vec<CodePart<'a>>, AllocError> {
+    let mut parts = Vec::new(alloc);
+    for index in 0..half_at(file, 48).unwrap_or(0) {
+        if let Some(part) = section_part(file, index) {
+            push(&mut parts, part)?;
+        }
+    }
+    if parts.is_empty() {
+        for index in 0..program.program_header_count() {
+            if let Some(part) = segment_part(file, program, index) {
+                push(&mut parts, part)?;
+            }
+        }
+    }
+    Ok(parts)
+}
+
+/// Appends an element.
+pub fn push<T: Drop>(items: &mut Vec<T>, item: T) -> Result<(), AllocError> {
+    match items.push(item) {
+        Ok(()) => Ok(()),
+        Err(_) => Err(AllocError),
+    }
+}
