@@ -76,7 +76,7 @@ fn says(left: &Left, status: u8, line: &str) -> bool {
 const RUN_USAGE: &str = "usage: rrs-run FILE LIMIT\n";
 
 /// How `rrs` is called.
-const RRS_USAGE: &str = "usage: rrs run|exec|as|dis|elf|board|help ..\n";
+const RRS_USAGE: &str = "usage: rrs run|exec|as|dis|elf|board|gdb|help ..\n";
 
 /// How `rrs run` is called.
 const QUIET_USAGE: &str = "usage: rrs run [--quiet] FILE LIMIT\n";

@@ -41,6 +41,12 @@ impl From<Failure> for Refusal {
     }
 }
 
+impl From<ImageError> for Refusal {
+    fn from(error: ImageError) -> Refusal {
+        Refusal::Image(error)
+    }
+}
+
 /// The signal that a program gets on Linux for an exception.
 fn signal_of(fault: &InstructionException) -> u8
     ensures { result ≡ signal_of fault.now }

@@ -8,6 +8,8 @@
 
 pub mod assembly;
 pub mod boards;
+pub mod debugging;
+pub mod debugging_request;
 pub mod disassembling;
 pub mod elf_listing;
 pub mod ending;

@@ -17,6 +17,8 @@ pub enum Task {
     Disassemble,
     /// It runs firmware on a board.
     Board,
+    /// It runs a program under gdb.
+    Debug,
     /// It says what the others do.
     Help,
 }
@@ -37,7 +39,7 @@ pub struct Subcommand {
 }
 
 /// The subcommands.
-pub static SUBCOMMANDS: [Subcommand; 6] = [RUN, EXECUTE, ASSEMBLE, DISASSEMBLE, LIST, BOARD];
+pub static SUBCOMMANDS: [Subcommand; 7] = [RUN, EXECUTE, ASSEMBLE, DISASSEMBLE, LIST, BOARD, DEBUG];
 
 /// The program itself, where it is asked for help or for no subcommand.
 pub static ITSELF: Subcommand = HELP;
@@ -157,13 +159,32 @@ wfi waits and nothing can wake it.
 ",
 };
 
+/// `rrs gdb`.
+const DEBUG: Subcommand = Subcommand {
+    word: "gdb",
+    task: Task::Debug,
+    command: Command {
+        name: "rrs gdb",
+        usage: "rrs gdb [--memory BYTES] [--input FILE] [--raw] PROGRAM [ARGUMENT] ..",
+    },
+    summary: "runs a program under gdb, forward and back",
+    help: "Runs PROGRAM as rrs exec does, under gdb, which speaks by standard input and output:
+  gdb-multiarch PROGRAM -ex 'target remote | rrs gdb PROGRAM'
+The program's output goes to gdb; its input is FILE, or empty. It can go back, as by
+reverse-stepi and reverse-continue. monitor help, in gdb, lists what can be set.
+
+Status: 0; 1 where PROGRAM can't be run, and where it can't be read; 2 for other
+words.
+",
+};
+
 /// `rrs help`.
 const HELP: Subcommand = Subcommand {
     word: "help",
     task: Task::Help,
     command: Command {
         name: "rrs",
-        usage: "rrs run|exec|as|dis|elf|board|help ..",
+        usage: "rrs run|exec|as|dis|elf|board|gdb|help ..",
     },
     summary: "says this, as --help does",
     help: "A subcommand's own --help says more, such as rrs run --help. The status is 0, 1
