@@ -89,7 +89,15 @@ fn debug_raw<'a, R: Read, W: Write>(
     let mut hart = HartState::new();
     hart.registers[2] = MEMORY_END;
     let heap = Heap::new(HEAP_START, HEAP_END);
-    debug_from(alloc, state, link, &mut cached, &mut hart, heap, program.input)
+    debug_from(
+        alloc,
+        state,
+        link,
+        &mut cached,
+        &mut hart,
+        heap,
+        program.input,
+    )
 }
 
 /// The words of a program: its path, and its arguments.

@@ -76,8 +76,8 @@ pub fn names_of(
     Ok(names)
 }
 
-/// The functions, in the order of their addresses, and of each word 1 and the number of the function
-/// that it belongs to, or 0. A label within the range of a function begins none.
+/// The functions, in the order of their addresses, and of each word 1 and the number of the
+/// function that it belongs to, or 0. A label within the range of a function begins none.
 pub fn functions_of<'a>(
     alloc: Global,
     symbols: Option<&Symbols<'a>>,
@@ -101,8 +101,8 @@ pub fn functions_of<'a>(
     Ok((functions, owners))
 }
 
-/// The function that the symbol of a number less 1 names. Where its size is not known, its end is its
-/// start.
+/// The function that the symbol of a number less 1 names. Where its size is not known, its end is
+/// its start.
 fn named<'a>(symbols: &Symbols<'a>, number: u32) -> Option<Function<'a>> {
     if number == 0 {
         return None;
