@@ -54,15 +54,43 @@ fn record_of(
 /// Words, the cause of their trap or 0, rs1, rd and what it gets, and their CSR.
 const RECORDS: [(u32, u32, usize, usize, u32, Access); 9] = [
     // csrrw x5, mscratch, x6
-    (0x3403_12f3, 0, 6, 5, 5, (0x340, 0xffff_ffff, 5, 0xffff_ffff, 0x1234)),
+    (
+        0x3403_12f3,
+        0,
+        6,
+        5,
+        5,
+        (0x340, 0xffff_ffff, 5, 0xffff_ffff, 0x1234),
+    ),
     // csrrw x0, mscratch, x6
     (0x3403_1073, 0, 6, 0, 0, (0x340, 0, 0, 0xffff_ffff, 0x1234)),
     // csrrs x5, mstatus, x0
-    (0x3000_22f3, 0, 0, 5, 0x1880, (0x300, 0xffff_ffff, 0x1880, 0, 0)),
+    (
+        0x3000_22f3,
+        0,
+        0,
+        5,
+        0x1880,
+        (0x300, 0xffff_ffff, 0x1880, 0, 0),
+    ),
     // csrrsi x5, mstatus, 8
-    (0x3004_62f3, 0, 0, 5, 0x1880, (0x300, 0xffff_ffff, 0x1880, 0x88, 0x88)),
+    (
+        0x3004_62f3,
+        0,
+        0,
+        5,
+        0x1880,
+        (0x300, 0xffff_ffff, 0x1880, 0x88, 0x88),
+    ),
     // csrrc x0, mie, x6
-    (0x3043_3073, 0, 6, 0, 0, (0x304, 0xffff_ffff, 0x880, 0x888, 0x880)),
+    (
+        0x3043_3073,
+        0,
+        6,
+        0,
+        0,
+        (0x304, 0xffff_ffff, 0x880, 0x888, 0x880),
+    ),
     // csrrs x5, cycle, x6
     (0xc003_22f3, 2, 6, 0, 0, NO_CSR),
     // add x5, x6, x7
@@ -84,7 +112,12 @@ fn each_record(rt: HostRuntime) -> Result<(), Fail> {
         );
         assert_eq!(rt; (record.valid, record.intr), (true, true));
         assert_eq!(rt;
-            (retired.rs1_addr, retired.rd_addr, retired.rd_wdata, access_of(record.csr)),
+            (
+                retired.rs1_addr,
+                retired.rd_addr,
+                retired.rd_wdata,
+                access_of(record.csr)
+            ),
             (rs1, rd, value, csr)
         );
         let wanted = if cause == 0 { None } else { Some(cause) };
@@ -104,10 +137,16 @@ fn an_interrupt_is_no_instruction(rt: HostRuntime) -> Result<(), Fail> {
     };
     let (_answer, record) = record_of(rt.alloc(), 0x3403_12f3, 8, &told)?;
     let retired = record.retired;
-    assert_eq!(rt; (record.valid, record.intr, retired.trap), (false, false, false));
+    assert_eq!(rt;
+        (record.valid, record.intr, retired.trap),
+        (false, false, false)
+    );
     assert_eq!(rt; (record.cause, retired.insn), (Some(0x8000_0007), None));
     assert_eq!(rt; (retired.pc_rdata, retired.pc_wdata), (START, 0x40));
-    assert_eq!(rt; (retired.rs1_addr, retired.rd_addr, access_of(record.csr)), (0, 0, NO_CSR));
+    assert_eq!(rt;
+        (retired.rs1_addr, retired.rd_addr, access_of(record.csr)),
+        (0, 0, NO_CSR)
+    );
     Ok(())
 }
 
@@ -117,6 +156,9 @@ fn a_load_is_recorded(rt: HostRuntime) -> Result<(), Fail> {
     let (_answer, record) = record_of(rt.alloc(), 0x1000_2283, 0, &QUIET)?;
     let mem = record.retired.mem;
     assert_eq!(rt; (mem.addr, mem.rmask, mem.rdata), (START, 0xf, 0x1000_2283));
-    assert_eq!(rt; (record.retired.rd_wdata, access_of(record.csr)), (0x1000_2283, NO_CSR));
+    assert_eq!(rt;
+        (record.retired.rd_wdata, access_of(record.csr)),
+        (0x1000_2283, NO_CSR)
+    );
     Ok(())
 }

@@ -112,15 +112,39 @@ fn made(row: SystemRow, imm: i32, rs1: usize, funct3: u32, rd: usize) -> SystemI
 
 #[test]
 fn no_word_is_these(rt: HostRuntime) -> Result<(), Fail> {
-    assert_eq!(rt; encode_system(&made(SystemRow::Csrrw, 0x300, 32, 1, 0)), None);
-    assert_eq!(rt; encode_system(&made(SystemRow::Csrrw, 0x300, 0, 1, 32)), None);
-    assert_eq!(rt; encode_system(&made(SystemRow::Csrrw, 0x300, 0, 2, 0)), None);
-    assert_eq!(rt; encode_system(&made(SystemRow::Csrrw, 0x800, 0, 1, 0)), None);
-    assert_eq!(rt; encode_system(&made(SystemRow::Csrrw, -1, 0, 1, 0)), Some(0xfff0_1073));
+    assert_eq!(rt;
+        encode_system(&made(SystemRow::Csrrw, 0x300, 32, 1, 0)),
+        None
+    );
+    assert_eq!(rt;
+        encode_system(&made(SystemRow::Csrrw, 0x300, 0, 1, 32)),
+        None
+    );
+    assert_eq!(rt;
+        encode_system(&made(SystemRow::Csrrw, 0x300, 0, 2, 0)),
+        None
+    );
+    assert_eq!(rt;
+        encode_system(&made(SystemRow::Csrrw, 0x800, 0, 1, 0)),
+        None
+    );
+    assert_eq!(rt;
+        encode_system(&made(SystemRow::Csrrw, -1, 0, 1, 0)),
+        Some(0xfff0_1073)
+    );
     assert_eq!(rt; encode_system(&made(SystemRow::Mret, 0x302, 1, 0, 0)), None);
     assert_eq!(rt; encode_system(&made(SystemRow::Mret, 0x105, 0, 0, 0)), None);
-    assert_eq!(rt; encode_system(&made(SystemRow::Wfi, 0x105, 0, 0, 0)), Some(0x1050_0073));
-    assert_eq!(rt; encode_system(&made(SystemRow::FenceI, 5, 3, 1, 2)), Some(0x0051_910f));
-    assert_eq!(rt; system_text(&made(SystemRow::FenceI, 5, 3, 1, 2)).as_str(), "fence.i");
+    assert_eq!(rt;
+        encode_system(&made(SystemRow::Wfi, 0x105, 0, 0, 0)),
+        Some(0x1050_0073)
+    );
+    assert_eq!(rt;
+        encode_system(&made(SystemRow::FenceI, 5, 3, 1, 2)),
+        Some(0x0051_910f)
+    );
+    assert_eq!(rt;
+        system_text(&made(SystemRow::FenceI, 5, 3, 1, 2)).as_str(),
+        "fence.i"
+    );
     Ok(())
 }
