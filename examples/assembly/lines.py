@@ -38,6 +38,7 @@ NUMBERS = {name.encode() for name in [f"x{n}" for n in range(32)] + ABI + ["fp",
 TAKES_NUMBER = {name.encode() for name in IMMEDIATE + SHIFTS + LOADS + STORES
                 + ["lui", "auipc", "jalr", "li"]}
 TWO_PLACES = re.compile(rb"(?<![\w.$])\.(?![\w.$]).*(?<![\w.$])\.(?![\w.$])")
+OPERATOR = re.compile(rb"[*/<>|&^!~=]|%(?!lo|hi|pcrel)")
 MINUS_PLACE = re.compile(rb"[-~]\s*\.(?![\w.$])")
 
 
@@ -223,12 +224,15 @@ def each(source, count):
 
 def is_named(statement):
     """Whether docs/ASSEMBLY.md says that GNU as refuses a statement: an address that is negated or
-    added to another, an address or %lo where it takes a number alone, or `//`."""
+    added to another or has another operator than a sign, an address or %lo where it takes a number
+    alone, or `//`."""
     found = STATEMENT.match(statement)
     if b"//" in statement or not found:
         return bool(found)
     name, operands = found.groups()
     addresses = [symbol for symbol in SYMBOL.findall(operands) if symbol not in NUMBERS]
+    if addresses and OPERATOR.search(operands):
+        return True
     if name in (b"la", b"call", b"tail"):
         return bool(NEGATED.search(operands)) or len(addresses) > 1
     if name.decode() in SHIFTS and b"%" in operands:

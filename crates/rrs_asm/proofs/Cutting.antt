@@ -5,7 +5,7 @@ use Rattle.std.proofs.lemmas.List.{append_assoc, append-nil, take_more}
 use Rattle.std.proofs.Math.Seq.{drop-cons}
 use Rattle.rrs_asm.specs.declared.lexing.Place.{Place}
 use Rattle.rrs_asm.specs.declared.lexing.Mark.{Mark}
-use Rattle.rrs_asm.specs.Source.{lines, Part, Item, word, is_empty, is_constant, items_named, items_in_statement, onto, parts_from, mark_of, next, behind_blanks}
+use Rattle.rrs_asm.specs.Source.{lines, Part, Item, word, behind_word, is_empty, is_constant, items_named, items_in_statement, onto, parts_from, mark_of, next, behind_blanks}
 
 -- ---- lines
 
@@ -62,8 +62,8 @@ nothing false false items is = cc
 
 -- a constant is no item
 pub items-constant : (number : ℕ) (text : List ℕ) → is_constant text ≡ true → items_in_statement number text ≡ []
-items-constant number text is = nothing (is_empty (behind_blanks text)) (is_constant text) (items_named number (word text)) is
+items-constant number text is = nothing (is_empty (behind_blanks text)) (is_constant text) (items_named number (word text) (behind_word text)) is
 
 -- a statement that is neither blank nor a constant is one by its name
-pub items-statement : (number : ℕ) (text : List ℕ) → is_empty (behind_blanks text) ≡ false → is_constant text ≡ false → items_in_statement number text ≡ items_named number (word text)
+pub items-statement : (number : ℕ) (text : List ℕ) → is_empty (behind_blanks text) ≡ false → is_constant text ≡ false → items_in_statement number text ≡ items_named number (word text) (behind_word text)
 items-statement number text some plain = rw (some, plain) refl

@@ -1,16 +1,24 @@
 -- What is made of items, one item more, and what is read of parts and lines, one more.
-use Rattle.std.proofs.Common.{◌≡◌, ℕ, ◌+◌, ◌%◌, ◌^◌, ◌++◌, List, [], ◌∷◌, length, ◌<◌, ◌≤◌, Option, Some, None, IfSome, Result, Ok, Err, OnOk, Bor, refl, sym, subst, ap, ◌∙◌, arith}
+use Rattle.std.proofs.Common.{◌≡◌, ◌≢◌, ℕ, zero, suc, get_or, drop, add-one, Bool, true, false, ◌==◌, if◌then◌else◌, ◌+◌, ◌%◌, ◌^◌, ◌++◌, List, [], ◌∷◌, length, ◌<◌, ◌≤◌, Option, Some, None, IfSome, Result, Ok, Err, OnOk, All, Bor, refl, sym, subst, ap, ◌∙◌, arith}
+use Rattle.std.proofs.Math.ListN.{set}
 use Rattle.std.specs.Option.{option_map_or}
 use Rattle.std.proofs.lemmas.List.{append_assoc, append-nil}
+use Rattle.std.proofs.lemmas.Bool.Decides.{nat_tests}
+use Rattle.std.proofs.lemmas.List.Elements.{All-head, All-tail}
+use Rattle.std.proofs.lemmas.Slice.Eq.{bytes_eq-Decides}
+use Rattle.std.proofs.Math.Seq.{drop-cons}
+use Rattle.std.specs.Str.{bytes_eq}
 use Rattle.std.proofs.lemmas.Grind.{common_steps}
 use Rattle.rrs_asm.specs.declared.assembling.Reading.{Reading}
+use Rattle.rrs_asm.specs.declared.sections.Section.{Section}
 use Rattle.rrs_asm.specs.declared.output.Label.{Label}
 use Rattle.rrs_asm.specs.declared.output.Placed.{Placed}
 use Rattle.rrs_asm.specs.declared.statements.Statement.{Statement}
 use Rattle.rrs_asm.specs.Names.{IsNamed}
-use Rattle.rrs_asm.specs.Source.{Item, Part, lines, parts, items_in, items_of_parts, items_from}
+use Rattle.rrs_asm.specs.Source.{Item, Part, lines, parts, items_in, items_of_parts, items_from, is_laid_out}
+use Rattle.rrs_asm.specs.Sections.{names_of, index_of, open_behind, if_open, in_section, first_open, AreMadeFrom, AreMade, AreLaidOut, AllFound}
 use Rattle.rrs_asm.specs.Statements.{AreBytes, LaysOut, IsLabelAt, IsPlacedAt, IsMade, AddsPlaced}
-use Rattle.rrs_asm.specs.Forms.{IsRead, ReadsOn, left_in_line, left_in_source}
+use Rattle.rrs_asm.specs.Forms.{skipped, IsNoSection, IsNew, IsSectionRead, Grows, AreReadFrom, IsRead, ReadsOn, left_in_line, left_in_source}
 
 -- ---- one item more
 
@@ -27,6 +35,8 @@ IsMade-label base [] labels placed bytes line name l (none, nothing, empty) labe
     (l, [], label-at _ _ line name l (grind (arith, common_steps)) label, (refl, nothing, empty), rw none refl)
 IsMade-label base (Item.Label own_line own_name ∷ items) labels placed bytes line name l (first, others, at, made, all) label =
     (first, others ++ l ∷ [], at, IsMade-label base items others placed bytes line name l made label, rw all refl)
+IsMade-label base (Item.Section own_name ∷ items) labels placed bytes line name l made label =
+    IsMade-label base items labels placed bytes line name l made label
 IsMade-label base (Item.Laid own_line own_name ∷ items) labels placed bytes line name l (p, others, own, rest, at, made, all, whole) label =
     (p, others, own, rest, at, IsMade-label (base + length own) items labels others rest line name l made (label-at _ _ line name l (grind (arith, common_steps)) label), all, whole)
 
@@ -37,6 +47,8 @@ IsMade-laid base [] labels placed bytes line name p own (none, nothing, empty) a
     (p, [], own, [], placed-at _ _ line name p own (grind (arith, common_steps)) at, (none, refl, refl), rw nothing refl, rw empty (sym (append-nil own)))
 IsMade-laid base (Item.Label own_line own_name ∷ items) labels placed bytes line name p own (first, others, label, made, all) at =
     (first, others, label, IsMade-laid base items others placed bytes line name p own made at, all)
+IsMade-laid base (Item.Section own_name ∷ items) labels placed bytes line name p own made at =
+    IsMade-laid base items labels placed bytes line name p own made at
 IsMade-laid base (Item.Laid own_line own_name ∷ items) labels placed bytes line name p own (q, others, first, rest, placed_first, made, all, whole) at = (
   q,
   others ++ p ∷ [],
@@ -52,76 +64,264 @@ IsMade-laid base (Item.Laid own_line own_name ∷ items) labels placed bytes lin
 pub laid-out : (base : ℕ) (items : List Item) (labels : List Label) (placed : List Placed) (bytes : List ℕ) → IsMade base items labels placed bytes → LaysOut base placed bytes
 laid-out base [] labels placed bytes (none, nothing, empty) = rw nothing empty
 laid-out base (Item.Label line name ∷ items) labels placed bytes (first, others, label, made, all) = laid-out base items others placed bytes made
+laid-out base (Item.Section name ∷ items) labels placed bytes made = laid-out base items labels placed bytes made
 laid-out base (Item.Laid line name ∷ items) labels placed bytes (p, others, own, rest, at, made, all, whole) =
     rw all (own, rest, at.address, at.bytes, laid-out (base + length own) items labels others rest made, whole)
+
+-- ---- sections
+
+-- a label
+pub Grows-label : (line : ℕ) (name : List ℕ) (l : Label) (old new : Section)
+    → new.name ≡ old.name → new.address ≡ old.address → new.size ≡ old.size
+    → new.made.labels.items ≡ old.made.labels.items ++ l ∷ []
+    → new.made.placed.items ≡ old.made.placed.items → new.made.bytes.items ≡ old.made.bytes.items
+    → l.line ≡ line → l.name.now ≡ name → l.address ≡ (old.address + old.size) % 2 ^ 32
+    → Grows (Item.Label line name) old new
+Grows-label line name l old new named start size labels placed bytes at_line own address = record {
+  name = named;
+  reads = λ items read. record {
+    made = rw (start, labels, placed, bytes) (IsMade-label old.address items old.made.labels.items old.made.placed.items old.made.bytes.items line name l read.made
+        (record { line = at_line; name = own; address = address ∙ ap (λ n. (old.address + n) % 2 ^ 32) read.size }));
+    size = size ∙ read.size ∙ ap length (sym bytes);
+  };
+}
+
+-- a statement, of so many bytes
+pub Grows-laid : (line count : ℕ) (name : List ℕ) (statement : Statement) (old new : Section)
+    → IsNamed name statement → ((own : List ℕ) → AreBytes statement own → count ≡ length own)
+    → new.name ≡ old.name → new.address ≡ old.address
+    → AddsPlaced old.address line statement old.made.placed.items new.made.placed.items old.made.bytes.items new.made.bytes.items
+    → new.made.labels.items ≡ old.made.labels.items → new.size ≡ old.size + count
+    → Grows (Item.Laid line name) old new
+Grows-laid line count name statement old new named counts same start adds labels size = record {
+  name = same;
+  reads = λ items read.
+      let Bytes : Statement → Type 0 = λ s. AreBytes s adds.own in
+      let length_own : count ≡ length adds.own = counts adds.own adds.bytes in
+      let same_size : old.size ≡ length old.made.bytes.items = read.size in
+      let behind : new.made.bytes.items ≡ old.made.bytes.items ++ adds.own = adds.bytes_behind in
+      record {
+        made = rw (start, labels, adds.behind, behind) (IsMade-laid old.address items old.made.labels.items old.made.placed.items old.made.bytes.items line name adds.placed adds.own read.made
+            (record { line = adds.line; address = adds.address; name = subst (IsNamed name) (sym adds.statement) named; bytes = subst Bytes (sym adds.statement) adds.bytes }));
+        size = rw behind (grind (arith, common_steps));
+      };
+}
+
+-- ---- the items of a section, one more
+
+if-more : (t : Bool) (item : Item) (xs ys : List Item) → (if t then item ∷ (xs ++ ys) else (xs ++ ys)) ≡ (if t then item ∷ xs else xs) ++ ys
+if-more true item xs ys = refl
+if-more false item xs ys = refl
+
+if-open-more : (k before : ℕ) (item : Item) (xs ys : List Item) → if_open k before item (xs ++ ys) ≡ if_open k before item xs ++ ys
+if-open-more k before item xs ys = if-more (before == k) item xs ys
+
+pub in-section-more : (names : List (List ℕ)) (k before : ℕ) (items : List Item) (item : Item) → IsNoSection item
+    → in_section names k before (items ++ item ∷ []) ≡ in_section names k before items ++ if_open k (open_behind names before items) item []
+in-section-more names k before [] (Item.Label line name) plain = refl
+in-section-more names k before [] (Item.Laid line name) plain = refl
+in-section-more names k before [] (Item.Section name) plain = absurd plain
+in-section-more names k before (Item.Label line name ∷ items) item plain =
+    rw (in-section-more names k before items item plain) (if-open-more k before (Item.Label line name) (in_section names k before items) (if_open k (open_behind names before items) item []))
+in-section-more names k before (Item.Laid line name ∷ items) item plain =
+    rw (in-section-more names k before items item plain) (if-open-more k before (Item.Laid line name) (in_section names k before items) (if_open k (open_behind names before items) item []))
+in-section-more names k before (Item.Section name ∷ items) item plain = in-section-more names k (index_of name names) items item plain
+
+pub open-behind-more : (names : List (List ℕ)) (before : ℕ) (items : List Item) (item : Item) → IsNoSection item → open_behind names before (items ++ item ∷ []) ≡ open_behind names before items
+open-behind-more names before [] (Item.Label line name) plain = refl
+open-behind-more names before [] (Item.Laid line name) plain = refl
+open-behind-more names before [] (Item.Section name) plain = absurd plain
+open-behind-more names before (Item.Label line name ∷ items) item plain = open-behind-more names before items item plain
+open-behind-more names before (Item.Laid line name ∷ items) item plain = open-behind-more names before items item plain
+open-behind-more names before (Item.Section name ∷ items) item plain = open-behind-more names (index_of name names) items item plain
+
+pub found-more : (names : List (List ℕ)) (items : List Item) (item : Item) → IsNoSection item → AllFound names items → AllFound names (items ++ item ∷ [])
+found-more names [] (Item.Label line name) plain found = tt
+found-more names [] (Item.Laid line name) plain found = tt
+found-more names [] (Item.Section name) plain found = absurd plain
+found-more names (Item.Label line name ∷ items) item plain found = found-more names items item plain found
+found-more names (Item.Laid line name ∷ items) item plain found = found-more names items item plain found
+found-more names (Item.Section name ∷ items) item plain (first, found) = (first, found-more names items item plain found)
+
+-- a section is opened
+pub in-section-opened : (names : List (List ℕ)) (k before : ℕ) (items : List Item) (name : List ℕ) → in_section names k before (items ++ Item.Section name ∷ []) ≡ in_section names k before items
+in-section-opened names k before [] name = refl
+in-section-opened names k before (Item.Label line own ∷ items) name = rw (in-section-opened names k before items name) refl
+in-section-opened names k before (Item.Laid line own ∷ items) name = rw (in-section-opened names k before items name) refl
+in-section-opened names k before (Item.Section own ∷ items) name = in-section-opened names k (index_of own names) items name
+
+pub open-behind-opened : (names : List (List ℕ)) (before : ℕ) (items : List Item) (name : List ℕ) → open_behind names before (items ++ Item.Section name ∷ []) ≡ index_of name names
+open-behind-opened names before [] name = refl
+open-behind-opened names before (Item.Label line own ∷ items) name = open-behind-opened names before items name
+open-behind-opened names before (Item.Laid line own ∷ items) name = open-behind-opened names before items name
+open-behind-opened names before (Item.Section own ∷ items) name = open-behind-opened names (index_of own names) items name
+
+pub found-opened : (names : List (List ℕ)) (items : List Item) (name : List ℕ) → (is_laid_out name ≡ true → index_of name names < length names) → AllFound names items → AllFound names (items ++ Item.Section name ∷ [])
+found-opened names [] name is found = (is, found)
+found-opened names (Item.Label line own ∷ items) name is found = found-opened names items name is found
+found-opened names (Item.Laid line own ∷ items) name is found = found-opened names items name is found
+found-opened names (Item.Section own ∷ items) name is (first, found) = (first, found-opened names items name is found)
+
+-- ---- all sections
+
+-- of the same items, the same were read
+pub AreReadFrom-same : (names : List (List ℕ)) (k : ℕ) (items more : List Item) (sections : List Section)
+    → ((n : ℕ) → k ≤ n → n < k + length sections → in_section names n (first_open names) more ≡ in_section names n (first_open names) items)
+    → AreReadFrom names k items sections → AreReadFrom names k more sections
+AreReadFrom-same names k items more [] same read = tt
+AreReadFrom-same names k items more (s ∷ sections) same (first, read) =
+    let P : List Item → Type 0 = λ own. IsSectionRead own s in (
+      subst P (sym (same k (omega arith) (omega arith))) first,
+      AreReadFrom-same names (k + 1) items more sections (λ n least most. same n (omega arith) (omega arith)) read,
+    )
+
+-- one of the sections grew
+pub AreReadFrom-at : (names : List (List ℕ)) (k i : ℕ) (items more : List Item) (item : Item) (sections : List Section) (d new : Section)
+    → ((n : ℕ) → n ≢ k + i → in_section names n (first_open names) more ≡ in_section names n (first_open names) items)
+    → ((n : ℕ) → n ≡ k + i → in_section names n (first_open names) more ≡ in_section names n (first_open names) items ++ item ∷ [])
+    → i < length sections → Grows item (get_or sections i d) new
+    → AreReadFrom names k items sections → AreReadFrom names k more (set sections i new)
+AreReadFrom-at names k i items more item [] d new same own below grows read = absurd (omega arith)
+AreReadFrom-at names k zero items more item (s ∷ sections) d new same own below grows (first, read) =
+    let P : List Item → Type 0 = λ its. IsSectionRead its new in (
+      subst P (sym (own k (omega arith))) (grows.reads _ first),
+      AreReadFrom-same names (k + 1) items more sections (λ n least most. same n (λ e. absurd (omega arith))) read,
+    )
+AreReadFrom-at names k (suc i) items more item (s ∷ sections) d new same own below grows (first, read) =
+    let P : List Item → Type 0 = λ its. IsSectionRead its s in (
+      subst P (sym (same k (λ e. absurd (omega arith)))) first,
+      AreReadFrom-at names (k + 1) i items more item sections d new
+          (λ n other. same n (λ e. other (omega arith)))
+          (λ n e. own n (omega arith)) (omega arith) grows read,
+    )
+
+names-at : (i : ℕ) (sections : List Section) (d new : Section) → i < length sections → new.name ≡ (get_or sections i d).name → names_of (set sections i new) ≡ names_of sections
+names-at i [] d new below same = absurd (omega arith)
+names-at zero (s ∷ sections) d new below same = rw same refl
+names-at (suc i) (s ∷ sections) d new below same = rw (names-at i sections d new (omega arith) same) refl
+
+if-open-own : (k before : ℕ) (item : Item) → before ≡ k → if_open k before item [] ≡ item ∷ []
+if-open-own k before item e = let t : (before == k) ≡ true = grind (arith, nat_tests) in rw t refl
+
+if-open-other : (k before : ℕ) (item : Item) → before ≢ k → if_open k before item [] ≡ []
+if-open-other k before item e = let t : (before == k) ≡ false = grind (arith, nat_tests) in rw t refl
+
+-- one item more in the open section
+more-own : (names : List (List ℕ)) (k : ℕ) (items : List Item) (item : Item) → IsNoSection item → open_behind names (first_open names) items ≡ k
+    → in_section names k (first_open names) (items ++ item ∷ []) ≡ in_section names k (first_open names) items ++ item ∷ []
+more-own names k items item plain is = in-section-more names k (first_open names) items item plain
+    ∙ ap (λ tail. in_section names k (first_open names) items ++ tail) (if-open-own k (open_behind names (first_open names) items) item is)
+
+more-other : (names : List (List ℕ)) (k : ℕ) (items : List Item) (item : Item) → IsNoSection item → open_behind names (first_open names) items ≢ k
+    → in_section names k (first_open names) (items ++ item ∷ []) ≡ in_section names k (first_open names) items
+more-other names k items item plain is = in-section-more names k (first_open names) items item plain
+    ∙ ap (λ tail. in_section names k (first_open names) items ++ tail) (if-open-other k (open_behind names (first_open names) items) item is)
+    ∙ append-nil (in_section names k (first_open names) items)
+
+-- ---- a section by its name
+
+not-true : (b : Bool) → (b ≡ true → ⊥) → b ≡ false
+not-true true never = absurd (never refl)
+not-true false never = refl
+
+-- it is the next one
+pub index-hit : (name : List ℕ) (sections : List Section) (i : ℕ) (d : Section) → i < length sections → (get_or sections i d).name.now ≡ name → index_of name (names_of (drop i sections)) ≡ 0
+index-hit name sections i d below same =
+    let cut : drop i sections ≡ get_or sections i d ∷ drop (i + 1) sections = rw add-one (drop-cons sections i d below) in
+    let is : bytes_eq (get_or sections i d).name.now name ≡ true = (bytes_eq-Decides (get_or sections i d).name.now name).1 same in
+    rw (cut, is) refl
+
+-- it is not the next one
+pub index-step : (name : List ℕ) (sections : List Section) (i : ℕ) (d : Section) → i < length sections → (get_or sections i d).name.now ≢ name → index_of name (names_of (drop i sections)) ≡ index_of name (names_of (drop (i + 1) sections)) + 1
+index-step name sections i d below other =
+    let cut : drop i sections ≡ get_or sections i d ∷ drop (i + 1) sections = rw add-one (drop-cons sections i d below) in
+    let is : bytes_eq (get_or sections i d).name.now name ≡ false = not-true _ (λ e. other ((bytes_eq-Decides (get_or sections i d).name.now name).0 e)) in
+    rw (cut, is) refl
+
+pub names-length : (sections : List Section) → length (names_of sections) ≡ length sections
+names-length [] = refl
+names-length (s ∷ sections) = ap suc (names-length sections)
 
 -- ---- readings
 
 -- nothing is read
-pub ReadsOn-nothing : (base : ℕ) (r : Reading) → ReadsOn base [] r r
-ReadsOn-nothing base r items read = let P : List Item → Type 0 = λ all. IsRead base all r in subst P (sym (append-nil items)) read
+pub ReadsOn-nothing : (r : Reading) → ReadsOn [] r r
+ReadsOn-nothing r names items read = let P : List Item → Type 0 = λ all. IsRead names all r in subst P (sym (append-nil items)) read
 
 -- one reads on, and then another
-pub ReadsOn-then : (base : ℕ) (a b : List Item) (x y z : Reading) → ReadsOn base a x y → ReadsOn base b y z → ReadsOn base (a ++ b) x z
-ReadsOn-then base a b x y z first second items read =
-    let P : List Item → Type 0 = λ all. IsRead base all z in
-    subst P (append_assoc items a b) (second (items ++ a) (first items read))
+pub ReadsOn-then : (a b : List Item) (x y z : Reading) → ReadsOn a x y → ReadsOn b y z → ReadsOn (a ++ b) x z
+ReadsOn-then a b x y z first second names items read =
+    let P : List Item → Type 0 = λ all. IsRead names all z in
+    subst P (append_assoc items a b) (second names (items ++ a) (first names items read))
 
--- a label
-pub ReadsOn-label : (base line : ℕ) (name : List ℕ) (l : Label) (old new : Reading)
-    → new.size ≡ old.size → new.made.labels.items ≡ old.made.labels.items ++ l ∷ []
-    → new.made.placed.items ≡ old.made.placed.items → new.made.bytes.items ≡ old.made.bytes.items
-    → l.line ≡ line → l.name.now ≡ name → l.address ≡ (base + old.size) % 2 ^ 32
-    → ReadsOn base (Item.Label line name ∷ []) old new
-ReadsOn-label base line name l old new size labels placed bytes at_line named address items read = record {
-  made = rw (labels, placed, bytes) (IsMade-label base items old.made.labels.items old.made.placed.items old.made.bytes.items line name l read.made
-      (record { line = at_line; name = named; address = address ∙ ap (λ n. (base + n) % 2 ^ 32) read.size }));
-  size = size ∙ read.size ∙ ap length (sym bytes);
+-- the open section grew
+pub ReadsOn-at : (item : Item) (old new : Reading) (d s : Section) → IsNoSection item
+    → old.current < length old.sections.items → Grows item (get_or old.sections.items old.current d) s
+    → new.sections.items ≡ set old.sections.items old.current s → new.current ≡ old.current
+    → ReadsOn (item ∷ []) old new
+ReadsOn-at item old new d s plain below grows sections current names items read =
+    let is_open : old.current ≡ open_behind names (first_open names) items = read.current in
+    record {
+      named = ap names_of sections ∙ names-at old.current old.sections.items d s below grows.name ∙ read.named;
+      current = current ∙ is_open ∙ sym (open-behind-more names (first_open names) items item plain);
+      read = rw sections (AreReadFrom-at names 0 old.current items (items ++ item ∷ []) item old.sections.items d s
+          (λ n other. more-other names n items item plain (λ e. other (omega arith)))
+          (λ n own. more-own names n items item plain (omega arith))
+          below grows read.read);
+      found = found-more names items item plain read.found;
+    }
+
+-- no section is open
+pub ReadsOn-skipped : (item : Item) (old : Reading) → IsNoSection item → length old.sections.items ≤ old.current → ReadsOn (item ∷ []) old old
+ReadsOn-skipped item old plain above names items read = record {
+  named = read.named;
+  current = read.current ∙ sym (open-behind-more names (first_open names) items item plain);
+  read = AreReadFrom-same names 0 items (items ++ item ∷ []) old.sections.items
+      (λ n least most. more-other names n items item plain (λ e. absurd (omega (arith, read.current)))) read.read;
+  found = found-more names items item plain read.found;
 }
 
--- a statement, of so many bytes
-pub ReadsOn-laid : (base line count : ℕ) (name : List ℕ) (statement : Statement) (old new : Reading)
-    → IsNamed name statement → ((own : List ℕ) → AreBytes statement own → count ≡ length own)
-    → AddsPlaced base line statement old.made.placed.items new.made.placed.items old.made.bytes.items new.made.bytes.items
-    → new.made.labels.items ≡ old.made.labels.items → new.size ≡ old.size + count
-    → ReadsOn base (Item.Laid line name ∷ []) old new
-ReadsOn-laid base line count name statement old new named counts adds labels size items read =
-    let Bytes : Statement → Type 0 = λ s. AreBytes s adds.own in
-    let length_own : count ≡ length adds.own = counts adds.own adds.bytes in
-    let same_size : old.size ≡ length old.made.bytes.items = read.size in
-    let behind : new.made.bytes.items ≡ old.made.bytes.items ++ adds.own = adds.bytes_behind in
+-- a section is opened
+pub ReadsOn-opened : (name : List ℕ) (old new : Reading)
+    → new.sections.items ≡ old.sections.items → new.current ≡ index_of name (names_of old.sections.items)
+    → (is_laid_out name ≡ true → index_of name (names_of old.sections.items) < length (names_of old.sections.items))
+    → ReadsOn (Item.Section name ∷ []) old new
+ReadsOn-opened name old new sections current is names items read =
+    let Found : List (List ℕ) → Type 0 = λ own. is_laid_out name ≡ true → index_of name own < length own in
     record {
-      made = rw (labels, adds.behind, behind) (IsMade-laid base items old.made.labels.items old.made.placed.items old.made.bytes.items line name adds.placed adds.own read.made
-          (record { line = adds.line; address = adds.address; name = subst (IsNamed name) (sym adds.statement) named; bytes = subst Bytes (sym adds.statement) adds.bytes }));
-      size = rw behind (grind (arith, common_steps));
+      named = ap names_of sections ∙ read.named;
+      current = current ∙ ap (index_of name) read.named ∙ sym (open-behind-opened names (first_open names) items name);
+      read = rw sections (AreReadFrom-same names 0 items (items ++ Item.Section name ∷ []) old.sections.items
+          (λ n least most. in-section-opened names n (first_open names) items name) read.read);
+      found = found-opened names items name (subst Found read.named is) read.found;
     }
 
 -- ---- what is left
 
 -- a part of a line, and what is left of the line
-pub ReadsOn-part : (base number : ℕ) (text : List ℕ) (part : Part) (others : Option (Bor (List ℕ))) (x y z : Reading)
+pub ReadsOn-part : (number : ℕ) (text : List ℕ) (part : Part) (others : Option (Bor (List ℕ))) (x y z : Reading)
     → parts text ≡ part ∷ option_map_or (λ rest. parts rest.now) others []
-    → ReadsOn base (items_in number part) x y → ReadsOn base (left_in_line number others) y z
-    → ReadsOn base (items_of_parts number (parts text)) x z
-ReadsOn-part base number text part None x y z cut first second = rw cut (ReadsOn-then base (items_in number part) [] x y z first second)
-ReadsOn-part base number text part (Some rest) x y z cut first second = rw cut (ReadsOn-then base (items_in number part) _ x y z first second)
+    → ReadsOn (items_in number part) x y → ReadsOn (left_in_line number others) y z
+    → ReadsOn (items_of_parts number (parts text)) x z
+ReadsOn-part number text part None x y z cut first second = rw cut (ReadsOn-then (items_in number part) [] x y z first second)
+ReadsOn-part number text part (Some rest) x y z cut first second = rw cut (ReadsOn-then (items_in number part) _ x y z first second)
 
 -- the same of what was read of the part
-pub ReadsOn-read : (base number : ℕ) (text : List ℕ) (part : Part) (others : Option (Bor (List ℕ))) (said : List Item) (x y z : Reading)
+pub ReadsOn-read : (number : ℕ) (text : List ℕ) (part : Part) (others : Option (Bor (List ℕ))) (said : List Item) (x y z : Reading)
     → parts text ≡ part ∷ option_map_or (λ rest. parts rest.now) others [] → said ≡ items_in number part
-    → ReadsOn base said x y → ReadsOn base (left_in_line number others) y z
-    → ReadsOn base (items_of_parts number (parts text)) x z
-ReadsOn-read base number text part others said x y z cut same first second =
-    let P : List Item → Type 0 = λ items. ReadsOn base items x y in
-    ReadsOn-part base number text part others x y z cut (subst P same first) second
+    → ReadsOn said x y → ReadsOn (left_in_line number others) y z
+    → ReadsOn (items_of_parts number (parts text)) x z
+ReadsOn-read number text part others said x y z cut same first second =
+    let P : List Item → Type 0 = λ items. ReadsOn items x y in
+    ReadsOn-part number text part others x y z cut (subst P same first) second
 
 -- a line of a source, and what is left of the source
-pub ReadsOn-line : (base number : ℕ) (text line : List ℕ) (others : Option (Bor (List ℕ))) (x y z : Reading)
+pub ReadsOn-line : (number : ℕ) (text line : List ℕ) (others : Option (Bor (List ℕ))) (x y z : Reading)
     → lines text ≡ line ∷ option_map_or (λ rest. lines rest.now) others []
-    → ReadsOn base (items_of_parts number (parts line)) x y → ReadsOn base (left_in_source (number + 1) others) y z
-    → ReadsOn base (items_from number (lines text)) x z
-ReadsOn-line base number text line None x y z cut first second = rw cut (ReadsOn-then base (items_of_parts number (parts line)) [] x y z first second)
-ReadsOn-line base number text line (Some rest) x y z cut first second = rw cut (ReadsOn-then base (items_of_parts number (parts line)) _ x y z first second)
+    → ReadsOn (items_of_parts number (parts line)) x y → ReadsOn (left_in_source (number + 1) others) y z
+    → ReadsOn (items_from number (lines text)) x z
+ReadsOn-line number text line None x y z cut first second = rw cut (ReadsOn-then (items_of_parts number (parts line)) [] x y z first second)
+ReadsOn-line number text line (Some rest) x y z cut first second = rw cut (ReadsOn-then (items_of_parts number (parts line)) _ x y z first second)
 
 -- ---- what holds at Ok
 
@@ -139,9 +339,47 @@ adds-placed base number s p old new before after behind line address statement (
 
 -- ---- the loops
 
--- nothing was read yet
-pub IsRead-nothing : (base : ℕ) (r : Reading) → r.made.labels.items ≡ [] → r.made.placed.items ≡ [] → r.made.bytes.items ≡ [] → r.size ≡ 0 → IsRead base [] r
-IsRead-nothing base r labels placed bytes size = record { made = (labels, placed, bytes); size = size ∙ sym (ap length bytes) }
+-- nothing of new sections was read
+AreReadFrom-new : (names : List (List ℕ)) (k : ℕ) (sections : List Section) → All IsNew sections → AreReadFrom names k [] sections
+AreReadFrom-new names k [] all = tt
+AreReadFrom-new names k (s ∷ sections) all =
+    let new : IsNew s = All-head IsNew s sections all in (
+      record { made = (new.labels, new.placed, new.bytes); size = new.size ∙ sym (ap length new.bytes) },
+      AreReadFrom-new names (k + 1) sections (All-tail IsNew s sections all),
+    )
+
+pub IsRead-nothing : (r : Reading) → All IsNew r.sections.items → r.current ≡ first_open (names_of r.sections.items) → IsRead (names_of r.sections.items) [] r
+IsRead-nothing r all current = record { named = refl; current = current; read = AreReadFrom-new _ 0 r.sections.items all; found = tt }
+
+-- what is made of each section
+AreMadeFrom-read : (names : List (List ℕ)) (k : ℕ) (items : List Item) (sections : List Section) → AreReadFrom names k items sections → AreMadeFrom names k items sections
+AreMadeFrom-read names k items [] read = tt
+AreMadeFrom-read names k items (s ∷ sections) (first, read) = (first.made, AreMadeFrom-read names (k + 1) items sections read)
+
+pub are-made : (names : List (List ℕ)) (items : List Item) (r : Reading) → IsRead names items r → AreMade items r.sections.items
+are-made names items r read =
+    let P : List (List ℕ) → Type 0 = λ own. AreMadeFrom own 0 items r.sections.items in
+    subst P (sym read.named) (AreMadeFrom-read names 0 items r.sections.items read.read)
+
+pub all-found : (names : List (List ℕ)) (items : List Item) (r : Reading) → IsRead names items r → AllFound (names_of r.sections.items) items
+all-found names items r read =
+    let P : List (List ℕ) → Type 0 = λ own. AllFound own items in
+    subst P (sym read.named) read.found
+
+are-laid-out-from : (names : List (List ℕ)) (k : ℕ) (items : List Item) (sections : List Section) → AreReadFrom names k items sections → AreLaidOut sections
+are-laid-out-from names k items [] read = tt
+are-laid-out-from names k items (s ∷ sections) (first, read) = (
+  laid-out s.address (in_section names k (first_open names) items) _ _ _ first.made,
+  are-laid-out-from names (k + 1) items sections read,
+)
+
+pub are-laid-out : (names : List (List ℕ)) (items : List Item) (r : Reading) → IsRead names items r → AreLaidOut r.sections.items
+are-laid-out names items r read = are-laid-out-from names 0 items r.sections.items read.read
+
+-- a label or a statement opens no section
+pub skipped-plain : (line : ℕ) (name : List ℕ) (is_label : Bool) → IsNoSection (skipped line name is_label)
+skipped-plain line name true = tt
+skipped-plain line name false = tt
 
 -- one line more was counted
 pub counted : (others : Option (Bor (List ℕ))) (number limit : ℕ) (text : List ℕ) → IfSome others (λ rest. length rest.now < length text) → number + length text ≤ limit → option_map_or (λ rest. number + 1 + length rest.now) others 0 ≤ limit

@@ -1,6 +1,6 @@
 -- The names of the tables by which the assembler reads operands, and what was read of a part. No
 -- public contract cites these.
-use Rattle.std.specs.Prelude.{◌≡◌, ℕ, Bool, true, false, not, ◌&&◌, List, [], ◌∷◌, ◌++◌, length, codes, Option, Some, None}
+use Rattle.std.specs.Prelude.{◌≡◌, ℕ, ◌+◌, Bool, true, false, not, ◌&&◌, if◌then◌else◌, List, [], ◌∷◌, ◌++◌, length, codes, Option, Some, None}
 use Rattle.std.specs.Borrow.{Bor}
 use Rattle.std.specs.Str.{bytes_eq}
 use Rattle.rrs_asm.specs.declared.lexing.Part.{Part as Cut}
@@ -8,10 +8,12 @@ use Rattle.rrs_asm.specs.declared.names.PseudoForm.{PseudoForm}
 use Rattle.rrs_asm.specs.declared.names.PlacedForm.{PlacedForm}
 use Rattle.rrs_asm.specs.declared.names.DirectiveForm.{DirectiveForm}
 use Rattle.rrs_asm.specs.declared.directives.Read.{Read}
+use Rattle.rrs_asm.specs.declared.sections.Section.{Section}
 use Rattle.rrs_asm.specs.declared.assembling.Reading.{Reading}
 use Rattle.rrs_asm.specs.Source.{Part, Item, lines, parts, items_of_parts, items_from}
-use Rattle.rrs_asm.specs.Names.{unary_name, zero_branch_name, swapped_name, is_one_of, data_names, fill_names, is_silent_name, IsNamed}
+use Rattle.rrs_asm.specs.Names.{unary_name, zero_branch_name, swapped_name, comparison_name, is_one_of, data_names, fill_names, is_silent_name, is_section_name, IsNamed}
 use Rattle.rrs_asm.specs.Statements.{IsMade}
+use Rattle.rrs_asm.specs.Sections.{names_of, open_behind, in_section, first_open, AllFound}
 
 -- a part, as it was cut
 abbrev pub shown : Cut → Part
@@ -25,6 +27,9 @@ form_name PseudoForm.Nop = codes "nop"
 form_name PseudoForm.Ret = codes "ret"
 form_name PseudoForm.Li = codes "li"
 form_name PseudoForm.La = codes "la"
+form_name PseudoForm.Lla = codes "lla"
+form_name (PseudoForm.Compared name) = comparison_name name
+form_name PseudoForm.Jump = codes "jump"
 form_name (PseudoForm.OfOne name) = unary_name name
 form_name (PseudoForm.AgainstZero name) = zero_branch_name name
 form_name (PseudoForm.Swapped name) = swapped_name name
@@ -41,42 +46,92 @@ fits_placed name PlacedForm.Space = is_one_of fill_names name
 fits_placed name PlacedForm.Origin = is_one_of fill_names name
 fits_placed name _ = is_one_of data_names name
 
+abbrev pub lays_out : List ℕ → Bool
+lays_out name = not (is_silent_name name) && not (is_section_name name)
+
+abbrev pub opens : List ℕ → Bool
+opens name = not (is_silent_name name) && is_section_name name
+
 abbrev pub fits_directive : List ℕ → DirectiveForm → Bool
-fits_directive name (DirectiveForm.Place form) = not (is_silent_name name) && fits_placed name form
-fits_directive name DirectiveForm.Section = true
+fits_directive name (DirectiveForm.Place form) = lays_out name && fits_placed name form
+fits_directive name DirectiveForm.Refused = lays_out name
+fits_directive name DirectiveForm.Section = opens name
 fits_directive name _ = is_silent_name name
 
 -- the same of a form as facts
 abbrev pub IsForm : List ℕ → DirectiveForm → Type 0
 IsForm name (DirectiveForm.Place form) =
-    (is_silent_name name ≡ false) × (fits_placed name form ≡ true)
-IsForm name DirectiveForm.Section = Unit {0}
+    (is_silent_name name ≡ false) × (is_section_name name ≡ false) × (fits_placed name form ≡ true)
+IsForm name DirectiveForm.Refused =
+    (is_silent_name name ≡ false) × (is_section_name name ≡ false)
+IsForm name DirectiveForm.Section =
+    (is_silent_name name ≡ false) × (is_section_name name ≡ true)
 IsForm name _ = is_silent_name name ≡ true
 
 -- ---- what was read of a part
 
+-- a label or a statement that is not laid out
+abbrev pub skipped : ℕ → List ℕ → Bool → Item
+skipped line name is_label = if is_label then Item.Label line name else Item.Laid line name
+
 abbrev pub items_of_read : ℕ → Read → List Item
 items_of_read line (Read.Label name) = Item.Label line name.now ∷ []
-items_of_read line (Read.Laid name statement) = Item.Laid line name.now ∷ []
+items_of_read line (Read.Laid name statement notes) = Item.Laid line name.now ∷ []
+items_of_read line (Read.Section name kind) = Item.Section name.now ∷ []
+items_of_read line (Read.Skipped name is_label) = skipped line name.now is_label ∷ []
 items_of_read line _ = []
 
 -- a statement is one of its name
 abbrev pub HasItsName : Read → Type 0
-HasItsName (Read.Laid name statement) = IsNamed name.now statement
+HasItsName (Read.Laid name statement notes) = IsNamed name.now statement
 HasItsName _ = Unit {0}
+
+abbrev pub IsNoSection : Item → Type 0
+IsNoSection (Item.Section name) = ⊥
+IsNoSection _ = Unit {0}
+
+-- ---- sections
+
+-- nothing is made of a section yet
+pub record IsNew (section : Section) : Type 0 where
+  pub labels : section.made.labels.items ≡ []
+  pub placed : section.made.placed.items ≡ []
+  pub bytes : section.made.bytes.items ≡ []
+  pub size : section.size ≡ 0
+
+-- these items were read in a section
+pub record IsSectionRead (items : List Item) (section : Section) : Type 0 where
+  pub made :
+      IsMade section.address items section.made.labels.items section.made.placed.items section.made.bytes.items
+  pub size : section.size ≡ length section.made.bytes.items
+
+-- one item more was read in a section
+pub record Grows (item : Item) (old new : Section) : Type 0 where
+  pub name : new.name ≡ old.name
+  pub reads :
+      (items : List Item) → IsSectionRead items old → IsSectionRead (items ++ item ∷ []) new
+
+-- of these items, those in each section were read in it, from the one with this number on
+abbrev pub AreReadFrom : List (List ℕ) → ℕ → List Item → List Section → Type 0
+AreReadFrom names number items [] = Unit {0}
+AreReadFrom names number items (s ∷ others) =
+    IsSectionRead (in_section names number (first_open names) items) s
+    × AreReadFrom names (number + 1) items others
 
 -- ---- readings
 
 -- these items were read
-pub record IsRead (base : ℕ) (items : List Item) (reading : Reading) : Type 0 where
-  pub made :
-      IsMade base items reading.made.labels.items reading.made.placed.items reading.made.bytes.items
-  pub size : reading.size ≡ length reading.made.bytes.items
+pub record IsRead (names : List (List ℕ)) (items : List Item) (reading : Reading) : Type 0 where
+  pub named : names_of reading.sections.items ≡ names
+  pub current : reading.current ≡ open_behind names (first_open names) items
+  pub read : AreReadFrom names 0 items reading.sections.items
+  pub found : AllFound names items
 
 -- these were read behind all those before
-abbrev pub ReadsOn : ℕ → List Item → Reading → Reading → Type 0
-ReadsOn base more old new =
-    (items : List Item) → IsRead base items old → IsRead base (items ++ more) new
+abbrev pub ReadsOn : List Item → Reading → Reading → Type 0
+ReadsOn more old new =
+    (names : List (List ℕ)) (items : List Item) → IsRead names items old
+    → IsRead names (items ++ more) new
 
 -- the items of what is left of a line, and of what is left of a source
 abbrev pub left_in_line : ℕ → Option (Bor (List ℕ)) → List Item

@@ -3,4 +3,5 @@ pub mod Source
 pub mod Names
 pub mod Pseudo
 pub mod Statements
+pub mod Sections
 pub mod Forms

@@ -9,6 +9,9 @@ use Rattle.rrs_instruction.specs.Instructions.{row_of}
 use Rattle.rrs_asm.specs.declared.pseudo.Unary.{Unary}
 use Rattle.rrs_asm.specs.declared.pseudo.ZeroBranch.{ZeroBranch}
 use Rattle.rrs_asm.specs.declared.pseudo.SwappedBranch.{SwappedBranch}
+use Rattle.rrs_asm.specs.declared.pseudo.SwappedComparison.{SwappedComparison}
+use Rattle.rrs_asm.specs.declared.pseudo.Load.{Load}
+use Rattle.rrs_asm.specs.declared.pseudo.Store.{Store}
 use Rattle.rrs_asm.specs.declared.pseudo.Pseudo.{Pseudo}
 use Rattle.rrs_asm.specs.declared.statements.Statement.{Statement}
 
@@ -22,6 +25,7 @@ unary_name Unary.Seqz = codes "seqz"
 unary_name Unary.Snez = codes "snez"
 unary_name Unary.Sltz = codes "sltz"
 unary_name Unary.Sgtz = codes "sgtz"
+unary_name Unary.ZextB = codes "zext.b"
 
 abbrev pub zero_branch_name : ZeroBranch → List ℕ
 zero_branch_name ZeroBranch.Beqz = codes "beqz"
@@ -37,12 +41,33 @@ swapped_name SwappedBranch.Ble = codes "ble"
 swapped_name SwappedBranch.Bgtu = codes "bgtu"
 swapped_name SwappedBranch.Bleu = codes "bleu"
 
+abbrev pub comparison_name : SwappedComparison → List ℕ
+comparison_name SwappedComparison.Sgt = codes "sgt"
+comparison_name SwappedComparison.Sgtu = codes "sgtu"
+
+abbrev pub load_name : Load → List ℕ
+load_name Load.Lb = codes "lb"
+load_name Load.Lbu = codes "lbu"
+load_name Load.Lh = codes "lh"
+load_name Load.Lhu = codes "lhu"
+load_name Load.Lw = codes "lw"
+
+abbrev pub store_name : Store → List ℕ
+store_name Store.Sb = codes "sb"
+store_name Store.Sh = codes "sh"
+store_name Store.Sw = codes "sw"
+
 abbrev pub pseudo_name : Pseudo → List ℕ
 pseudo_name Pseudo.Nop = codes "nop"
 pseudo_name Pseudo.Ret = codes "ret"
 pseudo_name Pseudo.Fence = codes "fence"
 pseudo_name (Pseudo.Li rd value) = codes "li"
 pseudo_name (Pseudo.La rd offset) = codes "la"
+pseudo_name (Pseudo.Lla rd offset) = codes "lla"
+pseudo_name (Pseudo.From name rd offset) = load_name name
+pseudo_name (Pseudo.At name rs rt offset) = store_name name
+pseudo_name (Pseudo.Compared name rd rs rt) = comparison_name name
+pseudo_name (Pseudo.Jump rt offset) = codes "jump"
 pseudo_name (Pseudo.OfOne name rd rs) = unary_name name
 pseudo_name (Pseudo.AgainstZero name rs offset) = zero_branch_name name
 pseudo_name (Pseudo.Swapped name rs rt offset) = swapped_name name
@@ -61,19 +86,34 @@ is_one_of names name = list_any (bytes_eq name) names
 -- the directives that lay data out
 abbrev pub data_names : List (List ℕ)
 data_names =
-    codes ".word" ∷ codes ".long" ∷ codes ".4byte"
-    ∷ codes ".half" ∷ codes ".short" ∷ codes ".2byte" ∷ codes ".byte"
-    ∷ codes ".ascii" ∷ codes ".asciz" ∷ codes ".string"
+    codes ".word" ∷ codes ".long" ∷ codes ".4byte" ∷ codes ".int"
+    ∷ codes ".half" ∷ codes ".short" ∷ codes ".2byte" ∷ codes ".hword" ∷ codes ".byte"
+    ∷ codes ".dword" ∷ codes ".quad" ∷ codes ".8byte"
+    ∷ codes ".ascii" ∷ codes ".asciz" ∷ codes ".string" ∷ codes ".fill"
     ∷ codes ".align" ∷ codes ".p2align" ∷ codes ".balign" ∷ []
 
 -- the directives that lay out so many of a byte
 abbrev pub fill_names : List (List ℕ)
 fill_names = codes ".space" ∷ codes ".zero" ∷ codes ".skip" ∷ codes ".org" ∷ []
 
--- the directives that lay nothing out
+-- the directives that say something of symbols, of the file, of options, or of debugging
 abbrev pub silent_names : List (List ℕ)
 silent_names =
-    codes ".equ" ∷ codes ".set" ∷ codes ".globl" ∷ codes ".global" ∷ codes ".text" ∷ []
+    codes ".equ" ∷ codes ".set" ∷ codes ".globl" ∷ codes ".global" ∷ codes ".local"
+    ∷ codes ".weak" ∷ codes ".hidden" ∷ codes ".internal" ∷ codes ".protected" ∷ codes ".extern"
+    ∷ codes ".type" ∷ codes ".size" ∷ codes ".file" ∷ codes ".ident" ∷ codes ".option"
+    ∷ codes ".attribute" ∷ codes ".loc" ∷ codes ".cfi_startproc" ∷ codes ".cfi_endproc"
+    ∷ codes ".cfi_sections" ∷ codes ".cfi_def_cfa" ∷ codes ".cfi_def_cfa_offset"
+    ∷ codes ".cfi_def_cfa_register" ∷ codes ".cfi_adjust_cfa_offset" ∷ codes ".cfi_offset"
+    ∷ codes ".cfi_rel_offset" ∷ codes ".cfi_register" ∷ codes ".cfi_restore"
+    ∷ codes ".cfi_undefined" ∷ codes ".cfi_same_value" ∷ codes ".cfi_remember_state"
+    ∷ codes ".cfi_restore_state" ∷ codes ".cfi_return_column" ∷ codes ".cfi_signal_frame"
+    ∷ codes ".cfi_personality" ∷ codes ".cfi_lsda" ∷ codes ".cfi_escape" ∷ []
+
+-- the directives that open a section
+abbrev pub section_names : List (List ℕ)
+section_names =
+    codes ".text" ∷ codes ".data" ∷ codes ".bss" ∷ codes ".rodata" ∷ codes ".section" ∷ []
 
 abbrev pub begins_with_dot : List ℕ → Bool
 begins_with_dot [] = false
@@ -81,6 +121,9 @@ begins_with_dot (b ∷ bs) = b == 46
 
 abbrev pub is_silent_name : List ℕ → Bool
 is_silent_name name = begins_with_dot name && is_one_of silent_names name
+
+abbrev pub is_section_name : List ℕ → Bool
+is_section_name name = begins_with_dot name && is_one_of section_names name
 
 -- ---- statements
 
@@ -90,3 +133,4 @@ IsNamed name (Statement.Instruction i) = (table (row_of i)).name ≡ name
 IsNamed name (Statement.Pseudo pseudo) = pseudo_name pseudo ≡ name
 IsNamed name (Statement.Data own) = is_one_of data_names name ≡ true
 IsNamed name (Statement.Fill count byte) = is_one_of fill_names name ≡ true
+IsNamed name Statement.Unimp = codes "unimp" ≡ name

@@ -8,6 +8,9 @@ use Rattle.rrs_instruction.specs.Words.{signed, word, floor_mod}
 use Rattle.rrs_asm.specs.declared.pseudo.Unary.{Unary}
 use Rattle.rrs_asm.specs.declared.pseudo.ZeroBranch.{ZeroBranch}
 use Rattle.rrs_asm.specs.declared.pseudo.SwappedBranch.{SwappedBranch}
+use Rattle.rrs_asm.specs.declared.pseudo.SwappedComparison.{SwappedComparison}
+use Rattle.rrs_asm.specs.declared.pseudo.Load.{Load}
+use Rattle.rrs_asm.specs.declared.pseudo.Store.{Store}
 use Rattle.rrs_asm.specs.declared.pseudo.Pseudo.{Pseudo}
 use Rattle.rrs_asm.specs.declared.pseudo.Expansion.{Expansion}
 
@@ -65,6 +68,8 @@ of_one Unary.Sltz rd rs =
     Instruction.Slt (record { funct7 = 0; rs2 = 0; rs1 = rs; funct3 = 2; rd = rd })
 of_one Unary.Sgtz rd rs =
     Instruction.Slt (record { funct7 = 0; rs2 = rs; rs1 = 0; funct3 = 2; rd = rd })
+of_one Unary.ZextB rd rs =
+    Instruction.Andi (record { imm = pos 0xff; rs1 = rs; funct3 = 7; rd = rd })
 
 abbrev pub against_zero : ZeroBranch → ℕ → ℤ → Instruction
 against_zero ZeroBranch.Beqz rs offset =
@@ -90,6 +95,26 @@ swapped SwappedBranch.Bgtu rs rt offset =
 swapped SwappedBranch.Bleu rs rt offset =
     Instruction.Bgeu (record { imm = offset; rs2 = rs; rs1 = rt; funct3 = 7 })
 
+abbrev pub compared : SwappedComparison → ℕ → ℕ → ℕ → Instruction
+compared SwappedComparison.Sgt rd rs rt =
+    Instruction.Slt (record { funct7 = 0; rs2 = rs; rs1 = rt; funct3 = 2; rd = rd })
+compared SwappedComparison.Sgtu rd rs rt =
+    Instruction.Sltu (record { funct7 = 0; rs2 = rs; rs1 = rt; funct3 = 3; rd = rd })
+
+-- a load into `rd` from `imm(rs)`
+abbrev pub load : Load → ℕ → ℕ → ℤ → Instruction
+load Load.Lb rd rs imm = Instruction.Lb (record { imm = imm; rs1 = rs; funct3 = 0; rd = rd })
+load Load.Lbu rd rs imm = Instruction.Lbu (record { imm = imm; rs1 = rs; funct3 = 4; rd = rd })
+load Load.Lh rd rs imm = Instruction.Lh (record { imm = imm; rs1 = rs; funct3 = 1; rd = rd })
+load Load.Lhu rd rs imm = Instruction.Lhu (record { imm = imm; rs1 = rs; funct3 = 5; rd = rd })
+load Load.Lw rd rs imm = Instruction.Lw (record { imm = imm; rs1 = rs; funct3 = 2; rd = rd })
+
+-- a store of `rs` at `imm(rt)`
+abbrev pub store : Store → ℕ → ℕ → ℤ → Instruction
+store Store.Sb rs rt imm = Instruction.Sb (record { imm = imm; rs2 = rs; rs1 = rt; funct3 = 0 })
+store Store.Sh rs rt imm = Instruction.Sh (record { imm = imm; rs2 = rs; rs1 = rt; funct3 = 1 })
+store Store.Sw rs rt imm = Instruction.Sw (record { imm = imm; rs2 = rs; rs1 = rt; funct3 = 2 })
+
 -- `addi` where the value is an immediate of 12 bits, and else `lui`, and `addi` if something is
 -- left
 abbrev pub load_immediate : ℕ → ℕ → List Instruction
@@ -105,6 +130,13 @@ expanded Pseudo.Ret = jalr 0 (pos 0) 1 ∷ []
 expanded Pseudo.Fence = fence_all ∷ []
 expanded (Pseudo.Li rd value) = load_immediate rd value
 expanded (Pseudo.La rd offset) = auipc rd (upper offset) ∷ addi rd rd (lower offset) ∷ []
+expanded (Pseudo.Lla rd offset) = auipc rd (upper offset) ∷ addi rd rd (lower offset) ∷ []
+expanded (Pseudo.From name rd offset) =
+    auipc rd (upper offset) ∷ load name rd rd (lower offset) ∷ []
+expanded (Pseudo.At name rs rt offset) =
+    auipc rt (upper offset) ∷ store name rs rt (lower offset) ∷ []
+expanded (Pseudo.Compared name rd rs rt) = compared name rd rs rt ∷ []
+expanded (Pseudo.Jump rt offset) = auipc rt (upper offset) ∷ jalr 0 (lower offset) rt ∷ []
 expanded (Pseudo.OfOne name rd rs) = of_one name rd rs ∷ []
 expanded (Pseudo.AgainstZero name rs offset) = against_zero name rs offset ∷ []
 expanded (Pseudo.Swapped name rs rt offset) = swapped name rs rt offset ∷ []

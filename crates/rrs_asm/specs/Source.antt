@@ -1,11 +1,12 @@
 -- A source of assembly, down to its statements: the lines, the parts of a line, and the items that
 -- stand there, each with its line and its name (GNU assembler manual, "Syntax": whitespace,
 -- comments, statements and labels). What the operands of a statement mean is not said here.
-use Rattle.std.specs.Prelude.{ℕ, ◌+◌, Bool, false, ◌&&◌, ◌||◌, ◌==◌, nat_lt, if◌then◌else◌, List, [], ◌∷◌, ◌++◌, length}
-use Rattle.std.specs.List.{slice_split}
+use Rattle.std.specs.Prelude.{ℕ, ◌+◌, Bool, true, false, not, ◌&&◌, ◌||◌, ◌==◌, nat_lt, if◌then◌else◌, List, [], ◌∷◌, ◌++◌, length, codes}
+use Rattle.std.specs.List.{slice_split, starts_with}
+use Rattle.std.specs.Str.{bytes_eq}
 use Rattle.rrs_asm.specs.declared.lexing.Place.{Place}
 use Rattle.rrs_asm.specs.declared.lexing.Mark.{Mark}
-use Rattle.rrs_asm.specs.Names.{is_silent_name}
+use Rattle.rrs_asm.specs.Names.{is_silent_name, is_section_name}
 
 -- the lines, cut at each line feed
 abbrev pub lines : List ℕ → List (List ℕ)
@@ -107,10 +108,12 @@ behind_word text = behind_first_word (behind_blanks text)
 
 -- ---- items
 
--- What stands in a line, by its name: a label, or a statement that is laid out as bytes.
+-- What stands in a line: a label and a statement that is laid out as bytes, each by its name, and a
+-- directive that opens a section, by the name of the section.
 pub data Item : Type 0 where
   Label : (line : ℕ) (name : List ℕ) → Item
   Laid : (line : ℕ) (name : List ℕ) → Item
+  Section : (name : List ℕ) → Item
 
 abbrev pub is_empty : List ℕ → Bool
 is_empty text = length text == 0
@@ -119,15 +122,22 @@ is_empty text = length text == 0
 abbrev pub is_constant : List ℕ → Bool
 is_constant text = begins_with 61 (behind_blanks (behind_word text))
 
+-- the section that a directive of this name opens: that of its name, or one that it names
+abbrev pub section_opened : List ℕ → List ℕ → List ℕ
+section_opened name operands = if bytes_eq name (codes ".section") then word operands else name
+
 -- a statement of this name: nothing, where its name is that of a directive that lays no bytes
-abbrev pub items_named : ℕ → List ℕ → List Item
-items_named line name = if is_silent_name name then [] else Item.Laid line name ∷ []
+abbrev pub items_named : ℕ → List ℕ → List ℕ → List Item
+items_named line name operands =
+    if is_silent_name name then []
+    else (if is_section_name name then Item.Section (section_opened name operands) ∷ []
+    else Item.Laid line name ∷ [])
 
 -- a statement with this text: nothing, where it is blank or a constant
 abbrev pub items_in_statement : ℕ → List ℕ → List Item
 items_in_statement line text =
     if is_empty (behind_blanks text) then []
-    else (if is_constant text then [] else items_named line (word text))
+    else (if is_constant text then [] else items_named line (word text) (behind_word text))
 
 abbrev pub items_in : ℕ → Part → List Item
 items_in line (Part.Label text) = Item.Label line (word text) ∷ []
@@ -146,3 +156,16 @@ items_from number (line ∷ others) =
 -- the items of a source, in order: its lines are counted from 1
 abbrev pub items_of : List ℕ → List Item
 items_of source = items_from 1 (lines source)
+
+-- ---- sections
+
+abbrev pub begins_as : List ℕ → List ℕ → Bool
+begins_as name first = starts_with (λ a b. a == b) name first
+
+-- A section with debugging data or notes is not laid out.
+abbrev pub is_laid_out : List ℕ → Bool
+is_laid_out name =
+    not (begins_as name (codes ".debug")) && (not (begins_as name (codes ".note"))
+    && (not (begins_as name (codes ".comment")) && (not (begins_as name (codes ".eh_frame"))
+    && (not (begins_as name (codes ".gnu")) && (not (begins_as name (codes ".riscv"))
+    && not (begins_as name (codes ".stab")))))))

@@ -23,6 +23,7 @@ AreBytes (Statement.Instruction i) bytes = AreWords (i ∷ []) bytes
 AreBytes (Statement.Pseudo pseudo) bytes = AreWords (expanded pseudo) bytes
 AreBytes (Statement.Data own) bytes = bytes ≡ own.items
 AreBytes (Statement.Fill count byte) bytes = bytes ≡ replicate count byte
+AreBytes Statement.Unimp bytes = bytes ≡ to_le_bytes w32 0xc0001073
 
 -- The statements stand one after another from an address on: the address of each is that of the
 -- one before and its size. These are their bytes.
@@ -58,6 +59,8 @@ IsMade address (Item.Laid line name ∷ items) labels placed bytes =
     (p : Placed) × (others : List Placed) × (own : List ℕ) × (rest : List ℕ)
     × IsPlacedAt address line name p own × IsMade (address + length own) items labels others rest
     × (placed ≡ p ∷ others) × (bytes ≡ own ++ rest)
+IsMade address (Item.Section name ∷ items) labels placed bytes =
+    IsMade address items labels placed bytes
 
 -- one statement of a line more stands behind those from `base` on
 pub record AddsPlaced (base number : ℕ) (own_statement : Statement) (old new : List Placed)

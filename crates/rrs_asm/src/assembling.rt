@@ -1,28 +1,35 @@
 //! The two readings of a source.
 
-ghost use Rattle.std.specs.Prelude.{◌≡◌, ◌+◌, ◌%◌, ◌^◌, ℕ, List, [], ◌∷◌, IfOk, OnOk, false};
+ghost use Rattle.std.specs.Prelude.{◌≡◌, ◌<◌, ℕ, List, [], ◌∷◌, All, IfOk, OnOk, true, false, length, codes};
 ghost use Rattle.rrs_asm.specs.declared.symbols.Pass.{Pass};
-ghost use Rattle.rrs_asm.specs.Statements.{LaysOut, IsMade};
 ghost use Rattle.rrs_asm.specs.Names.{IsNamed};
-ghost use Rattle.rrs_asm.specs.Source.{Part, Item, word, items_of, items_in, items_named, items_in_statement, items_of_parts, parts};
-ghost use Rattle.rrs_asm.specs.Forms.{shown, items_of_read, HasItsName, ReadsOn};
+ghost use Rattle.rrs_asm.specs.Source.{Part, Item, word, is_laid_out, items_of, items_in, items_named, items_in_statement, items_of_parts, parts};
+ghost use Rattle.rrs_asm.specs.Sections.{names_of, index_of, first_open, AreMade, AreLaidOut, AllFound};
+ghost use Rattle.rrs_asm.specs.Forms.{shown, items_of_read, HasItsName, IsNoSection, IsNew, IsRead, ReadsOn};
 
 use crate::directives::{Read, read_directive};
 use crate::errors::{Halt, LineError, SourceError, SourceErrorKind, SourceFault};
 use crate::instructions::read_instruction;
 use crate::lexing::{Part, begins_with, behind_blanks, first_line, first_part, split_word};
-use crate::output::{Assembled, Label, MOST_BYTES};
-use crate::reading::Line;
+use crate::output::MOST_BYTES;
+use crate::program::Program;
+use crate::reading::{Line, Notes, Site};
 use crate::registers::register_number;
+use crate::sections::{Layout, Section, SectionKind, first_sections, is_laid_out, laid_out};
 use crate::statements::Statement;
-use crate::symbols::{Known, Symbols};
+use crate::symbols::{Known, Pass, Symbols};
 use std::alloc::Global;
 
-/// Assembles a source, whose first byte stands at the address `base`.
+/// The most sections of a source.
+const MOST_SECTIONS: usize = 256;
+
+/// Assembles a source, whose sections lie as the layout says.
 ///
-/// What is made is made of the items of the source, in their order (`items`): of each label and of
-/// each statement that lays bytes out, with its line, its name and its address (`items_of` and
-/// `IsMade`). The statements stand one behind the other (`laid_out`).
+/// A source is a list of items: directives that open a section, labels, and statements that lay
+/// bytes out (`items_of`). What is made of each section is made of the items in it, in their order:
+/// of each label and of each statement, with its line, its name and its address, from the address
+/// of the section on (`items`). The statements stand one behind the other (`laid_out`). Each section that is opened is there, but for those with debugging
+/// data and notes (`all_found`).
 ///
 /// # Errors
 ///
@@ -30,18 +37,26 @@ use std::alloc::Global;
 pub fn assemble_source(
     alloc: Global,
     source: &[u8],
-    base: u32,
-) -> Result<Assembled<'_>, SourceFault>
-    ensures items { IfOk result (λ made. IsMade base (items_of source.now)
-        made.labels.items made.placed.items made.bytes.items) }
-    ensures laid_out { IfOk result (λ made. LaysOut base made.placed.items made.bytes.items) }
+    layout: Layout,
+) -> Result<Program<'_>, SourceFault>
+    ensures items { IfOk result (λ program. AreMade (items_of source.now) program.sections.items) }
+    ensures laid_out { IfOk result (λ program. AreLaidOut program.sections.items) }
+    ensures all_found { IfOk result (λ program. AllFound (names_of program.sections.items)
+        (Item.Section (codes ".text") ∷ items_of source.now)) }
 {
     let mut symbols = Symbols::new(alloc);
-    let (first, _) = read_source(alloc, source, base, &mut symbols)?;
-    symbols.begin_again();
-    let (reading, mut errors) = read_source(alloc, source, base, &mut symbols)?;
-    if errors.is_empty() && reading.size == first.size {
-        return Ok(reading.made);
+    let sections = first_sections(alloc, layout)?;
+    let (first, _) = read_source(alloc, source, &mut symbols, sections)?;
+    symbols.begin(Pass::Second);
+    let sections = placed_again(alloc, &first.sections, layout)?;
+    let (second, _) = read_source(alloc, source, &mut symbols, sections)?;
+    symbols.begin(Pass::Last);
+    let sections = placed_again(alloc, &first.sections, layout)?;
+    let (last, mut errors) = read_source(alloc, source, &mut symbols, sections)?;
+    if errors.is_empty() && is_settled(&second.sections, &last.sections) {
+        return Ok(Program {
+            sections: last.sections,
+        });
     }
     if errors.is_empty() {
         errors.push(MOVED_END)?;
@@ -49,7 +64,40 @@ pub fn assemble_source(
     Err(SourceFault::Errors(errors))
 }
 
-/// The mistake where the second reading ends at another address than the first.
+/// The sections, empty again, each at its address by the sizes that they have.
+fn placed_again<'a>(
+    alloc: Global,
+    sections: &[Section<'a>],
+    layout: Layout,
+) -> Result<Vec<Section<'a>>, SourceFault>
+    ensures { IfOk result (λ placed. All IsNew placed.items) }
+{
+    match laid_out(alloc, sections, layout) {
+        Ok(placed) => Ok(placed),
+        Err(Halt::OutOfMemory) => Err(SourceFault::OutOfMemory),
+        Err(Halt::Error(error)) => {
+            let mut errors = Vec::new(alloc);
+            errors.push(error_at(b"", 1, error))?;
+            Err(SourceFault::Errors(errors))
+        }
+    }
+}
+
+/// Whether each section has the same size as in another reading, and `.text` is one of them.
+fn is_settled(others: &[Section], sections: &[Section]) -> bool
+    ensures { result ≡ true → first_open (names_of sections.now) < length sections.now }
+{
+    if section_named(sections, b".text") >= sections.len() {
+        return false;
+    }
+    sections.len() == others.len()
+        && sections
+            .iter()
+            .zip(others)
+            .all(|(own, other)| own.size() == other.size())
+}
+
+/// The mistake where the last reading ends at another address than the one before.
 const MOVED_END: SourceError = SourceError {
     line: 1,
     column: 1,
@@ -59,36 +107,61 @@ const MOVED_END: SourceError = SourceError {
 /// How far a reading of the source has come.
 #[derive(Drop)]
 pub struct Reading<'a> {
-    /// How many bytes the statements so far take.
-    size: usize,
-    /// What was made of them, in the second reading.
-    made: Assembled<'a>,
+    /// The sections, as far as they were read.
+    sections: Vec<Section<'a>>,
+    /// Which of them is open. None of them: what follows is not laid out.
+    current: usize,
+    /// How many bytes all statements so far take.
+    total: usize,
 }
 
-impl Reading<'_> {
-    /// The address of the next statement.
-    fn here(&self, base: u32) -> u32
-        ensures { result ≡ (base + self.now.size) % 2 ^ 32 }
-    {
-        base.wrapping_add((self.size % 0x1_0000_0000) as u32)
+impl<'a> Reading<'a> {
+    /// Where the next statement stands.
+    fn site(&self) -> Site {
+        match self.sections.get(self.current) {
+            Some(section) => Site {
+                here: section.here(),
+                is_code: section.kind == SectionKind::Code,
+                is_skipped: false,
+            },
+            None => Site {
+                here: 0,
+                is_code: false,
+                is_skipped: true,
+            },
+        }
     }
 }
 
-/// Reads all lines. Gives what was made of them, which is nothing in the first reading, and the
+/// Which of the sections has a name: as many as there are where none has it.
+fn section_named(sections: &[Section], name: &[u8]) -> usize
+    ensures { result ≡ index_of name.now (names_of sections.now) }
+{
+    for (index, section) in sections.iter().enumerate() {
+        if section.name == name {
+            return index;
+        }
+    }
+    sections.len()
+}
+
+/// Reads all lines. Gives what was made of them, which is nothing before the last reading, and the
 /// mistakes.
 fn read_source<'a>(
     alloc: Global,
     source: &'a [u8],
-    base: u32,
     symbols: &mut Symbols<'a>,
+    sections: Vec<Section<'a>>,
 ) -> Result<(Reading<'a>, Vec<SourceError>), SourceFault>
-    ensures { symbols.old.pass ≡ Pass.Second → IfOk result (λ read. read.1.items ≡ []
-        → IsMade base (items_of source.now) read.0.made.labels.items read.0.made.placed.items
-        read.0.made.bytes.items) }
+    ensures { symbols.old.pass ≡ Pass.Last → All IsNew sections.entry.items
+        → IfOk result (λ read. read.1.items ≡ []
+        → IsRead (names_of sections.entry.items) (items_of source.now) read.0) }
 {
+    let current = section_named(&sections, b".text");
     let mut reading = Reading {
-        size: 0,
-        made: Assembled::new(alloc),
+        sections,
+        current,
+        total: 0,
     };
     let mut errors = Vec::new(alloc);
     let mut number = 0usize;
@@ -97,24 +170,25 @@ fn read_source<'a>(
         let (line, others) = first_line(text);
         rest = others;
         number += 1;
-        match read_line(alloc, line, number, base, symbols, &mut reading) {
+        match read_line(alloc, line, number, symbols, &mut reading) {
             Ok(()) => (),
             Err(Halt::OutOfMemory) => return Err(SourceFault::OutOfMemory),
             Err(Halt::Error(error)) => {
                 errors.push(error_at(line, number, error))?;
-                reading.size = size_behind(reading.size, error.kind);
+                recover(&mut reading, error.kind);
             }
         }
     }
     Ok((reading, errors))
 }
 
-/// The size from which the next statement is read after a mistake: behind an instruction at a wrong
-/// address it is a right one, so that not every instruction from there on is a mistake.
-fn size_behind(size: usize, kind: SourceErrorKind) -> usize {
-    match kind {
-        SourceErrorKind::Misplaced => size.saturating_add(3) / 4 * 4,
-        _ => size,
+/// Goes on behind a mistake: behind an instruction at a wrong address at a right one, so that not
+/// every instruction from there on is a mistake.
+fn recover(reading: &mut Reading, kind: SourceErrorKind) {
+    if kind == SourceErrorKind::Misplaced {
+        if let Some(section) = reading.sections.get_mut(reading.current) {
+            section.realign();
+        }
     }
 }
 
@@ -132,21 +206,20 @@ fn read_line<'a>(
     alloc: Global,
     line: &'a [u8],
     number: usize,
-    base: u32,
     symbols: &mut Symbols<'a>,
     reading: &mut Reading<'a>,
 ) -> Result<(), Halt>
     ensures pass { symbols.new.pass ≡ symbols.old.pass }
-    ensures items { OnOk result (symbols.old.pass ≡ Pass.Second
-        → ReadsOn base (items_of_parts number (parts line.now)) reading.old reading.new) }
+    ensures items { OnOk result (symbols.old.pass ≡ Pass.Last
+        → ReadsOn (items_of_parts number (parts line.now)) reading.old reading.new) }
 {
     let mut rest = Some(line);
     while let Some(text) = rest {
         let (part, others) = first_part(text);
         let behind = text.len().saturating_sub(part.text().len());
-        let read = read_part(alloc, part, behind, symbols, reading.here(base))?;
+        let read = read_part(alloc, part, behind, symbols, reading.site())?;
         let start = error_before(part.text(), behind);
-        perform(read, number, base, start, symbols, reading)?;
+        perform(alloc, read, number, start, symbols, reading)?;
         rest = others;
     }
     Ok(())
@@ -166,15 +239,22 @@ fn read_part<'a>(
     part: Part<'a>,
     behind: usize,
     symbols: &Symbols<'a>,
-    here: u32,
+    site: Site,
 ) -> Result<Read<'a>, Halt>
     ensures items { (number : ℕ) → IfOk result (λ read.
         items_of_read number read ≡ items_in number (shown part.entry)) }
     ensures name { IfOk result HasItsName }
 {
     match part {
-        Part::Label(text) => Ok(Read::Label(label_name(text, behind)?)),
-        Part::Statement(text) => read_statement(alloc, text, behind, symbols, here),
+        Part::Label(text) => {
+            let name = label_name(text, behind)?;
+            Ok(if site.is_skipped {
+                Read::Skipped(name, true)
+            } else {
+                Read::Label(name)
+            })
+        }
+        Part::Statement(text) => read_statement(alloc, text, behind, symbols, site),
     }
 }
 
@@ -199,7 +279,7 @@ fn read_statement<'a>(
     text: &'a [u8],
     behind: usize,
     symbols: &Symbols<'a>,
-    here: u32,
+    site: Site,
 ) -> Result<Read<'a>, Halt>
     ensures items { (number : ℕ) → IfOk result (λ read.
         items_of_read number read ≡ items_in_statement number text.now) }
@@ -211,7 +291,7 @@ fn read_statement<'a>(
     let error = error_before(text, behind);
     let (name, rest) = split_word(text);
     let operands = behind_blanks(rest);
-    let mut line = Line::new(operands, behind, symbols, here);
+    let mut line = Line::new(operands, behind, symbols, site);
     if begins_with(operands, b'=') {
         let _equals = line.next_byte();
         let constant = read_constant(name, error, &mut line)?;
@@ -220,7 +300,7 @@ fn read_statement<'a>(
     if !operands.is_empty() && operands.len() == rest.len() {
         return Err(Halt::Error(unexpected(name, error)));
     }
-    let read = read_named(alloc, &mut line, name, error)?;
+    let read = read_named(alloc, &mut line, name, rest, error)?;
     ended(&mut line)?;
     Ok(read)
 }
@@ -245,17 +325,22 @@ fn read_named<'a>(
     alloc: Global,
     line: &mut Line<'a, '_>,
     name: &'a [u8],
+    operands: &'a [u8],
     error: LineError,
 ) -> Result<Read<'a>, Halt>
     ensures items { (number : ℕ) → IfOk result (λ read.
-        items_of_read number read ≡ items_named number name.now) }
+        items_of_read number read ≡ items_named number name.now operands.now) }
     ensures name { IfOk result HasItsName }
 {
     if name.first() == Some(&b'.') {
-        read_directive(alloc, line, name, error)
-    } else {
-        Ok(Read::Laid(name, read_instruction(line, name, error)?))
+        return read_directive(alloc, line, name, operands, error);
     }
+    if line.site().is_skipped {
+        line.skip_all();
+        return Ok(Read::Skipped(name, false));
+    }
+    let statement = read_instruction(line, name, error)?;
+    Ok(Read::Laid(name, statement, line.notes()))
 }
 
 /// Takes the end of a statement.
@@ -288,26 +373,110 @@ fn unexpected(word: &[u8], error: LineError) -> LineError {
 
 /// Does what a part says.
 fn perform<'a>(
+    alloc: Global,
     read: Read<'a>,
     number: usize,
-    base: u32,
     start: LineError,
     symbols: &mut Symbols<'a>,
     reading: &mut Reading<'a>,
 ) -> Result<(), Halt>
     requires { HasItsName read }
     ensures pass { symbols.new.pass ≡ symbols.old.pass }
-    ensures items { OnOk result (symbols.old.pass ≡ Pass.Second
-        → ReadsOn base (items_of_read number read.entry) reading.old reading.new) }
+    ensures items { OnOk result (symbols.old.pass ≡ Pass.Last
+        → ReadsOn (items_of_read number read.entry) reading.old reading.new) }
 {
     match read {
         Read::Nothing => Ok(()),
         Read::Constant(name, value) => define(name, value, false, start, symbols),
-        Read::Label(name) => put_label(name, number, base, start, symbols, reading),
-        Read::Laid(_, statement) => {
-            place(statement, number, base, start, symbols.is_first(), reading)
+        Read::Label(name) => put_label(name, number, start, symbols, reading),
+        Read::Skipped(_, _) => check_skipped(start, reading),
+        Read::Section(name, kind) => { open(alloc, name, kind, start, symbols.is_last(), reading) }
+        Read::Laid(_, statement, notes) => {
+            keep_notes(notes, symbols, reading)?;
+            put(statement, number, start, symbols.is_last(), reading)
         }
     }
+}
+
+/// Sees that no section is open where something is left out.
+fn check_skipped(start: LineError, reading: &mut Reading) -> Result<(), Halt>
+    ensures { OnOk result ((item : Item) → IsNoSection item → ReadsOn (item ∷ []) reading.old reading.new) }
+{
+    if reading.current < reading.sections.len() {
+        Err(Halt::Error(start.with_kind(SourceErrorKind::Moved)))
+    } else {
+        Ok(())
+    }
+}
+
+/// Opens a section: in the last reading one that was met before.
+fn open<'a>(
+    alloc: Global,
+    name: &'a [u8],
+    kind: Option<SectionKind>,
+    start: LineError,
+    is_last: bool,
+    reading: &mut Reading<'a>,
+) -> Result<(), Halt>
+    ensures { OnOk result (is_last ≡ true
+        → ReadsOn (Item.Section name.now ∷ []) reading.old reading.new) }
+{
+    if !is_last {
+        return open_early(alloc, name, kind, start, reading);
+    }
+    let index = section_named(&reading.sections, name);
+    if is_missing(&reading.sections, name, index) {
+        return Err(Halt::Error(start.with_kind(SourceErrorKind::Sections)));
+    }
+    reading.current = index;
+    Ok(())
+}
+
+/// Whether a section is laid out, and is none of these.
+fn is_missing(sections: &[Section], name: &[u8], index: usize) -> bool
+    ensures { result ≡ false → is_laid_out name.now ≡ true → index < length sections.now }
+{
+    index >= sections.len() && is_laid_out(name)
+}
+
+/// Opens a section before the last reading, which may be a new one.
+fn open_early<'a>(
+    alloc: Global,
+    name: &'a [u8],
+    kind: Option<SectionKind>,
+    start: LineError,
+    reading: &mut Reading<'a>,
+) -> Result<(), Halt> {
+    let index = section_named(&reading.sections, name);
+    reading.current = index;
+    let Some(kind) = kind else {
+        return Ok(());
+    };
+    if index >= MOST_SECTIONS {
+        return Err(Halt::Error(start.with_kind(SourceErrorKind::Sections)));
+    }
+    if index >= reading.sections.len() {
+        let alignment = if kind == SectionKind::Code { 4 } else { 1 };
+        let section = Section::new(alloc, name, kind, alignment, 0);
+        reading.sections.push(section)?;
+    }
+    Ok(())
+}
+
+/// Keeps what a statement asks beside its bytes. In the last reading the sections are aligned.
+fn keep_notes(notes: Notes, symbols: &mut Symbols, reading: &mut Reading) -> Result<(), Halt>
+    ensures pass { symbols.new.pass ≡ symbols.old.pass }
+    ensures same { symbols.old.pass ≡ Pass.Last → reading.new ≡ reading.old }
+{
+    if let Some(distance) = notes.distance {
+        symbols.keep_distance(reading.site().here, distance)?;
+    }
+    if !symbols.is_last() {
+        if let Some(section) = reading.sections.get_mut(reading.current) {
+            section.align(notes.alignment);
+        }
+    }
+    Ok(())
 }
 
 /// Defines a symbol.
@@ -353,64 +522,47 @@ fn define_label<'a>(
     }
 }
 
-/// Puts a label behind those before it, if its address is what its name stands for.
+/// Puts a label behind what is in the open section, if its address is what its name stands for.
 fn put_label<'a>(
     name: &'a [u8],
     number: usize,
-    base: u32,
     start: LineError,
     symbols: &mut Symbols<'a>,
     reading: &mut Reading<'a>,
 ) -> Result<(), Halt>
     ensures pass { symbols.new.pass ≡ symbols.old.pass }
-    ensures items { OnOk result (symbols.old.pass ≡ Pass.Second
-        → ReadsOn base (Item.Label number name.now ∷ []) reading.old reading.new) }
+    ensures items { OnOk result (symbols.old.pass ≡ Pass.Last
+        → ReadsOn (Item.Label number name.now ∷ []) reading.old reading.new) }
 {
-    let here = reading.here(base);
+    let here = reading.site().here;
     let known = define_label(name, here, start, symbols)?;
-    if symbols.is_first() {
+    if !symbols.is_last() {
         return Ok(());
     }
-    let moved = Halt::Error(start.with_kind(SourceErrorKind::Moved));
-    let address = address_of(known).ok_or(moved)?;
-    if address != here {
-        return Err(moved);
-    }
-    reading.made.labels.push(Label {
-        line: number,
-        name,
-        address,
-    })?;
-    Ok(())
-}
-
-/// The value of a symbol that is defined before.
-fn address_of(known: Known) -> Option<u32> {
-    match known {
-        Known::Now(address) => Some(address),
-        Known::Later(_) | Known::Perhaps | Known::Never => None,
+    match reading.sections.get_mut(reading.current) {
+        Some(section) => section.put_label(number, name, known, start),
+        None => Err(Halt::Error(start.with_kind(SourceErrorKind::Moved))),
     }
 }
 
-/// Puts a statement behind those before it.
-fn place(
+/// Puts a statement behind what is in the open section.
+fn put(
     statement: Statement,
     number: usize,
-    base: u32,
     start: LineError,
-    is_first: bool,
+    is_last: bool,
     reading: &mut Reading,
 ) -> Result<(), Halt>
-    ensures { OnOk result (is_first ≡ false → (name : List ℕ) → IsNamed name statement
-        → ReadsOn base (Item.Laid number name ∷ []) reading.old reading.new) }
+    ensures { OnOk result (is_last ≡ true → (name : List ℕ) → IsNamed name statement
+        → ReadsOn (Item.Laid number name ∷ []) reading.old reading.new) }
 {
-    let size = reading.size.saturating_add(statement.size());
-    if size > MOST_BYTES || size as u64 + u64::from(base) > 1 << 32 {
+    let total = reading.total.saturating_add(statement.size());
+    if total > MOST_BYTES {
         return Err(Halt::Error(start.with_kind(SourceErrorKind::TooLong)));
     }
-    reading.size = size;
-    if is_first {
-        return Ok(());
+    reading.total = total;
+    match reading.sections.get_mut(reading.current) {
+        Some(section) => section.put(number, statement, is_last, start),
+        None => Err(Halt::Error(start.with_kind(SourceErrorKind::Moved))),
     }
-    reading.made.place(base, number, statement)
 }

@@ -1,17 +1,19 @@
 //! Directives.
 
-ghost use Rattle.std.specs.Prelude.{◌≡◌, ◌<◌, ℕ, true, IfOk};
+ghost use Rattle.std.specs.Prelude.{◌≡◌, ◌<◌, ◌≤◌, ℕ, true, IfOk, [], ◌∷◌};
 ghost use Rattle.rrs_asm.specs.Names.{IsNamed};
-ghost use Rattle.rrs_asm.specs.Source.{items_named};
+ghost use Rattle.rrs_asm.specs.Source.{Item, items_named, section_opened};
 ghost use Rattle.rrs_asm.specs.Forms.{fits_placed, items_of_read, HasItsName};
 
 use crate::errors::{Halt, LineError, SourceErrorKind};
+use crate::lexing::split_word;
 use crate::literals::escaped;
 use crate::names::{DirectiveForm, PlacedForm, directive_named};
 use crate::output::MOST_BYTES;
-use crate::reading::Line;
+use crate::reading::{Line, Notes};
+use crate::sections::{SectionKind, is_laid_out, kind_of_name};
 use crate::statements::Statement;
-use std::alloc::{AllocError, Global};
+use std::alloc::Global;
 
 /// The greatest alignment, as a power of 2.
 const MOST_ALIGNED: u32 = 16;
@@ -22,9 +24,13 @@ pub enum Read<'a> {
     /// A label of this name stands here.
     Label(&'a [u8]),
     /// A statement of this name is laid out here.
-    Laid(&'a [u8], Statement),
+    Laid(&'a [u8], Statement, Notes),
     /// A constant has this value.
     Constant(&'a [u8], u32),
+    /// A section of this name follows. No kind: it is not laid out.
+    Section(&'a [u8], Option<SectionKind>),
+    /// A label or a statement of this name stands in a section that is not laid out.
+    Skipped(&'a [u8], bool),
     /// Nothing.
     Nothing,
 }
@@ -35,27 +41,106 @@ pub fn read_directive<'a>(
     alloc: Global,
     line: &mut Line<'a, '_>,
     name: &'a [u8],
+    operands: &'a [u8],
     error: LineError,
 ) -> Result<Read<'a>, Halt>
     ensures items { (number : ℕ) → IfOk result (λ read.
-        items_of_read number read ≡ items_named number name.now) }
+        items_of_read number read ≡ items_named number name.now operands.now) }
     ensures name { IfOk result HasItsName }
 {
     match directive_named(name) {
+        Some(DirectiveForm::Place(_) | DirectiveForm::Refused) if line.site().is_skipped => {
+            line.skip_all();
+            Ok(Read::Skipped(name, false))
+        }
         Some(DirectiveForm::Place(form)) => {
-            Ok(Read::Laid(name, read_placed(alloc, line, name, form)?))
+            let statement = read_placed(alloc, line, name, form)?;
+            Ok(Read::Laid(name, statement, line.notes()))
         }
         Some(DirectiveForm::Constant) => {
             let (constant, value) = read_constant(line)?;
             Ok(Read::Constant(constant, value))
         }
-        Some(DirectiveForm::Names) => {
-            read_names(line)?;
+        Some(DirectiveForm::Option) => {
+            read_option(line)?;
             Ok(Read::Nothing)
         }
-        Some(DirectiveForm::Text) => Ok(Read::Nothing),
-        Some(DirectiveForm::Section) => Err(Halt::Error(error.with_kind(SourceErrorKind::Section))),
+        Some(DirectiveForm::Silent) => {
+            line.skip_all();
+            Ok(Read::Nothing)
+        }
+        Some(DirectiveForm::Section) => {
+            let section = read_section(line, name, operands, error)?;
+            Ok(section)
+        }
+        Some(DirectiveForm::Refused) => Err(Halt::Error(error.with_kind(
+            SourceErrorKind::Unsupported,
+        ))),
         None => Err(Halt::Error(error)),
+    }
+}
+
+/// Reads which section follows, by the name of the directive and its operands.
+fn read_section<'a>(
+    line: &mut Line<'a, '_>,
+    name: &'a [u8],
+    operands: &'a [u8],
+    error: LineError,
+) -> Result<Read<'a>, LineError>
+    ensures items { (number : ℕ) → IfOk result (λ read.
+        items_of_read number read ≡ Item.Section (section_opened name.now operands.now) ∷ []) }
+    ensures name { IfOk result HasItsName }
+{
+    if name != b".section".as_slice() {
+        return Ok(Read::Section(name, kind_of_name(name)));
+    }
+    let (section, rest) = split_word(operands);
+    if section.is_empty() {
+        return Err(line.error(SourceErrorKind::Section));
+    }
+    line.skip_all();
+    if !is_laid_out(section) {
+        return Ok(Read::Section(section, None));
+    }
+    let kind = kind_of_name(section).or(kind_of_flags(rest));
+    match kind {
+        Some(_) => Ok(Read::Section(section, kind)),
+        None => Err(error.with_kind(SourceErrorKind::Section)),
+    }
+}
+
+/// The kind of a section by what stands behind its name, as `, "aw", @nobits`.
+fn kind_of_flags(text: &[u8]) -> Option<SectionKind> {
+    let mut parts = text.split(|byte| *byte == b'"');
+    let _comma = parts.next()?;
+    let flags = parts.next()?;
+    let is_zero = match parts.next() {
+        Some(rest) => rest.ends_with(b"nobits"),
+        None => false,
+    };
+    if flags.contains(&b'x') {
+        Some(SectionKind::Code)
+    } else if !flags.contains(&b'a') {
+        None
+    } else if is_zero {
+        Some(SectionKind::Zero)
+    } else if flags.contains(&b'w') {
+        Some(SectionKind::Data)
+    } else {
+        Some(SectionKind::ReadOnly)
+    }
+}
+
+/// Reads an option. Those that would allow other instructions are refused.
+fn read_option(line: &mut Line) -> Result<(), LineError> {
+    line.skip_blanks();
+    let error = line.error(SourceErrorKind::Unsupported);
+    match line.word() {
+        b"norvc" | b"relax" | b"norelax" | b"push" | b"pop" | b"nopic" => {
+            line.skip_all();
+            Ok(())
+        }
+        _ => Err(error),
     }
 }
 
@@ -72,6 +157,7 @@ fn read_placed(
     match form {
         PlacedForm::Data(bits) => Ok(Statement::Data(read_data(alloc, line, bits)?)),
         PlacedForm::Strings(is_ended) => Ok(Statement::Data(read_strings(alloc, line, is_ended)?)),
+        PlacedForm::Pattern => Ok(Statement::Data(read_pattern(alloc, line)?)),
         PlacedForm::Power => Ok(Statement::Data(read_power(alloc, line)?)),
         PlacedForm::Alignment => Ok(Statement::Data(read_alignment(alloc, line)?)),
         PlacedForm::Space => {
@@ -99,22 +185,11 @@ fn read_name<'a>(line: &mut Line<'a, '_>) -> Result<&'a [u8], LineError> {
     }
 }
 
-/// Reads names that mean nothing here.
-fn read_names(line: &mut Line) -> Result<(), LineError> {
-    for _ in 0..u64::MAX {
-        let _ = read_name(line)?;
-        if !line.take(b',') {
-            break;
-        }
-    }
-    Ok(())
-}
-
 /// Reads numbers of so many bits each, with commas between them.
 fn read_data(alloc: Global, line: &mut Line, bits: u32) -> Result<Vec<u8>, Halt> {
     let mut bytes = Vec::new(alloc);
     for _ in 0..u64::MAX {
-        push_datum(&mut bytes, line.datum(bits)?, bits)?;
+        push_datum(&mut bytes, line, bits)?;
         if !line.take(b',') {
             break;
         }
@@ -122,14 +197,54 @@ fn read_data(alloc: Global, line: &mut Line, bits: u32) -> Result<Vec<u8>, Halt>
     Ok(bytes)
 }
 
-/// Appends a number of so many bits, its lowest byte first.
-fn push_datum(bytes: &mut Vec<u8>, value: u32, bits: u32) -> Result<(), AllocError> {
+/// Reads a number of so many bits, and appends it, its lowest byte first.
+fn push_datum(bytes: &mut Vec<u8>, line: &mut Line, bits: u32) -> Result<(), Halt> {
+    if bits == 64 {
+        bytes.extend_from_slice(&line.wide_value()?.to_le_bytes())?;
+        return Ok(());
+    }
+    let value = line.datum(bits)?;
     let [first, second, ..] = value.to_le_bytes();
     match bits {
-        8 => bytes.extend_from_slice(&[first]),
-        16 => bytes.extend_from_slice(&[first, second]),
-        _ => bytes.extend_from_slice(&value.to_le_bytes()),
+        8 => bytes.push(first)?,
+        16 => bytes.extend_from_slice(&[first, second])?,
+        _ => bytes.extend_from_slice(&value.to_le_bytes())?,
     }
+    Ok(())
+}
+
+/// Reads how often a number stands, how many bytes it has, and the number.
+fn read_pattern(alloc: Global, line: &mut Line) -> Result<Vec<u8>, Halt> {
+    let count = read_count(line)?;
+    let (size, value) = read_pattern_item(line)?;
+    if count as usize * size as usize > MOST_BYTES {
+        return Err(Halt::Error(line.error(SourceErrorKind::TooLong)));
+    }
+    let [first, second, third, fourth] = value.to_le_bytes();
+    let own = [first, second, third, fourth, 0, 0, 0, 0];
+    let mut bytes = Vec::new(alloc);
+    for _ in 0..count {
+        bytes.extend_from_slice(&own[..size as usize])?;
+    }
+    Ok(bytes)
+}
+
+/// Reads how many bytes a number has, at most 8 and 1 where none is said, and the number, which is 0
+/// where none is said.
+fn read_pattern_item(line: &mut Line) -> Result<(u32, u32), LineError>
+    ensures { IfOk result (λ item. item.0 ≤ 8) }
+{
+    if !line.take(b',') {
+        return Ok((1, 0));
+    }
+    line.skip_blanks();
+    let error = line.error(SourceErrorKind::Range);
+    let size = line.known_value()?;
+    if size > 8 {
+        return Err(error);
+    }
+    let value = if line.take(b',') { line.value()? } else { 0 };
+    Ok((size, value))
 }
 
 /// Reads strings with commas between them, and puts a zero byte behind each if that is asked.
@@ -169,13 +284,43 @@ fn next_in_string(line: &mut Line) -> Result<Option<u8>, LineError> {
     }
 }
 
-/// Takes what follows a backslash: the byte that it stands for.
+/// Takes what follows a backslash: the byte that it stands for. It may be written in octal, as
+/// `\101`, or in hexadecimal, as `\x41`.
 fn next_escaped(line: &mut Line) -> Result<Option<u8>, LineError> {
     let error = line.error(SourceErrorKind::Escape);
-    match line.next_byte().and_then(escaped) {
+    match line.next_byte() {
+        Some(digit @ b'0'..=b'7') => Ok(Some(octal_escape(line, digit - b'0'))),
+        Some(b'x' | b'X') => Ok(Some(hexadecimal_escape(line, error)?)),
+        Some(byte) => match escaped(byte) {
+            None => Err(error),
+            value => Ok(value),
+        },
         None => Err(error),
-        byte => Ok(byte),
     }
+}
+
+/// Takes two further digits of an octal escape, as far as they stand there.
+fn octal_escape(line: &mut Line, first: u8) -> u8 {
+    let mut value = first;
+    for _ in 0..2 {
+        match line.next_digit(8) {
+            Some(digit) => value = value.wrapping_mul(8).wrapping_add(digit),
+            None => break,
+        }
+    }
+    value
+}
+
+/// Takes the digits of a hexadecimal escape, of which the last two count.
+fn hexadecimal_escape(line: &mut Line, error: LineError) -> Result<u8, LineError> {
+    let mut value = line.next_digit(16).ok_or(error)?;
+    for _ in 0..u64::MAX {
+        match line.next_digit(16) {
+            Some(digit) => value = value.wrapping_mul(16).wrapping_add(digit),
+            None => break,
+        }
+    }
+    Ok(value)
 }
 
 /// Reads how many bytes, and which byte where another than zero is meant.
@@ -223,7 +368,7 @@ fn read_power(alloc: Global, line: &mut Line) -> Result<Vec<u8>, Halt> {
     if power > MOST_ALIGNED {
         return Err(Halt::Error(error));
     }
-    padding(alloc, line.here(), 1 << power)
+    read_padding(alloc, line, 1 << power)
 }
 
 /// Reads an alignment in bytes, a power of 2.
@@ -234,15 +379,40 @@ fn read_alignment(alloc: Global, line: &mut Line) -> Result<Vec<u8>, Halt> {
     if !alignment.is_power_of_two() || alignment > 1 << MOST_ALIGNED {
         return Err(Halt::Error(error));
     }
-    padding(alloc, line.here(), alignment)
+    read_padding(alloc, line, alignment)
 }
 
-/// The bytes from an address to the next multiple of the alignment: zeros up to a multiple of 4,
-/// and then `nop`s.
-fn padding(alloc: Global, here: u32, alignment: u32) -> Result<Vec<u8>, Halt>
+/// Reads which byte fills up to an alignment, and how many at most: otherwise nothing is filled.
+fn read_padding(alloc: Global, line: &mut Line, alignment: u32) -> Result<Vec<u8>, Halt>
     requires { 0 < alignment }
 {
-    let count = 0u32.wrapping_sub(here) % alignment;
+    line.align(alignment);
+    let mut fill = None;
+    let count = 0u32.wrapping_sub(line.here()) % alignment;
+    if line.take(b',') {
+        if !line.is_comma_next() {
+            fill = Some((line.datum(8)? % 256) as u8);
+        }
+        if line.take(b',') && line.known_value()? < count {
+            return Ok(Vec::new(alloc));
+        }
+    }
+    match fill {
+        Some(byte) => filled(alloc, count, byte),
+        None if line.site().is_code => padding(alloc, count),
+        None => filled(alloc, count, 0),
+    }
+}
+
+/// So many of a byte.
+fn filled(alloc: Global, count: u32, byte: u8) -> Result<Vec<u8>, Halt> {
+    let mut bytes = Vec::new(alloc);
+    bytes.resize(count as usize, byte)?;
+    Ok(bytes)
+}
+
+/// So many bytes between instructions: zeros up to a multiple of 4, and then `nop`s.
+fn padding(alloc: Global, count: u32) -> Result<Vec<u8>, Halt> {
     let mut bytes = Vec::new(alloc);
     for _ in 0..count % 4 {
         bytes.push(0)?;

@@ -39,8 +39,24 @@ pub enum SourceErrorKind {
     Duplicate,
     /// A register's name can't be a symbol.
     Reserved,
-    /// There are no sections.
+    /// A section is not named, or has neither a name nor flags that say where it lies.
     Section,
+    /// There are too many sections.
+    Sections,
+    /// `.bss` and its like hold zeros alone.
+    Zeros,
+    /// GNU `as` has the directive, and it is not implemented here.
+    Unsupported,
+    /// `%hi` or `%pcrel_hi`, where 12 bits are wanted.
+    High,
+    /// `%lo` or `%pcrel_lo`, where the upper 20 bits are wanted.
+    Low,
+    /// No statement with `%pcrel_hi` stands at the address that `%pcrel_lo` names.
+    Distance,
+    /// A number is divided by zero.
+    Division,
+    /// More operators and parentheses wait for their values than can.
+    Deep,
     /// `.org` goes back.
     Backward,
     /// The address of an instruction is misaligned.
@@ -70,7 +86,16 @@ impl fmt::Display for SourceErrorKind {
             SourceErrorKind::Later => "symbol is defined later, and its value is wanted here",
             SourceErrorKind::Duplicate => "symbol is defined already",
             SourceErrorKind::Reserved => "the name of a register can't be a symbol",
-            SourceErrorKind::Section => "there is one section only",
+            SourceErrorKind::Section =>
+                "a section needs a name, and flags where its name says nothing",
+            SourceErrorKind::Sections => "there are too many sections",
+            SourceErrorKind::Zeros => "this section holds zeros only",
+            SourceErrorKind::Unsupported => "not implemented",
+            SourceErrorKind::High => "12 bits are wanted here, as %lo",
+            SourceErrorKind::Low => "the upper 20 bits are wanted here, as %hi",
+            SourceErrorKind::Distance => "no statement with %pcrel_hi is at this label",
+            SourceErrorKind::Division => "division by zero",
+            SourceErrorKind::Deep => "too many operators and parentheses",
             SourceErrorKind::Backward => "the address goes back",
             SourceErrorKind::Misplaced => "the address of an instruction is misaligned",
             SourceErrorKind::TooLong => "the program is too long",

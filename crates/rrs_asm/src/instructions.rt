@@ -3,12 +3,12 @@
 ghost use Rattle.std.specs.Prelude.{◌≡◌, ◌<◌, IfOk, IfSome, codes};
 ghost use Rattle.rrs_instruction.specs.Table.{table};
 ghost use Rattle.rrs_instruction.specs.Instructions.{row_of};
-ghost use Rattle.rrs_asm.specs.Names.{IsNamed, pseudo_name, unary_name, zero_branch_name, swapped_name};
+ghost use Rattle.rrs_asm.specs.Names.{IsNamed, pseudo_name, unary_name, zero_branch_name, swapped_name, comparison_name, load_name, store_name};
 ghost use Rattle.rrs_asm.specs.Forms.{form_name};
 
 use crate::errors::{LineError, SourceErrorKind};
 use crate::names::{PseudoForm, pseudo_named};
-use crate::pseudo::{Pseudo, SwappedBranch, Unary, ZeroBranch};
+use crate::pseudo::{Load, Pseudo, Store, SwappedBranch, SwappedComparison, Unary, ZeroBranch};
 use crate::reading::Line;
 use crate::statements::Statement;
 use rrs_encode::{Operands, instruction_named, with_operands};
@@ -45,6 +45,7 @@ pub fn read_instruction(
     }
     match pseudo_named(name) {
         Some(form) => Ok(Statement::Pseudo(read_pseudo(line, form)?)),
+        None if name == b"unimp".as_slice() => Ok(Statement::Unimp),
         None => Err(error),
     }
 }
@@ -60,12 +61,77 @@ fn read_row(line: &mut Line, template: Instruction) -> Result<Statement, LineErr
         Instruction::Fence(_) => return read_fence(line, template),
         Instruction::Jal(_) => return read_jal(line, template),
         Instruction::Jalr(_) => return read_jalr(line, template),
-        Instruction::Lb(_)
-        | Instruction::Lbu(_)
-        | Instruction::Lh(_)
-        | Instruction::Lhu(_)
-        | Instruction::Lw(_) => load_operands(line)?,
-        _ => format_operands(line, template.fields())?,
+        _ => match (load_of(template), store_of(template)) {
+            (Some(load), _) => return read_load(line, template, load),
+            (None, Some(store)) => return read_store(line, template, store),
+            (None, None) => format_operands(line, template.fields())?,
+        },
+    };
+    statement_of(template, operands)
+}
+
+/// The load that a row is.
+fn load_of(template: Instruction) -> Option<Load>
+    ensures { IfSome result (λ load. load_name load ≡ (table (row_of template)).name) }
+{
+    match template {
+        Instruction::Lb(_) => Some(Load::Lb),
+        Instruction::Lbu(_) => Some(Load::Lbu),
+        Instruction::Lh(_) => Some(Load::Lh),
+        Instruction::Lhu(_) => Some(Load::Lhu),
+        Instruction::Lw(_) => Some(Load::Lw),
+        _ => None,
+    }
+}
+
+/// The store that a row is.
+fn store_of(template: Instruction) -> Option<Store>
+    ensures { IfSome result (λ store. store_name store ≡ (table (row_of template)).name) }
+{
+    match template {
+        Instruction::Sb(_) => Some(Store::Sb),
+        Instruction::Sh(_) => Some(Store::Sh),
+        Instruction::Sw(_) => Some(Store::Sw),
+        _ => None,
+    }
+}
+
+/// Reads `rd, immediate(rs1)`, or `rd, symbol`.
+fn read_load(line: &mut Line, template: Instruction, load: Load) -> Result<Statement, LineError>
+    requires { load_name load ≡ (table (row_of template)).name }
+    ensures { IfOk result (IsNamed (table (row_of template)).name) }
+{
+    let rd = line.register_before_comma()?;
+    if let Some(distance) = line.distance_alone() {
+        return Ok(Statement::Pseudo(Pseudo::From(load, rd, distance)));
+    }
+    let (imm, rs1) = line.address()?;
+    let operands = Operands {
+        rd,
+        rs1,
+        imm,
+        ..NONE
+    };
+    statement_of(template, operands)
+}
+
+/// Reads `rs2, immediate(rs1)`, or `rs2, symbol, rt`.
+fn read_store(line: &mut Line, template: Instruction, store: Store) -> Result<Statement, LineError>
+    requires { store_name store ≡ (table (row_of template)).name }
+    ensures { IfOk result (IsNamed (table (row_of template)).name) }
+{
+    let rs2 = line.register_before_comma()?;
+    if let Some(distance) = line.distance_alone() {
+        line.comma()?;
+        let rt = line.register()?;
+        return Ok(Statement::Pseudo(Pseudo::At(store, rs2, rt, distance)));
+    }
+    let (imm, rs1) = line.address()?;
+    let operands = Operands {
+        rs1,
+        rs2,
+        imm,
+        ..NONE
     };
     statement_of(template, operands)
 }
@@ -107,7 +173,7 @@ fn format_operands(line: &mut Line, fields: InstructionFields) -> Result<Operand
         }
         InstructionFields::U(_) => {
             let rd = line.register_before_comma()?;
-            (rd, 0, 0, (line.below(0x10_0000)? << 12).cast_signed())
+            (rd, 0, 0, (line.upper()? << 12).cast_signed())
         }
         InstructionFields::J(_) => {
             let rd = line.register_before_comma()?;
@@ -115,18 +181,6 @@ fn format_operands(line: &mut Line, fields: InstructionFields) -> Result<Operand
         }
     };
     Ok(Operands { rd, rs1, rs2, imm })
-}
-
-/// Reads `rd, immediate(rs1)`.
-fn load_operands(line: &mut Line) -> Result<Operands, LineError> {
-    let rd = line.register_before_comma()?;
-    let (imm, rs1) = line.address()?;
-    Ok(Operands {
-        rd,
-        rs1,
-        imm,
-        ..NONE
-    })
 }
 
 /// Reads `rd, target`, or `target` alone.
@@ -235,6 +289,9 @@ fn read_pseudo(line: &mut Line, form: PseudoForm) -> Result<Pseudo, LineError>
         PseudoForm::Ret => Ok(Pseudo::Ret),
         PseudoForm::Li => read_li(line),
         PseudoForm::La => read_la(line),
+        PseudoForm::Lla => read_lla(line),
+        PseudoForm::Compared(name) => read_compared(line, name),
+        PseudoForm::Jump => read_jump(line),
         PseudoForm::OfOne(name) => read_of_one(line, name),
         PseudoForm::AgainstZero(name) => read_against_zero(line, name),
         PseudoForm::Swapped(name) => read_swapped(line, name),
@@ -259,6 +316,31 @@ fn read_la(line: &mut Line) -> Result<Pseudo, LineError>
 {
     let rd = line.register_before_comma()?;
     Ok(Pseudo::La(rd, read_distance(line)?))
+}
+
+/// Reads `rd, symbol`.
+fn read_lla(line: &mut Line) -> Result<Pseudo, LineError>
+    ensures { IfOk result (λ pseudo. pseudo_name pseudo ≡ codes "lla") }
+{
+    let rd = line.register_before_comma()?;
+    Ok(Pseudo::Lla(rd, read_distance(line)?))
+}
+
+/// Reads `rd, rs, rt`.
+fn read_compared(line: &mut Line, name: SwappedComparison) -> Result<Pseudo, LineError>
+    ensures { IfOk result (λ pseudo. pseudo_name pseudo ≡ comparison_name name) }
+{
+    let (rd, rs) = line.registers_before_comma()?;
+    Ok(Pseudo::Compared(name, rd, rs, line.register()?))
+}
+
+/// Reads `symbol, rt`.
+fn read_jump(line: &mut Line) -> Result<Pseudo, LineError>
+    ensures { IfOk result (λ pseudo. pseudo_name pseudo ≡ codes "jump") }
+{
+    let distance = read_distance(line)?;
+    line.comma()?;
+    Ok(Pseudo::Jump(line.register()?, distance))
 }
 
 /// Reads `rd, rs`.

@@ -14,15 +14,18 @@
 mod assembling;
 mod directives;
 mod errors;
+mod expressions;
 mod gnu;
 mod instructions;
 mod lexing;
 mod literals;
 mod names;
 mod output;
+mod program;
 mod pseudo;
 mod reading;
 mod registers;
+mod sections;
 mod statements;
 mod symbols;
 
@@ -30,5 +33,9 @@ pub use assembling::assemble_source;
 pub use errors::{SourceError, SourceErrorKind, SourceFault};
 pub use gnu::gnu_text;
 pub use output::{Assembled, Label, MOST_BYTES, Placed};
-pub use pseudo::{Expansion, Pseudo, SwappedBranch, Unary, ZeroBranch};
+pub use program::{Program, image};
+pub use pseudo::{
+    Expansion, Load, Pseudo, Store, SwappedBranch, SwappedComparison, Unary, ZeroBranch,
+};
+pub use sections::{Layout, Section, SectionKind};
 pub use statements::Statement;

@@ -4,7 +4,7 @@ ghost use Rattle.std.specs.Prelude.{◌≡◌, ℕ, Bool, true, List, IfSome};
 ghost use Rattle.std.specs.List.{list_all};
 ghost use Rattle.rrs_asm.specs.Forms.{form_name, IsForm};
 
-use crate::pseudo::{SwappedBranch, Unary, ZeroBranch};
+use crate::pseudo::{SwappedBranch, SwappedComparison, Unary, ZeroBranch};
 
 /// A pseudo-instruction by how its operands are written.
 #[derive(Clone, Copy)]
@@ -15,6 +15,12 @@ pub enum PseudoForm {
     Li,
     /// `la rd, symbol`.
     La,
+    /// `lla rd, symbol`.
+    Lla,
+    /// `rd, rs, rt`.
+    Compared(SwappedComparison),
+    /// `jump symbol, rt`.
+    Jump,
     /// `rd, rs`.
     OfOne(Unary),
     /// `rs, target`.
@@ -32,11 +38,16 @@ pub enum PseudoForm {
 }
 
 /// The pseudo-instructions whose names are those of no row.
-const FORMS: [(&[u8], PseudoForm); 25] = [
+const FORMS: [(&[u8], PseudoForm); 30] = [
     (b"nop", PseudoForm::Nop),
     (b"ret", PseudoForm::Ret),
     (b"li", PseudoForm::Li),
     (b"la", PseudoForm::La),
+    (b"lla", PseudoForm::Lla),
+    (b"sgt", PseudoForm::Compared(SwappedComparison::Sgt)),
+    (b"sgtu", PseudoForm::Compared(SwappedComparison::Sgtu)),
+    (b"jump", PseudoForm::Jump),
+    (b"zext.b", PseudoForm::OfOne(Unary::ZextB)),
     (b"mv", PseudoForm::OfOne(Unary::Mv)),
     (b"not", PseudoForm::OfOne(Unary::Not)),
     (b"neg", PseudoForm::OfOne(Unary::Neg)),
@@ -74,6 +85,8 @@ pub enum PlacedForm {
     Data(u32),
     /// Strings, with a zero byte behind each or not.
     Strings(bool),
+    /// A number, so often as is said.
+    Pattern,
     /// An alignment as a power of 2.
     Power,
     /// An alignment in bytes.
@@ -91,26 +104,34 @@ pub enum DirectiveForm {
     Place(PlacedForm),
     /// That a constant has a value.
     Constant,
-    /// Names, which mean nothing here.
-    Names,
-    /// That the section of the program follows, which is the only one.
-    Text,
-    /// That another section follows.
+    /// That a section follows.
     Section,
+    /// An option, of which some would mean other instructions.
+    Option,
+    /// What means nothing here: of symbols, of the file, or of debugging.
+    Silent,
+    /// What GNU `as` has, and is not implemented here.
+    Refused,
 }
 
 /// The directives, which begin with a dot.
-const DIRECTIVES: [(&[u8], DirectiveForm); 26] = [
+const DIRECTIVES: [(&[u8], DirectiveForm); 152] = [
     (b".word", DirectiveForm::Place(PlacedForm::Data(32))),
     (b".long", DirectiveForm::Place(PlacedForm::Data(32))),
     (b".4byte", DirectiveForm::Place(PlacedForm::Data(32))),
+    (b".int", DirectiveForm::Place(PlacedForm::Data(32))),
     (b".half", DirectiveForm::Place(PlacedForm::Data(16))),
     (b".short", DirectiveForm::Place(PlacedForm::Data(16))),
     (b".2byte", DirectiveForm::Place(PlacedForm::Data(16))),
+    (b".hword", DirectiveForm::Place(PlacedForm::Data(16))),
     (b".byte", DirectiveForm::Place(PlacedForm::Data(8))),
+    (b".dword", DirectiveForm::Place(PlacedForm::Data(64))),
+    (b".quad", DirectiveForm::Place(PlacedForm::Data(64))),
+    (b".8byte", DirectiveForm::Place(PlacedForm::Data(64))),
     (b".ascii", DirectiveForm::Place(PlacedForm::Strings(false))),
     (b".asciz", DirectiveForm::Place(PlacedForm::Strings(true))),
     (b".string", DirectiveForm::Place(PlacedForm::Strings(true))),
+    (b".fill", DirectiveForm::Place(PlacedForm::Pattern)),
     (b".align", DirectiveForm::Place(PlacedForm::Power)),
     (b".p2align", DirectiveForm::Place(PlacedForm::Power)),
     (b".balign", DirectiveForm::Place(PlacedForm::Alignment)),
@@ -120,13 +141,133 @@ const DIRECTIVES: [(&[u8], DirectiveForm); 26] = [
     (b".org", DirectiveForm::Place(PlacedForm::Origin)),
     (b".equ", DirectiveForm::Constant),
     (b".set", DirectiveForm::Constant),
-    (b".globl", DirectiveForm::Names),
-    (b".global", DirectiveForm::Names),
-    (b".text", DirectiveForm::Text),
+    (b".text", DirectiveForm::Section),
     (b".data", DirectiveForm::Section),
     (b".bss", DirectiveForm::Section),
     (b".rodata", DirectiveForm::Section),
     (b".section", DirectiveForm::Section),
+    (b".option", DirectiveForm::Option),
+    (b".globl", DirectiveForm::Silent),
+    (b".global", DirectiveForm::Silent),
+    (b".local", DirectiveForm::Silent),
+    (b".weak", DirectiveForm::Silent),
+    (b".hidden", DirectiveForm::Silent),
+    (b".internal", DirectiveForm::Silent),
+    (b".protected", DirectiveForm::Silent),
+    (b".extern", DirectiveForm::Silent),
+    (b".type", DirectiveForm::Silent),
+    (b".size", DirectiveForm::Silent),
+    (b".file", DirectiveForm::Silent),
+    (b".ident", DirectiveForm::Silent),
+    (b".attribute", DirectiveForm::Silent),
+    (b".loc", DirectiveForm::Silent),
+    (b".cfi_startproc", DirectiveForm::Silent),
+    (b".cfi_endproc", DirectiveForm::Silent),
+    (b".cfi_sections", DirectiveForm::Silent),
+    (b".cfi_def_cfa", DirectiveForm::Silent),
+    (b".cfi_def_cfa_offset", DirectiveForm::Silent),
+    (b".cfi_def_cfa_register", DirectiveForm::Silent),
+    (b".cfi_adjust_cfa_offset", DirectiveForm::Silent),
+    (b".cfi_offset", DirectiveForm::Silent),
+    (b".cfi_rel_offset", DirectiveForm::Silent),
+    (b".cfi_register", DirectiveForm::Silent),
+    (b".cfi_restore", DirectiveForm::Silent),
+    (b".cfi_undefined", DirectiveForm::Silent),
+    (b".cfi_same_value", DirectiveForm::Silent),
+    (b".cfi_remember_state", DirectiveForm::Silent),
+    (b".cfi_restore_state", DirectiveForm::Silent),
+    (b".cfi_return_column", DirectiveForm::Silent),
+    (b".cfi_signal_frame", DirectiveForm::Silent),
+    (b".cfi_personality", DirectiveForm::Silent),
+    (b".cfi_lsda", DirectiveForm::Silent),
+    (b".cfi_escape", DirectiveForm::Silent),
+    (b".uleb128", DirectiveForm::Refused),
+    (b".sleb128", DirectiveForm::Refused),
+    (b".float", DirectiveForm::Refused),
+    (b".double", DirectiveForm::Refused),
+    (b".single", DirectiveForm::Refused),
+    (b".octa", DirectiveForm::Refused),
+    (b".dcb", DirectiveForm::Refused),
+    (b".ds", DirectiveForm::Refused),
+    (b".incbin", DirectiveForm::Refused),
+    (b".include", DirectiveForm::Refused),
+    (b".insn", DirectiveForm::Refused),
+    (b".reloc", DirectiveForm::Refused),
+    (b".float16", DirectiveForm::Refused),
+    (b".base64", DirectiveForm::Refused),
+    (b".dtprelword", DirectiveForm::Refused),
+    (b".dtpreldword", DirectiveForm::Refused),
+    (b".subsection", DirectiveForm::Refused),
+    (b".line", DirectiveForm::Refused),
+    (b".struct", DirectiveForm::Refused),
+    (b".offset", DirectiveForm::Refused),
+    (b".stabs", DirectiveForm::Refused),
+    (b".stabn", DirectiveForm::Refused),
+    (b".stabd", DirectiveForm::Refused),
+    (b".weakref", DirectiveForm::Refused),
+    (b".symver", DirectiveForm::Refused),
+    (b".version", DirectiveForm::Refused),
+    (b".vtable_entry", DirectiveForm::Refused),
+    (b".vtable_inherit", DirectiveForm::Refused),
+    (b".inst", DirectiveForm::Refused),
+    (b".balignw", DirectiveForm::Refused),
+    (b".balignl", DirectiveForm::Refused),
+    (b".p2alignw", DirectiveForm::Refused),
+    (b".p2alignl", DirectiveForm::Refused),
+    (b".string8", DirectiveForm::Refused),
+    (b".string16", DirectiveForm::Refused),
+    (b".string32", DirectiveForm::Refused),
+    (b".string64", DirectiveForm::Refused),
+    (b".bundle_align_mode", DirectiveForm::Refused),
+    (b".ln", DirectiveForm::Refused),
+    (b".linkonce", DirectiveForm::Refused),
+    (b".half_float", DirectiveForm::Refused),
+    (b".pushsection", DirectiveForm::Refused),
+    (b".popsection", DirectiveForm::Refused),
+    (b".previous", DirectiveForm::Refused),
+    (b".comm", DirectiveForm::Refused),
+    (b".lcomm", DirectiveForm::Refused),
+    (b".macro", DirectiveForm::Refused),
+    (b".endm", DirectiveForm::Refused),
+    (b".exitm", DirectiveForm::Refused),
+    (b".purgem", DirectiveForm::Refused),
+    (b".rept", DirectiveForm::Refused),
+    (b".endr", DirectiveForm::Refused),
+    (b".irp", DirectiveForm::Refused),
+    (b".irpc", DirectiveForm::Refused),
+    (b".if", DirectiveForm::Refused),
+    (b".ifdef", DirectiveForm::Refused),
+    (b".ifndef", DirectiveForm::Refused),
+    (b".else", DirectiveForm::Refused),
+    (b".elseif", DirectiveForm::Refused),
+    (b".endif", DirectiveForm::Refused),
+    (b".altmacro", DirectiveForm::Refused),
+    (b".noaltmacro", DirectiveForm::Refused),
+    (b".end", DirectiveForm::Refused),
+    (b".err", DirectiveForm::Refused),
+    (b".error", DirectiveForm::Refused),
+    (b".warning", DirectiveForm::Refused),
+    (b".print", DirectiveForm::Refused),
+    (b".func", DirectiveForm::Refused),
+    (b".endfunc", DirectiveForm::Refused),
+    (b".lflags", DirectiveForm::Refused),
+    (b".list", DirectiveForm::Refused),
+    (b".nolist", DirectiveForm::Refused),
+    (b".title", DirectiveForm::Refused),
+    (b".sbttl", DirectiveForm::Refused),
+    (b".psize", DirectiveForm::Refused),
+    (b".eject", DirectiveForm::Refused),
+    (b".abort", DirectiveForm::Refused),
+    (b".cfi_fde_data", DirectiveForm::Refused),
+    (b".cfi_b_key_frame", DirectiveForm::Refused),
+    (b".cfi_val_offset", DirectiveForm::Refused),
+    (b".cfi_label", DirectiveForm::Refused),
+    (b".cfi_inline_lsda", DirectiveForm::Refused),
+    (b".cfi_window_save", DirectiveForm::Refused),
+    (b".gnu_attribute", DirectiveForm::Refused),
+    (b".tls_common", DirectiveForm::Refused),
+    (b".bfloat16", DirectiveForm::Refused),
+    (b".zerofill", DirectiveForm::Refused),
 ];
 
 /// What the directive of a name says.

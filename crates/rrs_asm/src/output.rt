@@ -14,6 +14,9 @@ use std::alloc::Global;
 /// The most bytes that are made of a source: 64 MiB.
 pub const MOST_BYTES: usize = 0x400_0000;
 
+/// The word of `unimp`.
+const UNIMP: u32 = 0xc000_1073;
+
 /// A statement and its place.
 #[derive(Debug, PartialEq, Drop)]
 pub struct Placed {
@@ -36,7 +39,7 @@ pub struct Label<'a> {
     pub address: u32,
 }
 
-/// A source that was assembled.
+/// What was made of the items of a section.
 #[derive(Debug, Drop)]
 pub struct Assembled<'a> {
     /// The labels in the order of the source, local labels too.
@@ -108,6 +111,7 @@ fn append(bytes: &mut Vec<u8>, statement: &Statement) -> Result<(), Halt>
         Statement::Pseudo(pseudo) => append_expansion(bytes, &pseudo.expand()),
         Statement::Data(data) => append_data(bytes, data),
         Statement::Fill(count, byte) => append_fill(bytes, *count, *byte),
+        Statement::Unimp => Ok(bytes.extend_from_slice(&UNIMP.to_le_bytes())?),
     }
 }
 

@@ -2,10 +2,10 @@
 
 ghost use Rattle.std.specs.Prelude.{◌≡◌, ◌<◌, ◌^◌, ℕ, pos, neg_ℤ, ◌+ℤ◌, ◌≤ℤ◌, ◌∷◌, []};
 ghost use Rattle.rrs_instruction.specs.Words.{word, floor_mod};
-ghost use Rattle.rrs_asm.specs.Pseudo.{expanded, listed, AreHalves, lower, upper, load_immediate, of_one, against_zero, swapped, addi, lui, auipc, jal, jalr, fence_all};
+ghost use Rattle.rrs_asm.specs.Pseudo.{expanded, listed, AreHalves, lower, upper, load_immediate, of_one, against_zero, swapped, compared, load, store, addi, lui, auipc, jal, jalr, fence_all};
 
 use rrs_instruction::instruction::Instruction;
-use rrs_instruction::instruction_formats::{BType, IType, JType, RType, UType};
+use rrs_instruction::instruction_formats::{BType, IType, JType, RType, SType, UType};
 
 /// A pseudo-instruction that writes a register from one other.
 #[derive(Debug, PartialEq, Clone, Copy)]
@@ -17,6 +17,7 @@ pub enum Unary {
     Snez,
     Sltz,
     Sgtz,
+    ZextB,
 }
 
 /// A branch that compares a register with zero.
@@ -39,6 +40,31 @@ pub enum SwappedBranch {
     Bleu,
 }
 
+/// A comparison whose two registers change places.
+#[derive(Debug, PartialEq, Clone, Copy)]
+pub enum SwappedComparison {
+    Sgt,
+    Sgtu,
+}
+
+/// A load from a symbol.
+#[derive(Debug, PartialEq, Clone, Copy)]
+pub enum Load {
+    Lb,
+    Lbu,
+    Lh,
+    Lhu,
+    Lw,
+}
+
+/// A store at a symbol.
+#[derive(Debug, PartialEq, Clone, Copy)]
+pub enum Store {
+    Sb,
+    Sh,
+    Sw,
+}
+
 /// A pseudo-instruction with its operands. Registers go by their numbers, and the offset of a
 /// branch or a jump is that from its own address.
 #[derive(Debug, PartialEq, Clone, Copy)]
@@ -53,6 +79,16 @@ pub enum Pseudo {
     Li(usize, u32),
     /// `la rd, symbol`: the offset to the symbol, as a word.
     La(usize, u32),
+    /// `lla rd, symbol`, which is `la`.
+    Lla(usize, u32),
+    /// `lw rd, symbol`, and those like it: the offset to the symbol, as a word.
+    From(Load, usize, u32),
+    /// `sw rs, symbol, rt`, and those like it: the offset to the symbol, as a word.
+    At(Store, usize, usize, u32),
+    /// `sgt rd, rs, rt`, and the one like it.
+    Compared(SwappedComparison, usize, usize, usize),
+    /// `jump symbol, rt`: the offset to the symbol, as a word.
+    Jump(usize, u32),
     /// `mv rd, rs`, and those like it.
     OfOne(Unary, usize, usize),
     /// `beqz rs, target`, and those like it: the offset.
@@ -103,6 +139,21 @@ impl Pseudo {
             Pseudo::Fence => one(fence_all()),
             Pseudo::Li(rd, value) => load_immediate(rd, value),
             Pseudo::La(rd, offset) => load_address(rd, offset),
+            Pseudo::Lla(rd, offset) => load_address(rd, offset),
+            Pseudo::From(name, rd, offset) => {
+                two(
+                    auipc(rd, upper(offset)),
+                    make_load(name, rd, rd, lower(offset)),
+                )
+            }
+            Pseudo::At(name, rs, rt, offset) => {
+                two(
+                    auipc(rt, upper(offset)),
+                    make_store(name, rs, rt, lower(offset)),
+                )
+            }
+            Pseudo::Compared(name, rd, rs, rt) => one(compared(name, rd, rs, rt)),
+            Pseudo::Jump(rt, offset) => jump_far(0, rt, offset),
             Pseudo::OfOne(name, rd, rs) => one(of_one(name, rd, rs)),
             Pseudo::AgainstZero(name, rs, offset) => one(against_zero(name, rs, offset)),
             Pseudo::Swapped(name, rs, rt, offset) => one(swapped(name, rs, rt, offset)),
@@ -190,6 +241,49 @@ fn of_one(name: Unary, rd: usize, rs: usize) -> Instruction
         Unary::Snez => Instruction::Sltu(registers(0, 3, rd, 0, rs)),
         Unary::Sltz => Instruction::Slt(registers(0, 2, rd, rs, 0)),
         Unary::Sgtz => Instruction::Slt(registers(0, 2, rd, 0, rs)),
+        Unary::ZextB => Instruction::Andi(immediate(7, rd, rs, 0xff)),
+    }
+}
+
+fn compared(name: SwappedComparison, rd: usize, rs: usize, rt: usize) -> Instruction
+    ensures { result ≡ compared name rd rs rt }
+{
+    match name {
+        SwappedComparison::Sgt => Instruction::Slt(registers(0, 2, rd, rt, rs)),
+        SwappedComparison::Sgtu => Instruction::Sltu(registers(0, 3, rd, rt, rs)),
+    }
+}
+
+fn make_load(name: Load, rd: usize, rs: usize, imm: i32) -> Instruction
+    ensures { result ≡ load name rd rs imm }
+{
+    match name {
+        Load::Lb => Instruction::Lb(immediate(0, rd, rs, imm)),
+        Load::Lbu => Instruction::Lbu(immediate(4, rd, rs, imm)),
+        Load::Lh => Instruction::Lh(immediate(1, rd, rs, imm)),
+        Load::Lhu => Instruction::Lhu(immediate(5, rd, rs, imm)),
+        Load::Lw => Instruction::Lw(immediate(2, rd, rs, imm)),
+    }
+}
+
+fn make_store(name: Store, rs2: usize, rs1: usize, imm: i32) -> Instruction
+    ensures { result ≡ store name rs2 rs1 imm }
+{
+    match name {
+        Store::Sb => Instruction::Sb(stored(0, rs1, rs2, imm)),
+        Store::Sh => Instruction::Sh(stored(1, rs1, rs2, imm)),
+        Store::Sw => Instruction::Sw(stored(2, rs1, rs2, imm)),
+    }
+}
+
+fn stored(funct3: u32, rs1: usize, rs2: usize, imm: i32) -> SType
+    ensures { result ≡ record { imm = imm; rs2 = rs2; rs1 = rs1; funct3 = funct3 } }
+{
+    SType {
+        imm,
+        rs2,
+        rs1,
+        funct3,
     }
 }
 

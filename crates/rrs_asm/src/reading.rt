@@ -3,10 +3,40 @@
 ghost use Rattle.std.specs.Prelude.{pos, ◌<ℤ◌};
 
 use crate::errors::{LineError, SourceErrorKind};
+use crate::expressions::{Operator, Waiting, operator_between};
 use crate::lexing::{behind_blanks, split_word};
-use crate::literals::{escaped, local_label, number_of};
+use crate::literals::{digit_of, escaped, local_label, number_of};
 use crate::registers::register_number;
 use crate::symbols::{Known, Symbols};
+
+/// Where a statement stands.
+#[derive(Clone, Copy)]
+pub struct Site {
+    /// Its address.
+    pub here: u32,
+    /// Whether its section holds instructions.
+    pub is_code: bool,
+    /// Whether its section is not laid out.
+    pub is_skipped: bool,
+}
+
+/// What a statement asks beside its bytes.
+#[derive(Clone, Copy)]
+pub struct Notes {
+    /// The alignment of its section, a power of 2.
+    pub alignment: u32,
+    /// How far its `%pcrel_hi` reaches.
+    pub distance: Option<u32>,
+}
+
+/// How a number may be written.
+#[derive(Clone, Copy)]
+struct Wanted {
+    /// Whether it has to be known here.
+    is_known: bool,
+    /// Whether it may have 64 bits.
+    is_wide: bool,
+}
 
 /// What is left of a statement, and where it stands.
 #[derive(Clone, Copy)]
@@ -15,24 +45,81 @@ pub struct Line<'a, 's> {
     /// How many bytes of the line are behind the statement.
     behind: usize,
     symbols: &'s Symbols<'a>,
-    /// The address of the statement.
-    here: u32,
+    site: Site,
+    notes: Notes,
 }
 
 impl<'a, 's> Line<'a, 's> {
-    /// The rest of a statement at an address, with so many bytes of the line behind it.
-    pub fn new(rest: &'a [u8], behind: usize, symbols: &'s Symbols<'a>, here: u32) -> Self {
+    /// The rest of a statement at a place, with so many bytes of the line behind it.
+    pub fn new(rest: &'a [u8], behind: usize, symbols: &'s Symbols<'a>, site: Site) -> Self {
+        let notes = Notes {
+            alignment: 1,
+            distance: None,
+        };
         Line {
             rest,
             behind,
             symbols,
-            here,
+            site,
+            notes,
         }
     }
 
     /// The address of the statement.
     pub fn here(&self) -> u32 {
-        self.here
+        self.site.here
+    }
+
+    /// Where the statement stands.
+    pub fn site(&self) -> Site {
+        self.site
+    }
+
+    /// What the statement asks beside its bytes.
+    pub fn notes(&self) -> Notes {
+        self.notes
+    }
+
+    /// Asks for an alignment of the section.
+    pub fn align(&mut self, alignment: u32) {
+        self.notes.alignment = alignment;
+    }
+
+    /// Takes a digit below a base, if one is next.
+    pub fn next_digit(&mut self, base: u64) -> Option<u8> {
+        let byte = *self.rest.first()?;
+        let digit = digit_of(byte, base)?;
+        let _ = self.next_byte();
+        u8::try_from(digit).ok()
+    }
+
+    /// Whether a comma is next, behind blanks.
+    pub fn is_comma_next(&self) -> bool {
+        let mut ahead = *self;
+        ahead.take(b',')
+    }
+
+    /// Takes a symbol, with what is added to it, and no register in parentheses behind it: how far
+    /// it is from the statement, modulo 2^32. None where something else stands there.
+    pub fn distance_alone(&mut self) -> Option<u32> {
+        let mut ahead = *self;
+        ahead.skip_blanks();
+        let is_symbol = match ahead.rest {
+            [b'a'..=b'z' | b'A'..=b'Z' | b'_' | b'.' | b'$', ..] => true,
+            _ => false,
+        };
+        let value = ahead.value().ok()?;
+        let mut behind = ahead;
+        if !is_symbol || behind.take(b'(') {
+            return None;
+        }
+        *self = ahead;
+        Some(value.wrapping_sub(self.site.here))
+    }
+
+    /// Takes whatever is left.
+    pub fn skip_all(&mut self) {
+        self.rest = &self.rest[self.rest.len()..];
     }
 
     /// A mistake at this place.
@@ -119,83 +206,150 @@ impl<'a, 's> Line<'a, 's> {
         Ok((first, second))
     }
 
-    /// Takes a value: terms with signs between them. It wraps modulo 2^32.
+    /// Takes a value. It is taken modulo 2^32.
     pub fn value(&mut self) -> Result<u32, LineError> {
-        self.sum(false)
+        self.word_of(false)
     }
 
     /// Takes a value that is known here: none of its symbols is defined further on.
     pub fn known_value(&mut self) -> Result<u32, LineError> {
-        self.sum(true)
+        self.word_of(true)
     }
 
-    /// Takes a sum of terms.
-    fn sum(&mut self, is_known: bool) -> Result<u32, LineError> {
-        let mut value = self.signed_term(is_known)?;
+    /// Takes a value modulo 2^32.
+    fn word_of(&mut self, is_known: bool) -> Result<u32, LineError> {
+        let wanted = Wanted {
+            is_known,
+            is_wide: false,
+        };
+        Ok((self.expression(wanted)? % 0x1_0000_0000) as u32)
+    }
+
+    /// Takes a value of 64 bits.
+    pub fn wide_value(&mut self) -> Result<u64, LineError> {
+        self.expression(Wanted {
+            is_known: false,
+            is_wide: true,
+        })
+    }
+
+    /// Takes values with operators and parentheses.
+    fn expression(&mut self, wanted: Wanted) -> Result<u64, LineError> {
+        let mut waiting = Waiting::new();
         for _ in 0..u64::MAX {
-            if self.take(b'+') {
-                value = value.wrapping_add(self.signed_term(is_known)?);
-            } else if self.take(b'-') {
-                value = value.wrapping_sub(self.signed_term(is_known)?);
+            self.operators_before(&mut waiting)?;
+            let term = self.term(wanted, waiting.is_negated())?;
+            let value = self.parentheses_behind(term, &mut waiting)?;
+            let error = self.error(SourceErrorKind::Deep);
+            match self.operator() {
+                Some(operator) => waiting
+                    .push_between(operator, value)
+                    .map_err(|kind| error.with_kind(kind))?,
+                None if waiting.is_open() => {
+                    return Err(error.with_kind(SourceErrorKind::Parenthesis));
+                }
+                None => {
+                    return waiting
+                        .all_applied(value)
+                        .map_err(|kind| error.with_kind(kind));
+                }
+            }
+        }
+        Err(self.error(SourceErrorKind::Value))
+    }
+
+    /// Takes the operators before a value, and opening parentheses.
+    fn operators_before(&mut self, waiting: &mut Waiting) -> Result<(), LineError> {
+        for _ in 0..u64::MAX {
+            let operator = if self.take(b'-') {
+                Operator::Negate
+            } else if self.take(b'~') {
+                Operator::Complement
+            } else if self.take(b'!') {
+                Operator::IsZero
+            } else if self.take(b'(') {
+                Operator::Open
+            } else if self.take(b'+') {
+                continue;
             } else {
                 break;
+            };
+            let error = self.error(SourceErrorKind::Deep);
+            waiting
+                .push(operator, 0)
+                .map_err(|kind| error.with_kind(kind))?;
+        }
+        Ok(())
+    }
+
+    /// Takes the closing parentheses behind a value.
+    fn parentheses_behind(&mut self, value: u64, waiting: &mut Waiting) -> Result<u64, LineError> {
+        let mut value = value;
+        for _ in 0..u64::MAX {
+            if !waiting.is_open() || !self.take(b')') {
+                break;
             }
+            let error = self.error(SourceErrorKind::Deep);
+            value = waiting.closed(value).map_err(|kind| error.with_kind(kind))?;
         }
         Ok(value)
     }
 
-    /// Takes a term, which may have a sign. A negative one is no less than -2^31.
-    fn signed_term(&mut self, is_known: bool) -> Result<u32, LineError> {
-        if self.take(b'-') {
-            self.skip_blanks();
-            let error = self.error(SourceErrorKind::Range);
-            let magnitude = self.term(is_known)?;
-            if magnitude > 0x8000_0000 {
-                return Err(error);
-            }
-            return Ok(0u32.wrapping_sub(magnitude));
+    /// Takes an operator between two values, if one is next.
+    fn operator(&mut self) -> Option<Operator> {
+        self.skip_blanks();
+        let (first, second) = match self.rest {
+            [first, second, ..] => (*first, *second),
+            [first] => (*first, b' '),
+            [] => return None,
+        };
+        let (operator, count) = operator_between(first, second)?;
+        for _ in 0..count {
+            let _ = self.next_byte();
         }
-        let _ = self.take(b'+');
-        self.term(is_known)
+        Some(operator)
     }
 
     /// Takes a term: a number, a character constant, a symbol, or `.`, the address of the
-    /// statement.
-    fn term(&mut self, is_known: bool) -> Result<u32, LineError> {
+    /// statement. A number of 32 bits behind a minus is at most 2^31.
+    fn term(&mut self, wanted: Wanted, is_negated: bool) -> Result<u64, LineError> {
         if self.take(b'\'') {
-            return self.character();
+            return Ok(u64::from(self.character()?));
         }
         self.skip_blanks();
         let error = self.error(SourceErrorKind::Value);
         let word = self.word();
-        self.value_of_word(word, is_known, error)
+        if let Some((digit, is_before)) = local_label(word) {
+            let known = self.symbols.local_value(digit, is_before);
+            return Ok(u64::from(self.known(known, wanted.is_known, error)?));
+        }
+        match word {
+            [b'0'..=b'9', ..] => number(word, wanted.is_wide, is_negated, error),
+            _ => Ok(u64::from(self.value_of_word(word, wanted.is_known, error)?)),
+        }
     }
 
-    /// The value of a word.
+    /// The value of a symbol, or of `.`.
     fn value_of_word(
         &self,
         word: &[u8],
         is_known: bool,
         error: LineError,
     ) -> Result<u32, LineError> {
-        if let Some((digit, is_before)) = local_label(word) {
-            return self.known(self.symbols.local_value(digit, is_before), is_known, error);
-        }
         match word {
             [] => Err(error),
-            [b'.'] => Ok(self.here),
-            [b'0'..=b'9', ..] => number_of(word).ok_or(error.with_kind(SourceErrorKind::Number)),
+            [b'.'] => Ok(self.site.here),
             _ => self.known(self.symbols.value_of(word), is_known, error),
         }
     }
 
-    /// The value of a symbol of which this is known; where it is not known yet, in the first
+    /// The value of a symbol of which this is known; where it is not known yet, before the last
     /// reading, the address of the statement.
     fn known(&self, known: Known, is_known: bool, error: LineError) -> Result<u32, LineError> {
         let kind = match known {
             Known::Now(value) => return Ok(value),
             Known::Later(value) if !is_known => return Ok(value),
-            Known::Perhaps if !is_known => return Ok(self.here),
+            Known::Perhaps if !is_known => return Ok(self.site.here),
             Known::Later(_) | Known::Perhaps => SourceErrorKind::Later,
             Known::Never => SourceErrorKind::Undefined,
         };
@@ -222,24 +376,55 @@ impl<'a, 's> Line<'a, 's> {
         }
     }
 
-    /// Takes the value of an immediate: a value, or its high or low part.
-    fn part(&mut self) -> Result<u32, LineError> {
+    /// Takes a value in parentheses.
+    fn enclosed(&mut self) -> Result<u32, LineError> {
+        self.expect(b'(', SourceErrorKind::Parenthesis)?;
+        let value = self.value()?;
+        self.expect(b')', SourceErrorKind::Parenthesis)?;
+        Ok(value)
+    }
+
+    /// Takes a value, or the lower 12 bits of one.
+    fn low(&mut self) -> Result<u32, LineError> {
         if !self.take(b'%') {
             return self.value();
         }
         let error = self.error(SourceErrorKind::Value);
         let name = self.word();
-        self.expect(b'(', SourceErrorKind::Parenthesis)?;
-        let value = self.value()?;
-        self.expect(b')', SourceErrorKind::Parenthesis)?;
         match name {
-            b"hi" => Ok(high_part(value)),
-            b"lo" => Ok(low_part(value)),
+            b"lo" => Ok(low_part(self.enclosed()?)),
+            b"pcrel_lo" => {
+                let address = self.enclosed()?;
+                match self.symbols.distance_at(address) {
+                    Some(distance) => Ok(low_part(distance)),
+                    None => self.fitting(0, 0, false, error.with_kind(SourceErrorKind::Distance)),
+                }
+            }
+            b"hi" | b"pcrel_hi" => Err(error.with_kind(SourceErrorKind::High)),
             _ => Err(error),
         }
     }
 
-    /// A value, if it fits. In the first reading, where a symbol may be unknown, 0 where it does
+    /// Takes a value, or the upper 20 bits of one.
+    fn high(&mut self) -> Result<u32, LineError> {
+        if !self.take(b'%') {
+            return self.value();
+        }
+        let error = self.error(SourceErrorKind::Value);
+        let name = self.word();
+        match name {
+            b"hi" => Ok(high_part(self.enclosed()?)),
+            b"pcrel_hi" => {
+                let distance = self.enclosed()?.wrapping_sub(self.site.here);
+                self.notes.distance = Some(distance);
+                Ok(high_part(distance))
+            }
+            b"lo" | b"pcrel_lo" => Err(error.with_kind(SourceErrorKind::Low)),
+            _ => Err(error),
+        }
+    }
+
+    /// A value, if it fits. Before the last reading, where a symbol may be unknown, 0 where it does
     /// not.
     fn fitting<T>(&self, value: T, zero: T, fits: bool, error: LineError) -> Result<T, LineError>
     where
@@ -247,10 +432,10 @@ impl<'a, 's> Line<'a, 's> {
     {
         if fits {
             Ok(value)
-        } else if self.symbols.is_first() {
-            Ok(zero)
-        } else {
+        } else if self.symbols.is_last() {
             Err(error)
+        } else {
+            Ok(zero)
         }
     }
 
@@ -258,7 +443,7 @@ impl<'a, 's> Line<'a, 's> {
     pub fn immediate(&mut self) -> Result<i32, LineError> {
         self.skip_blanks();
         let error = self.error(SourceErrorKind::Range);
-        let value = self.part()?.cast_signed();
+        let value = self.low()?.cast_signed();
         self.fitting(value, 0, -2048 <= value && value <= 2047, error)
     }
 
@@ -266,8 +451,16 @@ impl<'a, 's> Line<'a, 's> {
     pub fn below(&mut self, limit: u32) -> Result<u32, LineError> {
         self.skip_blanks();
         let error = self.error(SourceErrorKind::Range);
-        let value = self.part()?;
+        let value = self.value()?;
         self.fitting(value, 0, value < limit, error)
+    }
+
+    /// Takes the upper 20 bits of a word.
+    pub fn upper(&mut self) -> Result<u32, LineError> {
+        self.skip_blanks();
+        let error = self.error(SourceErrorKind::Range);
+        let value = self.high()?;
+        self.fitting(value, 0, value < 0x10_0000, error)
     }
 
     /// Takes a target: the offset to it, which is even, from `-reach` to below `reach`.
@@ -276,7 +469,7 @@ impl<'a, 's> Line<'a, 's> {
     {
         self.skip_blanks();
         let error = self.error(SourceErrorKind::Range);
-        let offset = self.value()?.wrapping_sub(self.here).cast_signed();
+        let offset = self.value()?.wrapping_sub(self.site.here).cast_signed();
         let fits = -reach <= offset && offset < reach;
         let offset = self.fitting(offset, 0, fits, error)?;
         let unaligned = error.with_kind(SourceErrorKind::Unaligned);
@@ -287,7 +480,7 @@ impl<'a, 's> Line<'a, 's> {
     pub fn datum(&mut self, bits: u32) -> Result<u32, LineError> {
         self.skip_blanks();
         let error = self.error(SourceErrorKind::Range);
-        let value = self.part()?;
+        let value = self.value()?;
         let fits = match bits {
             8 => value < 0x100 || 0xffff_ff80 <= value,
             16 => value < 0x1_0000 || 0xffff_8000 <= value,
@@ -306,13 +499,39 @@ impl<'a, 's> Line<'a, 's> {
 
     /// Takes an immediate and a register in parentheses: `-4(x1)`. With no immediate it is 0.
     pub fn address(&mut self) -> Result<(i32, usize), LineError> {
-        self.skip_blanks();
-        let imm = match self.rest {
-            [b'(', ..] => 0,
-            _ => self.immediate()?,
+        let imm = if self.is_register_enclosed() {
+            0
+        } else {
+            self.immediate()?
         };
         let register = self.register_in_parentheses()?;
         Ok((imm, register))
+    }
+
+    /// Whether a register in parentheses is next.
+    fn is_register_enclosed(&self) -> bool {
+        let mut ahead = *self;
+        ahead.take(b'(') && ahead.register().is_ok()
+    }
+}
+
+/// The value of a number. One of 32 bits behind a minus is at most 2^31.
+fn number(
+    word: &[u8],
+    is_wide: bool,
+    is_negated: bool,
+    error: LineError,
+) -> Result<u64, LineError> {
+    let wrong = error.with_kind(SourceErrorKind::Number);
+    let value = number_of(word).ok_or(wrong)?;
+    if is_wide || value <= 0x8000_0000 {
+        Ok(value)
+    } else if value > 0xffff_ffff {
+        Err(wrong)
+    } else if is_negated {
+        Err(error.with_kind(SourceErrorKind::Range))
+    } else {
+        Ok(value)
     }
 }
 

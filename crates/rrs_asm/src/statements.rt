@@ -17,6 +17,8 @@ pub enum Statement {
     Data(Vec<u8>),
     /// So many of one byte.
     Fill(u32, u8),
+    /// `unimp`: the word 0xc0001073, which is no instruction of the table.
+    Unimp,
 }
 
 impl Statement {
@@ -25,13 +27,22 @@ impl Statement {
         ensures { (own : List ℕ) → AreBytes self.now own → result ≡ length own }
     {
         match self {
-            Statement::Instruction(_) => 4,
+            Statement::Instruction(_) | Statement::Unimp => 4,
             Statement::Pseudo(pseudo) => match pseudo.expand().second {
                 None => 4,
                 Some(_) => 8,
             },
             Statement::Data(bytes) => bytes.len(),
             Statement::Fill(count, _) => *count as usize,
+        }
+    }
+
+    /// Whether all its bytes are zero.
+    pub fn is_zero(&self) -> bool {
+        match self {
+            Statement::Fill(_, byte) => *byte == 0,
+            Statement::Data(bytes) => bytes.iter().all(|byte| *byte == 0),
+            _ => false,
         }
     }
 }

@@ -1,6 +1,6 @@
 //! Symbols: labels, local labels and constants.
 
-ghost use Rattle.std.specs.Prelude.{◌≡◌, false};
+ghost use Rattle.std.specs.Prelude.{◌≡◌, false, true};
 ghost use Rattle.rrs_asm.specs.declared.symbols.Pass.{Pass};
 
 use crate::errors::{Halt, SourceErrorKind};
@@ -10,10 +10,12 @@ use std::collections::BTreeMap;
 /// A reading of the source.
 #[derive(Clone, Copy, PartialEq)]
 pub enum Pass {
-    /// For what symbols stand for.
+    /// For how long the sections are.
     First,
-    /// For the statements.
+    /// For what symbols stand for.
     Second,
+    /// For the statements.
+    Last,
 }
 
 /// What a symbol stands for.
@@ -34,6 +36,8 @@ pub struct Symbols<'a> {
     locals: BTreeMap<(u8, u32), u32>,
     /// How many local labels of each digit were met in this reading.
     counts: [u32; 10],
+    /// How far each `%pcrel_hi` reaches, by the address of its statement.
+    distances: BTreeMap<u32, u32>,
     /// Which reading it is.
     pass: Pass,
 }
@@ -43,9 +47,9 @@ pub struct Symbols<'a> {
 pub enum Known {
     /// Its value, and its definition stands before.
     Now(u32),
-    /// Its value, and its definition stands further on.
+    /// Its value in the reading before, and its definition stands further on.
     Later(u32),
-    /// The source is read for the first time, and its definition may stand further on.
+    /// The source is read for the last time later, and its definition may stand further on.
     Perhaps,
     /// There is no definition.
     Never,
@@ -58,26 +62,44 @@ impl<'a> Symbols<'a> {
             names: BTreeMap::new(alloc),
             locals: BTreeMap::new(alloc),
             counts: [0; 10],
+            distances: BTreeMap::new(alloc),
             pass: Pass::First,
         }
     }
 
-    /// Begins the second reading.
-    pub fn begin_again(&mut self)
-        ensures { self.new.pass ≡ Pass.Second }
+    /// Begins another reading.
+    pub fn begin(&mut self, pass: Pass)
+        ensures { self.new.pass ≡ pass }
     {
         self.counts = [0; 10];
-        self.pass = Pass::Second;
+        self.pass = pass;
     }
 
     /// Whether the source is read for the first time.
     pub fn is_first(&self) -> bool
-        ensures { self.now.pass ≡ Pass.Second → result ≡ false }
+        ensures { self.now.pass ≡ Pass.Last → result ≡ false }
     {
-        match self.pass {
-            Pass::First => true,
-            Pass::Second => false,
-        }
+        matches!(self.pass, Pass::First)
+    }
+
+    /// Whether the source is read for the last time.
+    pub fn is_last(&self) -> bool
+        ensures { self.now.pass ≡ Pass.Last → result ≡ true }
+    {
+        matches!(self.pass, Pass::Last)
+    }
+
+    /// How far the `%pcrel_hi` of the statement at an address reaches.
+    pub fn distance_at(&self, address: u32) -> Option<u32> {
+        self.distances.get(&address).copied()
+    }
+
+    /// Keeps how far a `%pcrel_hi` reaches.
+    pub fn keep_distance(&mut self, address: u32, distance: u32) -> Result<(), AllocError>
+        ensures { self.new.pass ≡ self.old.pass }
+    {
+        let _ = self.distances.insert(address, distance)?;
+        Ok(())
     }
 
     /// What is known of a symbol.
@@ -92,8 +114,8 @@ impl<'a> Symbols<'a> {
     /// What is known where nothing is found.
     fn absent(&self) -> Known {
         match self.pass {
-            Pass::First => Known::Perhaps,
-            Pass::Second => Known::Never,
+            Pass::First | Pass::Second => Known::Perhaps,
+            Pass::Last => Known::Never,
         }
     }
 

@@ -1,12 +1,12 @@
 //! What the tests share: a source as its words, or as its mistakes.
 
-use rrs_asm::{Assembled, SourceError, SourceFault, assemble_source};
+use rrs_asm::{Layout, Program, SourceError, SourceFault, assemble_source, image};
 use std::alloc::{AllocError, Global};
 use std::process::Abort;
 
 /// What `assemble_source` answers, whose contract is so paid in this function alone.
-pub(crate) fn made(alloc: Global, source: &[u8], base: u32) -> Result<Assembled, SourceFault> {
-    assemble_source(alloc, source, base)
+pub(crate) fn made(alloc: Global, source: &[u8], base: u32) -> Result<Program, SourceFault> {
+    assemble_source(alloc, source, Layout::flat(base))
 }
 
 /// The words of a source, the last of them filled up with zeros, and its mistakes. Where there are
@@ -17,7 +17,10 @@ pub(crate) fn assembled(
     base: u32,
 ) -> Result<(Vec<u32>, Vec<SourceError>), AllocError> {
     match made(alloc, source, base) {
-        Ok(made) => Ok((words_of(alloc, &made.bytes)?, Vec::new(alloc))),
+        Ok(made) => Ok((
+            words_of(alloc, &image(alloc, &made, base)?)?,
+            Vec::new(alloc),
+        )),
         Err(SourceFault::Errors(errors)) => Ok((Vec::new(alloc), errors)),
         Err(SourceFault::OutOfMemory) => Err(AllocError),
     }

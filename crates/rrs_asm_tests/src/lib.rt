@@ -15,3 +15,5 @@ mod mistakes;
 mod places;
 #[cfg(test)]
 mod programs;
+#[cfg(test)]
+mod sections;

@@ -1,7 +1,7 @@
 //! Lines, and the words that they are.
 
 use crate::assembled::{made, same_words};
-use rrs_asm::{Pseudo, SwappedBranch, Unary, ZeroBranch, gnu_text};
+use rrs_asm::{Pseudo, SwappedBranch, Unary, ZeroBranch, gnu_text, image};
 use rrs_lib::disassembly::Disassembled;
 use std::alloc::{AllocError, Global};
 use std::test::Fail;
@@ -267,7 +267,7 @@ fn bytes_of_every_kind(alloc: Global) -> Result<Vec<u8>, AllocError> {
 /// The bytes of a source at 0.
 fn bytes_of(alloc: Global, source: &[u8]) -> Result<Vec<u8>, Fail> {
     match made(alloc, source, 0) {
-        Ok(program) => Ok(program.bytes),
+        Ok(program) => Ok(image(alloc, &program, 0)?),
         Err(_) => Err(Fail::from("the source is not assembled")),
     }
 }

@@ -1,7 +1,7 @@
 //! Sources with mistakes, and the places that are told.
 
 use crate::assembled::{made, same_mistakes, same_words};
-use rrs_asm::{SourceError, SourceErrorKind, SourceFault};
+use rrs_asm::{SourceError, SourceErrorKind, SourceFault, image};
 use std::alloc::Global;
 use std::test::Fail;
 
@@ -17,7 +17,7 @@ static MISTAKES: [(&str, usize, usize, SourceErrorKind); 36] = [
     ("addi a0, a0, %top(4)", 1, 15, SourceErrorKind::Value),
     ("li a0, 0x", 1, 8, SourceErrorKind::Number),
     ("li a0, 4294967296", 1, 8, SourceErrorKind::Number),
-    ("li a0, 017", 1, 8, SourceErrorKind::Number),
+    ("li a0, 018", 1, 8, SourceErrorKind::Number),
     ("addi a0, a0, 2048", 1, 14, SourceErrorKind::Range),
     ("li a0, -2147483649", 1, 9, SourceErrorKind::Range),
     ("slli a0, a0, 32", 1, 14, SourceErrorKind::Range),
@@ -39,7 +39,7 @@ static MISTAKES: [(&str, usize, usize, SourceErrorKind); 36] = [
     ("li a0, a\na:", 1, 8, SourceErrorKind::Later),
     ("a:\nnop; a: nop", 2, 6, SourceErrorKind::Duplicate),
     ("a0: nop", 1, 1, SourceErrorKind::Reserved),
-    (".data", 1, 1, SourceErrorKind::Section),
+    (".section", 1, 9, SourceErrorKind::Section),
     ("nop\n.org 2", 2, 6, SourceErrorKind::Backward),
     (".byte 1\nnop\nnop", 2, 1, SourceErrorKind::Misplaced),
     (".space 0x4000001", 1, 8, SourceErrorKind::TooLong),
@@ -106,7 +106,9 @@ const SOURCE: &[u8] = b"a: .word 1f, a\n.ascii \"xyz\"\nb = 1\n1:\n.byte b";
 /// Whether a source is assembled to the bytes that are wanted, or None where memory ran out.
 fn is_assembled(alloc: Global) -> Option<bool> {
     match made(alloc, SOURCE, 0) {
-        Ok(made) => Some(made.bytes.as_slice() == b"\x0b\0\0\0\0\0\0\0xyz\x01".as_slice()),
+        Ok(made) => Some(
+            image(alloc, &made, 0).ok()?.as_slice() == b"\x0b\0\0\0\0\0\0\0xyz\x01".as_slice(),
+        ),
         Err(SourceFault::OutOfMemory) => None,
         Err(SourceFault::Errors(_)) => Some(false),
     }

@@ -74,9 +74,10 @@ fn has_places(
     labels: &[Label<'static>],
     places: &[(usize, u32)],
 ) -> Option<bool> {
-    let Ok(made) = made(alloc, source, base) else {
+    let Ok(program) = made(alloc, source, base) else {
         return None;
     };
+    let made = &program.sections.first()?.made;
     let mut is_same = made.labels.len() == labels.len() && made.placed.len() == places.len();
     for (own, wanted) in made.labels.iter().zip(labels) {
         is_same = is_same

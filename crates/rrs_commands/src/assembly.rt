@@ -1,14 +1,13 @@
 //! What is written of a source of RISC-V.
 
 ghost use Rattle.std.specs.Prelude.{◌≡◌, List, false, IfOk};
-ghost use Rattle.rrs_asm.specs.declared.output.Label.{Label};
-ghost use Rattle.rrs_asm.specs.declared.output.Placed.{Placed};
+ghost use Rattle.rrs_asm.specs.declared.sections.Section.{Section};
 ghost use Rattle.rrs_asm.specs.Source.{items_of};
-ghost use Rattle.rrs_asm.specs.Statements.{IsMade};
+ghost use Rattle.rrs_asm.specs.Sections.{AreMade, laid_flat};
 
 use crate::ending::Refusal;
 use crate::requests::AssemblyRequest;
-use rrs_asm::{SourceError, SourceFault, assemble_source, gnu_text};
+use rrs_asm::{Layout, SourceError, SourceFault, assemble_source, gnu_text, image};
 use rrs_cli::command::Failure;
 use rrs_cli::fault::RunFault;
 use rrs_cli::report::{flush, write_text};
@@ -20,24 +19,27 @@ use std::{fs, io};
 /// The most bytes of a source, 64 MiB. A device may have bytes without an end.
 const SOURCE_BYTES: u64 = 1 << 26;
 
-/// What is to be written of a source: the bytes that are made of its items from address 0 on, or a
-/// source for GNU `as`. Its mistakes are printed on standard error.
+/// What is to be written of a source: the bytes of its sections, which are made of the items in
+/// them, one behind the other from address 0 on, or a source for GNU `as`. Its mistakes are printed on standard error.
 pub fn assembled_text<H: Eprint + AllocGlobal>(
     rt: &H,
     source: &[u8],
     request: AssemblyRequest<'_>,
 ) -> Result<Vec<u8>, Refusal>
     ensures bytes { request.entry.is_gnu ≡ false
-        → IfOk result (λ text. (labels : List Label) × (placed : List Placed)
-        × IsMade 0 (items_of source.now) labels placed text.items) }
+        → IfOk result (λ text. (sections : List Section)
+        × AreMade (items_of source.now) sections × (text.items ≡ laid_flat 0 sections)) }
 {
-    let bytes = match assemble_source(rt.alloc(), source, 0) {
-        Ok(made) => made.bytes,
+    let program = match assemble_source(rt.alloc(), source, Layout::flat(0)) {
+        Ok(program) => program,
         Err(SourceFault::OutOfMemory) => return Err(failed(RunFault::OutOfMemory)),
         Err(SourceFault::Errors(errors)) => {
             print_mistakes(rt, request.path, &errors);
             return Err(Refusal::SourceErrors);
         }
+    };
+    let Ok(bytes) = image(rt.alloc(), &program, 0) else {
+        return Err(failed(RunFault::OutOfMemory));
     };
     if !request.is_gnu {
         return Ok(bytes);

@@ -1,11 +1,27 @@
-use Rattle.std.proofs.Common.{◌≡◌, [], rules, arith}
+use Rattle.std.proofs.Common.{◌≡◌, ◌<◌, List, [], length, subst, rules, arith}
 use Rattle.std.proofs.lemmas.Grind.{common_steps}
 use Rattle.rrs_asm.specs.Source.{items_of}
-use Rattle.rrs_asm.proofs.Made.{laid-out}
+use Rattle.rrs_asm.proofs.Made.{are-made, are-laid-out, all-found, names-length}
+use Rattle.rrs_asm.specs.declared.sections.Section.{Section}
+use Rattle.rrs_asm.specs.Sections.{names_of, first_open}
 use Rattle.rrs_asm.proofs.assembling.assemble_source.Goals as goal
 
--- what is made stands one behind the other
-pub returns-then-reading-first-clause-laid_out : goal.returns-then-reading-first-clause-laid_out
-returns-then-reading-first-clause-laid_out c =
-    let none : c.in_ok-reading.errors.items ≡ [] = first_of (search rules, grind (arith, common_steps)) in
-    laid-out c.args.base (items_of c.args.source.now) _ _ _ (c.in_ok-reading.ensures c.begin_again.ensures none)
+-- all was read without a mistake
+pub returns-then-is_settled-clause-items : goal.returns-then-is_settled-clause-items
+returns-then-is_settled-clause-items c =
+    let none : c.in_ok-last.errors.items ≡ [] = first_of (search rules, grind (arith, common_steps)) in
+    are-made _ (items_of c.args.source.now) c.in_ok-last.last (c.in_ok-last.ensures c.begin-2.ensures c.in_ok-sections-3.ensures none)
+
+pub returns-then-is_settled-clause-laid_out : goal.returns-then-is_settled-clause-laid_out
+returns-then-is_settled-clause-laid_out c =
+    let none : c.in_ok-last.errors.items ≡ [] = first_of (search rules, grind (arith, common_steps)) in
+    are-laid-out _ (items_of c.args.source.now) c.in_ok-last.last (c.in_ok-last.ensures c.begin-2.ensures c.in_ok-sections-3.ensures none)
+
+pub returns-then-is_settled-clause-all_found : goal.returns-then-is_settled-clause-all_found
+returns-then-is_settled-clause-all_found c =
+    let none : c.in_ok-last.errors.items ≡ [] = first_of (search rules, grind (arith, common_steps)) in
+    let Below : List Section → Type 0 = λ xs. first_open (names_of xs) < length xs in
+    let below : Below c.in_ok-last.last.sections.items = subst Below c.deref-then-is_empty-2.ensures.value (c.is_settled.ensures c.if-is_settled.true) in (
+      λ laid. omega (arith, below, names-length c.in_ok-last.last.sections.items),
+      all-found _ (items_of c.args.source.now) c.in_ok-last.last (c.in_ok-last.ensures c.begin-2.ensures c.in_ok-sections-3.ensures none),
+    )

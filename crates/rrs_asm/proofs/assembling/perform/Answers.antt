@@ -1,15 +1,27 @@
-use Rattle.std.proofs.Common.{subst, sym}
+use Rattle.std.proofs.Common.{subst, sym, ◌∙◌, [], ◌∷◌}
 use Rattle.rrs_asm.specs.declared.directives.Read.{Read}
+use Rattle.rrs_asm.specs.declared.assembling.Reading.{Reading}
+use Rattle.rrs_asm.specs.Source.{Item}
 use Rattle.rrs_asm.specs.Names.{IsNamed}
-use Rattle.rrs_asm.specs.Forms.{items_of_read, HasItsName, ReadsOn}
-use Rattle.rrs_asm.proofs.Made.{on-ok}
+use Rattle.rrs_asm.specs.Forms.{skipped, items_of_read, HasItsName, ReadsOn}
+use Rattle.rrs_asm.proofs.Made.{on-ok, skipped-plain}
 use Rattle.rrs_asm.proofs.assembling.perform.Goals as goal
 
 -- a statement is one of its name
-pub returns-in-Laid-clause-items : goal.returns-in-Laid-clause-items
-returns-in-Laid-clause-items c =
+pub returns-in_ok-keep_notes-in-Laid-clause-items : goal.returns-in_ok-keep_notes-in-Laid-clause-items
+returns-in_ok-keep_notes-in-Laid-clause-items c =
     let Named : Read → Type 0 = HasItsName in
     let named : IsNamed c.in-Laid.field-0.now c.in-Laid.statement = subst Named c.in-Laid.is c.requires in
-    let Reads : Read → Type 0 = λ r. ReadsOn c.args.base (items_of_read c.args.number r) c.args.reading.now c.place.new.reading in
-    on-ok c.place.result c.place.ensures (λ reads. λ second.
-    subst Reads (sym c.in-Laid.is) (reads (c.is_first.ensures second) c.in-Laid.field-0.now named))
+    let Reads : Read → Type 0 = λ r. ReadsOn (items_of_read c.args.number r) c.args.reading.now c.put.new.reading in
+    let From : Reading → Type 0 = λ r. ReadsOn (Item.Laid c.args.number c.in-Laid.field-0.now ∷ []) r c.put.new.reading in
+    on-ok c.put.result c.put.ensures (λ reads. λ last.
+    subst Reads (sym c.in-Laid.is) (subst From (c.keep_notes.ensures.same last)
+    (reads (c.is_last-in-Laid.ensures (c.keep_notes.ensures.pass ∙ last)) c.in-Laid.field-0.now named)))
+
+-- nothing is laid out
+pub returns-in-Skipped-clause-items : goal.returns-in-Skipped-clause-items
+returns-in-Skipped-clause-items c =
+    let Reads : Read → Type 0 = λ r. ReadsOn (items_of_read c.args.number r) c.args.reading.now c.check_skipped.new.reading in
+    on-ok c.check_skipped.result c.check_skipped.ensures (λ reads. λ last.
+    subst Reads (sym c.in-Skipped.is)
+    (reads (skipped c.args.number c.in-Skipped.field-0.now c.in-Skipped.field-1) (skipped-plain c.args.number c.in-Skipped.field-0.now c.in-Skipped.field-1)))

@@ -1,10 +1,13 @@
-use Rattle.std.proofs.Common.{◌≡◌, refl, ◌∙◌, rules, arith}
-use Rattle.std.proofs.lemmas.Bool.Decides.{nat_tests}
-use Rattle.rrs_asm.proofs.Made.{ReadsOn-label}
+use Rattle.std.proofs.Common.{◌≡◌, ℕ, ◌<◌, List, length, subst, rules, arith, refl}
+use Rattle.rrs_asm.proofs.Made.{on-ok, ReadsOn-at}
+use Rattle.rrs_asm.specs.declared.sections.Section.{Section}
+use Rattle.rrs_asm.specs.Source.{Item}
+use Rattle.rrs_asm.specs.Forms.{Grows}
 use Rattle.rrs_asm.proofs.assembling.put_label.Goals as goal
 
--- the label stands behind the others
-pub returns-clause-items : goal.returns-clause-items
-returns-clause-items c = λ second.
-    let same : c.in_ok-address.address ≡ c.here-here.result = first_of (search rules, grind (arith, nat_tests)) in
-    ReadsOn-label c.args.base c.args.number c.args.name.now _ c.args.reading.now _ refl c.in_ok-push.ensures.items refl refl refl refl (same ∙ c.here-here.ensures)
+-- the open section has the label behind the others
+pub returns-in-Some-clause-items : goal.returns-in-Some-clause-items
+returns-in-Some-clause-items c =
+    on-ok c.put_label.result c.put_label.ensures (λ grows. λ last.
+    let P : Section → Type 0 = λ s. Grows (Item.Label c.args.number c.args.name.now) s c.put_label.new.self in
+    ReadsOn-at (Item.Label c.args.number c.args.name.now) c.args.reading.now _ c.in-Some.section.now c.put_label.new.self tt (search rules) (subst P c.in-Some.ensures.value grows) refl refl)

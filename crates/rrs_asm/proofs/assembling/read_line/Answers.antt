@@ -11,9 +11,9 @@ loop-rest-preserved c =
     let same : c.loop-rest.symbols.pass ≡ c.args.symbols.now.pass = c.loop-rest.invariant.0 in (
       c.in_ok-perform.ensures.pass ∙ same,
       λ second end rest.
-          let Left : Option (Bor (List ℕ)) → Type 0 = λ r. ReadsOn c.args.base (left_in_line c.args.number r) c.loop-rest.reading end in
-          let line : ReadsOn c.args.base (items_of_parts c.args.number (parts c.in-Some.text.now)) c.loop-rest.reading end =
-          ReadsOn-read c.args.base c.args.number c.in-Some.text.now (shown c.first_part.result.0) c.first_part.result.1
+          let Left : Option (Bor (List ℕ)) → Type 0 = λ r. ReadsOn (left_in_line c.args.number r) c.loop-rest.reading end in
+          let line : ReadsOn (items_of_parts c.args.number (parts c.in-Some.text.now)) c.loop-rest.reading end =
+          ReadsOn-read c.args.number c.in-Some.text.now (shown c.first_part.result.0) c.first_part.result.1
           (items_of_read c.args.number c.in_ok-read.read) c.loop-rest.reading c.perform.new.reading end
           c.first_part.ensures.parts (c.in_ok-read.ensures.items c.args.number) (c.in_ok-perform.ensures.items (same ∙ second)) rest in
           c.loop-rest.invariant.1 second end (subst Left (sym c.in-Some.is) line),
@@ -23,5 +23,5 @@ loop-rest-preserved c =
 pub returns-clause-items : goal.returns-clause-items
 returns-clause-items c = λ second.
     let over : c.loop-rest.rest ≡ None = first_of (search rules, cc, grind (arith, common_steps)) in
-    let Left : Option (Bor (List ℕ)) → Type 0 = λ r. ReadsOn c.args.base (left_in_line c.args.number r) c.loop-rest.reading c.loop-rest.reading in
-    c.loop-rest.invariant.1 second c.loop-rest.reading (subst Left (sym over) (ReadsOn-nothing c.args.base c.loop-rest.reading))
+    let Left : Option (Bor (List ℕ)) → Type 0 = λ r. ReadsOn (left_in_line c.args.number r) c.loop-rest.reading c.loop-rest.reading in
+    c.loop-rest.invariant.1 second c.loop-rest.reading (subst Left (sym over) (ReadsOn-nothing c.loop-rest.reading))

@@ -10,9 +10,9 @@ use Rattle.rrs_asm.proofs.assembling.read_line.Given as goal
 abbrev pub invariant-loop-rest : goal.invariant-loop-rest
 invariant-loop-rest l =
     (l.symbols.pass ≡ l.fn.symbols.pass)
-    × (l.fn.symbols.pass ≡ Pass.Second → (end : Reading)
-    → ReadsOn l.base (left_in_line l.number l.rest) l.reading end
-    → ReadsOn l.base (items_of_parts l.number (parts l.line)) l.fn.reading end)
+    × (l.fn.symbols.pass ≡ Pass.Last → (end : Reading)
+    → ReadsOn (left_in_line l.number l.rest) l.reading end
+    → ReadsOn (items_of_parts l.number (parts l.line)) l.fn.reading end)
 
 abbrev pub decreases-loop-rest : goal.decreases-loop-rest
 decreases-loop-rest l = option_map_or (λ rest. length rest.now + 1) l.rest 0

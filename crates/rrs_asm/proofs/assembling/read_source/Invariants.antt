@@ -1,9 +1,10 @@
-use Rattle.std.proofs.Common.{◌≡◌, ◌+◌, ◌≤◌, [], length}
+use Rattle.std.proofs.Common.{◌≡◌, ◌+◌, ◌≤◌, [], length, All}
 use Rattle.std.specs.Option.{option_map_or}
 use Rattle.rrs_asm.specs.declared.symbols.Pass.{Pass}
 use Rattle.rrs_asm.specs.declared.assembling.Reading.{Reading}
 use Rattle.rrs_asm.specs.Source.{items_of}
-use Rattle.rrs_asm.specs.Forms.{IsRead, ReadsOn, left_in_source}
+use Rattle.rrs_asm.specs.Forms.{IsNew, IsRead, ReadsOn, left_in_source}
+use Rattle.rrs_asm.specs.Sections.{names_of}
 use Rattle.rrs_asm.proofs.assembling.read_source.Given as goal
 
 -- As long as there is no mistake, who reads what is left has read the source. A line that was
@@ -12,9 +13,9 @@ abbrev pub invariant-loop-rest : goal.invariant-loop-rest
 invariant-loop-rest l =
     (option_map_or (λ rest. l.number + length rest.now) l.rest 0 ≤ length l.source)
     × (l.symbols.pass ≡ l.fn.symbols.pass)
-    × (l.fn.symbols.pass ≡ Pass.Second → l.errors.items ≡ [] → (end : Reading)
-    → ReadsOn l.base (left_in_source (l.number + 1) l.rest) l.reading end
-    → IsRead l.base (items_of l.source) end)
+    × (l.fn.symbols.pass ≡ Pass.Last → All IsNew l.fn.sections.items → l.errors.items ≡ [] → (end : Reading)
+    → ReadsOn (left_in_source (l.number + 1) l.rest) l.reading end
+    → IsRead (names_of l.fn.sections.items) (items_of l.source) end)
 
 abbrev pub decreases-loop-rest : goal.decreases-loop-rest
 decreases-loop-rest l = option_map_or (λ rest. length rest.now + 1) l.rest 0

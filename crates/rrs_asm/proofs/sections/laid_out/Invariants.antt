@@ -1,0 +1,10 @@
+use Rattle.std.proofs.Common.{All}
+use Rattle.rrs_asm.specs.Forms.{IsNew}
+use Rattle.rrs_asm.proofs.sections.laid_out.Given as goal
+
+-- those so far are new
+abbrev pub invariant-loop-section : goal.invariant-loop-section
+invariant-loop-section l = All IsNew l.laid.items
+
+abbrev pub invariant-loop-kind : goal.invariant-loop-kind
+invariant-loop-kind l = All IsNew l.laid.items

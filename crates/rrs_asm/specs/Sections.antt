@@ -1,0 +1,87 @@
+-- The sections of a source: the items that stand in each, and what is made of them (GNU assembler
+-- manual, "Sections and Relocation"). What follows a directive that opens a section stands in it, up
+-- to the next such directive. At first the section `.text` is open.
+use Rattle.std.specs.Prelude.{◌≡◌, ℕ, ◌+◌, ◌-◌, ◌<◌, Bool, true, false, ◌==◌, if◌then◌else◌, List, [], ◌∷◌, ◌++◌, length, replicate, map, codes}
+use Rattle.std.specs.Str.{bytes_eq}
+use Rattle.rrs_asm.specs.declared.sections.Section.{Section}
+use Rattle.rrs_asm.specs.Source.{Item, is_empty, is_laid_out}
+use Rattle.rrs_asm.specs.Statements.{IsMade, LaysOut}
+
+-- the names of sections
+abbrev pub names_of : List Section → List (List ℕ)
+names_of [] = []
+names_of (s ∷ others) = s.name.now ∷ names_of others
+
+-- which of the names one is: as many as there are where none is
+abbrev pub index_of : List ℕ → List (List ℕ) → ℕ
+index_of name [] = 0
+index_of name (own ∷ names) = if bytes_eq own name then 0 else index_of name names + 1
+
+-- which section is open behind items, where one is open before them
+abbrev pub open_behind : List (List ℕ) → ℕ → List Item → ℕ
+open_behind names before [] = before
+open_behind names before (Item.Label line name ∷ items) = open_behind names before items
+open_behind names before (Item.Laid line name ∷ items) = open_behind names before items
+open_behind names before (Item.Section name ∷ items) =
+    open_behind names (index_of name names) items
+
+-- an item in front of others, if the section is open
+abbrev pub if_open : ℕ → ℕ → Item → List Item → List Item
+if_open section before item items = if before == section then item ∷ items else items
+
+-- the items that stand in a section, where one is open before them
+abbrev pub in_section : List (List ℕ) → ℕ → ℕ → List Item → List Item
+in_section names section before [] = []
+in_section names section before (Item.Label line name ∷ items) =
+    if_open section before (Item.Label line name) (in_section names section before items)
+in_section names section before (Item.Laid line name ∷ items) =
+    if_open section before (Item.Laid line name) (in_section names section before items)
+in_section names section before (Item.Section name ∷ items) =
+    in_section names section (index_of name names) items
+
+-- the section that is open at first
+abbrev pub first_open : List (List ℕ) → ℕ
+first_open names = index_of (codes ".text") names
+
+-- what is made of each section, from the one with this number on, is made of the items in it
+abbrev pub AreMadeFrom : List (List ℕ) → ℕ → List Item → List Section → Type 0
+AreMadeFrom names number items [] = Unit {0}
+AreMadeFrom names number items (s ∷ others) =
+    IsMade s.address (in_section names number (first_open names) items) s.made.labels.items
+    s.made.placed.items s.made.bytes.items
+    × AreMadeFrom names (number + 1) items others
+
+-- what is made of each section is made of the items in it
+abbrev pub AreMade : List Item → List Section → Type 0
+AreMade items sections = AreMadeFrom (names_of sections) 0 items sections
+
+-- the statements of each section stand one behind the other
+abbrev pub AreLaidOut : List Section → Type 0
+AreLaidOut [] = Unit {0}
+AreLaidOut (s ∷ others) =
+    LaysOut s.address s.made.placed.items s.made.bytes.items × AreLaidOut others
+
+-- each section that is opened is one of these, if it is laid out
+abbrev pub AllFound : List (List ℕ) → List Item → Type 0
+AllFound names [] = Unit {0}
+AllFound names (Item.Label line name ∷ items) = AllFound names items
+AllFound names (Item.Laid line name ∷ items) = AllFound names items
+AllFound names (Item.Section name ∷ items) =
+    (is_laid_out name ≡ true → index_of name names < length names) × AllFound names items
+
+-- ---- all in one
+
+-- the bytes of a section behind others, the first of which are at an address: behind zeros up to its
+-- own
+abbrev pub with_section : ℕ → List ℕ → Section → List ℕ
+with_section base before s =
+    if is_empty s.made.bytes.items then before
+    else before ++ (replicate (s.address - base - length before) 0 ++ s.made.bytes.items)
+
+abbrev pub flat_behind : ℕ → List ℕ → List Section → List ℕ
+flat_behind base before [] = before
+flat_behind base before (s ∷ others) = flat_behind base (with_section base before s) others
+
+-- the bytes of sections from an address on, with zeros between them; an empty section has none
+abbrev pub laid_flat : ℕ → List Section → List ℕ
+laid_flat base sections = flat_behind base [] sections

@@ -1,0 +1,247 @@
+//! Operators of values, with the ranks that they have in GNU `as`, and what they make of numbers of
+//! 64 bits.
+
+use crate::errors::SourceErrorKind;
+
+/// The most operators and parentheses that wait for what is behind them.
+const MOST_WAITING: usize = 64;
+
+/// An operator, or an opening parenthesis.
+#[derive(Clone, Copy, PartialEq)]
+pub enum Operator {
+    Open,
+    Negate,
+    Complement,
+    IsZero,
+    Multiply,
+    Divide,
+    Remainder,
+    ShiftLeft,
+    ShiftRight,
+    Or,
+    OrNot,
+    Xor,
+    And,
+    Add,
+    Subtract,
+    Equal,
+    NotEqual,
+    Less,
+    LessOrEqual,
+    Greater,
+    GreaterOrEqual,
+    Both,
+    Either,
+}
+
+impl Operator {
+    /// How strongly it binds. An opening parenthesis binds nothing.
+    fn rank(self) -> u8 {
+        match self {
+            Operator::Open => 0,
+            Operator::Either => 1,
+            Operator::Both => 2,
+            Operator::Equal
+            | Operator::NotEqual
+            | Operator::Less
+            | Operator::LessOrEqual
+            | Operator::Greater
+            | Operator::GreaterOrEqual => 3,
+            Operator::Add | Operator::Subtract => 4,
+            Operator::Or | Operator::OrNot | Operator::Xor | Operator::And => 5,
+            Operator::Multiply
+            | Operator::Divide
+            | Operator::Remainder
+            | Operator::ShiftLeft
+            | Operator::ShiftRight => 6,
+            Operator::Negate | Operator::Complement | Operator::IsZero => 7,
+        }
+    }
+
+    /// What it makes of two numbers. One before its number has nothing on the left.
+    fn apply(self, left: u64, right: u64) -> Result<u64, SourceErrorKind> {
+        Ok(match self {
+            Operator::Open => right,
+            Operator::Negate => 0u64.wrapping_sub(right),
+            Operator::Complement => !right,
+            Operator::IsZero => u64::from(right == 0),
+            Operator::Multiply => left.wrapping_mul(right),
+            Operator::Divide => quotient(left, right)?,
+            Operator::Remainder => remainder(left, right)?,
+            Operator::ShiftLeft if right < 64 => left << right,
+            Operator::ShiftRight if right < 64 => left >> right,
+            Operator::ShiftLeft | Operator::ShiftRight => 0,
+            Operator::Or => left | right,
+            Operator::OrNot => left | !right,
+            Operator::Xor => left ^ right,
+            Operator::And => left & right,
+            Operator::Add => left.wrapping_add(right),
+            Operator::Subtract => left.wrapping_sub(right),
+            Operator::Both => u64::from(left != 0 && right != 0),
+            Operator::Either => u64::from(left != 0 || right != 0),
+            _ => compared(self, left.cast_signed(), right.cast_signed()),
+        })
+    }
+}
+
+/// The quotient of two signed numbers, rounded to zero.
+fn quotient(left: u64, right: u64) -> Result<u64, SourceErrorKind> {
+    match left.cast_signed().checked_div(right.cast_signed()) {
+        Some(value) => Ok(value.cast_unsigned()),
+        None => Err(SourceErrorKind::Division),
+    }
+}
+
+/// The remainder of two signed numbers, with the sign of the first.
+fn remainder(left: u64, right: u64) -> Result<u64, SourceErrorKind> {
+    match left.cast_signed().checked_rem(right.cast_signed()) {
+        Some(value) => Ok(value.cast_unsigned()),
+        None => Err(SourceErrorKind::Division),
+    }
+}
+
+/// -1 where a comparison holds, and else 0.
+fn compared(operator: Operator, left: i64, right: i64) -> u64 {
+    let holds = match operator {
+        Operator::Equal => left == right,
+        Operator::NotEqual => left != right,
+        Operator::Less => left < right,
+        Operator::LessOrEqual => left <= right,
+        Operator::Greater => left > right,
+        _ => left >= right,
+    };
+    if holds { u64::MAX } else { 0 }
+}
+
+/// The operator between two values that a text begins with, and how many bytes it has.
+pub fn operator_between(first: u8, second: u8) -> Option<(Operator, usize)> {
+    match (first, second) {
+        (b'<', b'<') => Some((Operator::ShiftLeft, 2)),
+        (b'<', b'=') => Some((Operator::LessOrEqual, 2)),
+        (b'<', b'>') | (b'!', b'=') => Some((Operator::NotEqual, 2)),
+        (b'>', b'>') => Some((Operator::ShiftRight, 2)),
+        (b'>', b'=') => Some((Operator::GreaterOrEqual, 2)),
+        (b'=', b'=') => Some((Operator::Equal, 2)),
+        (b'&', b'&') => Some((Operator::Both, 2)),
+        (b'|', b'|') => Some((Operator::Either, 2)),
+        _ => match operator_of(first) {
+            Some(operator) => Some((operator, 1)),
+            None => None,
+        },
+    }
+}
+
+/// The operator between two values that is one byte.
+fn operator_of(byte: u8) -> Option<Operator> {
+    match byte {
+        b'*' => Some(Operator::Multiply),
+        b'/' => Some(Operator::Divide),
+        b'%' => Some(Operator::Remainder),
+        b'|' => Some(Operator::Or),
+        b'!' => Some(Operator::OrNot),
+        b'^' => Some(Operator::Xor),
+        b'&' => Some(Operator::And),
+        b'+' => Some(Operator::Add),
+        b'-' => Some(Operator::Subtract),
+        b'<' => Some(Operator::Less),
+        b'>' => Some(Operator::Greater),
+        _ => None,
+    }
+}
+
+/// An operator that waits for the value behind it, and the value before it.
+#[derive(Clone, Copy)]
+struct Entry {
+    operator: Operator,
+    left: u64,
+}
+
+/// The operators that wait, the innermost last.
+#[derive(Clone, Copy)]
+pub struct Waiting {
+    entries: [Entry; MOST_WAITING],
+    count: usize,
+    /// How many opening parentheses are among them.
+    open: usize,
+}
+
+impl Waiting {
+    /// None.
+    pub fn new() -> Self {
+        let entry = Entry {
+            operator: Operator::Open,
+            left: 0,
+        };
+        Waiting {
+            entries: [entry; MOST_WAITING],
+            count: 0,
+            open: 0,
+        }
+    }
+
+    /// Whether a parenthesis is open.
+    pub fn is_open(&self) -> bool {
+        self.open > 0
+    }
+
+    /// Whether the innermost is a minus before its number.
+    pub fn is_negated(&self) -> bool {
+        match self.last() {
+            Some(entry) => entry.operator == Operator::Negate,
+            None => false,
+        }
+    }
+
+    /// The innermost.
+    fn last(&self) -> Option<Entry> {
+        let index = self.count.checked_sub(1)?;
+        self.entries.get(index).copied()
+    }
+
+    /// One more, behind a value.
+    pub fn push(&mut self, operator: Operator, left: u64) -> Result<(), SourceErrorKind> {
+        match self.entries.get_mut(self.count) {
+            Some(entry) => *entry = Entry { operator, left },
+            None => return Err(SourceErrorKind::Deep),
+        }
+        self.count = self.count.saturating_add(1);
+        if operator == Operator::Open {
+            self.open = self.open.saturating_add(1);
+        }
+        Ok(())
+    }
+
+    /// An operator behind a value: those that bind as strongly are applied before it.
+    pub fn push_between(&mut self, operator: Operator, value: u64) -> Result<(), SourceErrorKind> {
+        let left = self.applied(operator.rank(), value)?;
+        self.push(operator, left)
+    }
+
+    /// What those that bind so strongly make of a value behind them.
+    fn applied(&mut self, rank: u8, value: u64) -> Result<u64, SourceErrorKind> {
+        let mut value = value;
+        for _ in 0..MOST_WAITING {
+            match self.last() {
+                Some(entry) if entry.operator.rank() >= rank => {
+                    value = entry.operator.apply(entry.left, value)?;
+                    self.count = self.count.saturating_sub(1);
+                }
+                _ => break,
+            }
+        }
+        Ok(value)
+    }
+
+    /// What all make of a value behind them, up to the innermost parenthesis.
+    pub fn all_applied(&mut self, value: u64) -> Result<u64, SourceErrorKind> {
+        self.applied(1, value)
+    }
+
+    /// The value of what stands in the innermost parenthesis, which is closed.
+    pub fn closed(&mut self, value: u64) -> Result<u64, SourceErrorKind> {
+        let value = self.applied(1, value)?;
+        self.count = self.count.saturating_sub(1);
+        self.open = self.open.saturating_sub(1);
+        Ok(value)
+    }
+}

@@ -1,0 +1,41 @@
+//! A source that was assembled: its sections, and the bytes of all.
+
+ghost use Rattle.std.specs.Prelude.{◌≡◌, IfOk, OnOk};
+ghost use Rattle.rrs_asm.specs.Sections.{laid_flat, with_section};
+
+use crate::sections::Section;
+use std::alloc::{AllocError, Global};
+
+/// A source that was assembled.
+#[derive(Debug, Drop)]
+pub struct Program<'a> {
+    /// Its sections in the order of their addresses: those with instructions, with data that is
+    /// not written, with data, and with zeros.
+    pub sections: Vec<Section<'a>>,
+}
+
+/// The bytes of all sections from an address on, with zeros between them. An empty section has no
+/// bytes.
+pub fn image(alloc: Global, program: &Program, base: u32) -> Result<Vec<u8>, AllocError>
+    ensures { IfOk result (λ bytes. bytes.items ≡ laid_flat base program.now.sections.items) }
+{
+    let mut bytes = Vec::new(alloc);
+    for section in &program.sections {
+        append_section(&mut bytes, section, base)?;
+    }
+    Ok(bytes)
+}
+
+/// Appends the bytes of a section behind zeros up to its address, if it has any.
+fn append_section(bytes: &mut Vec<u8>, section: &Section, base: u32) -> Result<(), AllocError>
+    ensures { OnOk result (bytes.new.items ≡ with_section base bytes.old.items section.now) }
+{
+    if section.made.bytes.is_empty() {
+        return Ok(());
+    }
+    let start = section.address.saturating_sub(base) as usize;
+    let count = start.saturating_sub(bytes.len());
+    let length = bytes.len().saturating_add(count);
+    bytes.resize(length, 0)?;
+    bytes.extend_from_slice(&section.made.bytes)
+}

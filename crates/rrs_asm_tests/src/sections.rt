@@ -1,0 +1,78 @@
+//! Sections, operators, directives and pseudo-instructions with symbols. The words are those that
+//! GNU `as` and `ld` make.
+
+use crate::assembled::same_words;
+use std::test::Fail;
+
+/// Statements at 0x100, each with its words.
+static STATEMENTS: [(&str, &[u32]); 12] = [
+    ("sgt a0, a1, a2", &[0x00b62533]),
+    ("sgtu a0, a1, a2", &[0x00b63533]),
+    ("zext.b a0, a1", &[0x0ff5f513]),
+    ("unimp", &[0xc0001073]),
+    ("lla a0, . + 0x1800", &[0x00002517, 0x80050513]),
+    ("lw a0, x\nx:", &[0x00000517, 0x00852503]),
+    ("lbu a1, x - 8\nx:", &[0x00000597, 0x0005c583]),
+    ("sw a0, x, t0\nx:", &[0x00000297, 0x00a2a423]),
+    ("jump x, t1\nx:", &[0x00000317, 0x00830067]),
+    (
+        "1: auipc a0, %pcrel_hi(x)\naddi a0, a0, %pcrel_lo(1b)\nx:",
+        &[0x00000517, 0x00850513],
+    ),
+    (
+        ".word 2+3*4, (2+3)*4, 1<<4|3, ~5, 7-10/3, 017, 6&3^1, 5==5, 4<3, 1&&2, 0||0, 10%4, 3!=4, !0",
+        &[
+            14, 20, 0x13, 0xfffffffa, 4, 15, 3, 0xffffffff, 0, 1, 0, 2, 0xffffffff, 1,
+        ],
+    ),
+    (
+        ".8byte 0x1122334455667788\n.ascii \"\\101\\x42\\b\\f\\0\\\\\\\"1\"",
+        &[0x55667788, 0x11223344, 0x0c084241, 0x31225c00],
+    ),
+];
+
+#[test]
+fn statements_are_those_of_gnu(rt: HostRuntime) -> Result<(), Fail> {
+    for &(text, words) in &STATEMENTS {
+        same_words(&rt, rt.alloc(), text, 0x100, words)?;
+    }
+    Ok(())
+}
+
+/// A source with sections, their order mixed, and what is read over.
+const SECTIONS: &str = "    .file \"a.c\"
+    .option nopic
+    .attribute arch, \"rv32i2p1_m2p0\"
+    .data
+x:  .word y
+    .section .rodata.str1.4,\"aMS\",@progbits,1
+y:  .string \"ab\"
+    .text
+    .globl main
+    .type main, @function
+main:
+    .cfi_startproc
+    lui a0, %hi(x)
+    lw a0, %lo(x)(a0)
+    .size main, .-main
+    .bss
+    .align 3
+z:  .zero 4
+    .section .note.GNU-stack,\"\",@progbits
+w:  .word nothing
+    .section .debug_info,\"\",@progbits
+    .uleb128 0x1
+    .text
+    .word z
+    .ident \"GCC\"
+";
+
+/// The sections lie one behind the other, and symbols reach across them.
+#[test]
+fn sections_are_laid_out(rt: HostRuntime) -> Result<(), Fail> {
+    let words = [
+        0x00000537, 0x10f52503, 0x00000118, 0x0c006261, 0x00000001, 0, 0,
+    ];
+    same_words(&rt, rt.alloc(), SECTIONS, 0x100, &words)?;
+    Ok(())
+}
