@@ -1,4 +1,5 @@
 pub mod Cutting
 pub mod Halves
+pub mod Images
 pub mod Made
 pub mod Tables

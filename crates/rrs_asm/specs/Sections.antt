@@ -1,9 +1,13 @@
 -- The sections of a source: the items that stand in each, and what is made of them (GNU assembler
 -- manual, "Sections and Relocation"). What follows a directive that opens a section stands in it, up
 -- to the next such directive. At first the section `.text` is open.
-use Rattle.std.specs.Prelude.{◌≡◌, ℕ, ◌+◌, ◌-◌, ◌<◌, Bool, true, false, ◌==◌, if◌then◌else◌, List, [], ◌∷◌, ◌++◌, length, replicate, map, codes}
+use Rattle.std.specs.Prelude.{◌≡◌, ℕ, ◌+◌, ◌-◌, ◌<◌, ◌≤◌, Bool, true, false, not, ◌&&◌, ◌==◌, if◌then◌else◌, List, [], ◌∷◌, ◌++◌, length, replicate, map, codes, Option, Some, None}
+use Rattle.std.specs.Int.{next_multiple_of}
+use Rattle.std.specs.Option.{option_map_or}
 use Rattle.std.specs.Str.{bytes_eq}
 use Rattle.rrs_asm.specs.declared.sections.Section.{Section}
+use Rattle.rrs_asm.specs.declared.sections.SectionKind.{SectionKind}
+use Rattle.rrs_asm.specs.declared.sections.Layout.{Layout}
 use Rattle.rrs_asm.specs.Source.{Item, is_empty, is_laid_out}
 use Rattle.rrs_asm.specs.Statements.{IsMade, LaysOut}
 
@@ -69,6 +73,58 @@ AllFound names (Item.Laid line name ∷ items) = AllFound names items
 AllFound names (Item.Section name ∷ items) =
     (is_laid_out name ≡ true → index_of name names < length names) × AllFound names items
 
+-- ---- where sections lie
+
+abbrev pub is_code : SectionKind → Bool
+is_code SectionKind.Code = true
+is_code _ = false
+
+-- data that can be written
+abbrev pub is_data : SectionKind → Bool
+is_data SectionKind.Data = true
+is_data SectionKind.Zero = true
+is_data _ = false
+
+-- all sections one behind the other from an address on
+abbrev pub flat : ℕ → Layout
+flat text = record { text_start = text; data_start = None; page = 1 }
+
+-- Where what follows a section can lie: behind its end. GNU `as` fills instructions up to the
+-- alignment of their section.
+abbrev pub filled_end : SectionKind → ℕ → ℕ → ℕ
+filled_end kind alignment end = if is_code kind then next_multiple_of end alignment else end
+
+-- where the first section with data that can be written lies: at an address of its own, or at the
+-- next page
+abbrev pub data_address : Layout → ℕ → ℕ
+data_address layout end = option_map_or (λ own. own) layout.data_start (next_multiple_of end layout.page)
+
+-- where a section of a kind and an alignment lies behind another one
+abbrev pub start_behind : Layout → SectionKind → ℕ → ℕ → SectionKind → ℕ → ℕ
+start_behind layout before before_alignment end kind alignment =
+    let behind = filled_end before before_alignment end in
+    next_multiple_of
+        (if is_data kind && not (is_data before) then data_address layout behind else behind)
+        alignment
+
+abbrev pub end_of : Section → ℕ
+end_of s = s.address + length s.made.bytes.items
+
+-- a section lies behind another one, where the layout says
+pub record IsBehind (layout : Layout) (before s : Section) : Type 0 where
+  pub start :
+      s.address ≡ start_behind layout before.kind before.alignment (end_of before) s.kind s.alignment
+  pub behind : end_of before ≤ s.address
+
+abbrev pub AreBehind : Layout → Section → List Section → Type 0
+AreBehind layout before [] = Unit {0}
+AreBehind layout before (s ∷ others) = IsBehind layout before s × AreBehind layout s others
+
+-- the first section lies at the address that the layout says, and each other behind the one before
+abbrev pub ArePlaced : Layout → List Section → Type 0
+ArePlaced layout [] = Unit {0}
+ArePlaced layout (s ∷ others) = (s.address ≡ layout.text_start) × AreBehind layout s others
+
 -- ---- all in one
 
 -- the bytes of a section behind others, the first of which are at an address: behind zeros up to its
@@ -85,3 +141,29 @@ flat_behind base before (s ∷ others) = flat_behind base (with_section base bef
 -- the bytes of sections from an address on, with zeros between them; an empty section has none
 abbrev pub laid_flat : ℕ → List Section → List ℕ
 laid_flat base sections = flat_behind base [] sections
+
+-- the sections that have bytes
+abbrev pub with_bytes : List Section → List Section
+with_bytes [] = []
+with_bytes (s ∷ others) =
+    if is_empty s.made.bytes.items then with_bytes others else s ∷ with_bytes others
+
+-- The bytes from an address on are those of these sections, each at its address, with zeros before
+-- it, and nothing else.
+abbrev pub AreBytesFrom : ℕ → List Section → List ℕ → Type 0
+AreBytesFrom address [] bytes = bytes ≡ []
+AreBytesFrom address (s ∷ others) bytes =
+    (gap : ℕ) × (rest : List ℕ) × (address + gap ≡ s.address) × AreBytesFrom (end_of s) others rest
+    × (bytes ≡ replicate gap 0 ++ (s.made.bytes.items ++ rest))
+
+abbrev pub IsImage : ℕ → List Section → List ℕ → Type 0
+IsImage address sections bytes = AreBytesFrom address (with_bytes sections) bytes
+
+-- ---- a whole source
+
+-- the sections are those of these items, and lie where the layout says
+pub record AreSectionsOf (layout : Layout) (items : List Item) (sections : List Section) : Type 0
+  where
+    pub made : AreMade items sections
+    pub all_found : AllFound (names_of sections) (Item.Section (codes ".text") ∷ items)
+    pub placed : ArePlaced layout sections

@@ -4,7 +4,7 @@ ghost use Rattle.std.specs.Prelude.{◌≡◌, ◌<◌, ℕ, List, [], ◌∷◌
 ghost use Rattle.rrs_asm.specs.declared.symbols.Pass.{Pass};
 ghost use Rattle.rrs_asm.specs.Names.{IsNamed};
 ghost use Rattle.rrs_asm.specs.Source.{Part, Item, word, is_laid_out, items_of, items_in, items_named, items_in_statement, items_of_parts, parts};
-ghost use Rattle.rrs_asm.specs.Sections.{names_of, index_of, first_open, AreMade, AreLaidOut, AllFound};
+ghost use Rattle.rrs_asm.specs.Sections.{names_of, index_of, first_open, AreMade, AreLaidOut, AllFound, ArePlaced};
 ghost use Rattle.rrs_asm.specs.Forms.{shown, items_of_read, HasItsName, IsNoSection, IsNew, IsRead, ReadsOn};
 
 use crate::directives::{Read, read_directive};
@@ -15,7 +15,7 @@ use crate::output::MOST_BYTES;
 use crate::program::Program;
 use crate::reading::{Line, Notes, Site};
 use crate::registers::register_number;
-use crate::sections::{Layout, Section, SectionKind, first_sections, is_laid_out, laid_out};
+use crate::sections::{Layout, Section, SectionKind, are_placed, first_sections, is_laid_out, laid_out};
 use crate::statements::Statement;
 use crate::symbols::{Known, Pass, Symbols};
 use std::alloc::Global;
@@ -28,8 +28,10 @@ const MOST_SECTIONS: usize = 256;
 /// A source is a list of items: directives that open a section, labels, and statements that lay
 /// bytes out (`items_of`). What is made of each section is made of the items in it, in their order:
 /// of each label and of each statement, with its line, its name and its address, from the address
-/// of the section on (`items`). The statements stand one behind the other (`laid_out`). Each section that is opened is there, but for those with debugging
-/// data and notes (`all_found`).
+/// of the section on (`items`). The statements stand one behind the other (`laid_out`). Each section
+/// that is opened is there, but for those with debugging data and notes (`all_found`). Each begins
+/// where the layout says: the first at its address, and each other behind the one before
+/// (`placed`).
 ///
 /// # Errors
 ///
@@ -43,6 +45,7 @@ pub fn assemble_source(
     ensures laid_out { IfOk result (λ program. AreLaidOut program.sections.items) }
     ensures all_found { IfOk result (λ program. AllFound (names_of program.sections.items)
         (Item.Section (codes ".text") ∷ items_of source.now)) }
+    ensures placed { IfOk result (λ program. ArePlaced layout program.sections.items) }
 {
     let mut symbols = Symbols::new(alloc);
     let sections = first_sections(alloc, layout)?;
@@ -53,7 +56,8 @@ pub fn assemble_source(
     symbols.begin(Pass::Last);
     let sections = placed_again(alloc, &first.sections, layout)?;
     let (last, mut errors) = read_source(alloc, source, &mut symbols, sections)?;
-    if errors.is_empty() && is_settled(&second.sections, &last.sections) {
+    let is_settled = is_settled(&second.sections, &last.sections);
+    if errors.is_empty() && is_settled && are_placed(&last.sections, layout) {
         return Ok(Program {
             sections: last.sections,
         });

@@ -1,7 +1,8 @@
 //! A source that was assembled: its sections, and the bytes of all.
 
 ghost use Rattle.std.specs.Prelude.{◌≡◌, IfOk, OnOk};
-ghost use Rattle.rrs_asm.specs.Sections.{laid_flat, with_section};
+ghost use Rattle.rrs_asm.specs.declared.sections.Layout.{Layout};
+ghost use Rattle.rrs_asm.specs.Sections.{laid_flat, with_section, ArePlaced, IsImage};
 
 use crate::sections::Section;
 use std::alloc::{AllocError, Global};
@@ -14,10 +15,15 @@ pub struct Program<'a> {
     pub sections: Vec<Section<'a>>,
 }
 
-/// The bytes of all sections from an address on, with zeros between them. An empty section has no
-/// bytes.
+/// The bytes of all sections from an address on, with zeros between them (`laid_flat`). An empty
+/// section has no bytes. Where the sections lie as a layout says, from this address on, these are
+/// the bytes of each section at its address, and zeros (`at_addresses`).
 pub fn image(alloc: Global, program: &Program, base: u32) -> Result<Vec<u8>, AllocError>
-    ensures { IfOk result (λ bytes. bytes.items ≡ laid_flat base program.now.sections.items) }
+    ensures laid_flat { IfOk result (λ bytes. bytes.items
+        ≡ laid_flat base program.now.sections.items) }
+    ensures at_addresses { (layout : Layout) → layout.text_start ≡ base
+        → ArePlaced layout program.now.sections.items
+        → IfOk result (λ bytes. IsImage base program.now.sections.items bytes.items) }
 {
     let mut bytes = Vec::new(alloc);
     for section in &program.sections {

@@ -1,8 +1,9 @@
 //! Sections: their kinds, what was made of each, and where they lie.
 
-ghost use Rattle.std.specs.Prelude.{◌≡◌, ◌+◌, ◌%◌, ◌^◌, ℕ, List, [], ◌∷◌, true, false, OnOk, IfOk, All, length};
+ghost use Rattle.std.specs.Prelude.{◌≡◌, ◌+◌, ◌%◌, ◌^◌, ℕ, List, [], ◌∷◌, true, false, OnOk, IfOk, IfSome, All, length};
 ghost use Rattle.rrs_asm.specs.Source.{Item, is_laid_out};
 ghost use Rattle.rrs_asm.specs.Names.{IsNamed};
+ghost use Rattle.rrs_asm.specs.Sections.{flat, is_data, data_address, filled_end, start_behind, IsBehind, AreBehind, ArePlaced};
 ghost use Rattle.rrs_asm.specs.Forms.{Grows, IsNew};
 
 use crate::errors::{Halt, LineError, SourceErrorKind};
@@ -37,20 +38,22 @@ const KINDS: [SectionKind; 4] = [
 #[derive(Debug, PartialEq, Clone, Copy)]
 pub struct Layout {
     /// The address of the first section, which holds instructions.
-    pub text: u32,
+    pub text_start: u32,
     /// The address of the first section with data that can be written. Where there is none, it is a
     /// multiple of `page` behind the sections before.
-    pub data: Option<u32>,
+    pub data_start: Option<u32>,
     /// The distance from one page to the next, a power of 2.
     pub page: u32,
 }
 
 impl Layout {
     /// All sections one behind the other from an address on.
-    pub fn flat(text: u32) -> Self {
+    pub fn flat(text: u32) -> Self
+        ensures { result ≡ flat text }
+    {
         Layout {
-            text,
-            data: None,
+            text_start: text,
+            data_start: None,
             page: 1,
         }
     }
@@ -214,14 +217,6 @@ fn begins(name: &[u8], first: &[u8]) -> bool {
     }
 }
 
-/// The first multiple of an alignment from an address on.
-fn aligned(address: u64, alignment: u32) -> u64 {
-    match address.checked_next_multiple_of(u64::from(alignment)) {
-        Some(next) => next,
-        None => address,
-    }
-}
-
 /// The mistake of sections that go past the end of addresses, or of data that would lie in them.
 fn too_long() -> Halt {
     Halt::Error(LineError {
@@ -230,49 +225,104 @@ fn too_long() -> Halt {
     })
 }
 
-/// How far sections are laid out.
+/// What a section takes.
 #[derive(Clone, Copy)]
 struct Extent {
-    /// The end of the last one that is not empty.
+    /// Its kind.
+    kind: SectionKind,
+    /// Its alignment.
+    alignment: u32,
+    /// Where it ends.
     end: u64,
-    /// Its alignment, which an end of instructions is filled up to.
-    filled: u32,
-    /// Whether it holds data that can be written.
-    is_data: bool,
 }
 
 impl Extent {
-    /// The address of a section behind the others, and what they extend to then.
-    fn add(&mut self, section: &Section, layout: Layout) -> Result<u32, Halt> {
-        if section.size == 0 {
-            return Ok((self.end % 0x1_0000_0000) as u32);
+    /// Where the first section with data lies behind it. None: its own address is too low, or
+    /// there is none.
+    fn data_address(self, end: u64, layout: Layout) -> Option<u64>
+        ensures { IfSome result (λ start. start ≡ data_address layout end) }
+    {
+        match layout.data_start {
+            None => end.checked_next_multiple_of(u64::from(layout.page)),
+            Some(data) => Some(u64::from(data)).filter(|data| *data >= end),
         }
-        let mut begin = aligned(self.end, self.filled);
-        let is_data = matches!(section.kind, SectionKind::Data | SectionKind::Zero);
-        if is_data && !self.is_data {
-            begin = match layout.data {
-                Some(data) if u64::from(data) >= begin => u64::from(data),
-                Some(_) => return Err(too_long()),
-                None => aligned(begin, layout.page),
-            };
+    }
+
+    /// Where what follows can lie. GNU `as` fills instructions up to the alignment of their section.
+    fn filled_end(self) -> Option<u64>
+        ensures { IfSome result (λ end. end ≡ filled_end self.kind self.alignment self.end) }
+    {
+        match self.kind {
+            SectionKind::Code => self.end.checked_next_multiple_of(u64::from(self.alignment)),
+            _ => Some(self.end),
         }
-        let is_first = self.end == u64::from(layout.text);
-        let start = if is_first {
-            begin
+    }
+
+    /// Where a section of a kind and an alignment begins behind it. None: there is no such address.
+    fn start_behind(self, kind: SectionKind, alignment: u32, layout: Layout) -> Option<u64>
+        ensures { IfSome result (λ start. start
+            ≡ start_behind layout self.kind self.alignment self.end kind alignment) }
+    {
+        let end = self.filled_end()?;
+        let start = if is_data(kind) && !is_data(self.kind) {
+            self.data_address(end, layout)?
         } else {
-            aligned(begin, section.alignment)
+            end
         };
-        let address = u32::try_from(start).map_err(|_| too_long())?;
-        self.end = start.saturating_add(section.size as u64);
-        self.filled = match section.kind {
-            SectionKind::Code => section.alignment,
-            _ => 1,
-        };
-        self.is_data = is_data;
-        if self.end > 1 << 32 {
-            return Err(too_long());
+        start.checked_next_multiple_of(u64::from(alignment))
+    }
+}
+
+/// Whether a section holds data that can be written.
+fn is_data(kind: SectionKind) -> bool
+    ensures { result ≡ is_data kind }
+{
+    matches!(kind, SectionKind::Data | SectionKind::Zero)
+}
+
+/// Whether sections lie as a layout says.
+pub fn are_placed<'a, 'b>(sections: &'b [Section<'a>], layout: Layout) -> bool
+    ensures { result ≡ true → ArePlaced layout sections.now }
+{
+    match sections {
+        [first, others @ ..] => {
+            first.address == layout.text_start && are_behind(first, others, layout)
         }
-        Ok(address)
+        [] => false,
+    }
+}
+
+/// Whether each section lies behind the one before it as a layout says, the first behind another.
+fn are_behind<'a, 'b>(
+    first: &'b Section<'a>,
+    others: &'b [Section<'a>],
+    layout: Layout,
+) -> bool
+    ensures { result ≡ true → AreBehind layout first.now others.now }
+{
+    let mut before = first;
+    for section in others {
+        if !is_behind(before, section, layout) {
+            return false;
+        }
+        before = section;
+    }
+    true
+}
+
+/// Whether a section lies behind another as a layout says.
+fn is_behind(before: &Section, section: &Section, layout: Layout) -> bool
+    ensures { result ≡ true → IsBehind layout before.now section.now }
+{
+    let end = u64::from(before.address).saturating_add(before.made.bytes.len() as u64);
+    let extent = Extent {
+        kind: before.kind,
+        alignment: before.alignment,
+        end,
+    };
+    match extent.start_behind(section.kind, section.alignment, layout) {
+        Some(start) => u64::from(section.address) == start && end <= start,
+        None => false,
     }
 }
 
@@ -285,35 +335,44 @@ pub fn laid_out<'a>(
     ensures { IfOk result (λ laid. All IsNew laid.items) }
 {
     let mut laid = Vec::new(alloc);
-    let mut extent = Extent {
-        end: u64::from(layout.text),
-        filled: 1,
-        is_data: false,
-    };
+    let mut before = None;
     for kind in &KINDS {
         for section in sections {
-            add_new(alloc, section, *kind, layout, &mut extent, &mut laid)?;
+            if section.kind == *kind {
+                add_new(alloc, section, layout, &mut before, &mut laid)?;
+            }
         }
     }
     Ok(laid)
 }
 
-/// Adds a section, empty again, behind the others, if it is of the kind.
+/// Adds a section, empty again, behind the others.
 fn add_new<'a>(
     alloc: Global,
     section: &Section<'a>,
-    kind: SectionKind,
     layout: Layout,
-    extent: &mut Extent,
+    before: &mut Option<Extent>,
     laid: &mut Vec<Section<'a>>,
 ) -> Result<(), Halt>
     ensures { OnOk result (All IsNew laid.old.items → All IsNew laid.new.items) }
 {
-    if section.kind != kind {
-        return Ok(());
+    let (kind, alignment) = (section.kind, section.alignment);
+    let start = match *before {
+        None => Some(u64::from(layout.text_start)),
+        Some(extent) => extent.start_behind(kind, alignment, layout),
+    };
+    let start = start.ok_or(too_long())?;
+    let address = u32::try_from(start).map_err(|_| too_long())?;
+    let end = start.saturating_add(section.size as u64);
+    if end > 1 << 32 {
+        return Err(too_long());
     }
-    let address = extent.add(section, layout)?;
-    let fresh = Section::new(alloc, section.name, kind, section.alignment, address);
+    *before = Some(Extent {
+        kind,
+        alignment,
+        end,
+    });
+    let fresh = Section::new(alloc, section.name, kind, alignment, address);
     laid.push(fresh)?;
     Ok(())
 }
@@ -321,8 +380,8 @@ fn add_new<'a>(
 /// The sections that every source has, at the addresses that are said.
 pub fn first_sections<'a>(alloc: Global, layout: Layout) -> Result<Vec<Section<'a>>, AllocError> {
     let mut sections = Vec::new(alloc);
-    sections.push(Section::new(alloc, b".text", SectionKind::Code, 4, layout.text))?;
-    let data = layout.data.unwrap_or(0);
+    sections.push(Section::new(alloc, b".text", SectionKind::Code, 4, layout.text_start))?;
+    let data = layout.data_start.unwrap_or(0);
     sections.push(Section::new(alloc, b".data", SectionKind::Data, 1, data))?;
     sections.push(Section::new(alloc, b".bss", SectionKind::Zero, 1, 0))?;
     Ok(sections)

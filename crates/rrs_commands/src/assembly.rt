@@ -3,7 +3,7 @@
 ghost use Rattle.std.specs.Prelude.{◌≡◌, List, false, IfOk};
 ghost use Rattle.rrs_asm.specs.declared.sections.Section.{Section};
 ghost use Rattle.rrs_asm.specs.Source.{items_of};
-ghost use Rattle.rrs_asm.specs.Sections.{AreMade, laid_flat};
+ghost use Rattle.rrs_asm.specs.Sections.{flat, AreSectionsOf, IsImage};
 
 use crate::ending::Refusal;
 use crate::requests::AssemblyRequest;
@@ -19,8 +19,9 @@ use std::{fs, io};
 /// The most bytes of a source, 64 MiB. A device may have bytes without an end.
 const SOURCE_BYTES: u64 = 1 << 26;
 
-/// What is to be written of a source: the bytes of its sections, which are made of the items in
-/// them, one behind the other from address 0 on, or a source for GNU `as`. Its mistakes are printed on standard error.
+/// What is to be written of a source: the bytes of its sections, each at its address, with zeros
+/// between them, or a source for GNU `as`. The sections are made of the items of the source, and lie
+/// one behind the other from address 0 on. Its mistakes are printed on standard error.
 pub fn assembled_text<H: Eprint + AllocGlobal>(
     rt: &H,
     source: &[u8],
@@ -28,7 +29,8 @@ pub fn assembled_text<H: Eprint + AllocGlobal>(
 ) -> Result<Vec<u8>, Refusal>
     ensures bytes { request.entry.is_gnu ≡ false
         → IfOk result (λ text. (sections : List Section)
-        × AreMade (items_of source.now) sections × (text.items ≡ laid_flat 0 sections)) }
+        × AreSectionsOf (flat 0) (items_of source.now) sections
+        × IsImage 0 sections text.items) }
 {
     let program = match assemble_source(rt.alloc(), source, Layout::flat(0)) {
         Ok(program) => program,

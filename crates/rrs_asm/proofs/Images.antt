@@ -1,0 +1,66 @@
+-- Sections that lie as a layout says, and their bytes one behind the other.
+use Rattle.std.proofs.Common.{◌≡◌, ℕ, Bool, true, false, if◌then◌else◌, ◌+◌, ◌-◌, ◌++◌, List, [], ◌∷◌, length, replicate, ◌≤◌, refl, sym, subst, ap, ◌∙◌, drop, arith}
+use Rattle.std.proofs.lemmas.List.{append_assoc, append-nil, length-append, length-replicate}
+use Rattle.std.proofs.lemmas.Grind.{common_steps}
+use Rattle.rrs_asm.specs.declared.sections.Section.{Section}
+use Rattle.rrs_asm.specs.declared.sections.Layout.{Layout}
+use Rattle.rrs_asm.specs.Source.{is_empty}
+use Rattle.rrs_asm.specs.Sections.{end_of, IsBehind, AreBehind, ArePlaced, with_section, flat_behind, laid_flat, with_bytes, AreBytesFrom, IsImage}
+
+-- what sections add behind bytes, and where
+abbrev Rest : ℕ → List ℕ → List Section → Type 0
+Rest base before others =
+    (rest : List ℕ) × AreBytesFrom (base + length before) (with_bytes others) rest × (flat_behind base before others ≡ before ++ rest)
+
+-- bytes behind zeros up to an address
+abbrev padded : ℕ → List ℕ → Section → List ℕ
+padded base before s = before ++ (replicate (s.address - base - length before) 0 ++ s.made.bytes.items)
+
+padded-end : (base : ℕ) (before : List ℕ) (s : Section) → base + length before ≤ s.address → base + length (padded base before s) ≡ end_of s
+padded-end base before s fits =
+    let gap : ℕ = s.address - base - length before in
+    let own : List ℕ = s.made.bytes.items in
+    let behind : length (replicate gap 0 ++ own) ≡ gap + length own = length-append (replicate gap 0) own ∙ ap (λ n. n + length own) (length-replicate gap 0) in
+    let whole : length (before ++ (replicate gap 0 ++ own)) ≡ length before + (gap + length own) =
+        length-append before (replicate gap 0 ++ own) ∙ ap (λ n. length before + n) behind in
+    omega (arith, fits, whole)
+
+skipped : (base : ℕ) (before : List ℕ) (s : Section) (others : List Section) → is_empty s.made.bytes.items ≡ true → Rest base before others → Rest base before (s ∷ others)
+skipped base before s others none (rest, are, same) = (rest, rw none are, rw none same)
+
+taken : (base : ℕ) (before : List ℕ) (s : Section) (others : List Section) → is_empty s.made.bytes.items ≡ false → base + length before ≤ s.address
+    → Rest base (padded base before s) others → Rest base before (s ∷ others)
+taken base before s others some fits (rest, are, same) =
+    let gap : ℕ = s.address - base - length before in
+    let own : List ℕ = s.made.bytes.items in
+    let P : ℕ → Type 0 = λ n. AreBytesFrom n (with_bytes others) rest in
+    (
+      replicate gap 0 ++ (own ++ rest),
+      rw some (gap, rest, omega (arith, fits), subst P (padded-end base before s fits) are, refl),
+      rw some (same ∙ append_assoc before (replicate gap 0 ++ own) rest ∙ ap (λ xs. before ++ xs) (append_assoc (replicate gap 0) own rest)),
+    )
+
+choose : (base : ℕ) (before : List ℕ) (s : Section) (others : List Section) (t : Bool) → is_empty s.made.bytes.items ≡ t → base + length before ≤ s.address
+    → ((bytes : List ℕ) → base + length bytes ≤ end_of s → Rest base bytes others) → Rest base before (s ∷ others)
+choose base before s others true none fits next = skipped base before s others none (next before (omega (arith, fits)))
+choose base before s others false some fits next =
+    taken base before s others some fits (next (padded base before s) (omega (arith, padded-end base before s fits)))
+
+rest-of : (base : ℕ) (layout : Layout) (p : Section) (before : List ℕ) (others : List Section) → base + length before ≤ end_of p → AreBehind layout p others → Rest base before others
+rest-of base layout p before [] fits behind = ([], refl, sym (append-nil before))
+rest-of base layout p before (s ∷ others) fits (is, more) =
+    let above : end_of p ≤ s.address = is.behind in
+    choose base before s others (is_empty s.made.bytes.items) refl (omega (arith, fits, above)) (λ bytes ends. rest-of base layout s bytes others ends more)
+
+image-of-rest : (base : ℕ) (sections : List Section) → Rest base [] sections → IsImage base sections (laid_flat base sections)
+image-of-rest base sections (rest, are, same) =
+    let P : List ℕ → Type 0 = λ bytes. AreBytesFrom base (with_bytes sections) bytes in
+    let Q : ℕ → Type 0 = λ n. AreBytesFrom n (with_bytes sections) rest in
+    subst P (sym same) (subst Q (omega arith) are)
+
+-- their bytes one behind the other are those of each at its address
+pub is-image : (layout : Layout) (base : ℕ) (sections : List Section) → layout.text_start ≡ base → ArePlaced layout sections → IsImage base sections (laid_flat base sections)
+is-image layout base [] text placed = refl
+is-image layout base (s ∷ others) text (first, more) =
+    image-of-rest base (s ∷ others)
+        (choose base [] s others (is_empty s.made.bytes.items) refl (omega (arith, text, first)) (λ bytes ends. rest-of base layout s bytes others ends more))
