@@ -1,4 +1,4 @@
-int zero;
+int nothing;
 int one = 1;
 static long negative = -123456789;
 const int constant = 77;
@@ -18,5 +18,5 @@ int small __attribute__((section(".sdata.small"))) = 8;
 int main(void) {
     hidden[50] = *address + constant;
     *last = names[1][0];
-    return zero + one + (int)negative + hidden[50] + letters[3] + halves[0] + bytes[1] + (int)inside + device + aligned + far + small;
+    return nothing + one + (int)negative + hidden[50] + letters[3] + halves[0] + bytes[1] + (int)inside + device + aligned + far + small;
 }
