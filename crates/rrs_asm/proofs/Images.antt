@@ -1,11 +1,10 @@
 -- Sections that lie as a layout says, and their bytes one behind the other.
-use Rattle.std.proofs.Common.{◌≡◌, ℕ, Bool, true, false, if◌then◌else◌, ◌+◌, ◌-◌, ◌++◌, List, [], ◌∷◌, length, replicate, ◌≤◌, refl, sym, subst, ap, ◌∙◌, drop, arith}
+use Rattle.std.proofs.Common.{◌≡◌, ℕ, Bool, true, false, ◌+◌, ◌-◌, ◌++◌, List, [], ◌∷◌, length, replicate, ◌≤◌, refl, sym, subst, ap, ◌∙◌, arith}
 use Rattle.std.proofs.lemmas.List.{append_assoc, append-nil, length-append, length-replicate}
-use Rattle.std.proofs.lemmas.Grind.{common_steps}
 use Rattle.rrs_asm.specs.declared.sections.Section.{Section}
 use Rattle.rrs_asm.specs.declared.sections.Layout.{Layout}
 use Rattle.rrs_asm.specs.Source.{is_empty}
-use Rattle.rrs_asm.specs.Sections.{end_of, IsBehind, AreBehind, ArePlaced, with_section, flat_behind, laid_flat, with_bytes, AreBytesFrom, IsImage}
+use Rattle.rrs_asm.specs.Sections.{end_of, AreBehind, ArePlaced, flat_behind, laid_flat, with_bytes, AreBytesFrom, IsImage}
 
 -- what sections add behind bytes, and where
 abbrev Rest : ℕ → List ℕ → List Section → Type 0

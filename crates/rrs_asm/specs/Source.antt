@@ -1,7 +1,7 @@
 -- A source of assembly, down to its statements: the lines, the parts of a line, and the items that
 -- stand there, each with its line and its name (GNU assembler manual, "Syntax": whitespace,
 -- comments, statements and labels). What the operands of a statement mean is not said here.
-use Rattle.std.specs.Prelude.{ℕ, ◌+◌, Bool, true, false, not, ◌&&◌, ◌||◌, ◌==◌, nat_lt, if◌then◌else◌, List, [], ◌∷◌, ◌++◌, length, codes}
+use Rattle.std.specs.Prelude.{ℕ, ◌+◌, Bool, false, not, ◌&&◌, ◌||◌, ◌==◌, nat_lt, if◌then◌else◌, List, [], ◌∷◌, ◌++◌, length, codes}
 use Rattle.std.specs.List.{slice_split, starts_with}
 use Rattle.std.specs.Str.{bytes_eq}
 use Rattle.rrs_asm.specs.declared.lexing.Place.{Place}

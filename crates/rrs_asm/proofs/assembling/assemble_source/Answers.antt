@@ -7,21 +7,21 @@ use Rattle.rrs_asm.specs.Sections.{names_of, first_open}
 use Rattle.rrs_asm.proofs.assembling.assemble_source.Goals as goal
 
 -- all was read without a mistake
-pub returns-then-is_settled-clause-items : goal.returns-then-is_settled-clause-items
-returns-then-is_settled-clause-items c =
+pub returns-then-are_placed-clause-items : goal.returns-then-are_placed-clause-items
+returns-then-are_placed-clause-items c =
     let none : c.in_ok-last.errors.items ≡ [] = first_of (search rules, grind (arith, common_steps)) in
     are-made _ (items_of c.args.source.now) c.in_ok-last.last (c.in_ok-last.ensures c.begin-2.ensures c.in_ok-sections-3.ensures none)
 
-pub returns-then-is_settled-clause-laid_out : goal.returns-then-is_settled-clause-laid_out
-returns-then-is_settled-clause-laid_out c =
+pub returns-then-are_placed-clause-laid_out : goal.returns-then-are_placed-clause-laid_out
+returns-then-are_placed-clause-laid_out c =
     let none : c.in_ok-last.errors.items ≡ [] = first_of (search rules, grind (arith, common_steps)) in
     are-laid-out _ (items_of c.args.source.now) c.in_ok-last.last (c.in_ok-last.ensures c.begin-2.ensures c.in_ok-sections-3.ensures none)
 
-pub returns-then-is_settled-clause-all_found : goal.returns-then-is_settled-clause-all_found
-returns-then-is_settled-clause-all_found c =
+pub returns-then-are_placed-clause-all_found : goal.returns-then-are_placed-clause-all_found
+returns-then-are_placed-clause-all_found c =
     let none : c.in_ok-last.errors.items ≡ [] = first_of (search rules, grind (arith, common_steps)) in
     let Below : List Section → Type 0 = λ xs. first_open (names_of xs) < length xs in
-    let below : Below c.in_ok-last.last.sections.items = subst Below c.deref-then-is_empty-2.ensures.value (c.is_settled.ensures c.if-is_settled.true) in (
+    let below : Below c.in_ok-last.last.sections.items = subst Below c.deref-4.ensures.value (c.is_settled-is_settled.ensures c.if-is_settled.true) in (
       λ laid. omega (arith, below, names-length c.in_ok-last.last.sections.items),
       all-found _ (items_of c.args.source.now) c.in_ok-last.last (c.in_ok-last.ensures c.begin-2.ensures c.in_ok-sections-3.ensures none),
     )
