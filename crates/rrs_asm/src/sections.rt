@@ -346,7 +346,8 @@ pub fn laid_out<'a>(
     Ok(laid)
 }
 
-/// Adds a section, empty again, behind the others.
+/// Adds a section, empty again, behind the others. One that is left empty behind the last address is
+/// none.
 fn add_new<'a>(
     alloc: Global,
     section: &Section<'a>,
@@ -362,6 +363,9 @@ fn add_new<'a>(
         Some(extent) => extent.start_behind(kind, alignment, layout),
     };
     let start = start.ok_or(too_long())?;
+    if start > u64::from(u32::MAX) && section.size == 0 {
+        return Ok(());
+    }
     let address = u32::try_from(start).map_err(|_| too_long())?;
     let end = start.saturating_add(section.size as u64);
     if end > 1 << 32 {
