@@ -16,7 +16,7 @@ use Rattle.rrs_asm.specs.declared.output.Placed.{Placed}
 use Rattle.rrs_asm.specs.declared.statements.Statement.{Statement}
 use Rattle.rrs_asm.specs.Names.{IsNamed}
 use Rattle.rrs_asm.specs.Source.{Item, Part, lines, parts, items_in, items_of_parts, items_from, is_laid_out}
-use Rattle.rrs_asm.specs.Sections.{names_of, index_of, open_behind, if_open, in_section, first_open, AreMadeFrom, AreMade, AreLaidOut, AllFound}
+use Rattle.rrs_asm.specs.Sections.{names_of, index_of, open_behind, if_open, in_section, first_open, common, in_common, if_in, AreMadeFrom, AreMade, AreLaidOut, AllFound}
 use Rattle.rrs_asm.specs.Statements.{AreBytes, LaysOut, IsLabelAt, IsPlacedAt, IsMade, AddsPlaced}
 use Rattle.rrs_asm.specs.Forms.{skipped, IsNoSection, IsNew, IsSectionRead, Grows, AreReadFrom, IsRead, ReadsOn, left_in_line, left_in_source}
 
@@ -37,6 +37,8 @@ IsMade-label base (Item.Label own_line own_name ∷ items) labels placed bytes l
     (first, others ++ l ∷ [], at, IsMade-label base items others placed bytes line name l made label, rw all refl)
 IsMade-label base (Item.Section own_name ∷ items) labels placed bytes line name l made label =
     IsMade-label base items labels placed bytes line name l made label
+IsMade-label base (Item.Common own_line directive symbol ∷ items) labels placed bytes line name l made label =
+    IsMade-label base items labels placed bytes line name l made label
 IsMade-label base (Item.Laid own_line own_name ∷ items) labels placed bytes line name l (p, others, own, rest, at, made, all, whole) label =
     (p, others, own, rest, at, IsMade-label (base + length own) items labels others rest line name l made (label-at _ _ line name l (grind (arith, common_steps)) label), all, whole)
 
@@ -48,6 +50,8 @@ IsMade-laid base [] labels placed bytes line name p own (none, nothing, empty) a
 IsMade-laid base (Item.Label own_line own_name ∷ items) labels placed bytes line name p own (first, others, label, made, all) at =
     (first, others, label, IsMade-laid base items others placed bytes line name p own made at, all)
 IsMade-laid base (Item.Section own_name ∷ items) labels placed bytes line name p own made at =
+    IsMade-laid base items labels placed bytes line name p own made at
+IsMade-laid base (Item.Common own_line directive symbol ∷ items) labels placed bytes line name p own made at =
     IsMade-laid base items labels placed bytes line name p own made at
 IsMade-laid base (Item.Laid own_line own_name ∷ items) labels placed bytes line name p own (q, others, first, rest, placed_first, made, all, whole) at = (
   q,
@@ -65,6 +69,7 @@ pub laid-out : (base : ℕ) (items : List Item) (labels : List Label) (placed : 
 laid-out base [] labels placed bytes (none, nothing, empty) = rw nothing empty
 laid-out base (Item.Label line name ∷ items) labels placed bytes (first, others, label, made, all) = laid-out base items others placed bytes made
 laid-out base (Item.Section name ∷ items) labels placed bytes made = laid-out base items labels placed bytes made
+laid-out base (Item.Common line directive symbol ∷ items) labels placed bytes made = laid-out base items labels placed bytes made
 laid-out base (Item.Laid line name ∷ items) labels placed bytes (p, others, own, rest, at, made, all, whole) =
     rw all (own, rest, at.address, at.bytes, laid-out (base + length own) items labels others rest made, whole)
 
@@ -76,7 +81,7 @@ pub Grows-label : (line : ℕ) (name : List ℕ) (l : Label) (old new : Section)
     → new.made.labels.items ≡ old.made.labels.items ++ l ∷ []
     → new.made.placed.items ≡ old.made.placed.items → new.made.bytes.items ≡ old.made.bytes.items
     → l.line ≡ line → l.name.now ≡ name → l.address ≡ (old.address + old.size) % 2 ^ 32
-    → Grows (Item.Label line name) old new
+    → Grows (Item.Label line name ∷ []) old new
 Grows-label line name l old new named start size labels placed bytes at_line own address = record {
   name = named;
   reads = λ items read. record {
@@ -92,7 +97,7 @@ pub Grows-laid : (line count : ℕ) (name : List ℕ) (statement : Statement) (o
     → new.name ≡ old.name → new.address ≡ old.address
     → AddsPlaced old.address line statement old.made.placed.items new.made.placed.items old.made.bytes.items new.made.bytes.items
     → new.made.labels.items ≡ old.made.labels.items → new.size ≡ old.size + count
-    → Grows (Item.Laid line name) old new
+    → Grows (Item.Laid line name ∷ []) old new
 Grows-laid line count name statement old new named counts same start adds labels size = record {
   name = same;
   reads = λ items read.
@@ -107,6 +112,15 @@ Grows-laid line count name statement old new named counts same start adds labels
       };
 }
 
+-- some items more, and then others
+pub Grows-then : (a b : List Item) (x y z : Section) → Grows a x y → Grows b y z → Grows (a ++ b) x z
+Grows-then a b x y z first second = record {
+  name = second.name ∙ first.name;
+  reads = λ items read.
+      let P : List Item → Type 0 = λ all. IsSectionRead all z in
+      subst P (append_assoc items a b) (second.reads (items ++ a) (first.reads items read));
+}
+
 -- ---- the items of a section, one more
 
 if-more : (t : Bool) (item : Item) (xs ys : List Item) → (if t then item ∷ (xs ++ ys) else (xs ++ ys)) ≡ (if t then item ∷ xs else xs) ++ ys
@@ -116,31 +130,45 @@ if-more false item xs ys = refl
 if-open-more : (k before : ℕ) (item : Item) (xs ys : List Item) → if_open k before item (xs ++ ys) ≡ if_open k before item xs ++ ys
 if-open-more k before item xs ys = if-more (before == k) item xs ys
 
+if-all-more : (t : Bool) (more xs ys : List Item) → (if t then more ++ (xs ++ ys) else (xs ++ ys)) ≡ (if t then more ++ xs else xs) ++ ys
+if-all-more true more xs ys = sym (append_assoc more xs ys)
+if-all-more false more xs ys = refl
+
+if-in-more : (k own : ℕ) (more xs ys : List Item) → if_in k own more (xs ++ ys) ≡ if_in k own more xs ++ ys
+if-in-more k own more xs ys = if-all-more (own == k) more xs ys
+
 pub in-section-more : (names : List (List ℕ)) (k before : ℕ) (items : List Item) (item : Item) → IsNoSection item
     → in_section names k before (items ++ item ∷ []) ≡ in_section names k before items ++ if_open k (open_behind names before items) item []
 in-section-more names k before [] (Item.Label line name) plain = refl
 in-section-more names k before [] (Item.Laid line name) plain = refl
 in-section-more names k before [] (Item.Section name) plain = absurd plain
+in-section-more names k before [] (Item.Common line directive symbol) plain = absurd plain
 in-section-more names k before (Item.Label line name ∷ items) item plain =
     rw (in-section-more names k before items item plain) (if-open-more k before (Item.Label line name) (in_section names k before items) (if_open k (open_behind names before items) item []))
 in-section-more names k before (Item.Laid line name ∷ items) item plain =
     rw (in-section-more names k before items item plain) (if-open-more k before (Item.Laid line name) (in_section names k before items) (if_open k (open_behind names before items) item []))
+in-section-more names k before (Item.Common line directive symbol ∷ items) item plain =
+    rw (in-section-more names k before items item plain) (if-in-more k (common names) (in_common line directive symbol) (in_section names k before items) (if_open k (open_behind names before items) item []))
 in-section-more names k before (Item.Section name ∷ items) item plain = in-section-more names k (index_of name names) items item plain
 
 pub open-behind-more : (names : List (List ℕ)) (before : ℕ) (items : List Item) (item : Item) → IsNoSection item → open_behind names before (items ++ item ∷ []) ≡ open_behind names before items
 open-behind-more names before [] (Item.Label line name) plain = refl
 open-behind-more names before [] (Item.Laid line name) plain = refl
 open-behind-more names before [] (Item.Section name) plain = absurd plain
+open-behind-more names before [] (Item.Common line directive symbol) plain = absurd plain
 open-behind-more names before (Item.Label line name ∷ items) item plain = open-behind-more names before items item plain
 open-behind-more names before (Item.Laid line name ∷ items) item plain = open-behind-more names before items item plain
+open-behind-more names before (Item.Common line directive symbol ∷ items) item plain = open-behind-more names before items item plain
 open-behind-more names before (Item.Section name ∷ items) item plain = open-behind-more names (index_of name names) items item plain
 
 pub found-more : (names : List (List ℕ)) (items : List Item) (item : Item) → IsNoSection item → AllFound names items → AllFound names (items ++ item ∷ [])
 found-more names [] (Item.Label line name) plain found = tt
 found-more names [] (Item.Laid line name) plain found = tt
 found-more names [] (Item.Section name) plain found = absurd plain
+found-more names [] (Item.Common line directive symbol) plain found = absurd plain
 found-more names (Item.Label line name ∷ items) item plain found = found-more names items item plain found
 found-more names (Item.Laid line name ∷ items) item plain found = found-more names items item plain found
+found-more names (Item.Common line directive symbol ∷ items) item plain (first, found) = (first, found-more names items item plain found)
 found-more names (Item.Section name ∷ items) item plain (first, found) = (first, found-more names items item plain found)
 
 -- a section is opened
@@ -148,19 +176,51 @@ pub in-section-opened : (names : List (List ℕ)) (k before : ℕ) (items : List
 in-section-opened names k before [] name = refl
 in-section-opened names k before (Item.Label line own ∷ items) name = rw (in-section-opened names k before items name) refl
 in-section-opened names k before (Item.Laid line own ∷ items) name = rw (in-section-opened names k before items name) refl
+in-section-opened names k before (Item.Common line directive symbol ∷ items) name = rw (in-section-opened names k before items name) refl
 in-section-opened names k before (Item.Section own ∷ items) name = in-section-opened names k (index_of own names) items name
 
 pub open-behind-opened : (names : List (List ℕ)) (before : ℕ) (items : List Item) (name : List ℕ) → open_behind names before (items ++ Item.Section name ∷ []) ≡ index_of name names
 open-behind-opened names before [] name = refl
 open-behind-opened names before (Item.Label line own ∷ items) name = open-behind-opened names before items name
 open-behind-opened names before (Item.Laid line own ∷ items) name = open-behind-opened names before items name
+open-behind-opened names before (Item.Common line directive symbol ∷ items) name = open-behind-opened names before items name
 open-behind-opened names before (Item.Section own ∷ items) name = open-behind-opened names (index_of own names) items name
 
 pub found-opened : (names : List (List ℕ)) (items : List Item) (name : List ℕ) → (is_laid_out name ≡ true → index_of name names < length names) → AllFound names items → AllFound names (items ++ Item.Section name ∷ [])
 found-opened names [] name is found = (is, found)
 found-opened names (Item.Label line own ∷ items) name is found = found-opened names items name is found
 found-opened names (Item.Laid line own ∷ items) name is found = found-opened names items name is found
+found-opened names (Item.Common line directive symbol ∷ items) name is (first, found) = (first, found-opened names items name is found)
 found-opened names (Item.Section own ∷ items) name is (first, found) = (first, found-opened names items name is found)
+
+-- something is put into `COMMON`
+in-section-common : (names : List (List ℕ)) (k before : ℕ) (items : List Item) (line : ℕ) (directive symbol : List ℕ)
+    → in_section names k before (items ++ Item.Common line directive symbol ∷ []) ≡ in_section names k before items ++ if_in k (common names) (in_common line directive symbol) []
+in-section-common names k before [] line directive symbol = refl
+in-section-common names k before (Item.Label own_line own ∷ items) line directive symbol =
+    rw (in-section-common names k before items line directive symbol) (if-open-more k before (Item.Label own_line own) (in_section names k before items) (if_in k (common names) (in_common line directive symbol) []))
+in-section-common names k before (Item.Laid own_line own ∷ items) line directive symbol =
+    rw (in-section-common names k before items line directive symbol) (if-open-more k before (Item.Laid own_line own) (in_section names k before items) (if_in k (common names) (in_common line directive symbol) []))
+in-section-common names k before (Item.Common own_line own other ∷ items) line directive symbol =
+    rw (in-section-common names k before items line directive symbol)
+        (if-in-more k (common names) (in_common own_line own other) (in_section names k before items) (if_in k (common names) (in_common line directive symbol) []))
+in-section-common names k before (Item.Section own ∷ items) line directive symbol = in-section-common names k (index_of own names) items line directive symbol
+
+open-behind-common : (names : List (List ℕ)) (before : ℕ) (items : List Item) (line : ℕ) (directive symbol : List ℕ)
+    → open_behind names before (items ++ Item.Common line directive symbol ∷ []) ≡ open_behind names before items
+open-behind-common names before [] line directive symbol = refl
+open-behind-common names before (Item.Label own_line own ∷ items) line directive symbol = open-behind-common names before items line directive symbol
+open-behind-common names before (Item.Laid own_line own ∷ items) line directive symbol = open-behind-common names before items line directive symbol
+open-behind-common names before (Item.Common own_line own other ∷ items) line directive symbol = open-behind-common names before items line directive symbol
+open-behind-common names before (Item.Section own ∷ items) line directive symbol = open-behind-common names (index_of own names) items line directive symbol
+
+found-common : (names : List (List ℕ)) (items : List Item) (line : ℕ) (directive symbol : List ℕ)
+    → common names < length names → AllFound names items → AllFound names (items ++ Item.Common line directive symbol ∷ [])
+found-common names [] line directive symbol is found = (is, found)
+found-common names (Item.Label own_line own ∷ items) line directive symbol is found = found-common names items line directive symbol is found
+found-common names (Item.Laid own_line own ∷ items) line directive symbol is found = found-common names items line directive symbol is found
+found-common names (Item.Common own_line own other ∷ items) line directive symbol is (first, found) = (first, found-common names items line directive symbol is found)
+found-common names (Item.Section own ∷ items) line directive symbol is (first, found) = (first, found-common names items line directive symbol is found)
 
 -- ---- all sections
 
@@ -176,21 +236,21 @@ AreReadFrom-same names k items more (s ∷ sections) same (first, read) =
     )
 
 -- one of the sections grew
-pub AreReadFrom-at : (names : List (List ℕ)) (k i : ℕ) (items more : List Item) (item : Item) (sections : List Section) (d new : Section)
+pub AreReadFrom-at : (names : List (List ℕ)) (k i : ℕ) (items more own_items : List Item) (sections : List Section) (d new : Section)
     → ((n : ℕ) → n ≢ k + i → in_section names n (first_open names) more ≡ in_section names n (first_open names) items)
-    → ((n : ℕ) → n ≡ k + i → in_section names n (first_open names) more ≡ in_section names n (first_open names) items ++ item ∷ [])
-    → i < length sections → Grows item (get_or sections i d) new
+    → ((n : ℕ) → n ≡ k + i → in_section names n (first_open names) more ≡ in_section names n (first_open names) items ++ own_items)
+    → i < length sections → Grows own_items (get_or sections i d) new
     → AreReadFrom names k items sections → AreReadFrom names k more (set sections i new)
-AreReadFrom-at names k i items more item [] d new same own below grows read = absurd (omega arith)
-AreReadFrom-at names k zero items more item (s ∷ sections) d new same own below grows (first, read) =
+AreReadFrom-at names k i items more own_items [] d new same own below grows read = absurd (omega arith)
+AreReadFrom-at names k zero items more own_items (s ∷ sections) d new same own below grows (first, read) =
     let P : List Item → Type 0 = λ its. IsSectionRead its new in (
       subst P (sym (own k (omega arith))) (grows.reads _ first),
       AreReadFrom-same names (k + 1) items more sections (λ n least most. same n (λ e. absurd (omega arith))) read,
     )
-AreReadFrom-at names k (suc i) items more item (s ∷ sections) d new same own below grows (first, read) =
+AreReadFrom-at names k (suc i) items more own_items (s ∷ sections) d new same own below grows (first, read) =
     let P : List Item → Type 0 = λ its. IsSectionRead its s in (
       subst P (sym (same k (λ e. absurd (omega arith)))) first,
-      AreReadFrom-at names (k + 1) i items more item sections d new
+      AreReadFrom-at names (k + 1) i items more own_items sections d new
           (λ n other. same n (λ e. other (omega arith)))
           (λ n e. own n (omega arith)) (omega arith) grows read,
     )
@@ -256,7 +316,7 @@ ReadsOn-then a b x y z first second names items read =
 
 -- the open section grew
 pub ReadsOn-at : (item : Item) (old new : Reading) (d s : Section) → IsNoSection item
-    → old.current < length old.sections.items → Grows item (get_or old.sections.items old.current d) s
+    → old.current < length old.sections.items → Grows (item ∷ []) (get_or old.sections.items old.current d) s
     → new.sections.items ≡ set old.sections.items old.current s → new.current ≡ old.current
     → ReadsOn (item ∷ []) old new
 ReadsOn-at item old new d s plain below grows sections current names items read =
@@ -264,11 +324,45 @@ ReadsOn-at item old new d s plain below grows sections current names items read 
     record {
       named = ap names_of sections ∙ names-at old.current old.sections.items d s below grows.name ∙ read.named;
       current = current ∙ is_open ∙ sym (open-behind-more names (first_open names) items item plain);
-      read = rw sections (AreReadFrom-at names 0 old.current items (items ++ item ∷ []) item old.sections.items d s
+      read = rw sections (AreReadFrom-at names 0 old.current items (items ++ item ∷ []) (item ∷ []) old.sections.items d s
           (λ n other. more-other names n items item plain (λ e. other (omega arith)))
           (λ n own. more-own names n items item plain (omega arith))
           below grows read.read);
       found = found-more names items item plain read.found;
+    }
+
+-- in `COMMON`, and elsewhere
+common-own : (names : List (List ℕ)) (k : ℕ) (items : List Item) (line : ℕ) (directive symbol : List ℕ) → common names ≡ k
+    → in_section names k (first_open names) (items ++ Item.Common line directive symbol ∷ []) ≡ in_section names k (first_open names) items ++ in_common line directive symbol
+common-own names k items line directive symbol is =
+    let t : (common names == k) ≡ true = grind (arith, nat_tests) in
+    let own : if_in k (common names) (in_common line directive symbol) [] ≡ in_common line directive symbol = rw t refl in
+    in-section-common names k (first_open names) items line directive symbol ∙ ap (λ tail. in_section names k (first_open names) items ++ tail) own
+
+common-other : (names : List (List ℕ)) (k : ℕ) (items : List Item) (line : ℕ) (directive symbol : List ℕ) → common names ≢ k
+    → in_section names k (first_open names) (items ++ Item.Common line directive symbol ∷ []) ≡ in_section names k (first_open names) items
+common-other names k items line directive symbol is =
+    let t : (common names == k) ≡ false = grind (arith, nat_tests) in
+    let none : if_in k (common names) (in_common line directive symbol) [] ≡ [] = rw t refl in
+    in-section-common names k (first_open names) items line directive symbol ∙ ap (λ tail. in_section names k (first_open names) items ++ tail) none
+    ∙ append-nil (in_section names k (first_open names) items)
+
+-- `COMMON` grew
+pub ReadsOn-common : (line i : ℕ) (directive symbol : List ℕ) (old new : Reading) (d s : Section)
+    → i ≡ common (names_of old.sections.items) → i < length old.sections.items → Grows (in_common line directive symbol) (get_or old.sections.items i d) s
+    → new.sections.items ≡ set old.sections.items i s → new.current ≡ old.current
+    → ReadsOn (Item.Common line directive symbol ∷ []) old new
+ReadsOn-common line i directive symbol old new d s at below grows sections current names items read =
+    let is : i ≡ common names = at ∙ ap common read.named in
+    let long : length names ≡ length old.sections.items = ap length (sym read.named) ∙ names-length old.sections.items in
+    record {
+      named = ap names_of sections ∙ names-at i old.sections.items d s below grows.name ∙ read.named;
+      current = current ∙ read.current ∙ sym (open-behind-common names (first_open names) items line directive symbol);
+      read = rw sections (AreReadFrom-at names 0 i items (items ++ Item.Common line directive symbol ∷ []) (in_common line directive symbol) old.sections.items d s
+          (λ n other. common-other names n items line directive symbol (λ e. other (omega (arith, is, e))))
+          (λ n own. common-own names n items line directive symbol (omega (arith, is, own)))
+          below grows read.read);
+      found = found-common names items line directive symbol (omega (arith, is, long, below)) read.found;
     }
 
 -- no section is open

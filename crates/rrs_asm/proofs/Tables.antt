@@ -3,7 +3,7 @@ use Rattle.std.proofs.Common.{◌≡◌, ℕ, Bool, true, false, not, ◌&&◌, 
 use Rattle.std.proofs.lemmas.Slice.Eq.{bytes_eq-Decides}
 use Rattle.rrs_asm.specs.declared.names.PseudoForm.{PseudoForm}
 use Rattle.rrs_asm.specs.declared.names.DirectiveForm.{DirectiveForm}
-use Rattle.rrs_asm.specs.Names.{is_silent_name, is_section_name}
+use Rattle.rrs_asm.specs.Names.{is_one_of, fill_names, is_silent_name, is_section_name, is_common_name}
 use Rattle.rrs_asm.specs.Forms.{form_name, fits_pseudo, fits_placed, fits_directive, IsForm}
 
 pub pseudo-name : (name : List ℕ) (found : Option PseudoForm) → IfSome found (λ form. fits_pseudo name form ≡ true) → IfSome found (λ form. form_name form ≡ name)
@@ -20,14 +20,29 @@ neither false false is = (refl, refl)
 neither false true is = absurd (cc)
 neither true b is = absurd (cc)
 
-three : (a b d : Bool) → ((not a && not b) && d) ≡ true → (a ≡ false) × (b ≡ false) × (d ≡ true)
-three false false d is = (refl, refl, is)
-three false true d is = absurd (cc)
-three true b d is = absurd (cc)
+both-true : (a b : Bool) → (a && b) ≡ true → (a ≡ true) × (b ≡ true)
+both-true true b is = (refl, is)
+both-true false b is = absurd (cc)
+
+three : (a b c : Bool) → (not a && (not b && not c)) ≡ true → (a ≡ false) × (b ≡ false) × (c ≡ false)
+three false b c is = (refl, neither b c is)
+three true b c is = absurd (cc)
+
+placed : (a b c d : Bool) → ((not a && (not b && not c)) && d) ≡ true → (a ≡ false) × (b ≡ false) × (c ≡ false) × (d ≡ true)
+placed a b c d is =
+    let all : ((not a && (not b && not c)) ≡ true) × (d ≡ true) = both-true (not a && (not b && not c)) d is in
+    let none : (a ≡ false) × (b ≡ false) × (c ≡ false) = three a b c all.0 in
+    (none.0, none.1.0, none.1.1, all.1)
+
+common : (a b c d : Bool) → (not a && (not b && (c && d))) ≡ true → (a ≡ false) × (b ≡ false) × (c ≡ true) × (d ≡ true)
+common false false c d is = (refl, refl, both-true c d is)
+common false true c d is = absurd (cc)
+common true b c d is = absurd (cc)
 
 is-form : (name : List ℕ) (form : DirectiveForm) → fits_directive name form ≡ true → IsForm name form
-is-form name (DirectiveForm.Place form) fits = three (is_silent_name name) (is_section_name name) (fits_placed name form) fits
-is-form name DirectiveForm.Refused fits = neither (is_silent_name name) (is_section_name name) fits
+is-form name (DirectiveForm.Place form) fits = placed (is_silent_name name) (is_section_name name) (is_common_name name) (fits_placed name form) fits
+is-form name DirectiveForm.Refused fits = three (is_silent_name name) (is_section_name name) (is_common_name name) fits
+is-form name DirectiveForm.Common fits = common (is_silent_name name) (is_section_name name) (is_common_name name) (is_one_of fill_names name) fits
 is-form name DirectiveForm.Section fits = both (is_silent_name name) (is_section_name name) fits
 is-form name DirectiveForm.Constant fits = fits
 is-form name DirectiveForm.Option fits = fits

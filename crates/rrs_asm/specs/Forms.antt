@@ -11,7 +11,7 @@ use Rattle.rrs_asm.specs.declared.directives.Read.{Read}
 use Rattle.rrs_asm.specs.declared.sections.Section.{Section}
 use Rattle.rrs_asm.specs.declared.assembling.Reading.{Reading}
 use Rattle.rrs_asm.specs.Source.{Part, Item, lines, parts, items_of_parts, items_from}
-use Rattle.rrs_asm.specs.Names.{unary_name, zero_branch_name, swapped_name, comparison_name, is_one_of, data_names, fill_names, is_silent_name, is_section_name, IsNamed}
+use Rattle.rrs_asm.specs.Names.{unary_name, zero_branch_name, swapped_name, comparison_name, is_one_of, data_names, fill_names, is_silent_name, is_section_name, is_common_name, IsNamed}
 use Rattle.rrs_asm.specs.Statements.{IsMade}
 use Rattle.rrs_asm.specs.Sections.{names_of, open_behind, in_section, first_open, AllFound}
 
@@ -47,7 +47,13 @@ fits_placed name PlacedForm.Origin = is_one_of fill_names name
 fits_placed name _ = is_one_of data_names name
 
 abbrev pub lays_out : List ℕ → Bool
-lays_out name = not (is_silent_name name) && not (is_section_name name)
+lays_out name =
+    not (is_silent_name name) && (not (is_section_name name) && not (is_common_name name))
+
+abbrev pub puts_into_common : List ℕ → Bool
+puts_into_common name =
+    not (is_silent_name name)
+    && (not (is_section_name name) && (is_common_name name && is_one_of fill_names name))
 
 abbrev pub opens : List ℕ → Bool
 opens name = not (is_silent_name name) && is_section_name name
@@ -56,14 +62,20 @@ abbrev pub fits_directive : List ℕ → DirectiveForm → Bool
 fits_directive name (DirectiveForm.Place form) = lays_out name && fits_placed name form
 fits_directive name DirectiveForm.Refused = lays_out name
 fits_directive name DirectiveForm.Section = opens name
+fits_directive name DirectiveForm.Common = puts_into_common name
 fits_directive name _ = is_silent_name name
 
 -- the same of a form as facts
 abbrev pub IsForm : List ℕ → DirectiveForm → Type 0
 IsForm name (DirectiveForm.Place form) =
-    (is_silent_name name ≡ false) × (is_section_name name ≡ false) × (fits_placed name form ≡ true)
+    (is_silent_name name ≡ false) × (is_section_name name ≡ false)
+    × (is_common_name name ≡ false) × (fits_placed name form ≡ true)
 IsForm name DirectiveForm.Refused =
     (is_silent_name name ≡ false) × (is_section_name name ≡ false)
+    × (is_common_name name ≡ false)
+IsForm name DirectiveForm.Common =
+    (is_silent_name name ≡ false) × (is_section_name name ≡ false)
+    × (is_common_name name ≡ true) × (is_one_of fill_names name ≡ true)
 IsForm name DirectiveForm.Section =
     (is_silent_name name ≡ false) × (is_section_name name ≡ true)
 IsForm name _ = is_silent_name name ≡ true
@@ -78,16 +90,20 @@ abbrev pub items_of_read : ℕ → Read → List Item
 items_of_read line (Read.Label name) = Item.Label line name.now ∷ []
 items_of_read line (Read.Laid name statement notes) = Item.Laid line name.now ∷ []
 items_of_read line (Read.Section name kind) = Item.Section name.now ∷ []
+items_of_read line (Read.Common name symbol common) = Item.Common line name.now symbol.now ∷ []
 items_of_read line (Read.Skipped name is_label) = skipped line name.now is_label ∷ []
 items_of_read line _ = []
 
 -- a statement is one of its name
 abbrev pub HasItsName : Read → Type 0
 HasItsName (Read.Laid name statement notes) = IsNamed name.now statement
+HasItsName (Read.Common name symbol common) = is_one_of fill_names name.now ≡ true
 HasItsName _ = Unit {0}
 
+-- a label or a statement
 abbrev pub IsNoSection : Item → Type 0
 IsNoSection (Item.Section name) = ⊥
+IsNoSection (Item.Common line directive symbol) = ⊥
 IsNoSection _ = Unit {0}
 
 -- ---- sections
@@ -105,11 +121,10 @@ pub record IsSectionRead (items : List Item) (section : Section) : Type 0 where
       IsMade section.address items section.made.labels.items section.made.placed.items section.made.bytes.items
   pub size : section.size ≡ length section.made.bytes.items
 
--- one item more was read in a section
-pub record Grows (item : Item) (old new : Section) : Type 0 where
+-- these items more were read in a section
+pub record Grows (more : List Item) (old new : Section) : Type 0 where
   pub name : new.name ≡ old.name
-  pub reads :
-      (items : List Item) → IsSectionRead items old → IsSectionRead (items ++ item ∷ []) new
+  pub reads : (items : List Item) → IsSectionRead items old → IsSectionRead (items ++ more) new
 
 -- of these items, those in each section were read in it, from the one with this number on
 abbrev pub AreReadFrom : List (List ℕ) → ℕ → List Item → List Section → Type 0

@@ -94,7 +94,8 @@ data_names =
 
 -- the directives that lay out so many of a byte
 abbrev pub fill_names : List (List ℕ)
-fill_names = codes ".space" ∷ codes ".zero" ∷ codes ".skip" ∷ codes ".org" ∷ []
+fill_names =
+    codes ".space" ∷ codes ".zero" ∷ codes ".skip" ∷ codes ".org" ∷ codes ".comm" ∷ codes ".lcomm" ∷ []
 
 -- the directives that say something of symbols, of the file, of options, or of debugging
 abbrev pub silent_names : List (List ℕ)
@@ -115,6 +116,11 @@ abbrev pub section_names : List (List ℕ)
 section_names =
     codes ".text" ∷ codes ".data" ∷ codes ".bss" ∷ codes ".rodata" ∷ codes ".section" ∷ []
 
+-- the directives that put a symbol with so many bytes into the section `COMMON`, whichever is
+-- open
+abbrev pub common_names : List (List ℕ)
+common_names = codes ".comm" ∷ codes ".lcomm" ∷ []
+
 abbrev pub begins_with_dot : List ℕ → Bool
 begins_with_dot [] = false
 begins_with_dot (b ∷ bs) = b == 46
@@ -124,6 +130,9 @@ is_silent_name name = begins_with_dot name && is_one_of silent_names name
 
 abbrev pub is_section_name : List ℕ → Bool
 is_section_name name = begins_with_dot name && is_one_of section_names name
+
+abbrev pub is_common_name : List ℕ → Bool
+is_common_name name = begins_with_dot name && is_one_of common_names name
 
 -- ---- statements
 

@@ -26,12 +26,27 @@ abbrev pub open_behind : List (List ℕ) → ℕ → List Item → ℕ
 open_behind names before [] = before
 open_behind names before (Item.Label line name ∷ items) = open_behind names before items
 open_behind names before (Item.Laid line name ∷ items) = open_behind names before items
+open_behind names before (Item.Common line directive symbol ∷ items) =
+    open_behind names before items
 open_behind names before (Item.Section name ∷ items) =
     open_behind names (index_of name names) items
 
 -- an item in front of others, if the section is open
 abbrev pub if_open : ℕ → ℕ → Item → List Item → List Item
 if_open section before item items = if before == section then item ∷ items else items
+
+-- the section for what `.comm` and `.lcomm` say, which lies behind `.bss`
+abbrev pub common : List (List ℕ) → ℕ
+common names = index_of (codes "COMMON") names
+
+-- What a directive puts there: bytes up to the alignment of the symbol, the symbol, and its bytes.
+abbrev pub in_common : ℕ → List ℕ → List ℕ → List Item
+in_common line directive symbol =
+    Item.Laid line directive ∷ Item.Label line symbol ∷ Item.Laid line directive ∷ []
+
+-- items in front of others, if they stand in the section
+abbrev pub if_in : ℕ → ℕ → List Item → List Item → List Item
+if_in section own items others = if own == section then items ++ others else others
 
 -- the items that stand in a section, where one is open before them
 abbrev pub in_section : List (List ℕ) → ℕ → ℕ → List Item → List Item
@@ -40,6 +55,9 @@ in_section names section before (Item.Label line name ∷ items) =
     if_open section before (Item.Label line name) (in_section names section before items)
 in_section names section before (Item.Laid line name ∷ items) =
     if_open section before (Item.Laid line name) (in_section names section before items)
+in_section names section before (Item.Common line directive symbol ∷ items) =
+    if_in section (common names) (in_common line directive symbol)
+        (in_section names section before items)
 in_section names section before (Item.Section name ∷ items) =
     in_section names section (index_of name names) items
 
@@ -65,11 +83,13 @@ AreLaidOut [] = Unit {0}
 AreLaidOut (s ∷ others) =
     LaysOut s.address s.made.placed.items s.made.bytes.items × AreLaidOut others
 
--- each section that is opened is one of these, if it is laid out
+-- each section that is opened is one of these, if it is laid out, and `COMMON` if something is put there
 abbrev pub AllFound : List (List ℕ) → List Item → Type 0
 AllFound names [] = Unit {0}
 AllFound names (Item.Label line name ∷ items) = AllFound names items
 AllFound names (Item.Laid line name ∷ items) = AllFound names items
+AllFound names (Item.Common line directive symbol ∷ items) =
+    (common names < length names) × AllFound names items
 AllFound names (Item.Section name ∷ items) =
     (is_laid_out name ≡ true → index_of name names < length names) × AllFound names items
 

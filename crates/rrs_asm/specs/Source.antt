@@ -6,7 +6,7 @@ use Rattle.std.specs.List.{slice_split, starts_with}
 use Rattle.std.specs.Str.{bytes_eq}
 use Rattle.rrs_asm.specs.declared.lexing.Place.{Place}
 use Rattle.rrs_asm.specs.declared.lexing.Mark.{Mark}
-use Rattle.rrs_asm.specs.Names.{is_silent_name, is_section_name}
+use Rattle.rrs_asm.specs.Names.{is_silent_name, is_section_name, is_common_name}
 
 -- the lines, cut at each line feed
 abbrev pub lines : List ℕ → List (List ℕ)
@@ -108,12 +108,14 @@ behind_word text = behind_first_word (behind_blanks text)
 
 -- ---- items
 
--- What stands in a line: a label and a statement that is laid out as bytes, each by its name, and a
--- directive that opens a section, by the name of the section.
+-- What stands in a line: a label and a statement that is laid out as bytes, each by its name, a
+-- directive that opens a section, by the name of the section, and a directive that puts a symbol into
+-- `COMMON`, by its name and that of the symbol.
 pub data Item : Type 0 where
   Label : (line : ℕ) (name : List ℕ) → Item
   Laid : (line : ℕ) (name : List ℕ) → Item
   Section : (name : List ℕ) → Item
+  Common : (line : ℕ) (directive symbol : List ℕ) → Item
 
 abbrev pub is_empty : List ℕ → Bool
 is_empty text = length text == 0
@@ -131,7 +133,8 @@ abbrev pub items_named : ℕ → List ℕ → List ℕ → List Item
 items_named line name operands =
     if is_silent_name name then []
     else (if is_section_name name then Item.Section (section_opened name operands) ∷ []
-    else Item.Laid line name ∷ [])
+    else (if is_common_name name then Item.Common line name (word operands) ∷ []
+    else Item.Laid line name ∷ []))
 
 -- a statement with this text: nothing, where it is blank or a constant
 abbrev pub items_in_statement : ℕ → List ℕ → List Item

@@ -61,6 +61,8 @@ IsMade address (Item.Laid line name ∷ items) labels placed bytes =
     × (placed ≡ p ∷ others) × (bytes ≡ own ++ rest)
 IsMade address (Item.Section name ∷ items) labels placed bytes =
     IsMade address items labels placed bytes
+IsMade address (Item.Common line directive symbol ∷ items) labels placed bytes =
+    IsMade address items labels placed bytes
 
 -- one statement of a line more stands behind those from `base` on
 pub record AddsPlaced (base number : ℕ) (own_statement : Statement) (old new : List Placed)

@@ -2,12 +2,12 @@
 
 ghost use Rattle.std.specs.Prelude.{◌≡◌, ◌<◌, ℕ, List, [], ◌∷◌, All, IfOk, OnOk, true, false, length, codes};
 ghost use Rattle.rrs_asm.specs.declared.symbols.Pass.{Pass};
-ghost use Rattle.rrs_asm.specs.Names.{IsNamed};
+ghost use Rattle.rrs_asm.specs.Names.{is_one_of, fill_names, IsNamed};
 ghost use Rattle.rrs_asm.specs.Source.{Part, Item, word, is_laid_out, items_of, items_in, items_named, items_in_statement, items_of_parts, parts};
 ghost use Rattle.rrs_asm.specs.Sections.{names_of, index_of, first_open, AreMade, AreLaidOut, AllFound, ArePlaced};
 ghost use Rattle.rrs_asm.specs.Forms.{shown, items_of_read, HasItsName, IsNoSection, IsNew, IsRead, ReadsOn};
 
-use crate::directives::{Read, read_directive};
+use crate::directives::{Common, Read, read_directive};
 use crate::errors::{Halt, LineError, SourceError, SourceErrorKind, SourceFault};
 use crate::instructions::read_instruction;
 use crate::lexing::{Part, begins_with, behind_blanks, first_line, first_part, split_word};
@@ -395,6 +395,7 @@ fn perform<'a>(
         Read::Label(name) => put_label(name, number, start, symbols, reading),
         Read::Skipped(_, _) => check_skipped(start, reading),
         Read::Section(name, kind) => { open(alloc, name, kind, start, symbols.is_last(), reading) }
+        Read::Common(_, name, common) => put_common(name, common, number, start, symbols, reading),
         Read::Laid(_, statement, notes) => {
             keep_notes(notes, symbols, reading)?;
             put(statement, number, start, symbols.is_last(), reading)
@@ -547,6 +548,71 @@ fn put_label<'a>(
         Some(section) => section.put_label(number, name, known, start),
         None => Err(Halt::Error(start.with_kind(SourceErrorKind::Moved))),
     }
+}
+
+/// Puts a symbol, with bytes that are zero, behind what is in `COMMON`.
+fn put_common<'a>(
+    name: &'a [u8],
+    common: Common,
+    number: usize,
+    start: LineError,
+    symbols: &mut Symbols<'a>,
+    reading: &mut Reading<'a>,
+) -> Result<(), Halt>
+    ensures pass { symbols.new.pass ≡ symbols.old.pass }
+    ensures items { OnOk result (symbols.old.pass ≡ Pass.Last → (directive : List ℕ)
+        → is_one_of fill_names directive ≡ true
+        → ReadsOn (Item.Common number directive name.now ∷ []) reading.old reading.new) }
+{
+    let index = section_named(&reading.sections, b"COMMON");
+    let (padding, here) = place_in(&reading.sections, index, common.alignment);
+    let known = define_label(name, here, start, symbols)?;
+    let size = (padding as usize).saturating_add(common.size as usize);
+    let total = reading.total.saturating_add(size);
+    if total > MOST_BYTES {
+        return Err(Halt::Error(start.with_kind(SourceErrorKind::TooLong)));
+    }
+    if !symbols.is_last() {
+        return count_common(common, padding, number, start, index, reading);
+    }
+    reading.total = total;
+    match reading.sections.get_mut(index) {
+        Some(section) => section.put_common(number, name, padding, common.size, known, start),
+        None => Err(Halt::Error(start.with_kind(SourceErrorKind::Sections))),
+    }
+}
+
+/// How many bytes a section takes up to an alignment, and the address behind these.
+fn place_in(sections: &[Section], index: usize, alignment: u32) -> (u32, u32) {
+    match sections.get(index) {
+        Some(section) => {
+            let padding = section.padding(alignment);
+            (padding, section.here().wrapping_add(padding))
+        }
+        None => (0, 0),
+    }
+}
+
+/// Counts the bytes of a symbol in a section before the last reading, and aligns `.bss` too, of which
+/// it is a part in GNU `as`.
+fn count_common(
+    common: Common,
+    padding: u32,
+    number: usize,
+    start: LineError,
+    index: usize,
+    reading: &mut Reading,
+) -> Result<(), Halt> {
+    let before = section_named(&reading.sections, b".bss");
+    if let Some(section) = reading.sections.get_mut(before) {
+        section.align(common.alignment);
+    }
+    let Some(section) = reading.sections.get_mut(index) else {
+        return Err(Halt::Error(start.with_kind(SourceErrorKind::Sections)));
+    };
+    section.align(common.alignment);
+    section.put(number, Statement::Fill(padding, 0), false, start)?;
+    section.put(number, Statement::Fill(common.size, 0), false, start)
 }
 
 /// Puts a statement behind what is in the open section.

@@ -18,6 +18,15 @@ use std::alloc::Global;
 /// The greatest alignment, as a power of 2.
 const MOST_ALIGNED: u32 = 16;
 
+/// What a symbol in `COMMON` takes.
+#[derive(Clone, Copy)]
+pub struct Common {
+    /// How many bytes.
+    pub size: u32,
+    /// Its alignment, a power of 2.
+    pub alignment: u32,
+}
+
 /// What a part of a line says.
 #[derive(Drop)]
 pub enum Read<'a> {
@@ -27,6 +36,8 @@ pub enum Read<'a> {
     Laid(&'a [u8], Statement, Notes),
     /// A constant has this value.
     Constant(&'a [u8], u32),
+    /// By a directive of this name a symbol of the other has bytes in `COMMON`.
+    Common(&'a [u8], &'a [u8], Common),
     /// A section of this name follows. No kind: it is not laid out.
     Section(&'a [u8], Option<SectionKind>),
     /// A label or a statement of this name stands in a section that is not laid out.
@@ -56,6 +67,11 @@ pub fn read_directive<'a>(
         Some(DirectiveForm::Place(form)) => {
             let statement = read_placed(alloc, line, name, form)?;
             Ok(Read::Laid(name, statement, line.notes()))
+        }
+        Some(DirectiveForm::Common) => {
+            let (symbol, rest) = split_word(operands);
+            let common = read_common(line, name, symbol, rest)?;
+            Ok(Read::Common(name, symbol, common))
         }
         Some(DirectiveForm::Constant) => {
             let (constant, value) = read_constant(line)?;
@@ -107,6 +123,46 @@ fn read_section<'a>(
         Some(_) => Ok(Read::Section(section, kind)),
         None => Err(error.with_kind(SourceErrorKind::Section)),
     }
+}
+
+/// Reads the size and the alignment of a symbol in `COMMON`, which stand behind its name. Where there is
+/// no alignment, it is that of GNU `as`.
+fn read_common<'a>(
+    line: &mut Line<'a, '_>,
+    name: &[u8],
+    symbol: &[u8],
+    rest: &'a [u8],
+) -> Result<Common, LineError> {
+    let error = line.error(SourceErrorKind::Character);
+    if matches!(symbol, [] | [b'0'..=b'9', ..]) {
+        return Err(error);
+    }
+    line.go_to(rest);
+    line.comma()?;
+    let size = read_count(line)?;
+    line.skip_blanks();
+    let range = line.error(SourceErrorKind::Range);
+    let alignment = if line.take(b',') {
+        line.known_value()?
+    } else if name == b".lcomm".as_slice() {
+        implied_alignment(size, 8)
+    } else {
+        implied_alignment(size.saturating_mul(2).saturating_sub(1), 16)
+    };
+    if !alignment.is_power_of_two() || alignment > 1 << MOST_ALIGNED {
+        return Err(range);
+    }
+    Ok(Common { size, alignment })
+}
+
+/// The greatest power of 2 up to a size and a limit.
+fn implied_alignment(size: u32, most: u32) -> u32 {
+    for alignment in [16, 8, 4, 2] {
+        if alignment <= size && alignment <= most {
+            return alignment;
+        }
+    }
+    1
 }
 
 /// The kind of a section by what stands behind its name, as `, "aw", @nobits`.

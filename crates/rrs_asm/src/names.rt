@@ -106,6 +106,8 @@ pub enum DirectiveForm {
     Constant,
     /// That a section follows.
     Section,
+    /// That a symbol has bytes in `COMMON`.
+    Common,
     /// An option, of which some would mean other instructions.
     Option,
     /// What means nothing here: of symbols, of the file, or of debugging.
@@ -225,8 +227,8 @@ const DIRECTIVES: [(&[u8], DirectiveForm); 152] = [
     (b".pushsection", DirectiveForm::Refused),
     (b".popsection", DirectiveForm::Refused),
     (b".previous", DirectiveForm::Refused),
-    (b".comm", DirectiveForm::Refused),
-    (b".lcomm", DirectiveForm::Refused),
+    (b".comm", DirectiveForm::Common),
+    (b".lcomm", DirectiveForm::Common),
     (b".macro", DirectiveForm::Refused),
     (b".endm", DirectiveForm::Refused),
     (b".exitm", DirectiveForm::Refused),

@@ -117,6 +117,11 @@ impl<'a, 's> Line<'a, 's> {
         Some(value.wrapping_sub(self.site.here))
     }
 
+    /// Goes on at an end of what is left.
+    pub fn go_to(&mut self, rest: &'a [u8]) {
+        self.rest = rest;
+    }
+
     /// Takes whatever is left.
     pub fn skip_all(&mut self) {
         self.rest = &self.rest[self.rest.len()..];

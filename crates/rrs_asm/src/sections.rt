@@ -2,8 +2,8 @@
 
 ghost use Rattle.std.specs.Prelude.{◌≡◌, ◌+◌, ◌%◌, ◌^◌, ℕ, List, [], ◌∷◌, true, false, OnOk, IfOk, IfSome, All, length};
 ghost use Rattle.rrs_asm.specs.Source.{Item, is_laid_out};
-ghost use Rattle.rrs_asm.specs.Names.{IsNamed};
-ghost use Rattle.rrs_asm.specs.Sections.{flat, is_data, data_address, filled_end, start_behind, IsBehind, AreBehind, ArePlaced};
+ghost use Rattle.rrs_asm.specs.Names.{is_one_of, fill_names, IsNamed};
+ghost use Rattle.rrs_asm.specs.Sections.{in_common, flat, is_data, data_address, filled_end, start_behind, IsBehind, AreBehind, ArePlaced};
 ghost use Rattle.rrs_asm.specs.Forms.{Grows, IsNew};
 
 use crate::errors::{Halt, LineError, SourceErrorKind};
@@ -130,7 +130,7 @@ impl<'a> Section<'a> {
         known: Known,
         start: LineError,
     ) -> Result<(), Halt>
-        ensures { OnOk result (Grows (Item.Label line name.now) self.old self.new) }
+        ensures { OnOk result (Grows (Item.Label line name.now ∷ []) self.old self.new) }
     {
         let moved = Halt::Error(start.with_kind(SourceErrorKind::Moved));
         let here = self.here();
@@ -155,7 +155,7 @@ impl<'a> Section<'a> {
         start: LineError,
     ) -> Result<(), Halt>
         ensures { OnOk result (is_last ≡ true → (name : List ℕ) → IsNamed name statement
-            → Grows (Item.Laid line name) self.old self.new) }
+            → Grows (Item.Laid line name ∷ []) self.old self.new) }
     {
         let size = self.size.saturating_add(statement.size());
         if size > MOST_BYTES || size as u64 + u64::from(self.address) > 1 << 32 {
@@ -170,6 +170,32 @@ impl<'a> Section<'a> {
         } else {
             Ok(())
         }
+    }
+
+    /// How many bytes the next multiple of an alignment is away.
+    pub fn padding(&self, alignment: u32) -> u32 {
+        0u32.wrapping_sub(self.here())
+            .checked_rem(alignment)
+            .unwrap_or(0)
+    }
+
+    /// Puts a symbol behind zeros and in front of zeros behind what is there, if its name stands for
+    /// this address.
+    pub fn put_common(
+        &mut self,
+        line: usize,
+        name: &'a [u8],
+        padding: u32,
+        size: u32,
+        known: Known,
+        start: LineError,
+    ) -> Result<(), Halt>
+        ensures { OnOk result ((directive : List ℕ) → is_one_of fill_names directive ≡ true
+            → Grows (in_common line directive name.now) self.old self.new) }
+    {
+        self.put(line, Statement::Fill(padding, 0), true, start)?;
+        self.put_label(line, name, known, start)?;
+        self.put(line, Statement::Fill(size, 0), true, start)
     }
 }
 
@@ -388,5 +414,6 @@ pub fn first_sections<'a>(alloc: Global, layout: Layout) -> Result<Vec<Section<'
     let data = layout.data_start.unwrap_or(0);
     sections.push(Section::new(alloc, b".data", SectionKind::Data, 1, data))?;
     sections.push(Section::new(alloc, b".bss", SectionKind::Zero, 1, 0))?;
+    sections.push(Section::new(alloc, b"COMMON", SectionKind::Zero, 1, 0))?;
     Ok(sections)
 }
