@@ -21,7 +21,7 @@ padded-end base before s fits =
     let own : List ℕ = s.made.bytes.items in
     let behind : length (replicate gap 0 ++ own) ≡ gap + length own = length-append (replicate gap 0) own ∙ ap (λ n. n + length own) (length-replicate gap 0) in
     let whole : length (before ++ (replicate gap 0 ++ own)) ≡ length before + (gap + length own) =
-        length-append before (replicate gap 0 ++ own) ∙ ap (λ n. length before + n) behind in
+    length-append before (replicate gap 0 ++ own) ∙ ap (λ n. length before + n) behind in
     omega (arith, fits, whole)
 
 skipped : (base : ℕ) (before : List ℕ) (s : Section) (others : List Section) → is_empty s.made.bytes.items ≡ true → Rest base before others → Rest base before (s ∷ others)
@@ -32,8 +32,7 @@ taken : (base : ℕ) (before : List ℕ) (s : Section) (others : List Section) �
 taken base before s others some fits (rest, are, same) =
     let gap : ℕ = s.address - base - length before in
     let own : List ℕ = s.made.bytes.items in
-    let P : ℕ → Type 0 = λ n. AreBytesFrom n (with_bytes others) rest in
-    (
+    let P : ℕ → Type 0 = λ n. AreBytesFrom n (with_bytes others) rest in (
       replicate gap 0 ++ (own ++ rest),
       rw some (gap, rest, omega (arith, fits), subst P (padded-end base before s fits) are, refl),
       rw some (same ∙ append_assoc before (replicate gap 0 ++ own) rest ∙ ap (λ xs. before ++ xs) (append_assoc (replicate gap 0) own rest)),
@@ -62,4 +61,4 @@ pub is-image : (layout : Layout) (base : ℕ) (sections : List Section) → layo
 is-image layout base [] text placed = refl
 is-image layout base (s ∷ others) text (first, more) =
     image-of-rest base (s ∷ others)
-        (choose base [] s others (is_empty s.made.bytes.items) refl (omega (arith, text, first)) (λ bytes ends. rest-of base layout s bytes others ends more))
+    (choose base [] s others (is_empty s.made.bytes.items) refl (omega (arith, text, first)) (λ bytes ends. rest-of base layout s bytes others ends more))

@@ -203,7 +203,7 @@ in-section-common names k before (Item.Laid own_line own ∷ items) line directi
     rw (in-section-common names k before items line directive symbol) (if-open-more k before (Item.Laid own_line own) (in_section names k before items) (if_in k (common names) (in_common line directive symbol) []))
 in-section-common names k before (Item.Common own_line own other ∷ items) line directive symbol =
     rw (in-section-common names k before items line directive symbol)
-        (if-in-more k (common names) (in_common own_line own other) (in_section names k before items) (if_in k (common names) (in_common line directive symbol) []))
+    (if-in-more k (common names) (in_common own_line own other) (in_section names k before items) (if_in k (common names) (in_common line directive symbol) []))
 in-section-common names k before (Item.Section own ∷ items) line directive symbol = in-section-common names k (index_of own names) items line directive symbol
 
 open-behind-common : (names : List (List ℕ)) (before : ℕ) (items : List Item) (line : ℕ) (directive symbol : List ℕ)

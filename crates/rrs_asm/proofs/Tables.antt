@@ -25,17 +25,19 @@ both-true true b is = (refl, is)
 both-true false b is = absurd (cc)
 
 three : (a b c : Bool) → (not a && (not b && not c)) ≡ true → (a ≡ false) × (b ≡ false) × (c ≡ false)
-three false b c is = (refl, neither b c is)
+three false false false is = (refl, refl, refl)
+three false false true is = absurd (cc)
+three false true c is = absurd (cc)
 three true b c is = absurd (cc)
 
 placed : (a b c d : Bool) → ((not a && (not b && not c)) && d) ≡ true → (a ≡ false) × (b ≡ false) × (c ≡ false) × (d ≡ true)
 placed a b c d is =
     let all : ((not a && (not b && not c)) ≡ true) × (d ≡ true) = both-true (not a && (not b && not c)) d is in
     let none : (a ≡ false) × (b ≡ false) × (c ≡ false) = three a b c all.0 in
-    (none.0, none.1.0, none.1.1, all.1)
+    (none.0, none.1, none.2, all.1)
 
 common : (a b c d : Bool) → (not a && (not b && (c && d))) ≡ true → (a ≡ false) × (b ≡ false) × (c ≡ true) × (d ≡ true)
-common false false c d is = (refl, refl, both-true c d is)
+common false false c d is = let all : (c ≡ true) × (d ≡ true) = both-true c d is in (refl, refl, all.0, all.1)
 common false true c d is = absurd (cc)
 common true b c d is = absurd (cc)
 

@@ -57,7 +57,7 @@ in_section names section before (Item.Laid line name ∷ items) =
     if_open section before (Item.Laid line name) (in_section names section before items)
 in_section names section before (Item.Common line directive symbol ∷ items) =
     if_in section (common names) (in_common line directive symbol)
-        (in_section names section before items)
+    (in_section names section before items)
 in_section names section before (Item.Section name ∷ items) =
     in_section names section (index_of name names) items
 
@@ -124,8 +124,8 @@ abbrev pub start_behind : Layout → SectionKind → ℕ → ℕ → SectionKind
 start_behind layout before before_alignment end kind alignment =
     let behind = filled_end before before_alignment end in
     next_multiple_of
-        (if is_data kind && not (is_data before) then data_address layout behind else behind)
-        alignment
+    (if is_data kind && not (is_data before) then data_address layout behind else behind)
+    alignment
 
 abbrev pub end_of : Section → ℕ
 end_of s = s.address + length s.made.bytes.items

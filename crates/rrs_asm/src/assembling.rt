@@ -15,7 +15,9 @@ use crate::output::MOST_BYTES;
 use crate::program::Program;
 use crate::reading::{Line, Notes, Site};
 use crate::registers::register_number;
-use crate::sections::{Layout, Section, SectionKind, are_placed, first_sections, is_laid_out, laid_out};
+use crate::sections::{
+    Layout, Section, SectionKind, are_placed, first_sections, is_laid_out, laid_out,
+};
 use crate::statements::Statement;
 use crate::symbols::{Known, Pass, Symbols};
 use std::alloc::Global;
@@ -405,7 +407,8 @@ fn perform<'a>(
 
 /// Sees that no section is open where something is left out.
 fn check_skipped(start: LineError, reading: &mut Reading) -> Result<(), Halt>
-    ensures { OnOk result ((item : Item) → IsNoSection item → ReadsOn (item ∷ []) reading.old reading.new) }
+    ensures { OnOk result ((item : Item) → IsNoSection item
+        → ReadsOn (item ∷ []) reading.old reading.new) }
 {
     if reading.current < reading.sections.len() {
         Err(Halt::Error(start.with_kind(SourceErrorKind::Moved)))

@@ -140,19 +140,26 @@ fn read_common<'a>(
     line.go_to(rest);
     line.comma()?;
     let size = read_count(line)?;
-    line.skip_blanks();
-    let range = line.error(SourceErrorKind::Range);
     let alignment = if line.take(b',') {
-        line.known_value()?
+        common_alignment(line)?
     } else if name == b".lcomm".as_slice() {
         implied_alignment(size, 8)
     } else {
         implied_alignment(size.saturating_mul(2).saturating_sub(1), 16)
     };
-    if !alignment.is_power_of_two() || alignment > 1 << MOST_ALIGNED {
-        return Err(range);
-    }
     Ok(Common { size, alignment })
+}
+
+/// Reads the alignment of a symbol in `COMMON`, a power of 2.
+fn common_alignment(line: &mut Line) -> Result<u32, LineError> {
+    line.skip_blanks();
+    let error = line.error(SourceErrorKind::Range);
+    let alignment = line.known_value()?;
+    if alignment.is_power_of_two() && alignment <= 1 << MOST_ALIGNED {
+        Ok(alignment)
+    } else {
+        Err(error)
+    }
 }
 
 /// The greatest power of 2 up to a size and a limit.

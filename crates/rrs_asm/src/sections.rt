@@ -319,11 +319,7 @@ pub fn are_placed<'a, 'b>(sections: &'b [Section<'a>], layout: Layout) -> bool
 }
 
 /// Whether each section lies behind the one before it as a layout says, the first behind another.
-fn are_behind<'a, 'b>(
-    first: &'b Section<'a>,
-    others: &'b [Section<'a>],
-    layout: Layout,
-) -> bool
+fn are_behind<'a, 'b>(first: &'b Section<'a>, others: &'b [Section<'a>], layout: Layout) -> bool
     ensures { result ≡ true → AreBehind layout first.now others.now }
 {
     let mut before = first;

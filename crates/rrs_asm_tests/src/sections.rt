@@ -1,7 +1,8 @@
 //! Sections, operators, directives and pseudo-instructions with symbols. The words are those that
 //! GNU `as` and `ld` make.
 
-use crate::assembled::same_words;
+use crate::assembled::{same_mistakes, same_words};
+use rrs_asm::{SourceError, SourceErrorKind};
 use std::test::Fail;
 
 /// Statements at 0x100, each with its words.
@@ -74,5 +75,28 @@ fn sections_are_laid_out(rt: HostRuntime) -> Result<(), Fail> {
         0x00000537, 0x10f52503, 0x00000118, 0x0c006261, 0x00000001, 0, 0,
     ];
     same_words(&rt, rt.alloc(), SECTIONS, 0x100, &words)?;
+    Ok(())
+}
+
+/// What `.comm` and `.lcomm` say lies behind `.bss`, whichever section is open.
+const COMMON: &str = "    .local b
+    .comm b, 2, 4
+    .lcomm c, 3
+    .bss
+a:  .zero 1
+    .text
+    .word a, b, c
+";
+
+#[test]
+fn symbols_of_comm_are_laid_out(rt: HostRuntime) -> Result<(), Fail> {
+    let words = [0x0000010c, 0x00000110, 0x00000112, 0, 0, 0];
+    same_words(&rt, rt.alloc(), COMMON, 0x100, &words)?;
+    let error = SourceError {
+        line: 1,
+        column: 13,
+        kind: SourceErrorKind::Range,
+    };
+    same_mistakes(&rt, rt.alloc(), ".comm b, 2, 3", 0, &[error])?;
     Ok(())
 }
