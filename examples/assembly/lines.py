@@ -39,7 +39,8 @@ TAKES_NUMBER = {name.encode() for name in IMMEDIATE + SHIFTS + LOADS + STORES
                 + ["lui", "auipc", "jalr", "li"]}
 TWO_PLACES = re.compile(rb"(?<![\w.$])\.(?![\w.$]).*(?<![\w.$])\.(?![\w.$])")
 OPERATOR = re.compile(rb"[*/<>|&^!~=]|%(?!lo|hi|pcrel)")
-MINUS_PLACE = re.compile(rb"[-~]\s*\.(?![\w.$])")
+MINUS_PLACE = re.compile(rb"[-~!]\s*\.(?![\w.$])")
+PLACE_OPERATED = re.compile(rb"(?<![\w.$])\.(?![\w.$])\s*[*/<>|&^!~=%]")
 
 
 class Source:
@@ -188,9 +189,10 @@ ALPHABET = [bytes([b]) for b in range(256) if b != 10]
 def means_the_same(line):
     """Whether GNU as makes the same of a line, if it takes it: of a branch to an absolute address
     it makes two instructions, of `la` of a constant what `li` is, and of `li` of x0 two where the
-    value has low bits that are 0. A `-.` and a `. + .` are other addresses there."""
+    value has low bits that are 0. A `-.`, a `. | 4` and a `. + .` are other
+    addresses there."""
     statement = line.split(b"#")[0]
-    if any(form.search(statement) for form in (OF_ZERO, MINUS_PLACE, TWO_PLACES)):
+    if any(form.search(statement) for form in (OF_ZERO, MINUS_PLACE, PLACE_OPERATED, TWO_PLACES)):
         return False
     if BRANCH.match(line) and b"." not in statement:
         return False
@@ -225,7 +227,7 @@ def each(source, count):
 def is_named(statement):
     """Whether docs/ASSEMBLY.md says that GNU as refuses a statement: an address that is negated or
     added to another or has another operator than a sign, an address or %lo where it takes a number
-    alone, or `//`."""
+    alone, a load or a store by a constant, or `//`."""
     found = STATEMENT.match(statement)
     if b"//" in statement or not found:
         return bool(found)
@@ -236,6 +238,8 @@ def is_named(statement):
     if name in (b"la", b"call", b"tail"):
         return bool(NEGATED.search(operands)) or len(addresses) > 1
     if name.decode() in SHIFTS and b"%" in operands:
+        return True
+    if name.decode() in LOADS + STORES and b"(" not in operands and b"constant" in operands:
         return True
     if name in TAKES_NUMBER:
         return bool(addresses)
