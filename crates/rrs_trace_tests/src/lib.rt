@@ -9,4 +9,6 @@ mod back;
 #[cfg(test)]
 mod devices;
 #[cfg(test)]
+mod stopping;
+#[cfg(test)]
 mod tracing;

@@ -1,0 +1,199 @@
+//! Runs to stops, over words that are fetched at each step and over words that are kept.
+
+use rrs_fast::{CachedMemory, Halt, HaltEnd, run_before};
+use rrs_lib::instruction_executor::{InstructionException, InstructionExecutor};
+use rrs_lib::memories::{MemorySpace, VecMemory};
+use rrs_lib::{HartState, Memory};
+use rrs_test_machines::hart_of;
+use rrs_trace::{StopEnd, StopReason, run_until, run_until_cached};
+use std::alloc::{AllocError, Global};
+use std::test::Fail;
+
+/// Adds 1 or 100 to x5 in turn, by a store over its first word, and goes round.
+const CHANGING: [u32; 6] = [
+    0x0012_8293, // addi x5, x5, 1
+    0x0060_2023, // sw x6, 0(x0)
+    0x0073_4333, // xor x6, x6, x7
+    0x0000_0013, // addi x0, x0, 0
+    0xff1f_f06f, // jal x0, -16
+    0,
+];
+
+/// The stops of the runs: within the loop, at its first word, behind it, at no multiple of 4, and
+/// none.
+const STOPS: [&[u32]; 6] = [&[12], &[0], &[8, 0, 4, 12], &[20, 400], &[2, 6], &[]];
+
+/// What is seen after a run.
+type Seen = (StopEnd, [u32; 32], u32, Option<usize>);
+
+/// The hart that runs the loop.
+fn hart_for() -> HartState {
+    hart_of(0, &[(6, 0x0642_8293), (7, 0x0642_8293 ^ 0x0012_8293)])
+}
+
+/// The loop in 16 words.
+fn words_of(alloc: Global) -> Result<VecMemory, AllocError> {
+    let mut words = CHANGING.to_vec(alloc)?;
+    words.resize(16, 0)?;
+    Ok(VecMemory::new(words))
+}
+
+/// A space with these words, whose reads are not pure.
+fn space_of(alloc: Global) -> Result<MemorySpace<VecMemory>, AllocError> {
+    let mut space = MemorySpace::new(alloc);
+    match space.add_memory(0, 64, words_of(alloc)?) {
+        Ok(_) => Ok(space),
+        Err(_) => Err(AllocError),
+    }
+}
+
+/// Goes on three times to a stop, over words that are fetched.
+fn stopped<M: Memory>(mem: &mut M, stops: &[u32], limit: u64) -> Seen {
+    let mut hart_state = hart_for();
+    let mut executor = InstructionExecutor {
+        mem,
+        hart_state: &mut hart_state,
+    };
+    let _ = run_until(&mut executor, limit, stops);
+    let _ = run_until(&mut executor, limit, stops);
+    let end = run_until(&mut executor, limit, stops);
+    let hart = executor.hart_state;
+    (end, hart.registers, hart.pc, hart.last_register_write)
+}
+
+/// The same over words that are kept.
+fn stopped_cached<M: Memory, const N: usize>(
+    mem: &mut CachedMemory<M, N>,
+    stops: &[u32],
+    limit: u64,
+) -> Seen {
+    let mut hart_state = hart_for();
+    let mut executor = InstructionExecutor {
+        mem,
+        hart_state: &mut hart_state,
+    };
+    let _ = run_until_cached(&mut executor, limit, stops);
+    let _ = run_until_cached(&mut executor, limit, stops);
+    let end = run_until_cached(&mut executor, limit, stops);
+    let hart = executor.hart_state;
+    (end, hart.registers, hart.pc, hart.last_register_write)
+}
+
+#[test]
+fn kept_words_stop_where_fetched_ones_do(rt: HostRuntime) -> Result<(), Fail> {
+    let alloc = rt.alloc();
+    for stops in &STOPS {
+        for limit in [0, 1, 2, 4, 5, 500] {
+            let expected = stopped(&mut words_of(alloc)?, stops, limit);
+            let mut words: CachedMemory<_, 64> = CachedMemory::new(words_of(alloc)?);
+            assert!(rt; stopped_cached(&mut words, stops, limit) == expected);
+            let mut few: CachedMemory<_, 2> = CachedMemory::new(words_of(alloc)?);
+            assert!(rt; stopped_cached(&mut few, stops, limit) == expected);
+            let mut space: CachedMemory<_, 64> = CachedMemory::new(space_of(alloc)?);
+            assert!(rt; stopped_cached(&mut space, stops, limit) == expected);
+        }
+    }
+    Ok(())
+}
+
+// The turns add 1, 100, 1: the first call stops behind four steps, and the others behind five.
+#[test]
+fn a_run_goes_on_from_a_stop(rt: HostRuntime) -> Result<(), Fail> {
+    let mut words: CachedMemory<_, 64> = CachedMemory::new(words_of(rt.alloc())?);
+    let (end, registers, pc, last) = stopped_cached(&mut words, &[12], 100);
+    let expected = StopEnd {
+        steps: 5,
+        reason: StopReason::AtStop,
+    };
+    assert!(rt; end == expected && registers[5] == 102 && pc == 12 && last == Some(6));
+    Ok(())
+}
+
+/// A jump or a branch, the value of x8, and where it strays to, if it does.
+const STRAYING: [(u32, u32, Option<u32>); 9] = [
+    (0x0060_00ef, 0, Some(6)), // jal x1, 6
+    (0x0084_00e7, 6, Some(14)), // jalr x1, 8(x8)
+    (0x0084_00e7, 5, None), // the same to 12, for 13
+    (0x0000_0363, 0, Some(6)), // beq x0, x0, 6
+    (0x0000_1363, 0, None), // bne x0, x0, 6: not taken
+    (0x0080_5363, 0, Some(6)), // bge x0, x8, 6
+    (0x0080_5363, 1, None), // the same, not taken
+    (0x0000_4363, 0, None), // blt x0, x0, 6: not taken
+    (0x0000_006f, 0, None), // jal x0, 0
+];
+
+/// How a run of one step over an instruction ends that goes to no misaligned address.
+fn aligned_end(alloc: Global, word: u32, x8: u32) -> Result<(HaltEnd, HartState), AllocError> {
+    let mut cached: CachedMemory<_, 64> = CachedMemory::new(VecMemory::new(vec![in alloc;
+        word, 0, 0, 0,
+    ]?));
+    let mut hart_state = hart_of(0, &[(1, 77), (8, x8)]);
+    let mut executor = InstructionExecutor {
+        mem: &mut cached,
+        hart_state: &mut hart_state,
+    };
+    let end = run_before::<_, _, true>(&mut executor, 1, &[]);
+    Ok((end, hart_state))
+}
+
+#[test]
+fn a_jump_that_strays_is_not_made(rt: HostRuntime) -> Result<(), Fail> {
+    for (word, x8, target) in STRAYING {
+        let (end, hart) = aligned_end(rt.alloc(), word, x8)?;
+        match target {
+            Some(target) => {
+                let strays = HaltEnd {
+                    steps: 0,
+                    halt: Some(Halt::Stray(target)),
+                };
+                let kept = hart.registers[1] == 77 && hart.last_register_write == None;
+                assert!(rt; end == strays && hart.pc == 0 && kept);
+            }
+            None => assert!(rt;
+                end == HaltEnd {
+                    steps: 1,
+                    halt: None
+                } && hart.pc % 4 == 0
+            ),
+        }
+    }
+    Ok(())
+}
+
+#[test]
+fn a_run_before_a_stop_makes_no_step_there(rt: HostRuntime) -> Result<(), Fail> {
+    let alloc = rt.alloc();
+    let mut words: CachedMemory<_, 64> = CachedMemory::new(words_of(alloc)?);
+    let mut hart_state = hart_for();
+    let mut executor = InstructionExecutor {
+        mem: &mut words,
+        hart_state: &mut hart_state,
+    };
+    let at_once = run_before::<_, _, false>(&mut executor, 10, &[0, 4]);
+    let behind = run_before::<_, _, false>(&mut executor, 10, &[4]);
+    executor.hart_state.pc = 20;
+    let illegal = run_before::<_, _, false>(&mut executor, 10, &[4]);
+    assert!(rt;
+        at_once
+            == HaltEnd {
+                steps: 0,
+                halt: Some(Halt::Stop)
+            }
+    );
+    assert!(rt;
+        behind
+            == HaltEnd {
+                steps: 1,
+                halt: Some(Halt::Stop)
+            }
+    );
+    let fault = InstructionException::IllegalInstruction(20, 0);
+    assert!(rt;
+        illegal
+            == HaltEnd {
+                steps: 0,
+                halt: Some(Halt::Fault(fault))
+            }
+    );
+    Ok(())
+}
