@@ -40,6 +40,7 @@ TAKES_NUMBER = {name.encode() for name in IMMEDIATE + SHIFTS + LOADS + STORES
 TWO_PLACES = re.compile(rb"(?<![\w.$])\.(?![\w.$]).*(?<![\w.$])\.(?![\w.$])")
 OPERATOR = re.compile(rb"[*/<>|&^!~=]|%(?!lo|hi|pcrel)")
 MINUS_PLACE = re.compile(rb"[-~!]\s*\.(?![\w.$])")
+FAR_HALF = re.compile(rb"%(?:hi|lo)\(.*[-~]\s*[0-9]{10}")
 PLACE_OPERATED = re.compile(rb"(?<![\w.$])\.(?![\w.$])\s*[*/<>|&^!~=%]")
 
 
@@ -227,13 +228,13 @@ def each(source, count):
 def is_named(statement):
     """Whether docs/ASSEMBLY.md says that GNU as refuses a statement: an address that is negated or
     added to another or has another operator than a sign, an address or %lo where it takes a number
-    alone, a load or a store by a constant, or `//`."""
+    alone, a load or a store by a constant, %hi or %lo of a number below -2^31, or `//`."""
     found = STATEMENT.match(statement)
     if b"//" in statement or not found:
         return bool(found)
     name, operands = found.groups()
     addresses = [symbol for symbol in SYMBOL.findall(operands) if symbol not in NUMBERS]
-    if addresses and OPERATOR.search(operands):
+    if FAR_HALF.search(operands) or addresses and OPERATOR.search(operands):
         return True
     if name in (b"la", b"call", b"tail"):
         return bool(NEGATED.search(operands)) or len(addresses) > 1
