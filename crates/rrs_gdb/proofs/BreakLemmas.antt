@@ -1,5 +1,5 @@
 -- Steps that are kept one after another, and states that are passed on the way back.
-use Rattle.std.proofs.Common.{◌≡◌, ℕ, ◌+◌, ◌<◌, List, [], ◌∷◌, ◌++◌, All, Contains, length, Ok, ◌⊎◌, refl, sym, ap, subst, ◌∙◌, append_assoc, append-nil, inl, inr, arith}
+use Rattle.std.proofs.Common.{◌≡◌, ℕ, ◌+◌, ◌<◌, List, [], ◌∷◌, ◌++◌, All, length, Ok, refl, sym, ap, subst, ◌∙◌, append_assoc, append-nil, inl, inr, arith}
 use Rattle.std.proofs.lemmas.List.{length_push}
 use Rattle.std.proofs.lemmas.List.Elements.{All-nil, All-push}
 use Rattle.rrs_lib.specs.Machine.{State}
@@ -10,20 +10,22 @@ use Rattle.rrs_trace.specs.declared.stops.StopReason.{StopReason}
 use Rattle.rrs_trace.specs.declared.stops.StopReason.TheVariants as Stop
 use Rattle.rrs_trace.specs.Stops.{RunsToStop, PassesNone}
 use Rattle.rrs_gdb.specs.declared.forward.ForwardReason.{ForwardReason}
-use Rattle.rrs_gdb.specs.Breaks.{IsTrail, KeepsSteps, ComesTo, GoesForward, reason_of}
+use Rattle.rrs_gdb.specs.declared.breaks.Watch.{Watch}
+use Rattle.rrs_gdb.specs.Breaks.{IsTrail, KeepsSteps, ComesTo, IsPassed, GoesForward, reason_of}
+use Rattle.rrs_gdb.proofs.WatchLemmas.{none_touched}
 
 -- a run with stops alone
 as_reason : (stops : List ℕ) (limit : ℕ) (s : State) (steps : ℕ) (reason : StopReason) (t : State)
-    → RunsToStop stops limit s steps reason t → GoesForward stops limit s steps (reason_of reason) t
-as_reason stops limit s steps Stop.AtStop t run = run
-as_reason stops limit s steps Stop.Limit t run = run
-as_reason stops limit s steps (Stop.Fault e) t run = run
+    → RunsToStop stops limit s steps reason t → GoesForward stops [] limit s steps (reason_of reason) t
+as_reason stops limit s steps Stop.AtStop t run = (run, none_touched steps s)
+as_reason stops limit s steps Stop.Limit t run = (run, none_touched steps s)
+as_reason stops limit s steps (Stop.Fault e) t run = (run, none_touched (steps + 1) s)
 
 pub as_stop : (stops : List ℕ) (limit : ℕ) (s : State) (steps : ℕ) (reason : StopReason) (reason' : ForwardReason)
     (t : State) → reason' ≡ reason_of reason → RunsToStop stops limit s steps reason t
-    → GoesForward stops limit s steps reason' t
+    → GoesForward stops [] limit s steps reason' t
 as_stop stops limit s steps reason reason' t same run =
-    subst (λ (r : ForwardReason). GoesForward stops limit s steps r t) (sym same)
+    subst (λ (r : ForwardReason). GoesForward stops [] limit s steps r t) (sym same)
     (as_reason stops limit s steps reason t run)
 
 -- the steps so far, all of them Ok
@@ -82,42 +84,45 @@ kept_fault steps old mid new s m t so_far fault same = record {
 -- ---- back
 
 -- the states that were passed
-pub record PassedSoFar (stops : List ℕ) (count : ℕ) (before after : List State) : Type 0 where
+pub record PassedSoFar (stops : List ℕ) (watches : List Watch) (count : ℕ) (before after : List State) : Type 0 where
   pub passed : List State
   pub leads : before ≡ passed ++ after
-  pub none_stops : All (λ (u : State). ¬ Contains stops u.pc) passed
+  pub are_passed : All (IsPassed stops watches) passed
   pub as_many : length passed ≡ count
 
-pub none_passed : (stops : List ℕ) (before : List State) → PassedSoFar stops 0 before before
-none_passed stops before = record { passed = []; leads = refl; none_stops = All-nil (λ (u : State). ¬ Contains stops u.pc); as_many = refl }
+pub none_passed : (stops : List ℕ) (watches : List Watch) (before : List State)
+    → PassedSoFar stops watches 0 before before
+none_passed stops watches before =
+    record { passed = []; leads = refl; are_passed = All-nil (IsPassed stops watches); as_many = refl }
 
-pub one_passed : (stops : List ℕ) (count : ℕ) (before after others : List State) (m : State)
-    → PassedSoFar stops count before after → after ≡ m ∷ others → ¬ Contains stops m.pc
-    → PassedSoFar stops (count + 1) before others
-one_passed stops count before after others m so_far next other = record {
+pub one_passed : (stops : List ℕ) (watches : List Watch) (count : ℕ) (before after others : List State) (m : State)
+    → PassedSoFar stops watches count before after → after ≡ m ∷ others → IsPassed stops watches m
+    → PassedSoFar stops watches (count + 1) before others
+one_passed stops watches count before after others m so_far next is_passed = record {
   passed = so_far.passed ++ m ∷ [];
   leads = so_far.leads ∙ ap (λ (xs : List State). so_far.passed ++ xs) next
       ∙ sym (append_assoc so_far.passed (m ∷ []) others);
-  none_stops = All-push (λ (u : State). ¬ Contains stops u.pc) so_far.passed m so_far.none_stops other;
+  are_passed = All-push (IsPassed stops watches) so_far.passed m so_far.are_passed is_passed;
   as_many = length_push so_far.passed m ∙ ap (λ (n : ℕ). n + 1) so_far.as_many;
 }
 
-pub comes_to : (stops : List ℕ) (count limit : ℕ) (before after others : List State) (m : State)
-    → PassedSoFar stops count before after → after ≡ m ∷ others → count < limit → ComesTo stops limit before m others
-comes_to stops count limit before after others m so_far next less = record {
+pub comes_to : (stops : List ℕ) (watches : List Watch) (count limit : ℕ) (before after others : List State) (m : State)
+    → PassedSoFar stops watches count before after → after ≡ m ∷ others → count < limit
+    → ComesTo stops watches limit before m others
+comes_to stops watches count limit before after others m so_far next less = record {
   passed = so_far.passed;
   leads = so_far.leads ∙ ap (λ (xs : List State). so_far.passed ++ xs) next;
-  none_stops = so_far.none_stops;
+  are_passed = so_far.are_passed;
   within = omega (arith, less, so_far.as_many);
 }
 
 -- none is left
-pub all_passed : (stops : List ℕ) (count : ℕ) (before after : List State) → PassedSoFar stops count before after
-    → after ≡ [] → All (λ (u : State). ¬ Contains stops u.pc) before
-all_passed stops count before after so_far none =
-    subst (All (λ (u : State). ¬ Contains stops u.pc))
+pub all_passed : (stops : List ℕ) (watches : List Watch) (count : ℕ) (before after : List State)
+    → PassedSoFar stops watches count before after → after ≡ [] → All (IsPassed stops watches) before
+all_passed stops watches count before after so_far none =
+    subst (All (IsPassed stops watches))
     (sym (so_far.leads ∙ ap (λ (xs : List State). so_far.passed ++ xs) none ∙ append-nil so_far.passed))
-    so_far.none_stops
+    so_far.are_passed
 
 -- no step was made
 pub none_stepped : (stops : List ℕ) (s : State) → PassesNone stops 1 s

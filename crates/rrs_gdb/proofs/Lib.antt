@@ -1,3 +1,4 @@
 pub mod BreakLemmas
 pub mod PacketLemmas
 pub mod ShownLemmas
+pub mod WatchLemmas

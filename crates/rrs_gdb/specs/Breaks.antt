@@ -1,29 +1,74 @@
--- Where the machine stops (gdb's manual, "Remote Serial Protocol", "Packets": Z, c, bc): before the
--- instruction at one of some addresses, forward and back. Which loads and stores touch a watchpoint
--- is not said here.
-use Rattle.std.specs.Prelude.{◌≡◌, ℕ, ◌+◌, ◌<◌, ◌⊎◌, List, [], ◌∷◌, ◌++◌, All, Contains, length, Ok}
+-- Where the machine stops (gdb's manual, "Remote Serial Protocol", "Packets": Z, c, bc), forward and
+-- back: before the instruction at a breakpoint, and before one whose load or store touches a
+-- watchpoint.
+use Rattle.std.specs.Prelude.{◌≡◌, ◌≢◌, ◌≤◌, ℕ, ◌+◌, ◌<◌, ◌⊎◌, List, [], ◌∷◌, ◌++◌, All, Contains, length, Ok}
+use Rattle.rrs_lib.specs.Bytes.{width}
 use Rattle.rrs_lib.specs.Machine.{State}
+use Rattle.rrs_lib.specs.Accesses.{Access, Read, Write}
 use Rattle.rrs_lib.specs.Steps.{Step, StepAnswer, RunsOk, cleared}
+use Rattle.rrs_trace.specs.declared.outside.DataRequest.{DataRequest}
+use Rattle.rrs_trace.specs.Outside.{AccessesAfterFetch}
 use Rattle.rrs_trace.specs.Stops.{PassesNone, RunsToStop}
 use Rattle.rrs_trace.specs.declared.stops.StopReason.{StopReason}
 use Rattle.rrs_trace.specs.declared.stops.StopReason.TheVariants as Stop
 use Rattle.rrs_history.specs.declared.history.History.{History}
 use Rattle.rrs_history.specs.Histories.{changes, past}
+use Rattle.rrs_gdb.specs.declared.breaks.Watch.{Watch}
+use Rattle.rrs_gdb.specs.declared.breaks.WatchKind.TheVariants as Kind
 use Rattle.rrs_gdb.specs.declared.forward.ForwardReason.{ForwardReason}
 use Rattle.rrs_gdb.specs.declared.forward.ForwardReason.TheVariants.{AtStop, Touches, Limit, Fault}
 use Rattle.rrs_gdb.specs.declared.back.BackEnd.{BackEnd}
 use Rattle.rrs_gdb.specs.declared.back.BackEnd.TheVariants as Back
 
+-- ---- watchpoints
+
+-- one of the n addresses from a on is watched
+abbrev pub IsWatched : Watch → ℕ → ℕ → Type 0
+IsWatched watch a n = (x : ℕ) × (a ≤ x) × (x < a + n)
+    × (watch.address ≤ x) × (x < watch.address + watch.length)
+
+-- An access touches a watchpoint: a load one that is not for stores alone, and a store one that is
+-- not for loads alone, at an address that is watched.
+abbrev pub IsTouchedBy : Watch → Access → Type 0
+IsTouchedBy watch (Read a size answer) = (watch.kind ≢ Kind.Write) × IsWatched watch a (width size)
+IsTouchedBy watch (Write a size value granted) =
+    (watch.kind ≢ Kind.Read) × IsWatched watch a (width size)
+
+-- an access of the step from s touches a watchpoint, that of its fetch aside
+pub record StepTouches (s : State) (watch : Watch) : Type 0 where
+  pub accesses : List Access
+  pub are_its : AccessesAfterFetch s accesses
+  pub access : Access
+  pub is_one : Contains accesses access
+  pub touches : IsTouchedBy watch access
+
+-- the step from s touches none of the watchpoints
+abbrev pub TouchesNone : List Watch → State → Type 0
+TouchesNone watches s = (watch : Watch) → Contains watches watch → ¬ StepTouches s watch
+
+-- the step from s touches this one of the watchpoints
+abbrev pub TouchesOne : List Watch → State → Watch → Type 0
+TouchesOne watches s watch = Contains watches watch × StepTouches s watch
+
+-- none of the first n steps from s touches a watchpoint
+abbrev pub NoneTouches : List Watch → ℕ → State → Type 0
+NoneTouches watches n s = (k : ℕ) → k < n → (m : State) → RunsOk k s m → TouchesNone watches m
+
 -- ---- forward
 
--- A run to a stop, a limit or an exception; or the next step touches a watchpoint, and the steps
+-- A run to a stop, a limit or an exception, of which no step touches a watchpoint, the one that
+-- raises the exception neither; or the next step touches one, the first to do so, and the steps
 -- before were Ok, and came to no stop.
-abbrev pub GoesForward : List ℕ → ℕ → State → ℕ → ForwardReason → State → Type 0
-GoesForward stops limit s steps AtStop t = RunsToStop stops limit s steps Stop.AtStop t
-GoesForward stops limit s steps Limit t = RunsToStop stops limit s steps Stop.Limit t
-GoesForward stops limit s steps (Fault e) t = RunsToStop stops limit s steps (Stop.Fault e) t
-GoesForward stops limit s steps (Touches watch) t =
+abbrev pub GoesForward : List ℕ → List Watch → ℕ → State → ℕ → ForwardReason → State → Type 0
+GoesForward stops watches limit s steps AtStop t =
+    RunsToStop stops limit s steps Stop.AtStop t × NoneTouches watches steps s
+GoesForward stops watches limit s steps Limit t =
+    RunsToStop stops limit s steps Stop.Limit t × NoneTouches watches steps s
+GoesForward stops watches limit s steps (Fault e) t =
+    RunsToStop stops limit s steps (Stop.Fault e) t × NoneTouches watches (steps + 1) s
+GoesForward stops watches limit s steps (Touches watch) t =
     (steps < limit) × RunsOk steps s t × PassesNone stops (steps + 1) s
+    × NoneTouches watches steps s × TouchesOne watches t watch
 
 -- why a run with stops alone ended
 abbrev pub reason_of : StopReason → ForwardReason
@@ -51,29 +96,43 @@ pub record KeepsSteps (steps : ℕ) (old : History) (s : State) (new : History) 
 
 -- ---- back
 
--- Of the states before s, newest first, some are at no stop; then comes m, before the others.
-pub record ComesTo (stops : List ℕ) (limit : ℕ) (before : List State) (m : State)
-    (others : List State) : Type 0 where
+-- at no stop, and the step from here touches no watchpoint
+abbrev pub IsPassed : List ℕ → List Watch → State → Type 0
+IsPassed stops watches u = (¬ Contains stops u.pc) × TouchesNone watches u
+
+-- Of the states before s, newest first, some are passed; then comes m, before the others.
+pub record ComesTo (stops : List ℕ) (watches : List Watch) (limit : ℕ) (before : List State)
+    (m : State) (others : List State) : Type 0 where
   pub passed : List State
   pub leads : before ≡ passed ++ m ∷ others
-  pub none_stops : All (λ (u : State). ¬ Contains stops u.pc) passed
+  pub are_passed : All (IsPassed stops watches) passed
   pub within : length passed < limit
 
 -- From a state with the states before it the machine goes back to t, with those before that.
-abbrev pub GoesBack : List ℕ → ℕ → List State → List State → State → BackEnd → Type 0
--- to the first stop
-GoesBack stops limit before after t Back.AtStop =
-    ComesTo stops limit before t after × Contains stops t.pc
--- to the state before a step that touches a watchpoint, which is made again
-GoesBack stops limit before after t (Back.Touched watch) =
+abbrev pub GoesBack : List ℕ → List Watch → ℕ → List State → List State → State → BackEnd → Type 0
+-- to the first stop; the step from there touches no watchpoint
+GoesBack stops watches limit before after t Back.AtStop =
+    ComesTo stops watches limit before t after × Contains stops t.pc × TouchesNone watches t
+-- to the first state from which the step touches a watchpoint; that step is made again
+GoesBack stops watches limit before after t (Back.Touched watch) =
     (m : State) × (others : List State) × (answer : StepAnswer)
-    × ComesTo stops limit before m others × Step m t answer
+    × ComesTo stops watches limit before m others × TouchesOne watches m watch × Step m t answer
 -- to the first call
-GoesBack stops limit before after t Back.Call = ComesTo stops limit before t after
--- to the begin: none is at a stop
-GoesBack stops limit before after t Back.AtBegin =
-    (after ≡ []) × All (λ (u : State). ¬ Contains stops u.pc) before
--- as many as the limit are at no stop
-GoesBack stops limit before after t Back.Limit =
+GoesBack stops watches limit before after t Back.Call =
+    ComesTo stops watches limit before t after
+-- to the begin: all are passed
+GoesBack stops watches limit before after t Back.AtBegin =
+    (after ≡ []) × All (IsPassed stops watches) before
+-- as many as the limit are passed
+GoesBack stops watches limit before after t Back.Limit =
     (passed : List State) × (before ≡ passed ++ after)
-    × All (λ (u : State). ¬ Contains stops u.pc) passed × (length passed ≡ limit)
+    × All (IsPassed stops watches) passed × (length passed ≡ limit)
+
+-- ---- of the code
+
+-- a load or a store that is asked for touches a watchpoint
+abbrev pub IsAskedOf : Watch → DataRequest → Type 0
+IsAskedOf watch (DataRequest.Load a size) =
+    (watch.kind ≢ Kind.Write) × IsWatched watch a (width size)
+IsAskedOf watch (DataRequest.Store a size value) =
+    (watch.kind ≢ Kind.Read) × IsWatched watch a (width size)

@@ -1,7 +1,12 @@
 //! Where a run stops.
 
-ghost use Rattle.std.specs.Prelude.{◌≡◌, ◌<◌, length, IfSome};
+ghost use Rattle.std.specs.Prelude.{◌≡◌, ◌≤◌, Contains, MatchOption, Ok};
+ghost use Rattle.std.specs.Bool.{OnTrue, OnFalse};
+ghost use Rattle.rrs_lib.specs.Bytes.{width};
 ghost use Rattle.rrs_lib.specs.Executor.{state_in, KeepsTheRest};
+ghost use Rattle.rrs_trace.specs.Outside.{AccessesAfterFetch, WithEachMemory, requested};
+ghost use Rattle.rrs_gdb.specs.declared.breaks.Watch.{Watch};
+ghost use Rattle.rrs_gdb.specs.Breaks.{IsWatched, IsAskedOf, TouchesNone, TouchesOne};
 
 use rrs_lib::instruction_executor::{InstructionExecutor, fetch_word};
 use rrs_lib::{HartState, MemAccessSize, Memory};
@@ -41,20 +46,39 @@ impl Watch {
     }
 
     /// Whether an access touches one of the addresses.
-    fn is_touched(&self, access: DataRequest) -> bool {
+    fn is_touched(&self, access: DataRequest) -> bool
+        ensures yes { OnTrue result (IsAskedOf self.now access) }
+        ensures no { OnFalse result (¬ IsAskedOf self.now access) }
+    {
         let (is_kind, address, size) = match access {
             DataRequest::Load(address, size) => (self.kind != WatchKind::Write, address, size),
             DataRequest::Store(address, size, _) => (self.kind != WatchKind::Read, address, size),
         };
+        is_kind && self.is_watched(address, width_of(size))
+    }
+
+    /// Whether one of so many addresses is watched, of which there is one at least.
+    fn is_watched(&self, address: u32, count: u64) -> bool
+        requires { (1 ≤ count) × (count ≤ 4) }
+        ensures yes { OnTrue result (IsWatched self.now address count) }
+        ensures no { OnFalse result (¬ IsWatched self.now address count) }
+    {
         let start = u64::from(self.address);
         let from = u64::from(address);
-        is_kind && from < start + u64::from(self.length) && start < from + width_of(size)
+        if self.length == 0 {
+            return false;
+        }
+        if from >= start + u64::from(self.length) {
+            return false;
+        }
+        start < from + count
     }
 }
 
 /// The number of bytes of an access.
 fn width_of(size: MemAccessSize) -> u64
-    ensures { result < 5 }
+    ensures value { result ≡ width size }
+    ensures small { (1 ≤ result) × (result ≤ 4) }
 {
     match size {
         MemAccessSize::Byte => 1,
@@ -109,17 +133,25 @@ impl Breaks {
 }
 
 /// The first watchpoint that an access touches.
-fn touched(watches: &[Watch], access: DataRequest) -> Option<Watch> {
-    watches
-        .iter()
-        .copied()
-        .find(|watch| watch.is_touched(access))
+fn touched(watches: &[Watch], access: DataRequest) -> Option<Watch>
+    ensures { MatchOption result
+        ((watch : Watch) → Contains watches.now watch → ¬ IsAskedOf watch access)
+        (λ watch. Contains watches.now watch × IsAskedOf watch access) }
+{
+    for watch in watches {
+        if watch.is_touched(access) {
+            return Some(*watch);
+        }
+    }
+    None
 }
 
 /// The access that the step from here makes beside its fetch.
 fn access_at<M: Memory>(executor: &mut InstructionExecutor<M>) -> Option<DataRequest>
     ensures kept { state_in M.bytes M.writable executor.new
         ≡ state_in M.bytes M.writable executor.old }
+    ensures access { AccessesAfterFetch (state_in M.bytes M.writable executor.old)
+        (requested (state_in M.bytes M.writable executor.old) (Ok result)) }
     ensures rest { KeepsTheRest M.layout executor.old executor.new }
 {
     match fetch_word(executor.mem, executor.hart_state.pc) {
@@ -129,26 +161,33 @@ fn access_at<M: Memory>(executor: &mut InstructionExecutor<M>) -> Option<DataReq
 }
 
 /// The access that the step of a word makes.
-fn access_of(hart: &HartState, word: u32) -> Option<DataRequest> {
+fn access_of(hart: &HartState, word: u32) -> Option<DataRequest>
+    ensures { WithEachMemory hart.now word (λ s. AccessesAfterFetch s (requested s (Ok result))) }
+{
     match request(hart, word) {
         Ok(access) => access,
         Err(_) => None,
     }
 }
 
-/// The first watchpoint that the step from here touches.
+/// The first watchpoint that the step from here touches. The word of the step is fetched, if there
+/// are watchpoints, and nothing else is accessed.
 pub(crate) fn watch_at<M: Memory>(
     executor: &mut InstructionExecutor<M>,
     watches: &[Watch],
 ) -> Option<Watch>
     ensures kept { state_in M.bytes M.writable executor.new
         ≡ state_in M.bytes M.writable executor.old }
+    ensures touched { MatchOption result
+        (TouchesNone watches.now (state_in M.bytes M.writable executor.old))
+        (λ watch. TouchesOne watches.now (state_in M.bytes M.writable executor.old) watch) }
     ensures rest { KeepsTheRest M.layout executor.old executor.new }
-    ensures some { IfSome result (λ watch. 0 < length watches.now) }
 {
     if watches.is_empty() {
         return None;
     }
-    let access = access_at(executor)?;
-    touched(watches, access)
+    match access_at(executor) {
+        Some(access) => touched(watches, access),
+        None => None,
+    }
 }

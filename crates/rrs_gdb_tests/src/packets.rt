@@ -116,8 +116,9 @@ fn wanted(alloc: Global, payloads: &str) -> Result<Vec<u8>, AllocError> {
     Ok(output)
 }
 
-/// Sessions, and what they are answered.
-const SESSIONS: [(&str, &str); 12] = [
+/// Sessions, and what they are answered. Each packet is in one of them, in a stream below, or in a
+/// session of gdb.
+const SESSIONS: [(&str, &str); 13] = [
     ("?|!|qC", "S05|+|OK|+|QC1"),
     (
         "qAttached|!|qAttached|qfThreadInfo|qsThreadInfo|Hg0|T1|vMustReplyEmpty|q|Q",
@@ -159,6 +160,13 @@ const SESSIONS: [(&str, &str); 12] = [
     (
         "qXfer:exec-file:read:1:0,1|qXfer:exec-file:read:1:1,9|qXfer:features:read:a:0,9|qXfer:exec-file:read:1:9|vKill;1",
         "m/|+|la|+|E00|+|E16|+|OK",
+    ),
+    (
+        "G000000000100000000000000000000000000000000000000000000000000000000000000\
+000000000000000000000000000000000000000000000000000000000000000000000000\
+000000000000000000000000000000000000000000000000000000000000000000000000\
+000000000000000000000000000000000000000030000000|p1|p20|G00|vCont;s:1|pa|S00|p11|vCont;C05:1|vRun;61;62",
+        "OK|+|01000000|+|30000000|+|E16|+|S05|+|05000000|+|S05|+|5d000000|+|X05|+",
     ),
 ];
 

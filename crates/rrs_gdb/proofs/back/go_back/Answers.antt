@@ -1,9 +1,10 @@
-use Rattle.std.proofs.Common.{◌≡◌, ◌+◌, ◌-◌, ◌<◌, ◌≤◌, refl, sym, subst, ◌∙◌, ap, arith, ℕ, List}
+use Rattle.std.proofs.Common.{◌≡◌, ◌+◌, ◌-◌, sym, subst, ◌∙◌, ap, arith, ℕ}
 use Rattle.rrs_lib.specs.Machine.{State}
 use Rattle.rrs_lib.specs.Executor.{state_in}
 use Rattle.rrs_lib.specs.Steps.{Step}
 use Rattle.rrs_lib.proofs.Stepping.{KeepsTheRest-trans}
 use Rattle.rrs_history.specs.Histories.{past, changes}
+use Rattle.rrs_gdb.specs.Breaks.{ComesTo, TouchesNone}
 use Rattle.rrs_gdb.proofs.BreakLemmas.{PassedSoFar, one_passed, comes_to, all_passed}
 use Rattle.rrs_gdb.proofs.back.go_back.Goals as goal
 
@@ -14,7 +15,7 @@ returns-in_default-clause-back g c =
     let i = c.steps.invariant.passed in (
       ap (λ (t : State). past (changes c.step_back.new.history) t) same.1
           ∙ ap (λ cs. past cs (state_in g.M.Memory.bytes g.M.Memory.writable c.steps.executor)) same.0 ∙ none,
-      all_passed _ _ _ _ i none,
+      all_passed _ _ _ _ _ i none,
     )
 
 pub returns-in-Some-watch_at-clause-back : goal.returns-in-Some-watch_at-clause-back
@@ -23,10 +24,27 @@ returns-in-Some-watch_at-clause-back g c =
       state c.step_back.new.executor,
       past (changes c.step_back.new.history) (state c.step_back.new.executor),
       c.step_recorded-answer.result,
-      comes_to _ _ _ _ _ _ _ c.steps.invariant.passed c.in-Some.ensures.back
+      comes_to _ _ _ _ _ _ _ _ c.steps.invariant.passed c.in-Some.ensures.back
           (omega (arith, c.steps-test.true, c.steps.invariant.within)),
+      rw c.deref.ensures.value at c.in-Some-watch_at.ensures.touched,
       subst (λ (m : State). Step m (state c.step_recorded-answer.new.executor) c.step_recorded-answer.result)
           c.watch_at.ensures.kept c.step_recorded-answer.ensures.step,
+    )
+
+pub returns-then-is_stop-clause-back : goal.returns-then-is_stop-clause-back
+returns-then-is_stop-clause-back g c =
+    let state = state_in g.M.Memory.bytes g.M.Memory.writable in
+    let i = c.steps.invariant in
+    let kept = sym c.watch_at.ensures.kept in
+    let stops = c.args.breaks.now.stops.items in
+    let watches = c.args.breaks.now.watches.items in
+    let before = past (changes c.args.history.now) (state c.args.executor.now) in
+    let none : TouchesNone watches (state c.step_back.new.executor) = rw c.deref.ensures.value at c.in_default-watch_at.ensures.touched in
+    let comes : ComesTo stops watches c.args.limit before (state c.step_back.new.executor) (past (changes c.step_back.new.history) (state c.step_back.new.executor)) =
+    comes_to _ _ _ _ _ _ _ _ i.passed c.in-Some.ensures.back (omega (arith, c.steps-test.true, i.within)) in (
+      subst (λ (t : State). ComesTo stops watches c.args.limit before t (past (changes c.step_back.new.history) t)) kept comes,
+      rw c.deref-in-steps.ensures.value at c.if-is_stop.ensures.yes,
+      subst (TouchesNone watches) kept none,
     )
 
 pub steps-preserved : goal.steps-preserved
@@ -37,10 +55,11 @@ steps-preserved g c =
     let kept = c.watch_at.ensures.kept in
     let same_pc : (state c.step_back.new.executor).pc ≡ (state c.watch_at.new.executor).pc = sym (ap (λ (t : State). t.pc) kept) in
     let other = rw c.deref-in-steps.ensures.value at c.if-is_stop.ensures.no in
-    let more = one_passed _ _ _ _ _ _ i.passed c.in-Some.ensures.back (rw same_pc other) in
+    let none = rw c.deref.ensures.value at c.in_default-watch_at.ensures.touched in
+    let more = one_passed _ _ _ _ _ _ _ i.passed c.in-Some.ensures.back (rw same_pc other, none) in
     record {
-      passed = subst (λ (n : ℕ). PassedSoFar c.args.breaks.now.stops.items n (past (changes c.args.history.now) (state c.args.executor.now)) (past (changes c.step_back.new.history) (state c.watch_at.new.executor))) count
-          (subst (λ (t : State). PassedSoFar c.args.breaks.now.stops.items (c.args.limit - c.steps.left + 1) (past (changes c.args.history.now) (state c.args.executor.now)) (past (changes c.step_back.new.history) t)) (sym kept) more);
+      passed = subst (λ (n : ℕ). PassedSoFar c.args.breaks.now.stops.items c.args.breaks.now.watches.items n (past (changes c.args.history.now) (state c.args.executor.now)) (past (changes c.step_back.new.history) (state c.watch_at.new.executor))) count
+          (subst (λ (t : State). PassedSoFar c.args.breaks.now.stops.items c.args.breaks.now.watches.items (c.args.limit - c.steps.left + 1) (past (changes c.args.history.now) (state c.args.executor.now)) (past (changes c.step_back.new.history) t)) (sym kept) more);
       within = omega (arith, i.within);
       rest = KeepsTheRest-trans _ _ _ _ i.rest (KeepsTheRest-trans _ _ _ _ c.step_back.ensures.rest c.watch_at.ensures.rest);
     }

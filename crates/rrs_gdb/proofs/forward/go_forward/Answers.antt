@@ -1,17 +1,19 @@
-use Rattle.std.proofs.Common.{◌≡◌, ◌+◌, ◌<◌, ◌≤◌, Ok, Err, refl, sym, subst, ◌∙◌, ap, arith}
+use Rattle.std.proofs.Common.{Ok, Err, refl, subst, arith}
 use Rattle.rrs_lib.specs.Machine.{State}
 use Rattle.rrs_lib.specs.Executor.{state_in}
 use Rattle.rrs_lib.specs.Steps.{Step, StepAnswer}
 use Rattle.rrs_lib.proofs.Stepping.{RunsOk-more, KeepsTheRest-trans}
-use Rattle.rrs_history.specs.Histories.{past, changes, Remembers}
+use Rattle.rrs_history.specs.Histories.{Remembers}
 use Rattle.rrs_trace.proofs.Stopping.{passes_more}
 use Rattle.rrs_gdb.proofs.BreakLemmas.{none_kept, one_more, kept_whole, none_stepped}
+use Rattle.rrs_gdb.proofs.WatchLemmas.{none_made, one_more_untouched}
 use Rattle.rrs_gdb.proofs.forward.go_forward.Goals as goal
 
 pub loop-steps-init : goal.loop-steps-init
 loop-steps-init g c = record {
   runs = refl;
   passes = none_stepped _ _;
+  untouched = none_made _ _;
   kept = none_kept _ _;
   rest = record { entry_zero = refl; layout_kept = refl; same_memory = refl; same_hart = refl };
 }
@@ -22,7 +24,8 @@ returns-in-Err-clause-run g c =
     let i = c.loop-steps.invariant in
     let e : StepAnswer = Err c.in-Err.exception in
     let step = subst (λ (m : State). Step m (state c.step_recorded.new.executor) e) c.watch_at.ensures.kept c.in-Err.ensures.step in
-    ((c.loop-steps-test.true, (_, i.runs, step)), i.passes)
+    let more = one_more_untouched _ _ _ _ i.untouched i.runs (rw c.deref-in-loop-steps.ensures.value at c.in_default.ensures.touched) in
+    (((c.loop-steps-test.true, (_, i.runs, step)), i.passes), more)
 
 pub returns-then-is_stop-clause-run : goal.returns-then-is_stop-clause-run
 returns-then-is_stop-clause-run g c =
@@ -31,7 +34,8 @@ returns-then-is_stop-clause-run g c =
     let ok : StepAnswer = Ok tt in
     let step = subst (λ (m : State). Step m (state c.step_recorded.new.executor) ok) c.watch_at.ensures.kept c.in_default-step_recorded.ensures.step in
     let runs = RunsOk-more _ _ _ _ i.runs step in
-    (omega arith, omega (arith, c.loop-steps-test.true), runs, rw c.deref-in-loop-steps-2.ensures.value at c.if-is_stop.ensures.yes, i.passes)
+    let more = one_more_untouched _ _ _ _ i.untouched i.runs (rw c.deref-in-loop-steps.ensures.value at c.in_default.ensures.touched) in
+    ((omega arith, omega (arith, c.loop-steps-test.true), runs, rw c.deref-in-loop-steps-2.ensures.value at c.if-is_stop.ensures.yes, i.passes), more)
 
 pub returns-then-is_stop-clause-kept : goal.returns-then-is_stop-clause-kept
 returns-then-is_stop-clause-kept g c = λ room.
@@ -52,6 +56,7 @@ loop-steps-preserved g c =
     record {
       runs = runs;
       passes = passes_more _ _ _ _ i.passes runs (rw c.deref-in-loop-steps-2.ensures.value at c.if-is_stop.ensures.no);
+      untouched = one_more_untouched _ _ _ _ i.untouched i.runs (rw c.deref-in-loop-steps.ensures.value at c.in_default.ensures.touched);
       kept = one_more _ _ _ _ _ _ _ i.kept step remembered;
       rest = KeepsTheRest-trans _ _ _ _ i.rest (KeepsTheRest-trans _ _ _ _ c.watch_at.ensures.rest c.step_recorded.ensures.rest);
     }

@@ -1,4 +1,3 @@
-use Rattle.rrs_trace.specs.declared.stops.StopReason.{StopReason}
 use Rattle.rrs_gdb.proofs.BreakLemmas.{as_stop}
 use Rattle.rrs_gdb.proofs.forward.run_unkept.Goals as goal
 
