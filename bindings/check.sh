@@ -85,7 +85,7 @@ gather_questions() {
     count=$((${count%%:*} - 1))
     head -n "$count" "$replay/stdin" | cat - "$here/answers/questions" >"$room/questions" &&
         head -n "$count" "$replay/stdout" | cat - "$here/answers/answers" >"$room/answers" &&
-        [ "$count" = 3402 ] && [ "$(wc -l <"$room/questions")" = 7605 ]
+        [ "$count" = 3402 ] && [ "$(wc -l <"$room/questions")" = 8692 ]
 }
 
 # answers COMMAND ..: it answers the questions as is stored, and without a word on standard error
@@ -254,7 +254,7 @@ all() {
     examples
     try "libraries that must be refused" make_refused
     try "three_words refuses a library of another version" c_refuses
-    try "rust: its tests" rust_passes 6 "$crate/out"
+    try "rust: its tests" rust_passes 7 "$crate/out"
     try "rust: three_words prints what is stored" rust_prints
     try "rust: replay is built" rust "$crate/out" build --release --example replay
     try "rust: replay answers as is stored" answers "$room/rust/release/examples/replay"
@@ -265,7 +265,7 @@ all() {
     try "rust: README says which Rust it needs" rust_says_what_it_needs
     try "the library for Python" gcc -shared -o "$room/librrs.so" \
         -Wl,--whole-archive "$library" -Wl,--no-whole-archive
-    try "python: its tests" python_passes 21
+    try "python: its tests" python_passes 24
     try "python: three_words prints what is stored" python_prints
     try "python: replay answers as is stored" answers python replay.py
     try "python: the structs and constants are those of rrs.h" python_has_layouts

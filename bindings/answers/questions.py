@@ -37,6 +37,15 @@ LOADS_AND_STORES = [row for row in ROWS if row[0] & 0x5F == 3]
 PLAIN = [row for row in ROWS if row[0] & 0x7F in (0x13, 0x33, 0x37, 0x17, 0x0F)]
 
 
+# The numbers of CSRs that there are, of some that there are not, and those beside a range.
+CSR_NUMBERS = [0x300, 0x301, 0x304, 0x305, 0x310, 0x320, 0x340, 0x341, 0x342, 0x343, 0x344, 0xB00,
+               0xB02, 0xB80, 0xB82, 0xC00, 0xC01, 0xC02, 0xC80, 0xC81, 0xC82, 0xF11, 0xF12, 0xF13,
+               0xF14, 0xF15, 0x323, 0x33F, 0xB03, 0xB1F, 0xB83, 0xB9F, 0, 1, 0x100, 0x302, 0x303,
+               0x306, 0x321, 0x322, 0x345, 0x723, 0x7A0, 0xB01, 0xB20, 0xB81, 0xBA0, 0xC03, 0xC9F,
+               0xF10, 0xF16, 0xFFF]
+MRET, WFI = 0x30200073, 0x10500073
+
+
 def hexed(value):
     return f"0x{value % 2**32:08x}"
 
@@ -237,10 +246,84 @@ class Questions:
                     yield f"rvfi {2**64 - 1} at={hexed(base)} part=0:{count} {state}"
 
 
+    # ---- machine mode, and steps that are taken back
+
+    def csrs(self, mstatus=None, mie=None):
+        """The fields of rrs_csrs: any word is a state of each register."""
+        words = [self.value() for _ in range(8)]
+        words[0] = self.random.choice([0, 8, 0x80, 0x88, self.value()])
+        words[1] = self.random.choice([0, 0x888, self.value()])
+        words[:2] = [words[0] if mstatus is None else mstatus, words[1] if mie is None else mie]
+        words[2] = self.random.choice([0x80000100, 0x80000101, 0xFFFFFFFD, self.value()])
+        words[7] = self.random.choice([0, 0, 1, 4, 5, self.value()])
+        counters = [self.random.choice([0, 2**32 - 1, 2**64 - 1, self.random.getrandbits(64)])
+                    for _ in range(2)]
+        trapped = self.random.choice([0, 0, 1, 1, 2, 2**32 - 1])
+        return ",".join(map(str, [*words, *counters, trapped]))
+
+    def time(self):
+        return self.random.choice([0, 2**32 - 1, 2**32, 2**64 - 1, self.random.getrandbits(64)])
+
+    def on_csr(self, number, funct3):
+        return number << 20 | self.random.choice([0, 0, 1, 31, self.random.randrange(32)]) << 15 \
+            | funct3 << 12 | self.random.choice([0, 1, 31, self.random.randrange(32)]) << 7 | 0x73
+
+    def machine(self, make, mip=0, **csrs):
+        base, at, state = self.program(make, 1)
+        order = self.random.choice(ORDERS)
+        return f"machine {order} {hexed(mip)} {self.time()} {self.csrs(**csrs)} {at} {state}"
+
+    def machine_steps(self):
+        for number in CSR_NUMBERS:
+            for funct3 in (1, 2, 3, 5, 6, 7):
+                mip = self.random.choice([0, 0x888, self.value()])
+                yield self.machine(lambda: self.on_csr(number, funct3), mip, mstatus=0)
+        for word in [MRET, WFI, 0x100F, 0xFFFF9F8F, 0, 0x00200073, 0x30200173, 0x73, 0x100073]:
+            for mip in (0, 8, 0x80, 0x800):
+                yield self.machine(lambda: word, mip, mstatus=self.random.choice([0, 0x80]))
+        for number, row in enumerate(ROWS):
+            yield self.machine(lambda: self.word([row]), 0)
+        for _ in range(60):
+            yield self.machine(self.access, self.random.choice([0, 0, 0xFFFFF777]))
+        jumps = [row for row in ROWS if row[0] & 0x7F in (0x63, 0x67, 0x6F)]
+        for number in range(40):
+            yield self.machine(lambda: self.word([jumps[number % len(jumps)]]))
+        for mip in (0, 8, 0x80, 0x88, 0x800, 0x808, 0x880, 0x888, 0xFFFFF777, 0xFFFFFFFF):
+            for mie in (0x888, 0x800, 0x80, 8, 0, 0xFFFFF777):
+                mstatus = self.random.choice([8, 8, 0x88, 0])
+                yield self.machine(lambda: 0x13, mip, mstatus=mstatus, mie=mie)
+        for pc in (0x80000000, 0x80000002, 0x80000004, 0x80000008, 0xFFFFFFFC):
+            state = self.state(pc, 0, [0x13, 0x13])
+            yield f"machine {pc} 0x00000000 7 {self.csrs()} at=0x80000000 part=0:2 {state}"
+
+    def csrs_by_number(self):
+        for number in CSR_NUMBERS + [0x1300, 0x80000300, 0xFFFFFFFF]:
+            mip = self.random.choice([0, 0x888, self.value()])
+            yield f"csr {hexed(number)} {hexed(mip)} {self.time()} {self.csrs()}"
+            for value in (0, 0xFFFFFFFF, self.value()):
+                yield f"write {hexed(number)} {hexed(value)} {self.csrs()}"
+
+    def changes(self):
+        for row in ROWS * 2:
+            base, at, state = self.program(lambda: self.word([row]), 1)
+            yield f"noted {at} {state}"
+        for _ in range(90):
+            base, at, state = self.program(self.access, 1)
+            yield f"noted {at} {state}"
+        for _ in range(120):
+            base, at, state = self.program(lambda: 0x13, 1)
+            change = [self.value(), self.random.choice([0, 1, 31, 32, self.value()]),
+                      self.random.choice([0, 1, 2, 31, 32, 256, 257, self.value()]), self.value(),
+                      (base + self.random.choice([0, 0, 4, 4, 1, 2, 3, -4, 8, 64])) % 2**32,
+                      self.random.choice([0, 1, 2, 4, 4, 3, self.value()]), self.value()]
+            yield f"undo {','.join(map(str, change))} {at} {state}"
+
+
 def main():
     questions = Questions(20261124)
     for kind in (questions.fields, questions.texts, questions.requests, questions.steps,
-                 questions.records, questions.jumps, questions.runs, questions.ends_of_addresses):
+                 questions.records, questions.jumps, questions.runs, questions.ends_of_addresses,
+                 questions.machine_steps, questions.csrs_by_number, questions.changes):
         for line in kind():
             print(line)
 

@@ -91,6 +91,39 @@ size_t rrs_field_name(uint32_t field, char *text, size_t size) {
     return rrs_disassemble(field, 0, text, size);
 }
 
+rrs_fault rrs_step_noted(rrs_hart *hart, uint32_t *words, size_t count, uint32_t base,
+                         rrs_change *change) {
+    (void)change;
+    return rrs_step(hart, words, count, base);
+}
+
+void rrs_undo(rrs_hart *hart, uint32_t *words, size_t count, uint32_t base,
+              const rrs_change *change) {
+    (void)hart, (void)words, (void)count, (void)base, (void)change;
+}
+
+void rrs_csrs_reset(rrs_csrs *csrs) { (void)csrs; }
+
+rrs_outcome rrs_machine_step(rrs_hart *hart, rrs_csrs *csrs, uint32_t *words, size_t count,
+                             uint32_t base, uint32_t mip, uint64_t time, uint64_t order,
+                             rrs_machine_retired *retired) {
+    rrs_outcome outcome = {KIND, 0, 0};
+    (void)hart, (void)csrs, (void)words, (void)count, (void)base, (void)mip, (void)time;
+    (void)order, (void)retired;
+    return outcome;
+}
+
+rrs_csr rrs_csr_read(const rrs_csrs *csrs, uint32_t number, uint32_t mip, uint64_t time) {
+    rrs_csr none = {0, 0};
+    (void)csrs, (void)number, (void)mip, (void)time;
+    return none;
+}
+
+uint32_t rrs_csr_write(rrs_csrs *csrs, uint32_t number, uint32_t value) {
+    (void)csrs, (void)number, (void)value;
+    return 0;
+}
+
 rrs_elf rrs_elf_parse(const uint8_t *file, size_t size) {
     rrs_elf none = {RRS_ELF_NOT_ELF, 0, 0, 0, 0};
     (void)file, (void)size;

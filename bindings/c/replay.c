@@ -110,8 +110,7 @@ static void print_end(rrs_end end) {
     if (end.at_stop > 1) printf(" at_stop=%u", end.at_stop);
 }
 
-static void print_state(const struct machine *machine) {
-    const rrs_hart *hart = &machine->hart;
+static void print_hart(const rrs_hart *hart) {
     const char *separator = "";
     size_t i;
     printf(" pc=0x%08x last=", hart->pc);
@@ -123,8 +122,18 @@ static void print_state(const struct machine *machine) {
         printf("%sx%u=0x%08x", separator, (unsigned)i, hart->x[i]);
         separator = ",";
     }
-    printf("%s mem=%s", *separator == 0 ? "-" : "", machine->all == 0 ? "-" : "");
-    for (i = 0; i < machine->all; i++) printf("%s0x%08x", i == 0 ? "" : ",", machine->words[i]);
+    if (*separator == 0) printf("-");
+}
+
+static void print_words(const uint32_t *words, size_t count) {
+    size_t i;
+    for (i = 0; i < count; i++) printf("%s0x%08x", i == 0 ? "" : ",", words[i]);
+}
+
+static void print_state(const struct machine *machine) {
+    print_hart(&machine->hart);
+    printf(" mem=%s", machine->all == 0 ? "-" : "");
+    print_words(machine->words, machine->all);
 }
 
 /* The text of a word, whose buffer is tried with each size that has no room too. */
@@ -426,17 +435,153 @@ static void answer_memory(const char **at, struct machine *m) {
     }
 }
 
+/* Takes the CSRs off, which commas separate, in the order of rrs.h. */
+static rrs_csrs csrs_of(const char **at) {
+    rrs_csrs c;
+    uint32_t *const fields[8] = {&c.mstatus, &c.mie,    &c.mtvec, &c.mscratch,
+                                 &c.mepc,    &c.mcause, &c.mtval, &c.mcountinhibit};
+    size_t i;
+    for (i = 0; i < 8; i++) {
+        *fields[i] = (uint32_t)number(at);
+        expect(at, ",");
+    }
+    c.mcycle = number(at);
+    expect(at, ",");
+    c.minstret = number(at);
+    expect(at, ",");
+    c.trapped = (uint32_t)number(at);
+    return c;
+}
+
+static void print_csrs(const rrs_csrs *c) {
+    printf("%u,%u,%u,%u,%u,%u,%u,%u", c->mstatus, c->mie, c->mtvec, c->mscratch, c->mepc,
+           c->mcause, c->mtval, c->mcountinhibit);
+    printf(",%llu,%llu,%u", (unsigned long long)c->mcycle, (unsigned long long)c->minstret,
+           c->trapped);
+}
+
+/* `csr NUMBER MIP TIME CSRS` and `write NUMBER VALUE CSRS`. Returns 0 where it is none of these. */
+static int answer_csr(const char **at) {
+    int is_read = take(at, "csr ");
+    uint32_t by, second;
+    uint64_t time = 0;
+    rrs_csrs csrs;
+    if (!is_read && !take(at, "write ")) return 0;
+    by = (uint32_t)number(at);
+    expect(at, " ");
+    second = (uint32_t)number(at);
+    expect(at, " ");
+    if (is_read) {
+        time = number(at);
+        expect(at, " ");
+    }
+    csrs = csrs_of(at);
+    if (is_read) {
+        rrs_csr csr = rrs_csr_read(&csrs, by, second, time);
+        if (csr.found == 0 && csr.value == 0) printf("none");
+        else printf("0x%08x%s", csr.value, csr.found == 1 ? "" : " changed");
+    } else {
+        printf("%u ", rrs_csr_write(&csrs, by, second));
+        print_csrs(&csrs);
+    }
+    return 1;
+}
+
+static void print_outcome(rrs_outcome outcome) {
+    static const char *const names[] = {"retired", "waiting", "raised", "interrupted"};
+    if (outcome.kind > RRS_INTERRUPTED) {
+        printf("kind %u", outcome.kind);
+        return;
+    }
+    printf("%s", names[outcome.kind]);
+    if (outcome.kind >= RRS_RAISED || outcome.cause != 0) printf(" 0x%08x", outcome.cause);
+    if (outcome.kind == RRS_RAISED || outcome.value != 0) printf(" 0x%08x", outcome.value);
+}
+
+static void print_machine_record(const rrs_machine_retired *r) {
+    print_record(&r->retired);
+    printf(" valid=%u intr=%u mode=%u trapped=%u cause=0x%08x", r->valid, r->intr, r->mode,
+           r->trapped, r->cause);
+    printf(" csr_addr=0x%03x csr_rmask=0x%08x csr_wmask=0x%08x", r->csr_addr, r->csr_rmask,
+           r->csr_wmask);
+    printf(" csr_rdata=0x%08x csr_wdata=0x%08x", r->csr_rdata, r->csr_wdata);
+}
+
+/* `machine ORDER MIP TIME CSRS`, over memory. Returns 0 where it is no such question. */
+static int answer_machine(const char **at, struct machine *m) {
+    uint64_t order, time;
+    uint32_t mip;
+    rrs_csrs csrs;
+    rrs_machine_retired retired;
+    if (!take(at, "machine ")) return 0;
+    order = number(at);
+    expect(at, " ");
+    mip = (uint32_t)number(at);
+    expect(at, " ");
+    time = number(at);
+    expect(at, " ");
+    csrs = csrs_of(at);
+    take_place(at, m);
+    take_state(at, m);
+    memset(&retired, '#', sizeof retired);
+    print_outcome(rrs_machine_step(&m->hart, &csrs, m->words + m->first, m->count, m->base, mip,
+                                   time, order, &retired));
+    print_machine_record(&retired);
+    printf(" csrs=");
+    print_csrs(&csrs);
+    return 1;
+}
+
+/* Takes a change off, whose numbers commas separate, in the order of rrs.h. */
+static rrs_change change_of(const char **at) {
+    rrs_change c;
+    uint32_t *const fields[7] = {&c.pc,      &c.last, &c.rd,   &c.value,
+                                 &c.address, &c.size, &c.bytes};
+    size_t i;
+    for (i = 0; i < 7; i++) {
+        if (i > 0) expect(at, ",");
+        *fields[i] = (uint32_t)number(at);
+    }
+    return c;
+}
+
+/* `noted`, a step that is taken back, and `undo CHANGE`, over memory. Returns 0 where it is none of
+ * these. */
+static int answer_change(const char **at, struct machine *m) {
+    int is_step = take(at, "noted");
+    rrs_change c;
+    if (!is_step && !take(at, "undo ")) return 0;
+    if (!is_step) c = change_of(at);
+    take_place(at, m);
+    take_state(at, m);
+    if (is_step) {
+        memset(&c, '#', sizeof c);
+        print_fault(rrs_step_noted(&m->hart, m->words + m->first, m->count, m->base, &c));
+        printf(" change=%u,%u,%u,%u,%u,%u,%u", c.pc, c.last, c.rd, c.value, c.address, c.size,
+               c.bytes);
+        print_hart(&m->hart);
+        printf(" part=");
+        print_words(m->words + m->first, m->count);
+        printf(" ");
+    }
+    rrs_undo(&m->hart, m->words + m->first, m->count, m->base, &c);
+    printf("undone");
+    return 1;
+}
+
 static void answer(const char *line) {
     struct machine machine;
     const char *at = line;
     memset(&machine, 0, sizeof machine);
     if (take(&at, "steps 0")) {
         printf("-%s", at); /* nothing is called */
-    } else if (answer_word(&at) || answer_check(&at) || answer_elf(&at)) {
+    } else if (answer_word(&at) || answer_check(&at) || answer_elf(&at) || answer_csr(&at)) {
         if (*at != 0) fail(at);
     } else {
         if (take(&at, "steps ")) answer_steps(&at, &machine);
-        else if (!answer_access(&at, &machine)) answer_memory(&at, &machine);
+        else if (!answer_access(&at, &machine) && !answer_machine(&at, &machine) &&
+                 !answer_change(&at, &machine))
+            answer_memory(&at, &machine);
         print_state(&machine);
         free(machine.words);
     }

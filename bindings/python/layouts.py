@@ -12,6 +12,11 @@ STRUCTS = {
     "rrs_difference": rrs._Difference,
     "rrs_instruction": rrs._Instruction,
     "rrs_access": rrs._Access,
+    "rrs_change": rrs._Change,
+    "rrs_csrs": rrs._Csrs,
+    "rrs_outcome": rrs._Outcome,
+    "rrs_machine_retired": rrs._MachineRetired,
+    "rrs_csr": rrs._Csr,
     "rrs_elf": rrs._Elf,
     "rrs_segment": rrs._Segment,
     "rrs_loaded": rrs._Loaded,
@@ -35,6 +40,8 @@ for row in rrs.Row:
     print(f"RRS_ROW_{row.name} {row.value}")
 print("RRS_NO_ACCESS 0")
 for kind in rrs.AccessKind:
+    print(f"RRS_{kind.name} {kind.value}")
+for kind in rrs.OutcomeKind:
     print(f"RRS_{kind.name} {kind.value}")
 print("RRS_ELF_OK 0")
 for refusal in rrs._ElfRefusal:

@@ -32,6 +32,10 @@ def listed(words):
     return ",".join(words) or "-"
 
 
+def listed_words(words):
+    return listed([f"0x{word:08x}" for word in words])
+
+
 def value_of(word, name):
     before, _, value = word.partition("=")
     if before != name:
@@ -61,17 +65,18 @@ class State:
             else:
                 self.machine.registers[int(name[1:])] = int(value, 16)
 
-    def __str__(self):
+    @property
+    def hart(self):
         machine = self.machine
         registers = [machine._hart.x[0], *machine.registers[1:]]
         listed_registers = listed([f"x{n}=0x{x:08x}" for n, x in enumerate(registers) if x])
-        part = list(machine.memory)
-        words = self.words[: self.first] + part + self.words[self.first + len(part) :]
         last = "-" if machine.last is None else f"x{machine.last}"
-        return (
-            f" pc=0x{machine.pc:08x} last={last} regs={listed_registers}"
-            f" mem={listed([f'0x{word:08x}' for word in words])}"
-        )
+        return f" pc=0x{machine.pc:08x} last={last} regs={listed_registers}"
+
+    def __str__(self):
+        part = list(self.machine.memory)
+        words = self.words[: self.first] + part + self.words[self.first + len(part) :]
+        return f"{self.hart} mem={listed_words(words)}"
 
 
 def told(fault):
@@ -212,7 +217,66 @@ def elf(file, base, count, address):
     return " ".join(told_of)
 
 
+CSR_FIELDS = [name for name, _ in rrs._Csrs._fields_]
+
+
+def csrs_of(text):
+    csrs = rrs.Csrs()
+    for name, value in zip(CSR_FIELDS, text.split(","), strict=True):
+        setattr(csrs, name, int(value))
+    return csrs
+
+
+def told_csrs(csrs):
+    return ",".join(str(getattr(csrs, name)) for name in CSR_FIELDS)
+
+
+def csr(number, mip, time, csrs):
+    value = csrs_of(csrs).read(int(number, 16), int(mip, 16), int(time))
+    return "none" if value is None else f"0x{value:08x}"
+
+
+def write(number, value, csrs):
+    file = csrs_of(csrs)
+    return f"{int(file.write(int(number, 16), int(value, 16)))} {told_csrs(file)}"
+
+
+def machine(order, mip, time, csrs, *words):
+    state, file = State(words[2:], words[:2]), csrs_of(csrs)
+    outcome, seen = state.machine.machine_step(file, int(mip, 16), int(time), int(order))
+    cause = f" 0x{outcome.cause:08x}" if outcome.kind >= 2 or outcome.cause else ""
+    value = f" 0x{outcome.value:08x}" if outcome.kind == 2 or outcome.value else ""
+    access = " ".join(
+        f"csr_{name}=0x{value:0{3 if name == 'addr' else 8}x}"
+        for name, value in seen.csr._asdict().items()
+    )
+    return (
+        f"{outcome.kind.name.lower()}{cause}{value}{told_record(seen.retired)} valid={seen.valid}"
+        f" intr={seen.intr} mode={seen.mode} trapped={int(seen.cause is not None)}"
+        f" cause=0x{seen.cause or 0:08x} {access} csrs={told_csrs(file)}{state}"
+    )
+
+
+def noted(*words):
+    state = State(words[2:], words[:2])
+    fault, change = state.machine.step_noted()
+    after = f"{state.hart} part={listed_words(state.machine.memory)}"
+    state.machine.undo(change)
+    return f"{told(fault)} change={','.join(map(str, change))}{after} undone{state}"
+
+
+def undo(change, *words):
+    state = State(words[2:], words[:2])
+    state.machine.undo([*map(int, change.split(","))])
+    return f"undone{state}"
+
+
 QUESTIONS = {
+    "csr": csr,
+    "write": write,
+    "machine": machine,
+    "noted": noted,
+    "undo": undo,
     "decode": lambda word: decoded(int(word, 16)),
     "text": lambda pc, word: disassemble(int(word, 16), int(pc, 16)) or "none",
     "fields": lambda word: fields(int(word, 16)),

@@ -36,6 +36,12 @@ __all__ = [
     "Retired",
     "Access",
     "AccessKind",
+    "Change",
+    "Csrs",
+    "CsrAccess",
+    "MachineRetired",
+    "Outcome",
+    "OutcomeKind",
     "Instruction",
     "Row",
     "Field",
@@ -88,6 +94,39 @@ class _Instruction(ctypes.Structure):
 
 class _Access(ctypes.Structure):
     _fields_ = [("fault", _Fault)] + [(name, _u32) for name in "kind address size value".split()]
+
+
+class _Change(ctypes.Structure):
+    _fields_ = [(name, _u32) for name in "pc last rd value address size bytes".split()]
+
+
+class _Csrs(ctypes.Structure):
+    _fields_ = [
+        *(
+            (name, _u32)
+            for name in "mstatus mie mtvec mscratch mepc mcause mtval mcountinhibit".split()
+        ),
+        ("mcycle", _u64),
+        ("minstret", _u64),
+        ("trapped", _u32),
+    ]
+
+
+class _Outcome(ctypes.Structure):
+    _fields_ = [(name, _u32) for name in "kind cause value".split()]
+
+
+class _MachineRetired(ctypes.Structure):
+    _fields_ = [("retired", _Retired)] + [
+        (name, _u32)
+        for name in (
+            "valid intr mode trapped cause csr_addr csr_rmask csr_wmask csr_rdata csr_wdata"
+        ).split()
+    ]
+
+
+class _Csr(ctypes.Structure):
+    _fields_ = [("found", _u32), ("value", _u32)]
 
 
 class _Elf(ctypes.Structure):
@@ -160,6 +199,19 @@ _complete_rvfi = _function(
     *(_u32, _u32, _u32, _u64),
     ctypes.POINTER(_Retired),
 )
+_step_noted = _function("rrs_step_noted", _Fault, *_memory, ctypes.POINTER(_Change))
+_undo = _function("rrs_undo", None, *_memory, ctypes.POINTER(_Change))
+_csrs_reset = _function("rrs_csrs_reset", None, ctypes.POINTER(_Csrs))
+_machine_step = _function(
+    "rrs_machine_step",
+    _Outcome,
+    ctypes.POINTER(_Hart),
+    ctypes.POINTER(_Csrs),
+    *(_words, _size, _u32, _u32, _u64, _u64),
+    ctypes.POINTER(_MachineRetired),
+)
+_csr_read = _function("rrs_csr_read", _Csr, ctypes.POINTER(_Csrs), _u32, _u32, _u64)
+_csr_write = _function("rrs_csr_write", _u32, ctypes.POINTER(_Csrs), _u32, _u32)
 _elf_parse = _function("rrs_elf_parse", _Elf, ctypes.c_char_p, _size)
 _elf_segment = _function("rrs_elf_segment", _Segment, ctypes.c_char_p, _size, _u32)
 _elf_load = _function("rrs_elf_load", _Loaded, ctypes.c_char_p, _size, _words, _size, _u32)
@@ -332,10 +384,134 @@ class Instruction(NamedTuple):
     imm: int
 
 
+class Change(NamedTuple):
+    """What takes a step back: the pc and the last written register before it (0 for none), the
+    register that it wrote (0 for none) and what that was, and the bytes that it stored: their
+    address, how many (0 for none), and what they were, lowest byte first."""
+
+    pc: int
+    last: int
+    rd: int
+    value: int
+    address: int
+    size: int
+    bytes: int
+
+
+class OutcomeKind(enum.IntEnum):
+    """How a step of a hart with machine mode ended: an instruction retired; a wfi did, and no
+    interrupt is pending that mie enables; an exception was raised; an interrupt was taken."""
+
+    RETIRED = 0
+    WAITING = 1
+    RAISED = 2
+    INTERRUPTED = 3
+
+
+class Outcome(NamedTuple):
+    """How a step of a hart with machine mode ended: its OutcomeKind, and of RAISED and INTERRUPTED
+    what mcause has, and of RAISED what mtval has; else 0."""
+
+    kind: OutcomeKind
+    cause: int
+    value: int
+
+
+class CsrAccess(NamedTuple):
+    """The CSR that an instruction read and wrote, by its number, with the bits that were read and
+    written and their values. All are 0 where there was none."""
+
+    addr: int
+    rmask: int
+    wmask: int
+    rdata: int
+    wdata: int
+
+
+class MachineRetired(NamedTuple):
+    """What a step of a hart with machine mode retired: the Retired of the instruction; whether one
+    was executed (0 where an interrupt was taken); whether it is the first one of a handler; the mode,
+    3; what mcause has after a trap, or None; and the CsrAccess."""
+
+    retired: Retired
+    valid: int
+    intr: int
+    mode: int
+    cause: Optional[int]
+    csr: CsrAccess
+
+
+class Csrs:
+    """The CSRs of a hart that has machine mode alone, as they are at reset.
+
+    Each field of ``rrs_csrs`` is an attribute: ``csrs.mtvec = 0x80000100``. ``trapped`` is no CSR: it
+    is 1 where the latest step took a trap. A copy has CSRs of its own.
+    """
+
+    mstatus: int
+    mie: int
+    mtvec: int
+    mscratch: int
+    mepc: int
+    mcause: int
+    mtval: int
+    mcountinhibit: int
+    mcycle: int
+    minstret: int
+    trapped: int
+
+    def __init__(self) -> None:
+        self._csrs = _Csrs()
+        self._pointer = ctypes.byref(self._csrs)
+        _csrs_reset(self._pointer)
+
+    def read(self, number: int, mip: int = 0, time: int = 0) -> Optional[int]:
+        """The value of the CSR with this number, as an instruction reads it, and None where there is
+        none. ``mip`` and ``time`` are what those CSRs have from outside."""
+        csr = _csr_read(self._pointer, _word_of(number), _word_of(mip), _long_of(time, "time"))
+        return csr.value if csr.found else None
+
+    def write(self, number: int, value: int) -> bool:
+        """Writes the CSR with this number as an instruction does. Returns whether it can be written:
+        otherwise there is none or it is read only, and nothing changes."""
+        return bool(_csr_write(self._pointer, _word_of(number), _word_of(value)))
+
+    def __reduce__(self) -> tuple:
+        return _restored_csrs, (bytes(self._csrs),)
+
+    def __repr__(self) -> str:
+        return f"Csrs({', '.join(f'{name}=0x{getattr(self, name):x}' for name, _ in _Csrs._fields_)})"
+
+
+def _restored_csrs(data):
+    """The CSRs that were copied, or pickled."""
+    csrs = Csrs()
+    ctypes.memmove(csrs._pointer, data, len(data))
+    return csrs
+
+
+def _csr_field(name, kind):
+    """A field of the CSRs as an attribute, which refuses numbers that have more bits."""
+
+    def read(csrs: Csrs) -> int:
+        """The field."""
+        return getattr(csrs._csrs, name)
+
+    def write(csrs: Csrs, value: int) -> None:
+        setattr(csrs._csrs, name, _long_of(value, name) if kind is _u64 else _word_of(value))
+
+    return property(read, write, doc=f"The field {name} of rrs_csrs.")
+
+
+for _name_of_field, _kind_of_field in _Csrs._fields_:
+    setattr(Csrs, _name_of_field, _csr_field(_name_of_field, _kind_of_field))
+
 # Each struct is read in one copy.
 _record = struct.Struct("=Q16I").unpack_from
 _fields = struct.Struct("=5Ii").unpack_from
 _access = struct.Struct("=12x4I").unpack_from
+_change = struct.Struct("=7I").unpack_from
+_machine_record = struct.Struct("=72x10I").unpack_from
 
 _new = tuple.__new__
 _access_kinds = {int(kind): kind for kind in AccessKind}
@@ -598,6 +774,50 @@ class Machine:
         multiple of 4 faults itself, as in a core whose IALIGN is 32."""
         fault = _step_rvfi_ialign32(*self._arguments, _long_of(order, "order"), self._recorded)
         return _fault_of(fault), _new(Retired, _record(self._record))
+
+    def step_noted(self) -> Tuple[Optional[Fault], Change]:
+        """Executes the instruction at the pc. Returns the Fault or None, and the Change that takes
+        the step back."""
+        change = _Change()
+        fault = _step_noted(*self._arguments, ctypes.byref(change))
+        return _fault_of(fault), _new(Change, _change(change))
+
+    def undo(self, change: Sequence[int]) -> None:
+        """Takes a step back by its Change. After the steps since then were taken back, the latest
+        first, the machine is what it was before the step."""
+        _undo(*self._arguments, ctypes.byref(_Change(*map(_word_of, change))))
+
+    def machine_step(
+        self, csrs: Csrs, mip: int = 0, time: int = 0, order: int = 0
+    ) -> Tuple[Outcome, MachineRetired]:
+        """Makes a step of a hart with machine mode, whose CSRs these are: takes an interrupt that is
+        pending in ``mip``, or else executes the instruction at the pc, which may raise an exception.
+        ``time`` is what the CSR reads. Returns the Outcome, and what the step retired. A load or a
+        store past the words is an access fault.
+
+        >>> machine, csrs = Machine([0x30529073, 0x00000073]), Csrs()  # csrw mtvec, t0; ecall
+        >>> machine.registers[5] = 0x80
+        >>> machine.machine_step(csrs)[0].kind.name, csrs.mtvec
+        ('RETIRED', 128)
+        >>> machine.machine_step(csrs)[0], machine.pc, csrs.mepc
+        (Outcome(kind=<OutcomeKind.RAISED: 2>, cause=11, value=0), 128, 4)
+        """
+        record = _MachineRetired()
+        hart, words, count, base = self._arguments
+        outcome = _machine_step(
+            hart,
+            csrs._pointer,
+            *(words, count, base),
+            *(_word_of(mip), _long_of(time, "time"), _long_of(order, "order")),
+            ctypes.byref(record),
+        )
+        valid, intr, mode, trapped, cause, *csr = _machine_record(record)
+        told = (
+            *(_new(Retired, _record(record)), valid, intr, mode),
+            *(cause if trapped else None, _new(CsrAccess, csr)),
+        )
+        kind = OutcomeKind(outcome.kind)
+        return Outcome(kind, outcome.cause, outcome.value), _new(MachineRetired, told)
 
     def run(
         self, limit: int, access: Optional[Callable[[Access], Optional[int]]] = None

@@ -247,6 +247,42 @@ class Faces(unittest.TestCase):
             machine.elf.load(Machine([0], base=0x12340))
         self.assertEqual((caught.exception.refusal, caught.exception.number), ("NOT_IN_WORDS", 0x12344))
 
+    def test_csrs_begin_at_reset_and_a_copy_shares_nothing(self):
+        csrs = rrs.Csrs()
+        names = [name for name, _ in rrs._Csrs._fields_]
+        self.assertEqual([getattr(csrs, name) for name in names], [0] * 11)
+        csrs.mtvec, csrs.mcycle, csrs.trapped = -1, 2**64 - 1, 1
+        self.assertEqual((csrs.read(0x305), csrs.read(0xC80), csrs.read(0x306)),
+                         (0xFFFFFFFD, 2**32 - 1, None))
+        self.assertEqual((csrs.read(0x344, mip=-1), csrs.read(0xC81, time=2**32)), (0x888, 1))
+        self.assertEqual((csrs.write(0xC00, 1), csrs.write(0xB00, 1)), (False, True))
+        for other in (copy.copy(csrs), copy.deepcopy(csrs), pickle.loads(pickle.dumps(csrs))):
+            self.assertEqual(repr(other), repr(csrs))
+            other.mie = 8
+            self.assertEqual((other.mie, csrs.mie, csrs.mcycle), (8, 0, 0xFFFFFFFF00000001))
+        self.assertIn("mtvec=0xffffffff", repr(csrs))
+        machine = Machine([0x13])
+        for call in (lambda: setattr(csrs, "mie", 2**32), lambda: setattr(csrs, "mcycle", -1),
+                     lambda: csrs.read(2**32), lambda: csrs.write(0, 2**32),
+                     lambda: csrs.read(0, time=2**64), lambda: machine.machine_step(csrs, 2**32),
+                     lambda: machine.machine_step(csrs, 0, -1), lambda: machine.undo([2**32] * 7)):
+            self.assertRaises(ValueError, call)
+
+    def test_steps_are_taken_back(self):
+        machine = Machine([0x00108093, 0x0010A223, 0x00000073, 7])  # addi x1, x1, 1; sw x1, 4(x1)
+        machine.registers[1] = 7
+        states, changes = [], []
+        for fault in (None, None, FaultKind.ECALL):
+            states.append((machine.pc, machine.last, machine.registers[:], machine.memory[:]))
+            found, change = machine.step_noted()
+            self.assertEqual(found and found.kind, fault)
+            changes.append(change)
+        self.assertEqual(changes[1], rrs.Change(4, 1, 0, 0, 12, 4, 7))
+        while changes:
+            machine.undo(changes.pop())
+            state = (machine.pc, machine.last, machine.registers[:], machine.memory[:])
+            self.assertEqual(state, states.pop())
+
     def test_threads_are_told_of(self):
         for text in (rrs.__doc__, Machine.__doc__):
             self.assertIn("Only one thread at a time may use a machine", " ".join(text.split()))
@@ -286,13 +322,16 @@ class Libraries(unittest.TestCase):
     def test_an_unknown_kind_is_an_error(self):
         folder = os.environ["RRS_REFUSED"]
         for call in ("step()", "run(1)", "run_until([], 1)", "step_rvfi()", "complete(0, 0)",
-                     "step_rvfi_ialign32()", "complete_rvfi(0, 0)"):
+                     "step_rvfi_ialign32()", "complete_rvfi(0, 0)", "step_noted()"):
             lines = f"import rrs\nrrs.Machine([0]).{call}"
             status, _, said = self.run_over(f"{folder}/kind.so", lines)
             self.assertIn("ValueError: 9 is not a valid FaultKind", said)
             self.assertEqual(status, 1)
         _, _, said = self.run_over(f"{folder}/kind.so", "import rrs\nrrs.Machine([0]).request(0)")
         self.assertIn("ValueError: 9 is not a valid AccessKind", said)
+        _, _, said = self.run_over(f"{folder}/kind.so",
+                                   "import rrs\nrrs.Machine([0]).machine_step(rrs.Csrs())")
+        self.assertIn("ValueError: 9 is not a valid OutcomeKind", said)
 
 
 def load_tests(loader, tests, pattern):

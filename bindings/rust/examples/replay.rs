@@ -2,8 +2,8 @@
 //! `docs/C.md` has the forms; those of `rrs-replay` are answered as it does.
 
 use rrs::{
-    decode, disassemble, field_name, register_name, row_name, Access, Elf, ElfRefusal, End, Fault,
-    Hart, Memory, MemoryAccess, Retired,
+    decode, disassemble, field_name, register_name, row_name, Access, Change, Csrs, Elf, ElfRefusal,
+    End, Fault, Hart, Inputs, MachineRetired, Memory, MemoryAccess, Outcome, Retired,
 };
 use std::io::{self, BufRead, BufWriter, Write};
 
@@ -105,16 +105,138 @@ fn told_record(record: &Retired) -> String {
     )
 }
 
-fn told_state(hart: &Hart, words: &[u32]) -> String {
-    let list = |entries: Vec<String>| match entries.is_empty() {
+fn listed(entries: Vec<String>) -> String {
+    match entries.is_empty() {
         true => "-".to_owned(),
         false => entries.join(","),
-    };
+    }
+}
+
+fn told_hart(hart: &Hart) -> String {
     let last = if hart.last == 0 { "-".to_owned() } else { format!("x{}", hart.last) };
     let registers = hart.x.iter().enumerate().filter(|(_, &value)| value != 0);
     let registers = registers.map(|(n, value)| format!("x{n}=0x{value:08x}")).collect();
-    let words = words.iter().map(|word| format!("0x{word:08x}")).collect();
-    format!(" pc=0x{:08x} last={last} regs={} mem={}", hart.pc, list(registers), list(words))
+    format!(" pc=0x{:08x} last={last} regs={}", hart.pc, listed(registers))
+}
+
+fn told_words(words: &[u32]) -> String {
+    listed(words.iter().map(|word| format!("0x{word:08x}")).collect())
+}
+
+fn told_state(hart: &Hart, words: &[u32]) -> String {
+    format!("{} mem={}", told_hart(hart), told_words(words))
+}
+
+/// The CSRs of a question: the fields of `rrs_csrs`.
+fn csrs_of(text: &str) -> Csrs {
+    let fields: Vec<u64> = text.split(',').map(decimal).collect();
+    let &[mstatus, mie, mtvec, mscratch, mepc, mcause, mtval, ref rest @ ..] = &fields[..] else {
+        panic!("no CSRs: {text}")
+    };
+    let &[mcountinhibit, mcycle, minstret, trapped] = rest else { panic!("no CSRs: {text}") };
+    Csrs {
+        mstatus: mstatus as u32,
+        mie: mie as u32,
+        mtvec: mtvec as u32,
+        mscratch: mscratch as u32,
+        mepc: mepc as u32,
+        mcause: mcause as u32,
+        mtval: mtval as u32,
+        mcountinhibit: mcountinhibit as u32,
+        mcycle,
+        minstret,
+        trapped: trapped as u32,
+    }
+}
+
+fn told_csrs(csrs: &Csrs) -> String {
+    let Csrs { mstatus, mie, mtvec, mscratch, mepc, mcause, .. } = csrs;
+    let Csrs { mtval, mcountinhibit, mcycle, minstret, trapped, .. } = csrs;
+    format!(
+        "{mstatus},{mie},{mtvec},{mscratch},{mepc},{mcause},{mtval},{mcountinhibit},{mcycle},\
+         {minstret},{trapped}"
+    )
+}
+
+/// The questions of a CSR.
+fn answer_csr(name: &str, line: &mut Line) -> Option<String> {
+    if name != "csr" && name != "write" {
+        return None;
+    }
+    let (number, second) = (hex(line.word()), hex(line.word()));
+    if name == "csr" {
+        let inputs = Inputs { mip: second, time: decimal(line.word()) };
+        let value = csrs_of(line.word()).read(number, inputs);
+        return Some(value.map_or("none".to_owned(), |value| format!("0x{value:08x}")));
+    }
+    let mut csrs = csrs_of(line.word());
+    let written = u32::from(csrs.write(number, second));
+    Some(format!("{written} {}", told_csrs(&csrs)))
+}
+
+fn told_machine(record: &MachineRetired) -> String {
+    let MachineRetired { retired, valid, intr, mode, cause, csr } = record;
+    format!(
+        "{} valid={} intr={} mode={mode} trapped={} cause=0x{:08x} csr_addr=0x{:03x} \
+         csr_rmask=0x{:08x} csr_wmask=0x{:08x} csr_rdata=0x{:08x} csr_wdata=0x{:08x}",
+        told_record(retired),
+        u32::from(*valid),
+        u32::from(*intr),
+        u32::from(cause.is_some()),
+        cause.unwrap_or(0),
+        csr.addr,
+        csr.rmask,
+        csr.wmask,
+        csr.rdata,
+        csr.wdata
+    )
+}
+
+/// A step with machine mode.
+fn answer_machine(line: &mut Line) -> String {
+    let order = decimal(line.word());
+    let mip = hex(line.word());
+    let inputs = Inputs { mip, time: decimal(line.word()) };
+    let mut csrs = csrs_of(line.word());
+    let (base, part) = line.place();
+    let (mut hart, mut words) = line.state();
+    let mut memory = Memory::new(&mut words[part], base);
+    let (outcome, record) = hart.machine_step(&mut csrs, &mut memory, inputs, order);
+    let outcome = match outcome {
+        Outcome::Retired => "retired".to_owned(),
+        Outcome::Waiting => "waiting".to_owned(),
+        Outcome::Raised(cause, value) => format!("raised 0x{cause:08x} 0x{value:08x}"),
+        Outcome::Interrupted(cause) => format!("interrupted 0x{cause:08x}"),
+    };
+    let csrs = told_csrs(&csrs);
+    outcome + &told_machine(&record) + " csrs=" + &csrs + &told_state(&hart, &words)
+}
+
+/// A step that is taken back, and a change that is.
+fn answer_change(name: &str, line: &mut Line) -> String {
+    let mut change = Change::default();
+    if name == "undo" {
+        let fields: Vec<u32> = line.word().split(',').map(decimal).collect();
+        let &[pc, last, rd, value, address, size, bytes] = &fields[..] else {
+            panic!("no change")
+        };
+        change = Change { pc, last, rd, value, address, size, bytes };
+    }
+    let (base, part) = line.place();
+    let (mut hart, mut words) = line.state();
+    let mut told_step = String::new();
+    if name == "noted" {
+        let mut memory = Memory::new(&mut words[part.clone()], base);
+        let (answer, noted) = hart.step_noted(&mut memory);
+        let Change { pc, last, rd, value, address, size, bytes } = noted;
+        told_step = told(answer)
+            + &format!(" change={pc},{last},{rd},{value},{address},{size},{bytes}")
+            + &told_hart(&hart)
+            + &format!(" part={} ", told_words(&words[part.clone()]));
+        change = noted;
+    }
+    hart.undo(&mut Memory::new(&mut words[part], base), &change);
+    told_step + "undone" + &told_state(&hart, &words)
 }
 
 /// The questions of a word alone.
@@ -342,8 +464,13 @@ fn answer(text: &str) -> String {
     let answer = answer_word(name, &mut line)
         .or_else(|| answer_check(name, &mut line))
         .or_else(|| answer_elf(name, &mut line))
+        .or_else(|| answer_csr(name, &mut line))
         .or_else(|| answer_access(name, &mut line));
-    let answer = answer.unwrap_or_else(|| answer_memory(name, &mut line));
+    let answer = answer.unwrap_or_else(|| match name {
+        "machine" => answer_machine(&mut line),
+        "noted" | "undo" => answer_change(name, &mut line),
+        _ => answer_memory(name, &mut line),
+    });
     assert!(line.0.is_empty(), "more on the line: {text}");
     answer
 }

@@ -303,6 +303,164 @@ pub enum Access {
     Store(u32, u32, u32),
 }
 
+/// What takes a step back: what the step wrote, as it was before. It takes 28 bytes.
+#[repr(C)]
+#[derive(Clone, Copy, Debug, Default, PartialEq, Eq)]
+pub struct Change {
+    /// The pc before: the address of the instruction.
+    pub pc: u32,
+    /// The register that was the last written one before, or 0.
+    pub last: u32,
+    /// The register that was written, or 0.
+    pub rd: u32,
+    /// What it was before.
+    pub value: u32,
+    /// The address of the first byte that was stored.
+    pub address: u32,
+    /// How many bytes were stored: 1, 2, 4, or 0 for none.
+    pub size: u32,
+    /// What they were before, lowest byte first.
+    pub bytes: u32,
+}
+
+/// The CSRs of a hart that has machine mode alone. The default is what they are at reset.
+#[repr(C)]
+#[derive(Clone, Copy, Debug, Default, PartialEq, Eq)]
+pub struct Csrs {
+    /// `mstatus`: MIE is bit 3 and MPIE bit 7. MPP always reads 3.
+    pub mstatus: u32,
+    /// `mie`: MSIE is bit 3, MTIE bit 7 and MEIE bit 11.
+    pub mie: u32,
+    /// `mtvec`: the base of the handlers, and in bit 0 whether interrupts are vectored.
+    pub mtvec: u32,
+    /// `mscratch`: a word for the handler.
+    pub mscratch: u32,
+    /// `mepc`: the pc at the trap.
+    pub mepc: u32,
+    /// `mcause`: bit 31 for an interrupt, and the code.
+    pub mcause: u32,
+    /// `mtval`: an address, a word, or 0.
+    pub mtval: u32,
+    /// `mcountinhibit`: CY, bit 0, stops `mcycle`, and IR, bit 2, stops `minstret`.
+    pub mcountinhibit: u32,
+    /// `mcycle` and `mcycleh`: the steps, traps among them.
+    pub mcycle: u64,
+    /// `minstret` and `minstreth`: the instructions that retired.
+    pub minstret: u64,
+    /// 1 where the latest step took a trap. It is no CSR: the next instruction is the first of a
+    /// handler.
+    pub trapped: u32,
+}
+
+/// What a hart with machine mode is told from outside.
+#[derive(Clone, Copy, Debug, Default, PartialEq, Eq)]
+pub struct Inputs {
+    /// The interrupts that are pending, as `mip` has them: bits 3, 7 and 11.
+    pub mip: u32,
+    /// What `time` and `timeh` read.
+    pub time: u64,
+}
+
+impl Csrs {
+    /// The CSRs at reset.
+    pub fn new() -> Csrs {
+        check_version();
+        let mut csrs = Csrs::default();
+        unsafe { sys::rrs_csrs_reset(&mut csrs) };
+        csrs
+    }
+
+    /// The value of the CSR with this number, as an instruction reads it, if there is one.
+    pub fn read(&self, number: u32, inputs: Inputs) -> Option<u32> {
+        check_version();
+        let csr = unsafe { sys::rrs_csr_read(self, number, inputs.mip, inputs.time) };
+        (csr.found != 0).then_some(csr.value)
+    }
+
+    /// Writes the CSR with this number as an instruction does. Returns whether it can be written:
+    /// otherwise there is none or it is read only, and nothing changes.
+    pub fn write(&mut self, number: u32, value: u32) -> bool {
+        check_version();
+        unsafe { sys::rrs_csr_write(self, number, value) != 0 }
+    }
+}
+
+/// How a step of a hart with machine mode ended.
+#[derive(Clone, Copy, Debug, PartialEq, Eq)]
+pub enum Outcome {
+    /// An instruction retired.
+    Retired,
+    /// A `wfi` retired, and no interrupt is pending that `mie` enables.
+    Waiting,
+    /// An instruction raised an exception, and the hart is at the handler: `mcause` and `mtval`.
+    Raised(u32, u32),
+    /// An interrupt was taken, and the hart is at the handler: `mcause`.
+    Interrupted(u32),
+}
+
+impl Outcome {
+    fn of(outcome: sys::Outcome) -> Outcome {
+        match outcome.kind {
+            0 => Outcome::Retired,
+            1 => Outcome::Waiting,
+            2 => Outcome::Raised(outcome.cause, outcome.value),
+            3 => Outcome::Interrupted(outcome.cause),
+            kind => panic!("librrs_c.a gives an outcome of unknown kind {kind}"),
+        }
+    }
+}
+
+/// The CSR that an instruction read and wrote. All fields are 0 where there was none.
+#[derive(Clone, Copy, Debug, Default, PartialEq, Eq)]
+pub struct CsrAccess {
+    /// The number of the CSR.
+    pub addr: u32,
+    /// The bits that were read: all, or none.
+    pub rmask: u32,
+    /// The bits that were written: those that a write changes, or none.
+    pub wmask: u32,
+    /// The value that was read.
+    pub rdata: u32,
+    /// The value of the bits that were written.
+    pub wdata: u32,
+}
+
+/// What a step of a hart with machine mode retired, under the names of RVFI.
+#[derive(Clone, Copy, Debug, Default, PartialEq, Eq)]
+pub struct MachineRetired {
+    /// The record of the instruction. `trap` says that it raised an exception.
+    pub retired: Retired,
+    /// Whether an instruction was executed. If not, an interrupt was taken.
+    pub valid: bool,
+    /// Whether it is the first instruction of a handler.
+    pub intr: bool,
+    /// The privilege mode: 3.
+    pub mode: u32,
+    /// What `mcause` has after a trap, an exception or an interrupt.
+    pub cause: Option<u32>,
+    /// The CSR that was read and written.
+    pub csr: CsrAccess,
+}
+
+impl MachineRetired {
+    fn of(record: sys::MachineRetired) -> MachineRetired {
+        MachineRetired {
+            retired: Retired::of(record.retired),
+            valid: record.valid != 0,
+            intr: record.intr != 0,
+            mode: record.mode,
+            cause: (record.trapped != 0).then_some(record.cause),
+            csr: CsrAccess {
+                addr: record.csr_addr,
+                rmask: record.csr_rmask,
+                wmask: record.csr_wmask,
+                rdata: record.csr_rdata,
+                wdata: record.csr_wdata,
+            },
+        }
+    }
+}
+
 /// The text of an instruction.
 #[derive(Clone, Copy)]
 pub struct Text {
@@ -463,6 +621,48 @@ impl Hart {
             sys::rrs_complete_rvfi(self, word, granted, value, order, &mut record)
         };
         (answer_of(fault), Retired::of(record))
+    }
+}
+
+impl Hart {
+    /// Makes a step, and tells what takes it back.
+    pub fn step_noted(&mut self, memory: &mut Memory<'_>) -> (Result<(), Fault>, Change) {
+        check_version();
+        let Memory { words, base } = memory;
+        let mut change = Change::default();
+        let fault = unsafe {
+            sys::rrs_step_noted(self, words.as_mut_ptr(), words.len(), *base, &mut change)
+        };
+        (answer_of(fault), change)
+    }
+
+    /// Takes a step back by its change. After the steps since then were taken back, the latest
+    /// first, the hart and the words are what they were before the step.
+    pub fn undo(&mut self, memory: &mut Memory<'_>, change: &Change) {
+        check_version();
+        let Memory { words, base } = memory;
+        unsafe { sys::rrs_undo(self, words.as_mut_ptr(), words.len(), *base, change) }
+    }
+
+    /// Makes a step of a hart with machine mode: takes an interrupt, or else executes the
+    /// instruction at the pc, which may raise an exception. Tells what the step retired, under this
+    /// number. A load or a store past the words is an access fault.
+    pub fn machine_step(
+        &mut self,
+        csrs: &mut Csrs,
+        memory: &mut Memory<'_>,
+        inputs: Inputs,
+        order: u64,
+    ) -> (Outcome, MachineRetired) {
+        check_version();
+        let Memory { words, base } = memory;
+        let (words, count) = (words.as_mut_ptr(), words.len());
+        let Inputs { mip, time } = inputs;
+        let mut record = sys::MachineRetired::default();
+        let outcome = unsafe {
+            sys::rrs_machine_step(self, csrs, words, count, *base, mip, time, order, &mut record)
+        };
+        (Outcome::of(outcome), MachineRetired::of(record))
     }
 }
 

@@ -1,6 +1,6 @@
 //! The functions of librrs_c.a, as `rrs.h` declares them.
 
-use crate::Hart;
+use crate::{Change, Csrs, Hart};
 
 #[repr(C)]
 pub struct Fault {
@@ -86,6 +86,35 @@ pub struct Location {
     pub length: usize,
 }
 
+#[repr(C)]
+pub struct Outcome {
+    pub kind: u32,
+    pub cause: u32,
+    pub value: u32,
+}
+
+#[repr(C)]
+#[derive(Default)]
+pub struct MachineRetired {
+    pub retired: Retired,
+    pub valid: u32,
+    pub intr: u32,
+    pub mode: u32,
+    pub trapped: u32,
+    pub cause: u32,
+    pub csr_addr: u32,
+    pub csr_rmask: u32,
+    pub csr_wmask: u32,
+    pub csr_rdata: u32,
+    pub csr_wdata: u32,
+}
+
+#[repr(C)]
+pub struct Csr {
+    pub found: u32,
+    pub value: u32,
+}
+
 extern "C" {
     pub fn rrs_version() -> u32;
     pub fn rrs_step(hart: *mut Hart, words: *mut u32, count: usize, base: u32) -> Fault;
@@ -133,6 +162,34 @@ extern "C" {
         order: u64,
         retired: *mut Retired,
     ) -> Fault;
+    pub fn rrs_step_noted(
+        hart: *mut Hart,
+        words: *mut u32,
+        count: usize,
+        base: u32,
+        change: *mut Change,
+    ) -> Fault;
+    pub fn rrs_undo(
+        hart: *mut Hart,
+        words: *mut u32,
+        count: usize,
+        base: u32,
+        change: *const Change,
+    );
+    pub fn rrs_csrs_reset(csrs: *mut Csrs);
+    pub fn rrs_machine_step(
+        hart: *mut Hart,
+        csrs: *mut Csrs,
+        words: *mut u32,
+        count: usize,
+        base: u32,
+        mip: u32,
+        time: u64,
+        order: u64,
+        retired: *mut MachineRetired,
+    ) -> Outcome;
+    pub fn rrs_csr_read(csrs: *const Csrs, number: u32, mip: u32, time: u64) -> Csr;
+    pub fn rrs_csr_write(csrs: *mut Csrs, number: u32, value: u32) -> u32;
     pub fn rrs_elf_parse(file: *const u8, size: usize) -> Elf;
     pub fn rrs_elf_segment(file: *const u8, size: usize, index: u32) -> Segment;
     pub fn rrs_elf_load(

@@ -1,6 +1,6 @@
 //! What this crate does beside the calls of the library, which `examples/replay.rs` compares.
 
-use rrs::{decode, disassemble, version, Fault, Hart, Memory, Text, VERSION};
+use rrs::{decode, disassemble, version, Csrs, Fault, Hart, Inputs, Memory, Text, VERSION};
 
 /// A hart at an address.
 fn hart_at(pc: u32) -> Hart {
@@ -58,4 +58,15 @@ fn words_end_with_the_addresses_and_begin_at_a_multiple_of_4() {
     let before = hart_at(0xffff_fff4).step(&mut Memory::new(&mut words, 0xffff_fff8));
     assert_eq!(before, Err(Fault::Fetch(0xffff_fff4)));
     assert_eq!(hart_at(0).step(&mut Memory::new(&mut [], 0)), Err(Fault::Fetch(0)));
+}
+
+#[test]
+fn csrs_begin_at_reset_and_are_written_by_number() {
+    let mut csrs = Csrs::new();
+    assert_eq!(csrs, Csrs::default());
+    assert!(csrs.write(0x305, 0xffff_ffff) && !csrs.write(0xc00, 1) && !csrs.write(0x306, 1));
+    assert_eq!(csrs, Csrs { mtvec: 0xffff_fffd, ..Csrs::default() });
+    let inputs = Inputs { mip: 0xffff_ffff, time: 1 << 32 };
+    let read = [0x344, 0xc81, 0x300, 0x306].map(|number| csrs.read(number, inputs));
+    assert_eq!(read, [Some(0x888), Some(1), Some(0x1800), None]);
 }

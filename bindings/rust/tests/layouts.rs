@@ -1,7 +1,7 @@
 //! The layouts of the structs that the library shares with this crate, in the form of the list that
 //! `bindings/layouts.py` makes of `rrs.h`, which stands beside this crate.
 
-use rrs::{Hart, Instruction, VERSION};
+use rrs::{Change, Csrs, Hart, Instruction, VERSION};
 use std::any::type_name;
 use std::mem::{offset_of, size_of};
 
@@ -41,6 +41,13 @@ fn the_structs_are_those_of_the_header() {
     listed!(lines, "rrs_difference", sys::Difference, model core field);
     listed!(lines, "rrs_instruction", Instruction, row rd rs1 rs2 shamt imm);
     listed!(lines, "rrs_access", sys::Access, fault kind address size value);
+    listed!(lines, "rrs_change", Change, pc last rd value address size bytes);
+    listed!(lines, "rrs_csrs", Csrs, mstatus mie mtvec mscratch mepc mcause mtval mcountinhibit mcycle
+        minstret trapped);
+    listed!(lines, "rrs_outcome", sys::Outcome, kind cause value);
+    listed!(lines, "rrs_machine_retired", sys::MachineRetired, retired valid intr mode trapped cause
+        csr_addr csr_rmask csr_wmask csr_rdata csr_wdata);
+    listed!(lines, "rrs_csr", sys::Csr, found value);
     listed!(lines, "rrs_elf", sys::Elf, refusal number other entry segments);
     listed!(lines, "rrs_segment", sys::Segment, loaded address memory_size offset file_size flags);
     listed!(lines, "rrs_loaded", sys::Loaded, refusal address);

@@ -1,7 +1,10 @@
 //! Over the libraries of `bindings/c/refused.c`, which `bindings/check.sh` links: one of another
 //! version, and one whose exceptions and accesses have an unknown kind.
 
-use rrs::{decode, disassemble, field_name, register_name, row_name, Fault, Hart, Memory};
+use rrs::{
+    decode, disassemble, field_name, register_name, row_name, Change, Csrs, Fault, Hart, Inputs,
+    Memory,
+};
 use std::panic::{catch_unwind, UnwindSafe};
 
 /// What a call says where it panics.
@@ -26,6 +29,11 @@ fn all_said() -> (Vec<String>, Vec<String>) {
         said(move || void(hart.request(0))),
         said(move || void(hart.complete(0, Some(0)))),
         said(move || void(hart.complete_rvfi(0, Some(0), 0))),
+        said(move || void(hart.step_noted(&mut Memory::new(&mut [0], 0)))),
+        said(move || {
+            let (mut csrs, inputs) = (Csrs::default(), Inputs::default());
+            void(hart.machine_step(&mut csrs, &mut Memory::new(&mut [0], 0), inputs, 0))
+        }),
     ];
     let others = vec![
         said(|| void(decode(0))),
@@ -34,6 +42,10 @@ fn all_said() -> (Vec<String>, Vec<String>) {
         said(|| void(row_name(1))),
         said(|| void(register_name(1))),
         said(|| void(field_name(1))),
+        said(move || hart.undo(&mut Memory::new(&mut [0], 0), &Change::default())),
+        said(|| void(Csrs::new())),
+        said(|| void(Csrs::default().read(0, Inputs::default()))),
+        said(|| void(Csrs::default().write(0, 0))),
     ];
     (faults, others)
 }
@@ -54,5 +66,5 @@ fn an_unknown_kind_is_no_success() {
     for text in &faults {
         assert!(text.contains("unknown kind 9"), "it said {text}");
     }
-    assert_eq!(others, ["nothing"; 6]);
+    assert_eq!(others, ["nothing"; 10]);
 }

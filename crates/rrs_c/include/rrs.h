@@ -293,6 +293,107 @@ rrs_fault rrs_complete(rrs_hart *hart, uint32_t word, uint32_t granted, uint32_t
 rrs_fault rrs_complete_rvfi(rrs_hart *hart, uint32_t word, uint32_t granted, uint32_t value,
                             uint64_t order, rrs_retired *retired);
 
+/* What takes a step back: what the step wrote, as it was before. */
+typedef struct rrs_change {
+    uint32_t pc;      /* The pc before: the address of the instruction. */
+    uint32_t last;    /* The register that was the last written one before, 1 to 31, or 0. */
+    uint32_t rd;      /* The register that was written, 1 to 31, or 0 where none was. */
+    uint32_t value;   /* What it was before, 0 where none was written. */
+    uint32_t address; /* The address of the first byte that was stored, or 0. */
+    uint32_t size;    /* How many bytes were stored: 1, 2 or 4, or 0 where none were. */
+    uint32_t bytes;   /* What they were before, lowest byte first, or 0. */
+} rrs_change;
+
+/* Does what rrs_step does, and says in *change what takes the step back, also one that raised an
+ * exception. */
+rrs_fault rrs_step_noted(rrs_hart *hart, uint32_t *words, size_t count, uint32_t base,
+                         rrs_change *change);
+
+/* Takes a step back by its change: the register and the bytes that it wrote are what they were, and so
+ * are the pc and `last`. After the steps since then were taken back, the latest first, the hart and
+ * the words are what they were before the step. Every change is allowed: an rd past 31 is none, a
+ * size that is not 0, 1 or 2 is 4, and bytes at a misaligned address or outside the words stay. */
+void rrs_undo(rrs_hart *hart, uint32_t *words, size_t count, uint32_t base,
+              const rrs_change *change);
+
+/* The CSRs of a hart that has machine mode alone: RV32IM with Zicsr, Zifencei and Zicntr, by the
+ * privileged specification 1.12. docs/MACHINE.md of the kit has the table of the CSRs. {0}, which
+ * rrs_csrs_reset gives too, is what they are at reset. A bit that is not written has no meaning
+ * here: rrs_csr_read gives it as it always is. */
+typedef struct rrs_csrs {
+    uint32_t mstatus;       /* MIE is bit 3 and MPIE bit 7. MPP always reads 3. */
+    uint32_t mie;           /* MSIE is bit 3, MTIE bit 7 and MEIE bit 11. */
+    uint32_t mtvec;         /* The base of the handlers, and in bit 0 whether it is vectored. */
+    uint32_t mscratch;      /* A word for the handler. */
+    uint32_t mepc;          /* The pc at the trap. */
+    uint32_t mcause;        /* Bit 31 for an interrupt, and the code. */
+    uint32_t mtval;         /* An address, a word, or 0. */
+    uint32_t mcountinhibit; /* CY, bit 0, stops mcycle, and IR, bit 2, stops minstret. */
+    uint64_t mcycle;        /* The steps, traps among them. */
+    uint64_t minstret;      /* The instructions that retired. */
+    uint32_t trapped;       /* 1 where the latest step took a trap, else 0. No CSR: the next
+                             * instruction is the first of a handler. Any other number is as 0. */
+} rrs_csrs;
+
+/* Makes the CSRs those of a hart at reset. */
+void rrs_csrs_reset(rrs_csrs *csrs);
+
+/* How a step of a hart with machine mode ended. */
+enum rrs_outcome_kind {
+    RRS_RETIRED = 0,    /* An instruction retired. */
+    RRS_WAITING = 1,    /* A wfi retired, and no interrupt is pending that mie enables. */
+    RRS_RAISED = 2,     /* An instruction raised an exception, and the hart is at the handler. */
+    RRS_INTERRUPTED = 3 /* An interrupt was taken, and the hart is at the handler. */
+};
+
+typedef struct rrs_outcome {
+    uint32_t kind;  /* One of enum rrs_outcome_kind. */
+    uint32_t cause; /* What mcause has after RRS_RAISED and RRS_INTERRUPTED, else 0. */
+    uint32_t value; /* What mtval has after RRS_RAISED, else 0. */
+} rrs_outcome;
+
+/* What a step of a hart with machine mode retired: the record of RVFI, with its valid, intr and mode
+ * and the CSR that was read and written (rvfi_csr_*). In `retired` trap is 1 at an exception, and
+ * pc_wdata is the handler after a trap. Where an interrupt was taken there is no word, register,
+ * access or CSR. */
+typedef struct rrs_machine_retired {
+    rrs_retired retired; /* As rrs_step_rvfi has it. */
+    uint32_t valid;      /* 1 where an instruction was executed, 0 where an interrupt was taken. */
+    uint32_t intr;       /* 1 where it is the first instruction of a handler, else 0. */
+    uint32_t mode;       /* 3: machine mode. */
+    uint32_t trapped;    /* 1 where the step took a trap, an exception or an interrupt, else 0. */
+    uint32_t cause;      /* What mcause has after the trap, or 0. */
+    uint32_t csr_addr;   /* The number of the CSR that an instruction read or wrote, or 0. */
+    uint32_t csr_rmask;  /* The bits that were read: all, or none. */
+    uint32_t csr_wmask;  /* The bits that were written: those that a write changes, or none. */
+    uint32_t csr_rdata;  /* The value that was read, or 0. */
+    uint32_t csr_wdata;  /* The value of the bits that were written, or 0. */
+} rrs_machine_retired;
+
+/* Makes a step of a hart with machine mode, and says in *retired what it retired, under the number
+ * `order`. An interrupt is taken where its bit is set in `mip` (MSIP is bit 3, MTIP bit 7, MEIP bit
+ * 11; no other is looked at), mie enables it and MIE is 1. Else the instruction at the pc is
+ * executed, one on a CSR, mret, wfi and fence.i among them, and where it raises an exception the
+ * hart goes to the handler. A jump to an address that is no multiple of 4 raises its exception
+ * itself. `time` is what the CSRs time and timeh read. A load or a store past the words is an access
+ * fault. */
+rrs_outcome rrs_machine_step(rrs_hart *hart, rrs_csrs *csrs, uint32_t *words, size_t count,
+                             uint32_t base, uint32_t mip, uint64_t time, uint64_t order,
+                             rrs_machine_retired *retired);
+
+/* A CSR by its number. */
+typedef struct rrs_csr {
+    uint32_t found; /* 1 where there is one with this number, else 0. */
+    uint32_t value; /* Its value, or 0. */
+} rrs_csr;
+
+/* The value of the CSR with this number, as an instruction reads it. */
+rrs_csr rrs_csr_read(const rrs_csrs *csrs, uint32_t number, uint32_t mip, uint64_t time);
+
+/* Writes the CSR with this number as an instruction does: the bits that a write does not change
+ * stay. Returns 1, or 0 where there is no such CSR or it is read only, and then nothing changes. */
+uint32_t rrs_csr_write(rrs_csrs *csrs, uint32_t number, uint32_t value);
+
 /* An executable in the ELF format: the bytes of its file, which each function reads anew. It is
  * accepted exactly where it is an executable for RV32IM that is linked to fixed addresses, and else
  * refused for the first of these that holds, in this order. */
@@ -431,6 +532,45 @@ RRS_ASSERT(access_kind, offsetof(rrs_access, kind) == 12);
 RRS_ASSERT(access_address, offsetof(rrs_access, address) == 16);
 RRS_ASSERT(access_size, offsetof(rrs_access, size) == 20);
 RRS_ASSERT(access_value, offsetof(rrs_access, value) == 24);
+RRS_ASSERT(size_of_change, sizeof(rrs_change) == 28);
+RRS_ASSERT(change_pc, offsetof(rrs_change, pc) == 0);
+RRS_ASSERT(change_last, offsetof(rrs_change, last) == 4);
+RRS_ASSERT(change_rd, offsetof(rrs_change, rd) == 8);
+RRS_ASSERT(change_value, offsetof(rrs_change, value) == 12);
+RRS_ASSERT(change_address, offsetof(rrs_change, address) == 16);
+RRS_ASSERT(change_size, offsetof(rrs_change, size) == 20);
+RRS_ASSERT(change_bytes, offsetof(rrs_change, bytes) == 24);
+RRS_ASSERT(size_of_csrs, sizeof(rrs_csrs) == 56);
+RRS_ASSERT(csrs_mstatus, offsetof(rrs_csrs, mstatus) == 0);
+RRS_ASSERT(csrs_mie, offsetof(rrs_csrs, mie) == 4);
+RRS_ASSERT(csrs_mtvec, offsetof(rrs_csrs, mtvec) == 8);
+RRS_ASSERT(csrs_mscratch, offsetof(rrs_csrs, mscratch) == 12);
+RRS_ASSERT(csrs_mepc, offsetof(rrs_csrs, mepc) == 16);
+RRS_ASSERT(csrs_mcause, offsetof(rrs_csrs, mcause) == 20);
+RRS_ASSERT(csrs_mtval, offsetof(rrs_csrs, mtval) == 24);
+RRS_ASSERT(csrs_mcountinhibit, offsetof(rrs_csrs, mcountinhibit) == 28);
+RRS_ASSERT(csrs_mcycle, offsetof(rrs_csrs, mcycle) == 32);
+RRS_ASSERT(csrs_minstret, offsetof(rrs_csrs, minstret) == 40);
+RRS_ASSERT(csrs_trapped, offsetof(rrs_csrs, trapped) == 48);
+RRS_ASSERT(size_of_outcome, sizeof(rrs_outcome) == 12);
+RRS_ASSERT(outcome_kind, offsetof(rrs_outcome, kind) == 0);
+RRS_ASSERT(outcome_cause, offsetof(rrs_outcome, cause) == 4);
+RRS_ASSERT(outcome_value, offsetof(rrs_outcome, value) == 8);
+RRS_ASSERT(size_of_machine_retired, sizeof(rrs_machine_retired) == 112);
+RRS_ASSERT(machine_retired_retired, offsetof(rrs_machine_retired, retired) == 0);
+RRS_ASSERT(machine_retired_valid, offsetof(rrs_machine_retired, valid) == 72);
+RRS_ASSERT(machine_retired_intr, offsetof(rrs_machine_retired, intr) == 76);
+RRS_ASSERT(machine_retired_mode, offsetof(rrs_machine_retired, mode) == 80);
+RRS_ASSERT(machine_retired_trapped, offsetof(rrs_machine_retired, trapped) == 84);
+RRS_ASSERT(machine_retired_cause, offsetof(rrs_machine_retired, cause) == 88);
+RRS_ASSERT(machine_retired_csr_addr, offsetof(rrs_machine_retired, csr_addr) == 92);
+RRS_ASSERT(machine_retired_csr_rmask, offsetof(rrs_machine_retired, csr_rmask) == 96);
+RRS_ASSERT(machine_retired_csr_wmask, offsetof(rrs_machine_retired, csr_wmask) == 100);
+RRS_ASSERT(machine_retired_csr_rdata, offsetof(rrs_machine_retired, csr_rdata) == 104);
+RRS_ASSERT(machine_retired_csr_wdata, offsetof(rrs_machine_retired, csr_wdata) == 108);
+RRS_ASSERT(size_of_csr, sizeof(rrs_csr) == 8);
+RRS_ASSERT(csr_found, offsetof(rrs_csr, found) == 0);
+RRS_ASSERT(csr_value, offsetof(rrs_csr, value) == 4);
 RRS_ASSERT(size_of_elf, sizeof(rrs_elf) == 20);
 RRS_ASSERT(elf_refusal, offsetof(rrs_elf, refusal) == 0);
 RRS_ASSERT(elf_number, offsetof(rrs_elf, number) == 4);

@@ -25,3 +25,5 @@ pub mod Causes
 pub mod Names
 pub mod Jumps
 pub mod Elf
+pub mod Machines
+pub mod Undoing

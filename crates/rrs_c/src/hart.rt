@@ -45,21 +45,29 @@ pub struct RrsEnd {
     pub at_stop: u32,
 }
 
+/// The register that a C hart has as the one written last.
+#[inline]
+pub(crate) fn last_of(hart: &RrsHart) -> Option<usize>
+    ensures same { result ≡ register_in hart.now.last }
+    ensures last { LastIsRegister result }
+{
+    if 0 < hart.last && hart.last < 32 {
+        Some(hart.last as usize)
+    } else {
+        None
+    }
+}
+
 /// The kit's hart that a C hart is.
 #[inline]
 pub(crate) fn opened(hart: &RrsHart) -> HartState
     ensures same { result ≡ hart_in hart.now }
     ensures last { LastIsRegister result.last_register_write }
 {
-    let last_register_write = if 0 < hart.last && hart.last < 32 {
-        Some(hart.last as usize)
-    } else {
-        None
-    };
     HartState {
         registers: hart.x,
         pc: hart.pc,
-        last_register_write,
+        last_register_write: last_of(hart),
     }
 }
 

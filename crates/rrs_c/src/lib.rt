@@ -19,9 +19,11 @@ mod hart;
 mod instruction;
 mod jumps;
 mod lent;
+mod machine;
 mod names;
 mod retired;
 mod text;
+mod undoing;
 
 ghost use Rattle.std.specs.Prelude.{◌≡◌, ◌<◌, ◌==◌, ◌↔◌, List, length, slice_index, OnErr, Err};
 ghost use Rattle.rrs_lib.specs.Encodings.{Fields};
@@ -43,6 +45,12 @@ ghost use Rattle.rrs_elf.specs.Refusals.{first_refusal, checks};
 ghost use Rattle.rrs_elf.specs.declared.errors.ElfError.{ElfError};
 ghost use Rattle.rrs_c.specs.Elf.{accepted_elf, refused_elf, SegmentIn, LoadsElf, FindsFunction};
 ghost use Rattle.rrs_c.specs.Comparing.{first_different, record_fields};
+ghost use Rattle.rrs_privileged.specs.Csrs.{csr_at, reset_file};
+ghost use Rattle.rrs_privileged.specs.MachineSteps.{MachineStep, IsOnlyMachineStep};
+ghost use Rattle.rrs_system.specs.MachineRecords.{MachineRetires};
+ghost use Rattle.rrs_history.specs.Changes.{undone};
+ghost use Rattle.rrs_c.specs.Machines.{csrs_in, machine_in_c, inputs_in, machine_answer, IsOutcome, machine_retired_in, IsMachineRecord, csr_told, csr_to_write, file_after, was_written};
+ghost use Rattle.rrs_c.specs.Undoing.{change_in, IsChange};
 ghost use Rattle.rrs_c.specs.Names.{PutsRowName, PutsName, named, fault_names, register_names, field_names};
 
 use access::{RrsAccess, access_or_fault, given_by};
@@ -51,20 +59,29 @@ use comparison::{RrsDifference, first_difference};
 use completed::complete_retired;
 use elf::{RrsElf, RrsLoaded, RrsLocation, RrsSegment, elf_of, function_of, load_into, segment_of};
 use hart::{
-    RrsEnd, RrsFault, RrsHart, close, end_of_run, end_of_stop, fault_of, fault_of_answer,
+    RrsEnd, RrsFault, RrsHart, close, end_of_run, end_of_stop, fault_of, fault_of_answer, last_of,
     number_of, opened,
 };
 use instruction::{RrsInstruction, listed, nothing};
 use jumps::jumps_aside;
-use lent::{run_lent, run_until_lent, step_lent, step_retired_lent};
+use lent::{
+    machine_step_lent, run_lent, run_until_lent, step_lent, step_noted_lent, step_retired_lent,
+    undo_lent,
+};
+use machine::{
+    RrsCsr, RrsCsrs, RrsMachineRetired, RrsOutcome, csr_read, csr_write, csrs_of, file_of,
+    inputs_of, machine_written_out, outcome_of,
+};
 use names::{fault_name, field_name, put_name, register_name, row_name};
 use retired::{RrsRetired, refused, written_out};
 use rrs_lib::disassembly::Disassembled;
 use rrs_lib::instruction::decode;
 use rrs_lib::instruction_executor::InstructionException;
 use rrs_lib::memories::SliceMemory;
+use rrs_privileged::CsrFile;
 use rrs_trace::{complete_parts, request_parts};
 use text::put_text;
+use undoing::{RrsChange, change_from, change_of};
 
 /// The version of this interface, 65536 times the major number plus 256 times the minor one plus
 /// the patch: 0.2.0.
@@ -207,6 +224,128 @@ pub extern "C" fn rrs_step_rvfi_ialign32(
     hart.last = number_of(end.last_register_write);
     *retired = written_out(&seen);
     fault_of_answer(end.answer)
+}
+
+/// Makes a step, as `rrs_step`, and tells the change that takes it back.
+#[unsafe(no_mangle)]
+pub extern "C" fn rrs_step_noted(
+    hart: &mut RrsHart,
+    words: &mut [u32],
+    base: u32,
+    change: &mut RrsChange,
+) -> RrsFault
+    ensures step { Step (state_in_c hart.old base words.old)
+        (state_in_c hart.new base words.new) (answer_of result) }
+    ensures only { IsOnlyStep (state_in_c hart.old base words.old)
+        (state_in_c hart.new base words.new) (answer_of result) }
+    ensures fault { OnErr (answer_of result) (state_in_c hart.new base words.new
+        ≡ cleared (state_in_c hart.old base words.old)) }
+    ensures undoes { undone (change_in change.new) (state_in_c hart.new base words.new)
+        ≡ state_in_c hart.old base words.old }
+    ensures change { IsChange change.new }
+    ensures told { IsFault result }
+    ensures last { hart.new.last < 32 }
+    ensures entry_zero { slice_index hart.new.x 0 ≡ slice_index hart.old.x 0 }
+{
+    let last = last_of(hart);
+    let mut memory = SliceMemory { words, base };
+    let (end, noted) = step_noted_lent(&mut memory, &mut hart.x, hart.pc, last);
+    hart.pc = end.pc;
+    hart.last = number_of(end.last_register_write);
+    *change = change_of(&noted);
+    fault_of_answer(end.answer)
+}
+
+/// Takes a change back: the register and the bytes that it says are what they were before it, and
+/// so are the pc and the last written register. Bytes that are not in the words stay.
+#[unsafe(no_mangle)]
+pub extern "C" fn rrs_undo(hart: &mut RrsHart, words: &mut [u32], base: u32, change: &RrsChange)
+    ensures back { state_in_c hart.new base words.new
+        ≡ undone (change_in change.now) (state_in_c hart.old base words.old) }
+    ensures last { hart.new.last < 32 }
+    ensures entry_zero { slice_index hart.new.x 0 ≡ slice_index hart.old.x 0 }
+{
+    let mut state = opened(hart);
+    let mut memory = SliceMemory { words, base };
+    undo_lent(&mut memory, &mut state, &change_from(change));
+    close(&state, hart);
+}
+
+/// Makes the CSRs those of a hart at reset.
+#[unsafe(no_mangle)]
+pub extern "C" fn rrs_csrs_reset(csrs: &mut RrsCsrs)
+    ensures reset { csrs_in csrs.new ≡ reset_file }
+    ensures trapped { csrs.new.trapped ≡ 0 }
+{
+    *csrs = csrs_of(&CsrFile::new(), 0);
+}
+
+/// Makes a step of a hart with machine mode: takes an interrupt, or else executes the instruction
+/// at the pc, which may raise an exception. `mip` has the bits of the interrupts that are pending.
+/// Tells what the step retired, under this number.
+#[unsafe(no_mangle)]
+pub extern "C" fn rrs_machine_step(
+    hart: &mut RrsHart,
+    csrs: &mut RrsCsrs,
+    words: &mut [u32],
+    base: u32,
+    mip: u32,
+    time: u64,
+    order: u64,
+    retired: &mut RrsMachineRetired,
+) -> RrsOutcome
+    ensures step { MachineStep (inputs_in mip time) (machine_in_c hart.old csrs.old base words.old)
+        (machine_in_c hart.new csrs.new base words.new) (machine_answer result) }
+    ensures only { IsOnlyMachineStep (inputs_in mip time)
+        (machine_in_c hart.old csrs.old base words.old)
+        (machine_in_c hart.new csrs.new base words.new) (machine_answer result) }
+    ensures retires { MachineRetires order (csrs.old.trapped == 1) (inputs_in mip time)
+        (machine_in_c hart.old csrs.old base words.old)
+        (machine_in_c hart.new csrs.new base words.new) (machine_answer result)
+        (machine_retired_in retired.new) }
+    ensures record { IsMachineRecord retired.new }
+    ensures trapped { csrs.new.trapped ≡ retired.new.trapped }
+    ensures told { IsOutcome result }
+    ensures last { hart.new.last < 32 }
+    ensures entry_zero { slice_index hart.new.x 0 ≡ slice_index hart.old.x 0 }
+{
+    let mut state = opened(hart);
+    let mut file = file_of(csrs);
+    let mut memory = SliceMemory { words, base };
+    let inputs = inputs_of(mip, time);
+    let first = csrs.trapped == 1;
+    let (answer, seen) = machine_step_lent(
+        &mut memory,
+        &mut state,
+        &mut file,
+        &inputs,
+        order,
+        first,
+    );
+    close(&state, hart);
+    let record = machine_written_out(&seen);
+    *csrs = csrs_of(&file, record.trapped);
+    *retired = record;
+    outcome_of(answer)
+}
+
+/// The value of the CSR with this number, as an instruction reads it, where there is one.
+#[unsafe(no_mangle)]
+pub extern "C" fn rrs_csr_read(csrs: &RrsCsrs, number: u32, mip: u32, time: u64) -> RrsCsr
+    ensures { result ≡ csr_told (csr_at number) (csrs_in csrs.now) (inputs_in mip time) }
+{
+    csr_read(csrs, number, &inputs_of(mip, time))
+}
+
+/// Writes the CSR with this number, as an instruction does: the bits that are not written stay.
+/// Returns 1, or 0 where there is no such CSR or it is read only, and then nothing changes.
+#[unsafe(no_mangle)]
+pub extern "C" fn rrs_csr_write(csrs: &mut RrsCsrs, number: u32, value: u32) -> u32
+    ensures written { csrs_in csrs.new ≡ file_after (csr_to_write number) value (csrs_in csrs.old) }
+    ensures told { result ≡ was_written (csr_to_write number) }
+    ensures trapped_kept { csrs.new.trapped ≡ csrs.old.trapped }
+{
+    csr_write(csrs, number, value)
 }
 
 /// The instruction that a word is: the number of its row and its fields, and row 0 for an illegal

@@ -48,7 +48,7 @@ pub struct RrsRetired {
 
 /// A word and 1, or 0 and 0 where there is none.
 #[inline]
-fn word_and_flag(word: Option<u32>) -> (u32, u32)
+pub(crate) fn word_and_flag(word: Option<u32>) -> (u32, u32)
     ensures same { (if result.1 == 1 then Some result.0 else None) ≡ word }
     ensures flag { result.1 < 2 }
     ensures none { result.1 ≡ 0 → result.0 ≡ 0 }
@@ -61,7 +61,7 @@ fn word_and_flag(word: Option<u32>) -> (u32, u32)
 
 /// 1 where it is true, else 0.
 #[inline]
-fn flag(value: bool) -> u32
+pub(crate) fn flag(value: bool) -> u32
     ensures same { (result == 1) ≡ value }
     ensures flag { result < 2 }
 {
