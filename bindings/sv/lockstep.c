@@ -1,6 +1,5 @@
-/* Compares the RVFI records of a core with those of the kit. Around the kit's step stands what the
- * kit has not: machine mode with its CSRs and traps, the trap of a jump to a misaligned address,
- * accesses of a device's page, and the report. */
+/* Compares the RVFI records of a core with those of the kit, whose steps have machine mode. Around them
+ * stand the accesses of a device's page, what this core has less, and the report. */
 #include <stdio.h>
 #include <stdlib.h>
 #include <string.h>
@@ -10,6 +9,7 @@
 
 #define DEVICE 0x10000000u /* a page: a UART at 0 and 4 */
 #define TO_HOST (DEVICE + 12) /* a store here ends the program */
+#define TIMER 0x80u /* MTIP of mip, MTIE of mie */
 #define LINES 6
 
 /* What the report shows of a record. */
@@ -20,7 +20,6 @@ struct line {
 struct lockstep {
     struct rrs_dpi *model;
     unsigned long long records;
-    uint32_t mtvec, mepc, mcause, mtval, mscratch, mstatus, mie;
     uint32_t device_value;  /* what the device gave to the core last */
     uint32_t device_reads;
     int has_trapped;        /* in the record before */
@@ -35,7 +34,6 @@ void *lockstep_new(void *model) {
     struct lockstep *lockstep = calloc(1, sizeof *lockstep);
     if (lockstep == NULL) return NULL;
     lockstep->model = model;
-    lockstep->mstatus = 0x1800;
     return lockstep;
 }
 
@@ -67,104 +65,50 @@ int lockstep_has_ended(void *handle) {
     return lockstep->has_ended;
 }
 
-/* Reads a CSR. The counters are the core's own. Returns 0 where there is no such CSR. */
-static int csr_read(const struct lockstep *l, uint32_t number, uint32_t of_core, uint32_t *value) {
-    switch (number) {
-    case 0x300: *value = l->mstatus; return 1;
-    case 0x304: *value = l->mie; return 1;
-    case 0x305: *value = l->mtvec; return 1;
-    case 0x340: *value = l->mscratch; return 1;
-    case 0x341: *value = l->mepc; return 1;
-    case 0x342: *value = l->mcause; return 1;
-    case 0x343: *value = l->mtval; return 1;
-    case 0xf14: *value = 0; return 1;
-    case 0xb00: case 0xb80: case 0xb02: case 0xb82:
-    case 0xc00: case 0xc80: case 0xc02: case 0xc82: *value = of_core; return 1;
-    default: return 0;
+/* The core's counters count its clock's cycles: a step that reads one reads what the core has. */
+static void take_counter(rrs_csrs *csrs, uint32_t insn, uint32_t value) {
+    uint64_t *counter;
+    if ((insn & 127) != 0x73 || (insn >> 12 & 3) == 0) return;
+    switch (insn >> 20) {
+    case 0xb00: case 0xb80: case 0xc00: case 0xc80: counter = &csrs->mcycle; break;
+    case 0xb02: case 0xb82: case 0xc02: case 0xc82: counter = &csrs->minstret; break;
+    default: return;
     }
-}
-
-static void csr_write(struct lockstep *l, uint32_t number, uint32_t value) {
-    switch (number) {
-    case 0x300: l->mstatus = (value & 0x88) | 0x1800; break;
-    case 0x304: l->mie = value & 0x80; break;
-    case 0x305: l->mtvec = value & ~3u; break;
-    case 0x340: l->mscratch = value; break;
-    case 0x341: l->mepc = value & ~3u; break;
-    case 0x342: l->mcause = value; break;
-    case 0x343: l->mtval = value; break;
-    default: break;
-    }
-}
-
-static void take_trap(struct lockstep *l, uint32_t epc, uint32_t cause, uint32_t value) {
-    l->mepc = epc;
-    l->mcause = cause;
-    l->mtval = value;
-    l->mstatus = 0x1800 | (l->mstatus & 8) << 4;
-    l->model->hart.pc = l->mtvec;
-}
-
-/* mret, or an instruction of CSRs. Returns 0 where the word is none of them. */
-static int system_step(struct lockstep *l, const rrs_retired *core, rrs_retired *want) {
-    rrs_hart *hart = &l->model->hart;
-    uint32_t insn = want->insn, funct3 = insn >> 12 & 7, rd = insn >> 7 & 31;
-    uint32_t rs1 = insn >> 15 & 31, number = insn >> 20, old, value;
-    int writes = (funct3 & 3) == 1 || rs1 != 0;
-    if (insn == 0x30200073) {
-        l->mstatus = 0x1880 | (l->mstatus >> 4 & 8);
-        hart->pc = l->mepc;
-    } else {
-        if ((insn & 127) != 0x73 || (funct3 & 3) == 0 || (writes && number >> 10 == 3) ||
-            !csr_read(l, number, core->rd_wdata, &old))
-            return 0;
-        value = funct3 & 4 ? rs1 : rs1 == 0 ? 0 : hart->x[rs1];
-        if (!(funct3 & 4)) {
-            want->rs1_addr = rs1;
-            want->rs1_rdata = value;
-        }
-        if (writes)
-            csr_write(l, number, (funct3 & 3) == 1   ? value
-                                 : (funct3 & 3) == 2 ? old | value
-                                                     : old & ~value);
-        if (rd != 0) {
-            hart->x[rd] = old;
-            want->rd_addr = rd;
-            want->rd_wdata = old;
-        }
-        hart->pc += 4;
-    }
-    want->trap = 0;
-    want->pc_wdata = hart->pc;
-    return 1;
+    *counter = insn >> 27 & 1 ? (uint64_t)value << 32 : value;
 }
 
 /* A load or a store of the device's page. Returns 0 where the word makes none. */
-static int device_step(struct lockstep *l, rrs_retired *want) {
+static int device_step(struct lockstep *l, uint32_t word, rrs_retired *want) {
     rrs_hart *hart = &l->model->hart;
-    rrs_access access = rrs_request(hart, want->insn);
+    rrs_access access = rrs_request(hart, word);
     if (access.fault.kind != RRS_OK || access.kind == RRS_NO_ACCESS ||
         access.address >> 12 != DEVICE >> 12)
         return 0;
-    rrs_complete_rvfi(hart, want->insn, 1, l->device_value >> 8 * (access.address & 3), l->records,
-                      want);
+    rrs_complete_rvfi(hart, word, 1, l->device_value >> 8 * (access.address & 3), l->records, want);
+    l->model->csrs.trapped = 0;
     return 1;
 }
 
-/* One instruction of the model: its record, as the core must have it. */
-static void model_step(struct lockstep *l, const rrs_retired *core, rrs_retired *want) {
-    struct rrs_dpi *model = l->model;
-    rrs_fault fault = rrs_step_rvfi_ialign32(&model->hart, model->words, model->count, model->base,
-                                             l->records, want);
-    uint32_t value = fault.kind == RRS_ILLEGAL_INSTRUCTION ? fault.word
-                     : fault.kind == RRS_ECALL             ? 0
-                                                           : fault.address;
-    if (fault.kind == RRS_OK ||
-        (fault.kind == RRS_ILLEGAL_INSTRUCTION && system_step(l, core, want)) ||
-        ((fault.kind == RRS_LOAD_FAULT || fault.kind == RRS_STORE_FAULT) && device_step(l, want)))
-        return;
-    take_trap(l, want->pc_rdata, rrs_cause(&fault, want->pc_rdata, want->insn), value);
-    want->pc_wdata = model->hart.pc;
+/* One instruction of the model, after an interrupt where the core took one: its record, as the core
+ * must have it. */
+static void model_step(struct lockstep *l, const rrs_retired *core, int interrupted,
+                       rrs_retired *want) {
+    struct rrs_dpi *m = l->model;
+    const uint32_t *word;
+    if (interrupted) {
+        rrs_machine_step(&m->hart, &m->csrs, m->words, m->count, m->base, TIMER, 0, l->records,
+                         &m->machine);
+        *want = m->machine.retired;
+        if (m->machine.valid) return; /* the model takes none here: this record is another */
+    }
+    word = m->hart.pc % 4 == 0 ? rrs_dpi_place(m, m->hart.pc) : NULL;
+    if (word != NULL && device_step(l, *word, want)) return;
+    if (word != NULL) take_counter(&m->csrs, *word, core->rd_wdata);
+    rrs_machine_step(&m->hart, &m->csrs, m->words, m->count, m->base, 0, 0, l->records,
+                     &m->machine);
+    m->csrs.mtvec &= ~3u; /* the core has no vectored interrupts, and the timer's alone */
+    m->csrs.mie &= TIMER;
+    *want = m->machine.retired;
 }
 
 static void show(const struct line *line) {
@@ -204,8 +148,7 @@ int lockstep_retire(void *handle, unsigned long long order, uint32_t insn, uint3
     rrs_retired want;
     rrs_difference found;
     /* the first record of a handler, and no exception before: an interrupt, which the core tells */
-    if (intr && !l->has_trapped) take_trap(l, l->model->hart.pc, 0x80000007u, 0);
-    model_step(l, &core, &want);
+    model_step(l, &core, intr && !l->has_trapped, &want);
     l->has_trapped = (int)want.trap;
     l->lines[l->records % LINES] =
         (struct line){want.pc_rdata, want.insn, want.trap, want.rd_addr, want.rd_wdata,

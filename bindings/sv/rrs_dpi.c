@@ -13,6 +13,7 @@ void *rrs_dpi_new(uint32_t base, uint32_t count) {
     model->base = base & ~3u;
     model->count = count;
     model->hart.pc = model->base;
+    rrs_csrs_reset(&model->csrs);
     model->words = calloc(count == 0 ? 1 : count, sizeof *model->words);
     if (model->words == NULL) {
         free(model);
@@ -144,6 +145,56 @@ uint32_t rrs_dpi_complete_rvfi(void *handle, uint32_t word, uint32_t granted, ui
     model->fault = rrs_complete_rvfi(&model->hart, word, granted, value, order, &model->record);
     return give(model, insn, trap, pc_rdata, pc_wdata, rs1_addr, rs1_rdata, rs2_addr, rs2_rdata,
                 rd_addr, rd_wdata, mem_addr, mem_rmask, mem_wmask, mem_rdata, mem_wdata);
+}
+
+/* rrs_machine_step, over the CSRs of the instance, in the same way. Returns the kind of the outcome. */
+uint32_t rrs_dpi_machine_step(void *handle, uint32_t mip, unsigned long long time,
+                              unsigned long long order, uint32_t *cause, uint32_t *mtval,
+                              uint32_t *valid, uint32_t *intr, uint32_t *insn, uint32_t *trap,
+                              uint32_t *pc_rdata, uint32_t *pc_wdata, uint32_t *rs1_addr,
+                              uint32_t *rs1_rdata, uint32_t *rs2_addr, uint32_t *rs2_rdata,
+                              uint32_t *rd_addr, uint32_t *rd_wdata, uint32_t *mem_addr,
+                              uint32_t *mem_rmask, uint32_t *mem_wmask, uint32_t *mem_rdata,
+                              uint32_t *mem_wdata) {
+    struct rrs_dpi *model = handle;
+    rrs_outcome outcome =
+        rrs_machine_step(&model->hart, &model->csrs, model->words, model->count, model->base, mip,
+                         time, order, &model->machine);
+    model->record = model->machine.retired;
+    model->fault.kind = RRS_OK;
+    *cause = outcome.cause;
+    *mtval = outcome.value;
+    *valid = model->machine.valid;
+    *intr = model->machine.intr;
+    give(model, insn, trap, pc_rdata, pc_wdata, rs1_addr, rs1_rdata, rs2_addr, rs2_rdata, rd_addr,
+         rd_wdata, mem_addr, mem_rmask, mem_wmask, mem_rdata, mem_wdata);
+    return outcome.kind;
+}
+
+/* What the latest rrs_dpi_machine_step read and wrote of a CSR. */
+void rrs_dpi_csr_access(void *handle, uint32_t *addr, uint32_t *rmask, uint32_t *wmask,
+                        uint32_t *rdata, uint32_t *wdata) {
+    const struct rrs_dpi *model = handle;
+    *addr = model->machine.csr_addr;
+    *rmask = model->machine.csr_rmask;
+    *wmask = model->machine.csr_wmask;
+    *rdata = model->machine.csr_rdata;
+    *wdata = model->machine.csr_wdata;
+}
+
+/* rrs_csr_read. Returns 0 where there is no such CSR. */
+uint32_t rrs_dpi_csr_read(void *handle, uint32_t number, uint32_t mip, unsigned long long time,
+                          uint32_t *value) {
+    const struct rrs_dpi *model = handle;
+    rrs_csr csr = rrs_csr_read(&model->csrs, number, mip, time);
+    *value = csr.value;
+    return csr.found;
+}
+
+/* rrs_csr_write. Returns 0 where the CSR can't be written. */
+uint32_t rrs_dpi_csr_write(void *handle, uint32_t number, uint32_t value) {
+    struct rrs_dpi *model = handle;
+    return rrs_csr_write(&model->csrs, number, value);
 }
 
 /* rrs_compare, of the latest record with a core's. Returns the number of the field. */
