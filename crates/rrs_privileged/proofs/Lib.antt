@@ -6,3 +6,6 @@ pub mod MachineRuns
 pub mod MachineLaws
 pub mod Returning
 pub mod KitRuns
+pub mod Counting
+pub mod Halted
+pub mod Legs

@@ -5,7 +5,7 @@
 //! that are written, and what each is at reset, is `specs/Csrs.antt`.
 
 ghost use Rattle.std.specs.Prelude.{◌≡◌, ◌+◌, ◌-◌, ◌*◌, ◌/◌, ◌%◌, ◌^◌, ◌<◌, ◌≤◌, ◌==◌, ◌↔◌, IsTrue};
-ghost use Rattle.rrs_privileged.specs.Csrs.{both, either, csr_among, setup_csrs, handling_csrs, counter_csrs, reading_csrs, information_csrs, monitor_csr, csr_at, is_read_only, written_bits, fixed_bits, pending_bits, kept, csr_value, keeping, csr_written, reset_file, cycle_counted, instruction_counted, retired_file, counted_beside};
+ghost use Rattle.rrs_privileged.specs.Csrs.{both, either, csr_among, setup_csrs, handling_csrs, counter_csrs, reading_csrs, information_csrs, monitor_csr, csr_at, is_read_only, written_bits, fixed_bits, pending_bits, kept, csr_value, keeping, csr_written, reset_file, cycle_counted, instruction_counted, retired_file, counter_after, retired_times, counted_beside};
 
 use rrs_instruction::arithmetic;
 
@@ -250,6 +250,18 @@ fn of_halves(high: u32, low: u32) -> u64
     u64::from(high) * 0x1_0000_0000 + u64::from(low)
 }
 
+/// A counter after so many more, unless it is stopped.
+fn counter_after(is_stopped: bool, count: u64, more: u64) -> u64
+    ensures after { result ≡ counter_after is_stopped count more }
+    ensures fits { count < 2 ^ 64 }
+{
+    if is_stopped {
+        count
+    } else {
+        count.wrapping_add(more)
+    }
+}
+
 impl Inputs {
     /// The pending interrupts, as `mip` has them.
     fn pending(&self) -> u32
@@ -370,6 +382,18 @@ impl CsrFile {
     {
         self.count_cycle();
         self.count_instruction();
+    }
+
+    /// Counts so many instructions that retire.
+    pub(crate) fn count_retired_times(&mut self, times: u64)
+        ensures { self.new ≡ retired_times times self.old }
+    {
+        let (no_cycles, no_instructions) = (
+            self.mcountinhibit % 2 == 1,
+            self.mcountinhibit / 4 % 2 == 1,
+        );
+        self.mcycle = counter_after(no_cycles, self.mcycle, times);
+        self.minstret = counter_after(no_instructions, self.minstret, times);
     }
 
     /// Counts an instruction that retires and writes a register.

@@ -8,6 +8,7 @@
 
 #![tactic(auto)]
 
+pub mod cached;
 pub mod csrs;
 pub mod instructions;
 pub mod laws;
@@ -15,6 +16,7 @@ pub mod machine;
 pub mod runs;
 pub mod traps;
 
+pub use cached::{ForeseeableSurroundings, Outlook, run_machine_cached};
 pub use csrs::{Csr, CsrFile, Inputs};
 pub use instructions::{SystemInstruction, SystemRow};
 pub use machine::{MachineAnswer, step_machine};

@@ -51,7 +51,7 @@ pub(crate) fn trap(hart: &mut HartState, csrs: &mut CsrFile, cause: u32, value: 
 }
 
 /// Raises an exception.
-fn raise(hart: &mut HartState, csrs: &mut CsrFile, exception: Exception) -> MachineAnswer
+pub(crate) fn raise(hart: &mut HartState, csrs: &mut CsrFile, exception: Exception) -> MachineAnswer
     ensures raised { (bytes : ByteMap) (writable : ℕ → Bool)
         → machine_of hart.new csrs.new bytes writable
         ≡ raised exception (machine_of hart.old csrs.old bytes writable) }
@@ -226,7 +226,7 @@ fn execute_system(
 
 /// Executes a word that is none of the 48 rows: an instruction that they leave out, or an illegal
 /// one.
-fn execute_outside(
+pub(crate) fn execute_outside(
     hart: &mut HartState,
     csrs: &mut CsrFile,
     inputs: &Inputs,
