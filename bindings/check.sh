@@ -97,6 +97,34 @@ answers() {
     return 1
 }
 
+# refuses_lines COMMAND ..: it answers none of the lines with a word too much, but fails
+refuses_lines() {
+    local line
+    for line in "decode 0x00000033" "name row 1" "request 0x00000033 pc=0x00000000 last=- regs=- mem=-"; do
+        echo "$line" | "$@" >"$room/answered" 2>"$room/errors" || { cat "$room/errors"; return 1; }
+        ! echo "$line more" | "$@" >"$room/answered" 2>"$room/errors" || return 1
+    done
+}
+
+# The sanitizers end a program that adds past the greatest number, and one that reads past its bytes.
+sanitizers_see() {
+    local what
+    cat >"$room/bad.c" <<'C'
+static volatile char bytes[4];
+int main(int count, char **words) {
+    volatile int most = 2147483647, sum = 0;
+    if (count != 2) return 0;
+    if (words[1][0] == 'a') sum = most + count;
+    else sum = bytes[4 * count];
+    return 0 * sum;
+}
+C
+    build "gcc -std=c99 -x c" bad "$room/bad.c" && "$room/bad" || return 1
+    for what in add read; do
+        ! "$room/bad" "$what" 2>"$room/errors" || return 1
+    done
+}
+
 # what the library asks of the program that it is linked with, what it has, and that it has no state
 has_names() {
     nm "$library" >"$room/nm" || return 1
@@ -120,7 +148,7 @@ header_has() {
 
 # The header alone is C of each standard, and C++; and with a field of another offset it is none.
 header_asserts() {
-    local dialect language
+    local dialect language tried=0
     sed 's/offsetof(rrs_hart, pc) == 128/offsetof(rrs_hart, pc) == 124/' "$header" >"$room/wrong.h"
     ! cmp -s "$header" "$room/wrong.h" || return 1
     for dialect in c99 c11 c17 c2x c++98 c++11 c++17 c++20; do
@@ -131,7 +159,9 @@ header_asserts() {
         ! gcc -std="$dialect" $warnings -fsyntax-only -x "$language" "$room/wrong.h" 2>"$room/wrong" ||
             return 1
         grep -q hart_pc "$room/wrong" || return 1
+        tried=$((tried + 1))
     done
+    [ "$tried" = 8 ]
 }
 
 declares() {
@@ -164,6 +194,8 @@ examples() {
     done
     try "replay, as C99" build "gcc -std=c99 -x c" replay "$here/c/replay.c"
     try "replay, as C99, answers as is stored" answers "$room/replay"
+    try "replay refuses a line with more" refuses_lines "$room/replay"
+    try "the sanitizers see what is wrong" sanitizers_see
     try "replay, as C++" build "g++ -std=c++11 -x c++" replay "$here/c/replay.c"
     try "replay, as C++, answers as is stored" answers "$room/replay"
 }
@@ -258,6 +290,7 @@ all() {
     try "rust: three_words prints what is stored" rust_prints
     try "rust: replay is built" rust "$crate/out" build --release --example replay
     try "rust: replay answers as is stored" answers "$room/rust/release/examples/replay"
+    try "rust: replay refuses a line with more" refuses_lines "$room/rust/release/examples/replay"
     try "rust: a library of another version is refused" \
         rust_passes 1 "$room/version" --test refused -- --ignored another_version
     try "rust: an unknown kind is refused" \
@@ -268,33 +301,62 @@ all() {
     try "python: its tests" python_passes 24
     try "python: three_words prints what is stored" python_prints
     try "python: replay answers as is stored" answers python replay.py
+    try "python: replay refuses a line with more" refuses_lines python replay.py
     try "python: the structs and constants are those of rrs.h" python_has_layouts
-    finish 42
+    finish 46
+}
+
+# Calls that do more than they may: one writes a text where there is room for it, and none for the 0
+# behind it, and one gives an illegal instruction an immediate
+make_wrong_calls() {
+    cat >"$room/calls.c" <<'C'
+#include <string.h>
+#include "rrs.h"
+size_t wrong_disassemble(uint32_t word, uint32_t pc, char *text, size_t size);
+rrs_instruction wrong_decode(uint32_t word);
+#undef rrs_disassemble
+#undef rrs_decode
+size_t rrs_disassemble(uint32_t word, uint32_t pc, char *text, size_t size);
+rrs_instruction rrs_decode(uint32_t word);
+size_t wrong_disassemble(uint32_t word, uint32_t pc, char *text, size_t size) {
+    char own[RRS_TEXT_SIZE] = {0};
+    size_t length = rrs_disassemble(word, pc, own, sizeof own);
+    memcpy(text, own, length < size ? length + 1 : length == size ? length : 0);
+    return length;
+}
+rrs_instruction wrong_decode(uint32_t word) {
+    rrs_instruction fields = rrs_decode(word);
+    if (fields.row == 0) fields.imm = 1;
+    return fields;
+}
+C
 }
 
 # What is small, with something wrong in it: nothing, answers, lines, layouts, assertions, names,
-# asks, state or tries
+# asks, state, disassemble, decode or tries
 wrong() {
+    local more=()
     checks=-O0
     gather_questions || exit 2
-    sed -i '40,$d' "$room/questions"
-    sed -i '40,$d' "$room/answers"
+    # some of each of the two files
+    sed -i '21,3402d;3422,$d' "$room/questions" "$room/answers"
     echo 'void rrs_more(void) {}' >"$room/names.c"
     echo '__attribute__((used)) static int state = 1;' >"$room/state.c"
     printf 'int printf(const char *, ...);\n%s static void more(void) { printf("more"); }\n' \
         '__attribute__((used))' >"$room/asks.c"
     case $1 in
-    answers) sed -i '39s/.$/9/' "$room/answers" ;;
+    answers) sed -i '39s/.$/#/' "$room/answers" ;;
     lines) sed -i '39d' "$room/answers" ;;
     layouts) sed 's/^RRS_STORE 2$/RRS_STORE 3/' "$layouts" >"$room/wrong" &&
         layouts=$room/wrong ;;
     assertions) grep -v 'fault_word' "$header" >"$room/rrs.h" && header=$room/rrs.h ;;
     names | asks | state) cp "$library" "$room/wrong.a" && library=$room/wrong.a &&
         gcc -c -o "$room/more.o" "$room/$1.c" && ar r "$library" "$room/more.o" ;;
+    disassemble | decode) make_wrong_calls && more=("$room/calls.c") && checks+=" -Drrs_$1=wrong_$1" ;;
     esac
     try "rrs.h has the stored layouts and constants, in C" header_has "gcc -std=c99 -x c"
     try "rrs.h asserts each layout" asserts_all
-    try "replay, as C99" build "gcc -std=c99 -x c" replay "$here/c/replay.c"
+    try "replay, as C99" build "gcc -std=c99 -x c" replay "$here/c/replay.c" "${more[@]}"
     try "replay, as C99, answers as is stored" answers "$room/replay"
     try "the names of the library" has_names
     [ "$1" != tries ] || tries=4
@@ -304,7 +366,7 @@ wrong() {
 # Each wrong subject must be seen, and the right one must pass.
 self_test() {
     local what status
-    for what in nothing answers lines layouts assertions names asks state tries; do
+    for what in nothing answers lines layouts assertions names asks state disassemble decode tries; do
         status=0
         "$here/check.sh" --wrong "$what" >"$room/seen" 2>&1 || status=$?
         case $what:$status in

@@ -10,7 +10,7 @@
 #define UART 0x10000000u
 #define RAM 0x80000000u
 #define RAM_SIZE 256u
-#define WORD 124 /* the offset of a word of RAM that the program stores to */
+#define WORD (RAM_SIZE - 4) /* the offset of the last word of RAM, which the program stores to */
 
 /* As a 16550 has them: the data at offset 0, and the line status at 5. */
 enum { DATA = 0, STATUS = 5, RECEIVED = 0x01, READY = 0x20 };

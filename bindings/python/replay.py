@@ -47,6 +47,8 @@ class State:
     """The words of a question, and the machine that has a part of them."""
 
     def __init__(self, words, place=None):
+        if len(words) != 4:
+            raise ValueError(f"no state: {words}")
         pc, last, registers, memory = map(value_of, words, ("pc", "last", "regs", "mem"))
         self.words = words_of(memory)
         self.first, base, count = 0, 0, len(self.words)

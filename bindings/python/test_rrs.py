@@ -227,25 +227,29 @@ class Faces(unittest.TestCase):
 
     def test_an_executable_is_loaded_where_it_says(self):
         words = [0x00108093, 0x0000A103]  # addi x1, x1, 1; lw x2, (x1)
-        head = struct.pack("<16sHHIIIIIHHHHHH", b"\x7fELF\1\1\1", 2, 243, 1, 0x12344, 52, 0, 0, 52,
-                           32, 1, 0, 0, 0)
-        body = struct.pack("<8I", 1, 84, 0x12340, 0, 8, 16, 5, 4) + struct.pack("<2I", *words)
+        head = struct.pack("<16sHHIIIIIHHHHHH", b"\x7fELF\1\1\1", 2, 243, 1, 0x12F44, 52, 128, 0, 52,
+                           32, 1, 40, 3, 0)
+        body = struct.pack("<8I", 1, 84, 0x12F40, 0, 8, 13, 5, 4) + struct.pack("<2I", *words)
+        # a function whose name is no UTF-8
+        body += struct.pack("<16xIIIBBH4s", 1, 0x12F44, 4, 0x12, 0, 1, b"\0f\xff")
+        body += struct.pack("<40x20I", 0, 2, 0, 0, 92, 32, 2, 1, 4, 16, 0, 3, 0, 0, 124, 4, 0, 0, 1, 0)
         with tempfile.NamedTemporaryFile() as file:
             file.write(head + body)
             file.flush()
             machine = Machine.from_elf(file.name)
             larger = Machine.from_elf(file.name, size=4096)
-        self.assertEqual((machine.base, machine.pc, len(machine.memory)), (0x12000, 0x12344, 212))
-        self.assertEqual(machine.memory[208:], [*words, 0, 0])
+        self.assertEqual((machine.base, machine.pc, len(machine.memory)), (0x12000, 0x12F44, 980))
+        self.assertEqual(machine.memory[976:], [*words, 0, 0])
         self.assertEqual((len(larger.memory), sum(machine.memory)), (4096, sum(words)))
-        self.assertIsNone(machine.elf.function_at(0x12344))
-        self.assertEqual(machine.elf.segments, [rrs.Segment(0x12340, 16, 84, 8, 5)])
+        self.assertIsNone(machine.elf.function_at(0x12F40))
+        self.assertEqual(machine.elf.function_at(0x12F47), ("f\udcff", 3, True))
+        self.assertEqual(machine.elf.segments, [rrs.Segment(0x12F40, 13, 84, 8, 5)])
         with self.assertRaises(rrs.ElfError) as caught:
             rrs.Elf(b"none")
         self.assertEqual(caught.exception.refusal, "NOT_ELF")
         with self.assertRaises(rrs.ElfError) as caught:
-            machine.elf.load(Machine([0], base=0x12340))
-        self.assertEqual((caught.exception.refusal, caught.exception.number), ("NOT_IN_WORDS", 0x12344))
+            machine.elf.load(Machine([0], base=0x12F40))
+        self.assertEqual((caught.exception.refusal, caught.exception.number), ("NOT_IN_WORDS", 0x12F44))
 
     def test_csrs_begin_at_reset_and_a_copy_shares_nothing(self):
         csrs = rrs.Csrs()
@@ -315,9 +319,10 @@ class Libraries(unittest.TestCase):
     def test_the_library_of_the_repository_is_the_default(self):
         lines = "try:\n import rrs\n print(rrs._lib._name)\nexcept ImportError as e: print(e)"
         default = Path(rrs.__file__).resolve().parents[2] / "crates/rrs_c/out/librrs.so"
-        status, printed, _ = self.run_over(None, lines)
-        self.assertEqual(status, 0)
-        self.assertIn(str(default), printed)
+        for library in (None, ""):
+            status, printed, _ = self.run_over(library, lines)
+            self.assertEqual(status, 0)
+            self.assertIn(str(default), printed)
 
     def test_an_unknown_kind_is_an_error(self):
         folder = os.environ["RRS_REFUSED"]

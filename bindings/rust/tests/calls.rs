@@ -1,6 +1,8 @@
 //! What this crate does beside the calls of the library, which `examples/replay.rs` compares.
 
-use rrs::{decode, disassemble, version, Csrs, Fault, Hart, Inputs, Memory, Text, VERSION};
+use rrs::{
+    decode, disassemble, version, Csrs, ElfRefusal, Fault, Hart, Inputs, Memory, Text, VERSION,
+};
 
 /// A hart at an address.
 fn hart_at(pc: u32) -> Hart {
@@ -23,6 +25,8 @@ fn faults_have_texts() {
     }
     let error: &dyn std::error::Error = &cases[0].0;
     assert!(error.source().is_none());
+    let refused = ElfRefusal { refusal: 20, number: 1, other: 2 };
+    assert_eq!(refused.to_string(), "no executable: refusal 20, 1, 2");
 }
 
 #[test]

@@ -2,8 +2,8 @@
 //! version, and one whose exceptions and accesses have an unknown kind.
 
 use rrs::{
-    decode, disassemble, field_name, register_name, row_name, Change, Csrs, Fault, Hart, Inputs,
-    Memory,
+    decode, disassemble, field_name, register_name, row_name, Change, Csrs, Elf, Fault, Hart,
+    Inputs, Memory,
 };
 use std::panic::{catch_unwind, UnwindSafe};
 
@@ -46,6 +46,7 @@ fn all_said() -> (Vec<String>, Vec<String>) {
         said(|| void(Csrs::new())),
         said(|| void(Csrs::default().read(0, Inputs::default()))),
         said(|| void(Csrs::default().write(0, 0))),
+        said(|| void(Elf::parse(&[]))),
     ];
     (faults, others)
 }
@@ -66,5 +67,5 @@ fn an_unknown_kind_is_no_success() {
     for text in &faults {
         assert!(text.contains("unknown kind 9"), "it said {text}");
     }
-    assert_eq!(others, ["nothing"; 10]);
+    assert_eq!(others, ["nothing"; 11]);
 }
