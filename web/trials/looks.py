@@ -352,6 +352,16 @@ def theme(machine):
     same("the colours", {False: [light, darker, light], True: [light, darker, light]}, colours)
     page.prefer(False)
     page.ask("document.documentElement.removeAttribute('data-theme')")
+    grounds = page.ask("""["end", "done", "wait"].map((kind) => {
+        const state = document.getElementById("state").cloneNode();
+        state.className = `state ${kind}`;
+        document.body.append(state);
+        const { backgroundColor } = getComputedStyle(state);
+        state.remove();
+        return backgroundColor;
+    })""")
+    same("the ground of an end, of a program that is done, and of one that waits",
+         ["rgb(253, 228, 226)", "rgb(205, 240, 218)", "rgb(227, 235, 253)"], grounds)
 
 
 def picture(browser, path):

@@ -225,6 +225,15 @@ def links(machine):
     page.wait("document.querySelector('#shared-note').textContent.endsWith('clipboard.')")
     same("what is on the clipboard", link, page.ask("navigator.clipboard.readText()"))
     page.click("#shared [data-close]")
+    words = [f"{0x9E3779B1 * number % 2**32:08x}" for number in range(1500)]
+    follow(machine, link_to("\n".join(words)))
+    machine.keys("l")
+    page.wait("document.querySelector('#shared').open")
+    length = page.ask("document.querySelector('#link').value.length")
+    same("the note of a long one", f"{length:,} characters. Some programs that send mail cut such a "
+         "long one. It leads to a file of this computer: put the page on a server to send it.",
+         page.text("#shared-note"))
+    page.click("#shared [data-close]")
     machine.choose("gcd")
     follow(machine, link)
     same("the program", ["Program of the link", "go: 00a00513 # ten\n05d00893 00000073", ""],

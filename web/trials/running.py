@@ -381,7 +381,10 @@ def pace(machine):
     made, seconds = machine.steps(), time.monotonic() - begun
     if made > 16 * seconds + 2:
         raise Differs(f"at 16 steps a second {made} were made in {seconds:.1f} s")
-    machine.keys("+++++")
+    for what, keys, speed in (("slowest", "---", "1/s"), ("fastest", "+++++++", "full")):
+        machine.keys(keys)
+        same(f"the {what} speed", speed, machine.page.ask(
+            "document.querySelector('#speed').selectedOptions[0]?.text"))
     return f"at full speed it answers in {1000 * slowest:.0f} ms"
 
 

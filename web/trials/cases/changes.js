@@ -46,6 +46,7 @@ function changesThereAndBack(report, page, kit) {
   machine.setRegister(5, 200);
   machine.setMemory(0x2004, 0x12345678, 4);
   machine.setMemory(0x2005, 0xff, 1);
+  machine.setMemory(0x2000, 9, 4);
   report.same("what was changed", [200, 0x1234ff78], [kit.x[5], kit.words[0x801]]);
   machine.step();
   machine.step();
@@ -54,7 +55,7 @@ function changesThereAndBack(report, page, kit) {
   machine.stepBack();
   report.same("the pc, a step back", [8, 0], [kit.pc, kit.x[6]]);
   machine.stepBack();
-  report.same("before the store", [0, 200, 0x1234ff78],
+  report.same("before the store", [9, 200, 0x1234ff78],
     [kit.words[0x800], kit.x[5], kit.words[0x801]]);
   machine.stepBack();
   report.same("before the change", states[0], digest(machine));

@@ -78,6 +78,9 @@ function rowsThereAndBack(report, page, kit) {
   report.same("how many are counted", words.length - 1, total);
   const of = Object.fromEntries(machine.counts().map(({ name, count }) => [name, count]));
   report.same("some counts", [9, 1, 2, 1], [of.lui, of.mul, of.sw, of.ecall]);
+  const listed = Object.entries(of);
+  const sorted = [...listed].sort(([a, m], [b, n]) => n - m || (a < b ? -1 : 1));
+  report.same("most first, and those of the same count by their names", sorted, listed);
 }
 
 /* What the record of the latest step says. */

@@ -35,8 +35,12 @@ function numbers(report, page) {
   report.cases("labels of a word", [
     [[], ""], [["a", "b"], "a, b"], [[long], `${"x".repeat(60)}…`],
     [["1", "2", "3", "4", "5", "6", "7", "8"], "1, 2, 3, 4, 5, 6, 7, 8"],
+    [["1", "2", "3", "4", "5", "6", "7", "8", "9"], "1, 2, 3, 4, 5, 6, 7, 8, 1 more"],
     [["1", "2", "3", "4", "5", "6", "7", "8", "9", "10"], "1, 2, 3, 4, 5, 6, 7, 8, 2 more"],
   ], page.labelsShown);
+  const kit = { base: 16, bytes: Uint8Array.of(0, 31, 32, 126, 127, 65) };
+  report.same("letters of memory", "· ~·", page.MemoryView.prototype.lettersAt.call(
+    { session: { machine: { kit } }, rowBytes: 4 }, 17));
 }
 
 function groups(report, page) {
