@@ -2,3 +2,4 @@ pub mod BreakLemmas
 pub mod PacketLemmas
 pub mod ShownLemmas
 pub mod WatchLemmas
+pub mod SessionLemmas

@@ -1,5 +1,5 @@
--- What a packet is, what shows the machine, and where a run stops. Definitions that contracts here
--- cite are passed on.
+-- What a packet is, what shows the machine, where a run stops, and what a packet may change.
+-- Definitions that contracts here cite are passed on.
 pub use Rattle.rrs_lib.specs.Bytes
 pub use Rattle.rrs_lib.specs.Machine
 pub use Rattle.rrs_lib.specs.Executor
@@ -10,3 +10,4 @@ pub use Rattle.hex.specs.Hex
 pub mod Packets
 pub mod Shown
 pub mod Breaks
+pub mod Sessions

@@ -1,6 +1,6 @@
 //! Where a run stops.
 
-ghost use Rattle.std.specs.Prelude.{◌≡◌, ◌≤◌, Contains, MatchOption, Ok};
+ghost use Rattle.std.specs.Prelude.{◌≡◌, ◌≤◌, Contains, MatchOption, Ok, OnErr};
 ghost use Rattle.std.specs.Bool.{OnTrue, OnFalse};
 ghost use Rattle.rrs_lib.specs.Bytes.{width};
 ghost use Rattle.rrs_lib.specs.Executor.{state_in, KeepsTheRest};
@@ -106,7 +106,14 @@ impl Breaks {
     }
 
     /// Sets a breakpoint, if it isn't set already.
-    pub fn set_stop(&mut self, address: u32) -> Result<(), AllocError> {
+    ///
+    /// # Errors
+    ///
+    /// Out of memory. Then the breakpoints are as they were.
+    pub fn set_stop(&mut self, address: u32) -> Result<(), AllocError>
+        ensures watches { self.new.watches.items ≡ self.old.watches.items }
+        ensures none { OnErr result (self.new.stops.items ≡ self.old.stops.items) }
+    {
         if !self.stops.contains(&address) {
             self.stops.push(address)?;
         }
@@ -114,12 +121,21 @@ impl Breaks {
     }
 
     /// Removes a breakpoint, if it is set.
-    pub fn remove_stop(&mut self, address: u32) {
+    pub fn remove_stop(&mut self, address: u32)
+        ensures watches { self.new.watches.items ≡ self.old.watches.items }
+    {
         self.stops.retain(|stop| *stop != address);
     }
 
     /// Sets a watchpoint, if it isn't set already.
-    pub fn set_watch(&mut self, watch: Watch) -> Result<(), AllocError> {
+    ///
+    /// # Errors
+    ///
+    /// Out of memory. Then the watchpoints are as they were.
+    pub fn set_watch(&mut self, watch: Watch) -> Result<(), AllocError>
+        ensures stops { self.new.stops.items ≡ self.old.stops.items }
+        ensures none { OnErr result (self.new.watches.items ≡ self.old.watches.items) }
+    {
         if !self.watches.contains(&watch) {
             self.watches.push(watch)?;
         }
@@ -127,7 +143,9 @@ impl Breaks {
     }
 
     /// Removes a watchpoint, if it is set.
-    pub fn remove_watch(&mut self, watch: Watch) {
+    pub fn remove_watch(&mut self, watch: Watch)
+        ensures stops { self.new.stops.items ≡ self.old.stops.items }
+    {
         self.watches.retain(|other| *other != watch);
     }
 }

@@ -31,5 +31,5 @@ pub use forward::{ForwardEnd, ForwardReason, go_forward};
 pub use framing::{PacketError, decode, encode};
 pub use link::{Link, LinkError};
 pub use registers::{REGISTERS, push_register, push_registers, write_register, write_registers};
-pub use session::{SessionEnd, serve};
+pub use session::{Next, SessionEnd, answer_to, serve};
 pub use state::{SessionState, Settings};

@@ -1,5 +1,7 @@
 //! The packets that ask, and those that set how the session goes on.
 
+ghost use Rattle.rrs_gdb.specs.Sessions.{BreaksKept, SessionKept};
+
 use crate::framing::push_hex;
 use crate::numbers::{address_and_length, behind, cut, cut_or_all, decimal_of, number_of};
 use crate::state::{Caught, SessionState, push_text};
@@ -50,7 +52,9 @@ pub(crate) fn catch_calls(
     alloc: Global,
     state: &mut SessionState<'_>,
     asked: &[u8],
-) -> Result<bool, AllocError> {
+) -> Result<bool, AllocError>
+    ensures { SessionKept state.old state.new }
+{
     let (word, mut rest) = cut_or_all(asked, b';');
     let mut caught = Caught {
         are_all: rest.is_empty() && word == b"1".as_slice(),
@@ -101,7 +105,9 @@ fn set_stop_at_exit(
     state: &mut SessionState<'_>,
     reply: &mut Vec<u8>,
     word: &[u8],
-) -> Result<(), AllocError> {
+) -> Result<(), AllocError>
+    ensures { BreaksKept state.old state.new }
+{
     match word {
         b"on" => state.settings.stops_at_exit = true,
         b"off" => state.settings.stops_at_exit = false,
@@ -124,7 +130,9 @@ fn monitor(
     state: &mut SessionState<'_>,
     reply: &mut Vec<u8>,
     command: &[u8],
-) -> Result<(), AllocError> {
+) -> Result<(), AllocError>
+    ensures { BreaksKept state.old state.new }
+{
     let (word, argument) = cut_or_all(command, b' ');
     match (word, decimal_of(argument)) {
         (b"stop-at-exit", _) => set_stop_at_exit(state, reply, argument),
@@ -152,7 +160,9 @@ fn command(
     state: &mut SessionState<'_>,
     reply: &mut Vec<u8>,
     digits: &[u8],
-) -> Result<(), AllocError> {
+) -> Result<(), AllocError>
+    ensures { BreaksKept state.old state.new }
+{
     match hex::decode(alloc, digits) {
         Ok(command) => monitor(alloc, state, reply, &command),
         Err(_) => push_text(reply, INVALID),
@@ -165,7 +175,9 @@ pub(crate) fn query(
     state: &mut SessionState<'_>,
     reply: &mut Vec<u8>,
     asked: &[u8],
-) -> Result<(), AllocError> {
+) -> Result<(), AllocError>
+    ensures { BreaksKept state.old state.new }
+{
     if let Some(asked) = behind(asked, b"Xfer:") {
         return transfer(state, reply, asked);
     }

@@ -94,6 +94,7 @@ pub fn write_register(hart: &mut HartState, number: u32, value: u32) -> bool
         (state_of hart.new bytes writable
         ≡ with_register (state_of hart.old bytes writable) number value) }
     ensures found { OnTrue result ((1 ≤ number) × (number ≤ 32)) }
+    ensures last { hart.new.last_register_write ≡ hart.old.last_register_write }
     ensures none { OnFalse result (hart.new ≡ hart.old) }
     ensures entry_zero { slice_index hart.new.registers 0 ≡ slice_index hart.old.registers 0 }
 {

@@ -1,5 +1,9 @@
 //! The program goes on, forward and back.
 
+ghost use Rattle.std.specs.Prelude.{Contains, IfNone, IfOk, MatchOption, OnOk};
+ghost use Rattle.rrs_lib.specs.Executor.{state_in};
+ghost use Rattle.rrs_gdb.specs.Sessions.{CallMade, CallStops, GoesOn, OutputTaken, PlacesKept};
+
 use crate::back::{BackEnd, go_back};
 use crate::forward::{ForwardEnd, ForwardReason, go_forward};
 use crate::framing::push_hex;
@@ -53,7 +57,9 @@ fn send_new<R: Read, W: Write>(
     state: &mut SessionState<'_>,
     link: &mut Link<R, W>,
     bytes: &[u8],
-) -> Result<(), LinkError> {
+) -> Result<(), LinkError>
+    ensures { PlacesKept state.old state.new }
+{
     let known = state.sent.saturating_sub(state.made);
     state.made = state.made.saturating_add(bytes.len() as u64);
     if known >= bytes.len() as u64 {
@@ -68,7 +74,10 @@ fn send_made<R: Read, W: Write>(
     state: &mut SessionState<'_>,
     environment: &mut OutputRecorder<'_>,
     link: &mut Link<R, W>,
-) -> Result<(), LinkError> {
+) -> Result<(), LinkError>
+    ensures places { PlacesKept state.old state.new }
+    ensures taken { OnOk result (OutputTaken environment.old environment.new) }
+{
     send_new(state, link, &environment.output)?;
     environment.output.clear();
     send_new(state, link, &environment.errors)?;
@@ -77,7 +86,9 @@ fn send_made<R: Read, W: Write>(
 }
 
 /// Whether a stop comes before the call at the pc is made.
-fn stop_before(state: &mut SessionState<'_>, number: u32) -> Option<Stop> {
+fn stop_before(state: &mut SessionState<'_>, number: u32) -> Option<Stop>
+    ensures { PlacesKept state.old state.new }
+{
     if state.catches(number) && !state.has_entered {
         state.has_entered = true;
         return Some(Stop::Entry(number));
@@ -91,7 +102,10 @@ fn stop_before(state: &mut SessionState<'_>, number: u32) -> Option<Stop> {
 }
 
 /// Whether a stop comes behind a call that was made.
-fn stop_behind(state: &mut SessionState<'_>, number: u32, pc: u32) -> Option<Stop> {
+fn stop_behind(state: &mut SessionState<'_>, number: u32, pc: u32) -> Option<Stop>
+    ensures places { PlacesKept state.old state.new }
+    ensures none { IfNone result (Contains state.old.breaks.stops.items pc → ⊥) }
+{
     if state.has_entered {
         state.has_entered = false;
         return Some(Stop::Return(number));
@@ -108,7 +122,14 @@ fn make_call<M: Memory, R: Read, W: Write>(
     executor: &mut InstructionExecutor<M>,
     environment: &mut OutputRecorder<'_>,
     link: &mut Link<R, W>,
-) -> Result<Option<Stop>, LinkError> {
+) -> Result<Option<Stop>, LinkError>
+    ensures places { PlacesKept state.old state.new }
+    ensures made { IfOk result (λ stop. MatchOption stop
+        (CallMade state.old.breaks.stops.items environment.old (state_in M.bytes M.writable executor.old)
+        environment.new (state_in M.bytes M.writable executor.new))
+        (λ stop. CallStops environment.old (state_in M.bytes M.writable executor.old)
+        environment.new (state_in M.bytes M.writable executor.new))) }
+{
     let number = executor.hart_state.read_register(17);
     if let Some(stop) = stop_before(state, number) {
         return Ok(Some(stop));
@@ -147,7 +168,13 @@ fn forward<M: Memory, R: Read, W: Write>(
     link: &mut Link<R, W>,
     limit: u64,
     at_limit: Stop,
-) -> Result<Stop, LinkError> {
+) -> Result<Stop, LinkError>
+    ensures places { PlacesKept state.old state.new }
+    ensures goes_on { OnOk result (GoesOn state.old.breaks.stops.items
+        state.old.breaks.watches.items
+        environment.new (state_in M.bytes M.writable executor.new)
+        limit environment.old (state_in M.bytes M.writable executor.old)) }
+{
     let mut left = limit;
     'legs: while left > 0 {
         let ForwardEnd { steps, reason } = go_forward(
@@ -178,7 +205,13 @@ pub(crate) fn step<M: Memory, R: Read, W: Write>(
     executor: &mut InstructionExecutor<M>,
     environment: &mut OutputRecorder<'_>,
     link: &mut Link<R, W>,
-) -> Result<(), LinkError> {
+) -> Result<(), LinkError>
+    ensures places { PlacesKept state.old state.new }
+    ensures goes_on { OnOk result (GoesOn state.old.breaks.stops.items
+        state.old.breaks.watches.items
+        environment.new (state_in M.bytes M.writable executor.new)
+        1 environment.old (state_in M.bytes M.writable executor.old)) }
+{
     let stop = forward(state, executor, environment, link, 1, Stop::Signal(TRAPPED))?;
     state.stop = stop;
     Ok(())
@@ -190,7 +223,13 @@ pub(crate) fn proceed<M: Memory, R: Read, W: Write>(
     executor: &mut InstructionExecutor<M>,
     environment: &mut OutputRecorder<'_>,
     link: &mut Link<R, W>,
-) -> Result<(), LinkError> {
+) -> Result<(), LinkError>
+    ensures places { PlacesKept state.old state.new }
+    ensures goes_on { OnOk result (GoesOn state.old.breaks.stops.items
+        state.old.breaks.watches.items
+        environment.new (state_in M.bytes M.writable executor.new)
+        state.old.settings.limit environment.old (state_in M.bytes M.writable executor.old)) }
+{
     let limit = state.settings.limit;
     let stop = forward(
         state,
@@ -205,7 +244,9 @@ pub(crate) fn proceed<M: Memory, R: Read, W: Write>(
 }
 
 /// Gives the environment what it had before the call that was taken back.
-fn take_call_back<'a>(state: &mut SessionState<'a>, environment: &mut OutputRecorder<'a>) {
+fn take_call_back<'a>(state: &mut SessionState<'a>, environment: &mut OutputRecorder<'a>)
+    ensures { PlacesKept state.old state.new }
+{
     if let Some(mark) = state.calls.pop_front() {
         let input = state.input;
         let start = input.len().saturating_sub(mark.left);
@@ -221,7 +262,9 @@ fn backward<'a, M: Memory>(
     executor: &mut InstructionExecutor<M>,
     environment: &mut OutputRecorder<'a>,
     limit: u64,
-) -> Stop {
+) -> Stop
+    ensures { PlacesKept state.old state.new }
+{
     state.has_entered = false;
     state.has_told_exit = false;
     let mut left = limit;
@@ -246,7 +289,9 @@ pub(crate) fn step_backward<'a, M: Memory>(
     state: &mut SessionState<'a>,
     executor: &mut InstructionExecutor<M>,
     environment: &mut OutputRecorder<'a>,
-) {
+)
+    ensures { PlacesKept state.old state.new }
+{
     let stop = backward(state, executor, environment, 1);
     state.stop = stop;
 }
@@ -256,7 +301,9 @@ pub(crate) fn go_backward<'a, M: Memory>(
     state: &mut SessionState<'a>,
     executor: &mut InstructionExecutor<M>,
     environment: &mut OutputRecorder<'a>,
-) {
+)
+    ensures { PlacesKept state.old state.new }
+{
     let stop = backward(state, executor, environment, u64::MAX);
     state.stop = stop;
 }

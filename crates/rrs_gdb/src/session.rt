@@ -1,5 +1,11 @@
 //! The packets of a session, and their answers.
 
+ghost use Rattle.std.specs.Prelude.{◌≡◌, ◌≢◌, ◌⊎◌, ℕ, ◌≤◌, IfOk, IfSome, OnOk, length, slice_index};
+ghost use Rattle.std.specs.Bool.{OnTrue, OnFalse};
+ghost use Rattle.rrs_lib.specs.Executor.{state_in};
+ghost use Rattle.rrs_gdb.specs.declared.session.Going.{Going};
+ghost use Rattle.rrs_gdb.specs.Sessions.{letter, BreaksKept, BreaksNone, GoesBy, GoesOnFrom, GoesOnOrStays, HasLetter, ChangesMemory, ChangesNone, ChangesRegister, IsError, MemoryKept, PlacesKept, RegistersKept, RunsNone, SessionKept, SettingsKept};
+
 use crate::breaks::{Watch, WatchKind};
 use crate::contents::{read_memory, write_memory};
 use crate::framing::push_hex;
@@ -27,7 +33,7 @@ pub enum SessionEnd {
 
 /// What follows a packet.
 #[derive(Clone, Copy, Debug, PartialEq)]
-enum Next {
+pub enum Next {
     /// The answer is sent.
     Reply,
     /// The answer is sent, and the session ends.
@@ -50,8 +56,13 @@ enum Going {
 }
 
 /// Appends the answer of a change that is done, or can't be.
-fn push_done(reply: &mut Vec<u8>, is_done: bool, error: &[u8]) -> Result<(), AllocError> {
-    push_text(reply, if is_done { b"OK" } else { error })
+fn push_done(reply: &mut Vec<u8>, is_done: bool, error: &[u8]) -> Result<(), AllocError>
+    ensures { OnOk result (OnTrue is_done (IsError reply.old.items reply.new.items → ⊥)) }
+{
+    if is_done {
+        return push_text(reply, b"OK");
+    }
+    push_text(reply, error)
 }
 
 /// `G`: changes all registers.
@@ -59,7 +70,12 @@ fn change_registers<M: Memory>(
     alloc: Global,
     executor: &mut InstructionExecutor<M>,
     digits: &[u8],
-) -> bool {
+) -> bool
+    ensures kept { MemoryKept (state_in M.bytes M.writable executor.old)
+        (state_in M.bytes M.writable executor.new) }
+    ensures none { OnFalse result (state_in M.bytes M.writable executor.new
+        ≡ state_in M.bytes M.writable executor.old) }
+{
     match hex::decode(alloc, digits) {
         Ok(bytes) => write_registers(executor.hart_state, &bytes),
         Err(_) => false,
@@ -76,7 +92,12 @@ fn register_and_value(text: &[u8]) -> Option<(u32, u32)> {
 }
 
 /// `P`: changes a register.
-fn change_register<M: Memory>(executor: &mut InstructionExecutor<M>, text: &[u8]) -> bool {
+fn change_register<M: Memory>(executor: &mut InstructionExecutor<M>, text: &[u8]) -> bool
+    ensures kept { MemoryKept (state_in M.bytes M.writable executor.old)
+        (state_in M.bytes M.writable executor.new) }
+    ensures none { OnFalse result (state_in M.bytes M.writable executor.new
+        ≡ state_in M.bytes M.writable executor.old) }
+{
     match register_and_value(text) {
         Some((number, value)) => write_register(executor.hart_state, number, value),
         None => false,
@@ -89,7 +110,10 @@ fn show_memory<M: Memory>(
     executor: &mut InstructionExecutor<M>,
     reply: &mut Vec<u8>,
     place: &[u8],
-) -> Result<(), AllocError> {
+) -> Result<(), AllocError>
+    ensures { state_in M.bytes M.writable executor.new
+        ≡ state_in M.bytes M.writable executor.old }
+{
     let Some((address, length)) = address_and_length(place) else {
         return push_text(reply, INVALID);
     };
@@ -110,14 +134,25 @@ fn change_memory<M: Memory>(
     address: u32,
     length: u32,
     bytes: &[u8],
-) -> Result<bool, AllocError> {
+) -> Result<bool, AllocError>
+    ensures kept { RegistersKept (state_in M.bytes M.writable executor.old)
+        (state_in M.bytes M.writable executor.new) }
+    ensures none { IfOk result (λ changed. OnFalse changed
+        (state_in M.bytes M.writable executor.new ≡ state_in M.bytes M.writable executor.old)) }
+    ensures error { IfOk result (λ changed. OnTrue changed
+        (IsError reply.old.items reply.new.items → ⊥)) }
+{
     if bytes.len() != length as usize {
         push_text(reply, INVALID)?;
         return Ok(false);
     }
+    if bytes.is_empty() {
+        push_text(reply, b"OK")?;
+        return Ok(false);
+    }
     let is_done = write_memory(executor.mem, address, bytes);
     push_done(reply, is_done, BAD_ADDRESS)?;
-    Ok(is_done && length > 0)
+    Ok(is_done)
 }
 
 /// `M`.
@@ -126,7 +161,14 @@ fn change_by_digits<M: Memory>(
     executor: &mut InstructionExecutor<M>,
     reply: &mut Vec<u8>,
     text: &[u8],
-) -> Result<bool, AllocError> {
+) -> Result<bool, AllocError>
+    ensures kept { RegistersKept (state_in M.bytes M.writable executor.old)
+        (state_in M.bytes M.writable executor.new) }
+    ensures none { IfOk result (λ changed. OnFalse changed
+        (state_in M.bytes M.writable executor.new ≡ state_in M.bytes M.writable executor.old)) }
+    ensures error { IfOk result (λ changed. OnTrue changed
+        (IsError reply.old.items reply.new.items → ⊥)) }
+{
     let Some((address, length, digits)) = place_and_bytes(text) else {
         push_text(reply, INVALID)?;
         return Ok(false);
@@ -145,7 +187,14 @@ fn change_by_bytes<M: Memory>(
     executor: &mut InstructionExecutor<M>,
     reply: &mut Vec<u8>,
     text: &[u8],
-) -> Result<bool, AllocError> {
+) -> Result<bool, AllocError>
+    ensures kept { RegistersKept (state_in M.bytes M.writable executor.old)
+        (state_in M.bytes M.writable executor.new) }
+    ensures none { IfOk result (λ changed. OnFalse changed
+        (state_in M.bytes M.writable executor.new ≡ state_in M.bytes M.writable executor.old)) }
+    ensures error { IfOk result (λ changed. OnTrue changed
+        (IsError reply.old.items reply.new.items → ⊥)) }
+{
     let Some((address, length, bytes)) = place_and_bytes(text) else {
         push_text(reply, INVALID)?;
         return Ok(false);
@@ -160,7 +209,25 @@ fn inspect<M: Memory>(
     executor: &mut InstructionExecutor<M>,
     reply: &mut Vec<u8>,
     payload: &[u8],
-) -> Result<bool, AllocError> {
+) -> Result<bool, AllocError>
+    ensures places { PlacesKept state.old state.new }
+    ensures asks { ChangesNone payload.now
+        → (state_in M.bytes M.writable executor.new ≡ state_in M.bytes M.writable executor.old)
+        × SessionKept state.old state.new }
+    ensures registers { ChangesRegister payload.now
+        → MemoryKept (state_in M.bytes M.writable executor.old)
+        (state_in M.bytes M.writable executor.new) }
+    ensures memory { ChangesMemory payload.now
+        → RegistersKept (state_in M.bytes M.writable executor.old)
+        (state_in M.bytes M.writable executor.new) }
+    ensures error { OnOk result (IsError reply.old.items reply.new.items
+        → (state_in M.bytes M.writable executor.new ≡ state_in M.bytes M.writable executor.old)
+        × SessionKept state.old state.new) }
+    ensures other { IfOk result (λ is_answered. OnFalse is_answered
+        ((reply.new.items ≡ reply.old.items)
+        × (state_in M.bytes M.writable executor.new ≡ state_in M.bytes M.writable executor.old)
+        × SessionKept state.old state.new)) }
+{
     let mut is_changed = false;
     match payload {
         [b'g'] => push_registers(executor.hart_state, reply)?,
@@ -218,7 +285,11 @@ fn watch_of(kind: u8, address: u32, length: u32) -> Watch {
 }
 
 /// `Z` and `z`: sets or removes a breakpoint or a watchpoint.
-fn change_breaks(state: &mut SessionState<'_>, is_set: bool, text: &[u8]) -> &'static [u8] {
+fn change_breaks(state: &mut SessionState<'_>, is_set: bool, text: &[u8]) -> &'static [u8]
+    ensures settings { SettingsKept state.old state.new }
+    ensures error { slice_index result.now 0 ≡ 69 → BreaksKept state.old state.new }
+    ensures reply { 1 ≤ length result.now }
+{
     let Some((kind, address, length)) = break_of(text) else {
         return INVALID;
     };
@@ -243,7 +314,9 @@ fn change_breaks(state: &mut SessionState<'_>, is_set: bool, text: &[u8]) -> &'s
 
 /// How the program is to go on by an action of `vCont`, or by a packet of its own, with the address
 /// behind it. A signal that is not 0 kills the program.
-fn going_of(action: &[u8]) -> Option<(Going, &[u8])> {
+fn going_of(action: &[u8]) -> Option<(Going, &[u8])>
+    ensures { IfSome result (λ found. HasLetter action.now found.0) }
+{
     let (going, rest) = match action {
         [b'c', rest @ ..] => (Going::Proceed, rest),
         [b's', rest @ ..] => (Going::Step, rest),
@@ -255,7 +328,10 @@ fn going_of(action: &[u8]) -> Option<(Going, &[u8])> {
 }
 
 /// The same behind the letter of a packet with a signal.
-fn signal_and_rest(text: &[u8], going: Going) -> Option<(Going, &[u8])> {
+fn signal_and_rest(text: &[u8], going: Going) -> Option<(Going, &[u8])>
+    ensures { IfSome result (λ found.
+        (found.0 ≡ going) ⊎ ((signal : ℕ) × (found.0 ≡ Going.Killed signal))) }
+{
     let (signal, rest) = cut_or_all(text, b';');
     let signal = number_of(signal)?;
     if signal > 255 {
@@ -275,7 +351,14 @@ fn go<M: Memory, R: Read, W: Write>(
     link: &mut Link<R, W>,
     reply: &mut Vec<u8>,
     going: Going,
-) -> Result<Next, LinkError> {
+) -> Result<Next, LinkError>
+    ensures places { PlacesKept state.old state.new }
+    ensures goes_on { OnOk result (GoesBy going state.old.breaks.stops.items
+        state.old.breaks.watches.items state.old.settings.limit
+        environment.old (state_in M.bytes M.writable executor.old)
+        environment.new (state_in M.bytes M.writable executor.new)) }
+    ensures error { OnOk result (IsError reply.old.items reply.new.items → ⊥) }
+{
     if !matches!(state.stop, Stop::Exited(_) | Stop::Killed(_)) {
         match going {
             Going::Step => step(state, executor, environment, link)?,
@@ -295,7 +378,22 @@ fn go_from<M: Memory, R: Read, W: Write>(
     link: &mut Link<R, W>,
     reply: &mut Vec<u8>,
     payload: &[u8],
-) -> Result<Next, LinkError> {
+) -> Result<Next, LinkError>
+    ensures places { PlacesKept state.old state.new }
+    ensures error { OnOk result (IsError reply.old.items reply.new.items
+        → (state_in M.bytes M.writable executor.new ≡ state_in M.bytes M.writable executor.old)
+        × (environment.new ≡ environment.old) × SessionKept state.old state.new) }
+    ensures step { (letter payload.now ≡ 115) ⊎ (letter payload.now ≡ 83)
+        → OnOk result (GoesOnFrom state.old.breaks.stops.items
+        state.old.breaks.watches.items 1
+        environment.old (state_in M.bytes M.writable executor.old)
+        environment.new (state_in M.bytes M.writable executor.new)) }
+    ensures goes_on { (letter payload.now ≡ 99) ⊎ (letter payload.now ≡ 67)
+        → OnOk result (GoesOnFrom state.old.breaks.stops.items
+        state.old.breaks.watches.items state.old.settings.limit
+        environment.old (state_in M.bytes M.writable executor.old)
+        environment.new (state_in M.bytes M.writable executor.new)) }
+{
     let Some((going, address)) = going_of(payload) else {
         push_text(reply, INVALID)?;
         return Ok(Next::Reply);
@@ -319,7 +417,16 @@ fn go_on<M: Memory, R: Read, W: Write>(
     link: &mut Link<R, W>,
     reply: &mut Vec<u8>,
     actions: &[u8],
-) -> Result<Next, LinkError> {
+) -> Result<Next, LinkError>
+    ensures places { PlacesKept state.old state.new }
+    ensures error { OnOk result (IsError reply.old.items reply.new.items
+        → (state_in M.bytes M.writable executor.new ≡ state_in M.bytes M.writable executor.old)
+        × (environment.new ≡ environment.old) × SessionKept state.old state.new) }
+    ensures goes_on { OnOk result ((limit : ℕ) × GoesOnOrStays state.old.breaks.stops.items
+        state.old.breaks.watches.items limit
+        environment.old (state_in M.bytes M.writable executor.old)
+        environment.new (state_in M.bytes M.writable executor.new)) }
+{
     let (action, _others) = cut_or_all(actions, b';');
     let (action, _thread) = cut_or_all(action, b':');
     match going_of(action) {
@@ -355,7 +462,9 @@ fn run_again(
     state: &mut SessionState<'_>,
     reply: &mut Vec<u8>,
     text: &[u8],
-) -> Result<Next, AllocError> {
+) -> Result<Next, AllocError>
+    ensures { SessionKept state.old state.new }
+{
     let (_name, arguments) = cut_or_all(text, b';');
     let Some(arguments) = arguments_of(alloc, arguments)? else {
         push_text(reply, INVALID)?;
@@ -375,7 +484,16 @@ fn multiletter<M: Memory, R: Read, W: Write>(
     link: &mut Link<R, W>,
     reply: &mut Vec<u8>,
     text: &[u8],
-) -> Result<Next, LinkError> {
+) -> Result<Next, LinkError>
+    ensures places { PlacesKept state.old state.new }
+    ensures error { OnOk result (IsError reply.old.items reply.new.items
+        → (state_in M.bytes M.writable executor.new ≡ state_in M.bytes M.writable executor.old)
+        × (environment.new ≡ environment.old) × SessionKept state.old state.new) }
+    ensures goes_on { OnOk result ((limit : ℕ) × GoesOnOrStays state.old.breaks.stops.items
+        state.old.breaks.watches.items limit
+        environment.old (state_in M.bytes M.writable executor.old)
+        environment.new (state_in M.bytes M.writable executor.new)) }
+{
     if let Some(actions) = behind(text, b"Cont;") {
         return go_on(state, executor, environment, link, reply, actions);
     }
@@ -400,7 +518,9 @@ fn set<R, W>(
     link: &mut Link<R, W>,
     reply: &mut Vec<u8>,
     text: &[u8],
-) -> Result<(), AllocError> {
+) -> Result<(), AllocError>
+    ensures { SessionKept state.old state.new }
+{
     if text == b"StartNoAckMode".as_slice() {
         link.acknowledges = false;
         return push_text(reply, b"OK");
@@ -420,7 +540,10 @@ fn reverse<'a, M: Memory>(
     environment: &mut OutputRecorder<'a>,
     reply: &mut Vec<u8>,
     text: &[u8],
-) -> Result<(), AllocError> {
+) -> Result<(), AllocError>
+    ensures places { PlacesKept state.old state.new }
+    ensures error { OnOk result (IsError reply.old.items reply.new.items → ⊥) }
+{
     match text {
         b"s" => step_backward(state, executor, environment),
         b"c" => go_backward(state, executor, environment),
@@ -435,7 +558,12 @@ fn manage<R, W>(
     link: &mut Link<R, W>,
     reply: &mut Vec<u8>,
     payload: &[u8],
-) -> Result<Next, AllocError> {
+) -> Result<Next, AllocError>
+    ensures breaks { BreaksNone payload.now → BreaksKept state.old state.new }
+    ensures settings { letter payload.now ≢ 113 → SettingsKept state.old state.new }
+    ensures error { letter payload.now ≢ 113 → OnOk result
+        (IsError reply.old.items reply.new.items → SessionKept state.old state.new) }
+{
     match payload {
         [b'?'] => push_stop(link.alloc, reply, state.stop)?,
         [b'!'] => {
@@ -458,15 +586,56 @@ fn manage<R, W>(
     Ok(Next::Reply)
 }
 
-/// Answers a packet.
-fn answer_to<'a, M: Memory, R: Read, W: Write>(
+/// Answers a packet: the answer is appended to `reply`, and output of the program goes to the link.
+///
+/// Only a packet with the letter of a change changes the machine, and only what its letter says
+/// (`asks`, `registers`, `memory`), and only one by which the program goes on or back takes it on.
+/// Breakpoints, watchpoints and settings are changed by the packets that are for them alone
+/// (`breaks`, `settings`), and a packet that is answered by an error changes nothing (`error`).
+///
+/// # Errors
+///
+/// Out of memory, and a write that fails.
+pub fn answer_to<'a, M: Memory, R: Read, W: Write>(
     state: &mut SessionState<'a>,
     executor: &mut InstructionExecutor<M>,
     environment: &mut OutputRecorder<'a>,
     link: &mut Link<R, W>,
     reply: &mut Vec<u8>,
     payload: &[u8],
-) -> Result<Next, LinkError> {
+) -> Result<Next, LinkError>
+    ensures asks { ChangesNone payload.now → RunsNone payload.now
+        → (state_in M.bytes M.writable executor.new ≡ state_in M.bytes M.writable executor.old) }
+    ensures registers { ChangesRegister payload.now
+        → MemoryKept (state_in M.bytes M.writable executor.old)
+        (state_in M.bytes M.writable executor.new) }
+    ensures memory { ChangesMemory payload.now
+        → RegistersKept (state_in M.bytes M.writable executor.old)
+        (state_in M.bytes M.writable executor.new) }
+    ensures step { (letter payload.now ≡ 115) ⊎ (letter payload.now ≡ 83)
+        → OnOk result (GoesOnFrom state.old.breaks.stops.items
+        state.old.breaks.watches.items 1
+        environment.old (state_in M.bytes M.writable executor.old)
+        environment.new (state_in M.bytes M.writable executor.new)) }
+    ensures goes_on { (letter payload.now ≡ 99) ⊎ (letter payload.now ≡ 67)
+        → OnOk result (GoesOnFrom state.old.breaks.stops.items
+        state.old.breaks.watches.items state.old.settings.limit
+        environment.old (state_in M.bytes M.writable executor.old)
+        environment.new (state_in M.bytes M.writable executor.new)) }
+    ensures resumes { letter payload.now ≡ 118 → OnOk result ((limit : ℕ) × GoesOnOrStays state.old.breaks.stops.items
+        state.old.breaks.watches.items limit
+        environment.old (state_in M.bytes M.writable executor.old)
+        environment.new (state_in M.bytes M.writable executor.new)) }
+    ensures environment { RunsNone payload.now → environment.new ≡ environment.old }
+    ensures breaks { BreaksNone payload.now → BreaksKept state.old state.new }
+    ensures settings { letter payload.now ≢ 113 → state.new.settings ≡ state.old.settings }
+    ensures history { ChangesNone payload.now → RunsNone payload.now → letter payload.now ≢ 113
+        → state.new.history ≡ state.old.history }
+    ensures error { letter payload.now ≢ 113 → OnOk result
+        (IsError reply.old.items reply.new.items
+        → (state_in M.bytes M.writable executor.new ≡ state_in M.bytes M.writable executor.old)
+        × (environment.new ≡ environment.old) × SessionKept state.old state.new) }
+{
     if inspect(link.alloc, state, executor, reply, payload)? {
         return Ok(Next::Reply);
     }

@@ -1,5 +1,9 @@
 //! What a session keeps beside the machine.
 
+ghost use Rattle.std.specs.Prelude.{◌≡◌, ◌++◌, ◌∷◌, ℕ, [], List, OnErr, OnOk};
+ghost use Rattle.rrs_history.specs.Histories.{changes};
+ghost use Rattle.rrs_gdb.specs.Sessions.{BreaksKept, IsError, PlacesKept};
+
 use crate::breaks::{Breaks, Watch};
 use crate::framing::push_hex;
 use circular_buffer::HeapCircularBuffer;
@@ -72,9 +76,9 @@ pub(crate) struct Caught {
 #[derive(Drop)]
 pub struct SessionState<'a> {
     /// Where the program stops.
-    pub(crate) breaks: Breaks,
+    pub breaks: Breaks,
     /// The steps that can be taken back.
-    pub(crate) history: History,
+    pub history: History,
     /// What the environment had before each call that is kept, the latest first.
     pub(crate) calls: HeapCircularBuffer<CallMark>,
     /// What `monitor` sets.
@@ -153,7 +157,10 @@ impl<'a> SessionState<'a> {
     }
 
     /// Forgets the history, as after a change that is not kept.
-    pub(crate) fn forget(&mut self) {
+    pub(crate) fn forget(&mut self)
+        ensures kept { PlacesKept self.old self.new }
+        ensures forgotten { changes self.new.history ≡ [] }
+    {
         self.history.clear();
         self.calls.clear();
         self.has_entered = false;
@@ -165,7 +172,10 @@ impl<'a> SessionState<'a> {
     /// # Errors
     ///
     /// Out of memory. Then all is as it was.
-    pub(crate) fn set_history(&mut self, alloc: Global, room: usize) -> Result<(), AllocError> {
+    pub(crate) fn set_history(&mut self, alloc: Global, room: usize) -> Result<(), AllocError>
+        ensures breaks { BreaksKept self.old self.new }
+        ensures none { OnErr result (self.new ≡ self.old) }
+    {
         let history = History::new(alloc, room)?;
         let calls = HeapCircularBuffer::with_capacity(alloc, room)?;
         self.history = history;
@@ -181,33 +191,32 @@ impl<'a> SessionState<'a> {
 }
 
 /// Appends bytes.
-pub(crate) fn push_text(text: &mut Vec<u8>, bytes: &[u8]) -> Result<(), AllocError> {
+pub(crate) fn push_text(text: &mut Vec<u8>, bytes: &[u8]) -> Result<(), AllocError>
+    ensures { OnOk result (text.new.items ≡ text.old.items ++ bytes.now) }
+{
     text.extend_from_slice(bytes)
 }
 
 /// Appends a number as hexadecimal digits.
-pub(crate) fn push_number(
-    alloc: Global,
-    text: &mut Vec<u8>,
-    number: u32,
-) -> Result<(), AllocError> {
+pub(crate) fn push_number(alloc: Global, text: &mut Vec<u8>, number: u32) -> Result<(), AllocError>
+    ensures { OnOk result ((rest : List ℕ) × (text.new.items ≡ text.old.items ++ rest)) }
+{
     let digits = format!(in alloc; "{number:x}")?;
     text.extend_from_slice(digits.as_bytes())
 }
 
 /// Appends a signal or a status behind a letter.
-fn push_code(text: &mut Vec<u8>, letter: u8, code: u8) -> Result<(), AllocError> {
+fn push_code(text: &mut Vec<u8>, letter: u8, code: u8) -> Result<(), AllocError>
+    ensures { OnOk result ((rest : List ℕ) × (text.new.items ≡ text.old.items ++ letter ∷ rest)) }
+{
     text.push(letter)?;
     push_hex(text, code)
 }
 
 /// Appends a stop with a name and a number.
-fn push_named(
-    alloc: Global,
-    text: &mut Vec<u8>,
-    name: &[u8],
-    number: u32,
-) -> Result<(), AllocError> {
+fn push_named(alloc: Global, text: &mut Vec<u8>, name: &[u8], number: u32) -> Result<(), AllocError>
+    ensures { OnOk result ((rest : List ℕ) × (text.new.items ≡ text.old.items ++ 84 ∷ rest)) }
+{
     push_text(text, b"T05")?;
     push_text(text, name)?;
     push_text(text, b":")?;
@@ -216,7 +225,9 @@ fn push_named(
 }
 
 /// Appends where a program stopped, as gdb is told.
-pub(crate) fn push_stop(alloc: Global, text: &mut Vec<u8>, stop: Stop) -> Result<(), AllocError> {
+pub(crate) fn push_stop(alloc: Global, text: &mut Vec<u8>, stop: Stop) -> Result<(), AllocError>
+    ensures { OnOk result (IsError text.old.items text.new.items → ⊥) }
+{
     match stop {
         Stop::Signal(signal) => push_code(text, b'S', signal),
         Stop::Touched(watch) => push_named(alloc, text, watch.name(), watch.address),

@@ -1,4 +1,20 @@
+use Rattle.rrs_lib.specs.Machine.{State}
+use Rattle.rrs_lib.specs.Executor.{state_in}
+use Rattle.rrs_linux.specs.Recording.{Recording}
+use Rattle.rrs_gdb.specs.Sessions.{GoesOn, PlacesKept}
 use Rattle.rrs_gdb.proofs.resume.forward.Given as goal
+
+-- what follows from here within what is left of the limit follows from the first state
+abbrev pub invariant-legs : goal.invariant-legs
+invariant-legs g l =
+    let state = state_in g.M.Memory.bytes g.M.Memory.writable in
+    let stops = l.fn.state.breaks.stops.items in
+    let watches = l.fn.state.breaks.watches.items in
+    record {
+      places : PlacesKept l.fn.state l.state;
+      goes_on : (e' : Recording) (t : State) → GoesOn stops watches e' t l.left l.environment (state l.executor)
+          → GoesOn stops watches e' t l.fn.limit l.fn.environment (state l.fn.executor);
+    }
 
 abbrev pub decreases-legs : goal.decreases-legs
 decreases-legs g l = l.left

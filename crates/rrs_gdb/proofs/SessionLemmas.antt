@@ -1,0 +1,156 @@
+-- What packets leave as it was, and the calls between the runs of a program that goes on.
+use Rattle.std.proofs.Common.{◌≡◌, ◌≢◌, ◌⊎◌, ℕ, List, ◌∷◌, ◌++◌, Bool, Contains, Option, Some, None, Result, Ok, Err, OnOk, IfNone, MatchOption, slice_index, refl, sym, subst, ap, ◌∙◌, inl, inr, arith}
+use Rattle.std.specs.Bool.{OnTrue}
+use Rattle.std.proofs.lemmas.Bool.{OnTrue_from}
+use Rattle.std.proofs.lemmas.List.{append_cancel_left}
+use Rattle.rrs_lib.specs.declared.instruction_executor.InstructionException.{InstructionException}
+use Rattle.rrs_lib.specs.declared.instruction_executor.InstructionException.TheVariants.{EnvironmentCall}
+use Rattle.rrs_lib.specs.Accesses.{Access}
+use Rattle.rrs_lib.specs.Machine.{State, with_pc}
+use Rattle.rrs_linux.specs.Recording.{Recording, Records}
+use Rattle.rrs_history.specs.Calls.{IsServedStep}
+use Rattle.rrs_gdb.specs.declared.breaks.Watch.{Watch}
+use Rattle.rrs_gdb.specs.declared.forward.ForwardReason.{ForwardReason}
+use Rattle.rrs_gdb.specs.declared.forward.ForwardReason.TheVariants.{Limit, Fault}
+use Rattle.rrs_gdb.specs.declared.session.Going.{Going}
+use Rattle.rrs_gdb.specs.declared.session.Going.TheVariants.{Step, Proceed, Killed}
+use Rattle.rrs_gdb.specs.Sessions.{letter, IsError, OutputTaken, CallMade, CallStops, Behind, GoesOn, Runs, GoesBy, GoesOnOrStays, GoesOnFrom, HasLetter}
+use Rattle.rrs_gdb.specs.Breaks.{GoesForward}
+use Rattle.rrs_gdb.proofs.BreakLemmas.{none_stepped}
+use Rattle.rrs_gdb.proofs.WatchLemmas.{none_made}
+
+-- ---- errors
+
+-- what begins with another letter is no error
+no_error : (old new rest : List ℕ) (c : ℕ) → c ≢ 69 → new ≡ old ++ c ∷ rest → IsError old new → ⊥
+no_error old new rest c other is (rest', is') =
+    let same : c ∷ rest ≡ 69 ∷ rest' = append_cancel_left old _ _ (sym is ∙ is') in
+    other (cc)
+
+pub lettered : {A E : Type 0} (r : Result A E) (old new : List ℕ) (c : ℕ) → c ≢ 69
+    → OnOk r ((rest : List ℕ) × (new ≡ old ++ c ∷ rest)) → OnOk r (IsError old new → ⊥)
+lettered (Ok x) old new c other found = no_error old new found.0 c other found.1
+lettered (Err e) old new c other found = tt
+
+pub texted : {A E : Type 0} (r : Result A E) (old new : List ℕ) (c : ℕ) (rest : List ℕ) → c ≢ 69
+    → OnOk r (new ≡ old ++ c ∷ rest) → OnOk r (IsError old new → ⊥)
+texted (Ok x) old new c rest other is = no_error old new rest c other is
+texted (Err e) old new c rest other is = tt
+
+pub texted_if : {A E : Type 0} (r : Result A E) (old new : List ℕ) (c : ℕ) (rest : List ℕ) (is_done : Bool) → c ≢ 69
+    → OnOk r (new ≡ old ++ c ∷ rest) → OnOk r (OnTrue is_done (IsError old new → ⊥))
+texted_if (Ok x) old new c rest is_done other is = OnTrue_from _ _ (λ yes. no_error old new rest c other is)
+texted_if (Err e) old new c rest is_done other is = tt
+
+-- an error begins with its letter
+pub error_letter : (old new text : List ℕ) → new ≡ old ++ text → IsError old new → slice_index text 0 ≡ 69
+error_letter old new text is (rest, is') =
+    ap (λ (xs : List ℕ). slice_index xs 0) (append_cancel_left old _ _ (sym is ∙ is'))
+
+-- ---- a program that goes on
+
+-- nothing is left of a limit
+pub at_limit : (stops : List ℕ) (watches : List Watch) (limit : ℕ) (e : Recording) (s : State) → limit ≡ 0
+    → GoesOn stops watches e s limit e s
+at_limit stops watches limit e s none =
+    Runs limit e s 0 Limit (((sym none, refl), none_stepped stops s), none_made watches s) refl
+
+-- the same breakpoints and watchpoints
+pub same_places : (stops stops' : List ℕ) (watches watches' : List Watch) (limit : ℕ) (s : State) (steps : ℕ)
+    (reason : ForwardReason) (t : State) → stops' ≡ stops → watches' ≡ watches
+    → GoesForward stops' watches' limit s steps reason t → GoesForward stops watches limit s steps reason t
+same_places stops stops' watches watches' limit s steps reason t same same' run =
+    subst (λ (ws : List Watch). GoesForward stops ws limit s steps reason t) same'
+    (subst (λ (xs : List ℕ). GoesForward xs watches' limit s steps reason t) same run)
+
+-- a run to a call
+pub to_call : (stops stops' : List ℕ) (watches watches' : List Watch) (limit : ℕ) (s : State) (steps : ℕ)
+    (reason : ForwardReason) (fault : InstructionException) (pc : ℕ) (t : State) → stops' ≡ stops → watches' ≡ watches
+    → reason ≡ Fault fault → fault ≡ EnvironmentCall pc → GoesForward stops' watches' limit s steps reason t
+    → GoesForward stops watches limit s steps (Fault (EnvironmentCall pc)) t
+to_call stops stops' watches watches' limit s steps reason fault pc t same same' is is' run =
+    subst (λ (r : ForwardReason). GoesForward stops watches limit s steps r t) (is ∙ ap Fault is')
+    (same_places stops stops' watches watches' limit s steps reason t same same' run)
+
+-- a call that is made, and a stop behind it or none
+pub call_made : {A : Type 0} (stops stops' : List ℕ) (e after e' : Recording) (m t : State) (accesses : List Access)
+    (end : Option ℕ) (answer : Option A) → end ≡ None → IsServedStep Records e m (Ok end) after t accesses
+    → OutputTaken after e' → stops' ≡ stops → IfNone answer (Contains stops' t.pc → ⊥)
+    → MatchOption answer (CallMade stops e m e' t) (λ (stop : A). CallStops e m e' t)
+call_made stops stops' e after e' m t accesses end None goes_on served taken same none = record {
+  after = after;
+  accesses = accesses;
+  served = subst (λ (o : Option ℕ). IsServedStep Records e m (Ok o) after t accesses) goes_on served;
+  output_taken = taken;
+  no_stop = λ at. none (subst (λ (xs : List ℕ). Contains xs t.pc) (sym same) at);
+}
+call_made stops stops' e after e' m t accesses end (Some stop) goes_on served taken same none =
+    Behind _ after accesses served (inr taken)
+
+-- the pc may be another one
+abbrev pub BeginsAt : State → State → Type 0
+BeginsAt s s' = (s' ≡ s) ⊎ ((pc : ℕ) × (s' ≡ with_pc s pc))
+
+from_there : (stops : List ℕ) (watches : List Watch) (limit : ℕ) (e e' : Recording) (s s' t : State) → BeginsAt s s'
+    → GoesOnOrStays stops watches limit e s' e' t → GoesOnFrom stops watches limit e s e' t
+from_there stops watches limit e e' s s' t (inl same) goes =
+    inl (subst (λ (x : State). GoesOnOrStays stops watches limit e x e' t) same goes)
+from_there stops watches limit e e' s s' t (inr (pc, same)) goes =
+    inr (pc, subst (λ (x : State). GoesOnOrStays stops watches limit e x e' t) same goes)
+
+-- `s` and `S` are one step or call
+one_step : (action : List ℕ) (going : Going) (stops : List ℕ) (watches : List Watch) (limit : ℕ) (e e' : Recording)
+    (s t : State) → (letter action ≡ 115) ⊎ (letter action ≡ 83) → HasLetter action going
+    → GoesBy going stops watches limit e s e' t → GoesOnOrStays stops watches 1 e s e' t
+one_step action Step stops watches limit e e' s t is has goes = goes
+one_step action Proceed stops watches limit e e' s t (inl is) (inl has) goes = absurd (omega (arith, is, has))
+one_step action Proceed stops watches limit e e' s t (inl is) (inr has) goes = absurd (omega (arith, is, has))
+one_step action Proceed stops watches limit e e' s t (inr is) (inl has) goes = absurd (omega (arith, is, has))
+one_step action Proceed stops watches limit e e' s t (inr is) (inr has) goes = absurd (omega (arith, is, has))
+one_step action (Killed signal) stops watches limit e e' s t is has goes = inl goes
+
+-- `c` and `C` are as many as the limit
+up_to_limit : (action : List ℕ) (going : Going) (stops : List ℕ) (watches : List Watch) (limit : ℕ)
+    (e e' : Recording) (s t : State) → (letter action ≡ 99) ⊎ (letter action ≡ 67) → HasLetter action going
+    → GoesBy going stops watches limit e s e' t → GoesOnOrStays stops watches limit e s e' t
+up_to_limit action Step stops watches limit e e' s t (inl is) (inl has) goes = absurd (omega (arith, is, has))
+up_to_limit action Step stops watches limit e e' s t (inl is) (inr has) goes = absurd (omega (arith, is, has))
+up_to_limit action Step stops watches limit e e' s t (inr is) (inl has) goes = absurd (omega (arith, is, has))
+up_to_limit action Step stops watches limit e e' s t (inr is) (inr has) goes = absurd (omega (arith, is, has))
+up_to_limit action Proceed stops watches limit e e' s t is has goes = goes
+up_to_limit action (Killed signal) stops watches limit e e' s t is has goes = inl goes
+
+pub goes_same : {A F : Type 0} (r : Result A F) (going : Going) (stops stops' : List ℕ) (watches watches' : List Watch)
+    (limit limit' : ℕ) (e e' : Recording) (s t : State) → stops' ≡ stops → watches' ≡ watches → limit' ≡ limit
+    → OnOk r (GoesBy going stops' watches' limit' e s e' t) → OnOk r (GoesBy going stops watches limit e s e' t)
+goes_same r going stops stops' watches watches' limit limit' e e' s t same same' same'' goes =
+    subst (λ (n : ℕ). OnOk r (GoesBy going stops watches n e s e' t)) same''
+    (subst (λ (ws : List Watch). OnOk r (GoesBy going stops ws limit' e s e' t)) same'
+    (subst (λ (xs : List ℕ). OnOk r (GoesBy going xs watches' limit' e s e' t)) same goes))
+
+pub step_from : {A F : Type 0} (r : Result A F) (action : List ℕ) (going : Going) (stops : List ℕ)
+    (watches : List Watch) (limit : ℕ) (e e' : Recording) (s s' t : State)
+    → (letter action ≡ 115) ⊎ (letter action ≡ 83) → HasLetter action going → BeginsAt s s'
+    → OnOk r (GoesBy going stops watches limit e s' e' t) → OnOk r (GoesOnFrom stops watches 1 e s e' t)
+step_from (Ok x) action going stops watches limit e e' s s' t is has begins goes =
+    from_there stops watches 1 e e' s s' t begins
+    (one_step action going stops watches limit e e' s' t is has goes)
+step_from (Err f) action going stops watches limit e e' s s' t is has begins goes = tt
+
+pub go_from : {A F : Type 0} (r : Result A F) (action : List ℕ) (going : Going) (stops : List ℕ)
+    (watches : List Watch) (limit : ℕ) (e e' : Recording) (s s' t : State)
+    → (letter action ≡ 99) ⊎ (letter action ≡ 67) → HasLetter action going → BeginsAt s s'
+    → OnOk r (GoesBy going stops watches limit e s' e' t) → OnOk r (GoesOnFrom stops watches limit e s e' t)
+go_from (Ok x) action going stops watches limit e e' s s' t is has begins goes =
+    from_there stops watches limit e e' s s' t begins
+    (up_to_limit action going stops watches limit e e' s' t is has goes)
+go_from (Err f) action going stops watches limit e e' s s' t is has begins goes = tt
+
+-- within some limit
+pub some_limit : {A F : Type 0} (r : Result A F) (going : Going) (stops : List ℕ) (watches : List Watch) (limit : ℕ)
+    (e e' : Recording) (s t : State) → OnOk r (GoesBy going stops watches limit e s e' t)
+    → OnOk r ((n : ℕ) × GoesOnOrStays stops watches n e s e' t)
+some_limit (Ok x) Step stops watches limit e e' s t goes = (1, goes)
+some_limit (Ok x) Proceed stops watches limit e e' s t goes = (limit, goes)
+some_limit (Ok x) (Killed signal) stops watches limit e e' s t goes = (0, inl goes)
+some_limit (Err f) going stops watches limit e e' s t goes = tt

@@ -1,0 +1,157 @@
+-- What a packet may change, by its letter (gdb's manual, "Remote Serial Protocol", "Packets"). Most
+-- packets ask, and change nothing of the program.
+use Rattle.std.specs.Prelude.{◌≡◌, ◌≢◌, ◌⊎◌, ℕ, ◌-◌, List, [], ◌∷◌, ◌++◌, Contains, slice_index, None, Ok}
+use Rattle.rrs_lib.specs.declared.instruction_executor.InstructionException.TheVariants.{EnvironmentCall}
+use Rattle.rrs_lib.specs.Accesses.{Access}
+use Rattle.rrs_lib.specs.Machine.{State, with_pc}
+use Rattle.rrs_linux.specs.Recording.{Recording, Records}
+use Rattle.rrs_history.specs.Calls.{IsServedStep, ServedAnswer}
+use Rattle.rrs_gdb.specs.declared.breaks.Watch.{Watch}
+use Rattle.rrs_gdb.specs.declared.forward.ForwardReason.{ForwardReason}
+use Rattle.rrs_gdb.specs.declared.forward.ForwardReason.TheVariants.{Fault}
+use Rattle.rrs_gdb.specs.declared.session.Going.{Going}
+use Rattle.rrs_gdb.specs.declared.session.Going.TheVariants.{Step, Proceed, Killed}
+use Rattle.rrs_gdb.specs.declared.state.SessionState.{SessionState}
+use Rattle.rrs_gdb.specs.Breaks.{GoesForward}
+
+-- the letter of a packet: the first byte of its payload
+abbrev pub letter : List ℕ → ℕ
+letter payload = slice_index payload 0
+
+-- none of `G` and `P`, which change registers, and of `M` and `X`, which change memory
+abbrev pub ChangesNone : List ℕ → Type 0
+ChangesNone payload =
+    (letter payload ≢ 71) × (letter payload ≢ 80) × (letter payload ≢ 77) × (letter payload ≢ 88)
+
+-- none of `c`, `C`, `s`, `S`, `v` and `b`, by which the program goes on or back
+abbrev pub RunsNone : List ℕ → Type 0
+RunsNone payload =
+    (letter payload ≢ 99) × (letter payload ≢ 67) × (letter payload ≢ 115)
+    × (letter payload ≢ 83) × (letter payload ≢ 118) × (letter payload ≢ 98)
+
+-- `G` or `P`
+abbrev pub ChangesRegister : List ℕ → Type 0
+ChangesRegister payload = (letter payload ≡ 71) ⊎ (letter payload ≡ 80)
+
+-- `M` or `X`
+abbrev pub ChangesMemory : List ℕ → Type 0
+ChangesMemory payload = (letter payload ≡ 77) ⊎ (letter payload ≡ 88)
+
+-- neither `Z` nor `z`, which set and remove breakpoints and watchpoints
+abbrev pub BreaksNone : List ℕ → Type 0
+BreaksNone payload = (letter payload ≢ 90) × (letter payload ≢ 122)
+
+-- no byte and no permission is changed, nor the register that was written last
+pub record MemoryKept (s t : State) : Type 0 where
+  pub last_kept : t.last ≡ s.last
+  pub bytes_kept : t.bytes ≡ s.bytes
+  pub writable_kept : t.writable ≡ s.writable
+
+-- no register is changed, nor the pc
+pub record RegistersKept (s t : State) : Type 0 where
+  pub registers_kept : t.registers ≡ s.registers
+  pub pc_kept : t.pc ≡ s.pc
+  pub last_kept : t.last ≡ s.last
+  pub writable_kept : t.writable ≡ s.writable
+
+-- the breakpoints and the watchpoints are as they were
+pub record BreaksKept (old new : SessionState) : Type 0 where
+  pub stops_kept : new.breaks.stops.items ≡ old.breaks.stops.items
+  pub watches_kept : new.breaks.watches.items ≡ old.breaks.watches.items
+
+-- the settings and the history are as they were
+pub record SettingsKept (old new : SessionState) : Type 0 where
+  pub settings_kept : new.settings ≡ old.settings
+  pub history_kept : new.history ≡ old.history
+
+-- the breakpoints, the watchpoints and the settings are as they were
+pub record PlacesKept (old new : SessionState) : Type 0 where
+  pub stops_kept : new.breaks.stops.items ≡ old.breaks.stops.items
+  pub watches_kept : new.breaks.watches.items ≡ old.breaks.watches.items
+  pub settings_kept : new.settings ≡ old.settings
+
+-- the breakpoints, the watchpoints, the settings and the history are as they were
+pub record SessionKept (old new : SessionState) : Type 0 where
+  pub stops_kept : new.breaks.stops.items ≡ old.breaks.stops.items
+  pub watches_kept : new.breaks.watches.items ≡ old.breaks.watches.items
+  pub settings_kept : new.settings ≡ old.settings
+  pub history_kept : new.history ≡ old.history
+
+-- what was appended is an error: it begins with `E`
+abbrev pub IsError : List ℕ → List ℕ → Type 0
+IsError old new = (rest : List ℕ) × (new ≡ old ++ 69 ∷ rest)
+
+-- ---- the program goes on
+
+-- Of the environment of the program the output that was recorded is taken away, and nothing else
+-- changes.
+pub record OutputTaken (e e' : Recording) : Type 0 where
+  pub input_kept : e'.input ≡ e.input
+  pub heap_kept : e'.heap ≡ e.heap
+  pub output_taken : e'.output.items ≡ []
+  pub errors_taken : e'.errors.items ≡ []
+
+-- from m a call is served, after which the program goes on at no stop
+pub record CallMade (stops : List ℕ) (e : Recording) (m : State) (e' : Recording) (t : State)
+    : Type 0 where
+  pub after : Recording
+  pub accesses : List Access
+  pub served : IsServedStep Records e m (Ok None) after t accesses
+  pub output_taken : OutputTaken after e'
+  pub no_stop : ¬ Contains stops t.pc
+
+-- the program stops before a call, or behind it
+pub data CallStops (e : Recording) (m : State) (e' : Recording) (t : State) : Type 0 where
+  -- nothing is served
+  Before : e' ≡ e → t ≡ m → CallStops e m e' t
+  -- the call is served
+  Behind : (answer : ServedAnswer) (after : Recording) (accesses : List Access)
+      → IsServedStep Records e m answer after t accesses
+      → (e' ≡ after) ⊎ OutputTaken after e'
+      → CallStops e m e' t
+
+-- From e and s the program goes on to e' and t, within a limit of steps and calls: by runs up to
+-- stops and watchpoints, and between two of them by a call that is served.
+pub data GoesOn (stops : List ℕ) (watches : List Watch) (e' : Recording) (t : State)
+    : ℕ → Recording → State → Type 0 where
+  -- a run
+  Runs : (limit : ℕ) (e : Recording) (s : State) (steps : ℕ) (reason : ForwardReason)
+      → GoesForward stops watches limit s steps reason t → e' ≡ e
+      → GoesOn stops watches e' t limit e s
+  -- a run to a call, and a stop there
+  Stops : (limit : ℕ) (e : Recording) (s : State) (steps pc : ℕ) (m : State)
+      → GoesForward stops watches limit s steps (Fault (EnvironmentCall pc)) m
+      → CallStops e m e' t
+      → GoesOn stops watches e' t limit e s
+  -- a run to a call, the call, and what follows within what is left of the limit
+  Calls : (limit : ℕ) (e : Recording) (s : State) (steps pc : ℕ) (m : State) (d : Recording) (u : State)
+      → GoesForward stops watches limit s steps (Fault (EnvironmentCall pc)) m
+      → CallMade stops e m d u
+      → GoesOn stops watches e' t (limit - steps - 1) d u
+      → GoesOn stops watches e' t limit e s
+
+-- A program that is asked to go on does so, or nothing changes, as where it ended before. `limit`
+-- is how many steps and calls it may make.
+abbrev pub GoesOnOrStays : List ℕ → List Watch → ℕ → Recording → State → Recording → State → Type 0
+GoesOnOrStays stops watches limit e s e' t =
+    ((e' ≡ e) × (t ≡ s)) ⊎ GoesOn stops watches e' t limit e s
+
+-- the same from this state, or from there with another pc
+abbrev pub GoesOnFrom : List ℕ → List Watch → ℕ → Recording → State → Recording → State → Type 0
+GoesOnFrom stops watches limit e s e' t =
+    GoesOnOrStays stops watches limit e s e' t
+    ⊎ ((pc : ℕ) × GoesOnOrStays stops watches limit e (with_pc s pc) e' t)
+
+-- ---- of the code
+
+-- What comes of going on so. A program that is killed is left as it is.
+abbrev pub GoesBy : Going → List ℕ → List Watch → ℕ → Recording → State → Recording → State → Type 0
+GoesBy Step stops watches limit e s e' t = GoesOnOrStays stops watches 1 e s e' t
+GoesBy Proceed stops watches limit e s e' t = GoesOnOrStays stops watches limit e s e' t
+GoesBy (Killed signal) stops watches limit e s e' t = (e' ≡ e) × (t ≡ s)
+
+-- the letter of an action by which the program goes on so
+abbrev pub HasLetter : List ℕ → Going → Type 0
+HasLetter action Step = (letter action ≡ 115) ⊎ (letter action ≡ 83)
+HasLetter action Proceed = (letter action ≡ 99) ⊎ (letter action ≡ 67)
+HasLetter action (Killed signal) = (letter action ≡ 67) ⊎ (letter action ≡ 83)
