@@ -192,12 +192,53 @@ examples() {
         try "$program, as C++" build "g++ -std=c++11 -x c++" "$program" "$@"
         try "$program, as C++, prints what is stored" prints "$program"
     done
+    try "shadow and lockstep see what is wrong" examples_see
     try "replay, as C99" build "gcc -std=c99 -x c" replay "$here/c/replay.c"
     try "replay, as C99, answers as is stored" answers "$room/replay"
     try "replay refuses a line with more" refuses_lines "$room/replay"
     try "the sanitizers see what is wrong" sanitizers_see
     try "replay, as C++" build "g++ -std=c++11 -x c++" replay "$here/c/replay.c"
     try "replay, as C++, answers as is stored" answers "$room/replay"
+}
+
+# fails_with TEXT PROGRAM: it ends with status 1, and prints a text
+fails_with() {
+    local status=0
+    "$room/$2" >"$room/printed" || status=$?
+    [ "$status" = 1 ] && grep -q "$1" "$room/printed" && return
+    echo "$2: status $status, and no: $1"
+    return 1
+}
+
+# shadow and lockstep fail where one record of the kit is wrong in the lowest byte of a load, and
+# lockstep where a fault is not planted.
+examples_see() {
+    local checks="-O1 -Drrs_step_rvfi=wrong_step_rvfi" design=$here/c/lockstep/design.c
+    local steps='rrs_hart *hart, uint32_t *words, size_t count, uint32_t base, uint64_t order,
+        rrs_retired *retired'
+    cat >"$room/record.c" <<C
+#include "rrs.h"
+#undef rrs_step_rvfi
+rrs_fault rrs_step_rvfi($steps);
+rrs_fault wrong_step_rvfi($steps) {
+    static int is_made;
+    rrs_fault fault = rrs_step_rvfi(hart, words, count, base, order, retired);
+    if (!is_made && order > 20 && retired->mem_rmask == 15) {
+        retired->mem_rdata ^= 1;
+        is_made = 1;
+    }
+    return fault;
+}
+C
+    sed 's/width == 2 && design->planted == PLANTED_STORE_MASK/0/' "$design" >"$room/unplanted.c"
+    ! cmp -s "$design" "$room/unplanted.c" || return 1
+    build "gcc -std=c99 -x c" wrong_shadow "$here/c/shadow.c" "$room/record.c" &&
+        fails_with ", 1 disagreements, " wrong_shadow &&
+        build "gcc -std=c99 -x c" wrong_kit "$here/c/lockstep/main.c" "$design" "$room/record.c" &&
+        fails_with "  found after " wrong_kit || return 1
+    checks="-O1 -I$here/c/lockstep"
+    build "gcc -std=c99 -x c" unplanted "$here/c/lockstep/main.c" "$room/unplanted.c" &&
+        fails_with "^5 of 6 planted faults found" unplanted
 }
 
 # Libraries that the faces must refuse: of another version, one with no rrs_request, and one that
@@ -303,7 +344,7 @@ all() {
     try "python: replay answers as is stored" answers python replay.py
     try "python: replay refuses a line with more" refuses_lines python replay.py
     try "python: the structs and constants are those of rrs.h" python_has_layouts
-    finish 46
+    finish 47
 }
 
 # Calls that do more than they may: one writes a text where there is room for it, and none for the 0

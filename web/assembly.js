@@ -292,7 +292,7 @@ class SourceReading {
     const layout = new Map();
     for (const kind of SECTION_KINDS) {
       for (const section of this.sections.values()) {
-        if (section.kind !== kind || section.size === 0) continue;
+        if (section.kind !== kind) continue;
         next = aligned(aligned(next, filledUp), next === this.base ? 1 : section.alignment);
         layout.set(section.name, { address: next, size: section.size });
         const before = this.layout.get(section.name);
@@ -300,9 +300,6 @@ class SourceReading {
         next += section.size;
         filledUp = kind === "code" ? section.alignment : 1;
       }
-    }
-    for (const section of this.sections.values()) {
-      if (section.size === 0) layout.set(section.name, { address: next, size: 0 });
     }
     this.layout = layout;
     return hasMoved;
@@ -403,7 +400,7 @@ class SourceReading {
   result() {
     const { base, mistakes } = this;
     const placed = [...this.sections.values()].flatMap((section) => section.placed)
-      .sort((a, b) => a.address - b.address);
+      .filter((each) => each.bytes.length > 0).sort((a, b) => a.address - b.address);
     const end = placed.reduce((most, { address, bytes }) =>
       Math.max(most, address + bytes.length), base);
     const isRight = mistakes.length === 0;

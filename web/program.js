@@ -197,7 +197,6 @@ function placesOf(all, base, text) {
 function sourcesOf(statements, base) {
   const sources = new Map();
   for (const { line, text, name, address, bytes } of statements) {
-    if (bytes.length === 0) continue;
     const index = Math.floor((address - base) / 4);
     const before = sources.get(index);
     const all = before ? `${before.text}; ${text}` : text;

@@ -123,6 +123,10 @@ static void make_program(uint8_t *ram, const char *text) {
     words[i++] = s_type(1, 14, 15, WORD);      /* sh    x15, WORD(x14) */
     words[i++] = load(2, 16, 14, WORD);        /* lw    x16, WORD(x14) */
     words[i++] = 0x00100073;                   /* ebreak */
+    words[i++] = s_type(2, 0, 15, 0);          /* sw    x15, 0(x0): what nothing takes */
+    words[i++] = load(2, 15, 0, 0);            /* lw    x15, 0(x0) */
+    words[i++] = s_type(0, 10, 15, STATUS);    /* sb    x15, STATUS(x10) */
+    words[i++] = load(1, 15, 10, DATA);        /* lh    x15, DATA(x10) */
     for (k = 0; k < i; k++) {
         unsigned b;
         for (b = 0; b < 4; b++) ram[4 * k + b] = (uint8_t)(words[k] >> 8 * b);
@@ -133,8 +137,8 @@ static void make_program(uint8_t *ram, const char *text) {
 
 int main(void) {
     static struct machine machine;
-    unsigned steps = 0;
-    rrs_fault fault;
+    unsigned steps = 0, i;
+    rrs_fault fault, refused;
     make_program(machine.ram, "Hello, RISC-V!\n");
     machine.uart.input = "What it receives, it sends.\n";
     machine.hart.pc = RAM;
@@ -144,5 +148,10 @@ int main(void) {
     } while (fault.kind == RRS_OK && steps < 100000);
     printf("steps %u, fault kind %u at 0x%08x, bytes refused %u, x16 = 0x%08x\n", steps - 1,
            fault.kind, fault.address, machine.uart.refused, machine.hart.x[16]);
+    for (i = 0; i < 4; i++) {
+        machine.hart.pc += 4;
+        refused = step(&machine);
+        printf("fault kind %u at 0x%08x\n", refused.kind, refused.address);
+    }
     return fault.kind != RRS_EBREAK || machine.uart.refused != 0;
 }

@@ -6,6 +6,7 @@ import subprocess
 import sys
 import tempfile
 
+from trials import corners
 from trials.generated import node
 from trials.report import Differs, same
 from trials.running import RRS
@@ -14,6 +15,9 @@ from trials.view import WEB
 ASSEMBLY = WEB.parent / "examples" / "assembly"
 SEEDS = (1, 21, 22)
 STATEMENTS = 10000
+CORNERS = 150
+# `rrs as` reads a source twice, and the page until nothing moves
+MOVED = b"the address differs between the two readings"
 MISTAKE = re.compile(r".*?:(\d+):\d+: ")
 
 
@@ -58,3 +62,56 @@ def sources():
         same("lines that rrs as takes, and the page refuses", set(), here - wrong)
         same("whether the page refuses most of the others", True, len(here) > 0.98 * len(wrong))
     return f"{len(paths)} sources, {len(wrong):,} lines that are wrong"
+
+
+def accepted(lines, path):
+    """The lines of a source that `rrs as` takes together, and the numbers of those that it refused
+    first."""
+    first = None
+    kept = list(range(len(lines)))
+    for _ in range(10):
+        path.write_text("\n".join(lines[number] for number in kept), encoding="utf-8")
+        wrong = as_proved(path)[1]
+        first = wrong if first is None else first
+        if not wrong:
+            return kept, [number - 1 for number in first]
+        kept = [number for at, number in enumerate(kept, 1) if at not in wrong]
+    return [], []
+
+
+def variants(lines, path):
+    """A source without the lines that are refused, and with each of them alone."""
+    kept, wrong = accepted(lines, path)
+    for more in [None, *wrong] if kept else []:
+        numbers = sorted({*kept, *([] if more is None else [more])})
+        yield more, "\n".join(lines[number] for number in numbers)
+
+
+def edges():
+    """at the edges of what a source can say the page takes and refuses what rrs as does"""
+    with tempfile.TemporaryDirectory() as name:
+        folder = pathlib.Path(name)
+        told = {}
+        for seed in range(CORNERS):
+            lines = corners.source(seed).split("\n")
+            for more, text in variants(lines, folder / "all.s"):
+                path = folder / f"{seed}-{more}.s"
+                path.write_text(text, encoding="utf-8")
+                run = subprocess.run([RRS / "out" / "rrs", "as", path], capture_output=True,
+                                     check=False)
+                if MOVED not in run.stderr:
+                    told[path] = run.stdout, refused(run.stderr.decode())
+        status, said = node("sources.js", *told)
+        if status:
+            raise Differs(said)
+        here = {}
+        for line in said.splitlines():
+            here.setdefault(line.split(":")[0], set()).update(refused(line))
+        for path, (words, wrong) in told.items():
+            same(f"what comes of {path.name}: {path.read_text(encoding='utf-8')}",
+                 (words, bool(wrong)),
+                 (path.with_name(f"{path.name}.page").read_bytes(), str(path) in here))
+        same("whether there are enough that are taken, and that are not", True,
+             min(sum(bool(wrong) == is_wrong for _, wrong in told.values())
+                 for is_wrong in (True, False)) >= CORNERS // 2)
+    return f"{CORNERS} sources, {len(told)} forms of them"
