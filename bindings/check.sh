@@ -347,40 +347,80 @@ all() {
     finish 47
 }
 
-# Calls that do more than they may: one writes a text where there is room for it, and none for the 0
-# behind it, and one gives an illegal instruction an immediate
+# The calls that do more than they may: some write a text where there is room for it, and none for
+# the 0 behind it, and the others give a number where there must be 0
+wrong_calls="disassemble register_name elf_function_at decode elf_parse elf_segment csr_read request
+    compare step run csr_write undo"
+
 make_wrong_calls() {
     cat >"$room/calls.c" <<'C'
 #include <string.h>
 #include "rrs.h"
-size_t wrong_disassemble(uint32_t word, uint32_t pc, char *text, size_t size);
-rrs_instruction wrong_decode(uint32_t word);
 #undef rrs_disassemble
+#undef rrs_register_name
+#undef rrs_elf_function_at
 #undef rrs_decode
-size_t rrs_disassemble(uint32_t word, uint32_t pc, char *text, size_t size);
-rrs_instruction rrs_decode(uint32_t word);
-size_t wrong_disassemble(uint32_t word, uint32_t pc, char *text, size_t size) {
-    char own[RRS_TEXT_SIZE] = {0};
-    size_t length = rrs_disassemble(word, pc, own, sizeof own);
-    memcpy(text, own, length < size ? length + 1 : length == size ? length : 0);
-    return length;
-}
-rrs_instruction wrong_decode(uint32_t word) {
-    rrs_instruction fields = rrs_decode(word);
-    if (fields.row == 0) fields.imm = 1;
-    return fields;
+#undef rrs_elf_parse
+#undef rrs_elf_segment
+#undef rrs_csr_read
+#undef rrs_request
+#undef rrs_compare
+#undef rrs_step
+#undef rrs_run
+#undef rrs_csr_write
+#undef rrs_undo
+#define WRONG(kind, name, parameters, arguments, change)                    \
+    kind wrong_##name parameters;                                           \
+    kind rrs_##name parameters;                                             \
+    kind wrong_##name parameters {                                          \
+        kind a = rrs_##name arguments;                                      \
+        change;                                                             \
+        return a;                                                           \
+    }
+WRONG(size_t, disassemble, (uint32_t word, uint32_t pc, char *text, size_t size),
+      (word, pc, text, size), if (a == size && size > 0) memset(text, 'a', size))
+WRONG(size_t, register_name, (uint32_t number, char *text, size_t size), (number, text, size),
+      if (a == size && size > 0) memset(text, 'a', size))
+WRONG(rrs_location, elf_function_at,
+      (const uint8_t *file, size_t length, uint32_t address, char *text, size_t size),
+      (file, length, address, text, size), if (a.length == size && size > 0) memset(text, 'a', size))
+WRONG(rrs_instruction, decode, (uint32_t word), (word), if (a.row == 0) a.imm = 1)
+WRONG(rrs_elf, elf_parse, (const uint8_t *file, size_t size), (file, size),
+      if (a.refusal != RRS_ELF_OK) a.entry = 1)
+WRONG(rrs_segment, elf_segment, (const uint8_t *file, size_t size, uint32_t index),
+      (file, size, index), if (!a.loaded) a.flags = 1)
+WRONG(rrs_csr, csr_read, (const rrs_csrs *csrs, uint32_t number, uint32_t mip, uint64_t time),
+      (csrs, number, mip, time), if (!a.found) a.value = 1)
+WRONG(rrs_access, request, (const rrs_hart *hart, uint32_t word), (hart, word),
+      if (a.kind == RRS_LOAD) a.value = 1)
+WRONG(rrs_difference, compare, (const rrs_retired *model, const rrs_retired *core, uint32_t words),
+      (model, core, words), if (a.field == RRS_SAME) a.core = 1)
+WRONG(rrs_fault, step, (rrs_hart *hart, uint32_t *words, size_t count, uint32_t base),
+      (hart, words, count, base), if (a.kind == RRS_OK) a.word = 1)
+WRONG(rrs_end, run, (rrs_hart *hart, uint32_t *words, size_t count, uint32_t base, uint64_t limit),
+      (hart, words, count, base, limit), if (a.fault.kind == RRS_OK) a.fault.address = 4)
+WRONG(uint32_t, csr_write, (rrs_csrs *csrs, uint32_t number, uint32_t value),
+      (csrs, number, value), if (a == 0) csrs->mscratch ^= 1)
+void wrong_undo(rrs_hart *hart, uint32_t *words, size_t count, uint32_t base,
+                const rrs_change *change);
+void rrs_undo(rrs_hart *hart, uint32_t *words, size_t count, uint32_t base,
+              const rrs_change *change);
+void wrong_undo(rrs_hart *hart, uint32_t *words, size_t count, uint32_t base,
+                const rrs_change *change) {
+    rrs_undo(hart, words, count, base, change);
+    if (change->size == 0 && count > 0) words[count - 1] ^= 1;
 }
 C
 }
 
 # What is small, with something wrong in it: nothing, answers, lines, layouts, assertions, names,
-# asks, state, disassemble, decode or tries
+# asks, state, tries, or one of the calls
 wrong() {
     local more=()
     checks=-O0
     gather_questions || exit 2
-    # some of each of the two files
-    sed -i '21,3402d;3422,$d' "$room/questions" "$room/answers"
+    # some of each kind
+    sed -n -i '1~19p' "$room/questions" "$room/answers"
     echo 'void rrs_more(void) {}' >"$room/names.c"
     echo '__attribute__((used)) static int state = 1;' >"$room/state.c"
     printf 'int printf(const char *, ...);\n%s static void more(void) { printf("more"); }\n' \
@@ -393,7 +433,8 @@ wrong() {
     assertions) grep -v 'fault_word' "$header" >"$room/rrs.h" && header=$room/rrs.h ;;
     names | asks | state) cp "$library" "$room/wrong.a" && library=$room/wrong.a &&
         gcc -c -o "$room/more.o" "$room/$1.c" && ar r "$library" "$room/more.o" ;;
-    disassemble | decode) make_wrong_calls && more=("$room/calls.c") && checks+=" -Drrs_$1=wrong_$1" ;;
+    nothing | tries) ;;
+    *) make_wrong_calls && more=("$room/calls.c") && checks+=" -Drrs_$1=wrong_$1" ;;
     esac
     try "rrs.h has the stored layouts and constants, in C" header_has "gcc -std=c99 -x c"
     try "rrs.h asserts each layout" asserts_all
@@ -407,7 +448,7 @@ wrong() {
 # Each wrong subject must be seen, and the right one must pass.
 self_test() {
     local what status
-    for what in nothing answers lines layouts assertions names asks state disassemble decode tries; do
+    for what in nothing answers lines layouts assertions names asks state tries $wrong_calls; do
         status=0
         "$here/check.sh" --wrong "$what" >"$room/seen" 2>&1 || status=$?
         case $what:$status in

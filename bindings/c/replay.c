@@ -107,7 +107,8 @@ static void print_end(rrs_end end) {
     printf("%llu ", (unsigned long long)end.steps);
     if (end.fault.kind != RRS_OK) print_fault(end.fault);
     else printf("%s", end.at_stop ? "stop" : "limit");
-    if (end.at_stop > 1) printf(" at_stop=%u", end.at_stop);
+    if (end.fault.kind == RRS_OK && (end.fault.address | end.fault.word)) print_fault(end.fault);
+    if (end.at_stop > (end.fault.kind == RRS_OK)) printf(" at_stop=%u", end.at_stop);
 }
 
 static void print_hart(const rrs_hart *hart) {

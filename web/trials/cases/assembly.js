@@ -139,6 +139,9 @@ function known(report, page, kit) {
   report.cases("the colours of a source", [
     ["x: li a0, 5 # so", ["x: label", "li name", "a0 register", "5 number", "# so comment"]],
     ['.ascii "a#b" // c', [".ascii directive", '"a#b" string', "// c comment"]],
+    ['.ascii "a\\"b", "\\\\" # "', [".ascii directive", '"a\\"b" string', '"\\\\" string',
+      '# " comment']],
+    ["li a0, '\\''#", ["li name", "a0 register", "'\\'' string", "# comment"]],
     ["j there", ["j name"]], ["li a0, 'a'", ["li name", "a0 register", "'a' string"]], ["", []],
   ], coloured);
   report.cases("the nearest word", [

@@ -168,6 +168,11 @@ function frames(report, page, kit) {
   const deep = machineWith(page, kit, [call(0)]);
   for (let made = 0; made < 1500; made++) deep.step();
   report.same("a recursion without end", 1000, page.framesOf(deep).length);
+  const deeper = machineWith(page, kit, [push, call(-4)], 0, true);
+  for (let made = 0; made < 2 * 1203; made++) deeper.step();
+  const kept = page.framesOf(deeper);
+  report.same("the calls that are kept of it", [1000, top - 16 * 1203, top - 16 * 204],
+    [kept.length, kept[0].sp, kept.at(-1).sp]);
 }
 
 /** Tries changes by hand, what changed since the last stop, kept breakpoints, and frames. */
