@@ -1,0 +1,2 @@
+-- The executable of a program that was assembled. docs/READING.md leads through it.
+pub mod Executables
