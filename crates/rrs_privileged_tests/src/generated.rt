@@ -49,8 +49,8 @@ const NUMBERS: [u32; 24] = [
 
 /// Pseudo-random numbers of 24 bits: a linear congruence modulo 2^32.
 #[derive(Drop)]
-struct Numbers {
-    state: u32,
+pub struct Numbers {
+    pub state: u32,
 }
 
 impl Numbers {
@@ -118,7 +118,7 @@ fn word_of(numbers: &mut Numbers) -> u32 {
 }
 
 /// The memory of a program.
-fn memory_of(alloc: Global, numbers: &mut Numbers) -> Result<VecMemory, AllocError> {
+pub fn memory_of(alloc: Global, numbers: &mut Numbers) -> Result<VecMemory, AllocError> {
     let mut words = Vec::with_capacity(alloc, WORDS)?;
     for _ in 0..WORDS {
         words.push(word_of(numbers))?;
@@ -127,7 +127,7 @@ fn memory_of(alloc: Global, numbers: &mut Numbers) -> Result<VecMemory, AllocErr
 }
 
 /// The hart of a program.
-fn hart_of(numbers: &mut Numbers) -> HartState {
+pub fn hart_of(numbers: &mut Numbers) -> HartState {
     let mut hart = HartState::new();
     for register in 1..8 {
         let high = numbers.next();
@@ -138,7 +138,7 @@ fn hart_of(numbers: &mut Numbers) -> HartState {
 }
 
 /// The CSRs of a program.
-fn csrs_of(numbers: &mut Numbers) -> CsrFile {
+pub fn csrs_of(numbers: &mut Numbers) -> CsrFile {
     let mut csrs = CsrFile::new();
     csrs.mstatus = numbers.next() & 0x88;
     csrs.mie = numbers.next() & 0x888;

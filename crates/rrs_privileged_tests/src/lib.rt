@@ -11,6 +11,9 @@ mod csrs;
 #[cfg(test)]
 mod generated;
 #[cfg(test)]
+mod kept_words;
+pub mod pulses;
+#[cfg(test)]
 mod records;
 #[cfg(test)]
 mod steps;

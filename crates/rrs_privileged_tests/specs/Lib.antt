@@ -1,0 +1,2 @@
+-- What surroundings of the tests tell.
+pub mod Pulses

@@ -1,0 +1,304 @@
+//! Runs over words that are kept, beside runs over words that are fetched at each step.
+
+ghost use Rattle.std.specs.Prelude.{◌≤◌, ◌^◌};
+
+use crate::generated::{Numbers, csrs_of, hart_of, memory_of};
+use crate::pulses::Pulse;
+use crate::steps::QUIET;
+use rrs_fast::CachedMemory;
+use rrs_lib::instruction_executor::InstructionExecutor;
+use rrs_lib::memories::{MemorySpace, VecMemory};
+use rrs_lib::{HartState, MemAccessSize, Memory};
+use rrs_privileged::{CsrFile, Inputs, MachineEnd, run_machine, run_machine_cached};
+use std::alloc::{AllocError, Global};
+use std::test::Fail;
+
+/// Goes round through a store into the next word, instructions on CSRs, each kind of exception, and
+/// a `wfi`.
+const TRAPS: [u32; 17] = [
+    0x0060_2223, // sw x6, 4(x0)
+    0x0012_8293, // addi x5, x5, 1
+    0x0073_4333, // xor x6, x6, x7
+    0xc010_2573, // csrrs x10, time, x0
+    0xb020_25f3, // csrrs x11, minstret, x0
+    0xb000_2673, // csrrs x12, mcycle, x0
+    0x0010_2083, // lw x1, 1(x0)
+    0x0010_10a3, // sh x1, 1(x0)
+    0x0001_a083, // lw x1, 0(x3)
+    0x0011_8023, // sb x1, 0(x3)
+    0x0000_0363, // beq x0, x0, 6
+    0x0020_00e7, // jalr x1, 2(x0)
+    0x0000_0073, // ecall
+    0x3402_9073, // csrrw x0, mscratch, x5
+    0x7c02_a073, // csrrs x0, 0x7c0, x5
+    0x1050_0073, // wfi
+    0xfc1f_f06f, // jal x0, -64
+];
+
+/// A loop that multiplies, stores and loads, and then a `wfi` and instructions on CSRs.
+const LOOP: [u32; 17] = [
+    0x0280_0093, // addi x1, x0, 40
+    0xfff0_8093, // addi x1, x1, -1
+    0x0211_0133, // mul x2, x2, x1
+    0x0620_2c23, // sw x2, 120(x0)
+    0x0780_2203, // lw x4, 120(x0)
+    0x0042_82b3, // add x5, x5, x4
+    0xfe00_96e3, // bne x1, x0, -20
+    0x1050_0073, // wfi
+    0x3440_2573, // csrrs x10, mip, x0
+    0xb020_25f3, // csrrs x11, minstret, x0
+    0xb000_2673, // csrrs x12, mcycle, x0
+    0x0000_0067, // jalr x0, 0(x0)
+    0,
+    0,
+    0,
+    0,
+    0,
+];
+
+/// Mixes the cause and the value of the trap into x13, and goes on behind its instruction.
+const HANDLER: [u32; 9] = [
+    0x3420_2773, // csrrs x14, mcause, x0
+    0x0016_9693, // slli x13, x13, 1
+    0x00e6_86b3, // add x13, x13, x14
+    0x3430_2773, // csrrs x14, mtval, x0
+    0x00e6_86b3, // add x13, x13, x14
+    0x3410_2473, // csrrs x8, mepc, x0
+    0x0044_0413, // addi x8, x8, 4
+    0x3414_1073, // csrrw x0, mepc, x8
+    0x3020_0073, // mret
+];
+
+/// How many words a memory has.
+const WORDS: u32 = 64;
+
+/// The time at which a run begins.
+const START: u64 = 1000;
+
+/// A machine, with what surrounds its hart.
+#[derive(Drop)]
+struct Machine<M: Memory> {
+    memory: M,
+    hart: HartState,
+    csrs: CsrFile,
+    pulse: Pulse,
+}
+
+impl<M: Memory> Machine<M> {
+    /// Runs over words that are fetched.
+    fn run(&mut self, limit: u64) -> MachineEnd {
+        let mut executor = InstructionExecutor {
+            mem: &mut self.memory,
+            hart_state: &mut self.hart,
+        };
+        run_machine(&mut executor, &mut self.csrs, &mut self.pulse, limit)
+    }
+
+    /// The machine, with a memory that keeps words.
+    fn keeping<const N: usize>(self) -> Machine<CachedMemory<M, N>>
+        requires { (2 ≤ N) × (N ≤ 2 ^ 30) }
+    {
+        let Machine {
+            memory,
+            hart,
+            csrs,
+            pulse,
+        } = self;
+        Machine {
+            memory: CachedMemory::new(memory),
+            hart,
+            csrs,
+            pulse,
+        }
+    }
+}
+
+/// Runs over words that are kept.
+fn run_kept<M: Memory, const N: usize>(
+    machine: &mut Machine<CachedMemory<M, N>>,
+    limit: u64,
+) -> MachineEnd {
+    let mut executor = InstructionExecutor {
+        mem: &mut machine.memory,
+        hart_state: &mut machine.hart,
+    };
+    run_machine_cached(&mut executor, &mut machine.csrs, &mut machine.pulse, limit)
+}
+
+/// Whether two machines have the same state, and what surrounds them too.
+fn are_alike<A: Memory, B: Memory>(a: &mut Machine<A>, b: &mut Machine<B>) -> bool {
+    for place in 0..WORDS {
+        let addr = 4 * place;
+        let word = a.memory.read_mem(addr, MemAccessSize::Word);
+        if word != b.memory.read_mem(addr, MemAccessSize::Word) {
+            return false;
+        }
+    }
+    a.hart.registers == b.hart.registers
+        && a.hart.pc == b.hart.pc
+        && a.hart.last_register_write == b.hart.last_register_write
+        && a.csrs == b.csrs
+        && a.pulse == b.pulse
+}
+
+/// Whether runs to a limit, one after the other, end alike over words that are fetched and kept.
+fn run_alike<A: Memory, B: Memory, const N: usize>(
+    fetched: &mut Machine<A>,
+    kept: &mut Machine<CachedMemory<B, N>>,
+    limit: u64,
+) -> bool {
+    for _ in 0..12 {
+        let ends = (fetched.run(limit), run_kept(kept, limit));
+        if ends.0 != ends.1 || !are_alike(fetched, kept) {
+            return false;
+        }
+    }
+    true
+}
+
+/// What surrounds the hart of a run: from a step on, for three steps, an interrupt is pending.
+fn pulse_at(step: u64, sight: u64) -> Pulse {
+    let from = START.saturating_sub(step);
+    Pulse {
+        left: START,
+        from,
+        to: from.saturating_sub(3),
+        lines: Inputs {
+            external: step % 3 == 0,
+            software: step % 4 == 1,
+            timer: step % 2 == 0,
+            ..QUIET
+        },
+        sight,
+    }
+}
+
+/// A machine with a program and the handler, behind it.
+fn machine_with(
+    alloc: Global,
+    program: &[u32; 17],
+    pulse: Pulse,
+) -> Result<Machine<VecMemory>, AllocError> {
+    let mut words = program.to_vec(alloc)?;
+    for word in HANDLER {
+        words.push(word)?;
+    }
+    words.resize(WORDS as usize, 0)?;
+    let mut hart = HartState::new();
+    hart.registers[3] = 0x8000_0000;
+    hart.registers[6] = 0x0642_8293;
+    hart.registers[7] = 0x0642_8293 ^ 0x0012_8293;
+    let mut csrs = CsrFile::new();
+    csrs.mtvec = 0x44;
+    csrs.mstatus = 8;
+    csrs.mie = 0x888;
+    Ok(Machine {
+        memory: VecMemory::new(words),
+        hart,
+        csrs,
+        pulse,
+    })
+}
+
+#[test]
+fn kept_words_run_as_fetched_ones(rt: HostRuntime) -> Result<(), Fail> {
+    let alloc = rt.alloc();
+    for program in [TRAPS, LOOP] {
+        for step in 0..40 {
+            for limit in [1, 2, 3, 17, 61, 400] {
+                let pulse = pulse_at(step, if step % 5 == 4 { limit / 2 } else { u64::MAX });
+                let mut fetched = machine_with(alloc, &program, pulse)?;
+                let mut kept = machine_with(alloc, &program, pulse)?.keeping::<64>();
+                assert!(rt;
+                    run_alike(&mut fetched, &mut kept, limit),
+                    "step {step}, limit {limit}"
+                );
+                let mut fetched = machine_with(alloc, &program, pulse)?;
+                let mut few = machine_with(alloc, &program, pulse)?.keeping::<4>();
+                assert!(rt;
+                    run_alike(&mut fetched, &mut few, limit),
+                    "step {step}, limit {limit}"
+                );
+            }
+        }
+    }
+    Ok(())
+}
+
+/// The memory of a machine in a space, whose reads are not pure.
+fn in_space(
+    alloc: Global,
+    machine: Machine<VecMemory>,
+) -> Result<Machine<MemorySpace<VecMemory>>, AllocError> {
+    let Machine {
+        memory,
+        hart,
+        csrs,
+        pulse,
+    } = machine;
+    let mut space = MemorySpace::new(alloc);
+    match space.add_memory(0, 4 * WORDS, memory) {
+        Ok(_) => Ok(Machine {
+            memory: space,
+            hart,
+            csrs,
+            pulse,
+        }),
+        Err(_) => Err(AllocError),
+    }
+}
+
+/// The machine of a generated program.
+fn generated(alloc: Global, seed: u32, pulse: Pulse) -> Result<Machine<VecMemory>, AllocError> {
+    let mut numbers = Numbers { state: seed };
+    Ok(Machine {
+        memory: memory_of(alloc, &mut numbers)?,
+        hart: hart_of(&mut numbers),
+        csrs: csrs_of(&mut numbers),
+        pulse,
+    })
+}
+
+#[test]
+fn generated_programs_run_alike(rt: HostRuntime) -> Result<(), Fail> {
+    let alloc = rt.alloc();
+    for seed in 0..1000 {
+        let step = u64::from(seed % 32);
+        let pulse = pulse_at(step, u64::MAX);
+        let limit = u64::from(seed % 7 + 1);
+        let mut fetched = generated(alloc, seed, pulse)?;
+        let mut kept = generated(alloc, seed, pulse)?.keeping::<16>();
+        assert!(rt; run_alike(&mut fetched, &mut kept, limit), "seed {seed}");
+        let mut fetched = generated(alloc, seed, pulse)?;
+        let space = in_space(alloc, generated(alloc, seed, pulse)?)?;
+        let mut kept_in_space = space.keeping::<16>();
+        assert!(rt;
+            run_alike(&mut fetched, &mut kept_in_space, limit),
+            "seed {seed}"
+        );
+    }
+    Ok(())
+}
+
+// The loop makes 1 + 40 * 6 steps before its `wfi`, at which nothing is pending.
+#[test]
+fn a_run_over_kept_words_ends_at_its_wfi(rt: HostRuntime) -> Result<(), Fail> {
+    let pulse = pulse_at(2000, u64::MAX);
+    let mut machine = machine_with(rt.alloc(), &LOOP, pulse)?.keeping::<64>();
+    let first = run_kept(&mut machine, 100);
+    let second = run_kept(&mut machine, 1000);
+    assert_eq!(rt;
+        (first.steps, first.waiting, second.steps, second.waiting),
+        (100, false, 141, true)
+    );
+    assert_eq!(rt;
+        (
+            machine.hart.pc,
+            machine.csrs.minstret,
+            machine.csrs.mcycle,
+            machine.pulse.left
+        ),
+        (0x20, 242, 242, START - 242)
+    );
+    Ok(())
+}
