@@ -144,17 +144,21 @@ class Faces(unittest.TestCase):
         self.assertEqual(machine.run(9), (0, (FaultKind.LOAD_FAULT, 1, 0), False))
 
     def test_a_core_is_checked(self):
-        words = [0x00108093, 0x00000073, 0, 0x0210C133]  # addi x1, x1, 1; ecall; -; div x2, x1, x1
+        # addi x1, x1, 1; ecall; -; div x2, x1, x1; sb x1, 0x55(x0)
+        words = [0x00108093, 0x00000073, 0, 0x0210C133, 0x04100AA3, 0]
         core, ports = Machine(words, 64), dict.fromkeys(PORTS, 0)
 
         def records(wrong):
-            for order in range(3):
+            for order in range(4):
                 yield {"valid": 0, **ports}
                 record = core.step_rvfi_ialign32(order)[1]._asdict()
                 if record["trap"]:
                     record["pc_wdata"] = core.pc = 76
                 if order == 2:
                     record["rd_wdata"] += wrong
+                if order == 3:  # the core tells the word
+                    self.assertEqual(record["mem_addr"], 0x55)
+                    record.update(mem_addr=0x54, mem_wmask=2, mem_wdata=0x100)
                 yield {"valid": 1, **record}
 
         for wrong in (0, 1):
@@ -166,7 +170,7 @@ class Faces(unittest.TestCase):
                 vars(dut).update((f"rvfi_{n}", SimpleNamespace(value=v)) for n, v in values.items())
 
             try:
-                check_core(dut, edge, Machine(words, 64), 3).send(None)
+                check_core(dut, edge, Machine(words, 64), 4).send(None)
             except StopIteration:
                 found = ""
             except AssertionError as error:
@@ -238,9 +242,11 @@ class Faces(unittest.TestCase):
             file.flush()
             machine = Machine.from_elf(file.name)
             larger = Machine.from_elf(file.name, size=4096)
+            smaller = Machine.from_elf(file.name, size=1)
         self.assertEqual((machine.base, machine.pc, len(machine.memory)), (0x12000, 0x12F44, 980))
         self.assertEqual(machine.memory[976:], [*words, 0, 0])
         self.assertEqual((len(larger.memory), sum(machine.memory)), (4096, sum(words)))
+        self.assertEqual(smaller.memory[:], machine.memory[:])
         self.assertIsNone(machine.elf.function_at(0x12F40))
         self.assertEqual(machine.elf.function_at(0x12F47), ("f\udcff", 3, True))
         self.assertEqual(machine.elf.segments, [rrs.Segment(0x12F40, 13, 84, 8, 5)])
