@@ -270,6 +270,8 @@ def boxes(machine):
     for width, height in WIDTHS:
         page.resize(width, height)
         page.ask("scrollTo(0, 0)")
+        page.wait("$('memory').rows[0].cells.length - 2 ==="
+                  " ($('memory').parentElement.clientWidth < 440 ? 2 : 4)", 5)
         for dark in (True, False):
             page.prefer(dark)
             same(f"the marks at {width}, {'dark' if dark else 'light'}", WANTED_MARKS,
