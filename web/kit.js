@@ -14,7 +14,17 @@ const LAYOUT = {
   instruction: { size: 24, row: 0, rd: 4, rs1: 8, rs2: 12, shamt: 16, imm: 20 },
   access: { size: 28, fault: 0, kind: 12, address: 16, bytes: 20, value: 24 },
   text: { size: 26 },
+  elf: { size: 20, refusal: 0, number: 4, other: 8, entry: 12, segments: 16 },
+  segment: { size: 24, loaded: 0, address: 4, memorySize: 8, fileSize: 16, flags: 20 },
+  loaded: { size: 8, refusal: 0 },
+  location: { size: 16, found: 0, distance: 4, length: 8 },
 };
+
+/* The flag of a segment whose bytes are executed. */
+const IS_CODE = 1;
+
+/* The most bytes of the name of a function that the page shows. */
+const MOST_NAME = 255;
 
 /* Where in a record of a step its words are, for the loop that has to be fast. */
 const RETIRED = Object.fromEntries(
@@ -40,8 +50,10 @@ function hasMemory64() {
 /** The library's calls over one hart and one memory, which lie in the module's own memory. */
 class Kit {
   static async load(bytes) {
-    const { instance } = await WebAssembly.instantiate(bytes, {});
-    return new Kit(instance.exports);
+    const { module, instance } = await WebAssembly.instantiate(bytes, {});
+    const kit = new Kit(instance.exports);
+    kit.module = module;
+    return kit;
   }
 
   constructor(exports) {
@@ -137,5 +149,76 @@ class Kit {
     const room = BigInt(LAYOUT.text.size);
     const length = Number(this.exports.rrs_disassemble(word, pc, this.addresses.text, room));
     return String.fromCharCode(...this.u8.subarray(this.text, this.text + length));
+  }
+}
+
+/** A file that may be an executable in the ELF format, as the library reads it. It lies in the
+ * memory of a module of its own, and goes with it. */
+class ElfFile {
+  static async of(kit, bytes) {
+    const { exports } = await WebAssembly.instantiate(kit.module, {});
+    return new ElfFile(exports, bytes);
+  }
+
+  constructor(exports, bytes) {
+    this.exports = exports;
+    const { memory, __heap_base: heapBase } = exports;
+    let next = Number(heapBase.value);
+    const place = (size) => {
+      const at = (next + 15) & ~15;
+      next = at + size;
+      return at;
+    };
+    for (const name of ["elf", "segment", "loaded", "location"]) {
+      this[name] = place(LAYOUT[name].size);
+    }
+    [this.name, this.words, this.file] =
+      [place(MOST_NAME + 1), place(MOST_BYTES), place(bytes.length)];
+    const short = next - memory.buffer.byteLength;
+    if (short > 0) memory.grow(BigInt(Math.ceil(short / PAGE_BYTES)));
+    this.u32 = new Uint32Array(memory.buffer);
+    this.u8 = new Uint8Array(memory.buffer);
+    this.u8.set(bytes, this.file);
+    this.given = [BigInt(this.file), BigInt(bytes.length)];
+    exports.rrs_elf_parse(BigInt(this.elf), ...this.given);
+    const { refusal, number, other, entry } = this.read("elf");
+    Object.assign(this, { refusal, number, other, entry });
+  }
+
+  /* The fields of a struct that a call has written. */
+  read(name) {
+    const { size, ...offsets } = LAYOUT[name];
+    return Object.fromEntries(Object.entries(offsets).map(
+      ([field, offset]) => [field, this.u32[(this[name] + offset) / 4]]));
+  }
+
+  /** The segments that are loaded. */
+  segments() {
+    const all = Array.from({ length: this.read("elf").segments }, (_, index) => {
+      this.exports.rrs_elf_segment(BigInt(this.segment), ...this.given, index);
+      return this.read("segment");
+    });
+    return all.filter(({ loaded }) => loaded);
+  }
+
+  /** The words of `count`, at most MOST_BYTES / 4, from `base` on, with the segments in them, or
+   * null where one is not within them. */
+  load(base, count) {
+    const words = this.u32.subarray(this.words / 4, this.words / 4 + count).fill(0);
+    this.exports.rrs_elf_load(
+      BigInt(this.loaded), ...this.given, BigInt(this.words), BigInt(count), base);
+    return this.read("loaded").refusal === 0 ? words : null;
+  }
+
+  /** The name of the function or label that an address lies in or behind, "" where it is too long,
+   * and how far behind its first address; or null where there is none. */
+  functionAt(address) {
+    const room = BigInt(MOST_NAME + 1);
+    this.exports.rrs_elf_function_at(
+      BigInt(this.location), ...this.given, address, BigInt(this.name), room);
+    const { found, distance, length } = this.read("location");
+    if (found === 0) return null;
+    const end = length > MOST_NAME ? this.name : this.name + length;
+    return { distance, name: String.fromCharCode(...this.u8.subarray(this.name, end)) };
   }
 }

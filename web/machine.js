@@ -39,12 +39,13 @@ class Machine {
   }
 
   /** Has `size` bytes of memory from `base` on, with the words at its start, and starts `entry`
-   * bytes behind it. With a stack sp starts as the end of memory. */
-  load(words, base, size, hasStack, entry = 0) {
+   * bytes behind it. With a stack sp starts as the end of memory, or so many bytes below it. */
+  load(words, base, size, hasStack, entry = 0, aboveStack = 0) {
     this.kit.setMemory(base, size);
     this.entry = base + entry;
     this.program = Uint32Array.from(words);
     this.hasStack = hasStack;
+    this.aboveStack = aboveStack;
     this.reset();
   }
 
@@ -53,7 +54,7 @@ class Machine {
   reset() {
     const { kit } = this;
     kit.x.fill(0);
-    if (this.hasStack) kit.x[REGISTER.SP] = kit.base + kit.size;
+    if (this.hasStack) kit.x[REGISTER.SP] = kit.base + kit.size - this.aboveStack;
     kit.pc = this.entry;
     kit.last = 0;
     kit.words.fill(0);

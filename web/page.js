@@ -338,14 +338,19 @@ class Page {
     const mistake = mistakeOfSize(file.size);
     const bytes = mistake ? null : await contentOf(file);
     if (bytes === null) this.refuse(`${file.name} ${mistake || UNREADABLE}`);
-    else this.openBytes(file.name, bytes);
+    else await this.openBytes(file.name, bytes);
     $("file").value = "";
   }
 
-  openBytes(name, bytes) {
+  async openBytes(name, bytes) {
     const { machine: { kit }, machine: { hasStack }, calls } = this.session;
     const { base, size } = kit;
     try {
+      if (isElf(bytes)) {
+        const program = await programOfElf(kit, bytes);
+        this.closeLesson();
+        return this.open({ name, ...program });
+      }
       const text = textOfFile(bytes, size);
       if (isLesson(text)) return this.openLesson(parseLesson(text), 1);
       this.closeLesson();

@@ -133,13 +133,17 @@ function isTooLong(text) {
   return text.length > MOST_TEXT || new TextEncoder().encode(text).length > MOST_TEXT;
 }
 
-/** Reads a program whose words fit `size` bytes, or throws a ProgramError. */
+/** Reads a program whose words fit `size` bytes, or throws a ProgramError. It starts at its first
+ * word. With a label `_start` it starts there, as a process of Linux does. */
 function parseProgram(text, size) {
   if (isTooLong(text)) throw new ProgramError(0, TOO_LONG);
   const program = parseWords(text);
   if (program.words.length === 0) throw new ProgramError(0, "There is no word in it.");
   refuseLarger(4 * program.words.length, size);
-  return { ...program, sources: new Map(), entry: 0 };
+  const start = program.places.get("_start");
+  return {
+    ...program, sources: new Map(), entry: start?.offset ?? 0, isProcess: start !== undefined,
+  };
 }
 
 /* Refuses a program that has more bytes than its memory. */
@@ -231,15 +235,9 @@ function mistakeOfSize(size) {
   return size > MOST_TEXT ? `has ${numbered(size)} bytes, and a program ${most} at most.` : "";
 }
 
-const ELF = [0x7f, 0x45, 0x4c, 0x46];
-
-/** The text of the program that a file's bytes are, by what they hold: a text of words, or else raw
- * bytes for a memory of `room` bytes. Throws a ProgramError. */
+/** The text of the program that the bytes of a file that is no executable are, by what they hold: a
+ * text of words, or else raw bytes for a memory of `room` bytes. Throws a ProgramError. */
 function textOfFile(bytes, room) {
-  if (ELF.every((byte, at) => bytes[at] === byte)) {
-    throw new ProgramError(0, "It is an executable in the ELF format, and the page takes raw "
-      + "bytes: objcopy -O binary makes them of it.");
-  }
   const text = textIn(bytes);
   if (text !== null) return text;
   if (bytes.length > room) {
@@ -253,7 +251,7 @@ function textOfFile(bytes, room) {
 function textOfBytes(bytes) {
   const words = new Uint32Array(Math.ceil(bytes.length / 4));
   new Uint8Array(words.buffer).set(bytes);
-  return Array.from(words, (word) => `0x${hexOf(word)}\n`).join("");
+  return textOfWords(words, new Map());
 }
 
 function hexOf(word, digits = 8) {

@@ -21,6 +21,10 @@ const PRESETS = [
   { name: "as rrs exec: 1 MiB, sp at its end", base: 0, size: 1 << 20, hasStack: true },
 ];
 
+/* How many bytes of zeros lie above sp where a process starts: no arguments, no environment, and an
+ * auxiliary vector with no entry. */
+const NO_ARGUMENTS = 64;
+
 /** A machine with its program, breakpoints, and what was last said of it. */
 class Session {
   constructor(machine) {
@@ -71,13 +75,13 @@ class Session {
       throw new ProgramError(0, `The calls can be those of ${known}.`);
     }
     const { machine } = this;
-    const { words, labels, places, comments, sources, entry } =
+    const { words, labels, places, comments, sources, entry, isProcess } =
       this.read(text, language, base, size);
     this.stop();
     const stops = keepsStops ? this.stopsIn(places) : [];
     Object.assign(this, { name, about, text, language, labels, places, comments, sources });
     machine.environment = ENVIRONMENTS[calls];
-    machine.load(words, base, size, hasStack, entry);
+    machine.load(words, base, size, hasStack, entry, isProcess ? NO_ARGUMENTS : 0);
     this.stops = new Uint8Array(size / 4);
     for (const index of stops) if (index < this.stops.length) this.stops[index] = STOP.BREAKPOINT;
     this.selected = 0;

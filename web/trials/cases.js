@@ -19,6 +19,7 @@ const { tryCalls } = require("./cases/calls.js");
 const { tryChanges } = require("./cases/changes.js");
 const { tryAssembly } = require("./cases/assembly.js");
 const { tryLessons } = require("./cases/lessons.js");
+const { tryExecutables } = require("./cases/executables.js");
 
 async function main([folder, module]) {
   const clock = makeClock();
@@ -36,6 +37,7 @@ async function main([folder, module]) {
   await tryChanges(report, page, kit, clock);
   tryAssembly(report, page, kit);
   await tryLessons(report, page, kit);
+  await tryExecutables(report, page, kit);
   for (const [subject, count] of report.counts) console.log(`${subject} ${count}`);
   return report.failed === 0 ? 0 : 1;
 }

@@ -3,6 +3,7 @@
 import base64
 import os
 import pathlib
+import struct
 import tempfile
 import time
 import zlib
@@ -49,8 +50,8 @@ def files(machine):
         machine.says("Not opened", "empty.bin is empty.")
         (folder / "program.hex").write_bytes(b"\x7fELF\x01")
         machine.give(folder / "program.hex")
-        machine.says("Not opened", "program.hex was not opened. It is an executable in the ELF "
-                     "format, and the page takes raw bytes: objcopy -O binary makes them of it.")
+        machine.says("Not opened", "program.hex was not opened. It is no executable for this "
+                     "machine: the file ends within the ELF header.")
         (folder / "source.s").write_text("# a program\nli a0, 5\n")
         machine.give(folder / "source.s")
         machine.says("Ready", "4 bytes from 0x00000000 on.")
@@ -70,6 +71,57 @@ def files(machine):
             machine.page.text("#program-title"), machine.page.text("#line-1 .comment")])
     drop(machine, "dropped.bin", b"\x37\xb1\x34\x12")
     same("line 0", "lui sp, 0x1234b000", machine.line(0)[2])
+
+
+def executable():
+    """An executable in the ELF format with two functions: _start calls answer, and exits with what
+    it gives, 42."""
+    code = struct.pack("<5I", 0x00C000EF, 0x05D00893, 0x00000073, 0x02A00513, 0x00008067)
+    names = b"\0_start\0answer\0"
+    symbols = b"".join(struct.pack("<IIIBBH", *symbol) for symbol in (
+        (0, 0, 0, 0, 0, 0), (1, 0x10054, 0, 0x10, 0, 1), (8, 0x10060, 8, 0x12, 0, 1)))
+    at = 52 + 32
+    symbols_at = at + len(code)
+    names_at = symbols_at + len(symbols)
+    header = struct.pack("<16sHHIIIIIHHHHHH", b"\x7fELF\1\1\1", 2, 243, 1, 0x10000 + at, 52,
+                         names_at + 16, 0, 52, 32, 1, 40, 3, 0)
+    segment = struct.pack("<8I", 1, 0, 0x10000, 0, symbols_at, symbols_at, 5, 4096)
+    sections = bytes(40) + struct.pack(
+        "<20I", 0, 2, 0, 0, symbols_at, len(symbols), 2, 1, 4, 16,
+        0, 3, 0, 0, names_at, len(names), 0, 0, 1, 0)
+    return header + segment + code + symbols + names.ljust(16, b"\0") + sections
+
+
+def executables(machine):
+    """files: an executable in the ELF format, chosen and dropped, with the names of its functions"""
+    machine.choose("gcd")
+    with tempfile.TemporaryDirectory() as name:
+        path = pathlib.Path(name) / "answer"
+        path.write_bytes(executable())
+        machine.give(path)
+    same("the title", ["answer", ""], [machine.page.text("#program-title"), machine.page.ask(
+        "document.querySelector('#examples').value")])
+    is_executable(machine)
+    machine.run()
+    machine.says("Exit", "The program ended by the ecall at 0x0001005c, with status 42.")
+    machine.keys("l")
+    machine.page.wait("document.querySelector('#shared').open")
+    link = machine.page.ask("document.querySelector('#link').value")
+    machine.page.click("#shared [data-close]")
+    machine.choose("gcd")
+    drop(machine, "dropped", executable())
+    is_executable(machine)
+    follow(machine, link)
+    is_executable(machine)
+
+
+def is_executable(machine):
+    """Compares what the page shows of the executable before its first step."""
+    same("pc and sp", ["0x00010054", "0x0010ffc0"],
+         [machine.register("pc"), machine.register("x2")])
+    same("the labels", ["_start:", "answer:"],
+         [machine.page.text(f"#line-{index} .label") for index in (21, 24)])
+    same("the call", ["00010054", "00c000ef", "jal ra, answer", ""], machine.line(21))
 
 
 def files_that_cannot_be_read(machine):
@@ -261,5 +313,5 @@ def refused_links(machine):
         machine.says("Not opened", sentence)
 
 
-TRIALS = [editor, editor_by_keys, files, files_that_cannot_be_read, long_texts]
+TRIALS = [editor, editor_by_keys, files, executables, files_that_cannot_be_read, long_texts]
 LINKS = [links, refused_links]

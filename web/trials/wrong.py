@@ -18,6 +18,7 @@ IN_NODE = [
      'mv: ofOne((rd, rs1) => ["addi", { rd, imm: rs1 }])'),
     ("convention.js", "if (after !== before && frame.isPlain)", "if (after < before)"),
     ("lesson.js", "if (value === wanted) continue;", "if (value >= wanted) continue;"),
+    ("executable.js", "const start = at - where.distance;", "const start = at;"),
 ]
 IN_BROWSER = [
     (actions.by_each_way, "page.js", '"click", () => this.act(', '"click", () => void ('),

@@ -7,8 +7,8 @@ const path = require("node:path");
 
 const SCRIPTS = [
   "kit", "terminal", "history", "actions", "machine", "calls", "frames", "convention", "operands",
-  "statements", "assembly", "colours", "program", "lesson", "examples", "wording", "session",
-  "views", "editor",
+  "statements", "assembly", "colours", "program", "executable", "lesson", "examples", "wording",
+  "session", "views", "editor",
 ];
 const DEFINED = /^(?:const|class|function|async function) ([A-Za-z_]\w*)/gm;
 

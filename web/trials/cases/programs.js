@@ -66,8 +66,6 @@ function sizesOfTexts(report, page) {
 function files(report, page) {
   const bytes = (...values) => Uint8Array.from(values);
   const written = (text) => new TextEncoder().encode(text);
-  const elf = "It is an executable in the ELF format, and the page takes raw bytes: objcopy -O "
-    + "binary makes them of it.";
   const tooLong = "It has 65,537 bytes, and the memory has 65,536. A larger memory can be chosen "
     + "at Machine.";
   const raw = bytes(0x37, 0xb1, 0x34, 0x12, 0x01);
@@ -76,7 +74,7 @@ function files(report, page) {
     [raw.subarray(1), "0x011234b1\n"], [written("13 # é\t\r\n\f"), "13 # é\t\r\n\f"],
     [written("nothing"), "nothing"], [bytes(0x31, 0), "0x00000031\n"],
     [bytes(0x31, 0x80), "0x00008031\n"], [bytes(0x31, 0x1b), "0x00001b31\n"],
-    [bytes(0x7f, 0x45, 0x4c, 0x46, 1), elf], [bytes(0x7f, 0x45, 0x4c), "0x004c457f\n"],
+    [bytes(0x7f, 0x45, 0x4c), "0x004c457f\n"],
     [new Uint8Array(65536), "0x00000000\n".repeat(16384)], [new Uint8Array(65537), tooLong],
     [written("# ".repeat(40000)), "# ".repeat(40000)],
   ], (content) => {
