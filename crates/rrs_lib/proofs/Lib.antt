@@ -18,6 +18,7 @@ pub mod ComputedSteps
 pub mod Engines
 pub mod Keeping
 pub mod Making
+pub mod Numbers
 pub mod Programs
 pub mod Stepping
 pub mod TextLengths

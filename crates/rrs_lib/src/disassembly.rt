@@ -33,7 +33,7 @@ use arrayvec::ArrayString;
 pub use digits::hexadecimal_digits;
 use itoa::{Buffer, Integer};
 use rrs_instruction::arithmetic;
-use std::fmt;
+use std::{fmt, str};
 
 /// The number of bytes of the longest text that a word has, as `bgeu x10, x11, 0x00000108`.
 pub const LONGEST_TEXT: usize = 25;
@@ -155,7 +155,7 @@ fn mnemonic_alone(name: &'static str) -> InstructionText
 }
 
 /// Appends a number in decimal, and what comes before it.
-#[inline]
+#[inline(always)]
 fn push_number<I: Integer>(text: &mut InstructionText, before: &str, number: I)
     requires { length text.old.bytes + length before.now + I.MAX_STR_LEN ≤ TEXT_CAPACITY }
     ensures bytes { text.new.bytes ≡ text.old.bytes ++ before.now ++ I.text number }
@@ -165,6 +165,26 @@ fn push_number<I: Integer>(text: &mut InstructionText, before: &str, number: I)
     let mut buffer = Buffer::new();
     text.push_str(before);
     text.push_str(buffer.format(number));
+}
+
+/// Appends a register, and what comes before it. A register that there is has one digit or two.
+#[inline(always)]
+#[tactic(auto, using(crate::proofs::Numbers::one_digit, crate::proofs::Numbers::two_digits))]
+fn push_register(text: &mut InstructionText, before: &str, number: usize)
+    requires { length text.old.bytes + length before.now + 21 ≤ TEXT_CAPACITY }
+    ensures bytes { text.new.bytes ≡ text.old.bytes ++ before.now ++ register number }
+    ensures length { length text.new.bytes ≤ length text.old.bytes + length before.now + 21 }
+{
+    text.push_str(before);
+    if number < 10 {
+        let name = [b'x', b'0' + number as u8];
+        text.push_str(unsafe { str::from_utf8_unchecked(&name) });
+    } else if number < 100 {
+        let name = [b'x', b'0' + (number / 10) as u8, b'0' + (number % 10) as u8];
+        text.push_str(unsafe { str::from_utf8_unchecked(&name) });
+    } else {
+        push_number(text, "x", number);
+    }
 }
 
 /// Appends a number in hexadecimal, with zeros in front up to `least` digits, after `, 0x`.
@@ -186,9 +206,9 @@ fn three_registers(name: &'static str, dec_insn: RType) -> InstructionText
         ++ register dec_insn.rs1 ++ codes ", " ++ register dec_insn.rs2 }
 {
     let mut text = mnemonic_alone(name);
-    push_number(&mut text, " x", dec_insn.rd);
-    push_number(&mut text, ", x", dec_insn.rs1);
-    push_number(&mut text, ", x", dec_insn.rs2);
+    push_register(&mut text, " ", dec_insn.rd);
+    push_register(&mut text, ", ", dec_insn.rs1);
+    push_register(&mut text, ", ", dec_insn.rs2);
     text
 }
 
@@ -199,8 +219,8 @@ fn two_registers(name: &'static str, dec_insn: IType) -> InstructionText
         ++ register dec_insn.rs1 ++ codes ", " ++ signed_decimal dec_insn.imm }
 {
     let mut text = mnemonic_alone(name);
-    push_number(&mut text, " x", dec_insn.rd);
-    push_number(&mut text, ", x", dec_insn.rs1);
+    push_register(&mut text, " ", dec_insn.rd);
+    push_register(&mut text, ", ", dec_insn.rs1);
     push_number(&mut text, ", ", dec_insn.imm);
     text
 }
@@ -212,8 +232,8 @@ fn shifted_register(name: &'static str, dec_insn: ITypeShamt) -> InstructionText
         ++ register dec_insn.rs1 ++ codes ", " ++ decimal dec_insn.shamt }
 {
     let mut text = mnemonic_alone(name);
-    push_number(&mut text, " x", dec_insn.rd);
-    push_number(&mut text, ", x", dec_insn.rs1);
+    push_register(&mut text, " ", dec_insn.rd);
+    push_register(&mut text, ", ", dec_insn.rs1);
     push_number(&mut text, ", ", dec_insn.shamt);
     text
 }
@@ -225,7 +245,7 @@ fn register_and_word(name: &'static str, rd: usize, value: u32) -> InstructionTe
         ++ hexadecimal 8 value }
 {
     let mut text = mnemonic_alone(name);
-    push_number(&mut text, " x", rd);
+    push_register(&mut text, " ", rd);
     push_word(&mut text, 8, value);
     text
 }
@@ -237,8 +257,8 @@ fn branch_to(name: &'static str, dec_insn: BType, target: u32) -> InstructionTex
         ++ register dec_insn.rs2 ++ codes ", 0x" ++ hexadecimal 8 target }
 {
     let mut text = mnemonic_alone(name);
-    push_number(&mut text, " x", dec_insn.rs1);
-    push_number(&mut text, ", x", dec_insn.rs2);
+    push_register(&mut text, " ", dec_insn.rs1);
+    push_register(&mut text, ", ", dec_insn.rs2);
     push_word(&mut text, 8, target);
     text
 }
@@ -250,9 +270,9 @@ fn register_and_place(name: &'static str, reg: usize, imm: i32, base: usize) -> 
         ++ signed_decimal imm ++ codes "(" ++ register base ++ codes ")" }
 {
     let mut text = mnemonic_alone(name);
-    push_number(&mut text, " x", reg);
+    push_register(&mut text, " ", reg);
     push_number(&mut text, ", ", imm);
-    push_number(&mut text, "(x", base);
+    push_register(&mut text, "(", base);
     text.push_str(")");
     text
 }
@@ -264,9 +284,9 @@ fn jump(name: &'static str, dec_insn: IType) -> InstructionText
         ++ hexadecimal 3 (word dec_insn.imm) ++ codes "(" ++ register dec_insn.rs1 ++ codes ")" }
 {
     let mut text = mnemonic_alone(name);
-    push_number(&mut text, " x", dec_insn.rd);
+    push_register(&mut text, " ", dec_insn.rd);
     push_word(&mut text, 3, arithmetic::immediate(dec_insn.imm));
-    push_number(&mut text, "(x", dec_insn.rs1);
+    push_register(&mut text, "(", dec_insn.rs1);
     text.push_str(")");
     text
 }

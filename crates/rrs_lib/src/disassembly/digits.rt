@@ -12,7 +12,7 @@ const WORD_DIGITS: usize = 8;
 
 /// The hexadecimal digits of a word, in lower case, with zeros in front up to `least` digits, at
 /// most 8.
-#[inline]
+#[inline(always)]
 pub fn hexadecimal_digits(least: usize, word: u32) -> ArrayString<WORD_DIGITS>
     requires { least ≤ 8 }
     ensures { result.bytes ≡ hexadecimal least word }
