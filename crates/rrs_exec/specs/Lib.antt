@@ -3,3 +3,4 @@
 pub use Rattle.rrs_linux.specs.SystemCalls
 pub use Rattle.rrs_process.specs.Images
 pub mod Processes
+pub mod Watching

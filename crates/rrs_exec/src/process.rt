@@ -32,7 +32,7 @@ pub struct ProcessEnd {
 }
 
 /// The zero words of a process's memory.
-fn zeros(alloc: Global, layout: &Layout) -> Result<Vec<u32>, ImageError>
+pub fn zeros(alloc: Global, layout: &Layout) -> Result<Vec<u32>, ImageError>
     requires { layout.now.base ≤ layout.now.end }
     ensures { IfOk result (λ words.
         words.items ≡ replicate ((layout.now.end - layout.now.base) / 4) 0) }
@@ -45,7 +45,7 @@ fn zeros(alloc: Global, layout: &Layout) -> Result<Vec<u32>, ImageError>
 }
 
 /// A hart at an address, all of whose registers are 0 but sp.
-fn started(entry: u32, sp: u32) -> HartState
+pub fn started(entry: u32, sp: u32) -> HartState
     ensures { (bytes : ℕ → Option ℕ) (writable : ℕ → Bool)
         → state_of result bytes writable ≡ started entry sp bytes writable }
 {

@@ -1,1 +1,2 @@
--- No contract of this crate cites a definition.
+-- What is written of a run: the commit log.
+pub mod CommitLogs

@@ -67,6 +67,26 @@ impl<'a> Code<'a> {
         })
     }
 
+    /// The lowest address of code.
+    pub fn base(&self) -> u32 {
+        self.base
+    }
+
+    /// How many words there are from the lowest address of code on, up to 4 million.
+    pub fn words(&self) -> usize {
+        self.owners.len()
+    }
+
+    /// The functions, in the order of their addresses.
+    pub fn functions(&self) -> &[Function<'a>] {
+        &self.functions
+    }
+
+    /// Whether a part has the word at an address.
+    pub fn has_word(&self, address: u32) -> bool {
+        self.parts.iter().any(|part| address.wrapping_sub(part.address) / 4 < part.words())
+    }
+
     /// The place of an address among the words from the base on.
     fn place_of(&self, address: u32) -> usize {
         (address.wrapping_sub(self.base) / 4) as usize

@@ -1,0 +1,259 @@
+-- Chains of runs and calls that begin by one step, and runs that are made of turns.
+use Rattle.std.proofs.Common.{◌≡◌, ℕ, suc, ◌+◌, ◌-◌, ◌<◌, ◌≤◌, List, [], ◌++◌, Bool, true, false, Option, Some, None, Ok, Err, refl, sym, subst, ap, ◌∙◌, append_assoc, arith}
+use Rattle.std.proofs.lemmas.List.{append-nil}
+use Rattle.rrs_lib.specs.declared.MemAccessSize.{MemAccessSize}
+use Rattle.rrs_lib.specs.declared.instruction_executor.InstructionException.{InstructionException}
+use Rattle.rrs_lib.specs.declared.instruction_executor.InstructionException.TheVariants.{EnvironmentCall}
+use Rattle.rrs_lib.specs.Machine.{State}
+use Rattle.rrs_lib.specs.Steps.{Step, RunUntil}
+use Rattle.rrs_lib.specs.Accesses.{Access, AccessesOf, AccessesOfRun, answers_of_run, Makes}
+use Rattle.rrs_lib.proofs.Making.{Makes-append}
+use Rattle.rrs_trace.specs.declared.retired.Retired.{Retired}
+use Rattle.rrs_env.specs.declared.Ending.{Ending}
+use Rattle.rrs_env.specs.declared.Ending.TheVariants.{Limit, Fault, Exit}
+use Rattle.rrs_env.specs.Serving.{Relation, EndsBy, Called, Served, Last, Exits, GoesOn, MakesSome}
+use Rattle.rrs_env.proofs.Rounds.{ends_by_fault}
+use Rattle.rrs_exec.specs.Watching.{ServesAt, Turn, Stepped, Faulted, Turns, NoTurn, OneMore, ToLimit, ToExit, ToFault, IsWatched}
+use Rattle.rrs_exec.specs.Watching.{Called as CalledTurn}
+
+-- a watcher that wants no more does not want more
+pub no_more : {P : Type 0} (b : Bool) → b ≡ false → b ≡ true → P
+no_more b below above = absurd (let differ : false ≡ true = sym below ∙ above in cc)
+
+-- ---- a step before a run
+
+run_first : (x : Option InstructionException) (limit steps : ℕ) (s m t : State) → Step s m (Ok tt)
+    → RunUntil limit m steps x t → RunUntil (suc limit) s (suc steps) x t
+run_first None limit steps s m t step run = (ap suc run.0, (m, step, run.1))
+run_first (Some e) limit steps s m t step run =
+    (omega (arith, run.0), (run.1.0, (m, step, run.1.1), run.1.2))
+
+accesses_first : (x : Option InstructionException) (steps : ℕ) (s m : State) (a b : List Access) → Step s m (Ok tt)
+    → AccessesOf s a → AccessesOfRun m (answers_of_run steps x) b
+    → AccessesOfRun s (answers_of_run (suc steps) x) (a ++ b)
+accesses_first None steps s m a b step of are = (m, a, b, step, of, are, refl)
+accesses_first (Some e) steps s m a b step of are = (m, a, b, step, of, are, refl)
+
+module _ {E : Type 0} (serves : Relation E) where
+  called_first : (limit : ℕ) (e d : E) (s m t : State) (steps : ℕ) (answer : Option ℕ) (a b : List Access)
+      → Step s m (Ok tt) → AccessesOf s a → Called serves limit e m steps answer d t b
+      → Called serves (suc limit) e s (suc steps) answer d t (a ++ b)
+  called_first limit e d s m t steps answer a b step of c = record {
+    before = suc c.before;
+    pc = c.pc;
+    at_call = c.at_call;
+    after_call = c.after_call;
+    of_run = a ++ c.of_run;
+    of_call = c.of_call;
+    run = run_first (Some (EnvironmentCall c.pc)) limit c.before s m c.at_call step c.run;
+    accessed = accesses_first (Some (EnvironmentCall c.pc)) c.before s m a c.of_run step of c.accessed;
+    served = c.served;
+    goes_on = c.goes_on;
+    counted = omega (arith, c.counted);
+    all = ap (λ x. a ++ x) c.all ∙ sym (append_assoc a c.of_run c.of_call);
+  }
+
+  pub served_first : (ending : Ending) (e' : E) (t : State) (limit : ℕ) (e : E) (s m : State) (steps : ℕ) (a b : List Access)
+      → Step s m (Ok tt) → AccessesOf s a → Served serves ending e' t limit e m steps b
+      → Served serves ending e' t (suc limit) e s (suc steps) (a ++ b)
+  served_first ending e' t limit e s m steps a b step of (Last _ _ _ _ _ x run are ends same) =
+      Last (suc limit) e s (suc steps) (a ++ b) x (run_first x limit steps s m t step run)
+      (accesses_first x steps s m a b step of are) ends same
+  served_first ending e' t limit e s m steps a b step of (Exits _ _ _ _ _ status c is) =
+      Exits (suc limit) e s (suc steps) (a ++ b) status (called_first limit e e' s m t steps (Some status) a b step of c) is
+  served_first ending e' t limit e s m _ a _ step of (GoesOn _ _ _ first later x y d u c rest) =
+      let less : limit - first ≡ suc limit - suc first = omega arith in
+      let whole =
+      GoesOn (suc limit) e s (suc first) later (a ++ x) y d u (called_first limit e d s m u first None a x step of c)
+      (subst (λ n. Served serves ending e' t n d u later y) less rest) in
+      let sum : suc first + later ≡ suc (first + later) = omega arith in
+      let all : (a ++ x) ++ y ≡ a ++ (x ++ y) = append_assoc a x y in
+      subst (λ n. Served serves ending e' t (suc limit) e s n (a ++ (x ++ y))) sum
+      (subst (λ l. Served serves ending e' t (suc limit) e s (suc first + later) l) all whole)
+
+  -- a run that is at its limit
+  pub served_none : (e : E) (t : State) → Served serves Limit e t 0 e t 0 []
+  served_none e t = Last 0 e t 0 [] None (refl, refl) refl refl refl
+
+  -- an ecall, and its call, as a round of their own
+  one_call : (rest : ℕ) (e d : E) (s m t : State) (pc : ℕ) (answer : Option ℕ) (of_step of_call a : List Access)
+      → Step s m (Err (EnvironmentCall pc)) → AccessesOf s of_step → ServesAt serves pc e m answer d t of_call
+      → a ≡ of_step ++ of_call → Called serves (suc rest) e s 1 answer d t a
+  one_call rest e d s m t pc answer of_step of_call a step of call all = record {
+    before = 0;
+    pc = pc;
+    at_call = m;
+    after_call = call.after_call;
+    of_run = of_step;
+    of_call = of_call;
+    run = (omega arith, (s, refl, step));
+    accessed = (m, of_step, [], step, of, refl, sym (append-nil of_step));
+    served = call.served;
+    goes_on = call.goes_on;
+    counted = omega arith;
+    all = all;
+  }
+
+  -- ---- turns
+
+  module _ {V : Type 0} (sees : V → Retired → V → Type 0) where
+    turn_first : (n : ℕ) (e d e' : E) (s m t : State) (v w : V) (ending : Ending) (rest later : ℕ) (a b : List Access)
+        → Turn serves sees n e s v (Ok None) d m w a → Served serves ending e' t rest d m later b
+        → Served serves ending e' t (suc rest) e s (suc later) (a ++ b)
+    turn_first n e d e' s m t v w ending rest later a b (Stepped r step _ _ of _ same) served =
+        served_first ending e' t rest e s m later a b step of
+        (subst (λ x. Served serves ending e' t rest x m later b) same served)
+    turn_first n e d e' s m t v w ending rest later a b (Faulted r fault _ _ _ _ _ answers _) served = absurd (cc)
+    turn_first n e d e' s m t v w ending rest later a b (CalledTurn r pc None k of_step of_call step _ _ of call answers all) served =
+        let less : rest ≡ suc rest - 1 = omega arith in
+        let whole =
+        GoesOn (suc rest) e s 1 later a b d m (one_call rest e d s k m pc None of_step of_call a step of call all)
+        (subst (λ x. Served serves ending e' t x d m later b) less served) in
+        let sum : 1 + later ≡ suc later = omega arith in
+        subst (λ x. Served serves ending e' t (suc rest) e s x (a ++ b)) sum whole
+    turn_first n e d e' s m t v w ending rest later a b (CalledTurn r pc (Some status) _ _ _ _ _ _ _ _ answers _) served = absurd (cc)
+
+    turn_exits : (n : ℕ) (e e' : E) (s t : State) (v w : V) (status rest : ℕ) (a : List Access)
+        → Turn serves sees n e s v (Ok (Some status)) e' t w a
+        → Served serves (Exit status) e' t (suc rest) e s 1 a
+    turn_exits n e e' s t v w status rest a (Stepped r _ _ _ _ answers _) = absurd (cc)
+    turn_exits n e e' s t v w status rest a (Faulted r fault _ _ _ _ _ answers _) = absurd (cc)
+    turn_exits n e e' s t v w status rest a (CalledTurn r pc None _ _ _ _ _ _ _ _ answers _) = absurd (cc)
+    turn_exits n e e' s t v w status rest a (CalledTurn r pc (Some other) k of_step of_call step _ _ of call answers all) =
+        let same : status ≡ other = cc in
+        Exits (suc rest) e s 1 a other (one_call rest e e' s k t pc (Some other) of_step of_call a step of call all) (ap Exit same)
+
+    turn_faults : (n : ℕ) (e e' : E) (s t : State) (v w : V) (fault : InstructionException) (rest : ℕ) (a : List Access)
+        → Turn serves sees n e s v (Err fault) e' t w a
+        → Served serves (Fault fault) e' t (suc rest) e s 0 a
+    turn_faults n e e' s t v w fault rest a (Stepped r _ _ _ _ answers _) = absurd (cc)
+    turn_faults n e e' s t v w fault rest a (Faulted r other step _ _ of no_call answers same) =
+        let is : other ≡ fault = cc in
+        let ends : EndsBy (Some other) (Fault fault) =
+        subst (λ x. EndsBy (Some other) (Fault x)) is (ends_by_fault other no_call) in
+        Last (suc rest) e s 0 a (Some other) (omega arith, (s, refl, step))
+        (t, a, [], step, of, refl, sym (append-nil a)) ends same
+    turn_faults n e e' s t v w fault rest a (CalledTurn r pc end _ _ _ _ _ _ _ _ answers _) = absurd (cc)
+
+    module _ {M : Type 0} (reads : M → ℕ → MemAccessSize → M → Option ℕ → Type 0)
+        (writes : M → ℕ → MemAccessSize → ℕ → M → Bool → Type 0) where
+      -- The turns so far lead from the start to here: what follows from here follows from the start.
+      pub record Leads (e : E) (s : State) (v : V) (m : M) (steps : ℕ) (d : E) (u : State) (w : V) (k : M) : Type 0 where
+        pub accesses : List Access
+        pub goes_on : (ending : Ending) (e' : E) (t : State) (rest later : ℕ) (b : List Access)
+            → Served serves ending e' t rest d u later b
+            → Served serves ending e' t (steps + rest) e s (steps + later) (accesses ++ b)
+        pub made : Makes reads writes accesses m k
+        pub shown : Turns serves sees e s v steps d u w
+
+      pub leads_none : (e : E) (s : State) (v : V) (m : M) → Leads e s v m 0 e s v m
+      leads_none e s v m = record {
+        accesses = [];
+        goes_on = λ ending e' t rest later b served.
+            let first : rest ≡ 0 + rest = omega arith in
+            let second : later ≡ 0 + later = omega arith in
+            subst (λ x. Served serves ending e' t x e s (0 + later) b) first
+            (subst (λ x. Served serves ending e' t rest e s x b) second served);
+        made = refl;
+        shown = NoTurn;
+      }
+
+      leads_on : (e d e1 : E) (s u t1 : State) (v w w1 : V) (m k k1 : M) (steps : ℕ)
+          → Leads e s v m steps d u w k
+          → MakesSome reads writes (Turn serves sees steps d u w (Ok None) e1 t1 w1) k k1
+          → Leads e s v m (steps + 1) e1 t1 w1 k1
+      leads_on e d e1 s u t1 v w w1 m k k1 steps before turn = record {
+        accesses = before.accesses ++ turn.accesses;
+        goes_on = λ ending e' t rest later b served.
+            let next = turn_first steps d e1 e' u t1 t w w1 ending rest later turn.accesses b turn.these served in
+            let whole = before.goes_on ending e' t (suc rest) (suc later) (turn.accesses ++ b) next in
+            let first : steps + suc rest ≡ steps + 1 + rest = omega arith in
+            let second : steps + suc later ≡ steps + 1 + later = omega arith in
+            let all : before.accesses ++ (turn.accesses ++ b) ≡ (before.accesses ++ turn.accesses) ++ b =
+            sym (append_assoc before.accesses turn.accesses b) in
+            let a = (before.accesses ++ turn.accesses) ++ b in
+            subst (λ x. Served serves ending e' t x e s (steps + 1 + later) a) first
+            (subst (λ x. Served serves ending e' t (steps + suc rest) e s x a) second
+            (subst (λ x. Served serves ending e' t (steps + suc rest) e s (steps + suc later) x) all whole));
+        made = Makes-append reads writes before.accesses turn.accesses m k k1 before.made turn.made;
+        shown = OneMore steps d e1 u t1 w w1 turn.accesses before.shown turn.these;
+      }
+
+      pub leads_more : (e d e1 : E) (s u t1 : State) (v w w1 : V) (m k k1 : M) (steps : ℕ) (answer : Option ℕ)
+          → answer ≡ None → Leads e s v m steps d u w k
+          → MakesSome reads writes (Turn serves sees steps d u w (Ok answer) e1 t1 w1) k k1
+          → Leads e s v m (steps + 1) e1 t1 w1 k1
+      leads_more e d e1 s u t1 v w w1 m k k1 steps answer is before given =
+          let turn =
+          subst (λ x. MakesSome reads writes (Turn serves sees steps d u w (Ok x) e1 t1 w1) k k1) is given in
+          leads_on e d e1 s u t1 v w w1 m k k1 steps before turn
+
+      pub ends_at_limit : (wants : V → Bool) (limit : ℕ) (e d : E) (s u : State) (v w : V) (m k : M) (steps now : ℕ)
+          → now ≡ steps → steps ≤ limit → (wants w ≡ true → steps ≡ limit) → Leads e s v m now d u w k
+          → MakesSome reads writes (IsWatched serves sees wants limit e s v steps Limit d u w) m k
+      ends_at_limit wants limit e d s u v w m k steps now is within all here =
+          let before = subst (λ n. Leads e s v m n d u w k) is here in
+          let whole = before.goes_on Limit d u 0 0 [] (served_none d u) in
+          let same : steps + 0 ≡ steps = omega arith in
+          let a = before.accesses ++ [] in
+          record {
+            accesses = a;
+            these = record {
+              most = steps;
+              within = within;
+              all = all;
+              served = subst (λ x. Served serves Limit d u x e s x a) same whole;
+              shown = ToLimit before.shown refl;
+            };
+            made = Makes-append reads writes before.accesses [] m k k before.made refl;
+          }
+
+      pub ends_by_exit : (wants : V → Bool) (limit : ℕ) (e d e' : E) (s u t : State) (v w v' : V) (m k k' : M) (steps status : ℕ) (answer : Option ℕ)
+          → answer ≡ Some status → steps < limit → Leads e s v m steps d u w k
+          → MakesSome reads writes (Turn serves sees steps d u w (Ok answer) e' t v') k k'
+          → MakesSome reads writes (IsWatched serves sees wants limit e s v (steps + 1) (Exit status) e' t v') m k'
+      ends_by_exit wants limit e d e' s u t v w v' m k k' steps status answer is below before given =
+          let turn =
+          subst (λ x. MakesSome reads writes (Turn serves sees steps d u w (Ok x) e' t v') k k') is given in
+          let rest = limit - (steps + 1) in
+          let whole =
+          before.goes_on (Exit status) e' t (suc rest) 1 turn.accesses
+          (turn_exits steps d e' u t w v' status rest turn.accesses turn.these) in
+          let full : steps + suc rest ≡ limit = omega (arith, below) in
+          let a = before.accesses ++ turn.accesses in
+          record {
+            accesses = a;
+            these = record {
+              most = limit;
+              within = omega arith;
+              all = λ _. refl;
+              served = subst (λ x. Served serves (Exit status) e' t x e s (steps + 1) a) full whole;
+              shown = ToExit steps status d u w turn.accesses before.shown turn.these refl refl;
+            };
+            made = Makes-append reads writes before.accesses turn.accesses m k k' before.made turn.made;
+          }
+
+      pub ends_by_fault_at : (wants : V → Bool) (limit : ℕ) (e d e' : E) (s u t : State) (v w v' : V) (m k k' : M) (steps : ℕ)
+          (fault : InstructionException) → steps < limit → Leads e s v m steps d u w k
+          → MakesSome reads writes (Turn serves sees steps d u w (Err fault) e' t v') k k'
+          → MakesSome reads writes (IsWatched serves sees wants limit e s v steps (Fault fault) e' t v') m k'
+      ends_by_fault_at wants limit e d e' s u t v w v' m k k' steps fault below before turn =
+          let rest = limit - (steps + 1) in
+          let whole =
+          before.goes_on (Fault fault) e' t (suc rest) 0 turn.accesses
+          (turn_faults steps d e' u t w v' fault rest turn.accesses turn.these) in
+          let full : steps + suc rest ≡ limit = omega (arith, below) in
+          let same : steps + 0 ≡ steps = omega arith in
+          let a = before.accesses ++ turn.accesses in
+          record {
+            accesses = a;
+            these = record {
+              most = limit;
+              within = omega arith;
+              all = λ _. refl;
+              served = subst (λ x. Served serves (Fault fault) e' t limit e s x a) same
+                  (subst (λ x. Served serves (Fault fault) e' t x e s (steps + 0) a) full whole);
+              shown = ToFault fault d u w turn.accesses before.shown turn.these refl;
+            };
+            made = Makes-append reads writes before.accesses turn.accesses m k k' before.made turn.made;
+          }

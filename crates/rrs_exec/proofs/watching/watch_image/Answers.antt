@@ -1,0 +1,43 @@
+-- The watched run begins in the image, with the heap that was set.
+use Rattle.std.proofs.Common.{subst, refl}
+use Rattle.rrs_lib.specs.Machine.{State}
+use Rattle.rrs_lib.specs.Executor.{state_in}
+use Rattle.rrs_lib.specs.SliceBytes.{slice_bytes, slice_writable}
+use Rattle.rrs_process.specs.Protection.{protected_bytes, protected_writable}
+use Rattle.rrs_env.specs.Serving.{Served}
+use Rattle.rrs_linux.specs.declared.Heap.{Heap}
+use Rattle.rrs_linux.specs.SystemCalls.{Serves}
+use Rattle.rrs_exec.specs.Watching.{Shown, start_in}
+use Rattle.rrs_exec.proofs.watching.watch_image.Goals as goal
+
+pub returns : goal.returns
+returns g c =
+    let image = c.args.image in
+    let serves = Serves g.R.Read.remaining g.W.Write.contents g.E.Write.contents in
+    let bytes = slice_bytes c.args.memory in
+    let writable = slice_writable c.args.memory in
+    let made = c.run_watched-steps.ensures.watched in
+    let watched = made.these in
+    let end = c.run_watched-steps.result in
+    let new = c.run_watched-steps.new.environment in
+    let last = state_in protected_bytes protected_writable c.run_watched-steps.new.executor in
+    let from = start_in image bytes writable in
+    let P : Heap → State → Type 0 = λ heap s.
+    Served serves end.ending new last watched.most (record c.args.environment.now { heap = heap }) s end.steps made.accesses in
+    let Q : Heap → State → Type 0 = λ heap s.
+    Shown serves g.V.Watcher.sees (record c.args.environment.now { heap = heap }) s c.args.watcher.now end.ending end.steps new last c.run_watched-steps.new.watcher in
+    let heaps = c.new-environment.ensures in
+    let states = c.started-hart.ensures _ _ in
+    record {
+      most = watched.most;
+      within = watched.within;
+      all = watched.all;
+      runs = record {
+        end = last;
+        steps = end.steps;
+        accesses = made.accesses;
+        served = subst (λ heap. P heap from) heaps (subst (P c.new-environment.result) states watched.served);
+      };
+      counted = refl;
+      shown = subst (λ heap. Q heap from) heaps (subst (Q c.new-environment.result) states watched.shown);
+    }

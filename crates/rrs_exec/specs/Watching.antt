@@ -1,0 +1,130 @@
+-- Runs of which each step is shown: to a watcher, with the record of what the step retired.
+use Rattle.std.specs.Prelude.{◌≡◌, ℕ, ◌+◌, ◌≤◌, List, ◌++◌, Bool, true, Option, Some, None, Result, Ok, Err}
+use Rattle.rrs_lib.specs.declared.instruction_executor.InstructionException.{InstructionException}
+use Rattle.rrs_lib.specs.declared.instruction_executor.InstructionException.TheVariants.{EnvironmentCall}
+use Rattle.rrs_lib.specs.Bytes.{ByteMap}
+use Rattle.rrs_lib.specs.Accesses.{Access, AccessesOf}
+use Rattle.rrs_lib.specs.Machine.{State}
+use Rattle.rrs_lib.specs.Steps.{Step}
+use Rattle.rrs_lib.specs.SliceBytes.{bytes_from, lies_from}
+use Rattle.rrs_trace.specs.declared.retired.Retired.{Retired}
+use Rattle.rrs_trace.specs.Retired.{Retires}
+use Rattle.rrs_process.specs.declared.image.Image.{Image}
+use Rattle.rrs_process.specs.Protection.{bytes_under, writable_under}
+use Rattle.rrs_env.specs.declared.Ending.{Ending}
+use Rattle.rrs_env.specs.declared.Ending.TheVariants.{Limit, Fault, Exit}
+use Rattle.rrs_env.specs.Serving.{Relation, resumed, Served}
+use Rattle.rrs_linux.specs.declared.Process.{Process}
+use Rattle.rrs_linux.specs.declared.host_writer.HostWriter.{HostWriter}
+use Rattle.rrs_linux.specs.declared.input_buffer.InputBuffer.{InputBuffer}
+use Rattle.rrs_linux.specs.SystemCalls.{Serves}
+use Rattle.rrs_exec.specs.Processes.{started, heap_of, RunsImage, RunsProcess}
+
+-- What a step of a program answers: None where the program goes on, the status with which a call
+-- ended it, or the exception.
+abbrev pub TurnAnswer : Type 0
+TurnAnswer = Result (Option ℕ) InstructionException
+
+-- a call at pc: what the environment says of it, and where the program goes on
+pub record ServesAt {E : Type 0} (serves : Relation E) (pc : ℕ) (e : E) (m : State)
+    (answer : Option ℕ) (e' : E) (t : State) (accesses : List Access) : Type 0 where
+  pub after_call : State
+  pub served : serves e m e' after_call accesses answer
+  pub goes_on : t ≡ resumed answer pc after_call
+
+-- By what an environment says of a call, and by what a record that is shown makes of a watcher:
+module _ {E V : Type 0} (serves : Relation E) (sees : V → Retired → V → Type 0) where
+  -- The step of number n is made from s, and what it retired is shown. If it is an ecall, its call
+  -- is served.
+  pub data Turn (n : ℕ) (e : E) (s : State) (v : V) (answer : TurnAnswer)
+      (e' : E) (t : State) (v' : V) (accesses : List Access) : Type 0 where
+    -- a step that is Ok
+    Stepped : (r : Retired)
+        → Step s t (Ok tt) → Retires n s t (Ok tt) r → sees v r v' → AccessesOf s accesses
+        → answer ≡ Ok None → e' ≡ e
+        → Turn n e s v answer e' t v' accesses
+    -- an exception that is no ecall
+    Faulted : (r : Retired) (fault : InstructionException)
+        → Step s t (Err fault) → Retires n s t (Err fault) r → sees v r v' → AccessesOf s accesses
+        → ((pc : ℕ) → fault ≡ EnvironmentCall pc → ⊥) → answer ≡ Err fault → e' ≡ e
+        → Turn n e s v answer e' t v' accesses
+    -- an ecall, and its call
+    Called : (r : Retired) (pc : ℕ) (end : Option ℕ) (m : State) (of_step of_call : List Access)
+        → Step s m (Err (EnvironmentCall pc)) → Retires n s m (Err (EnvironmentCall pc)) r
+        → sees v r v' → AccessesOf s of_step → ServesAt serves pc e m end e' t of_call
+        → answer ≡ Ok end → accesses ≡ of_step ++ of_call
+        → Turn n e s v answer e' t v' accesses
+
+  -- From the first environment, state and watcher a program makes so many steps, and goes on. Each
+  -- is shown once, in order, with its number from 0 on.
+  pub data Turns (e : E) (s : State) (v : V) : ℕ → E → State → V → Type 0 where
+    NoTurn : Turns e s v 0 e s v
+    OneMore : (n : ℕ) (d e' : E) (m t : State) (w v' : V) (accesses : List Access)
+        → Turns e s v n d m w → Turn n d m w (Ok None) e' t v' accesses
+        → Turns e s v (n + 1) e' t v'
+
+  -- what is shown of a run that ends so after so many steps: these, and a fault after them
+  pub data Shown (e : E) (s : State) (v : V) (ending : Ending) (steps : ℕ)
+      (e' : E) (t : State) (v' : V) : Type 0 where
+    ToLimit : Turns e s v steps e' t v' → ending ≡ Limit
+        → Shown e s v ending steps e' t v'
+    ToExit : (n status : ℕ) (d : E) (m : State) (w : V) (accesses : List Access)
+        → Turns e s v n d m w → Turn n d m w (Ok (Some status)) e' t v' accesses
+        → ending ≡ Exit status → steps ≡ n + 1
+        → Shown e s v ending steps e' t v'
+    ToFault : (fault : InstructionException) (d : E) (m : State) (w : V) (accesses : List Access)
+        → Turns e s v steps d m w → Turn steps d m w (Err fault) e' t v' accesses
+        → ending ≡ Fault fault
+        → Shown e s v ending steps e' t v'
+
+  -- A run that is served within the limit, or, where the watcher wants no more, within fewer steps,
+  -- and each of its steps is shown.
+  pub record IsWatched (wants : V → Bool) (limit : ℕ) (e : E) (s : State) (v : V)
+      (steps : ℕ) (ending : Ending) (e' : E) (t : State) (v' : V) (accesses : List Access)
+      : Type 0 where
+    pub most : ℕ
+    pub within : most ≤ limit
+    pub all : wants v' ≡ true → most ≡ limit
+    pub served : Served serves ending e' t most e s steps accesses
+    pub shown : Shown e s v ending steps e' t v'
+
+-- the machine at the entry of an image, in a memory of these bytes under its marks
+abbrev pub start_in : Image → ByteMap → (ℕ → Bool) → State
+start_in image bytes writable =
+    started image.entry image.stack_pointer
+    (bytes_under image.marks.items bytes) (writable_under image.marks.items writable)
+
+-- By what is known of the environment's reader and writers, and of a watcher:
+module _ {R W E V : Type 0} (remaining : R → Option (List ℕ))
+    (contents : W → Option (List ℕ)) (errors_of : E → Option (List ℕ))
+    (sees : V → Retired → V → Type 0) (wants : V → Bool) where
+  -- A run from an image within the limit, or, where the watcher wants no more, within fewer steps.
+  -- Each of its steps is shown.
+  pub record WatchesImage (image : Image) (bytes : ByteMap) (writable : ℕ → Bool) (limit : ℕ)
+      (old new : Process R (HostWriter W) (HostWriter E) InputBuffer) (v v' : V)
+      (steps : ℕ) (ending : Ending) : Type 0 where
+    pub most : ℕ
+    pub within : most ≤ limit
+    pub all : wants v' ≡ true → most ≡ limit
+    pub runs : RunsImage remaining contents errors_of image bytes writable most old new ending
+    pub counted : runs.steps ≡ steps
+    pub shown : Shown (Serves remaining contents errors_of) sees
+        (record old { heap = heap_of image }) (start_in image bytes writable) v
+        ending steps new runs.end v'
+
+  -- The run is one of `execute_process`, within the limit, or, where the watcher wants no more,
+  -- within fewer steps. Each of its steps is shown.
+  pub record WatchesProcess (file : List ℕ) (arguments : List (List ℕ)) (wanted limit : ℕ)
+      (old new : Process R (HostWriter W) (HostWriter E) InputBuffer) (v v' : V)
+      (steps : ℕ) (ending : Ending) : Type 0 where
+    pub most : ℕ
+    pub within : most ≤ limit
+    pub all : wants v' ≡ true → most ≡ limit
+    pub runs : RunsProcess remaining contents errors_of
+        file arguments wanted most old new ending
+    pub counted : runs.runs.steps ≡ steps
+    pub shown : Shown (Serves remaining contents errors_of) sees
+        (record old { heap = heap_of runs.image })
+        (start_in runs.image (bytes_from runs.image.layout.base runs.words)
+        (lies_from runs.image.layout.base runs.words)) v
+        ending steps new runs.runs.end v'

@@ -1,0 +1,201 @@
+//! Runs of which each step is shown to a watcher.
+
+ghost use Rattle.std.specs.Prelude.{◌≡◌, Bool, map, string_bytes, IfOk, OnErr};
+ghost use Rattle.rrs_lib.specs.Executor.{state_in, KeepsTheRest};
+ghost use Rattle.rrs_lib.specs.SliceBytes.{slice_bytes, slice_writable};
+ghost use Rattle.rrs_trace.specs.declared.retired.Retired.{Retired};
+ghost use Rattle.rrs_env.specs.Serving.{MakesSome};
+ghost use Rattle.rrs_exec.specs.Watching.{ServesAt, Turn, IsWatched, WatchesImage, WatchesProcess};
+
+use crate::process::{ProcessEnd, started, zeros};
+use rrs_elf::Executable;
+use rrs_env::{Ending, Environment, ServedEnd};
+use rrs_lib::Memory;
+use rrs_lib::instruction_executor::{InstructionException, InstructionExecutor};
+use rrs_lib::memories::SliceMemory;
+use rrs_linux::{Heap, Linux};
+use rrs_process::{Image, ImageError, ProtectedMemory, fill, image_of};
+use rrs_trace::{Retired, step_retired};
+use std::alloc::Global;
+use std::io::{Read, Write};
+
+/// What is shown each step of a run.
+pub trait Watcher {
+    /// What a record that is shown makes of the watcher.
+    ghost sees: { Self → Retired → Self → Type 0 };
+
+    /// Whether the watcher wants to see more.
+    ghost wants: { Self → Bool };
+
+    /// Is shown what a step retired. Of an `ecall` that is served, and of a fault, the record has
+    /// `trap` set, and neither says what the call returns.
+    fn see(&mut self, retired: &Retired)
+        ensures { sees self.old retired.now self.new };
+
+    /// Whether the run is to go on. It is asked before each step.
+    fn wants_more(&self) -> bool
+        ensures { result ≡ wants self.now };
+}
+
+/// Serves the call of a hart that is at an `ecall` at `pc`. A program that goes on does so at the
+/// next instruction.
+fn serve_at<M: Memory, E: Environment>(
+    executor: &mut InstructionExecutor<M>,
+    environment: &mut E,
+    pc: u32,
+) -> Option<u32>
+    ensures served { MakesSome M.reads M.writes
+        (ServesAt E.serves pc environment.old (state_in M.bytes M.writable executor.old) result
+        environment.new (state_in M.bytes M.writable executor.new))
+        executor.old.mem.now executor.new.mem.now }
+    ensures rest { KeepsTheRest M.layout executor.old executor.new }
+{
+    match environment.serve(executor) {
+        Some(status) => Some(status),
+        None => {
+            executor.hart_state.pc = pc.wrapping_add(4);
+            None
+        }
+    }
+}
+
+/// Makes the step of this number, shows what it retired, and has an `ecall` served. The answer is
+/// `None` where the program goes on, or the status with which the call ended it.
+///
+/// # Errors
+///
+/// The exceptions of `step` but `EnvironmentCall`.
+fn take_turn<M: Memory, E: Environment, V: Watcher>(
+    executor: &mut InstructionExecutor<M>,
+    environment: &mut E,
+    watcher: &mut V,
+    number: u64,
+) -> Result<Option<u32>, InstructionException>
+    ensures turn { MakesSome M.reads M.writes
+        (Turn E.serves V.sees number
+        environment.old (state_in M.bytes M.writable executor.old) watcher.old result
+        environment.new (state_in M.bytes M.writable executor.new) watcher.new)
+        executor.old.mem.now executor.new.mem.now }
+    ensures rest { KeepsTheRest M.layout executor.old executor.new }
+{
+    let (answer, retired) = step_retired(executor, number);
+    watcher.see(&retired);
+    let Err(exception) = answer else {
+        return Ok(None);
+    };
+    match exception {
+        InstructionException::EnvironmentCall(pc) => Ok(serve_at(executor, environment, pc)),
+        fault => Err(fault),
+    }
+}
+
+/// Makes steps up to `limit`, to an exception, until the environment ends the program, or until the
+/// watcher wants no more, which ends the run as a limit does. Each step is shown.
+fn run_watched<M: Memory, E: Environment, V: Watcher>(
+    executor: &mut InstructionExecutor<M>,
+    environment: &mut E,
+    watcher: &mut V,
+    limit: u64,
+) -> ServedEnd
+    ensures watched { MakesSome M.reads M.writes
+        (IsWatched E.serves V.sees V.wants limit
+        environment.old (state_in M.bytes M.writable executor.old) watcher.old
+        result.steps result.ending
+        environment.new (state_in M.bytes M.writable executor.new) watcher.new)
+        executor.old.mem.now executor.new.mem.now }
+    ensures rest { KeepsTheRest M.layout executor.old executor.new }
+{
+    for steps in 0..limit {
+        if !watcher.wants_more() {
+            let ending = Ending::Limit;
+            return ServedEnd { steps, ending };
+        }
+        match take_turn(executor, environment, watcher, steps) {
+            Ok(None) => {}
+            Ok(Some(status)) => {
+                return ServedEnd {
+                    steps: steps + 1,
+                    ending: Ending::Exit(status),
+                };
+            }
+            Err(fault) => {
+                let ending = Ending::Fault(fault);
+                return ServedEnd { steps, ending };
+            }
+        }
+    }
+    ServedEnd {
+        steps: limit,
+        ending: Ending::Limit,
+    }
+}
+
+/// Runs a process whose memory is filled, and shows each step.
+fn watch_image<R: Read, W: Write, E: Write, V: Watcher>(
+    image: Image,
+    memory: SliceMemory<'_>,
+    limit: u64,
+    environment: &mut Linux<R, W, E>,
+    watcher: &mut V,
+) -> ProcessEnd
+    ensures { WatchesImage R.remaining W.contents E.contents V.sees V.wants image
+        (slice_bytes memory.entry) (slice_writable memory.entry) limit
+        environment.old environment.new watcher.old watcher.new result.steps result.ending }
+{
+    let Image {
+        layout,
+        entry,
+        stack_pointer,
+        stack: _,
+        marks,
+    } = image;
+    environment.heap = Heap::new(layout.heap_start, layout.heap_end);
+    let mut hart = started(entry, stack_pointer);
+    let mut protected = ProtectedMemory { memory, marks };
+    let mut executor = InstructionExecutor {
+        mem: &mut protected,
+        hart_state: &mut hart,
+    };
+    let ServedEnd { steps, ending } = run_watched(&mut executor, environment, watcher, limit);
+    let pc = executor.hart_state.pc;
+    ProcessEnd { ending, steps, pc }
+}
+
+/// Runs a file's bytes as [execute_process](crate::execute_process) does, and shows each step to a
+/// watcher: once, in order, with its number from 0 on. A fault is shown too, though it counts as no
+/// step.
+///
+/// Where the watcher wants no more the run ends as it does at the limit, after the steps that were
+/// shown.
+///
+/// # Errors
+///
+/// Those of `execute_process`. Nothing is shown then.
+pub fn watch_process<R: Read, W: Write, E: Write, V: Watcher>(
+    alloc: Global,
+    file: &[u8],
+    arguments: &[String],
+    wanted: u64,
+    limit: u64,
+    environment: &mut Linux<R, W, E>,
+    watcher: &mut V,
+) -> Result<ProcessEnd, ImageError>
+    ensures watched { IfOk result (λ end. WatchesProcess R.remaining W.contents E.contents
+        V.sees V.wants file.now (map string_bytes arguments.now) wanted limit
+        environment.old environment.new watcher.old watcher.new end.steps end.ending) }
+    ensures kept { OnErr result (environment.new ≡ environment.old) }
+    ensures unseen { OnErr result (watcher.new ≡ watcher.old) }
+{
+    let executable = match Executable::parse(file) {
+        Ok(executable) => executable,
+        Err(error) => return Err(ImageError::Elf(error)),
+    };
+    let image = image_of(alloc, &executable, arguments, wanted)?;
+    let mut words = zeros(alloc, &image.layout)?;
+    let mut memory = SliceMemory {
+        words: &mut words,
+        base: image.layout.base,
+    };
+    fill(&executable, image.stack_pointer, &image.stack, &mut memory)?;
+    Ok(watch_image(image, memory, limit, environment, watcher))
+}

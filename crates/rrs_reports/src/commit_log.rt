@@ -1,0 +1,144 @@
+//! Spike's commit log.
+
+ghost use Rattle.std.specs.Prelude.{◌≡◌, ◌+◌, ◌≤◌, ◌++◌, length, codes};
+ghost use Rattle.rrs_lib.specs.Texts.{hexadecimal};
+ghost use Rattle.rrs_reports.specs.CommitLogs.{committed, written_text, store_digits, access_text, commit_text};
+
+use arrayvec::ArrayString;
+use itoa::Buffer;
+use rrs_exec::Watcher;
+use rrs_lib::disassembly::hexadecimal_digits;
+use rrs_trace::{MemoryAccess, Retired};
+use std::io::Write;
+
+/// The number of bytes of the longest line: 56 of its texts, 20 digits of a register's number, and
+/// 20 around them.
+const LINE_CAPACITY: usize = 96;
+
+/// The word of `ecall`.
+const ECALL: u32 = 0x73;
+
+/// A line of a commit log, which lies in the value itself.
+pub type CommitLine = ArrayString<LINE_CAPACITY>;
+
+/// The word that was committed by a step, or `None` after an exception that is no `ecall`, which a
+/// run that is served retires.
+pub fn committed_word(retired: &Retired) -> Option<u32>
+    ensures { result ≡ committed retired.now }
+{
+    if !retired.trap {
+        return retired.insn;
+    }
+    match retired.insn {
+        Some(word) if word == ECALL => Some(word),
+        _ => None,
+    }
+}
+
+/// Appends a text and a word in hexadecimal.
+fn push_word(line: &mut CommitLine, before: &str, least: usize, word: u32)
+    requires least { least ≤ 8 }
+    requires room { length line.old.bytes + length before.now + 8 ≤ LINE_CAPACITY }
+    ensures bytes { line.new.bytes ≡ line.old.bytes ++ before.now ++ hexadecimal least word }
+    ensures length { length line.new.bytes
+        ≤ length line.old.bytes + length before.now + 8 }
+{
+    line.push_str(before);
+    line.push_str(hexadecimal_digits(least, word).as_str());
+}
+
+/// Appends the register that was written, if one was, and its value.
+fn push_written(line: &mut CommitLine, register: usize, value: u32)
+    requires { length line.old.bytes + 34 ≤ LINE_CAPACITY }
+    ensures bytes { line.new.bytes ≡ line.old.bytes ++ written_text register value }
+    ensures length { length line.new.bytes ≤ length line.old.bytes + 34 }
+{
+    if register == 0 {
+        return;
+    }
+    let mut buffer = Buffer::new();
+    line.push_str(" x");
+    line.push_str(buffer.format(register));
+    if register < 10 {
+        line.push_str(" ");
+    }
+    push_word(line, " 0x", 8, value);
+}
+
+/// How many digits the value of a store has.
+fn digits_of(mask: u8) -> usize
+    ensures value { result ≡ store_digits mask }
+    ensures small { result ≤ 8 }
+{
+    match mask {
+        1 => 2,
+        3 => 4,
+        _ => 8,
+    }
+}
+
+/// Appends the load or the store, if there was one.
+fn push_access(line: &mut CommitLine, access: &MemoryAccess)
+    requires { length line.old.bytes + 26 ≤ LINE_CAPACITY }
+    ensures bytes { line.new.bytes ≡ line.old.bytes ++ access_text access.now }
+    ensures length { length line.new.bytes ≤ length line.old.bytes + 26 }
+{
+    if access.rmask == 0 && access.wmask == 0 {
+        return;
+    }
+    push_word(line, " mem 0x", 8, access.addr);
+    if access.rmask == 0 {
+        push_word(line, " 0x", digits_of(access.wmask), access.wdata);
+    }
+}
+
+/// The line of a record whose word was committed.
+pub fn commit_line(word: u32, retired: &Retired) -> CommitLine
+    ensures { result.bytes ≡ commit_text word retired.now }
+{
+    let mut line = ArrayString::new();
+    push_word(&mut line, "core   0: 3 0x", 8, retired.pc_rdata);
+    push_word(&mut line, " (0x", 8, word);
+    line.push_str(")");
+    push_written(&mut line, retired.rd_addr, retired.rd_wdata);
+    push_access(&mut line, &retired.mem);
+    line.push_str("\n");
+    line
+}
+
+/// A watcher that writes the commit log of a run.
+pub struct CommitLog<'a, W: Write> {
+    /// What is written to.
+    pub out: &'a mut W,
+    /// The address from which on lines are written, if it was not reached yet.
+    pub from: Option<u32>,
+    /// Whether a write failed. Nothing is written from then on, and the run ends.
+    pub is_broken: bool,
+}
+
+impl<'a, W: Write> Watcher for CommitLog<'a, W> {
+    ghost use Rattle.rrs_reports.specs.CommitLogs.{Logs, wants_lines};
+
+    ghost sees = { Logs W.contents };
+
+    ghost wants = { wants_lines };
+
+    fn see(&mut self, retired: &Retired) {
+        if self.from == Some(retired.pc_rdata) {
+            self.from = None;
+        }
+        if self.from.is_some() || self.is_broken {
+            return;
+        }
+        if let Some(word) = committed_word(retired) {
+            let line = commit_line(word, retired);
+            if self.out.write_all(line.as_str().as_bytes()).is_err() {
+                self.is_broken = true;
+            }
+        }
+    }
+
+    fn wants_more(&self) -> bool {
+        !self.is_broken
+    }
+}
