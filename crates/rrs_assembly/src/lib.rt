@@ -1,7 +1,8 @@
 //! What is written of a program that was assembled, beside its bytes.
 //!
 //! [executable_of] gives an ELF executable with the program's labels as its symbols, and
-//! [listing_of] the source with the address and the word of each line.
+//! [listing_of] the source with the address and the word of each line. [mistakes_of] tells of
+//! the mistakes of a source what is wanted and what was probably meant.
 
 #![tactic(auto)]
 
@@ -9,7 +10,11 @@ mod accepting;
 mod entries;
 mod executable;
 mod files;
+mod forms;
 mod listing;
+mod mistakes;
+mod words;
 
 pub use executable::{ExecutableError, executable_of};
 pub use listing::listing_of;
+pub use mistakes::{MOST_MISTAKES, Mistake, mistakes_of};
