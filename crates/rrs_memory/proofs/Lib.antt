@@ -1,6 +1,7 @@
 pub mod Boxes
 pub mod ByteLemmas
 pub mod LoadLemmas
+pub mod PureReads
 pub mod RegionFields
 pub mod Regions
 pub mod SearchOrder

@@ -136,31 +136,37 @@ module _ {M : Type 0} where
       omega (arith, ap length (bounds-with_memory regions i m), length-map (with_memory regions i m) bounds, length-map regions bounds)
 
   -- the same at each index
-  bounds_at : (regions : List (Region M)) (i k : ℕ) (m : M) (d : Region M)
-      → bounds (get_or (with_memory regions i m) k d) ≡ bounds (get_or regions k d)
-  bounds_at regions i k m d =
-      sym (get_or-map bounds (with_memory regions i m) k d)
-      ∙ ap (λ xs. get_or xs k (bounds d)) (bounds-with_memory regions i m) ∙ get_or-map bounds regions k d
+  bounds_at : (regions new : List (Region M)) → map bounds new ≡ map bounds regions → (k : ℕ) (d : Region M)
+      → bounds (get_or new k d) ≡ bounds (get_or regions k d)
+  bounds_at regions new same k d =
+      sym (get_or-map bounds new k d) ∙ ap (λ xs. get_or xs k (bounds d)) same ∙ get_or-map bounds regions k d
 
-  -- it stays an address space
-  pub IsSpace-with_memory : (rs : List (Region M)) (i : ℕ) (m : M) → IsSpace rs → IsSpace (with_memory rs i m)
-  IsSpace-with_memory regions i m space = record {
+  -- regions of the same bounds are an address space
+  pub IsSpace-same : (old new : List (Region M)) → map bounds new ≡ map bounds old → IsSpace old → IsSpace new
+  IsSpace-same regions new same space = record {
     words = λ k d below.
-        let word = space.words k d (omega (arith, length-with_memory regions i m)) in
+        let word = space.words k d (omega (arith, as_long)) in
         let base_k = base k d in
         let size_k = size k d in
         record { aligned = (omega arith, omega arith); base_fits = omega arith; size_fits = omega arith };
-    apart = λ j k d first below both. space.apart j k d first (omega (arith, length-with_memory regions i m)) (
+    apart = λ j k d first below both. space.apart j k d first (omega (arith, as_long)) (
       omega (arith, base j d, base k d, size k d, both.0),
       omega (arith, base j d, size j d, base k d, both.1),
     );
   }
     where
-      base : (k : ℕ) (d : Region M) → (get_or (with_memory regions i m) k d).base ≡ (get_or regions k d).base
-      base k d = ap (λ p. p.0) (bounds_at regions i k m d)
+      as_long : length new ≡ length regions
+      as_long = omega (arith, ap length same, length-map new bounds, length-map regions bounds)
 
-      size : (k : ℕ) (d : Region M) → (get_or (with_memory regions i m) k d).size ≡ (get_or regions k d).size
-      size k d = ap (λ p. p.1) (bounds_at regions i k m d)
+      base : (k : ℕ) (d : Region M) → (get_or new k d).base ≡ (get_or regions k d).base
+      base k d = ap (λ p. p.0) (bounds_at regions new same k d)
+
+      size : (k : ℕ) (d : Region M) → (get_or new k d).size ≡ (get_or regions k d).size
+      size k d = ap (λ p. p.1) (bounds_at regions new same k d)
+
+  -- it stays an address space
+  pub IsSpace-with_memory : (rs : List (Region M)) (i : ℕ) (m : M) → IsSpace rs → IsSpace (with_memory rs i m)
+  IsSpace-with_memory regions i m space = IsSpace-same regions (with_memory regions i m) (bounds-with_memory regions i m) space
 
   -- the region has its place still, with the other memory
   pub stands-with_memory : (regions : List (Region M)) (i : ℕ) (r : Region M) (m : M) → slice_get regions i ≡ Some r
@@ -225,6 +231,14 @@ module _ {M : Type 0} where
       let from : r.base ≤ a = (serves_true r a hit).0 in
       (from, aligned_offset r.base a n (served_word regions i r space stands).aligned.0 al from)
 
+  -- and what the space says of each byte of it, the region's memory says at the offset
+  pub served_byte : {T : Type 0} (says : M → ℕ → T) (default : T) (regions : List (Region M)) (a i k : ℕ) (r : Region M) (n : MemAccessSize) → IsSpace regions → a % width n ≡ 0 → slice_get regions i ≡ Some r → serves r a ≡ true → k < width n
+      → served_by says default regions (a + k) ≡ says r.memory ((a - r.base) + k)
+  served_byte says default regions a i k r n space al stands hit below =
+      let hit_k = serves_all r a k n (served_word regions i r space stands) al below hit in
+      served_at says default regions (a + k) i r stands hit_k (λ j s at. served_once regions (a + k) i j r s space.apart stands at hit_k)
+      ∙ ap (says r.memory) (omega (arith, (serves_true r a hit).0))
+
   -- ---- a region appended
 
   -- where no region overlaps, each is apart
@@ -287,10 +301,7 @@ module _ {M : Type 0} (bytes : M → ByteMap) (writable : M → ℕ → Bool) (l
   -- where a region serves its address, it is one to the inner memory, at the offset from the base
   module _ (i : ℕ) (r : Region M) (m : M) (stands : slice_get old.regions i ≡ Some r) (hit : serves r a ≡ true) (e : new.regions ≡ with_memory old.regions i m) where
     offset_at : {T : Type 0} (says : M → ℕ → T) (default : T) (k : ℕ) → k < width n → served_by says default old.regions (a + k) ≡ says r.memory ((a - r.base) + k)
-    offset_at says default k below =
-        let hit_k = serves_all r a k n (served_word old.regions i r space stands) al below hit in
-        served_at says default old.regions (a + k) i r stands hit_k (λ j s at. served_once old.regions (a + k) i j r s space.apart stands at hit_k)
-        ∙ ap (says r.memory) (omega (arith, (serves_true r a hit).0))
+    offset_at says default k below = served_byte says default old.regions a i k r n space al stands hit below
 
     kept : {T : Type 0} (says : M → ℕ → T) (default : T) → says m ≡ says r.memory → served_by says default new.regions ≡ served_by says default old.regions
     kept says default same = ap (served_by says default) e ∙ served_same says default old.regions i r m stands same

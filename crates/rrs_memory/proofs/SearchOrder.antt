@@ -268,15 +268,22 @@ module _ {M : Type 0} (fields : List (MemoryRegion M)) where
       -- what a search compared is added
       pub counts_search : (old new : Space M) (counted compared : ℕ) → map region_of fields ≡ old.regions → counted ≡ old.looked_at
           → new.looked_at ≡ min (counted + compared) (2 ^ 64 - 1) → compared ≤ binary_digits (length fields) + 1
-          → (0 < length order → 0 < compared) → CountsCompared old new
-      counts_search old new counted compared view before after few some =
+          → CountsCompared old new
+      counts_search old new counted compared view before after few =
           let long : length old.regions ≡ length fields = omega (arith, ap length view, length-map fields region_of) in
           record {
             compared = compared;
             counted = rw before at after;
             few = rw long (omega (arith, few));
-            some = λ any. some (some_in_order (rw (← view) at any));
           }
+
+      -- and it is some
+      pub compares_search : (old : Space M) (counted compared counted' : ℕ) → map region_of fields ≡ old.regions → counted ≡ old.looked_at
+          → counted' ≡ min (counted + compared) (2 ^ 64 - 1) → (0 < length order → 0 < compared)
+          → Any HasAddresses old.regions → old.looked_at < 2 ^ 64 - 1 → old.looked_at < counted'
+      compares_search old counted compared counted' view before after some any room =
+          let more : 0 < compared = some (some_in_order (rw (← view) at any)) in
+          omega (arith, before, after, more, room)
 
 module _ {M : Type 0} where
   -- the count alone matters
@@ -285,5 +292,9 @@ module _ {M : Type 0} where
     compared = counts.compared;
     counted = same ∙ counts.counted;
     few = counts.few;
-    some = counts.some;
   }
+
+  pub compares_along : (old : Space M) (between new : ℕ) → new ≡ between
+      → (Any HasAddresses old.regions → old.looked_at < 2 ^ 64 - 1 → old.looked_at < between)
+      → Any HasAddresses old.regions → old.looked_at < 2 ^ 64 - 1 → old.looked_at < new
+  compares_along old between new same compares any room = omega (arith, same, compares any room)

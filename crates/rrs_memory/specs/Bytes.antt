@@ -5,6 +5,7 @@ use Rattle.std.specs.Prelude.{◌≡◌, ℕ, zero, suc, ◌+◌, ◌-◌, ◌*�
 use Rattle.std.specs.Bool.{OnTrue, OnFalse}
 use Rattle.rrs_memory.specs.declared.MemAccessSize.{MemAccessSize}
 use Rattle.rrs_memory.specs.declared.MemAccessSize.TheVariants.{Byte, HalfWord, Word}
+use Rattle.rrs_memory.specs.AccessLists.{Access, Makes}
 
 -- What each address has: a byte, or nothing where it is not mapped. No access reaches 2 ^ 32.
 abbrev pub ByteMap : Type 0
@@ -84,10 +85,12 @@ module _ {M : Type 0} (bytes : M → ByteMap) (writable : M → ℕ → Bool) (l
 
 -- ---- pure reads
 
--- Reads of a memory of type M do nothing, by its own relation: of each value of it, a read at any
--- aligned address answers as the law has it and leaves that very value. So one may be left out.
+-- Reads at an address do nothing, by what a memory of type M says of its reads and its writes:
+-- after any accesses from m on, a read there, of a size that the address is a multiple of, may
+-- answer as the law has it and leave the memory as it is. So one may be left out.
 abbrev pub ReadsArePure : {M : Type 0} → (M → ByteMap)
-    → (M → ℕ → MemAccessSize → M → Option ℕ → Type 0) → Type 0
-ReadsArePure {M = M} bytes reads = (m : M) (address : ℕ) (size : MemAccessSize)
-    → address % width size ≡ 0
-    → reads m address size m (little_endian (bytes m) address (width size))
+    → (M → ℕ → MemAccessSize → M → Option ℕ → Type 0)
+    → (M → ℕ → MemAccessSize → ℕ → M → Bool → Type 0) → M → ℕ → Type 0
+ReadsArePure {M = M} bytes reads writes m a = (accesses : List Access) (later : M)
+    → Makes reads writes accesses m later → (size : MemAccessSize) → a % width size ≡ 0
+    → reads later a size later (little_endian (bytes later) a (width size))

@@ -115,12 +115,16 @@ module _ {M : Type 0} where
 
   -- The count after an access, which compared some of the regions. It stays at 2 ^ 64 - 1 once it
   -- is there. At most as many are compared as the number of all regions has binary digits, plus
-  -- one, and at least one where some region has addresses.
+  -- one.
   pub record CountsCompared (old new : Space M) : Type 0 where
     pub compared : ℕ
     pub counted : new.looked_at ≡ min (old.looked_at + compared) (2 ^ 64 - 1)
     pub few : compared ≤ binary_digits (length old.regions) + 1
-    pub some : Any HasAddresses old.regions → 0 < compared
+
+  -- a call compares at least one region, where some region has addresses
+  abbrev pub ComparesSome : Space M → Space M → Type 0
+  ComparesSome old new =
+      Any HasAddresses old.regions → old.looked_at < 2 ^ 64 - 1 → old.looked_at < new.looked_at
 
   -- each region that does not serve the address is as it was, memory and all
   abbrev pub OthersKept : ℕ → List (Region M) → List (Region M) → Type 0

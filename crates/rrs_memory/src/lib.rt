@@ -88,12 +88,13 @@ pub trait Memory {
             self.old self.new addr (width size) store_data result }
         ensures did { writes self.old addr size store_data self.new result };
 
-    /// Whether a read does nothing, by the relation `reads`: so one may be left out. A run over a
-    /// cache of `rrs_fast` leaves out the fetch of a word that it knows.
+    /// Whether a read at an address does nothing, by the relation `reads`, now and after any
+    /// accesses: so one may be left out. A run over a cache of `rrs_fast` leaves out the fetch of a
+    /// word that it knows.
     ///
     /// `false` is always right, and is the default.
-    fn reads_are_pure(&self) -> bool
-        ensures pure { OnTrue result (ReadsArePure bytes reads) }
+    fn reads_are_pure(&self, addr: u32) -> bool
+        ensures pure { OnTrue result (ReadsArePure bytes reads writes self.now addr) }
     {
         false
     }

@@ -137,10 +137,11 @@ impl Memory for VecMemory {
         write_words(&mut self.mem, addr, size, store_data)
     }
 
-    /// They are: a program that runs for long has each of its words fetched once.
+    /// They are, at each address: a program that runs for long has each of its words fetched once.
     #[inline(always)]
-    fn reads_are_pure(&self) -> bool
-        ensures pure { OnTrue result (ReadsArePure vec_bytes vec_reads) }
+    fn reads_are_pure(&self, addr: u32) -> bool
+        ensures pure { OnTrue result
+            (ReadsArePure vec_bytes vec_reads VecWrites self.now addr) }
         ensures always { result ≡ true }
     {
         true

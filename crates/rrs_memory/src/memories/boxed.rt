@@ -37,4 +37,9 @@ impl Memory for BoxedMemory {
     fn write_mem(&mut self, addr: u32, size: MemAccessSize, store_data: u32) -> bool {
         self.memory.write_mem(addr, size, store_data)
     }
+
+    #[inline]
+    fn reads_are_pure(&self, addr: u32) -> bool {
+        self.memory.reads_are_pure(addr)
+    }
 }

@@ -4,11 +4,12 @@ ghost use Rattle.std.specs.Prelude.{◌≡◌, ◌↔◌, ℕ, ◌+◌, ◌-◌,
 ghost use Rattle.std.specs.Prelude.{[], ◌∷◌, ◌++◌, length, slice_index, map, All, Any, IsTrue, Err, IfOk, OnOk, OnErr};
 ghost use Rattle.std.specs.Prelude.{◌*◌, None, MatchOption, option_copied};
 ghost use Rattle.std.specs.Option.{option_copied_mut};
+ghost use Rattle.std.specs.Bool.{OnTrue};
 ghost use Rattle.std.specs.Borrow.{sem};
-ghost use Rattle.rrs_memory.specs.Bytes.{width, Reads, Writes};
+ghost use Rattle.rrs_memory.specs.Bytes.{width, Reads, Writes, ReadsArePure};
 ghost use Rattle.rrs_memory.specs.Spaces.{space_bytes, space_writable, space_layout, bounds, serves};
 ghost use Rattle.rrs_memory.specs.Spaces.{Overlaps, AreAligned, IsWordRegion, IsSpace, IsServedAt};
-ghost use Rattle.rrs_memory.specs.Spaces.{memory_at, ServedBecomes, CountsCompared, SpaceAccess};
+ghost use Rattle.rrs_memory.specs.Spaces.{memory_at, ServedBecomes, CountsCompared, ComparesSome, SpaceAccess};
 ghost use Rattle.rrs_memory.specs.Spaces.{binary_digits};
 ghost use Rattle.rrs_memory.specs.SpaceFields.{region_of, base_at, IsSearchOrder};
 
@@ -129,6 +130,15 @@ impl<M: Memory> MemoryRegion<M> {
         ensures rest_kept { self.new ≡ record self.old { memory = self.new.memory } }
     {
         self.memory.write_mem(addr - self.base, size, store_data)
+    }
+
+    /// Whether reads of its memory are pure at the offset of an address that lies in it.
+    fn reads_are_pure(&self, addr: u32) -> bool
+        requires { self.now.base ≤ addr }
+        ensures { OnTrue result (ReadsArePure M.bytes M.reads M.writes
+            self.now.memory (addr - self.now.base)) }
+    {
+        self.memory.reads_are_pure(addr - self.base)
     }
 }
 
@@ -322,6 +332,7 @@ impl<M: Memory> MemorySpace<M> {
         ensures space { IsSpace self.old.regions }
         ensures regions_kept { self.new.regions ≡ self.old.regions }
         ensures counts { CountsCompared self.old self.new }
+        ensures compares { ComparesSome self.old self.new }
     {
         if is_served_by(&self.regions, self.first, addr) {
             self.looked_at = self.looked_at.saturating_add(1);
@@ -343,6 +354,7 @@ impl<M: Memory> MemorySpace<M> {
         ensures space { IsSpace self.old.regions }
         ensures regions_kept { self.new.regions ≡ self.old.regions }
         ensures counts { CountsCompared self.old self.new }
+        ensures compares { ComparesSome self.old self.new }
     {
         let (found, compared) = find(&self.regions, &self.by_base, addr);
         let before = count_of(&self.regions, self.first);
@@ -413,6 +425,7 @@ impl<M: Memory> Memory for MemorySpace<M> {
         ensures served { ServedBecomes addr self.old.regions self.new.regions
             (λ before offset after.
             Reads M.bytes M.writable M.layout before after offset (width size) result) }
+        ensures compares { ComparesSome self.old self.new }
     {
         match self.region_at(addr) {
             Some(index) => self.regions[index].read(addr, size),
@@ -433,9 +446,19 @@ impl<M: Memory> Memory for MemorySpace<M> {
         ensures served { ServedBecomes addr self.old.regions self.new.regions
             (λ before offset after. Writes M.bytes M.writable M.layout
             before after offset (width size) store_data result) }
+        ensures compares { ComparesSome self.old self.new }
     {
         match self.region_at(addr) {
             Some(index) => self.regions[index].write(addr, size, store_data),
+            None => false,
+        }
+    }
+
+    /// They are where those of the region's memory are. A read that is left out is not counted.
+    fn reads_are_pure(&self, addr: u32) -> bool {
+        let _looked_at = self.looked_at;
+        match find(&self.regions, &self.by_base, addr).0 {
+            Some(index) => self.regions[index].reads_are_pure(addr),
             None => false,
         }
     }

@@ -2,7 +2,7 @@ use Rattle.std.proofs.Common.{ℕ, ap, ◌∙◌, None, arith}
 use Rattle.rrs_memory.specs.Bytes.{width, Reads}
 use Rattle.rrs_memory.proofs.Regions.{served_offset, reads_none, reads_there, becomes_none, becomes_there, access_none, access_there}
 use Rattle.rrs_memory.proofs.RegionFields.{served_within, served_field, with_memory_of}
-use Rattle.rrs_memory.proofs.SearchOrder.{region_replaced, counts_along}
+use Rattle.rrs_memory.proofs.SearchOrder.{region_replaced, counts_along, compares_along}
 use Rattle.rrs_memory.proofs.memories.space.MemorySpaceMemory.read_mem.Goals as goal
 
 pub index_mut-requires : goal.index_mut-requires
@@ -36,6 +36,7 @@ returns-in-Some g c =
       laws = reads_there g.M.Memory.bytes g.M.Memory.writable g.M.Memory.layout _ _ _ _ space c.requires _ _ _ f.stands f.hit e _ c.read.ensures.laws;
       did = access_there _ _ _ _ _ _ _ space f.stands f.hit e counts c.read.ensures.did;
       served = becomes_there Law _ _ _ _ _ _ space f.stands f.hit e c.read.ensures.laws;
+      compares = compares_along c.args.self.now _ _ (ap (λ s. s.looked_at) c.self.view_is) c.in-Some.ensures.compares;
     }
 
 pub returns-in-None : goal.returns-in-None
@@ -47,4 +48,5 @@ returns-in-None g c =
       laws = reads_none g.M.Memory.bytes g.M.Memory.writable g.M.Memory.layout _ _ _ _ none.space c.requires c.ranges.addr.fits none.region none.regions_kept;
       did = access_none _ _ _ _ none.region none.regions_kept none.counts;
       served = becomes_none Law _ _ _ none.region;
+      compares = none.compares;
     }
