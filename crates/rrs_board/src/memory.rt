@@ -48,4 +48,10 @@ impl Memory for BoardMemory {
             self.ram.write_mem(addr - RAM_START, size, store_data)
         }
     }
+
+    /// Those of RAM are. A device answers to a read.
+    #[inline(always)]
+    fn reads_are_pure(&self, addr: u32) -> bool {
+        addr >= RAM_START
+    }
 }

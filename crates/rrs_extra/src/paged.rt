@@ -196,9 +196,9 @@ impl Memory for PagedMemory {
         }
     }
 
-    /// They are, as those of a `VecMemory`.
+    /// They are, at each address, as those of a `VecMemory`.
     #[inline(always)]
-    fn reads_are_pure(&self) -> bool {
+    fn reads_are_pure(&self, addr: u32) -> bool {
         true
     }
 }

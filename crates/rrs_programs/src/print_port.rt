@@ -144,4 +144,9 @@ impl Memory for RamOrPort {
             RamOrPort::Port(port) => port.write_mem(addr, size, store_data),
         }
     }
+
+    /// They are, of both kinds: a read leaves the whole memory.
+    fn reads_are_pure(&self, addr: u32) -> bool {
+        true
+    }
 }

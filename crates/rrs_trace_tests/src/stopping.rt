@@ -1,9 +1,12 @@
 //! Runs to stops, over words that are fetched at each step and over words that are kept.
 
+ghost use Rattle.std.specs.Prelude.{◌≡◌};
+ghost use Rattle.rrs_lib.specs.VecBytes.{vec_bytes, vec_writable, vec_layout};
+
 use rrs_fast::{CachedMemory, Halt, HaltEnd, run_before};
 use rrs_lib::instruction_executor::{InstructionException, InstructionExecutor};
 use rrs_lib::memories::{MemorySpace, VecMemory};
-use rrs_lib::{HartState, Memory};
+use rrs_lib::{HartState, MemAccessSize, Memory};
 use rrs_test_machines::hart_of;
 use rrs_trace::{StopEnd, StopReason, run_until, run_until_cached};
 use std::alloc::{AllocError, Global};
@@ -38,7 +41,38 @@ fn words_of(alloc: Global) -> Result<VecMemory, AllocError> {
     Ok(VecMemory::new(words))
 }
 
-/// A space with these words, whose reads are not pure.
+/// Words whose reads are called pure below an address alone.
+#[derive(Drop)]
+struct PartlyPure {
+    words: VecMemory,
+    pure_below: u32,
+}
+
+impl Memory for PartlyPure {
+    ghost bytes = { λ m. vec_bytes m.words };
+
+    ghost writable = { λ m. vec_writable m.words };
+
+    ghost layout = { λ m. vec_layout m.words };
+
+    ghost reads = { λ old address size new answer. new ≡ old };
+
+    ghost writes = { λ old address size value new answer. Unit {0} };
+
+    fn read_mem(&mut self, addr: u32, size: MemAccessSize) -> Option<u32> {
+        self.words.read_mem(addr, size)
+    }
+
+    fn write_mem(&mut self, addr: u32, size: MemAccessSize, store_data: u32) -> bool {
+        self.words.write_mem(addr, size, store_data)
+    }
+
+    fn reads_are_pure(&self, addr: u32) -> bool {
+        addr < self.pure_below
+    }
+}
+
+/// A space with these words.
 fn space_of(alloc: Global) -> Result<MemorySpace<VecMemory>, AllocError> {
     let mut space = MemorySpace::new(alloc);
     match space.add_memory(0, 64, words_of(alloc)?) {
@@ -91,6 +125,13 @@ fn kept_words_stop_where_fetched_ones_do(rt: HostRuntime) -> Result<(), Fail> {
             assert!(rt; stopped_cached(&mut few, stops, limit) == expected);
             let mut space: CachedMemory<_, 64> = CachedMemory::new(space_of(alloc)?);
             assert!(rt; stopped_cached(&mut space, stops, limit) == expected);
+            for pure_below in [0, 4, 8, 12] {
+                let mut partly: CachedMemory<_, 64> = CachedMemory::new(PartlyPure {
+                    words: words_of(alloc)?,
+                    pure_below,
+                });
+                assert!(rt; stopped_cached(&mut partly, stops, limit) == expected);
+            }
         }
     }
     Ok(())
