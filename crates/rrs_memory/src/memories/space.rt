@@ -324,30 +324,12 @@ impl<M: Memory> MemorySpace<M> {
         Ok(())
     }
 
-    /// The index of the region that serves an address. It counts the regions that it compares.
-    #[inline]
-    fn region_at(&mut self, addr: u32) -> Option<usize>
-        ensures region { MatchOption result (All (λ r. serves r addr ≡ false) self.old.regions)
-            (IsServedAt self.old.regions addr) }
-        ensures space { IsSpace self.old.regions }
-        ensures regions_kept { self.new.regions ≡ self.old.regions }
-        ensures counts { CountsCompared self.old self.new }
-        ensures compares { ComparesSome self.old self.new }
-    {
-        if is_served_by(&self.regions, self.first, addr) {
-            self.looked_at = self.looked_at.saturating_add(1);
-            return Some(self.first);
-        }
-        self.search(addr)
-    }
-
-    /// The same by a search, where the region that is compared first, if there is one, was
-    /// compared.
+    /// The index of the region that serves an address, by a search, where the region that is compared
+    /// first, if there is one, was compared. It counts the regions that were compared.
     ///
     /// Where two accesses in a row need a search, the region of the second is compared first from
     /// then on. So where a program's loads and stores go to another region than its fetches, the
     /// fetches need none.
-    #[inline(never)]
     fn search(&mut self, addr: u32) -> Option<usize>
         ensures region { MatchOption result (All (λ r. serves r addr ≡ false) self.old.regions)
             (IsServedAt self.old.regions addr) }
@@ -366,6 +348,50 @@ impl<M: Memory> MemorySpace<M> {
         self.looked_at = self.looked_at.saturating_add(before + compared);
         self.searched_at = self.looked_at;
         found
+    }
+
+    /// Makes a read whose region is found by a search.
+    #[inline(never)]
+    fn read_by_search(&mut self, addr: u32, size: MemAccessSize) -> Option<u32>
+        requires { addr % width size ≡ 0 }
+        ensures laws { Reads
+            (λ s. space_bytes M.bytes s.regions)
+            (λ s. space_writable M.writable s.regions)
+            (λ s. space_layout M.layout s.regions)
+            self.old self.new addr (width size) result }
+        ensures did { SpaceAccess addr self.old self.new
+            (λ before offset after. M.reads before offset size after result) }
+        ensures served { ServedBecomes addr self.old.regions self.new.regions
+            (λ before offset after.
+            Reads M.bytes M.writable M.layout before after offset (width size) result) }
+        ensures compares { ComparesSome self.old self.new }
+    {
+        match self.search(addr) {
+            Some(index) => self.regions[index].read(addr, size),
+            None => None,
+        }
+    }
+
+    /// Makes a write whose region is found by a search.
+    #[inline(never)]
+    fn write_by_search(&mut self, addr: u32, size: MemAccessSize, store_data: u32) -> bool
+        requires { addr % width size ≡ 0 }
+        ensures laws { Writes
+            (λ s. space_bytes M.bytes s.regions)
+            (λ s. space_writable M.writable s.regions)
+            (λ s. space_layout M.layout s.regions)
+            self.old self.new addr (width size) store_data result }
+        ensures did { SpaceAccess addr self.old self.new
+            (λ before offset after. M.writes before offset size store_data after result) }
+        ensures served { ServedBecomes addr self.old.regions self.new.regions
+            (λ before offset after. Writes M.bytes M.writable M.layout
+            before after offset (width size) store_data result) }
+        ensures compares { ComparesSome self.old self.new }
+    {
+        match self.search(addr) {
+            Some(index) => self.regions[index].write(addr, size, store_data),
+            None => false,
+        }
     }
 
     /// The memory of the region of this index, in the order in which they were added.
@@ -427,10 +453,11 @@ impl<M: Memory> Memory for MemorySpace<M> {
             Reads M.bytes M.writable M.layout before after offset (width size) result) }
         ensures compares { ComparesSome self.old self.new }
     {
-        match self.region_at(addr) {
-            Some(index) => self.regions[index].read(addr, size),
-            None => None,
+        if !is_served_by(&self.regions, self.first, addr) {
+            return self.read_by_search(addr, size);
         }
+        self.looked_at = self.looked_at.saturating_add(1);
+        self.regions[self.first].read(addr, size)
     }
 
     #[inline]
@@ -448,10 +475,11 @@ impl<M: Memory> Memory for MemorySpace<M> {
             before after offset (width size) store_data result) }
         ensures compares { ComparesSome self.old self.new }
     {
-        match self.region_at(addr) {
-            Some(index) => self.regions[index].write(addr, size, store_data),
-            None => false,
+        if !is_served_by(&self.regions, self.first, addr) {
+            return self.write_by_search(addr, size, store_data);
         }
+        self.looked_at = self.looked_at.saturating_add(1);
+        self.regions[self.first].write(addr, size, store_data)
     }
 
     /// They are where those of the region's memory are. A read that is left out is not counted.
