@@ -93,7 +93,7 @@ impl<M: Memory> MemoryRegion<M> {
         ensures { IsTrue result
             ↔ (self.now.base ≤ addr) × (addr < self.now.base + self.now.size) }
     {
-        self.base <= addr && u64::from(addr) < u64::from(self.base) + u64::from(self.size)
+        self.base <= addr && addr - self.base < self.size
     }
 
     /// Lends its memory.
@@ -456,8 +456,9 @@ impl<M: Memory> Memory for MemorySpace<M> {
         if !is_served_by(&self.regions, self.first, addr) {
             return self.read_by_search(addr, size);
         }
+        let answer = self.regions[self.first].read(addr, size);
         self.looked_at = self.looked_at.saturating_add(1);
-        self.regions[self.first].read(addr, size)
+        answer
     }
 
     #[inline]
@@ -478,8 +479,9 @@ impl<M: Memory> Memory for MemorySpace<M> {
         if !is_served_by(&self.regions, self.first, addr) {
             return self.write_by_search(addr, size, store_data);
         }
+        let answer = self.regions[self.first].write(addr, size, store_data);
         self.looked_at = self.looked_at.saturating_add(1);
-        self.regions[self.first].write(addr, size, store_data)
+        answer
     }
 
     /// They are where those of the region's memory are. A read that is left out is not counted.
