@@ -74,18 +74,19 @@ to_call stops stops' watches watches' limit s steps reason fault pc t same same'
 
 -- a call that is made, and a stop behind it or none
 pub call_made : {A : Type 0} (stops stops' : List ℕ) (e after e' : Recording) (m t : State) (accesses : List Access)
-    (end : Option ℕ) (answer : Option A) → end ≡ None → IsServedStep Records e m (Ok end) after t accesses
+    (end : Option ℕ) (answer : Option A) (is_call : Bool) → end ≡ None → IsServedStep Records is_call e m (Ok end) after t accesses
     → OutputTaken after e' → stops' ≡ stops → IfNone answer (Contains stops' t.pc → ⊥)
     → MatchOption answer (CallMade stops e m e' t) (λ (stop : A). CallStops e m e' t)
-call_made stops stops' e after e' m t accesses end None goes_on served taken same none = record {
+call_made stops stops' e after e' m t accesses end None is_call goes_on served taken same none = record {
   after = after;
+  is_call = is_call;
   accesses = accesses;
-  served = subst (λ (o : Option ℕ). IsServedStep Records e m (Ok o) after t accesses) goes_on served;
+  served = subst (λ (o : Option ℕ). IsServedStep Records is_call e m (Ok o) after t accesses) goes_on served;
   output_taken = taken;
   no_stop = λ at. none (subst (λ (xs : List ℕ). Contains xs t.pc) (sym same) at);
 }
-call_made stops stops' e after e' m t accesses end (Some stop) goes_on served taken same none =
-    Behind _ after accesses served (inr taken)
+call_made stops stops' e after e' m t accesses end (Some stop) is_call goes_on served taken same none =
+    Behind is_call _ after accesses served (inr taken)
 
 -- the pc may be another one
 abbrev pub BeginsAt : State → State → Type 0

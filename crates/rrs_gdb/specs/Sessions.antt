@@ -1,6 +1,6 @@
 -- What a packet may change, by its letter (gdb's manual, "Remote Serial Protocol", "Packets"). Most
 -- packets ask, and change nothing of the program.
-use Rattle.std.specs.Prelude.{◌≡◌, ◌≢◌, ◌⊎◌, ℕ, ◌-◌, List, [], ◌∷◌, ◌++◌, Contains, slice_index, None, Ok}
+use Rattle.std.specs.Prelude.{◌≡◌, ◌≢◌, ◌⊎◌, ℕ, ◌-◌, List, [], ◌∷◌, ◌++◌, Contains, Bool, slice_index, None, Ok}
 use Rattle.rrs_lib.specs.declared.instruction_executor.InstructionException.TheVariants.{EnvironmentCall}
 use Rattle.rrs_lib.specs.Accesses.{Access}
 use Rattle.rrs_lib.specs.Machine.{State, with_pc}
@@ -95,8 +95,9 @@ pub record OutputTaken (e e' : Recording) : Type 0 where
 pub record CallMade (stops : List ℕ) (e : Recording) (m : State) (e' : Recording) (t : State)
     : Type 0 where
   pub after : Recording
+  pub is_call : Bool
   pub accesses : List Access
-  pub served : IsServedStep Records e m (Ok None) after t accesses
+  pub served : IsServedStep Records is_call e m (Ok None) after t accesses
   pub output_taken : OutputTaken after e'
   pub no_stop : ¬ Contains stops t.pc
 
@@ -105,8 +106,8 @@ pub data CallStops (e : Recording) (m : State) (e' : Recording) (t : State) : Ty
   -- nothing is served
   Before : e' ≡ e → t ≡ m → CallStops e m e' t
   -- the call is served
-  Behind : (answer : ServedAnswer) (after : Recording) (accesses : List Access)
-      → IsServedStep Records e m answer after t accesses
+  Behind : (is_call : Bool) (answer : ServedAnswer) (after : Recording) (accesses : List Access)
+      → IsServedStep Records is_call e m answer after t accesses
       → (e' ≡ after) ⊎ OutputTaken after e'
       → CallStops e m e' t
 

@@ -1,5 +1,5 @@
 -- A history is carried on over parts of a call: each part leads to where the history led before.
-use Rattle.std.proofs.Common.{◌≡◌, ℕ, zero, suc, ◌+◌, ◌-◌, ◌<◌, ◌≤◌, inl, inr, Bool, true, false, Option, List, [], ◌∷◌, ◌++◌, length, take, drop, slice_index, slice_set, refl, sym, subst, ap, ◌∙◌, append_assoc, arith}
+use Rattle.std.proofs.Common.{◌≡◌, ℕ, zero, suc, ◌+◌, ◌-◌, ◌<◌, ◌≤◌, inl, inr, Bool, true, false, Option, List, [], ◌∷◌, ◌++◌, length, take, drop, slice_index, slice_set, refl, sym, subst, ap, ◌∙◌, if◌then◌else◌, append_assoc, append-nil, arith}
 use Rattle.std.proofs.lemmas.List.{take-append-drop, length-take, ext_get_or, get_or-set_same, get_or-set_other, length-set}
 use Rattle.std.proofs.lemmas.Bool.{cases_eq}
 use Rattle.std.proofs.Math.ListN.{drop_of_length-le}
@@ -12,7 +12,7 @@ use Rattle.rrs_history.specs.declared.change.Change.{Change}
 use Rattle.rrs_history.specs.declared.history.History.{History}
 use Rattle.rrs_history.specs.declared.calls.RecordedMemory.{RecordedMemory}
 use Rattle.rrs_history.specs.Changes.{undone}
-use Rattle.rrs_history.specs.Histories.{changes, room, past, all_undone, Remembers}
+use Rattle.rrs_history.specs.Histories.{changes, room, past, of_calls, Tells, all_undone, Remembers}
 use Rattle.rrs_history.specs.Calls.{LeadsTo, Carries, RemembersCall, WithReads, Leaves, KeepsPart, part_stored, part_written, recorded_reads, recorded_writes}
 use Rattle.rrs_history.proofs.Undoing.{dropped, dropped_length}
 use Rattle.rrs_history.proofs.Remembering.{Alike, alike_past, past-append, past-part}
@@ -40,16 +40,55 @@ one_more states k old new s t c leads same kept same_room =
           ((λ i. none i ++ before.0 i), omega (arith, ap length kept, length-take n all, before.1));
     }
 
-pub carries_one : (old new : History) (s t : State) (c : Change) → past (c ∷ changes old) t ≡ past (changes old) s
+choose_flag-append : (b x : Bool) (xs ys zs : List Bool) → zs ≡ xs ++ ys
+    → (if b then x ∷ zs else zs) ≡ (if b then x ∷ xs else xs) ++ ys
+choose_flag-append true x xs ys zs e = ap (λ l. x ∷ l) e
+choose_flag-append false x xs ys zs e = e
+
+of_calls-append : (xs ys : List Change) → of_calls (xs ++ ys) ≡ of_calls xs ++ of_calls ys
+of_calls-append [] ys = refl
+of_calls-append (c ∷ cs) ys = choose_flag-append c.starts c.of_call (of_calls cs) (of_calls ys) _ (of_calls-append cs ys)
+
+-- a history tells what its changes told before the oldest were forgotten
+pub told_all : (are_calls : List Bool) (all : List Change) (n : ℕ) (new : History) (rest : List Bool)
+    → are_calls ≡ of_calls all ++ rest → changes new ≡ take n all → Tells are_calls new
+told_all are_calls all n new rest told kept = record {
+  untold = of_calls (drop n all) ++ rest;
+  told = told ∙ ap (λ xs. of_calls xs ++ rest) (sym (take-append-drop n all))
+      ∙ ap (λ fs. fs ++ rest) (of_calls-append (take n all) (drop n all))
+      ∙ append_assoc (of_calls (take n all)) (of_calls (drop n all)) rest
+      ∙ ap (λ cs. of_calls cs ++ (of_calls (drop n all) ++ rest)) (sym kept);
+}
+
+pub of_calls-part : (c : Change) (cs : List Change) → c.starts ≡ false → of_calls (c ∷ cs) ≡ of_calls cs
+of_calls-part c cs part = ap (λ b. if b then c.of_call ∷ of_calls cs else of_calls cs) part
+
+pub of_calls-starts : (c : Change) (cs : List Change) (is_call : Bool) → c.starts ≡ true → c.of_call ≡ is_call
+    → of_calls (c ∷ cs) ≡ is_call ∷ of_calls cs
+of_calls-starts c cs is_call starts is =
+    ap (λ b. if b then c.of_call ∷ of_calls cs else of_calls cs) starts ∙ ap (λ f. f ∷ of_calls cs) is
+
+-- a history that keeps a change with which a step or a call begins tells which it is
+pub tells_start : (old new : History) (c : Change) (is_call : Bool) → c.starts ≡ true → c.of_call ≡ is_call
+    → changes new ≡ take (room old) (c ∷ changes old) → Tells (is_call ∷ of_calls (changes old)) new
+tells_start old new c is_call starts is kept =
+    told_all (is_call ∷ of_calls (changes old)) (c ∷ changes old) (room old) new []
+    (sym (append-nil (of_calls (c ∷ changes old)) ∙ of_calls-starts c (changes old) is_call starts is)) kept
+
+carries_one : (old new : History) (s t : State) (c : Change) → past (c ∷ changes old) t ≡ past (changes old) s
+    → of_calls (c ∷ changes old) ≡ of_calls (changes old)
     → changes new ≡ take (room old) (c ∷ changes old) → room new ≡ room old → Carries 1 old s new t
-carries_one old new s t c same kept same_room = record {
+carries_one old new s t c same same_calls kept same_room = record {
   goes_on = λ states k leads. one_more states k old new s t c leads same kept same_room;
+  tells = λ are_calls before. told_all are_calls (c ∷ changes old) (room old) new before.untold
+      (before.told ∙ ap (λ fs. fs ++ before.untold) (sym same_calls)) kept;
   room_kept = same_room;
 }
 
 pub carries_part : (old new : History) (s t : State) (c : Change) → c.starts ≡ false → undone c t ≡ s
     → changes new ≡ take (room old) (c ∷ changes old) → room new ≡ room old → Carries 1 old s new t
-carries_part old new s t c part undoes = carries_one old new s t c (past-part c (changes old) t part ∙ ap (past (changes old)) undoes)
+carries_part old new s t c part undoes =
+    carries_one old new s t c (past-part c (changes old) t part ∙ ap (past (changes old)) undoes) (of_calls-part c (changes old) part)
 
 -- ---- nothing, and one after the other
 
@@ -72,6 +111,10 @@ carries_same n old new s t same same_room alike = record {
         let before = leads.with_room (omega (arith, fits, same_room)) in
         (before.0, omega (arith, before.1, ap length same));
   });
+  tells = λ are_calls before. record {
+    untold = before.untold;
+    told = before.told ∙ ap (λ cs. of_calls cs ++ before.untold) (sym same);
+  };
   room_kept = same_room;
 }
 
@@ -80,12 +123,14 @@ carries_both m n k a b d s t u less first second = record {
   goes_on = λ states j leads.
       more_room states (j + m + n) (j + k) d u (omega (arith, less))
       (second.goes_on states (j + m) (first.goes_on states j leads));
+  tells = λ are_calls before. second.tells are_calls (first.tells are_calls before);
   room_kept = second.room_kept ∙ first.room_kept;
 }
 
 pub carries_more : (m n : ℕ) (a b : History) (s t : State) → m ≤ n → Carries m a s b t → Carries n a s b t
 carries_more m n a b s t less c = record {
   goes_on = λ states k leads. more_room states (k + m) (k + n) b t (omega (arith, less)) (c.goes_on states k leads);
+  tells = c.tells;
   room_kept = c.room_kept;
 }
 
@@ -268,31 +313,37 @@ leads_start h0 h1 s m c r kept = record {
   );
 }
 
-pub remembers_step : (h0 h1 : History) (s t : State) (n : ℕ) → Remembers h0 s h1 t → RemembersCall h0 s h1 t n
-remembers_step h0 h1 s t n r = record {
+pub remembers_step : (h0 h1 : History) (s t : State) (c : Change) (n : ℕ) → c.starts ≡ true → c.of_call ≡ false
+    → changes h1 ≡ take (room h0) (c ∷ changes h0) → Remembers h0 s h1 t → RemembersCall false h0 s h1 t n
+remembers_step h0 h1 s t c n starts of_step kept r = record {
   forgotten = r.forgotten;
   leads_back = r.leads_back;
+  tells = tells_start h0 h1 c false starts of_step kept;
   none_with_room = λ fits. r.none_with_room (omega (arith, fits));
   room_kept = r.room_kept;
 }
 
-pub remembers_more : (h0 h1 : History) (s t : State) (m n : ℕ) → m ≤ n → RemembersCall h0 s h1 t m → RemembersCall h0 s h1 t n
+pub remembers_more : (h0 h1 : History) (s t : State) (m n : ℕ) → m ≤ n → RemembersCall true h0 s h1 t m
+    → RemembersCall true h0 s h1 t n
 remembers_more h0 h1 s t m n less r = record {
   forgotten = r.forgotten;
   leads_back = r.leads_back;
+  tells = r.tells;
   none_with_room = λ fits. r.none_with_room (omega (arith, fits, less));
   room_kept = r.room_kept;
 }
 
 pub remembers_call : (h0 h1 h2 h3 : History) (s m u v t : State) (c : Change) (n : ℕ) → Remembers h0 s h1 m
-    → changes h1 ≡ take (room h0) (c ∷ changes h0) → Carries n h1 m h2 u → Carries 31 h2 u h3 v → Alike v t
-    → RemembersCall h0 s h3 t n
-remembers_call h0 h1 h2 h3 s m u v t c n r kept first second alike =
+    → changes h1 ≡ take (room h0) (c ∷ changes h0) → c.starts ≡ true → c.of_call ≡ true
+    → Carries n h1 m h2 u → Carries 31 h2 u h3 v → Alike v t
+    → RemembersCall true h0 s h3 t n
+remembers_call h0 h1 h2 h3 s m u v t c n r kept starts is first second alike =
     let all = carries_both n 31 (n + 31) h1 h2 h3 m u v (omega arith) first second in
     let leads = all.goes_on (s ∷ past (changes h0) s) (length (changes h0) + 1) (leads_start h0 h1 s m c r kept) in
     record {
       forgotten = leads.forgotten;
       leads_back = leads.leads ∙ ap (λ xs. xs ++ leads.forgotten) (sym (alike_past (changes h3) v t alike));
+      tells = all.tells (true ∷ of_calls (changes h0)) (tells_start h0 h1 c true starts is kept);
       none_with_room = λ fits. (leads.with_room (omega (arith, fits, r.room_kept, all.room_kept))).0;
       room_kept = all.room_kept ∙ r.room_kept;
     }

@@ -15,7 +15,7 @@ use Rattle.rrs_history.specs.declared.change.Change.{Change}
 use Rattle.rrs_history.specs.declared.history.History.{History}
 use Rattle.rrs_history.specs.declared.calls.RecordedMemory.{RecordedMemory}
 use Rattle.rrs_history.specs.Changes.{stored_back, NotedAccessesOf}
-use Rattle.rrs_history.specs.Histories.{changes, room, past}
+use Rattle.rrs_history.specs.Histories.{changes, room, past, of_calls, Tells}
 use Rattle.rrs_history.specs.Noting.{ReadsAndWrites}
 
 -- ---- a step that is served
@@ -37,32 +37,34 @@ ServedAnswer = Result (Option ℕ) InstructionException
 -- By what an environment of type E says of a call:
 module _ {E : Type 0} (serves : Relation E) where
   -- From s a step is made, and if it is an ecall, the call is served. The last place is what the
-  -- call accesses, with a read before each write.
-  pub data IsServedStep (e : E) (s : State) (answer : ServedAnswer) (e' : E) (t : State)
-      (accesses : List Access) : Type 0 where
+  -- call accesses, with a read before each write; the first, whether a call was served.
+  pub data IsServedStep (is_call : Bool) (e : E) (s : State) (answer : ServedAnswer) (e' : E)
+      (t : State) (accesses : List Access) : Type 0 where
     -- a step that is Ok
     Stepped :
-        Step s t (Ok tt) → answer ≡ Ok None → e' ≡ e → NotedAccessesOf s accesses
-        → IsServedStep e s answer e' t accesses
+        is_call ≡ false → Step s t (Ok tt) → answer ≡ Ok None → e' ≡ e
+        → NotedAccessesOf s accesses
+        → IsServedStep is_call e s answer e' t accesses
     -- an exception that is no ecall
     Faulted : (fault : InstructionException)
-        → Step s t (Err fault) → ((pc : ℕ) → fault ≡ EnvironmentCall pc → ⊥)
+        → is_call ≡ false → Step s t (Err fault) → ((pc : ℕ) → fault ≡ EnvironmentCall pc → ⊥)
         → answer ≡ Err fault → e' ≡ e → NotedAccessesOf s accesses
-        → IsServedStep e s answer e' t accesses
+        → IsServedStep is_call e s answer e' t accesses
     -- an ecall, and its call
     Called : (pc : ℕ) (end : Option ℕ) (m u : State) (of_step of_call noted : List Access)
-        → Step s m (Err (EnvironmentCall pc)) → NotedAccessesOf s of_step
+        → is_call ≡ true → Step s m (Err (EnvironmentCall pc)) → NotedAccessesOf s of_step
         → serves e m e' u of_call end → WithReads of_call noted
         → t ≡ resumed end pc u → answer ≡ Ok end → accesses ≡ of_step ++ noted
-        → IsServedStep e s answer e' t accesses
+        → IsServedStep is_call e s answer e' t accesses
 
 -- A step or a call led from s to t, and the history keeps it: it leads back to s, and from there to
--- where it led before. The oldest states may be forgotten, if there was no room for its changes:
--- 32 at the most, and one for each of so many accesses.
-pub record RemembersCall (old : History) (s : State) (new : History) (t : State) (accesses : ℕ)
-    : Type 0 where
+-- where it led before; and it tells whether it was a call. The oldest states may be forgotten, if
+-- there was no room for its changes: 32 at the most, and one for each of so many accesses.
+pub record RemembersCall (is_call : Bool) (old : History) (s : State) (new : History) (t : State)
+    (accesses : ℕ) : Type 0 where
   pub forgotten : List State
   pub leads_back : s ∷ past (changes old) s ≡ past (changes new) t ++ forgotten
+  pub tells : Tells (is_call ∷ of_calls (changes old)) new
   pub none_with_room : length (changes old) + 32 + accesses ≤ room old → forgotten ≡ []
   pub room_kept : room new ≡ room old
 
@@ -147,6 +149,7 @@ pub record LeadsTo (states : List State) (k : ℕ) (h : History) (t : State) : T
 -- A history that led from s to some states leads from t to them, after n more changes at the most.
 pub record Carries (n : ℕ) (old : History) (s : State) (new : History) (t : State) : Type 0 where
   pub goes_on : (states : List State) (k : ℕ) → LeadsTo states k old s → LeadsTo states (k + n) new t
+  pub tells : (are_calls : List Bool) → Tells are_calls old → Tells are_calls new
   pub room_kept : room new ≡ room old
 
 -- the state of a hart with a recorded memory

@@ -1,6 +1,6 @@
 -- The states that a history leads back to. A step goes from one state to one other (RISC-V
 -- unprivileged specification, RV32I, "Programmers' Model"), so the states before it are a list.
-use Rattle.std.specs.Prelude.{◌≡◌, ℕ, ◌<◌, ◌≤◌, if◌then◌else◌, List, [], ◌∷◌, ◌++◌, All, length, take, true, false}
+use Rattle.std.specs.Prelude.{◌≡◌, ℕ, ◌<◌, ◌≤◌, if◌then◌else◌, Bool, List, [], ◌∷◌, ◌++◌, All, length, take, true, false}
 use Rattle.rrs_lib.specs.Machine.{State}
 use Rattle.rrs_lib.specs.Accesses.{Access}
 use Rattle.rrs_history.specs.declared.change.Change.{Change}
@@ -20,6 +20,16 @@ abbrev pub past : List Change → State → List State
 past [] t = []
 past (c ∷ cs) t =
     if c.starts then undone c t ∷ past cs (undone c t) else past cs (undone c t)
+
+-- whether each of these states began a call, and no step
+abbrev pub of_calls : List Change → List Bool
+of_calls [] = []
+of_calls (c ∷ cs) = if c.starts then c.of_call ∷ of_calls cs else of_calls cs
+
+-- The history tells of steps and calls, newest first, which are calls. The oldest may be forgotten.
+pub record Tells (are_calls : List Bool) (h : History) : Type 0 where
+  pub untold : List Bool
+  pub told : are_calls ≡ of_calls (changes h) ++ untold
 
 -- A step or a call led from s to t, and the history keeps it: the change that leads from t to s is
 -- its latest one, before those that it kept, as many as it has room for. So it leads back to s, and

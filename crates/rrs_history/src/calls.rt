@@ -1,6 +1,6 @@
 //! Steps of a program that calls its environment, which can be taken back.
 
-ghost use Rattle.std.specs.Prelude.{◌≡◌, ℕ, Bool, Option, length, drop, slice_index, OnOk, OnErr, IsTrue};
+ghost use Rattle.std.specs.Prelude.{◌≡◌, ℕ, Bool, true, Option, length, drop, slice_index, OnOk, OnErr, IsTrue};
 ghost use Rattle.rrs_lib.specs.Machine.{State, state_of};
 ghost use Rattle.rrs_lib.specs.Executor.{state_in, KeepsTheRest};
 ghost use Rattle.rrs_env.specs.Serving.{MakesSome, resumed};
@@ -191,7 +191,7 @@ fn serve_noted<M: Memory, E: Environment>(
     ensures served { MakesSome M.reads M.writes (λ noted. ServesCall E.serves
         environment.old (state_in M.bytes M.writable executor.old) result pc
         environment.new (state_in M.bytes M.writable executor.new) noted
-        × RemembersCall history.old
+        × RemembersCall true history.old
         (undone change (state_in M.bytes M.writable executor.old))
         history.new (state_in M.bytes M.writable executor.new) (length noted))
         executor.old.mem.now executor.new.mem.now }
@@ -215,7 +215,8 @@ fn serve_noted<M: Memory, E: Environment>(
 /// read before its store, or a step that is an `ecall`, and its call, with a read before each of
 /// its writes. The history then leads back to the state before, and from there to the states before
 /// that: registers, pc, last written register and bytes. What the environment keeps, as what it read
-/// and printed, is not taken back: its owner does that at a change that is `of_call`.
+/// and printed, is not taken back: its owner does that at a change that is `of_call`. The latest one
+/// that `starts` is so exactly where a call was served (`is_call`).
 ///
 /// # Errors
 ///
@@ -227,10 +228,10 @@ pub fn step_served<M: Memory, E: Environment>(
     environment: &mut E,
     history: &mut History,
 ) -> Result<Option<u32>, InstructionException>
-    ensures served { MakesSome M.reads M.writes (λ accesses. IsServedStep E.serves
-        environment.old (state_in M.bytes M.writable executor.old) result
+    ensures served { MakesSome M.reads M.writes (λ accesses. (is_call : Bool)
+        × IsServedStep E.serves is_call environment.old (state_in M.bytes M.writable executor.old) result
         environment.new (state_in M.bytes M.writable executor.new) accesses
-        × OnOk result (RemembersCall
+        × OnOk result (RemembersCall is_call
         history.old (state_in M.bytes M.writable executor.old)
         history.new (state_in M.bytes M.writable executor.new) (length accesses)))
         executor.old.mem.now executor.new.mem.now }

@@ -1,6 +1,6 @@
 //! What a step changed, and taking it back.
 
-ghost use Rattle.std.specs.Prelude.{◌≡◌, ◌<◌, ℕ, Option, None, length, slice_index, drop, OnErr, IsTrue};
+ghost use Rattle.std.specs.Prelude.{◌≡◌, ◌<◌, ℕ, false, Option, None, length, slice_index, drop, OnErr, IsTrue};
 ghost use Rattle.rrs_lib.specs.Machine.{State, state_of, hart_of};
 ghost use Rattle.rrs_lib.specs.Executor.{state_in, KeepsTheRest};
 ghost use Rattle.rrs_lib.specs.Accesses.{Makes, MakesExactly};
@@ -142,6 +142,7 @@ pub fn step_noted_parts<M: Memory>(
         (M.bytes mem.new) (M.writable mem.new))
         ≡ state_of (hart_of registers.old pc last) (M.bytes mem.old) (M.writable mem.old) }
     ensures starts { IsTrue result.1.starts }
+    ensures of_step { result.1.of_call ≡ false }
     ensures last { LastIsRegister result.0.last_register_write }
     ensures entry_zero { slice_index registers.new 0 ≡ slice_index registers.old 0 }
     ensures layout_kept { M.layout mem.new ≡ M.layout mem.old }
@@ -191,6 +192,7 @@ pub fn step_noted<M: Memory>(
     ensures undoes { undone result.1 (state_in M.bytes M.writable executor.new)
         ≡ state_in M.bytes M.writable executor.old }
     ensures starts { IsTrue result.1.starts }
+    ensures of_step { result.1.of_call ≡ false }
     ensures last { LastIsRegister executor.new.hart_state.now.last_register_write }
     ensures rest { KeepsTheRest M.layout executor.old executor.new }
     ensures accesses { MakesExactly M.reads M.writes

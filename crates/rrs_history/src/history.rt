@@ -1,13 +1,13 @@
 //! The latest changes, newest first.
 
-ghost use Rattle.std.specs.Prelude.{◌≡◌, ◌∷◌, [], ◌≤◌, ◌↔◌, List, length, take, slice_get, IfOk, IfSome, IfNone, OnOk, OnErr, IsTrue};
+ghost use Rattle.std.specs.Prelude.{◌≡◌, ◌∷◌, [], ◌≤◌, ◌↔◌, false, List, length, take, slice_get, IfOk, IfSome, IfNone, OnOk, OnErr, IsTrue};
 ghost use Rattle.std.specs.List.{list_any};
 ghost use Rattle.rrs_history.specs.declared.change.Change.{Change};
 ghost use Rattle.rrs_lib.specs.Executor.{state_in, KeepsTheRest};
 ghost use Rattle.rrs_lib.specs.Accesses.{Access, Makes, MakesExactly};
 ghost use Rattle.rrs_lib.specs.Steps.{Step, IsOnlyStep, LastIsRegister, cleared};
 ghost use Rattle.rrs_history.specs.Changes.{NotedAccessesOf};
-ghost use Rattle.rrs_history.specs.Histories.{changes, room, past, Remembers, TakesBack};
+ghost use Rattle.rrs_history.specs.Histories.{changes, room, past, of_calls, Tells, Remembers, TakesBack};
 
 use crate::change::{Change, step_noted, undo};
 use circular_buffer::HeapCircularBuffer;
@@ -101,7 +101,8 @@ impl History {
 ///
 /// The step is that of `step`, with its answer and its accesses, and before its store one read more,
 /// of the bytes that it is to replace (`accesses`). After a step that is `Ok` the history leads back
-/// to the state before it, and from there to the states before that (`remembered`): so n steps, and
+/// to the state before it, and from there to the states before that (`remembered`), and tells that
+/// it was no call (`told`): so n steps, and
 /// [step_back] n times, leave registers, pc, last written register and bytes as they were, if there
 /// is room for n changes. From a state there is one step (`only`), so that forward again the same
 /// steps are made. Nothing is allocated.
@@ -124,6 +125,7 @@ pub fn step_recorded<M: Memory>(
     ensures remembered { OnOk result (Remembers
         history.old (state_in M.bytes M.writable executor.old)
         history.new (state_in M.bytes M.writable executor.new)) }
+    ensures told { OnOk result (Tells (false ∷ of_calls (changes history.old)) history.new) }
     ensures kept { OnErr result ((changes history.new ≡ changes history.old)
         × (past (changes history.new) (state_in M.bytes M.writable executor.new)
         ≡ past (changes history.old) (state_in M.bytes M.writable executor.old))) }

@@ -32,7 +32,7 @@ returns-clause-served g c =
         },
         remembers_call c.args.history.now c.push.new.self over.history c.keep_registers.new.history s m u v _ first (length call.noted)
             (remembers c.args.history.now c.push.new.self s m first c.requires refl pushed.changes pushed.room pushed.within)
-            pushed.changes (call.carries hart) (c.keep_registers.ensures u refl)
+            pushed.changes c.requires refl (call.carries hart) (c.keep_registers.ensures u refl)
             (record { registers = ap (drop 1) c.resume.ensures.registers; bytes = refl; writable = refl }),
       );
       made = call.made;

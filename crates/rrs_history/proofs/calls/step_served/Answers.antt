@@ -1,5 +1,5 @@
 -- A step that is Ok, an ecall, or another exception.
-use Rattle.std.proofs.Common.{◌≡◌, ◌≤◌, length, ◌++◌, Err, OnErr, refl, subst, ap, ◌∙◌, arith}
+use Rattle.std.proofs.Common.{◌≡◌, ◌≤◌, true, false, length, ◌++◌, Err, OnErr, refl, subst, ap, ◌∙◌, arith}
 use Rattle.std.proofs.lemmas.List.{length-append}
 use Rattle.rrs_lib.specs.declared.instruction_executor.InstructionException.TheVariants.{EnvironmentCall}
 use Rattle.rrs_lib.specs.Machine.{State}
@@ -25,8 +25,10 @@ returns-in_default-clause-served g c =
     record {
       accesses = made.accesses;
       these = (
-        Stepped (subst P c.in_default.is noted.step) refl refl made.these,
-        remembers_step old c.push.new.self s t (length made.accesses)
+        false,
+        Stepped refl (subst P c.in_default.is noted.step) refl refl made.these,
+        remembers_step old c.push.new.self s t c.step_noted-answer.result.1 (length made.accesses)
+            noted.starts noted.of_step pushed.changes
             (remembers old c.push.new.self s t _ noted.starts noted.undoes pushed.changes pushed.room pushed.within),
       );
       made = made.made;
@@ -49,12 +51,13 @@ returns-in-EnvironmentCall-clause-served g c =
     let n = length second.accesses in
     let all = first.accesses ++ second.accesses in
     let more : n ≤ length all = omega (arith, length-append first.accesses second.accesses) in
-    let Q : State → Type 0 = λ x. RemembersCall c.args.history.now x c.serve_noted.new.history t n in
+    let Q : State → Type 0 = λ x. RemembersCall true c.args.history.now x c.serve_noted.new.history t n in
     record {
       accesses = all;
       these = (
+        true,
         Called pc c.serve_noted.result m call.after_call first.accesses call.of_call second.accesses
-            (subst P answer noted.step) first.these call.served call.with_reads call.goes_on refl refl,
+            refl (subst P answer noted.step) first.these call.served call.with_reads call.goes_on refl refl,
         remembers_more c.args.history.now c.serve_noted.new.history s t n (length all) more (subst Q noted.undoes second.these.1),
       );
       made = Makes-append memory.reads memory.writes first.accesses second.accesses _ _ _ first.made second.made;
@@ -72,7 +75,7 @@ returns-in_default-exception g c =
     record {
       served = record {
         accesses = made.accesses;
-        these = (Faulted c.in-Err.exception (subst P c.in-Err.is noted.step) c.in_default-exception.not-EnvironmentCall refl refl made.these, tt);
+        these = (false, Faulted c.in-Err.exception refl (subst P c.in-Err.is noted.step) c.in_default-exception.not-EnvironmentCall refl refl made.these, tt);
         made = made.made;
       };
       kept = (refl, cleared_past (changes c.args.history.now) s t (subst Q c.in-Err.is noted.fault));
