@@ -10,7 +10,7 @@ use rrs_cli::loading::load;
 use rrs_elf::Executable;
 use rrs_env::Ending;
 use rrs_exec::{DECODED_WORDS, ImageError};
-use rrs_fast::CachedMemory;
+use rrs_fast::{CachedMemory, OwnCache};
 use rrs_gdb::{Link, LinkError, SessionEnd, SessionState, Settings, serve};
 use rrs_lib::instruction_executor::InstructionExecutor;
 use rrs_lib::memories::SliceMemory;
@@ -54,11 +54,11 @@ struct Program<'a> {
 }
 
 /// Serves gdb's packets for a program that starts, with a hart and a memory.
-fn debug_from<'a, M: Memory, R: Read, W: Write>(
+fn debug_from<'a, M: Memory, R: Read, W: Write, const N: usize>(
     alloc: Global,
     state: &mut SessionState<'a>,
     link: &mut Link<R, W>,
-    memory: &mut M,
+    memory: &mut CachedMemory<M, N>,
     hart: &mut HartState,
     heap: Heap,
     input: &'a [u8],
@@ -70,7 +70,14 @@ fn debug_from<'a, M: Memory, R: Read, W: Write>(
         mem: memory,
         hart_state: hart,
     };
-    serve(state, &mut executor, &mut environment, link).map_err(refused)
+    serve(
+        &mut OwnCache,
+        state,
+        &mut executor,
+        &mut environment,
+        link,
+    )
+    .map_err(refused)
 }
 
 /// Starts a raw program, and serves gdb's packets for it.

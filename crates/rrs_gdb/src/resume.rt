@@ -8,6 +8,7 @@ use crate::back::{BackEnd, go_back};
 use crate::forward::{ForwardEnd, ForwardReason, go_forward};
 use crate::framing::push_hex;
 use crate::link::{Link, LinkError};
+use crate::runner::StopRunner;
 use crate::state::{CallMark, SessionState, Stop};
 use rrs_history::step_served;
 use rrs_lib::Memory;
@@ -161,7 +162,8 @@ fn stop_of(reason: &ForwardReason, at_limit: Stop) -> Stop {
 }
 
 /// Goes forward, to a stop or for `limit` steps, each call that is served being one.
-fn forward<M: Memory, R: Read, W: Write>(
+fn forward<M: Memory, G: StopRunner<M>, R: Read, W: Write>(
+    runner: &mut G,
     state: &mut SessionState<'_>,
     executor: &mut InstructionExecutor<M>,
     environment: &mut OutputRecorder<'_>,
@@ -178,6 +180,7 @@ fn forward<M: Memory, R: Read, W: Write>(
     let mut left = limit;
     'legs: while left > 0 {
         let ForwardEnd { steps, reason } = go_forward(
+            runner,
             executor,
             &mut state.history,
             left,
@@ -200,7 +203,8 @@ fn forward<M: Memory, R: Read, W: Write>(
 }
 
 /// `s`: a step, or a call.
-pub(crate) fn step<M: Memory, R: Read, W: Write>(
+pub(crate) fn step<M: Memory, G: StopRunner<M>, R: Read, W: Write>(
+    runner: &mut G,
     state: &mut SessionState<'_>,
     executor: &mut InstructionExecutor<M>,
     environment: &mut OutputRecorder<'_>,
@@ -212,13 +216,14 @@ pub(crate) fn step<M: Memory, R: Read, W: Write>(
         environment.new (state_in M.bytes M.writable executor.new)
         1 environment.old (state_in M.bytes M.writable executor.old)) }
 {
-    let stop = forward(state, executor, environment, link, 1, Stop::Signal(TRAPPED))?;
+    let stop = forward(runner, state, executor, environment, link, 1, Stop::Signal(TRAPPED))?;
     state.stop = stop;
     Ok(())
 }
 
 /// `c`: to a stop.
-pub(crate) fn proceed<M: Memory, R: Read, W: Write>(
+pub(crate) fn proceed<M: Memory, G: StopRunner<M>, R: Read, W: Write>(
+    runner: &mut G,
     state: &mut SessionState<'_>,
     executor: &mut InstructionExecutor<M>,
     environment: &mut OutputRecorder<'_>,
@@ -232,6 +237,7 @@ pub(crate) fn proceed<M: Memory, R: Read, W: Write>(
 {
     let limit = state.settings.limit;
     let stop = forward(
+        runner,
         state,
         executor,
         environment,

@@ -14,6 +14,7 @@ use crate::numbers::{address_and_length, behind, cut, cut_or_all, number_of, pla
 use crate::queries::{BAD_ADDRESS, INVALID, NO_MEMORY, catch_calls, query};
 use crate::registers::{push_register, push_registers, write_register, write_registers};
 use crate::resume::{go_backward, proceed, step, step_backward};
+use crate::runner::StopRunner;
 use crate::state::{SessionState, Stop, push_stop, push_text};
 use rrs_lib::Memory;
 use rrs_lib::instruction_executor::InstructionExecutor;
@@ -344,7 +345,8 @@ fn signal_and_rest(text: &[u8], going: Going) -> Option<(Going, &[u8])>
 }
 
 /// Has the program go on, and appends where it stops.
-fn go<M: Memory, R: Read, W: Write>(
+fn go<M: Memory, G: StopRunner<M>, R: Read, W: Write>(
+    runner: &mut G,
     state: &mut SessionState<'_>,
     executor: &mut InstructionExecutor<M>,
     environment: &mut OutputRecorder<'_>,
@@ -361,8 +363,8 @@ fn go<M: Memory, R: Read, W: Write>(
 {
     if !matches!(state.stop, Stop::Exited(_) | Stop::Killed(_)) {
         match going {
-            Going::Step => step(state, executor, environment, link)?,
-            Going::Proceed => proceed(state, executor, environment, link)?,
+            Going::Step => step(runner, state, executor, environment, link)?,
+            Going::Proceed => proceed(runner, state, executor, environment, link)?,
             Going::Killed(signal) => state.stop = Stop::Killed(signal),
         }
     }
@@ -371,7 +373,8 @@ fn go<M: Memory, R: Read, W: Write>(
 }
 
 /// `c`, `C`, `s` and `S`: has the program go on, from an address if there is one.
-fn go_from<M: Memory, R: Read, W: Write>(
+fn go_from<M: Memory, G: StopRunner<M>, R: Read, W: Write>(
+    runner: &mut G,
     state: &mut SessionState<'_>,
     executor: &mut InstructionExecutor<M>,
     environment: &mut OutputRecorder<'_>,
@@ -406,11 +409,12 @@ fn go_from<M: Memory, R: Read, W: Write>(
         executor.hart_state.pc = address;
         state.forget();
     }
-    go(state, executor, environment, link, reply, going)
+    go(runner, state, executor, environment, link, reply, going)
 }
 
 /// `vCont`: has the program go on, by the first of the actions.
-fn go_on<M: Memory, R: Read, W: Write>(
+fn go_on<M: Memory, G: StopRunner<M>, R: Read, W: Write>(
+    runner: &mut G,
     state: &mut SessionState<'_>,
     executor: &mut InstructionExecutor<M>,
     environment: &mut OutputRecorder<'_>,
@@ -430,7 +434,7 @@ fn go_on<M: Memory, R: Read, W: Write>(
     let (action, _others) = cut_or_all(actions, b';');
     let (action, _thread) = cut_or_all(action, b':');
     match going_of(action) {
-        Some((going, [])) => go(state, executor, environment, link, reply, going),
+        Some((going, [])) => go(runner, state, executor, environment, link, reply, going),
         _ => {
             push_text(reply, INVALID)?;
             Ok(Next::Reply)
@@ -477,7 +481,8 @@ fn run_again(
 }
 
 /// Answers a packet that begins with `v`.
-fn multiletter<M: Memory, R: Read, W: Write>(
+fn multiletter<M: Memory, G: StopRunner<M>, R: Read, W: Write>(
+    runner: &mut G,
     state: &mut SessionState<'_>,
     executor: &mut InstructionExecutor<M>,
     environment: &mut OutputRecorder<'_>,
@@ -495,7 +500,7 @@ fn multiletter<M: Memory, R: Read, W: Write>(
         environment.new (state_in M.bytes M.writable executor.new)) }
 {
     if let Some(actions) = behind(text, b"Cont;") {
-        return go_on(state, executor, environment, link, reply, actions);
+        return go_on(runner, state, executor, environment, link, reply, actions);
     }
     if let Some(words) = behind(text, b"Run;") {
         return Ok(run_again(link.alloc, state, reply, words)?);
@@ -596,7 +601,8 @@ fn manage<R, W>(
 /// # Errors
 ///
 /// Out of memory, and a write that fails.
-pub fn answer_to<'a, M: Memory, R: Read, W: Write>(
+pub fn answer_to<'a, M: Memory, G: StopRunner<M>, R: Read, W: Write>(
+    runner: &mut G,
     state: &mut SessionState<'a>,
     executor: &mut InstructionExecutor<M>,
     environment: &mut OutputRecorder<'a>,
@@ -641,9 +647,9 @@ pub fn answer_to<'a, M: Memory, R: Read, W: Write>(
     }
     match payload {
         [b'c' | b'C' | b's' | b'S', ..] => {
-            go_from(state, executor, environment, link, reply, payload)
+            go_from(runner, state, executor, environment, link, reply, payload)
         }
-        [b'v', text @ ..] => multiletter(state, executor, environment, link, reply, text),
+        [b'v', text @ ..] => multiletter(runner, state, executor, environment, link, reply, text),
         [b'b', text @ ..] => {
             reverse(link.alloc, state, executor, environment, reply, text)?;
             Ok(Next::Reply)
@@ -653,7 +659,8 @@ pub fn answer_to<'a, M: Memory, R: Read, W: Write>(
 }
 
 /// Answers a packet, and tells how the session ends, if it does.
-fn answer<'a, M: Memory, R: Read, W: Write>(
+fn answer<'a, M: Memory, G: StopRunner<M>, R: Read, W: Write>(
+    runner: &mut G,
     state: &mut SessionState<'a>,
     executor: &mut InstructionExecutor<M>,
     environment: &mut OutputRecorder<'a>,
@@ -661,7 +668,7 @@ fn answer<'a, M: Memory, R: Read, W: Write>(
     payload: &[u8],
 ) -> Result<Option<SessionEnd>, LinkError> {
     let mut reply = Vec::new(link.alloc);
-    let next = answer_to(state, executor, environment, link, &mut reply, payload)?;
+    let next = answer_to(runner, state, executor, environment, link, &mut reply, payload)?;
     if matches!(next, Next::Reply | Next::ReplyAndEnd) {
         link.send(&reply)?;
     }
@@ -677,7 +684,8 @@ fn answer<'a, M: Memory, R: Read, W: Write>(
 /// # Errors
 ///
 /// Out of memory, and a write that fails.
-pub fn serve<'a, M: Memory, R: Read, W: Write>(
+pub fn serve<'a, M: Memory, G: StopRunner<M>, R: Read, W: Write>(
+    runner: &mut G,
     state: &mut SessionState<'a>,
     executor: &mut InstructionExecutor<M>,
     environment: &mut OutputRecorder<'a>,
@@ -694,7 +702,7 @@ pub fn serve<'a, M: Memory, R: Read, W: Write>(
             Received::End => return Ok(SessionEnd::Ended),
             Received::Bad => link.send(INVALID)?,
             Received::Packet(payload) => {
-                if let Some(end) = answer(state, executor, environment, link, &payload)? {
+                if let Some(end) = answer(runner, state, executor, environment, link, &payload)? {
                     return Ok(end);
                 }
             }

@@ -1,6 +1,6 @@
 //! Sessions of packets, and what they are answered.
 
-use rrs_gdb::{Link, LinkError, SessionEnd, SessionState, Settings, encode, serve};
+use rrs_gdb::{Link, LinkError, PlainRunner, SessionEnd, SessionState, Settings, encode, serve};
 use rrs_lib::HartState;
 use rrs_lib::instruction_executor::InstructionExecutor;
 use rrs_lib::memories::VecMemory;
@@ -96,7 +96,7 @@ fn served<'a>(
     let mut executor = InstructionExecutor { mem, hart_state };
     let mut reader = packets;
     let mut link = Link::new(alloc, &mut reader, output);
-    serve(state, &mut executor, environment, &mut link)
+    serve(&mut PlainRunner, state, &mut executor, environment, &mut link)
 }
 
 /// What is wanted: an acknowledgement, or more, and the packet of a payload, for each of the texts
