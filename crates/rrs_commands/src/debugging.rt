@@ -70,14 +70,7 @@ fn debug_from<'a, M: Memory, R: Read, W: Write, const N: usize>(
         mem: memory,
         hart_state: hart,
     };
-    serve(
-        &mut OwnCache,
-        state,
-        &mut executor,
-        &mut environment,
-        link,
-    )
-    .map_err(refused)
+    serve(&mut OwnCache, state, &mut executor, &mut environment, link).map_err(refused)
 }
 
 /// Starts a raw program, and serves gdb's packets for it.

@@ -216,7 +216,15 @@ pub(crate) fn step<M: Memory, G: StopRunner<M>, R: Read, W: Write>(
         environment.new (state_in M.bytes M.writable executor.new)
         1 environment.old (state_in M.bytes M.writable executor.old)) }
 {
-    let stop = forward(runner, state, executor, environment, link, 1, Stop::Signal(TRAPPED))?;
+    let stop = forward(
+        runner,
+        state,
+        executor,
+        environment,
+        link,
+        1,
+        Stop::Signal(TRAPPED),
+    )?;
     state.stop = stop;
     Ok(())
 }

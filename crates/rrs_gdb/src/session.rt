@@ -668,7 +668,15 @@ fn answer<'a, M: Memory, G: StopRunner<M>, R: Read, W: Write>(
     payload: &[u8],
 ) -> Result<Option<SessionEnd>, LinkError> {
     let mut reply = Vec::new(link.alloc);
-    let next = answer_to(runner, state, executor, environment, link, &mut reply, payload)?;
+    let next = answer_to(
+        runner,
+        state,
+        executor,
+        environment,
+        link,
+        &mut reply,
+        payload,
+    )?;
     if matches!(next, Next::Reply | Next::ReplyAndEnd) {
         link.send(&reply)?;
     }

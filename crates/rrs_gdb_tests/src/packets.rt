@@ -96,7 +96,13 @@ fn served<'a>(
     let mut executor = InstructionExecutor { mem, hart_state };
     let mut reader = packets;
     let mut link = Link::new(alloc, &mut reader, output);
-    serve(&mut PlainRunner, state, &mut executor, environment, &mut link)
+    serve(
+        &mut PlainRunner,
+        state,
+        &mut executor,
+        environment,
+        &mut link,
+    )
 }
 
 /// What is wanted: an acknowledgement, or more, and the packet of a payload, for each of the texts
