@@ -6,15 +6,19 @@ ghost use Rattle.rrs_lib.specs.Encodings.{HasRegisters};
 ghost use Rattle.rrs_lib.specs.Instructions.{fields_of};
 ghost use Rattle.rrs_lib.specs.Machine.{state_of, hart_of, reg};
 ghost use Rattle.rrs_lib.specs.Steps.{next_word, LastIsRegister};
-ghost use Rattle.rrs_lib.specs.Accesses.{Access, AccessesOf};
+ghost use Rattle.rrs_lib.specs.Accesses.{Access, AccessesOf, size_of};
 ghost use Rattle.rrs_trace.specs.Outside.{WithEachMemory, Completes, AccessesAfterFetch, AnsweredBy};
-ghost use Rattle.rrs_trace.specs.Retired.{mask, last_of, first_source, second_source, after_fetch, HasSources, HasRegisterNumbers};
+ghost use Rattle.rrs_trace.specs.Retired.{mask, is_fault, last_of, first_source, second_source, after_fetch, HasSources, HasRegisterNumbers};
+ghost use Rattle.rrs_c.specs.Harts.{hart_in, IsFault, answer_of};
+ghost use Rattle.rrs_c.specs.Asking.{request_answer, given};
 ghost use Rattle.rrs_c.specs.Completing.{CompletesRetiring, logged};
 
+use crate::access::{RrsAccess, given_by};
+use crate::hart::{RrsFault, RrsHart, last_of};
+use crate::{rrs_complete, rrs_request};
 use rrs_lib::MemAccessSize;
 use rrs_lib::instruction::{Instruction, decode};
-use rrs_lib::instruction_executor::{InstructionException, StepEnd};
-use rrs_trace::{DataRequest, MemoryAccess, Retired, complete_parts, request_parts};
+use rrs_trace::{MemoryAccess, Retired};
 
 /// A bit for each byte of an access, and these bytes of a value.
 #[inline]
@@ -29,17 +33,41 @@ fn bytes_accessed(size: MemAccessSize, value: u32) -> (u8, u32)
     }
 }
 
+/// The size of an access by its number of bytes.
+#[inline]
+fn size_by(bytes: u32) -> MemAccessSize
+    ensures { result ≡ size_of bytes }
+{
+    match bytes {
+        1 => MemAccessSize::Byte,
+        2 => MemAccessSize::HalfWord,
+        _ => MemAccessSize::Word,
+    }
+}
+
+/// Whether a fault is an exception.
+#[inline]
+fn is_raised(fault: &RrsFault) -> bool
+    ensures { result ≡ is_fault (answer_of fault.now) }
+{
+    matches!(fault.kind, 1..=7)
+}
+
 /// The load or the store that a record has, where this was given to what an instruction asked.
 #[inline]
-fn access_logged(
-    asked: Result<Option<DataRequest>, InstructionException>,
-    given: Option<u32>,
-) -> MemoryAccess
-    ensures { result ≡ logged asked given }
+fn access_logged(asked: &RrsAccess, given: Option<u32>) -> MemoryAccess
+    ensures { result ≡ logged (request_answer asked.now) given }
 {
-    match (asked, given) {
-        (Ok(Some(DataRequest::Load(addr, size))), Some(value)) => {
-            let (rmask, rdata) = bytes_accessed(size, value);
+    let Some(value) = given else {
+        return MemoryAccess::none();
+    };
+    if is_raised(&asked.fault) {
+        return MemoryAccess::none();
+    }
+    let addr = asked.address;
+    match asked.kind {
+        1 => {
+            let (rmask, rdata) = bytes_accessed(size_by(asked.size), value);
             MemoryAccess {
                 addr,
                 rmask,
@@ -48,8 +76,8 @@ fn access_logged(
                 wdata: 0,
             }
         }
-        (Ok(Some(DataRequest::Store(addr, size, value))), Some(_)) => {
-            let (wmask, wdata) = bytes_accessed(size, value);
+        2 => {
+            let (wmask, wdata) = bytes_accessed(size_by(asked.size), asked.value);
             MemoryAccess {
                 addr,
                 rmask: 0,
@@ -124,44 +152,48 @@ fn value_of(registers: &[u32; 32], register: usize) -> u32
     }
 }
 
-/// Executes the instruction `word` with what was answered to its access, on a hart whose registers
-/// and pc are handed in, and tells what it retired.
+/// Executes the instruction `word` with what was answered to its access, and tells what the step
+/// retired.
+///
+/// It makes the two calls that C makes. With a second caller of the kit's `request_parts` or
+/// `complete_parts` the compiler does not build these into `rrs_request` and `rrs_complete`, which
+/// then take half as many machine instructions again.
 pub(crate) fn complete_retired(
-    registers: &mut [u32; 32],
-    pc: u32,
+    hart: &mut RrsHart,
     word: u32,
-    given: Option<u32>,
+    granted: u32,
+    value: u32,
     order: u64,
-) -> (StepEnd, Retired)
-    ensures step { (last : Option ℕ) → Completes (hart_of registers.old pc last)
-        (hart_of registers.new result.0.pc result.0.last_register_write) word given
-        result.0.answer }
-    ensures retires { (last : Option ℕ) → CompletesRetiring order (hart_of registers.old pc last)
-        (hart_of registers.new result.0.pc result.0.last_register_write) word given
-        result.0.answer result.1 }
+) -> (RrsFault, Retired)
+    ensures step { Completes (hart_in hart.old) (hart_in hart.new) word (given granted value)
+        (answer_of result.0) }
+    ensures retires { CompletesRetiring order (hart_in hart.old) (hart_in hart.new) word
+        (given granted value) (answer_of result.0) result.1 }
     ensures numbers { HasRegisterNumbers result.1 }
-    ensures last { LastIsRegister result.0.last_register_write }
-    ensures entry_zero { slice_index registers.new 0 ≡ slice_index registers.old 0 }
+    ensures told { IsFault result.0 }
+    ensures last { hart.new.last < 32 }
+    ensures entry_zero { slice_index hart.new.x 0 ≡ slice_index hart.old.x 0 }
 {
-    let asked = request_parts(registers, pc, word);
-    let (insn, (rs1_addr, rs2_addr)) = fetched(pc, word);
-    let rs1_rdata = value_of(registers, rs1_addr);
-    let rs2_rdata = value_of(registers, rs2_addr);
-    let end = complete_parts(registers, pc, word, given);
-    let rd_addr = number_written(end.last_register_write);
+    let asked = rrs_request(hart, word);
+    let pc_rdata = hart.pc;
+    let (insn, (rs1_addr, rs2_addr)) = fetched(pc_rdata, word);
+    let rs1_rdata = value_of(&hart.x, rs1_addr);
+    let rs2_rdata = value_of(&hart.x, rs2_addr);
+    let fault = rrs_complete(hart, word, granted, value);
+    let rd_addr = number_written(last_of(hart));
     let retired = Retired {
         order,
         insn,
-        trap: end.answer.is_err(),
-        pc_rdata: pc,
-        pc_wdata: end.pc,
+        trap: is_raised(&fault),
+        pc_rdata,
+        pc_wdata: hart.pc,
         rs1_addr,
         rs1_rdata,
         rs2_addr,
         rs2_rdata,
         rd_addr,
-        rd_wdata: value_of(registers, rd_addr),
-        mem: access_logged(asked, given),
+        rd_wdata: value_of(&hart.x, rd_addr),
+        mem: access_logged(&asked, given_by(granted, value)),
     };
-    (end, retired)
+    (fault, retired)
 }

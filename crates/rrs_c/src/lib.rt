@@ -426,12 +426,9 @@ pub extern "C" fn rrs_complete_rvfi(
     ensures last { hart.new.last < 32 }
     ensures entry_zero { slice_index hart.new.x 0 ≡ slice_index hart.old.x 0 }
 {
-    let given = given_by(granted, value);
-    let (end, seen) = complete_retired(&mut hart.x, hart.pc, word, given, order);
-    hart.pc = end.pc;
-    hart.last = number_of(end.last_register_write);
+    let (fault, seen) = complete_retired(hart, word, granted, value, order);
     *retired = written_out(&seen);
-    fault_of_answer(end.answer)
+    fault
 }
 
 /// The exception code of the machine cause register for a fault of the word at this pc: 0 to 7 or
