@@ -11,12 +11,10 @@ mod code;
 mod commit_log;
 mod disassembly;
 mod functions;
-mod profile;
 mod sections;
 
 pub use code::Code;
 pub use commit_log::{CommitLine, CommitLog, commit_line, committed_word};
 pub use disassembly::write_disassembly;
 pub use functions::Function;
-pub use profile::{Coverage, Profile};
 pub use sections::CodePart;
