@@ -338,6 +338,11 @@ def nothing_moves(machine):
     page.resize(*SIZE)
 
 
+# whether the kinds have seven colours, and each the one of its name; how much of a bar is seen; and
+# what lies over the page behind a dialog
+SEEN_OF_COLOURS = [7, [], "0.55", "rgba(0, 0, 0, 0.533)"]
+
+
 def theme(machine):
     """light and dark: by the system and by the switch"""
     page = machine.page
@@ -362,6 +367,16 @@ def theme(machine):
         state.remove();
         return backgroundColor;
     })""")
+    same("the icons of the buttons", ["run-back", "back", "step", "run", "pause", "line", "reset"],
+         page.ask("[...document.querySelectorAll('.toolbar use')].map((use) =>"
+                  " use.getAttribute('href').replace('#icon-', ''))"))
+    machine.choose("fibonacci")
+    machine.run()
+    for dark in (False, True):
+        page.prefer(dark)
+        same("what is seen of bars, kinds, and the page behind a dialog", SEEN_OF_COLOURS, page.ask(
+            f"{SEEN}.colours()"))
+    page.prefer(False)
     same("the ground of an end, of a program that is done, and of one that waits",
          ["rgb(253, 228, 226)", "rgb(205, 240, 218)", "rgb(227, 235, 253)"], grounds)
 

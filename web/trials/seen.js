@@ -206,5 +206,26 @@
     });
   }
 
-  return { boxes, contrasts, marks, notInView, storedMark };
+  /* How many colours the kinds have, those that are not of their names, how much of a bar of the
+   * listing is seen, and what lies over the page behind a dialog. */
+  function colours() {
+    const probe = document.body.appendChild(document.createElement("i"));
+    const colourOf = (name) => {
+      probe.style.backgroundColor = name;
+      return style(probe).backgroundColor;
+    };
+    const kinds = all("#mix > span");
+    const wrong = kinds.filter((part) =>
+      style(part).backgroundColor !== colourOf(`var(--${part.className.replace("of-", "")})`));
+    probe.remove();
+    const dialog = document.getElementById("help");
+    dialog.showModal();
+    const behind = style(dialog, "::backdrop").backgroundColor;
+    dialog.close();
+    const different = new Set(kinds.map((part) => style(part).backgroundColor)).size;
+    const bar = document.querySelector(".line .executed .bar");
+    return [different, wrong.map((part) => part.className), style(bar).opacity, behind];
+  }
+
+  return { boxes, colours, contrasts, marks, notInView, storedMark };
 })()
