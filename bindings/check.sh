@@ -413,10 +413,10 @@ void wrong_undo(rrs_hart *hart, uint32_t *words, size_t count, uint32_t base,
 C
 }
 
-# What is small, with something wrong in it: nothing, answers, lines, layouts, assertions, names,
-# asks, state, tries, or one of the calls
+# What is small, with something wrong in it: nothing, answers, lines, talks, layouts, assertions,
+# asserted, names, asks, state, tries, or one of the calls
 wrong() {
-    local more=()
+    local more=() driver=("$room/replay")
     checks=-O0
     gather_questions || exit 2
     # some of each kind
@@ -431,6 +431,9 @@ wrong() {
     layouts) sed 's/^RRS_STORE 2$/RRS_STORE 3/' "$layouts" >"$room/wrong" &&
         layouts=$room/wrong ;;
     assertions) grep -v 'fault_word' "$header" >"$room/rrs.h" && header=$room/rrs.h ;;
+    asserted) sed 's/^RRS_ASSERT(fault_word, .*/RRS_ASSERT(fault_more, sizeof(rrs_fault) == 12);/' \
+        "$header" >"$room/rrs.h" && header=$room/rrs.h ;;
+    talks) driver=(sh -c 'echo more >&2; exec "$0"' "$room/replay") ;;
     names | asks | state) cp "$library" "$room/wrong.a" && library=$room/wrong.a &&
         gcc -c -o "$room/more.o" "$room/$1.c" && ar r "$library" "$room/more.o" ;;
     nothing | tries) ;;
@@ -439,7 +442,7 @@ wrong() {
     try "rrs.h has the stored layouts and constants, in C" header_has "gcc -std=c99 -x c"
     try "rrs.h asserts each layout" asserts_all
     try "replay, as C99" build "gcc -std=c99 -x c" replay "$here/c/replay.c" "${more[@]}"
-    try "replay, as C99, answers as is stored" answers "$room/replay"
+    try "replay, as C99, answers as is stored" answers "${driver[@]}"
     try "the names of the library" has_names
     [ "$1" != tries ] || tries=4
     finish 5
@@ -448,7 +451,7 @@ wrong() {
 # Each wrong subject must be seen, and the right one must pass.
 self_test() {
     local what status
-    for what in nothing answers lines layouts assertions names asks state tries $wrong_calls; do
+    for what in nothing answers lines talks layouts assertions asserted names asks state tries $wrong_calls; do
         status=0
         "$here/check.sh" --wrong "$what" >"$room/seen" 2>&1 || status=$?
         case $what:$status in

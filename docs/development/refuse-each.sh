@@ -123,6 +123,10 @@ self_test() {
         cat "$room/seen"
         failed=1
     done
+    # a crate that is not there is none that passes or fails
+    status=0
+    "$here/refuse-each.sh" none tests::it >"$room/seen" 2>&1 || status=$?
+    [ "$status" = 2 ] || { echo "no crate: status $status, and not 2" && failed=1; }
     echo "self-test: status $failed"
     return "$failed"
 }
