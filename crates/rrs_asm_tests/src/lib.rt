@@ -17,3 +17,5 @@ mod places;
 mod programs;
 #[cfg(test)]
 mod sections;
+#[cfg(test)]
+mod told;
