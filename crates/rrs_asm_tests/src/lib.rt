@@ -8,6 +8,8 @@
 #[cfg(test)]
 mod assembled;
 #[cfg(test)]
+mod executables;
+#[cfg(test)]
 mod lines;
 #[cfg(test)]
 mod mistakes;
