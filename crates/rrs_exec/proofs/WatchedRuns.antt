@@ -135,7 +135,7 @@ module _ {E : Type 0} (serves : Relation E) where
         (t, a, [], step, of, refl, sym (append-nil a)) ends same
     turn_faults n e e' s t v w fault rest a (CalledTurn r pc end _ _ _ _ _ _ _ _ answers _) = absurd (cc)
 
-    module _ {M : Type 0} (reads : M → ℕ → MemAccessSize → M → Option ℕ → Type 0)
+    module _ (wants : V → Bool) {M : Type 0} (reads : M → ℕ → MemAccessSize → M → Option ℕ → Type 0)
         (writes : M → ℕ → MemAccessSize → ℕ → M → Bool → Type 0) where
       -- The turns so far lead from the start to here: what follows from here follows from the start.
       pub record Leads (e : E) (s : State) (v : V) (m : M) (steps : ℕ) (d : E) (u : State) (w : V) (k : M) : Type 0 where
@@ -144,7 +144,7 @@ module _ {E : Type 0} (serves : Relation E) where
             → Served serves ending e' t rest d u later b
             → Served serves ending e' t (steps + rest) e s (steps + later) (accesses ++ b)
         pub made : Makes reads writes accesses m k
-        pub shown : Turns serves sees e s v steps d u w
+        pub shown : Turns serves sees wants e s v steps d u w
 
       pub leads_none : (e : E) (s : State) (v : V) (m : M) → Leads e s v m 0 e s v m
       leads_none e s v m = record {
@@ -159,10 +159,10 @@ module _ {E : Type 0} (serves : Relation E) where
       }
 
       leads_on : (e d e1 : E) (s u t1 : State) (v w w1 : V) (m k k1 : M) (steps : ℕ)
-          → Leads e s v m steps d u w k
+          → wants w ≡ true → Leads e s v m steps d u w k
           → MakesSome reads writes (Turn serves sees steps d u w (Ok None) e1 t1 w1) k k1
           → Leads e s v m (steps + 1) e1 t1 w1 k1
-      leads_on e d e1 s u t1 v w w1 m k k1 steps before turn = record {
+      leads_on e d e1 s u t1 v w w1 m k k1 steps wanted before turn = record {
         accesses = before.accesses ++ turn.accesses;
         goes_on = λ ending e' t rest later b served.
             let next = turn_first steps d e1 e' u t1 t w w1 ending rest later turn.accesses b turn.these served in
@@ -176,22 +176,22 @@ module _ {E : Type 0} (serves : Relation E) where
             (subst (λ x. Served serves ending e' t (steps + suc rest) e s x a) second
             (subst (λ x. Served serves ending e' t (steps + suc rest) e s (steps + suc later) x) all whole));
         made = Makes-append reads writes before.accesses turn.accesses m k k1 before.made turn.made;
-        shown = OneMore steps d e1 u t1 w w1 turn.accesses before.shown turn.these;
+        shown = OneMore steps d e1 u t1 w w1 turn.accesses before.shown wanted turn.these;
       }
 
       pub leads_more : (e d e1 : E) (s u t1 : State) (v w w1 : V) (m k k1 : M) (steps : ℕ) (answer : Option ℕ)
-          → answer ≡ None → Leads e s v m steps d u w k
+          → answer ≡ None → wants w ≡ true → Leads e s v m steps d u w k
           → MakesSome reads writes (Turn serves sees steps d u w (Ok answer) e1 t1 w1) k k1
           → Leads e s v m (steps + 1) e1 t1 w1 k1
-      leads_more e d e1 s u t1 v w w1 m k k1 steps answer is before given =
+      leads_more e d e1 s u t1 v w w1 m k k1 steps answer is wanted before given =
           let turn =
           subst (λ x. MakesSome reads writes (Turn serves sees steps d u w (Ok x) e1 t1 w1) k k1) is given in
-          leads_on e d e1 s u t1 v w w1 m k k1 steps before turn
+          leads_on e d e1 s u t1 v w w1 m k k1 steps wanted before turn
 
-      pub ends_at_limit : (wants : V → Bool) (limit : ℕ) (e d : E) (s u : State) (v w : V) (m k : M) (steps now : ℕ)
+      pub ends_at_limit : (limit : ℕ) (e d : E) (s u : State) (v w : V) (m k : M) (steps now : ℕ)
           → now ≡ steps → steps ≤ limit → (wants w ≡ true → steps ≡ limit) → Leads e s v m now d u w k
           → MakesSome reads writes (IsWatched serves sees wants limit e s v steps Limit d u w) m k
-      ends_at_limit wants limit e d s u v w m k steps now is within all here =
+      ends_at_limit limit e d s u v w m k steps now is within all here =
           let before = subst (λ n. Leads e s v m n d u w k) is here in
           let whole = before.goes_on Limit d u 0 0 [] (served_none d u) in
           let same : steps + 0 ≡ steps = omega arith in
@@ -208,11 +208,11 @@ module _ {E : Type 0} (serves : Relation E) where
             made = Makes-append reads writes before.accesses [] m k k before.made refl;
           }
 
-      pub ends_by_exit : (wants : V → Bool) (limit : ℕ) (e d e' : E) (s u t : State) (v w v' : V) (m k k' : M) (steps status : ℕ) (answer : Option ℕ)
-          → answer ≡ Some status → steps < limit → Leads e s v m steps d u w k
+      pub ends_by_exit : (limit : ℕ) (e d e' : E) (s u t : State) (v w v' : V) (m k k' : M) (steps status : ℕ) (answer : Option ℕ)
+          → answer ≡ Some status → steps < limit → wants w ≡ true → Leads e s v m steps d u w k
           → MakesSome reads writes (Turn serves sees steps d u w (Ok answer) e' t v') k k'
           → MakesSome reads writes (IsWatched serves sees wants limit e s v (steps + 1) (Exit status) e' t v') m k'
-      ends_by_exit wants limit e d e' s u t v w v' m k k' steps status answer is below before given =
+      ends_by_exit limit e d e' s u t v w v' m k k' steps status answer is below wanted before given =
           let turn =
           subst (λ x. MakesSome reads writes (Turn serves sees steps d u w (Ok x) e' t v') k k') is given in
           let rest = limit - (steps + 1) in
@@ -228,16 +228,16 @@ module _ {E : Type 0} (serves : Relation E) where
               within = omega arith;
               all = λ _. refl;
               served = subst (λ x. Served serves (Exit status) e' t x e s (steps + 1) a) full whole;
-              shown = ToExit steps status d u w turn.accesses before.shown turn.these refl refl;
+              shown = ToExit steps status d u w turn.accesses before.shown wanted turn.these refl refl;
             };
             made = Makes-append reads writes before.accesses turn.accesses m k k' before.made turn.made;
           }
 
-      pub ends_by_fault_at : (wants : V → Bool) (limit : ℕ) (e d e' : E) (s u t : State) (v w v' : V) (m k k' : M) (steps : ℕ)
-          (fault : InstructionException) → steps < limit → Leads e s v m steps d u w k
+      pub ends_by_fault_at : (limit : ℕ) (e d e' : E) (s u t : State) (v w v' : V) (m k k' : M) (steps : ℕ)
+          (fault : InstructionException) → steps < limit → wants w ≡ true → Leads e s v m steps d u w k
           → MakesSome reads writes (Turn serves sees steps d u w (Err fault) e' t v') k k'
           → MakesSome reads writes (IsWatched serves sees wants limit e s v steps (Fault fault) e' t v') m k'
-      ends_by_fault_at wants limit e d e' s u t v w v' m k k' steps fault below before turn =
+      ends_by_fault_at limit e d e' s u t v w v' m k k' steps fault below wanted before turn =
           let rest = limit - (steps + 1) in
           let whole =
           before.goes_on (Fault fault) e' t (suc rest) 0 turn.accesses
@@ -253,7 +253,7 @@ module _ {E : Type 0} (serves : Relation E) where
               all = λ _. refl;
               served = subst (λ x. Served serves (Fault fault) e' t limit e s x a) same
                   (subst (λ x. Served serves (Fault fault) e' t x e s (steps + 0) a) full whole);
-              shown = ToFault fault d u w turn.accesses before.shown turn.these refl;
+              shown = ToFault fault d u w turn.accesses before.shown wanted turn.these refl;
             };
             made = Makes-append reads writes before.accesses turn.accesses m k k' before.made turn.made;
           }

@@ -55,12 +55,16 @@ module _ {E V : Type 0} (serves : Relation E) (sees : V → Retired → V → Ty
         → answer ≡ Ok end → accesses ≡ of_step ++ of_call
         → Turn n e s v answer e' t v' accesses
 
+-- And by whether a watcher wants to see more:
+module _ {E V : Type 0} (serves : Relation E) (sees : V → Retired → V → Type 0)
+    (wants : V → Bool) where
   -- From the first environment, state and watcher a program makes so many steps, and goes on. Each
-  -- is shown once, in order, with its number from 0 on.
+  -- is shown once, in order, with its number from 0 on, to a watcher that wants to see it.
   pub data Turns (e : E) (s : State) (v : V) : ℕ → E → State → V → Type 0 where
     NoTurn : Turns e s v 0 e s v
     OneMore : (n : ℕ) (d e' : E) (m t : State) (w v' : V) (accesses : List Access)
-        → Turns e s v n d m w → Turn n d m w (Ok None) e' t v' accesses
+        → Turns e s v n d m w → wants w ≡ true
+        → Turn serves sees n d m w (Ok None) e' t v' accesses
         → Turns e s v (n + 1) e' t v'
 
   -- what is shown of a run that ends so after so many steps: these, and a fault after them
@@ -69,17 +73,19 @@ module _ {E V : Type 0} (serves : Relation E) (sees : V → Retired → V → Ty
     ToLimit : Turns e s v steps e' t v' → ending ≡ Limit
         → Shown e s v ending steps e' t v'
     ToExit : (n status : ℕ) (d : E) (m : State) (w : V) (accesses : List Access)
-        → Turns e s v n d m w → Turn n d m w (Ok (Some status)) e' t v' accesses
+        → Turns e s v n d m w → wants w ≡ true
+        → Turn serves sees n d m w (Ok (Some status)) e' t v' accesses
         → ending ≡ Exit status → steps ≡ n + 1
         → Shown e s v ending steps e' t v'
     ToFault : (fault : InstructionException) (d : E) (m : State) (w : V) (accesses : List Access)
-        → Turns e s v steps d m w → Turn steps d m w (Err fault) e' t v' accesses
+        → Turns e s v steps d m w → wants w ≡ true
+        → Turn serves sees steps d m w (Err fault) e' t v' accesses
         → ending ≡ Fault fault
         → Shown e s v ending steps e' t v'
 
   -- A run that is served within the limit, or, where the watcher wants no more, within fewer steps,
   -- and each of its steps is shown.
-  pub record IsWatched (wants : V → Bool) (limit : ℕ) (e : E) (s : State) (v : V)
+  pub record IsWatched (limit : ℕ) (e : E) (s : State) (v : V)
       (steps : ℕ) (ending : Ending) (e' : E) (t : State) (v' : V) (accesses : List Access)
       : Type 0 where
     pub most : ℕ
@@ -108,7 +114,7 @@ module _ {R W E V : Type 0} (remaining : R → Option (List ℕ))
     pub all : wants v' ≡ true → most ≡ limit
     pub runs : RunsImage remaining contents errors_of image bytes writable most old new ending
     pub counted : runs.steps ≡ steps
-    pub shown : Shown (Serves remaining contents errors_of) sees
+    pub shown : Shown (Serves remaining contents errors_of) sees wants
         (record old { heap = heap_of image }) (start_in image bytes writable) v
         ending steps new runs.end v'
 
@@ -123,7 +129,7 @@ module _ {R W E V : Type 0} (remaining : R → Option (List ℕ))
     pub runs : RunsProcess remaining contents errors_of
         file arguments wanted most old new ending
     pub counted : runs.runs.steps ≡ steps
-    pub shown : Shown (Serves remaining contents errors_of) sees
+    pub shown : Shown (Serves remaining contents errors_of) sees wants
         (record old { heap = heap_of runs.image })
         (start_in runs.image (bytes_from runs.image.layout.base runs.words)
         (lies_from runs.image.layout.base runs.words)) v

@@ -59,6 +59,20 @@ fn serve_at<M: Memory, E: Environment>(
     }
 }
 
+/// Shows a watcher what a step retired.
+fn show<V: Watcher>(watcher: &mut V, retired: &Retired)
+    ensures { V.sees watcher.old retired.now watcher.new }
+{
+    watcher.see(retired);
+}
+
+/// Whether a watcher wants to see more.
+fn wants_more<V: Watcher>(watcher: &V) -> bool
+    ensures { result ≡ V.wants watcher.now }
+{
+    watcher.wants_more()
+}
+
 /// Makes the step of this number, shows what it retired, and has an `ecall` served. The answer is
 /// `None` where the program goes on, or the status with which the call ended it.
 ///
@@ -79,7 +93,7 @@ fn take_turn<M: Memory, E: Environment, V: Watcher>(
     ensures rest { KeepsTheRest M.layout executor.old executor.new }
 {
     let (answer, retired) = step_retired(executor, number);
-    watcher.see(&retired);
+    show(watcher, &retired);
     let Err(exception) = answer else {
         return Ok(None);
     };
@@ -106,7 +120,7 @@ fn run_watched<M: Memory, E: Environment, V: Watcher>(
     ensures rest { KeepsTheRest M.layout executor.old executor.new }
 {
     for steps in 0..limit {
-        if !watcher.wants_more() {
+        if !wants_more(watcher) {
             let ending = Ending::Limit;
             return ServedEnd { steps, ending };
         }

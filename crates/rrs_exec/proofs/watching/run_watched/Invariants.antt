@@ -8,6 +8,6 @@ invariant-loop-steps g l =
     let memory = g.M.Memory in
     let state = state_in memory.bytes memory.writable in
     record {
-      leads : Leads g.E.Environment.serves g.V.Watcher.sees memory.reads memory.writes l.fn.environment (state l.fn.executor) l.fn.watcher l.fn.executor.mem.now l.steps l.environment (state l.executor) l.watcher l.executor.mem.now;
+      leads : Leads g.E.Environment.serves g.V.Watcher.sees g.V.Watcher.wants memory.reads memory.writes l.fn.environment (state l.fn.executor) l.fn.watcher l.fn.executor.mem.now l.steps l.environment (state l.executor) l.watcher l.executor.mem.now;
       rest : KeepsTheRest memory.layout l.fn.executor l.executor;
     }

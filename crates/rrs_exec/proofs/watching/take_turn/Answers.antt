@@ -20,7 +20,7 @@ returns-in_default-clause-turn g c =
     record {
       accesses = step.accesses.accesses;
       these =
-          Stepped r (subst P c.in_default.is step.step) (subst Q c.in_default.is step.retires) c.see.ensures
+          Stepped r (subst P c.in_default.is step.step) (subst Q c.in_default.is step.retires) c.show.ensures
           step.accesses.these refl refl;
       made = step.accesses.made;
     }
@@ -42,7 +42,7 @@ returns-in-EnvironmentCall-clause-turn g c =
       accesses = step.accesses.accesses ++ call.accesses;
       these =
           Called r pc c.serve_at.result m step.accesses.accesses call.accesses (subst P answer step.step)
-          (subst Q answer step.retires) c.see.ensures step.accesses.these call.these refl refl;
+          (subst Q answer step.retires) c.show.ensures step.accesses.these call.these refl refl;
       made = Makes-append memory.reads memory.writes step.accesses.accesses call.accesses _ _ _ step.accesses.made call.made;
     }
 
@@ -59,7 +59,7 @@ returns-in_default-exception g c =
       turn = record {
         accesses = step.accesses.accesses;
         these =
-            Faulted r c.in-Err.exception (subst P c.in-Err.is step.step) (subst Q c.in-Err.is step.retires) c.see.ensures
+            Faulted r c.in-Err.exception (subst P c.in-Err.is step.step) (subst Q c.in-Err.is step.retires) c.show.ensures
             step.accesses.these c.in_default-exception.not-EnvironmentCall refl refl;
         made = step.accesses.made;
       };

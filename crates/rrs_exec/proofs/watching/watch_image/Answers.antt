@@ -25,7 +25,7 @@ returns g c =
     let P : Heap → State → Type 0 = λ heap s.
     Served serves end.ending new last watched.most (record c.args.environment.now { heap = heap }) s end.steps made.accesses in
     let Q : Heap → State → Type 0 = λ heap s.
-    Shown serves g.V.Watcher.sees (record c.args.environment.now { heap = heap }) s c.args.watcher.now end.ending end.steps new last c.run_watched-steps.new.watcher in
+    Shown serves g.V.Watcher.sees g.V.Watcher.wants (record c.args.environment.now { heap = heap }) s c.args.watcher.now end.ending end.steps new last c.run_watched-steps.new.watcher in
     let heaps = c.new-environment.ensures in
     let states = c.started-hart.ensures _ _ in
     record {
