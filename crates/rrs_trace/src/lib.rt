@@ -25,5 +25,5 @@ pub use outside::{
 };
 pub use retired::{Retired, step_retired, step_retired_parts};
 pub use snapshot::Snapshot;
-pub use stops::{StopEnd, StopReason, run_until, run_until_cached};
+pub use stops::{StopEnd, StopReason, run_until, run_until_cached, run_until_with};
 pub use traced::{MemoryAccess, TracedMemory};
