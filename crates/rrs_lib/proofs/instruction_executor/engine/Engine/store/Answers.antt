@@ -2,10 +2,10 @@ use Rattle.std.proofs.Common.{rules}
 use Rattle.rrs_lib.specs.Engines.{gone_on}
 use Rattle.rrs_lib.proofs.instruction_executor.engine.Engine.store.Goals as goal
 
-pub returns-then-not-is_aligned-clause-stored : goal.returns-then-not-is_aligned-clause-stored
+pub returns-then-not-is_aligned-clause-fault : goal.returns-then-not-is_aligned-clause-fault
 unfolding gone_on
-returns-then-not-is_aligned-clause-stored g c = search rules
+returns-then-not-is_aligned-clause-fault g c = search rules
 
-pub returns-else-write_mem-clause-stored : goal.returns-else-write_mem-clause-stored
+pub returns-else-write_mem-clause-fault : goal.returns-else-write_mem-clause-fault
 unfolding gone_on
-returns-else-write_mem-clause-stored g c = search rules
+returns-else-write_mem-clause-fault g c = search rules
