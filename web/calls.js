@@ -35,7 +35,7 @@ const printString = (register) => (machine) => {
 const moreMemory = (register) => (machine) => {
   const { kit, heap } = machine;
   const bytes = kit.x[register] | 0;
-  const next = heap + (bytes + 3 & ~3);
+  const next = heap + 4 * Math.ceil(bytes / 4);
   if (bytes < 0 || next > kit.base + kit.size) {
     return { reason: "refused", why: `there is no room for ${numbered(bytes)} bytes more` };
   }

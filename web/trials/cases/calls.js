@@ -112,6 +112,7 @@ function venus(report, page, kit) {
     [call(11, 0x4a), prints(11, "J", "print_character")],
     [call(34, 0xabc), prints(34, "0x00000ABC", "print_hex")],
     [call(9, 8), [12, "", 0, A0, "sbrk, a0 = 0x0000000c", 4]],
+    [call(9, 0x7fffffff), "there is no room for 2,147,483,647 bytes more"],
     [call(93, 0), { reason: "fault", kind: page.FAULT.ECALL, address: 0, word: 0 }],
   ]) report.same(`Venus ${registers[A0]}`, wanted, outcome(page, kit, "venus", registers, {}));
 }
