@@ -55,6 +55,12 @@ def changes_by_hand(machine):
     machine.keys("b")
     same("a step back", ["0x00000000", "0x00000000", "lui gp, 0xf387e000"],
          [machine.register("pc"), machine.register("x5"), machine.line(1)[2]])
+    machine.edit("loop:\n0000006f # jal x0, loop")
+    page.press("r")
+    page.press("u")
+    same("a run, behind the dialog", ["change", False, "Paused"],
+         [page.ask(OPEN), page.ask("rrs.session.isRunning"), page.text("#heading")])
+    machine.escape()
 
 
 SINCE = ("[...document.querySelectorAll('.register.since')].map((cell) => [cell.id,"

@@ -1,6 +1,7 @@
 """How the page looks, and what it says to those who don't see it: roles, names and states, the
 focus, contrast, boxes, and pictures."""
 
+import collections
 import itertools
 import re
 
@@ -61,8 +62,19 @@ def tree(page, inside=None):
 DIALOGS = {"editor": "e", "shared": "l", "help": "?", "change": "u"}
 
 
+def listeners(page):
+    """How many listeners the page has of each event."""
+    counts = collections.Counter()
+    for target, depth in (("window", 1), ("document", -1)):
+        of = page.send("Runtime.evaluate", expression=target)["result"]["objectId"]
+        found = page.send("DOMDebugger.getEventListeners", objectId=of, depth=depth)["listeners"]
+        counts.update(f"{target}: {listener['type']}" for listener in found)
+    return [f"{event} {count}" for event, count in sorted(counts.items())]
+
+
 def trees(machine):
-    """The trees of the page and of its dialogs, as one text."""
+    """The trees of the page and of its dialogs, what its fields are, and the events that it listens
+    to, as one text."""
     page = machine.page
     machine.choose("three")
     machine.keys("gsk")
@@ -75,6 +87,8 @@ def trees(machine):
         page.wait(f"document.querySelector('#{name}').open")
         parts += ["", f"the dialog {name}", *tree(page, name)]
         machine.escape()
+    parts += ["", "the page and its fields", *page.ask(f"{SEEN}.fields()")]
+    parts += ["", "the events", *listeners(page)]
     # the length of a link is that of a path
     return re.sub(r"\d+ characters", "N characters", "\n".join(parts)) + "\n"
 
@@ -219,22 +233,33 @@ def show_all(machine):
     page.ask("$('refusal').hidden = $('drop').hidden = true")
 
 
+class Looks:
+    """How each kind of element looked in the states of `show_all`, a line for each."""
+
+    lines = []
+
+
 def contrast(machine):
-    """the contrast of each text is 4.5 at the least, and that of each mark 3, light and dark"""
+    """each kind of element looks as is stored, with a contrast of 4.5 (texts) or 3 (marks)"""
     page = machine.page
-    looked = set()
+    looked, found = set(), set()
     low = {}
     for dark in (False, True):
         page.prefer(dark)
         for state in show_all(machine):
+            found |= {f"{'dark' if dark else 'light'} {look}" for look in page.ask(f"{SEEN}.looks()")}
             for what, ratio in page.ask(f"{SEEN}.contrasts()").items():
                 looked.add(what)
                 least = MARK_CONTRAST if what.startswith("mark") else TEXT_CONTRAST
                 if ratio < least:
                     low[f"{what}, {'dark' if dark else 'light'}, {state}"] = round(ratio, 2)
     page.prefer(False)
+    Looks.lines = sorted(found)
     same("what has too little contrast", {}, low)
     same("how many texts and marks were looked at", LOOKED_AT, len(looked))
+    stored = set((EXPECTED / "looks.txt").read_text(encoding="utf-8").splitlines())
+    same("what looked so, and what looks so now", [[], []],
+         [sorted(stored - found)[:5], sorted(found - stored)[:5]])
 
 
 LOOKED_AT = 110

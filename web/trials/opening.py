@@ -23,10 +23,15 @@ def drop(machine, name, content):
         path = pathlib.Path(folder) / name
         path.write_bytes(content)
         data = {"items": [], "files": [str(path)], "dragOperationsMask": 1}
-        for kind in ("dragEnter", "dragOver"):
-            page.send("Input.dispatchDragEvent", type=kind, x=300, y=300, data=data)
-        same("whether the page says to drop it", True, page.ask(
-            "!document.querySelector('#drop').hidden"))
+        # over the page, from one part of it to another, out of it, and over it again
+        for leaves_to in ("document.body", "null", None):
+            for kind in ("dragEnter", "dragOver"):
+                page.send("Input.dispatchDragEvent", type=kind, x=300, y=300, data=data)
+            if leaves_to is not None:
+                page.ask("document.body.dispatchEvent(new DragEvent('dragleave',"
+                         f" {{ bubbles: true, relatedTarget: {leaves_to} }}))")
+            same(f"whether the page says to drop it, left to {leaves_to}", leaves_to != "null",
+                 page.ask("!document.querySelector('#drop').hidden"))
         page.send("Input.dispatchDragEvent", type="drop", x=300, y=300, data=data)
         page.wait(f"document.querySelector('#program-title').textContent === {js(name)}")
     same("whether the page still says so", True, page.ask("document.querySelector('#drop').hidden"))
@@ -147,6 +152,17 @@ def files_that_cannot_be_read(machine):
     same("line 0, of what was open", WHAT_IS_OPEN, machine.line(0)[2])
     same("the file that is chosen", 0,
          machine.page.ask("document.querySelector('#file').files.length"))
+    # a run that went on would say how far it is
+    machine.choose("three")
+    machine.edit("loop:\n0000006f # jal x0, loop")
+    machine.page.press("r")
+    with tempfile.TemporaryDirectory() as name:
+        machine.give(pathlib.Path(name))
+        machine.says("Not opened", f"{pathlib.Path(name).name} {UNREADABLE}")
+        same("whether the program runs on", [False, 0], machine.page.ask(
+            "(async () => { const { steps } = rrs.session.machine;"
+            " await new Promise((done) => setTimeout(done, 100));"
+            " return [rrs.session.isRunning, rrs.session.machine.steps - steps]; })()"))
 
 
 def editor(machine):

@@ -196,6 +196,9 @@ def long_output(machine):
     same("the notes", "the last 20,000 bytes, 1,048,576 bytes lost: no room",
          machine.page.text("#lost"))
     same("what is shown", "A" * 20000, machine.page.text("#output"))
+    same("how much lies below the part in view", 0, machine.page.ask(
+        "(({ scrollHeight, scrollTop, clientHeight }) =>"
+        " Math.round(scrollHeight - scrollTop - clientHeight))(document.querySelector('#output'))"))
     machine.page.ask("rrs.session.machine.terminal.reset()")
     machine.page.ask("rrs.session.machine.terminal.print("
                      "new TextEncoder().encode('\\ufeff€' + 'x'.repeat(19999)))")

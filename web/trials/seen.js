@@ -227,5 +227,63 @@
     return [different, wrong.map((part) => part.className), style(bar).opacity, behind];
   }
 
-  return { boxes, colours, contrasts, marks, notInView, storedMark };
+  /* ---- how each kind of element looks */
+
+  /* What an element has of its own, where it is not so, and what it has of the one around it. */
+  const OWN = {
+    backgroundColor: "rgba(0, 0, 0, 0)", textDecorationLine: "none", textDecorationStyle: "solid",
+    opacity: "1", boxShadow: "none", borderLeftWidth: "0px", borderLeftColor: null,
+    pointerEvents: "auto",
+  };
+  const INHERITED = ["color", "fontWeight", "fontStyle", "whiteSpace", "overflowWrap", "textAlign",
+    "cursor"];
+
+  /* How an element looks, or a part of it: what is other than where nothing is said. */
+  function lookOf(own, around) {
+    const isOther = ([name, usual]) => usual !== null && own[name] !== usual;
+    const parts = Object.entries(OWN).filter(isOther).map(([name]) => own[name]);
+    if (own.borderLeftWidth !== "0px") parts.push(own.borderLeftColor);
+    parts.push(...INHERITED.filter((name) => own[name] !== around[name]).map((name) => own[name]));
+    return parts.join(", ");
+  }
+
+  /* What kind of element one is: its name, its classes, and its id where it is one of a kind. */
+  function kindOf(element) {
+    const { id, className, tagName } = element;
+    const isOne = id !== "" && !/^(line-\d+|x\d+|pc)$/.test(id);
+    const classes = String(className.baseVal ?? className).split(" ").filter((name) => name);
+    return [tagName.toLowerCase(), ...isOne ? [`#${id}`] : [], ...classes.map((name) => `.${name}`)]
+      .join("");
+  }
+
+  /* Each kind of element that is shown, with how it looks. */
+  function looks() {
+    const found = new Set();
+    for (const element of all("body, body *")) {
+      if (!element.checkVisibility() || element.closest("option, svg")) continue;
+      const around = style(element.parentElement);
+      found.add(`${kindOf(element)}: ${lookOf(style(element), around)}`);
+      for (const pseudo of ["::before", "::placeholder", "::backdrop"]) {
+        const part = style(element, pseudo);
+        const isThere = pseudo === "::before" ? part.content !== "none"
+          : pseudo === "::placeholder" ? element.placeholder : element.matches("dialog:modal");
+        if (isThere) found.add(`${kindOf(element)}${pseudo}: ${lookOf(part, style(element))}`);
+      }
+    }
+    return [...found];
+  }
+
+  /* What is said of the page as a whole, and what each field is, beside its role and its name. */
+  function fields() {
+    const { documentElement: root, characterSet } = document;
+    const viewport = document.querySelector("meta[name=viewport]").content;
+    const names = ["type", "wrap", "spellcheck", "autocapitalize", "autocomplete", "placeholder",
+      "rows", "size", "maxLength", "readOnly", "required", "autofocus"];
+    return [`${root.lang} ${characterSet} ${document.compatMode} ${viewport}`,
+      ...all("input, textarea").map((field) => [kindOf(field),
+        ...names.filter((name) => field[name] !== undefined && field[name] !== "")
+          .map((name) => `${name}=${field[name]}`)].join(" "))];
+  }
+
+  return { boxes, colours, contrasts, fields, looks, marks, notInView, storedMark };
 })()

@@ -101,7 +101,8 @@ x: .ascii "6\\n"`);
     [{ registers: [[10, 6]] }, []],
     [{ output: "6\n", registers: [[10, 6]] }, []],
     [{ output: "6" }, ['The output is "6\\n", and "6" is expected.']],
-    [{ output: "x".repeat(90) }, [`The output is "6\\n", and "…${"x".repeat(80)}" is expected.`]],
+    [{ output: `y${"x".repeat(80)}` },
+      [`The output is "6\\n", and "…${"x".repeat(80)}" is expected.`]],
     [{ registers: [[10, 5]] }, ["a0 is 6 (0x00000006), and 5 (0x00000005) is expected."]],
     [{ registers: [[10, 0xffffffff]] },
       ["a0 is 6 (0x00000006), and -1 (0xffffffff) is expected."]],
@@ -136,6 +137,16 @@ function convention(report, page, kit) {
       + "call."]],
     ["jal t0, 1f\nebreak\n1: addi sp, sp, -16; jr t0", []],
   ], told);
+  // by the psABI: those that a function keeps, and those in which it returns its value
+  const kept = [2, 3, 4, 8, 9, ...Array.from({ length: 10 }, (_, at) => 18 + at)];
+  for (let number = 1; number < 32; number++) {
+    const wanted = kept.includes(number) ? "kept" : [10, 11].includes(number) ? "none" : "lost";
+    // the return address is written by the call itself
+    const write = number === 1 ? "nop" : `li x${number}, 2`;
+    const text = `li x${number}, 1\njal f\nadd a0, x${number}, x0\nebreak\nf: ${write}; jr ra`;
+    const kinds = page.remarksOf(ran(page, kit, text)).map(({ kind }) => kind);
+    report.same(`what is told of x${number}`, wanted === "none" ? [] : [wanted], kinds);
+  }
   report.cases("how many registers a word reads", [
     [0x00c58533, 2], [0x00058513, 1], [0x00a12023, 2], [0x00052503, 1], [0x00b50463, 2],
     [0x00008067, 1], [0x0000006f, 0], [0x12345537, 0], [0x73, 0],
