@@ -6,6 +6,11 @@ use Rattle.std.specs.Fmt.{decimal}
 use Rattle.std.specs.Io.KnownBytes.{Appends}
 use Rattle.rrs_lib.specs.Texts.{hexadecimal}
 use Rattle.rrs_trace.specs.declared.retired.Retired.{Retired}
+use Rattle.rrs_env.specs.declared.Ending.{Ending}
+use Rattle.rrs_linux.specs.declared.Process.{Process}
+use Rattle.rrs_linux.specs.declared.host_writer.HostWriter.{HostWriter}
+use Rattle.rrs_linux.specs.declared.input_buffer.InputBuffer.{InputBuffer}
+use Rattle.rrs_reports.specs.Records.{RunsWithRecords}
 use Rattle.rrs_reports.specs.declared.commit_log.CommitLog.{CommitLog}
 use Rattle.rrs_trace.specs.declared.traced.MemoryAccess.{MemoryAccess}
 
@@ -64,9 +69,10 @@ lines_of None r = line_of (committed r)
     line_of (Some word) = commit_text word r
 
 -- What a step makes of the watcher: its lines are written, unless a write failed by then, and then
--- the watcher is broken.
+-- the watcher is broken. It writes to what it wrote to before.
 pub record Logs {W : Type 0} (contents : W → Option (List ℕ)) (old : CommitLog W) (r : Retired)
     (new : CommitLog W) : Type 0 where
+  pub same_out : new.out.ghost_name ≡ old.out.ghost_name
   pub from : new.from ≡ still_from old.from r.pc_rdata
   pub stays_broken : old.is_broken ≡ true → new.is_broken ≡ true
   pub written : new.is_broken ≡ false → Appends (contents old.out.now) (contents new.out.now)
@@ -74,3 +80,27 @@ pub record Logs {W : Type 0} (contents : W → Option (List ℕ)) (old : CommitL
 
 abbrev pub wants_lines : {W : Type 0} → CommitLog W → Bool
 wants_lines log = if log.is_broken then false else true
+
+-- ---- the log of a run
+
+-- the address from which on lines are written, after these records
+abbrev pub from_after : Option ℕ → List Retired → Option ℕ
+from_after from [] = from
+from_after from (r ∷ records) = from_after (still_from from r.pc_rdata) records
+
+-- the lines of these records, from the first one at an address on, if one is asked for
+abbrev pub log_text : Option ℕ → List Retired → List ℕ
+log_text from [] = []
+log_text from (r ∷ records) =
+    lines_of (still_from from r.pc_rdata) r ++ log_text (still_from from r.pc_rdata) records
+
+-- A run is one of `execute_process` with so many steps, and its log is what was written.
+pub record TracesProcess {R W E : Type 0} (remaining : R → Option (List ℕ))
+    (contents : W → Option (List ℕ)) (errors_of : E → Option (List ℕ))
+    (file : List ℕ) (arguments : List (List ℕ)) (wanted limit : ℕ)
+    (old new : Process R (HostWriter W) (HostWriter E) InputBuffer)
+    (steps : ℕ) (ending : Ending) (from : Option ℕ) (before after : Option (List ℕ)) : Type 0 where
+  pub records : List Retired
+  pub runs : RunsWithRecords remaining contents errors_of file arguments wanted limit old new
+      steps ending records
+  pub written : Appends before after (log_text from records)

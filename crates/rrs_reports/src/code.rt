@@ -88,7 +88,7 @@ impl<'a> Code<'a> {
     }
 
     /// The place of an address among the words from the base on.
-    fn place_of(&self, address: u32) -> usize {
+    pub(crate) fn place_of(&self, address: u32) -> usize {
         (address.wrapping_sub(self.base) / 4) as usize
     }
 
@@ -100,9 +100,26 @@ impl<'a> Code<'a> {
         }
     }
 
+    /// The number of the function that the word at an address belongs to: 1 more than its place
+    /// among the functions, or 0 where it belongs to none.
+    pub fn owner_of(&self, address: u32) -> u32 {
+        self.owners
+            .get(self.place_of(address))
+            .copied()
+            .unwrap_or(0)
+    }
+
+    /// Whether a function begins at an address.
+    pub fn begins_function(&self, address: u32) -> bool {
+        match self.function_at(address) {
+            Some(function) => function.start == address,
+            None => false,
+        }
+    }
+
     /// The function that the word at an address belongs to.
     pub fn function_at(&self, address: u32) -> Option<Function<'a>> {
-        let owner = *self.owners.get(self.place_of(address))?;
+        let owner = self.owner_of(address);
         if owner == 0 {
             return None;
         }

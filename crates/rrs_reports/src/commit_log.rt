@@ -1,15 +1,17 @@
 //! Spike's commit log.
 
-ghost use Rattle.std.specs.Prelude.{◌≡◌, ◌+◌, ◌≤◌, ◌++◌, length, codes};
+ghost use Rattle.std.specs.Prelude.{◌≡◌, ◌+◌, ◌≤◌, ◌++◌, length, codes, map, string_bytes, IfOk, OnErr};
 ghost use Rattle.rrs_lib.specs.Texts.{hexadecimal};
-ghost use Rattle.rrs_reports.specs.CommitLogs.{committed, written_text, store_digits, access_text, commit_text};
+ghost use Rattle.rrs_reports.specs.CommitLogs.{committed, written_text, store_digits, access_text, commit_text, TracesProcess};
 
 use arrayvec::ArrayString;
 use itoa::Buffer;
-use rrs_exec::Watcher;
+use rrs_exec::{ImageError, ProcessEnd, Watcher, watch_process};
 use rrs_lib::disassembly::hexadecimal_digits;
+use rrs_linux::Linux;
 use rrs_trace::{MemoryAccess, Retired};
-use std::io::Write;
+use std::alloc::Global;
+use std::io::{Read, Write};
 
 /// The number of bytes of the longest line: 56 of its texts, 20 digits of a register's number, and
 /// 20 around them.
@@ -107,6 +109,7 @@ pub fn commit_line(word: u32, retired: &Retired) -> CommitLine
 }
 
 /// A watcher that writes the commit log of a run.
+#[derive(Drop)]
 pub struct CommitLog<'a, W: Write> {
     /// What is written to.
     pub out: &'a mut W,
@@ -140,5 +143,53 @@ impl<'a, W: Write> Watcher for CommitLog<'a, W> {
 
     fn wants_more(&self) -> bool {
         !self.is_broken
+    }
+}
+
+/// Why the log of a run was not written.
+#[derive(Debug, PartialEq, Drop)]
+pub enum TraceError {
+    /// The file can't be made a process. No step is made then, and no line is written.
+    Image(ImageError),
+    /// A write failed, which ended the run.
+    Output,
+}
+
+/// Runs a file's bytes as [execute_process](rrs_exec::execute_process) does, and writes the commit
+/// log: a line for each step, from the first one at the address `from` on, if there is one.
+///
+/// # Errors
+///
+/// Those of `execute_process`, and a write that fails.
+pub fn trace_process<R: Read, W: Write, E: Write, O: Write>(
+    alloc: Global,
+    file: &[u8],
+    arguments: &[String],
+    wanted: u64,
+    limit: u64,
+    environment: &mut Linux<R, W, E>,
+    from: Option<u32>,
+    out: &mut O,
+) -> Result<ProcessEnd, TraceError>
+    ensures traced { IfOk result (λ end. TracesProcess R.remaining W.contents E.contents
+        file.now (map string_bytes arguments.now) wanted limit
+        environment.old environment.new end.steps end.ending
+        from (O.contents out.old) (O.contents out.new)) }
+{
+    let mut log = CommitLog {
+        out,
+        from,
+        is_broken: false,
+    };
+    let run = watch_process(alloc, file, arguments, wanted, limit, environment, &mut log);
+    let is_broken = log.is_broken;
+    match run {
+        Err(error) => Err(TraceError::Image(error)),
+        Ok(end) => {
+            if is_broken {
+                return Err(TraceError::Output);
+            }
+            Ok(end)
+        }
     }
 }

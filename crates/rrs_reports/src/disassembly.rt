@@ -1,6 +1,7 @@
 //! The disassembly of an executable, as `objdump -d` lays it out.
 
 use crate::code::Code;
+use crate::coverage::Coverage;
 use crate::sections::CodePart;
 use rrs_lib::disassembly::Disassembled;
 use rrs_lib::instruction::{Instruction, decode};
@@ -55,8 +56,24 @@ fn write_word<W: Write>(out: &mut W, code: &Code<'_>, address: u32, word: u32) -
     }
 }
 
+/// Writes how often the word at an address was executed, if that is asked for.
+fn write_count<W: Write>(out: &mut W, counts: Option<&Coverage>, address: u32) -> io::Result<()> {
+    match counts {
+        Some(coverage) => {
+            let count = coverage.count(address);
+            write!(out, "{count:>12}  ")
+        }
+        None => Ok(()),
+    }
+}
+
 /// Writes the lines of a part: a line for each symbol, and one for each word.
-fn write_part<W: Write>(out: &mut W, code: &Code<'_>, part: &CodePart<'_>) -> io::Result<()> {
+fn write_part<W: Write>(
+    out: &mut W,
+    code: &Code<'_>,
+    part: &CodePart<'_>,
+    counts: Option<&Coverage>,
+) -> io::Result<()> {
     for index in 0..part.words() {
         let address = part.address_of(index);
         if let Some(name) = code.name_at(address) {
@@ -65,6 +82,7 @@ fn write_part<W: Write>(out: &mut W, code: &Code<'_>, part: &CodePart<'_>) -> io
             out.write_all(b">:\n")?;
         }
         let word = part.word(index).unwrap_or(0);
+        write_count(out, counts, address)?;
         write!(out, "{address:8x}:\t{word:08x}          \t")?;
         write_word(out, code, address, word)?;
         out.write_all(b"\n")?;
@@ -90,13 +108,38 @@ fn write_title<W: Write>(out: &mut W, part: &CodePart<'_>) -> io::Result<()> {
 ///
 /// A write that fails.
 pub fn write_disassembly<W: Write>(out: &mut W, path: &str, code: &Code<'_>) -> io::Result<()> {
+    write_lines(out, path, code, None)
+}
+
+/// Writes the disassembly of an executable as `write_disassembly` does, and before each word how
+/// often it was executed.
+///
+/// # Errors
+///
+/// A write that fails.
+pub fn write_annotated<W: Write>(
+    out: &mut W,
+    path: &str,
+    code: &Code<'_>,
+    coverage: &Coverage,
+) -> io::Result<()> {
+    write_lines(out, path, code, Some(coverage))
+}
+
+/// Writes the disassembly of an executable, with counts if they are asked for.
+fn write_lines<W: Write>(
+    out: &mut W,
+    path: &str,
+    code: &Code<'_>,
+    counts: Option<&Coverage>,
+) -> io::Result<()> {
     write!(out, "\n{path}:     file format elf32-littleriscv\n\n")?;
     for part in &code.parts {
         write_title(out, part)?;
         if code.name_at(part.address).is_none() {
             out.write_all(b"\n")?;
         }
-        write_part(out, code, part)?;
+        write_part(out, code, part, counts)?;
     }
     Ok(())
 }

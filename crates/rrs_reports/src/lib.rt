@@ -1,20 +1,32 @@
-//! What is written about executables: the disassembly of one, as `objdump -d` lays it out, and the
-//! commit log of a run, as Spike writes it.
+//! What is written about executables: the disassembly of one, as `objdump -d` lays it out, the commit
+//! log of a run, as Spike writes it, and what a run covered.
 //!
 //! [Code] is the code of an executable, with its functions and the names of its addresses.
-//! [CommitLog] watches a run and writes a line for each instruction, which `specs/CommitLogs.antt`
-//! defines.
+//! [trace_process] makes a run and writes a line for each instruction, which `specs/CommitLogs.antt`
+//! defines. [cover_process] makes a run and counts its steps, as `specs/Coverages.antt` says.
 
 #![tactic(auto)]
 
+mod callgrind;
+mod calls;
 mod code;
 mod commit_log;
+mod coverage;
 mod disassembly;
 mod functions;
+mod profile;
 mod sections;
+mod summary;
 
+pub use callgrind::write_callgrind;
+pub use calls::{Call, Calls};
 pub use code::Code;
-pub use commit_log::{CommitLine, CommitLog, commit_line, committed_word};
-pub use disassembly::write_disassembly;
+pub use commit_log::{
+    CommitLine, CommitLog, TraceError, commit_line, committed_word, trace_process,
+};
+pub use coverage::Coverage;
+pub use disassembly::{write_annotated, write_disassembly};
 pub use functions::Function;
+pub use profile::{Profile, cover_process};
 pub use sections::CodePart;
+pub use summary::{Covered, write_summary};

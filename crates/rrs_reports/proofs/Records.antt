@@ -1,0 +1,95 @@
+-- What a watcher was shown is a list of records, and what each of them makes of the watcher holds of it.
+use Rattle.std.proofs.Common.{◌≡◌, ℕ, List, [], ◌∷◌, ◌++◌, Bool, true, Option, Some, None, Ok, Err, refl, subst}
+use Rattle.rrs_lib.specs.Machine.{State}
+use Rattle.rrs_lib.specs.Accesses.{Access}
+use Rattle.rrs_trace.specs.declared.retired.Retired.{Retired}
+use Rattle.rrs_env.specs.declared.Ending.{Ending}
+use Rattle.rrs_env.specs.Serving.{Relation}
+use Rattle.rrs_linux.specs.declared.Process.{Process}
+use Rattle.rrs_linux.specs.declared.host_writer.HostWriter.{HostWriter}
+use Rattle.rrs_linux.specs.declared.input_buffer.InputBuffer.{InputBuffer}
+use Rattle.rrs_linux.specs.SystemCalls.{Serves}
+use Rattle.rrs_exec.specs.Processes.{started, heap_of}
+use Rattle.rrs_exec.specs.Watching.{start_in, WatchesProcess}
+use Rattle.rrs_env.specs.Serving.{Served}
+use Rattle.rrs_process.specs.Protection.{bytes_under, writable_under}
+use Rattle.rrs_lib.specs.SliceBytes.{bytes_from, lies_from}
+use Rattle.rrs_exec.specs.Watching.{TurnAnswer, Turn, Stepped, Faulted, Called, Turns, NoTurn, OneMore, Shown, ToLimit, ToExit, ToFault}
+use Rattle.rrs_reports.specs.Records.{keeps, wants_all, RunsWithRecords}
+
+module _ {E V : Type 0} (serves : Relation E) (sees : V → Retired → V → Type 0) (wants : V → Bool)
+    (P : List Retired → V → Type 0)
+    (grows : (rs : List Retired) (r : Retired) (v w : V) → P rs v → sees v r w → P (rs ++ r ∷ []) w) where
+  turn_kept : (n : ℕ) (e e' : E) (s t : State) (v v' : V) (answer : TurnAnswer) (a : List Access) (rs : List Retired)
+      → Turn serves sees n e s v answer e' t v' a → P rs v
+      → (all : List Retired) × Turn serves keeps n e s rs answer e' t all a × P all v'
+  turn_kept n e e' s t v v' answer a rs (Stepped r step retires seen of answers same) p =
+      (rs ++ r ∷ [], Stepped r step retires refl of answers same, grows rs r v v' p seen)
+  turn_kept n e e' s t v v' answer a rs (Faulted r fault step retires seen of no_call answers same) p =
+      (rs ++ r ∷ [], Faulted r fault step retires refl of no_call answers same, grows rs r v v' p seen)
+  turn_kept n e e' s t v v' answer a rs (Called r pc end m of_step of_call step retires seen of call answers all) p =
+      (rs ++ r ∷ [], Called r pc end m of_step of_call step retires refl of call answers all, grows rs r v v' p seen)
+
+  turns_kept : (e : E) (s : State) (v : V) (n : ℕ) (d : E) (m : State) (w : V)
+      → Turns serves sees wants e s v n d m w → P [] v
+      → (rs : List Retired) × Turns serves keeps wants_all e s [] n d m rs × P rs w
+  turns_kept e s v _ _ _ _ NoTurn p = ([], NoTurn, p)
+  turns_kept e s v _ _ _ _ (OneMore n d e' m t w v' a before wanted turn) p =
+      let b = turns_kept e s v n d m w before p in
+      let k = turn_kept n d e' m t w v' (Ok None) a b.0 turn b.2 in
+      (k.0, OneMore n d e' m t b.0 k.0 a b.1 refl k.1, k.2)
+
+  pub shown_kept : (e e' : E) (s t : State) (v v' : V) (ending : Ending) (steps : ℕ)
+      → Shown serves sees wants e s v ending steps e' t v' → P [] v
+      → (rs : List Retired) × Shown serves keeps wants_all e s [] ending steps e' t rs × P rs v'
+  shown_kept e e' s t v v' ending steps (ToLimit turns ends) p =
+      let b = turns_kept e s v steps e' t v' turns p in
+      (b.0, ToLimit b.1 ends, b.2)
+  shown_kept e e' s t v v' ending steps (ToExit n status d m w a turns wanted turn ends count) p =
+      let b = turns_kept e s v n d m w turns p in
+      let k = turn_kept n d e' m t w v' (Ok (Some status)) a b.0 turn b.2 in
+      (k.0, ToExit n status d m b.0 a b.1 refl k.1 ends count, k.2)
+  shown_kept e e' s t v v' ending steps (ToFault fault d m w a turns wanted turn ends) p =
+      let b = turns_kept e s v steps d m w turns p in
+      let k = turn_kept steps d e' m t w v' (Err fault) a b.0 turn b.2 in
+      (k.0, ToFault fault d m b.0 a b.1 refl k.1 ends, k.2)
+
+-- a run that was shown to a watcher which wants more at the end, and what holds of the watcher and the records
+pub run_kept : {R W E V : Type 0} (remaining : R → Option (List ℕ))
+    (contents : W → Option (List ℕ)) (errors_of : E → Option (List ℕ))
+    (sees : V → Retired → V → Type 0) (wants : V → Bool) (P : List Retired → V → Type 0)
+    → ((rs : List Retired) (r : Retired) (v w : V) → P rs v → sees v r w → P (rs ++ r ∷ []) w)
+    → (file : List ℕ) (arguments : List (List ℕ)) (wanted limit : ℕ)
+    (old new : Process R (HostWriter W) (HostWriter E) InputBuffer) (v v' : V) (steps : ℕ) (ending : Ending)
+    → WatchesProcess remaining contents errors_of sees wants file arguments wanted limit old new v v' steps ending
+    → wants v' ≡ true → P [] v
+    → (rs : List Retired)
+    × RunsWithRecords remaining contents errors_of file arguments wanted limit old new steps ending rs × P rs v'
+run_kept remaining contents errors_of sees wants P grows file arguments wanted limit old new v v' steps ending watched more none =
+    let serves = Serves remaining contents errors_of in
+    let runs = watched.runs in
+    let start = start_in runs.image (bytes_from runs.image.layout.base runs.words) (lies_from runs.image.layout.base runs.words) in
+    let before = record old { heap = heap_of runs.image } in
+    let k = shown_kept serves sees wants P grows before new start runs.runs.end v v' ending steps watched.shown none in (
+      k.0,
+      record {
+        runs = record {
+          image = runs.image;
+          words = runs.words;
+          executable = runs.executable;
+          is_image = runs.is_image;
+          long = runs.long;
+          filled = runs.filled;
+          runs = record {
+            end = runs.runs.end;
+            steps = runs.runs.steps;
+            accesses = runs.runs.accesses;
+            served = subst (λ n. Served serves ending new runs.runs.end n before start runs.runs.steps runs.runs.accesses)
+                (watched.all more) runs.runs.served;
+          };
+        };
+        counted = watched.counted;
+        shown = k.1;
+      },
+      k.2,
+    )

@@ -1,0 +1,68 @@
+-- How often each word of code was executed: the steps whose pc it was. A fault is no step.
+use Rattle.std.specs.Prelude.{◌≡◌, ℕ, ◌+◌, ◌-◌, ◌*◌, ◌/◌, ◌%◌, ◌^◌, ◌<◌, ◌==◌, nat_lt, cond, min, List, length, get_or, count_by, Bool, true, false, Option, Some, None}
+use Rattle.rrs_trace.specs.declared.retired.Retired.{Retired}
+use Rattle.rrs_env.specs.declared.Ending.{Ending}
+use Rattle.rrs_linux.specs.declared.Process.{Process}
+use Rattle.rrs_linux.specs.declared.host_writer.HostWriter.{HostWriter}
+use Rattle.rrs_linux.specs.declared.input_buffer.InputBuffer.{InputBuffer}
+use Rattle.rrs_reports.specs.CommitLogs.{committed}
+use Rattle.rrs_reports.specs.Records.{RunsWithRecords}
+use Rattle.rrs_reports.specs.declared.coverage.Coverage.{Coverage}
+
+-- whether one of so many words from the base on has this address
+abbrev pub has_word : ℕ → ℕ → ℕ → Bool
+has_word base words address =
+    cond (nat_lt address base) false
+    (cond ((address - base) % 4 == 0) (nat_lt ((address - base) / 4) words) false)
+
+-- whether the record is of a step: a word was committed
+abbrev pub is_step : Retired → Bool
+is_step r = of_word (committed r)
+  where
+    of_word : Option ℕ → Bool
+    of_word None = false
+    of_word (Some word) = true
+
+-- whether it is of a step whose pc this address is
+abbrev pub begins_at : ℕ → Retired → Bool
+begins_at address r = cond (r.pc_rdata == address) (is_step r) false
+
+-- whether it is of a step whose pc no word has
+abbrev pub begins_elsewhere : ℕ → ℕ → Retired → Bool
+begins_elsewhere base words r = cond (has_word base words r.pc_rdata) false (is_step r)
+
+-- a count, and one more where it is of what is counted; it stays at the highest number of 64 bits
+abbrev pub capped : ℕ → ℕ
+capped count = min count (2 ^ 64 - 1)
+
+abbrev pub counted : ℕ → Bool → ℕ
+counted count is = cond is (capped (count + 1)) count
+
+-- What a record makes of the counts: that of the word at the pc of a step goes up by one, and if no
+-- word is there that of the steps elsewhere. The others stay.
+pub record Counts (old : Coverage) (r : Retired) (new : Coverage) : Type 0 where
+  pub base_kept : new.base ≡ old.base
+  pub words_kept : length new.counts.items ≡ length old.counts.items
+  pub word : (place : ℕ) → place < length old.counts.items
+      → get_or new.counts.items place 0
+      ≡ counted (get_or old.counts.items place 0) (begins_at (old.base + 4 * place) r)
+  pub elsewhere : new.elsewhere
+      ≡ counted old.elsewhere (begins_elsewhere old.base (length old.counts.items) r)
+
+-- The counts are those of the steps that these records are of.
+pub record Covers (records : List Retired) (c : Coverage) : Type 0 where
+  pub word : (place : ℕ) → place < length c.counts.items
+      → get_or c.counts.items place 0 ≡ capped (count_by (begins_at (c.base + 4 * place)) records)
+  pub elsewhere : c.elsewhere
+      ≡ capped (count_by (begins_elsewhere c.base (length c.counts.items)) records)
+
+-- A run is one of `execute_process` with so many steps, and the counts are those of its steps.
+pub record CoversProcess {R W E : Type 0} (remaining : R → Option (List ℕ))
+    (contents : W → Option (List ℕ)) (errors_of : E → Option (List ℕ))
+    (file : List ℕ) (arguments : List (List ℕ)) (wanted limit : ℕ)
+    (old new : Process R (HostWriter W) (HostWriter E) InputBuffer)
+    (steps : ℕ) (ending : Ending) (c : Coverage) : Type 0 where
+  pub records : List Retired
+  pub runs : RunsWithRecords remaining contents errors_of file arguments wanted limit old new
+      steps ending records
+  pub covers : Covers records c

@@ -1,0 +1,32 @@
+-- The records of a run: what each of its steps retired, in order, and behind them that of a fault.
+use Rattle.std.specs.Prelude.{◌≡◌, ℕ, List, [], ◌∷◌, ◌++◌, Bool, true, Option}
+use Rattle.rrs_lib.specs.SliceBytes.{bytes_from, lies_from}
+use Rattle.rrs_trace.specs.declared.retired.Retired.{Retired}
+use Rattle.rrs_env.specs.declared.Ending.{Ending}
+use Rattle.rrs_linux.specs.declared.Process.{Process}
+use Rattle.rrs_linux.specs.declared.host_writer.HostWriter.{HostWriter}
+use Rattle.rrs_linux.specs.declared.input_buffer.InputBuffer.{InputBuffer}
+use Rattle.rrs_linux.specs.SystemCalls.{Serves}
+use Rattle.rrs_exec.specs.Processes.{heap_of, RunsProcess}
+use Rattle.rrs_exec.specs.Watching.{Shown, start_in}
+
+-- a list to which what is shown is appended, and which wants all of it
+abbrev pub keeps : List Retired → Retired → List Retired → Type 0
+keeps records r all = all ≡ records ++ r ∷ []
+
+abbrev pub wants_all : List Retired → Bool
+wants_all records = true
+
+-- A run is one of `execute_process` with so many steps, and these are its records.
+pub record RunsWithRecords {R W E : Type 0} (remaining : R → Option (List ℕ))
+    (contents : W → Option (List ℕ)) (errors_of : E → Option (List ℕ))
+    (file : List ℕ) (arguments : List (List ℕ)) (wanted limit : ℕ)
+    (old new : Process R (HostWriter W) (HostWriter E) InputBuffer)
+    (steps : ℕ) (ending : Ending) (records : List Retired) : Type 0 where
+  pub runs : RunsProcess remaining contents errors_of file arguments wanted limit old new ending
+  pub counted : runs.runs.steps ≡ steps
+  pub shown : Shown (Serves remaining contents errors_of) keeps wants_all
+      (record old { heap = heap_of runs.image })
+      (start_in runs.image (bytes_from runs.image.layout.base runs.words)
+      (lies_from runs.image.layout.base runs.words)) []
+      ending steps new runs.runs.end records

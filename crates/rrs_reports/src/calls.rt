@@ -1,0 +1,278 @@
+//! The calls of a run: which function called which, from where, how often, and how many steps were
+//! made until it returned.
+
+use crate::code::Code;
+use crate::sections::push;
+use std::alloc::{AllocError, Global};
+
+/// How a step went on to the next one.
+#[derive(Clone, Copy, PartialEq)]
+enum Kind {
+    /// By `jal` or `jalr` that writes x1 or x5, the registers for return addresses.
+    Call,
+    /// By `jalr` that writes no register and jumps to x1 or x5.
+    Return,
+    /// In another way.
+    Other,
+}
+
+/// The calls of a function from an instruction.
+#[derive(Clone, Copy)]
+pub struct Call {
+    /// The address of the instruction.
+    pub site: u32,
+    /// The number of the function that the instruction is of, 0 where it is of none, and else 1 more
+    /// than its place among the functions of the code.
+    pub caller: u32,
+    /// The number of the function that is called.
+    pub callee: u32,
+    /// How often it was called.
+    pub count: u64,
+    /// How many steps were made from there until it returned.
+    pub inclusive: u64,
+    /// 1 and the place of another call from an instruction in the same place, or 0.
+    pub(crate) next: u32,
+}
+
+/// A function that has not returned.
+#[derive(Clone, Copy)]
+struct Frame {
+    /// The place of its call among the calls.
+    call: u32,
+    /// The number of the function.
+    callee: u32,
+    /// Where it returns to.
+    return_address: u32,
+    /// How many steps were made before its first one.
+    start: u64,
+    /// Whether it was jumped to by another function, in whose place it returns.
+    is_tail: bool,
+}
+
+/// The step before.
+#[derive(Clone, Copy)]
+struct Before {
+    /// Its pc.
+    pc: u32,
+    /// The number of its function.
+    owner: u32,
+    /// How it goes on.
+    kind: Kind,
+}
+
+/// The calls of a run, by the steps that it was shown.
+#[derive(Drop)]
+pub struct Calls {
+    /// The calls, each pair of an instruction and a function once.
+    calls: Vec<Call>,
+    /// Of each word of code 1 and the place of the first call from it, or 0.
+    first: Vec<u32>,
+    /// Of each function how often it was entered; entry 0 is for code of none.
+    entries: Vec<u64>,
+    /// The functions that have not returned, the latest last.
+    frames: Vec<Frame>,
+    /// The step before, if there was one.
+    before: Option<Before>,
+    /// How many steps were made.
+    steps: u64,
+    /// Whether memory was short, and calls are missing.
+    is_short: bool,
+}
+
+/// How the word of a step goes on.
+fn kind_of(word: u32) -> Kind {
+    let (opcode, rd, rs1) = (word % 128, word / 128 % 32, word / 32768 % 32);
+    let is_link = rd == 1 || rd == 5;
+    match opcode {
+        0x6f if is_link => Kind::Call,
+        0x67 if is_link => Kind::Call,
+        0x67 if rd == 0 && (rs1 == 1 || rs1 == 5) => Kind::Return,
+        _ => Kind::Other,
+    }
+}
+
+impl Calls {
+    /// No calls, of this code.
+    ///
+    /// # Errors
+    ///
+    /// Out of memory.
+    pub fn new(alloc: Global, code: &Code<'_>) -> Result<Calls, AllocError> {
+        let functions = code.functions().len().saturating_add(1);
+        Ok(Calls {
+            calls: Vec::new(alloc),
+            first: vec![in alloc; 0; code.words()]?,
+            entries: vec![in alloc; 0; functions]?,
+            frames: Vec::new(alloc),
+            before: None,
+            steps: 0,
+            is_short: false,
+        })
+    }
+
+    /// The calls, in the order in which they were made first.
+    pub fn calls(&self) -> &[Call] {
+        &self.calls
+    }
+
+    /// 1 and the place of a call from the instruction at an address, or 0.
+    pub(crate) fn first_from(&self, code: &Code<'_>, address: u32) -> u32 {
+        self.first.get(code.place_of(address)).copied().unwrap_or(0)
+    }
+
+    /// The call at a place, to which 1 was added.
+    pub(crate) fn call(&self, next: u32) -> Option<&Call> {
+        self.calls.get(next.wrapping_sub(1) as usize)
+    }
+
+    /// How often the function of a number was entered: by a call, by itself or another, or by a jump,
+    /// a branch or a fall-through from another function that is no return to it.
+    pub fn entries(&self, function: u32) -> u64 {
+        self.entries.get(function as usize).copied().unwrap_or(0)
+    }
+
+    /// Whether memory was short, and calls are missing.
+    pub fn is_short(&self) -> bool {
+        self.is_short
+    }
+
+    /// The place of the call of a function from an instruction, which is made if it is not there.
+    fn place_of(&mut self, code: &Code<'_>, before: Before, callee: u32) -> Option<u32> {
+        let first = self.first.get_mut(code.place_of(before.pc));
+        let mut next = match &first {
+            Some(place) => **place,
+            None => 0,
+        };
+        for _ in 0..u32::MAX {
+            let Some(call) = self.calls.get(next.wrapping_sub(1) as usize) else {
+                break;
+            };
+            if call.callee == callee && call.site == before.pc {
+                return Some(next.wrapping_sub(1));
+            }
+            next = call.next;
+        }
+        let place = self.calls.len().min(u32::MAX as usize - 1) as u32;
+        let call = Call {
+            site: before.pc,
+            caller: before.owner,
+            callee,
+            count: 0,
+            inclusive: 0,
+            next: match &first {
+                Some(place) => **place,
+                None => 0,
+            },
+        };
+        if push(&mut self.calls, call).is_err() {
+            return None;
+        }
+        if let Some(first) = first {
+            *first = place.wrapping_add(1);
+        }
+        Some(place)
+    }
+
+    /// Enters a function.
+    fn enter(&mut self, code: &Code<'_>, before: Before, callee: u32, is_tail: bool) {
+        if let Some(count) = self.entries.get_mut(callee as usize) {
+            *count = count.saturating_add(1);
+        }
+        let Some(call) = self.place_of(code, before, callee) else {
+            self.is_short = true;
+            return;
+        };
+        if let Some(made) = self.calls.get_mut(call as usize) {
+            made.count = made.count.saturating_add(1);
+        }
+        let frame = Frame {
+            call,
+            callee,
+            return_address: before.pc.wrapping_add(4),
+            start: self.steps,
+            is_tail,
+        };
+        if push(&mut self.frames, frame).is_err() {
+            self.is_short = true;
+        }
+    }
+
+    /// Takes the latest function that has not returned as one that has.
+    fn leave(&mut self) -> Option<Frame> {
+        let frame = self.frames.pop()?;
+        let steps = self.steps.saturating_sub(frame.start);
+        if let Some(call) = self.calls.get_mut(frame.call as usize) {
+            call.inclusive = call.inclusive.saturating_add(steps);
+        }
+        Some(frame)
+    }
+
+    /// Takes all but the first so many functions as returned.
+    fn leave_down_to(&mut self, count: usize) {
+        for _ in count..self.frames.len() {
+            self.leave();
+        }
+    }
+
+    /// Returns to an address, and gives whether a function returns there. Those that jumped to the
+    /// function return with it.
+    fn return_to(&mut self, address: u32) -> bool {
+        for above in 0..self.frames.len() {
+            let place = self.frames.len().saturating_sub(above.saturating_add(1));
+            if let Some(frame) = self.frames.get(place) {
+                if frame.return_address == address && !frame.is_tail {
+                    self.leave_down_to(place);
+                    return true;
+                }
+            }
+        }
+        false
+    }
+
+    /// Goes on in a function that has not returned, as `longjmp` does, and gives whether there is
+    /// one.
+    fn resume(&mut self, owner: u32) -> bool {
+        for above in 0..self.frames.len() {
+            let count = self.frames.len().saturating_sub(above);
+            if let Some(frame) = self.frames.get(count.saturating_sub(1)) {
+                if frame.callee == owner {
+                    self.leave_down_to(count);
+                    return true;
+                }
+            }
+        }
+        false
+    }
+
+    /// Takes in the step of a word at an address, which goes on from the step before.
+    pub fn add(&mut self, code: &Code<'_>, pc: u32, word: u32) {
+        let owner = code.owner_of(pc);
+        match self.before {
+            None => {
+                if let Some(count) = self.entries.get_mut(owner as usize) {
+                    *count = count.saturating_add(1);
+                }
+            }
+            Some(before) => self.go_on(code, before, pc, owner),
+        }
+        let kind = kind_of(word);
+        self.before = Some(Before { pc, owner, kind });
+        self.steps = self.steps.saturating_add(1);
+    }
+
+    /// Goes on from a step to an address.
+    fn go_on(&mut self, code: &Code<'_>, before: Before, pc: u32, owner: u32) {
+        match before.kind {
+            Kind::Call => self.enter(code, before, owner, false),
+            Kind::Return if self.return_to(pc) => {}
+            _ if owner == before.owner => {}
+            _ if !code.begins_function(pc) && self.resume(owner) => {}
+            _ => self.enter(code, before, owner, true),
+        }
+    }
+
+    /// Takes all functions as returned, at the end of a run.
+    pub fn finish(&mut self) {
+        self.leave_down_to(0);
+    }
+}

@@ -1,0 +1,130 @@
+//! What a run covered of each function, in lines.
+
+use crate::functions::Function;
+use crate::profile::Profile;
+use std::io::{self, Write};
+
+/// What a run covered of a function, or of the words that belong to none.
+#[derive(Clone, Copy)]
+pub struct Covered {
+    /// How many words it has.
+    pub words: u64,
+    /// How many of them were executed.
+    pub executed: u64,
+    /// How many steps were made in it.
+    pub steps: u64,
+    /// How often it was entered.
+    pub entries: u64,
+}
+
+impl Profile<'_, '_> {
+    /// What the run covered of the function of a number: of each word that belongs to it, once. 0 is
+    /// for the words that belong to none.
+    pub fn covered(&self, number: u32) -> Covered {
+        let mut covered = Covered {
+            words: 0,
+            executed: 0,
+            steps: 0,
+            entries: self.calls.entries(number),
+        };
+        for part in &self.code.parts {
+            let (first, last) = self.places_of(number, part.words(), part.address);
+            for index in first..last {
+                let address = part.address_of(index);
+                if self.code.owner_of(address) == number {
+                    let steps = self.coverage.count(address);
+                    covered.words = covered.words.saturating_add(1);
+                    covered.executed = covered.executed.saturating_add(u64::from(steps > 0));
+                    covered.steps = covered.steps.saturating_add(steps);
+                }
+            }
+        }
+        covered
+    }
+
+    /// The numbers of the words of a part, of so many from an address on, among which those of a
+    /// function are.
+    pub(crate) fn places_of(&self, number: u32, words: u32, address: u32) -> (u32, u32) {
+        let Some(function) = self.function(number) else {
+            return (0, words);
+        };
+        let first = function.start.saturating_sub(address) / 4;
+        let last = (function.end.saturating_sub(address) / 4).saturating_add(1);
+        (first.min(words), last.min(words))
+    }
+
+    /// How many functions the code has, whose numbers begin at 1.
+    pub fn function_count(&self) -> u32 {
+        self.code.functions().len().min(u32::MAX as usize) as u32
+    }
+
+    /// The function of a number, if it is one.
+    pub fn function(&self, number: u32) -> Option<&Function<'_>> {
+        self.code.functions().get(number.wrapping_sub(1) as usize)
+    }
+}
+
+/// Writes the line of a function, or of the words that belong to none.
+fn write_line<W: Write>(out: &mut W, covered: Covered, name: &[u8]) -> io::Result<()> {
+    let Covered {
+        words,
+        executed,
+        steps,
+        entries,
+    } = covered;
+    write!(out, "{executed:>8} {words:>8} {entries:>12} {steps:>12}  ")?;
+    out.write_all(name)?;
+    out.write_all(b"\n")
+}
+
+/// Writes the lines of the functions that ran, or of those that did not.
+fn write_functions<W: Write>(out: &mut W, profile: &Profile<'_, '_>, ran: bool) -> io::Result<()> {
+    for index in 0..profile.function_count() {
+        let number = index.wrapping_add(1);
+        let covered = profile.covered(number);
+        if let Some(function) = profile.function(number) {
+            if (covered.steps > 0) == ran {
+                write_line(out, covered, function.name)?;
+            }
+        }
+    }
+    Ok(())
+}
+
+/// Writes what a run covered: a line for each function, those that did not run first, and else in
+/// the order of their addresses, with how many of its instructions were executed, how many it has,
+/// how often it was entered, and how many steps were made in it; a line for the code that belongs to
+/// no function, if there is some; one for the steps outside of the code, if some were made; and the
+/// sums.
+///
+/// # Errors
+///
+/// A write that fails.
+pub fn write_summary<W: Write>(out: &mut W, profile: &Profile<'_, '_>) -> io::Result<()> {
+    out.write_all(b"executed       of      entered        steps  function\n")?;
+    write_functions(out, profile, false)?;
+    write_functions(out, profile, true)?;
+    let mut sum = profile.covered(0);
+    if sum.words > 0 {
+        write_line(out, sum, b"(no function)")?;
+    }
+    let elsewhere = profile.coverage.elsewhere;
+    if elsewhere > 0 {
+        let outside = Covered {
+            words: 0,
+            executed: 0,
+            steps: elsewhere,
+            entries: 0,
+        };
+        write_line(out, outside, b"(outside the code)")?;
+    }
+    sum.steps = sum.steps.saturating_add(elsewhere);
+    for index in 0..profile.function_count() {
+        let covered = profile.covered(index.wrapping_add(1));
+        sum.words = sum.words.saturating_add(covered.words);
+        sum.executed = sum.executed.saturating_add(covered.executed);
+        sum.steps = sum.steps.saturating_add(covered.steps);
+        sum.entries = sum.entries.saturating_add(covered.entries);
+    }
+    write_line(out, sum, b"(all)")
+}
