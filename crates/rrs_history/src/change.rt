@@ -1,17 +1,14 @@
 //! What a step changed, and taking it back.
 
-ghost use Rattle.std.specs.Prelude.{◌≡◌, ◌<◌, ℕ, false, Option, None, length, slice_index, drop, OnErr, IsTrue};
+ghost use Rattle.std.specs.Prelude.{◌≡◌, false, slice_index, drop, OnErr, IsTrue};
 ghost use Rattle.rrs_lib.specs.Machine.{State, state_of, hart_of};
 ghost use Rattle.rrs_lib.specs.Executor.{state_in, KeepsTheRest};
 ghost use Rattle.rrs_lib.specs.Accesses.{Makes, MakesExactly};
 ghost use Rattle.rrs_lib.specs.Steps.{Step, IsOnlyStep, LastIsRegister, cleared};
-ghost use Rattle.rrs_history.specs.Changes.{undone, put_back, stored_back, accesses_back, NotedAccessesOf, number_in, value_in};
-ghost use Rattle.rrs_history.specs.Noting.{AreReplaced, noting_state};
+ghost use Rattle.rrs_history.specs.Changes.{undone, put_back, stored_back, accesses_back, NotedAccessesOf};
 
-use crate::noting::{NotingMemory, Replaced};
-use rrs_lib::instruction_executor::{
-    InstructionException, InstructionExecutor, StepEnd, step_parts,
-};
+use crate::recorder::record_step;
+use rrs_lib::instruction_executor::{InstructionException, InstructionExecutor, StepEnd};
 use rrs_lib::{MemAccessSize, Memory};
 
 /// What takes a step back: the pc and the last written register before it, and the register that
@@ -42,81 +39,6 @@ pub struct Change {
 }
 
 const _: () = prove!(size_of::<Change>() == 32);
-
-/// The register that was written last, or 0.
-#[inline]
-fn number_of(last: Option<usize>) -> u8
-    requires { LastIsRegister last }
-    ensures number { result ≡ number_in last }
-    ensures low { result < 32 }
-{
-    match last {
-        Some(register) => register as u8,
-        None => 0,
-    }
-}
-
-/// What a register is. Of x0 it is 0.
-#[inline]
-fn value_of(registers: &[u32; 32], number: u8) -> u32
-    requires { number < 32 }
-    ensures { result ≡ value_in registers.now number }
-{
-    if number == 0 {
-        0
-    } else {
-        registers[number as usize]
-    }
-}
-
-/// Makes a step over a memory that notes, and that has noted nothing yet.
-#[inline(always)]
-fn step_noting<'b, M: Memory>(
-    noting: &mut NotingMemory<'b, M>,
-    registers: &mut [u32; 32],
-    pc: u32,
-) -> StepEnd
-    requires { noting.old.replaced.size ≡ None }
-    ensures step { (last : Option ℕ) → Step
-        (noting_state M.bytes M.writable (hart_of registers.old pc last) noting.old)
-        (noting_state M.bytes M.writable (hart_of registers.new result.pc
-        result.last_register_write) noting.new) result.answer }
-    ensures replaced { AreReplaced noting.new.replaced (M.writable noting.new.memory.now)
-        (M.bytes noting.old.memory.now) (M.bytes noting.new.memory.now) }
-    ensures same_memory { noting.new.memory.ghost_name ≡ noting.old.memory.ghost_name }
-    ensures whole { (length registers.old ≡ 32) × (length registers.new ≡ 32) }
-    ensures entry_zero { slice_index registers.new 0 ≡ slice_index registers.old 0 }
-    ensures layout_kept { M.layout noting.new.memory.now ≡ M.layout noting.old.memory.now }
-    ensures accesses { (last : Option ℕ) → MakesExactly M.reads M.writes (NotedAccessesOf
-        (noting_state M.bytes M.writable (hart_of registers.old pc last) noting.old))
-        noting.old.memory.now noting.new.memory.now }
-{
-    step_parts(noting, registers, pc)
-}
-
-/// Makes a step over a memory, and tells what its store replaced.
-#[inline(always)]
-fn step_and_note<M: Memory>(mem: &mut M, registers: &mut [u32; 32], pc: u32) -> (StepEnd, Replaced)
-    ensures step { (last : Option ℕ) → Step
-        (state_of (hart_of registers.old pc last) (M.bytes mem.old) (M.writable mem.old))
-        (state_of (hart_of registers.new result.0.pc result.0.last_register_write)
-        (M.bytes mem.new) (M.writable mem.new)) result.0.answer }
-    ensures replaced { AreReplaced result.1 (M.writable mem.new)
-        (M.bytes mem.old) (M.bytes mem.new) }
-    ensures whole { (length registers.old ≡ 32) × (length registers.new ≡ 32) }
-    ensures entry_zero { slice_index registers.new 0 ≡ slice_index registers.old 0 }
-    ensures layout_kept { M.layout mem.new ≡ M.layout mem.old }
-    ensures accesses { (last : Option ℕ) → MakesExactly M.reads M.writes (NotedAccessesOf
-        (state_of (hart_of registers.old pc last) (M.bytes mem.old) (M.writable mem.old)))
-        mem.old mem.new }
-{
-    let mut noting = NotingMemory {
-        memory: mem,
-        replaced: Replaced::nothing(),
-    };
-    let end = step_noting(&mut noting, registers, pc);
-    (end, noting.replaced)
-}
 
 /// Makes a step of a hart whose registers, pc and last written register are handed in apart, as
 /// `step_parts`, and tells the change that takes it back: [step_noted] for a hart that is kept in
@@ -150,22 +72,20 @@ pub fn step_noted_parts<M: Memory>(
         (state_of (hart_of registers.old pc last) (M.bytes mem.old) (M.writable mem.old)))
         mem.old mem.new }
 {
-    let before = *registers;
-    let (end, replaced) = step_and_note(mem, registers, pc);
-    let register = number_of(end.last_register_write);
+    let recorded = record_step(mem, registers, pc);
     let change = Change {
         last: last.unwrap_or(0),
         pc,
-        value: value_of(&before, register),
-        address: replaced.address,
-        bytes: replaced.bytes,
-        stored: replaced.size,
-        register,
+        value: recorded.value,
+        address: recorded.replaced.address,
+        bytes: recorded.replaced.bytes,
+        stored: recorded.replaced.size,
+        register: recorded.register,
         had_last: last.is_some(),
         starts: true,
         of_call: false,
     };
-    (end, change)
+    (recorded.end, change)
 }
 
 /// Makes a step, and tells the change that takes it back.

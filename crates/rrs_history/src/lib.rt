@@ -18,6 +18,7 @@ mod calls;
 mod change;
 mod history;
 mod noting;
+mod recorder;
 
 pub use ahead::look_ahead;
 pub use calls::{RecordedMemory, step_served};
