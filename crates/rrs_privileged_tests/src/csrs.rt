@@ -1,8 +1,9 @@
-//! Each CSR by each of the six instructions.
+//! Each number of a CSR by each of the six instructions.
 
-use crate::steps::{QUIET, START, step_word};
+use crate::steps::{START, step_word};
 use rrs_lib::HartState;
 use rrs_privileged::{CsrFile, Exception, Inputs, MachineAnswer};
+use std::alloc::{AllocError, Global};
 use std::test::Fail;
 
 /// What the hart keeps before each instruction. Both counters stand still.
@@ -27,54 +28,55 @@ const TOLD: Inputs = Inputs {
     time: 0x0123_4567_89ab_cdef,
 };
 
-/// The CSRs that can be written: number, value before, and the bits that a write changes.
-const WRITABLE: [(u32, u32, u32); 24] = [
-    (0x300, 0x1880, 0x88),
-    (0x301, 0x4000_1100, 0),
-    (0x304, 0x800, 0x888),
-    (0x305, 0x8000_0101, 0xffff_fffd),
-    (0x310, 0, 0),
-    (0x320, 5, 5),
-    (0x323, 0, 0),
-    (0x32a, 0, 0),
-    (0x33f, 0, 0),
-    (0x340, 0x1234_5678, 0xffff_ffff),
-    (0x341, 0x8000_0abc, 0xffff_fffc),
-    (0x342, 0x8000_000b, 0xffff_ffff),
-    (0x343, 0xdead_beef, 0xffff_ffff),
-    (0x344, 0x88, 0),
-    (0xb00, 0x3333_4444, 0xffff_ffff),
-    (0xb02, 0x7777_8888, 0xffff_ffff),
-    (0xb03, 0, 0),
-    (0xb10, 0, 0),
-    (0xb1f, 0, 0),
-    (0xb80, 0x1111_2222, 0xffff_ffff),
-    (0xb82, 0x5555_6666, 0xffff_ffff),
-    (0xb83, 0, 0),
-    (0xb90, 0, 0),
-    (0xb9f, 0, 0),
+/// The CSRs with a name of their own: number, value before, and the bits that a write changes.
+/// Those whose number has two ones as its highest bits are read only.
+const NAMED: [(u32, u32, u32); 26] = [
+    (0x300, 0x1880, 0x88), // mstatus: MPP is 3, MIE and MPIE are written
+    (0x301, 0x4000_1100, 0), // misa: RV32IM
+    (0x304, 0x800, 0x888), // mie
+    (0x305, 0x8000_0101, 0xffff_fffd), // mtvec
+    (0x310, 0, 0), // mstatush
+    (0x320, 5, 5), // mcountinhibit: CY and IR
+    (0x340, 0x1234_5678, 0xffff_ffff), // mscratch
+    (0x341, 0x8000_0abc, 0xffff_fffc), // mepc
+    (0x342, 0x8000_000b, 0xffff_ffff), // mcause
+    (0x343, 0xdead_beef, 0xffff_ffff), // mtval
+    (0x344, 0x88, 0), // mip
+    (0xb00, 0x3333_4444, 0xffff_ffff), // mcycle
+    (0xb02, 0x7777_8888, 0xffff_ffff), // minstret
+    (0xb80, 0x1111_2222, 0xffff_ffff), // mcycleh
+    (0xb82, 0x5555_6666, 0xffff_ffff), // minstreth
+    (0xc00, 0x3333_4444, 0), // cycle
+    (0xc01, 0x89ab_cdef, 0), // time
+    (0xc02, 0x7777_8888, 0), // instret
+    (0xc80, 0x1111_2222, 0), // cycleh
+    (0xc81, 0x0123_4567, 0), // timeh
+    (0xc82, 0x5555_6666, 0), // instreth
+    (0xf11, 0, 0), // mvendorid
+    (0xf12, 0, 0), // marchid
+    (0xf13, 0, 0), // mimpid
+    (0xf14, 0, 0), // mhartid
+    (0xf15, 0, 0), // mconfigptr
 ];
 
-/// The CSRs that are read only: number, and value.
-const READ_ONLY: [(u32, u32); 11] = [
-    (0xc00, 0x3333_4444),
-    (0xc01, 0x89ab_cdef),
-    (0xc02, 0x7777_8888),
-    (0xc80, 0x1111_2222),
-    (0xc81, 0x0123_4567),
-    (0xc82, 0x5555_6666),
-    (0xf11, 0),
-    (0xf12, 0),
-    (0xf13, 0),
-    (0xf14, 0),
-    (0xf15, 0),
-];
+/// `mhpmevent3`, `mhpmcounter3` and `mhpmcounter3h`: of each there are 29, up to 31, which read 0
+/// whatever is written.
+const MONITORS: [u32; 3] = [0x323, 0xb03, 0xb83];
 
-/// Numbers that are no CSR of this hart.
-const ABSENT: [u32; 16] = [
-    0x000, 0x001, 0x100, 0x180, 0x302, 0x303, 0x306, 0x31a, 0x321, 0x322, 0x345, 0x3a0, 0xb01,
-    0xb20, 0xc03, 0xf16,
-];
+/// The value before, and the bits that a write changes, where a number is that of a CSR.
+fn row_of(number: u32) -> Option<(u32, u32)> {
+    for (named, value, mask) in NAMED {
+        if named == number {
+            return Some((value, mask));
+        }
+    }
+    for first in MONITORS {
+        if first <= number && number < first.wrapping_add(29) {
+            return Some((0, 0));
+        }
+    }
+    None
+}
 
 /// The instruction with this funct3 on a CSR, from the place of rs1 to x5.
 fn word_of(number: u32, funct3: u32, rs1: u32) -> u32 {
@@ -90,89 +92,79 @@ fn written(funct3: u32, old: u32, operand: u32) -> u32 {
     }
 }
 
-#[test]
-fn each_is_written_by_each(rt: HostRuntime) -> Result<(), Fail> {
-    for (number, old, mask) in WRITABLE {
-        for funct3 in [1, 2, 3, 5, 6, 7] {
-            let mut hart = HartState::new();
-            let mut csrs = BEFORE;
-            hart.pc = START;
-            hart.registers[21] = 0x8f0f_0f8e;
-            let word = word_of(number, funct3, 21);
-            let answer = step_word(rt.alloc(), word, &mut hart, &mut csrs, &TOLD)?;
-            let first = (answer, hart.pc, hart.registers[5]);
-            hart.pc = START;
-            let read = word_of(number, 2, 0);
-            let again = step_word(rt.alloc(), read, &mut hart, &mut csrs, &TOLD)?;
-            let operand = if funct3 < 4 { 0x8f0f_0f8e } else { 21 };
-            let new = (written(funct3, old, operand) & mask) | (old & !mask);
-            assert_eq!(rt;
-                (first, again, hart.registers[5]),
-                (
-                    (MachineAnswer::Retired, START + 4, old),
-                    MachineAnswer::Retired,
-                    new
-                )
-            );
+/// The operand: x0, x21, or the place of rs1 itself.
+fn operand_of(funct3: u32, rs1: u32) -> u32 {
+    match (funct3, rs1) {
+        (1..=3, 21) => 0x8f0f_0f8e,
+        _ => rs1,
+    }
+}
+
+/// What is seen of an instruction: how its step ends, x5 and the pc after it, what a further
+/// instruction reads where it retired, and the CSRs, after the value before is written again.
+type Seen = (MachineAnswer, u32, u32, u32, CsrFile);
+
+/// What is seen of an instruction.
+fn seen(alloc: Global, number: u32, funct3: u32, rs1: u32) -> Result<Seen, AllocError> {
+    let mut hart = HartState::new();
+    let mut csrs = BEFORE;
+    hart.pc = START;
+    hart.registers[5] = 7;
+    hart.registers[21] = 0x8f0f_0f8e;
+    let word = word_of(number, funct3, rs1);
+    let answer = step_word(alloc, word, &mut hart, &mut csrs, &TOLD)?;
+    let (old, pc) = (hart.registers[5], hart.pc);
+    if answer != MachineAnswer::Retired {
+        return Ok((answer, old, pc, 0, csrs));
+    }
+    for (funct3, rs1) in [(2, 0), (1, 21)] {
+        hart.pc = START;
+        hart.registers[21] = old;
+        if rs1 == 0 || number < 0xc00 {
+            let word = word_of(number, funct3, rs1);
+            step_word(alloc, word, &mut hart, &mut csrs, &TOLD)?;
         }
     }
-    Ok(())
+    if number == 0x320 {
+        // The counters go on where they are not stopped.
+        csrs.mcycle = BEFORE.mcycle;
+        csrs.minstret = BEFORE.minstret;
+    }
+    Ok((answer, old, pc, hart.registers[5], csrs))
+}
+
+/// What is to be seen of an instruction.
+fn wanted(number: u32, funct3: u32, rs1: u32) -> Seen {
+    let word = word_of(number, funct3, rs1);
+    let trapped = CsrFile {
+        mstatus: 0,
+        mepc: START,
+        mcause: 2,
+        mtval: word,
+        ..BEFORE
+    };
+    let refused = MachineAnswer::Raised(Exception::IllegalInstruction(word));
+    let illegal = (refused, 7, 0x8000_0100, 0, trapped);
+    let is_write = funct3 == 1 || funct3 == 5 || rs1 != 0;
+    match row_of(number) {
+        Some(_) if number >= 0xc00 && is_write => illegal,
+        Some((old, mask)) => {
+            let value = written(funct3, old, operand_of(funct3, rs1));
+            let new = (value & mask) | (old & !mask);
+            (MachineAnswer::Retired, old, START + 4, new, BEFORE)
+        }
+        None => illegal,
+    }
 }
 
 #[test]
-fn read_only_ones_are_read(rt: HostRuntime) -> Result<(), Fail> {
-    for (number, value) in READ_ONLY {
+fn each_number_by_each(rt: HostRuntime) -> Result<(), Fail> {
+    for number in 0..4096 {
         for funct3 in [1, 2, 3, 5, 6, 7] {
-            let mut hart = HartState::new();
-            let mut csrs = BEFORE;
-            hart.pc = START;
-            let word = word_of(number, funct3, 0);
-            let answer = step_word(rt.alloc(), word, &mut hart, &mut csrs, &TOLD)?;
-            let refused = MachineAnswer::Raised(Exception::IllegalInstruction(word));
-            let wanted = match funct3 {
-                1 | 5 => (refused, 0, 0x8000_0100, 2, word),
-                _ => (
-                    MachineAnswer::Retired,
-                    value,
-                    START + 4,
-                    0x8000_000b,
-                    0xdead_beef,
-                ),
-            };
-            assert_eq!(rt;
-                (answer, hart.registers[5], hart.pc, csrs.mcause, csrs.mtval),
-                wanted
-            );
-        }
-    }
-    Ok(())
-}
-
-#[test]
-fn others_are_illegal(rt: HostRuntime) -> Result<(), Fail> {
-    for number in ABSENT {
-        for funct3 in [1, 2, 3, 5, 6, 7] {
-            let mut hart = HartState::new();
-            let mut csrs = CsrFile::new();
-            hart.pc = START;
-            let word = word_of(number, funct3, 0);
-            let answer = step_word(rt.alloc(), word, &mut hart, &mut csrs, &QUIET)?;
-            assert_eq!(rt;
-                (
-                    answer,
-                    hart.registers[5],
-                    csrs.mepc,
-                    csrs.mcause,
-                    csrs.mtval
-                ),
-                (
-                    MachineAnswer::Raised(Exception::IllegalInstruction(word)),
-                    0,
-                    START,
-                    2,
-                    word
-                )
-            );
+            for rs1 in [0, 21] {
+                let found = seen(rt.alloc(), number, funct3, rs1)?;
+                assert_eq!(rt; found, wanted(number, funct3, rs1));
+            }
         }
     }
     Ok(())

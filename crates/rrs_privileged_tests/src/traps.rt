@@ -7,10 +7,15 @@ use std::test::Fail;
 
 /// A word, the value of x6, and the cause, value and pc that its exception leaves in `mcause`,
 /// `mtval` and `mepc`. The word stands at [START].
-const EXCEPTIONS: [(u32, u32, u32, u32); 17] = [
+const EXCEPTIONS: [(u32, u32, u32, u32); 28] = [
     (0x0020_02ef, 0, 0, START + 2), // jal x5, 2
     (0x0003_02e7, 0x202, 0, 0x202), // jalr x5, 0(x6)
     (0x0000_0363, 0, 0, START + 6), // beq x0, x0, 6
+    (0x0003_1363, 1, 0, START + 6), // bne x6, x0, 6
+    (0x0003_4363, 0x8000_0000, 0, START + 6), // blt x6, x0, 6
+    (0x0003_5363, 1, 0, START + 6), // bge x6, x0, 6
+    (0x0060_6363, 1, 0, START + 6), // bltu x0, x6, 6
+    (0x0003_7363, 1, 0, START + 6), // bgeu x6, x0, 6
     (0x0000_0000, 0, 2, 0), // no instruction
     (0xffff_ffff, 0, 2, 0xffff_ffff), // no instruction
     (0x1020_0073, 0, 2, 0x1020_0073), // sret
@@ -19,11 +24,17 @@ const EXCEPTIONS: [(u32, u32, u32, u32); 17] = [
     (0x0010_0073, 0, 3, START), // ebreak
     (0x0020_2283, 0, 4, 2), // lw x5, 2(x0)
     (0x0010_1283, 0, 4, 1), // lh x5, 1(x0)
+    (0x0010_5283, 0, 4, 1), // lhu x5, 1(x0)
     (0x0003_2283, 0x8000_0000, 5, 0x8000_0000), // lw x5, 0(x6)
     (0x0003_0283, 0x8000_0001, 5, 0x8000_0001), // lb x5, 0(x6)
+    (0x0003_1283, 0x8000_0002, 5, 0x8000_0002), // lh x5, 0(x6)
+    (0x0003_4283, 0x8000_0003, 5, 0x8000_0003), // lbu x5, 0(x6)
+    (0x0003_5283, 0x8000_0002, 5, 0x8000_0002), // lhu x5, 0(x6)
     (0x0050_2123, 0, 6, 2), // sw x5, 2(x0)
     (0x0050_10a3, 0, 6, 1), // sh x5, 1(x0)
     (0x0053_2023, 0x8000_0000, 7, 0x8000_0000), // sw x5, 0(x6)
+    (0x0053_1023, 0x8000_0002, 7, 0x8000_0002), // sh x5, 0(x6)
+    (0x0053_0023, 0x8000_0001, 7, 0x8000_0001), // sb x5, 0(x6)
     (0x0000_0073, 0, 11, 0), // ecall
 ];
 
@@ -112,36 +123,42 @@ fn interrupt_of(code: u32) -> Interrupt {
     }
 }
 
+/// Where an interrupt goes, with the handlers at 0x40: direct, and vectored.
+fn handler_of(mtvec: u32, code: u32) -> u32 {
+    if mtvec == 0x40 {
+        0x40
+    } else {
+        code.wrapping_mul(4).wrapping_add(0x40)
+    }
+}
+
 #[test]
 fn each_interrupt(rt: HostRuntime) -> Result<(), Fail> {
     for (mstatus, mie, bits, code) in INTERRUPTS {
-        let mut hart = HartState::new();
-        let mut csrs = CsrFile::new();
-        hart.pc = START;
-        csrs.mstatus = mstatus;
-        csrs.mie = mie;
-        csrs.mtvec = 0x41;
-        // wfi
-        let told = pending(bits);
-        let answer = step_word(rt.alloc(), 0x1050_0073, &mut hart, &mut csrs, &told)?;
-        let wanted = if code != 0 {
-            let taken = MachineAnswer::Interrupted(interrupt_of(code));
-            (
-                taken,
-                code.wrapping_mul(4).wrapping_add(0x40),
-                code | 0x8000_0000,
-                START,
-                0x80,
-            )
-        } else if mie & bits != 0 {
-            (MachineAnswer::Retired, START + 4, 0, 0, mstatus)
-        } else {
-            (MachineAnswer::Waiting, START + 4, 0, 0, mstatus)
-        };
-        assert_eq!(rt;
-            (answer, hart.pc, csrs.mcause, csrs.mepc, csrs.mstatus),
-            wanted
-        );
+        for mtvec in [0x40, 0x41] {
+            let mut hart = HartState::new();
+            let mut csrs = CsrFile::new();
+            hart.pc = START;
+            csrs.mstatus = mstatus;
+            csrs.mie = mie;
+            csrs.mtvec = mtvec;
+            // wfi
+            let told = pending(bits);
+            let answer = step_word(rt.alloc(), 0x1050_0073, &mut hart, &mut csrs, &told)?;
+            let wanted = if code != 0 {
+                let taken = MachineAnswer::Interrupted(interrupt_of(code));
+                let handler = handler_of(mtvec, code);
+                (taken, handler, code | 0x8000_0000, START, 0x80)
+            } else if mie & bits != 0 {
+                (MachineAnswer::Retired, START + 4, 0, 0, mstatus)
+            } else {
+                (MachineAnswer::Waiting, START + 4, 0, 0, mstatus)
+            };
+            assert_eq!(rt;
+                (answer, hart.pc, csrs.mcause, csrs.mepc, csrs.mstatus),
+                wanted
+            );
+        }
     }
     Ok(())
 }
