@@ -85,7 +85,7 @@ gather_questions() {
     count=$((${count%%:*} - 1))
     head -n "$count" "$replay/stdin" | cat - "$here/answers/questions" >"$room/questions" &&
         head -n "$count" "$replay/stdout" | cat - "$here/answers/answers" >"$room/answers" &&
-        [ "$count" = 3402 ] && [ "$(wc -l <"$room/questions")" = 8692 ]
+        [ "$count" = 3402 ] && [ "$(wc -l <"$room/questions")" = 8976 ]
 }
 
 # answers COMMAND ..: it answers the questions as is stored, and without a word on standard error
@@ -327,7 +327,7 @@ all() {
     examples
     try "libraries that must be refused" make_refused
     try "three_words refuses a library of another version" c_refuses
-    try "rust: its tests" rust_passes 7 "$crate/out"
+    try "rust: its tests" rust_passes 8 "$crate/out"
     try "rust: three_words prints what is stored" rust_prints
     try "rust: replay is built" rust "$crate/out" build --release --example replay
     try "rust: replay answers as is stored" answers "$room/rust/release/examples/replay"
@@ -339,7 +339,7 @@ all() {
     try "rust: README says which Rust it needs" rust_says_what_it_needs
     try "the library for Python" gcc -shared -o "$room/librrs.so" \
         -Wl,--whole-archive "$library" -Wl,--no-whole-archive
-    try "python: its tests" python_passes 24
+    try "python: its tests" python_passes 25
     try "python: three_words prints what is stored" python_prints
     try "python: replay answers as is stored" answers python replay.py
     try "python: replay refuses a line with more" refuses_lines python replay.py
@@ -350,7 +350,7 @@ all() {
 # The calls that do more than they may: some write a text where there is room for it, and none for
 # the 0 behind it, and the others give a number where there must be 0
 wrong_calls="disassemble register_name elf_function_at decode elf_parse elf_segment csr_read request
-    compare step run csr_write undo"
+    compare step run run_cached run_until_cached csr_write undo"
 
 make_wrong_calls() {
     cat >"$room/calls.c" <<'C'
@@ -367,6 +367,8 @@ make_wrong_calls() {
 #undef rrs_compare
 #undef rrs_step
 #undef rrs_run
+#undef rrs_run_cached
+#undef rrs_run_until_cached
 #undef rrs_csr_write
 #undef rrs_undo
 #define WRONG(kind, name, parameters, arguments, change)                    \
@@ -399,6 +401,14 @@ WRONG(rrs_fault, step, (rrs_hart *hart, uint32_t *words, size_t count, uint32_t 
       (hart, words, count, base), if (a.kind == RRS_OK) a.word = 1)
 WRONG(rrs_end, run, (rrs_hart *hart, uint32_t *words, size_t count, uint32_t base, uint64_t limit),
       (hart, words, count, base, limit), if (a.fault.kind == RRS_OK) a.fault.address = 4)
+WRONG(rrs_end, run_cached,
+      (rrs_hart *hart, rrs_cache *cache, uint32_t *words, size_t count, uint32_t base,
+       uint64_t limit),
+      (hart, cache, words, count, base, limit), if (a.fault.kind == RRS_OK) a.fault.address = 4)
+WRONG(rrs_end, run_until_cached,
+      (rrs_hart *hart, rrs_cache *cache, uint32_t *words, size_t count, uint32_t base,
+       uint64_t limit, const uint32_t *stops, size_t stop_count),
+      (hart, cache, words, count, base, limit + (limit == 100), stops, stop_count), )
 WRONG(uint32_t, csr_write, (rrs_csrs *csrs, uint32_t number, uint32_t value),
       (csrs, number, value), if (a == 0) csrs->mscratch ^= 1)
 void wrong_undo(rrs_hart *hart, uint32_t *words, size_t count, uint32_t base,

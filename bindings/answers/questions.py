@@ -319,11 +319,51 @@ class Questions:
             yield f"undo {','.join(map(str, change))} {at} {state}"
 
 
+    # ---- runs over a cache that is kept
+
+    def writes(self, count, places):
+        """Words that are written from outside, most of them instructions, or none."""
+        made = [f"{self.random.randrange(places)}:{hexed(self.instruction_forward())}"
+                for _ in range(self.random.choice([0, count, count // 2]))]
+        return ",".join(made) or "-"
+
+    def cached(self):
+        """Runs over one cache. Between them the words change, and other words are run."""
+        for _ in range(110):
+            end = [self.random.choice([0x00100073, 0x00000073, 0, 0xFFFFFFFF])]
+            base, at, state = self.program(self.instruction_forward, 8, end)
+            count = self.random.choice([1, 2, 3, 5])
+            limits = ",".join(str(self.random.choice([0, 1, 2, 3, 4, 7, 2**64 - 1]))
+                              for _ in range(count))
+            yield f"cached {limits} {self.writes(count, 9)} {at} {state}"
+            stops = self.stops(base)
+            yield f"cached_until {limits} {stops} {self.writes(count, 9)} {at} {state}"
+        yield f"cached 5,5 - at=0x00000000 part=0:0 {self.state(0, 0, [])}"
+        pieces = ",".join(["100"] * 20)
+        additions = [0x00128293, 0x00228293, 0x00A28293, 0xFFF28293]
+        outside = ",".join(f"0:{hexed(additions[n % 4])}" for n in range(20))
+        for loop in self.loops():
+            for writes in ("-", outside):
+                for limits in (pieces, "1,2,99,100,101,1999,2000,2001,4096", "50000"):
+                    yield f"cached {limits} {writes} {loop}"
+                    for stops in ("-", "0x80000000", "0x80000008,0x80001000", "0x80000ffc"):
+                        yield f"cached_until {limits} {stops} {writes} {loop}"
+        yield from self.cached_at_one_place()
+
+    def cached_at_one_place(self):
+        """Words that are 4 KiB apart have one place in a cache of 1,024 words."""
+        words = [0x00128293, 0x7FD0006F] + [0] * 1022 + [0x00228293, 0xFFDFE06F]
+        for writes in ("-", "0:0x00a28293", "1024:0x00a28293"):
+            state = self.state(0x80000000, 0x80000000, words)
+            yield f"cached 9,10,100,100 {writes} at=0x80000000 part=0:1026 {state}"
+
+
 def main():
     questions = Questions(20261124)
     for kind in (questions.fields, questions.texts, questions.requests, questions.steps,
                  questions.records, questions.jumps, questions.runs, questions.ends_of_addresses,
-                 questions.machine_steps, questions.csrs_by_number, questions.changes):
+                 questions.machine_steps, questions.csrs_by_number, questions.changes,
+                 questions.cached):
         for line in kind():
             print(line)
 

@@ -23,6 +23,21 @@ rrs_end rrs_run_until(rrs_hart *hart, uint32_t *words, size_t count, uint32_t ba
     return rrs_run(hart, words, count, base, limit);
 }
 
+void rrs_cache_clear(rrs_cache *cache) { (void)cache; }
+
+rrs_end rrs_run_cached(rrs_hart *hart, rrs_cache *cache, uint32_t *words, size_t count,
+                       uint32_t base, uint64_t limit) {
+    (void)cache;
+    return rrs_run(hart, words, count, base, limit);
+}
+
+rrs_end rrs_run_until_cached(rrs_hart *hart, rrs_cache *cache, uint32_t *words, size_t count,
+                             uint32_t base, uint64_t limit, const uint32_t *stops,
+                             size_t stop_count) {
+    (void)stops, (void)stop_count;
+    return rrs_run_cached(hart, cache, words, count, base, limit);
+}
+
 rrs_fault rrs_step_rvfi(rrs_hart *hart, uint32_t *words, size_t count, uint32_t base,
                         uint64_t order, rrs_retired *retired) {
     (void)order, (void)retired;

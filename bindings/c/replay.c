@@ -570,6 +570,78 @@ static int answer_change(const char **at, struct machine *m) {
     return 1;
 }
 
+/* Takes ` WRITES` off, `-` or NUMBER:WORD with commas between, to the end of the text. Returns how
+ * many. */
+static size_t writes_of(const char **at, uint32_t writes[][2], size_t room) {
+    size_t count = 0;
+    expect(at, " ");
+    if (take(at, "-")) return 0;
+    do {
+        if (count == room) fail(*at);
+        writes[count][0] = (uint32_t)number(at);
+        expect(at, ":");
+        writes[count++][1] = (uint32_t)number(at);
+    } while (take(at, ","));
+    return count;
+}
+
+/* `cached LIMITS WRITES` and `cached_until LIMITS STOPS WRITES`, over memory: runs over one cache, in
+ * turn over the words and over others, which are these with bit 7 inverted, the lowest of rd. Behind
+ * each pair a word is written from outside. Returns 0 where it is none of these. */
+static int answer_cached(const char **at, struct machine *m) {
+    static rrs_cache cache;
+    uint64_t limits[64];
+    uint32_t writes[64][2], *words, *others, *stops = NULL;
+    size_t runs = 0, write_count, stop_count = 0, i;
+    int is_until = take(at, "cached_until ");
+    rrs_end ends[64], other_ends[64];
+    rrs_hart other;
+    if (!is_until && !take(at, "cached ")) return 0;
+    do limits[runs++] = number(at);
+    while (runs < 64 && take(at, ","));
+    if (is_until) {
+        expect(at, " ");
+        stop_count = list(at, &stops);
+    }
+    write_count = writes_of(at, writes, 64);
+    take_place(at, m);
+    take_state(at, m);
+    other = m->hart;
+    words = m->words + m->first;
+    others = (uint32_t *)malloc((m->count + 1) * sizeof *others);
+    if (others == NULL) fail("out of memory");
+    for (i = 0; i < m->count; i++) others[i] = words[i] ^ 0x80;
+    memset(&cache, 0xa5, sizeof cache);
+    rrs_cache_clear(&cache);
+    for (i = 0; i < runs; i++) {
+        if (is_until) {
+            ends[i] = rrs_run_until_cached(&m->hart, &cache, words, m->count, m->base, limits[i],
+                                           stops, stop_count);
+            other_ends[i] = rrs_run_until_cached(&other, &cache, others, m->count, m->base,
+                                                 limits[i], stops, stop_count);
+        } else {
+            ends[i] = rrs_run_cached(&m->hart, &cache, words, m->count, m->base, limits[i]);
+            other_ends[i] = rrs_run_cached(&other, &cache, others, m->count, m->base, limits[i]);
+        }
+        if (i < write_count) words[writes[i][0]] = writes[i][1];
+    }
+    for (i = 0; i < runs; i++) {
+        if (i > 0) printf(";");
+        print_end(other_ends[i]);
+    }
+    print_hart(&other);
+    printf(" part=%s", m->count == 0 ? "-" : "");
+    print_words(others, m->count);
+    printf(" beside ");
+    for (i = 0; i < runs; i++) {
+        if (i > 0) printf(";");
+        print_end(ends[i]);
+    }
+    free(stops);
+    free(others);
+    return 1;
+}
+
 static void answer(const char *line) {
     struct machine machine;
     const char *at = line;
@@ -581,7 +653,7 @@ static void answer(const char *line) {
     } else {
         if (take(&at, "steps ")) answer_steps(&at, &machine);
         else if (!answer_access(&at, &machine) && !answer_machine(&at, &machine) &&
-                 !answer_change(&at, &machine))
+                 !answer_change(&at, &machine) && !answer_cached(&at, &machine))
             answer_memory(&at, &machine);
         print_state(&machine);
         free(machine.words);

@@ -8,6 +8,7 @@ STRUCTS = {
     "rrs_hart": rrs._Hart,
     "rrs_fault": rrs._Fault,
     "rrs_end": rrs._End,
+    "rrs_cache": rrs._Cache,
     "rrs_retired": rrs._Retired,
     "rrs_difference": rrs._Difference,
     "rrs_instruction": rrs._Instruction,

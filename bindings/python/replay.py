@@ -196,6 +196,33 @@ def until(limit, stops, *words):
     return told_end(state.machine.run_until(words_of(stops), int(limit))) + str(state)
 
 
+def cached(limits, writes, *words, stops=None):
+    """Runs over one cache, in turn over the words and over others, which are these with bit 7 inverted,
+    the lowest of rd. Behind each pair a word is written from outside."""
+    state, other = (State(words[2:], words[:2]) for _ in range(2))
+    machines = [state.machine, other.machine]
+    other.machine.memory[:] = [word ^ 0x80 for word in state.machine.memory]
+    cache = rrs._Cache()
+    rrs.ctypes.memset(rrs.ctypes.byref(cache), 0xA5, rrs.ctypes.sizeof(cache))
+    for machine in machines:
+        machine._lend(cache)  # which no call of the face does: each machine has its own
+    writes = entries(writes)
+    ends = [], []
+    for number, limit in enumerate(map(int, limits.split(","))):
+        for machine, told_of in zip(machines, ends):
+            end = machine.run(limit) if stops is None else machine.run_until(stops, limit)
+            told_of.append(told_end(end))
+        if number < len(writes):
+            place, word = writes[number].split(":")
+            state.machine.memory[int(place)] = int(word, 16)
+    part = listed_words(other.machine.memory)
+    return f"{';'.join(ends[1])}{other.hart} part={part} beside {';'.join(ends[0])}{state}"
+
+
+def cached_until(limits, stops, writes, *words):
+    return cached(limits, writes, *words, stops=words_of(stops))
+
+
 def elf(file, base, count, address):
     try:
         program = rrs.Elf(bytes.fromhex(file))
@@ -295,6 +322,8 @@ QUESTIONS = {
     "rvfi32": record_ialign32,
     "run": run,
     "until": until,
+    "cached": cached,
+    "cached_until": cached_until,
 }
 
 

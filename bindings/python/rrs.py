@@ -74,6 +74,10 @@ class _End(ctypes.Structure):
     _fields_ = [("steps", _u64), ("fault", _Fault), ("at_stop", _u32)]
 
 
+class _Cache(ctypes.Structure):
+    _fields_ = [("contents", _u32 * 5120)]
+
+
 class _Retired(ctypes.Structure):
     _fields_ = [("order", _u64)] + [
         (name, _u32)
@@ -177,8 +181,10 @@ if _version() != _VERSION:
 
 _memory = (ctypes.POINTER(_Hart), _words, _size, _u32)
 _step = _function("rrs_step", _Fault, *_memory)
-_run = _function("rrs_run", _End, *_memory, _u64)
-_run_until = _function("rrs_run_until", _End, *_memory, _u64, _words, _size)
+_cached = (_memory[0], ctypes.POINTER(_Cache), *_memory[1:])
+_cache_clear = _function("rrs_cache_clear", None, ctypes.POINTER(_Cache))
+_run = _function("rrs_run_cached", _End, *_cached, _u64)
+_run_until = _function("rrs_run_until_cached", _End, *_cached, _u64, _words, _size)
 _step_rvfi = _function("rrs_step_rvfi", _Fault, *_memory, _u64, ctypes.POINTER(_Retired))
 _step_rvfi_ialign32 = _function(
     "rrs_step_rvfi_ialign32", _Fault, *_memory, _u64, ctypes.POINTER(_Retired)
@@ -678,7 +684,8 @@ class Machine:
 
     ``program`` is bytes, or a sequence of words. ``size`` is the number of words of memory, at
     least those of the program; the others are 0. The pc begins at ``base``, a multiple of 4. A copy
-    has a hart and words of its own. Only one thread at a time may use a machine.
+    has a hart and words of its own. Only one thread at a time may use a machine. Its runs keep
+    decoded words from one to the next, in 20 KiB; the memory may be written between two of them.
     """
 
     def __init__(
@@ -705,8 +712,15 @@ class Machine:
             count,
             self._base,
         )
+        self._lend(_Cache())
         self._record = _Retired()
         self._recorded = ctypes.byref(self._record)
+
+    def _lend(self, cache: _Cache) -> None:
+        """Has the runs go over this cache, whatever its bytes are."""
+        _cache_clear(ctypes.byref(cache))
+        hart, *words = self._arguments
+        self._cached = (hart, ctypes.byref(cache), *words)
 
     @classmethod
     def from_elf(cls, path: str, size: Optional[int] = None) -> Machine:
@@ -837,7 +851,7 @@ class Machine:
         Access(kind=<AccessKind.STORE: 2>, address=268435460, size=4, value=7)
         End(steps=2, fault=None, at_stop=False)
         """
-        end = _end_of(_run(*self._arguments, _long_of(limit, "limit")))
+        end = _end_of(_run(*self._cached, _long_of(limit, "limit")))
         if access is None:
             return end
         made = end.steps
@@ -847,7 +861,7 @@ class Machine:
             if given is None:
                 break
             self.complete(word, given)
-            end = _end_of(_run(*self._arguments, limit - made - 1))
+            end = _end_of(_run(*self._cached, limit - made - 1))
             made += 1 + end.steps
         return end._replace(steps=made)
 
@@ -857,7 +871,7 @@ class Machine:
         words = [*map(_word_of, stops)]
         addresses = (_u32 * len(words))(*words)
         limit = _long_of(limit, "limit")
-        return _end_of(_run_until(*self._arguments, limit, addresses, len(words)))
+        return _end_of(_run_until(*self._cached, limit, addresses, len(words)))
 
     def request(self, word: int) -> Tuple[Optional[Fault], Optional[Access]]:
         """The access that ``word``, the word at the pc, asks for. Returns the Fault before any

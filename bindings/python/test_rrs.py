@@ -229,6 +229,18 @@ class Faces(unittest.TestCase):
         self.assertEqual((machine.pc, machine.registers[:4]), (68, [0, 1, 0, 7]))
         self.assertEqual(machine.memory[2], 5)
 
+    def test_each_machine_keeps_decoded_words_of_its_own(self):
+        machine = Machine([0x00128293, 0xFFDFF06F])  # addi t0, t0, 1; j -4
+        other = copy.copy(machine)
+        machines = (machine, other, pickle.loads(pickle.dumps(machine)))
+        self.assertEqual(len({id(m._cached[1]._obj) for m in machines}), 3)
+        for word, sums in ((0x00128293, (50, 50)), (0x00A28293, (550, 100)), (0, (550, 150))):
+            machine.memory[0] = word
+            ends = [m.run_until([], 100) if word else m.run(100) for m in (machine, other)]
+            self.assertEqual([end.steps for end in ends], [100 if word else 0, 100])
+            self.assertEqual((machine.registers[5], other.registers[5]), sums)
+        self.assertEqual(machine.run(1).fault, Fault(FaultKind.ILLEGAL_INSTRUCTION, 0, 0))
+
     def test_an_executable_is_loaded_where_it_says(self):
         words = [0x00108093, 0x0000A103]  # addi x1, x1, 1; lw x2, (x1)
         head = struct.pack("<16sHHIIIIIHHHHHH", b"\x7fELF\1\1\1", 2, 243, 1, 0x12F44, 52, 128, 0, 52,

@@ -2,8 +2,8 @@
 //! `docs/C.md` has the forms; those of `rrs-replay` are answered as it does.
 
 use rrs::{
-    decode, disassemble, field_name, register_name, row_name, Access, Change, Csrs, Elf, ElfRefusal,
-    End, Fault, Hart, Inputs, MachineRetired, Memory, MemoryAccess, Outcome, Retired,
+    decode, disassemble, field_name, register_name, row_name, Access, Cache, Change, Csrs, Elf,
+    ElfRefusal, End, Fault, Hart, Inputs, MachineRetired, Memory, MemoryAccess, Outcome, Retired,
 };
 use std::io::{self, BufRead, BufWriter, Write};
 
@@ -418,6 +418,46 @@ fn answer_elf(name: &str, line: &mut Line) -> Option<String> {
     Some(told.join(" "))
 }
 
+/// Runs over one cache, in turn over the words and over others, which are these with bit 7 inverted,
+/// the lowest of rd. Behind each pair a word is written from outside.
+fn answer_cached(name: &str, line: &mut Line) -> String {
+    let limits: Vec<u64> = line.word().split(',').map(decimal).collect();
+    let stops: Option<Vec<u32>> =
+        (name == "cached_until").then(|| entries(line.word()).map(hex).collect());
+    let writes: Vec<(usize, u32)> = entries(line.word())
+        .map(|write| write.split_once(':').expect("a number and a word"))
+        .map(|(number, word)| (decimal(number), hex(word)))
+        .collect();
+    let (base, part) = line.place();
+    let (mut hart, mut words) = line.state();
+    let mut other = hart;
+    let mut others: Vec<u32> = words[part.clone()].iter().map(|word| word ^ 0x80).collect();
+    let mut cache = Cache::new();
+    let mut run = |hart: &mut Hart, words: &mut [u32], limit| {
+        let mut memory = Memory::new(words, base);
+        told_end(match &stops {
+            Some(stops) => hart.run_until_cached(&mut cache, &mut memory, limit, stops),
+            None => hart.run_cached(&mut cache, &mut memory, limit),
+        })
+    };
+    let (mut ends, mut other_ends) = (Vec::new(), Vec::new());
+    for (number, &limit) in limits.iter().enumerate() {
+        ends.push(run(&mut hart, &mut words[part.clone()], limit));
+        other_ends.push(run(&mut other, &mut others, limit));
+        if let Some(&(place, word)) = writes.get(number) {
+            words[part.clone()][place] = word;
+        }
+    }
+    format!(
+        "{}{} part={} beside {}{}",
+        other_ends.join(";"),
+        told_hart(&other),
+        told_words(&others),
+        ends.join(";"),
+        told_state(&hart, &words)
+    )
+}
+
 /// The questions over memory.
 fn answer_memory(name: &str, line: &mut Line) -> String {
     if name == "steps" {
@@ -469,6 +509,7 @@ fn answer(text: &str) -> String {
     let answer = answer.unwrap_or_else(|| match name {
         "machine" => answer_machine(&mut line),
         "noted" | "undo" => answer_change(name, &mut line),
+        "cached" | "cached_until" => answer_cached(name, &mut line),
         _ => answer_memory(name, &mut line),
     });
     assert!(line.0.is_empty(), "more on the line: {text}");

@@ -158,6 +158,48 @@ impl End {
     }
 }
 
+/// Room for 1,024 decoded words, 20 KiB, which is lent to [`Hart::run_cached`] and
+/// [`Hart::run_until_cached`], so that many short runs need not decode each word in each of them.
+///
+/// It is keyed by the words: it may be lent to runs of any harts over any memories, one after
+/// another, whatever is written to them in between.
+///
+/// ```
+/// use rrs::{Cache, Hart, Memory};
+///
+/// let mut words = [0x00128293, 0xffdff06f]; // addi t0, t0, 1; j -4
+/// let (mut hart, mut cache) = (Hart::default(), Cache::new());
+/// hart.run_cached(&mut cache, &mut Memory::new(&mut words, 0), 100);
+/// words[0] = 0x00a28293; // addi t0, t0, 10
+/// hart.run_cached(&mut cache, &mut Memory::new(&mut words, 0), 100);
+/// assert_eq!(hart.x[5], 550);
+/// ```
+#[derive(Clone)]
+pub struct Cache(sys::Cache);
+
+impl Cache {
+    /// A cache that has no word of any program.
+    pub fn new() -> Cache {
+        check_version();
+        // the library makes any bytes a cache
+        let mut cache = Cache(sys::Cache { contents: [u32::MAX; 5120] });
+        unsafe { sys::rrs_cache_clear(&mut cache.0) };
+        cache
+    }
+}
+
+impl Default for Cache {
+    fn default() -> Cache {
+        Cache::new()
+    }
+}
+
+impl fmt::Debug for Cache {
+    fn fmt(&self, f: &mut fmt::Formatter<'_>) -> fmt::Result {
+        f.debug_struct("Cache").finish_non_exhaustive()
+    }
+}
+
 /// A load or a store that was granted. All fields are 0 where there was none.
 #[derive(Clone, Copy, Debug, Default, PartialEq, Eq)]
 pub struct MemoryAccess {
@@ -534,6 +576,39 @@ impl Hart {
         End::of(unsafe {
             sys::rrs_run_until(
                 self,
+                words.as_mut_ptr(),
+                words.len(),
+                *base,
+                limit,
+                stops.as_ptr(),
+                stops.len(),
+            )
+        })
+    }
+
+    /// Does what [`Hart::run`] does, over a cache that is kept from run to run: a short run need not
+    /// decode again what an earlier one did.
+    pub fn run_cached(&mut self, cache: &mut Cache, memory: &mut Memory<'_>, limit: u64) -> End {
+        check_version();
+        let Memory { words, base } = memory;
+        let (words, count) = (words.as_mut_ptr(), words.len());
+        End::of(unsafe { sys::rrs_run_cached(self, &mut cache.0, words, count, *base, limit) })
+    }
+
+    /// Does what [`Hart::run_until`] does, over a cache that is kept from run to run.
+    pub fn run_until_cached(
+        &mut self,
+        cache: &mut Cache,
+        memory: &mut Memory<'_>,
+        limit: u64,
+        stops: &[u32],
+    ) -> End {
+        check_version();
+        let Memory { words, base } = memory;
+        End::of(unsafe {
+            sys::rrs_run_until_cached(
+                self,
+                &mut cache.0,
                 words.as_mut_ptr(),
                 words.len(),
                 *base,

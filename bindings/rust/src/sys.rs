@@ -17,6 +17,12 @@ pub struct End {
 }
 
 #[repr(C)]
+#[derive(Clone)]
+pub struct Cache {
+    pub contents: [u32; 5120],
+}
+
+#[repr(C)]
 #[derive(Default)]
 pub struct Retired {
     pub order: u64,
@@ -121,6 +127,25 @@ extern "C" {
     pub fn rrs_run(hart: *mut Hart, words: *mut u32, count: usize, base: u32, limit: u64) -> End;
     pub fn rrs_run_until(
         hart: *mut Hart,
+        words: *mut u32,
+        count: usize,
+        base: u32,
+        limit: u64,
+        stops: *const u32,
+        stop_count: usize,
+    ) -> End;
+    pub fn rrs_cache_clear(cache: *mut Cache);
+    pub fn rrs_run_cached(
+        hart: *mut Hart,
+        cache: *mut Cache,
+        words: *mut u32,
+        count: usize,
+        base: u32,
+        limit: u64,
+    ) -> End;
+    pub fn rrs_run_until_cached(
+        hart: *mut Hart,
+        cache: *mut Cache,
         words: *mut u32,
         count: usize,
         base: u32,

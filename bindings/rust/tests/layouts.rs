@@ -35,6 +35,7 @@ fn the_structs_are_those_of_the_header() {
     listed!(lines, "rrs_hart", Hart, x pc last);
     listed!(lines, "rrs_fault", sys::Fault, kind address word);
     listed!(lines, "rrs_end", sys::End, steps fault at_stop);
+    listed!(lines, "rrs_cache", sys::Cache, contents);
     listed!(lines, "rrs_retired", sys::Retired, order insn fetched trap pc_rdata pc_wdata rs1_addr
         rs1_rdata rs2_addr rs2_rdata rd_addr rd_wdata mem_addr mem_rmask mem_wmask mem_rdata
         mem_wdata);

@@ -12,7 +12,7 @@
  *   also not one to an array of length 0. What two of them point to must not overlap. Nothing
  *   checks this. Every hart, word, address and limit is allowed.
  * - Threads. There is no state but the caller's, so calls on different values may run at the same
- *   time. Two calls on the same hart or the same words must not.
+ *   time. Two calls on the same hart, the same words or the same cache must not.
  *
  * Memory is `count` words, which lie one after another from the address `base` on, each as four
  * bytes, lowest first. All of them can be read and written. `base` is a multiple of 4; its two
@@ -86,6 +86,26 @@ rrs_end rrs_run(rrs_hart *hart, uint32_t *words, size_t count, uint32_t base, ui
  * a stop, so the same call goes on from there. */
 rrs_end rrs_run_until(rrs_hart *hart, uint32_t *words, size_t count, uint32_t base, uint64_t limit,
                       const uint32_t *stops, size_t stop_count);
+
+/* Room for 1,024 decoded words, so that many short runs need not decode each word in each of them.
+ * rrs_cache_clear makes any bytes of this size and alignment a cache. From then on the functions
+ * below alone change it: what else is written there makes it none, until it is cleared again, and a
+ * run over no cache does what no one knows. A copy of a cache is a cache. */
+typedef struct rrs_cache {
+    uint32_t contents[5120]; /* Of the library alone. */
+} rrs_cache;
+
+void rrs_cache_clear(rrs_cache *cache);
+
+/* Do what rrs_run and rrs_run_until do, over a cache, with less than 4 KiB of stack. The cache is
+ * keyed by the words, and the word at the pc is read at each step. So a cache may be lent to runs of
+ * any harts over any words, one after another, and what C writes to the words in between needs no
+ * notice: the run is always that of rrs_run, or of rrs_run_until. */
+rrs_end rrs_run_cached(rrs_hart *hart, rrs_cache *cache, uint32_t *words, size_t count,
+                       uint32_t base, uint64_t limit);
+rrs_end rrs_run_until_cached(rrs_hart *hart, rrs_cache *cache, uint32_t *words, size_t count,
+                             uint32_t base, uint64_t limit, const uint32_t *stops,
+                             size_t stop_count);
 
 /* What a step retired, in the shape of RVFI, the RISC-V Formal Interface (NRET 1, ILEN and XLEN
  * 32). A step that raised an exception has a record too, with trap 1. The interface's halt, intr,
@@ -497,6 +517,8 @@ RRS_ASSERT(size_of_end, sizeof(rrs_end) == 24);
 RRS_ASSERT(end_steps, offsetof(rrs_end, steps) == 0);
 RRS_ASSERT(end_fault, offsetof(rrs_end, fault) == 8);
 RRS_ASSERT(end_at_stop, offsetof(rrs_end, at_stop) == 20);
+RRS_ASSERT(size_of_cache, sizeof(rrs_cache) == 20480);
+RRS_ASSERT(cache_contents, offsetof(rrs_cache, contents) == 0);
 RRS_ASSERT(size_of_retired, sizeof(rrs_retired) == 72);
 RRS_ASSERT(retired_order, offsetof(rrs_retired, order) == 0);
 RRS_ASSERT(retired_insn, offsetof(rrs_retired, insn) == 8);

@@ -4,6 +4,7 @@ pub use Rattle.rrs_lib.specs.Table
 pub use Rattle.rrs_lib.specs.Machine
 pub use Rattle.rrs_lib.specs.Steps
 pub use Rattle.rrs_lib.specs.Texts
+pub use Rattle.rrs_fast.specs.Decoded
 pub use Rattle.rrs_trace.specs.Retired
 pub use Rattle.rrs_trace.specs.Stops
 pub use Rattle.rrs_trace.specs.Outside

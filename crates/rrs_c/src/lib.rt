@@ -2,8 +2,9 @@
 //!
 //! `include/rrs.h` declares them for C, and `docs/C.md` says how to build and call them. Each
 //! function is total. It requires of its pointers that they are aligned, that each points to a
-//! value of the caller, and that no two of these overlap. None allocates, keeps anything between
-//! two calls, or calls back.
+//! value of the caller, and that no two of these overlap. `rrs_run_cached` and
+//! `rrs_run_until_cached` require too that `rrs_cache_clear` made their cache. None allocates, keeps
+//! anything between two calls, or calls back.
 //!
 //! The contracts are those of the kit's own calls, over `state_in_c`: the hart, and the words from
 //! the base on, all writable.
@@ -31,6 +32,7 @@ ghost use Rattle.rrs_lib.specs.Table.{Row, Decodes, IsIllegal};
 ghost use Rattle.rrs_lib.specs.Steps.{Step, IsOnlyStep, ChangesLittle, RunUntil, IsOnlyRunUntil, cleared};
 ghost use Rattle.rrs_trace.specs.Retired.{Retires};
 ghost use Rattle.rrs_trace.specs.Stops.{RunsToStop, IsOnlyRunToStop};
+ghost use Rattle.rrs_fast.specs.Decoded.{AreDecoded};
 ghost use Rattle.rrs_c.specs.Harts.{hart_in, state_in_c, exception_of, IsFault, IsEnd, answer_of, reason_of};
 ghost use Rattle.rrs_c.specs.Listing.{Lists, no_instruction};
 ghost use Rattle.rrs_c.specs.Records.{retired_in, IsRecord};
@@ -65,8 +67,8 @@ use hart::{
 use instruction::{RrsInstruction, listed, nothing};
 use jumps::jumps_aside;
 use lent::{
-    machine_step_lent, run_lent, run_until_lent, step_lent, step_noted_lent, step_retired_lent,
-    undo_lent,
+    machine_step_lent, run_lent, run_over_cache, run_until_lent, run_until_over_cache, step_lent,
+    step_noted_lent, step_retired_lent, undo_lent,
 };
 use machine::{
     RrsCsr, RrsCsrs, RrsMachineRetired, RrsOutcome, csr_read, csr_write, csrs_of, file_of,
@@ -74,6 +76,7 @@ use machine::{
 };
 use names::{fault_name, field_name, put_name, register_name, row_name};
 use retired::{RrsRetired, refused, written_out};
+use rrs_fast::WordTable;
 use rrs_lib::disassembly::Disassembled;
 use rrs_lib::instruction::decode;
 use rrs_lib::instruction_executor::InstructionException;
@@ -156,6 +159,69 @@ pub extern "C" fn rrs_run_until(
     let mut state = opened(hart);
     let mut memory = SliceMemory { words, base };
     let end = run_until_lent(&mut memory, &mut state, limit, stops);
+    close(&state, hart);
+    end_of_stop(end)
+}
+
+/// Makes any bytes a cache, one that has no word of any program.
+#[unsafe(no_mangle)]
+pub extern "C" fn rrs_cache_clear(cache: &mut WordTable)
+    ensures { AreDecoded cache.new.entries }
+{
+    cache.clear();
+}
+
+/// Does what `rrs_run` does, over a cache of decoded words that C owns. Whatever the cache has, and
+/// whatever was written to the words since it was lent last, the run is the same.
+#[unsafe(no_mangle)]
+pub extern "C" fn rrs_run_cached(
+    hart: &mut RrsHart,
+    cache: &mut WordTable,
+    words: &mut [u32],
+    base: u32,
+    limit: u64,
+) -> RrsEnd
+    requires cache { AreDecoded cache.old.entries }
+    ensures cache { AreDecoded cache.new.entries }
+    ensures run { RunUntil limit (state_in_c hart.old base words.old)
+        result.steps (exception_of result.fault) (state_in_c hart.new base words.new) }
+    ensures only { IsOnlyRunUntil limit (state_in_c hart.old base words.old)
+        result.steps (exception_of result.fault) (state_in_c hart.new base words.new) }
+    ensures told { IsEnd result }
+    ensures no_stop { result.at_stop ≡ 0 }
+    ensures last { hart.new.last < 32 }
+    ensures entry_zero { slice_index hart.new.x 0 ≡ slice_index hart.old.x 0 }
+{
+    let mut state = opened(hart);
+    let mut memory = SliceMemory { words, base };
+    let end = run_over_cache(&mut memory, &mut state, cache, limit);
+    close(&state, hart);
+    end_of_run(end)
+}
+
+/// Does what `rrs_run_until` does, over a cache of decoded words that C owns, as `rrs_run_cached`.
+#[unsafe(no_mangle)]
+pub extern "C" fn rrs_run_until_cached(
+    hart: &mut RrsHart,
+    cache: &mut WordTable,
+    words: &mut [u32],
+    base: u32,
+    limit: u64,
+    stops: &[u32],
+) -> RrsEnd
+    requires cache { AreDecoded cache.old.entries }
+    ensures cache { AreDecoded cache.new.entries }
+    ensures run { RunsToStop stops.now limit (state_in_c hart.old base words.old)
+        result.steps (reason_of result) (state_in_c hart.new base words.new) }
+    ensures only { IsOnlyRunToStop stops.now limit (state_in_c hart.old base words.old)
+        result.steps (reason_of result) (state_in_c hart.new base words.new) }
+    ensures told { IsEnd result }
+    ensures last { hart.new.last < 32 }
+    ensures entry_zero { slice_index hart.new.x 0 ≡ slice_index hart.old.x 0 }
+{
+    let mut state = opened(hart);
+    let mut memory = SliceMemory { words, base };
+    let end = run_until_over_cache(&mut memory, &mut state, cache, limit, stops);
     close(&state, hart);
     end_of_stop(end)
 }
