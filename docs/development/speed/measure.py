@@ -1,7 +1,8 @@
 #!/usr/bin/env python3
 """Measures `rrs run --quiet` beside interpreters in C, and prints a table.
 
-usage: measure.py [--counts] [--rounds N] [--frame] [--save] [--draw] [--peer NAME=BINARY] .. [FILE ..]
+usage: measure.py [--counts] [--calls] [--rounds N] [--frame] [--save] [--draw]
+           [--peer NAME=BINARY] .. [FILE ..]
 
 Each FILE is a raw program, run from address 0 on to its end; without one they are the programs in
 programs/, which gcc made. Beside these there are programs made here: a loop of so many
@@ -13,6 +14,9 @@ valgrind, as the difference of two limits. A peer is called as BINARY FILE LIMIT
 With --frame the seconds of Unicorn are printed, which is QEMU as a library and compiles what it
 runs (Debian's python3-unicorn), for each FILE, to its end. With --save the numbers are written to numbers.tsv beside this script, seconds or counts;
 with --draw the chart of what stands there is drawn by gnuplot, counts.svg and seconds.svg.
+
+With --calls the machine instructions a step are those of the library for C, which `.ci/built library`
+builds, called from C in a loop: in one call, and in calls of so many steps.
 
 It needs gcc, clang where it is there, and rrs built: `.ci/built program rrs` builds it.
 """
@@ -76,6 +80,32 @@ def built(room):
     return binaries
 
 
+# The calls of calls.c, and how many steps each makes. Between two numbers of steps the difference
+# of the counts is taken.
+CALLS = [("step", 1), ("run", LIMIT), ("run", 100), ("run_cached", LIMIT), ("run_cached", 1000),
+         ("run_cached", 100), ("run_cached", 10), ("run_until", LIMIT),
+         ("run_until_cached", LIMIT), ("run_until_cached", 100)]
+
+
+def calls(files, room):
+    """Prints what a step takes by each call of the library for C."""
+    library = os.path.join(CRATE, "..", "rrs_c")
+    binary = os.path.join(room, "calls")
+    subprocess.run(["gcc", "-O2", "-std=c99", f"-I{library}/include", "-o", binary,
+                    os.path.join(HERE, "calls.c"), f"{library}/out/librrs_c.a"], check=True)
+    names = [os.path.basename(file).removesuffix(".bin") for file in files]
+    print("| Call |", " | ".join(names), "|")
+    print("|---" * (1 + len(names)) + "|")
+    for call, piece in CALLS:
+        row = []
+        for file in files:
+            taken = [instructions([binary], file, n, call, str(piece)) for n in (300_000, 500_000)]
+            (low, few), (high, many) = taken
+            row.append(f"{(high - low) / (many - few):.1f}")
+        of = "in one call" if piece == LIMIT else f"in calls of {piece}"
+        print(f"| `rrs_{call}` {of} |", " | ".join(row), "|", flush=True)
+
+
 def steps_of(text):
     return int(re.search(r"steps (\d+)", text).group(1))
 
@@ -87,9 +117,9 @@ def seconds(binary, file, limit):
     return after.ru_utime - before.ru_utime, steps_of(out)
 
 
-def instructions(binary, file, limit):
+def instructions(binary, file, limit, *more):
     words = ["valgrind", "--tool=callgrind", "--callgrind-out-file=/dev/null", *binary, file,
-             str(limit)]
+             str(limit), *more]
     said = subprocess.run(words, capture_output=True, text=True)
     return int(re.search(r"Collected : (\d+)", said.stderr).group(1)), steps_of(said.stdout)
 
@@ -177,6 +207,7 @@ def draw():
 def main():
     parser = argparse.ArgumentParser(usage=__doc__)
     parser.add_argument("--counts", action="store_true")
+    parser.add_argument("--calls", action="store_true")
     parser.add_argument("--rounds", type=int, default=9)
     parser.add_argument("--frame", action="store_true")
     parser.add_argument("--save", action="store_true")
@@ -187,10 +218,12 @@ def main():
     if given.draw:
         return draw()
     with tempfile.TemporaryDirectory() as room:
+        files = given.files or sorted(glob.glob(os.path.join(HERE, "programs", "*.bin")))
+        if given.calls:
+            return calls(files, room)
         binaries = built(room)
         for name, binary in (peer.split("=", 1) for peer in given.peer):
             binaries[name] = [binary]
-        files = given.files or sorted(glob.glob(os.path.join(HERE, "programs", "*.bin")))
         programs = [(os.path.basename(file).removesuffix(".bin"), file, 900_000_000)
                     for file in files]
         made = [(f"a loop of {n} words", loop_of(n)) for n in (500, 1000, 4000, 12000)]
