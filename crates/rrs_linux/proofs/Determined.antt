@@ -1,22 +1,26 @@
 -- The calls of an environment over known bytes are determined: what is asked for, which text is transferred, and what is
 -- left.
-use Rattle.std.proofs.Common.{nat_lt, false, ◌≡◌, ℕ, ◌+◌, ◌-◌, ◌%◌, ◌<◌, ◌≤◌, ◌==◌, ◌||◌, if◌then◌else◌, Bool, true, List, [], ◌∷◌, ◌++◌, length, take, get_or, Option, inl, inr, refl, sym, subst, ap, ◌∙◌, arith, ext_get_or, Vec, vec_capacity}
+use Rattle.std.proofs.Common.{nat_lt, false, ◌≡◌, ℕ, zero, suc, ◌+◌, ◌*◌, min, ◌-◌, ◌%◌, ◌<◌, ◌≤◌, ◌==◌, ◌||◌, if◌then◌else◌, Bool, true, List, [], ◌∷◌, ◌++◌, length, take, get_or, Option, None, inl, inr, refl, sym, subst, ap, ◌∙◌, arith, ext_get_or, Vec, vec_capacity}
 use Rattle.std.proofs.lemmas.Bool.{cases_lt, ne_eqb, le-ltb, lt-ltb, false≢true}
 use Rattle.std.proofs.lemmas.Option.{none-some, same_Some}
 use Rattle.std.proofs.lemmas.List.{length-append, append_cancel_left}
 use Rattle.std.proofs.Math.Seq.{take-append_seam}
 use Rattle.std.specs.declared.alloc.Global.{Global}
+use Rattle.rrs_lib.specs.declared.MemAccessSize.TheVariants.{Byte}
 use Rattle.rrs_lib.specs.Bytes.{ByteMap}
 use Rattle.rrs_lib.specs.AccessLists.{Access}
 use Rattle.rrs_lib.specs.Loading.{Loaded, byte_writes}
 use Rattle.rrs_lib.specs.Machine.{State}
 use Rattle.rrs_env.specs.Serving.{IsDeterminedBy}
 use Rattle.rrs_linux.specs.declared.requests.Request.{Request}
-use Rattle.rrs_linux.specs.declared.requests.Request.TheVariants.{Exit, Answer, Status, SetBreak, Read, WriteOutput, WriteErrors}
-use Rattle.rrs_linux.specs.Requests.{Asks, AsksBy, error, ToExit, ToRead, ToWriteOutput, ToWriteErrors, ToSetBreak, ToClose, ToControl, ToSeek, ToGetStatus, ToGetNumber, OfNoFile, OfNoCall}
+use Rattle.rrs_linux.specs.declared.statuses.Lookup.{Lookup}
+use Rattle.rrs_linux.specs.declared.requests.Request.TheVariants.{Exit, Answer, Status, NamedStatus, ExtendedStatus, SetBreak, Read, WriteOutput, WriteErrors, WriteOutputPieces, WriteErrorPieces}
+use Rattle.rrs_linux.specs.Requests.{Asks, AsksBy, error, ToExit, ToRead, ToWriteOutput, ToWriteErrors, ToSetBreak, ToClose, ToControl, ToSeek, ToGetStatus, ToGetNamed, ToGetExtended, ToWriteOutputPieces, ToWriteErrorPieces, ToGetNumber, OfNoFile, OfNoFlags, OfNoCall, are_flags, are_statx_flags}
 use Rattle.rrs_linux.specs.Statuses
-use Rattle.rrs_linux.specs.Statuses.{PutsBytes, IsPut}
-use Rattle.rrs_linux.specs.Transfers.{Stands, byte_reads}
+use Rattle.rrs_linux.specs.Statuses.{PutsBytes, PutsNamed, IsPut, IsNamed, HasFailed, failed}
+use Rattle.rrs_linux.specs.Transfers.{Stands, byte_reads, most_bytes}
+use Rattle.rrs_linux.specs.Vectors
+use Rattle.rrs_linux.specs.Vectors.{WritesPieces, WritesVector, IsWritten, IsNegative, IsTooLong, together}
 use Rattle.rrs_linux.specs.SystemCalls.{Does, answered, moved, ended_by}
 use Rattle.rrs_linux.specs.Recording.{TakingEnds, GivingEnds, GivesText, TakesText, GivesInput, TakesOutput, Recording, Records, AlikeInputs, AlikeRecords, AlikeRecordings}
 use Rattle.rrs_linux.specs.Recording
@@ -33,54 +37,96 @@ is_open fd request fits = rw (le-ltb 2 fd fits) refl
 is_closed : (fd : ℕ) (request : Request) → 2 < fd → if_open fd request ≡ Answer (error 9)
 is_closed fd request past = rw (lt-ltb 2 fd past) refl
 
+-- what is asked for with flags that there are
+abbrev if_flags : Bool → Request → Request
+if_flags known request = if known then request else Answer (error 22)
+
+are_there : {known : Bool} (request : Request) → known ≡ true → if_flags known request ≡ request
+are_there request known = rw known refl
+
+are_not : {known : Bool} (request : Request) → known ≡ false → if_flags known request ≡ Answer (error 22)
+are_not request known = rw known refl
+
+-- what newfstatat and statx ask for
+abbrev named : (a0 a1 a2 a3 : ℕ) → Request
+named a0 a1 a2 a3 = NamedStatus (record { descriptor = a0; path = a1; flags = a3 }) a2
+
+abbrev extended : (a0 a1 a2 a4 : ℕ) → Request
+extended a0 a1 a2 a4 = ExtendedStatus (record { descriptor = a0; path = a1; flags = a2 }) a4
+
 -- what a call asks for, by tests
-asked_for : (call a0 a1 a2 : ℕ) → Request
-asked_for call a0 a1 a2 =
+asked_for : (call a0 a1 a2 a3 a4 : ℕ) → Request
+asked_for call a0 a1 a2 a3 a4 =
     if (call == 93) || (call == 94) then Exit (a0 % 256)
     else (if call == 63 then (if a0 == 0 then Read a1 a2 else Answer (error 9))
     else (if call == 64 then (if a0 == 1 then WriteOutput a1 a2
     else (if a0 == 2 then WriteErrors a1 a2 else Answer (error 9)))
+    else (if call == 66 then (if a0 == 1 then WriteOutputPieces a1 a2
+    else (if a0 == 2 then WriteErrorPieces a1 a2 else Answer (error 9)))
     else (if call == 214 then SetBreak a0
     else (if call == 172 then Answer 1
+    else (if call == 79 then if_flags (are_flags a3) (named a0 a1 a2 a3)
+    else (if call == 291 then if_flags (are_statx_flags a2 a3) (extended a0 a1 a2 a4)
     else (if call == 57 then if_open a0 (Answer 0)
     else (if call == 29 then if_open a0 (Answer (error 25))
     else (if call == 62 then if_open a0 (Answer (error 29))
-    else (if call == 80 then if_open a0 (Status a1) else Answer (error 38)))))))))
+    else (if call == 80 then if_open a0 (Status a1) else Answer (error 38))))))))))))
 
-asks_for : {call a0 a1 a2 : ℕ} {r : Request} → AsksBy call a0 a1 a2 r → r ≡ asked_for call a0 a1 a2
+asks_for : {call a0 a1 a2 a3 a4 : ℕ} {r : Request} → AsksBy call a0 a1 a2 a3 a4 r → r ≡ asked_for call a0 a1 a2 a3 a4
 unfolding asked_for
-asks_for {a0 = a0} {a1 = a1} {a2 = a2} (ToExit (inl c) is) = is ∙ (λ i. asked_for (sym c i) a0 a1 a2)
-asks_for {a0 = a0} {a1 = a1} {a2 = a2} (ToExit (inr c) is) = is ∙ (λ i. asked_for (sym c i) a0 a1 a2)
-asks_for {a1 = a1} {a2 = a2} (ToRead c d is) = is ∙ (λ i. asked_for (sym c i) (sym d i) a1 a2)
-asks_for {a1 = a1} {a2 = a2} (ToWriteOutput c d is) = is ∙ (λ i. asked_for (sym c i) (sym d i) a1 a2)
-asks_for {a1 = a1} {a2 = a2} (ToWriteErrors c d is) = is ∙ (λ i. asked_for (sym c i) (sym d i) a1 a2)
-asks_for {a0 = a0} {a1 = a1} {a2 = a2} (ToSetBreak c is) = is ∙ (λ i. asked_for (sym c i) a0 a1 a2)
-asks_for {a0 = a0} {a1 = a1} {a2 = a2} (ToGetNumber c is) = is ∙ (λ i. asked_for (sym c i) a0 a1 a2)
-asks_for {a0 = a0} {a1 = a1} {a2 = a2} (ToClose c fits is) =
-    is ∙ sym (is_open a0 (Answer 0) fits) ∙ (λ i. asked_for (sym c i) a0 a1 a2)
-asks_for {a0 = a0} {a1 = a1} {a2 = a2} (ToControl c fits is) =
-    is ∙ sym (is_open a0 (Answer (error 25)) fits) ∙ (λ i. asked_for (sym c i) a0 a1 a2)
-asks_for {a0 = a0} {a1 = a1} {a2 = a2} (ToSeek c fits is) =
-    is ∙ sym (is_open a0 (Answer (error 29)) fits) ∙ (λ i. asked_for (sym c i) a0 a1 a2)
-asks_for {a0 = a0} {a1 = a1} {a2 = a2} (ToGetStatus c fits is) =
-    is ∙ sym (is_open a0 (Status a1) fits) ∙ (λ i. asked_for (sym c i) a0 a1 a2)
-asks_for {a0 = a0} {a1 = a1} {a2 = a2} (OfNoFile (inl (inl c, past)) is) =
-    is ∙ sym (is_closed a0 (Answer (error 25)) past) ∙ (λ i. asked_for (sym c i) a0 a1 a2)
-asks_for {a0 = a0} {a1 = a1} {a2 = a2} (OfNoFile (inl (inr (inl c), past)) is) =
-    is ∙ sym (is_closed a0 (Answer 0) past) ∙ (λ i. asked_for (sym c i) a0 a1 a2)
-asks_for {a0 = a0} {a1 = a1} {a2 = a2} (OfNoFile (inl (inr (inr (inl c)), past)) is) =
-    is ∙ sym (is_closed a0 (Answer (error 29)) past) ∙ (λ i. asked_for (sym c i) a0 a1 a2)
-asks_for {a0 = a0} {a1 = a1} {a2 = a2} (OfNoFile (inl (inr (inr (inr c)), past)) is) =
-    is ∙ sym (is_closed a0 (Status a1) past) ∙ (λ i. asked_for (sym c i) a0 a1 a2)
-asks_for {a0 = a0} {a1 = a1} {a2 = a2} (OfNoFile (inr (inl read)) is) =
-    is ∙ sym (ap (λ n. asked_for n a0 a1 a2) read.0 ∙ rw (ne_eqb a0 0 read.1) refl)
-asks_for {a0 = a0} {a1 = a1} {a2 = a2} (OfNoFile (inr (inr write)) is) =
-    is ∙ sym (ap (λ n. asked_for n a0 a1 a2) write.0 ∙ rw (ne_eqb a0 1 write.1) (rw (ne_eqb a0 2 write.2) refl))
+asks_for {a0 = a0} {a1 = a1} {a2 = a2} {a3 = a3} {a4 = a4} (ToExit (inl c) is) =
+    is ∙ (λ i. asked_for (sym c i) a0 a1 a2 a3 a4)
+asks_for {a0 = a0} {a1 = a1} {a2 = a2} {a3 = a3} {a4 = a4} (ToExit (inr c) is) =
+    is ∙ (λ i. asked_for (sym c i) a0 a1 a2 a3 a4)
+asks_for {a0 = a0} {a1 = a1} {a2 = a2} {a3 = a3} {a4 = a4} (ToRead c d is) =
+    is ∙ (λ i. asked_for (sym c i) (sym d i) a1 a2 a3 a4)
+asks_for {a0 = a0} {a1 = a1} {a2 = a2} {a3 = a3} {a4 = a4} (ToWriteOutput c d is) =
+    is ∙ (λ i. asked_for (sym c i) (sym d i) a1 a2 a3 a4)
+asks_for {a0 = a0} {a1 = a1} {a2 = a2} {a3 = a3} {a4 = a4} (ToWriteErrors c d is) =
+    is ∙ (λ i. asked_for (sym c i) (sym d i) a1 a2 a3 a4)
+asks_for {a0 = a0} {a1 = a1} {a2 = a2} {a3 = a3} {a4 = a4} (ToWriteOutputPieces c d is) =
+    is ∙ (λ i. asked_for (sym c i) (sym d i) a1 a2 a3 a4)
+asks_for {a0 = a0} {a1 = a1} {a2 = a2} {a3 = a3} {a4 = a4} (ToWriteErrorPieces c d is) =
+    is ∙ (λ i. asked_for (sym c i) (sym d i) a1 a2 a3 a4)
+asks_for {a0 = a0} {a1 = a1} {a2 = a2} {a3 = a3} {a4 = a4} (ToSetBreak c is) =
+    is ∙ (λ i. asked_for (sym c i) a0 a1 a2 a3 a4)
+asks_for {a0 = a0} {a1 = a1} {a2 = a2} {a3 = a3} {a4 = a4} (ToGetNumber c is) =
+    is ∙ (λ i. asked_for (sym c i) a0 a1 a2 a3 a4)
+asks_for {a0 = a0} {a1 = a1} {a2 = a2} {a3 = a3} {a4 = a4} (ToClose c fits is) =
+    is ∙ sym (is_open a0 (Answer 0) fits) ∙ (λ i. asked_for (sym c i) a0 a1 a2 a3 a4)
+asks_for {a0 = a0} {a1 = a1} {a2 = a2} {a3 = a3} {a4 = a4} (ToControl c fits is) =
+    is ∙ sym (is_open a0 (Answer (error 25)) fits) ∙ (λ i. asked_for (sym c i) a0 a1 a2 a3 a4)
+asks_for {a0 = a0} {a1 = a1} {a2 = a2} {a3 = a3} {a4 = a4} (ToSeek c fits is) =
+    is ∙ sym (is_open a0 (Answer (error 29)) fits) ∙ (λ i. asked_for (sym c i) a0 a1 a2 a3 a4)
+asks_for {a0 = a0} {a1 = a1} {a2 = a2} {a3 = a3} {a4 = a4} (ToGetStatus c fits is) =
+    is ∙ sym (is_open a0 (Status a1) fits) ∙ (λ i. asked_for (sym c i) a0 a1 a2 a3 a4)
+asks_for {a0 = a0} {a1 = a1} {a2 = a2} {a3 = a3} {a4 = a4} (ToGetNamed c known is) =
+    is ∙ sym (are_there (named a0 a1 a2 a3) known) ∙ (λ i. asked_for (sym c i) a0 a1 a2 a3 a4)
+asks_for {a0 = a0} {a1 = a1} {a2 = a2} {a3 = a3} {a4 = a4} (ToGetExtended c known is) =
+    is ∙ sym (are_there (extended a0 a1 a2 a4) known) ∙ (λ i. asked_for (sym c i) a0 a1 a2 a3 a4)
+asks_for {a0 = a0} {a1 = a1} {a2 = a2} {a3 = a3} {a4 = a4} (OfNoFile (inl (inl c, past)) is) =
+    is ∙ sym (is_closed a0 (Answer (error 25)) past) ∙ (λ i. asked_for (sym c i) a0 a1 a2 a3 a4)
+asks_for {a0 = a0} {a1 = a1} {a2 = a2} {a3 = a3} {a4 = a4} (OfNoFile (inl (inr (inl c), past)) is) =
+    is ∙ sym (is_closed a0 (Answer 0) past) ∙ (λ i. asked_for (sym c i) a0 a1 a2 a3 a4)
+asks_for {a0 = a0} {a1 = a1} {a2 = a2} {a3 = a3} {a4 = a4} (OfNoFile (inl (inr (inr (inl c)), past)) is) =
+    is ∙ sym (is_closed a0 (Answer (error 29)) past) ∙ (λ i. asked_for (sym c i) a0 a1 a2 a3 a4)
+asks_for {a0 = a0} {a1 = a1} {a2 = a2} {a3 = a3} {a4 = a4} (OfNoFile (inl (inr (inr (inr c)), past)) is) =
+    is ∙ sym (is_closed a0 (Status a1) past) ∙ (λ i. asked_for (sym c i) a0 a1 a2 a3 a4)
+asks_for {a0 = a0} {a1 = a1} {a2 = a2} {a3 = a3} {a4 = a4} (OfNoFile (inr (inl read)) is) =
+    is ∙ sym (ap (λ n. asked_for n a0 a1 a2 a3 a4) read.0 ∙ rw (ne_eqb a0 0 read.1) refl)
+asks_for {a0 = a0} {a1 = a1} {a2 = a2} {a3 = a3} {a4 = a4} (OfNoFile (inr (inr (inl c, no_output, no_errors))) is) =
+    is ∙ sym (ap (λ n. asked_for n a0 a1 a2 a3 a4) c ∙ rw (ne_eqb a0 1 no_output) (rw (ne_eqb a0 2 no_errors) refl))
+asks_for {a0 = a0} {a1 = a1} {a2 = a2} {a3 = a3} {a4 = a4} (OfNoFile (inr (inr (inr c, no_output, no_errors))) is) =
+    is ∙ sym (ap (λ n. asked_for n a0 a1 a2 a3 a4) c ∙ rw (ne_eqb a0 1 no_output) (rw (ne_eqb a0 2 no_errors) refl))
+asks_for {a0 = a0} {a1 = a1} {a2 = a2} {a3 = a3} {a4 = a4} (OfNoFlags (inl named_so) is) =
+    is ∙ sym (are_not (named a0 a1 a2 a3) named_so.1) ∙ (λ i. asked_for (sym named_so.0 i) a0 a1 a2 a3 a4)
+asks_for {a0 = a0} {a1 = a1} {a2 = a2} {a3 = a3} {a4 = a4} (OfNoFlags (inr named_so) is) =
+    is ∙ sym (are_not (extended a0 a1 a2 a4) named_so.1) ∙ (λ i. asked_for (sym named_so.0 i) a0 a1 a2 a3 a4)
 asks_for {call = call} (OfNoCall none is) =
     is ∙ sym (rw (ne_eqb call 93 none.3) (rw (ne_eqb call 94 none.4) (rw (ne_eqb call 63 none.1)
-    (rw (ne_eqb call 64 none.2) (rw (ne_eqb call 214 none.5) (rw (ne_eqb call 172 none.9)
-    (rw (ne_eqb call 57 none.0) (rw (ne_eqb call 29 none.6) (rw (ne_eqb call 62 none.7)
-    (rw (ne_eqb call 80 none.8) refl))))))))))
+    (rw (ne_eqb call 64 none.2) (rw (ne_eqb call 66 none.10) (rw (ne_eqb call 214 none.5) (rw (ne_eqb call 172 none.9)
+    (rw (ne_eqb call 79 none.11) (rw (ne_eqb call 291 none.12) (rw (ne_eqb call 57 none.0) (rw (ne_eqb call 29 none.6)
+    (rw (ne_eqb call 62 none.7) (rw (ne_eqb call 80 none.8) refl)))))))))))))
 
 asks_one : (s : State) {r r' : Request} → Asks s r → Asks s r' → r ≡ r'
 asks_one s asks asks' = asks_for asks ∙ sym (asks_for asks')
@@ -318,6 +364,188 @@ module _ {writable : ℕ → Bool} {bytes : ByteMap} {a : ℕ} {whole : List ℕ
     accesses = made ∙ sym made';
   }
 
+-- ---- what a path names
+
+module _ {writable : ℕ → Bool} {bytes : ByteMap} {lookup : Lookup} {a : ℕ} {whole : List ℕ} where
+  same_named : {new new' : ByteMap} {xs xs' : List Access} {answer answer' : ℕ}
+      → PutsNamed writable bytes new lookup a whole xs answer → PutsNamed writable bytes new' lookup a whole xs' answer'
+      → SameReads whole whole new new' answer answer' xs xs'
+  same_named (IsNamed put none puts made) (IsNamed put' none' puts' made') =
+      let same = same_put puts puts' in
+      record {
+        inputs = refl;
+        memories = same.memories;
+        answers = same.answers;
+        accesses = made ∙ (λ i. Access.Read lookup.path Byte (bytes lookup.path) ∷ same.accesses i) ∙ sym made';
+      }
+  same_named (IsNamed put none puts made) (HasFailed fails kept made') = absurd (none-some _ (sym none ∙ fails))
+  same_named (HasFailed fails kept made) (IsNamed put none puts made') = absurd (none-some _ (sym none ∙ fails))
+  same_named (HasFailed fails kept made) (HasFailed fails' kept' made') = record {
+    inputs = refl;
+    memories = λ x. ap (λ f. f x) (kept ∙ sym kept');
+    answers = same_Some _ _ (sym fails ∙ fails');
+    accesses = made ∙ sym made';
+  }
+
+-- ---- pieces
+
+module _ (bytes : ByteMap) where
+  same_pieces : (n a done : ℕ) {answer answer' : ℕ} (old old' new new' : Vec ℕ Global) {xs xs' : List Access}
+      → AlikeRecords old old' → WritesPieces TakesOutput bytes a n done old new answer xs
+      → WritesPieces TakesOutput bytes a n done old' new' answer' xs' → SameWrites new new' answer answer' xs xs'
+  same_pieces zero a done old old' new new' alike w w' = record {
+    records = (
+      ap (λ v. v.items) w.0 ∙ alike.0 ∙ sym (ap (λ v. v.items) w'.0),
+      ap vec_capacity w.0 ∙ alike.1 ∙ sym (ap vec_capacity w'.0),
+    );
+    answers = w.1 ∙ sym w'.1;
+    accesses = w.2 ∙ sym w'.2;
+  }
+  same_pieces (suc n) a done {answer = answer} {answer' = answer'} old old' new new' {xs = xs} {xs' = xs'} alike w w' =
+      let base : w.0 ≡ w'.0 = same_Some _ _ (sym w.7.base_there ∙ w'.7.base_there) in
+      let size : w.1 ≡ w'.1 = same_Some _ _ (sym w.7.size_there ∙ w'.7.size_there) in
+      let wanted : w.2 ≡ w'.2 = w.8 ∙ ap (λ k. min k (most_bytes - done)) size ∙ sym w'.8 in
+      let took' : TakesOutput bytes w.0 w.2 old' w'.4 w'.3 w'.5 =
+      subst (λ b. TakesOutput bytes b w.2 old' w'.4 w'.3 w'.5) (sym base)
+      (subst (λ k. TakesOutput bytes w'.0 k old' w'.4 w'.3 w'.5) (sym wanted) w'.9) in
+      let one = same_writes old old' w.4 w'.4 alike w.9 took' in
+      elim w.10 as (λ _. SameWrites new new' answer answer' xs xs') [
+        | inl whole ↦ elim w'.10 as (λ _. SameWrites new new' answer answer' xs xs') [
+          | inl whole' ↦
+              let later = same_pieces n (a + 8) (done + w.2) w.4 w'.4 new new' one.records whole.1
+              (subst (λ k. WritesPieces TakesOutput bytes (a + 8) n (done + k) w'.4 new' answer' w'.6) (sym wanted)
+              whole'.1) in
+              record {
+                records = later.records;
+                answers = later.answers;
+                accesses = w.11 ∙ (λ i. one.accesses i ++ later.accesses i) ∙ sym w'.11;
+              }
+          | inr short' ↦ absurd (short'.0 (sym one.answers ∙ whole.0 ∙ wanted))
+        ]
+        | inr short ↦ elim w'.10 as (λ _. SameWrites new new' answer answer' xs xs') [
+          | inl whole' ↦ absurd (short.0 (one.answers ∙ whole'.0 ∙ sym wanted))
+          | inr short' ↦ record {
+            records = (
+              ap (λ v. v.items) short.1 ∙ one.records.0 ∙ sym (ap (λ v. v.items) short'.1),
+              ap vec_capacity short.1 ∙ one.records.1 ∙ sym (ap vec_capacity short'.1),
+            );
+            answers = short.2 ∙ (λ i. together done (wanted i) (one.answers i)) ∙ sym short'.2;
+            accesses = w.11 ∙ (λ i. one.accesses i ++ short.3 i) ∙ (λ i. w'.5 ++ sym short'.3 i) ∙ sym w'.11;
+          }
+        ]
+      ]
+
+-- neither of two vectors ends sooner
+no_sooner_unmapped : (bytes : ByteMap) (a : ℕ) (v v' : List ℕ) → Stands bytes a v' → bytes (a + length v) ≡ None
+    → length v' ≤ length v
+no_sooner_unmapped bytes a v v' stands unmapped =
+    elim (cases_lt (length v) (length v')) as (λ _. length v' ≤ length v) [
+      | inl less ↦ absurd (none-some _ (sym unmapped ∙ stands (length v) less))
+      | inr least ↦ least
+    ]
+
+-- records that are left as they were
+left_alike : {old old' new new' : Vec ℕ Global} → AlikeRecords old old' → new ≡ old → new' ≡ old'
+    → AlikeRecords new new'
+left_alike alike same same' = (
+  ap (λ v. v.items) same ∙ alike.0 ∙ sym (ap (λ v. v.items) same'),
+  ap vec_capacity same ∙ alike.1 ∙ sym (ap vec_capacity same'),
+)
+
+module _ {bytes : ByteMap} {a count : ℕ} where
+  same_vectors : {answer answer' : ℕ} (old old' new new' : Vec ℕ Global) {xs xs' : List Access}
+      → AlikeRecords old old' → WritesVector TakesOutput bytes a count old new answer xs
+      → WritesVector TakesOutput bytes a count old' new' answer' xs' → SameWrites new new' answer answer' xs xs'
+  same_vectors old old' new new' alike (IsWritten v more low fits stands long none w made)
+      (IsWritten v' more' low' fits' stands' long' none' w' made') =
+      let one = same_pieces bytes count a 0 old old' new new' alike w w' in
+      record {
+        records = one.records;
+        answers = one.answers;
+        accesses = made ∙ ap (λ l. byte_reads bytes a (8 * count) ++ l) one.accesses ∙ sym made';
+      }
+  same_vectors old old' new new' alike (IsWritten v more low fits stands long none w made)
+      (IsNegative v' low' fits' stands' long' some' same' is' made') =
+      let less = none some'.index some'.size some'.within some'.size_there in
+      let more = some'.negative in absurd (omega (arith, less, more))
+  same_vectors old old' new new' alike (IsWritten v more low fits stands long none w made)
+      (Vectors.IsUnmapped v' low' fits' stands' short' unmapped' same' is' made') =
+      absurd (none-some _ (sym unmapped' ∙ stands (length v') (omega (arith, short', long))))
+  same_vectors old old' new new' alike (IsWritten v more low fits stands long none w made)
+      (Vectors.PassesEnd low' past' same' is' made') =
+      absurd (omega (arith, fits, past'))
+  same_vectors old old' new new' alike (IsWritten v more low fits stands long none w made)
+      (IsTooLong many' same' is' made') =
+      absurd (omega (arith, low, many'))
+  same_vectors old old' new new' alike (IsNegative v low fits stands long some same is made)
+      (IsWritten v' more' low' fits' stands' long' none' w' made') =
+      let less = none' some.index some.size some.within some.size_there in
+      let more = some.negative in absurd (omega (arith, less, more))
+  same_vectors old old' new new' alike (IsNegative v low fits stands long some same is made)
+      (IsNegative v' low' fits' stands' long' some' same' is' made') =
+      record { records = left_alike alike same same'; answers = is ∙ sym is'; accesses = made ∙ sym made' }
+  same_vectors old old' new new' alike (IsNegative v low fits stands long some same is made)
+      (Vectors.IsUnmapped v' low' fits' stands' short' unmapped' same' is' made') =
+      absurd (none-some _ (sym unmapped' ∙ stands (length v') (omega (arith, short', long))))
+  same_vectors old old' new new' alike (IsNegative v low fits stands long some same is made)
+      (Vectors.PassesEnd low' past' same' is' made') =
+      absurd (omega (arith, fits, past'))
+  same_vectors old old' new new' alike (IsNegative v low fits stands long some same is made)
+      (IsTooLong many' same' is' made') =
+      absurd (omega (arith, low, many'))
+  same_vectors old old' new new' alike (Vectors.IsUnmapped v low fits stands short unmapped same is made)
+      (IsWritten v' more' low' fits' stands' long' none' w' made') =
+      absurd (none-some _ (sym unmapped ∙ stands' (length v) (omega (arith, short, long'))))
+  same_vectors old old' new new' alike (Vectors.IsUnmapped v low fits stands short unmapped same is made)
+      (IsNegative v' low' fits' stands' long' some' same' is' made') =
+      absurd (none-some _ (sym unmapped ∙ stands' (length v) (omega (arith, short, long'))))
+  same_vectors old old' new new' alike (Vectors.IsUnmapped v low fits stands short unmapped same is made)
+      (Vectors.IsUnmapped v' low' fits' stands' short' unmapped' same' is' made') =
+      let longer : length v' ≤ length v = no_sooner_unmapped bytes a v v' stands' unmapped in
+      let shorter : length v ≤ length v' = no_sooner_unmapped bytes a v' v stands unmapped' in
+      let one : length v ≡ length v' = omega (arith, longer, shorter) in
+      record {
+        records = left_alike alike same same';
+        answers = is ∙ sym is';
+        accesses = made ∙ ap (λ n. byte_reads bytes a (n + 1)) one ∙ sym made';
+      }
+  same_vectors old old' new new' alike (Vectors.IsUnmapped v low fits stands short unmapped same is made)
+      (Vectors.PassesEnd low' past' same' is' made') =
+      absurd (omega (arith, fits, past'))
+  same_vectors old old' new new' alike (Vectors.IsUnmapped v low fits stands short unmapped same is made)
+      (IsTooLong many' same' is' made') =
+      absurd (omega (arith, low, many'))
+  same_vectors old old' new new' alike (Vectors.PassesEnd low past same is made)
+      (IsWritten v' more' low' fits' stands' long' none' w' made') =
+      absurd (omega (arith, past, fits'))
+  same_vectors old old' new new' alike (Vectors.PassesEnd low past same is made)
+      (IsNegative v' low' fits' stands' long' some' same' is' made') =
+      absurd (omega (arith, past, fits'))
+  same_vectors old old' new new' alike (Vectors.PassesEnd low past same is made)
+      (Vectors.IsUnmapped v' low' fits' stands' short' unmapped' same' is' made') =
+      absurd (omega (arith, past, fits'))
+  same_vectors old old' new new' alike (Vectors.PassesEnd low past same is made)
+      (Vectors.PassesEnd low' past' same' is' made') =
+      record { records = left_alike alike same same'; answers = is ∙ sym is'; accesses = made ∙ sym made' }
+  same_vectors old old' new new' alike (Vectors.PassesEnd low past same is made)
+      (IsTooLong many' same' is' made') =
+      absurd (omega (arith, low, many'))
+  same_vectors old old' new new' alike (IsTooLong many same is made)
+      (IsWritten v' more' low' fits' stands' long' none' w' made') =
+      absurd (omega (arith, many, low'))
+  same_vectors old old' new new' alike (IsTooLong many same is made)
+      (IsNegative v' low' fits' stands' long' some' same' is' made') =
+      absurd (omega (arith, many, low'))
+  same_vectors old old' new new' alike (IsTooLong many same is made)
+      (Vectors.IsUnmapped v' low' fits' stands' short' unmapped' same' is' made') =
+      absurd (omega (arith, many, low'))
+  same_vectors old old' new new' alike (IsTooLong many same is made)
+      (Vectors.PassesEnd low' past' same' is' made') =
+      absurd (omega (arith, many, low'))
+  same_vectors old old' new new' alike (IsTooLong many same is made)
+      (IsTooLong many' same' is' made') =
+      record { records = left_alike alike same same'; answers = is ∙ sym is'; accesses = made ∙ sym made' }
+
 -- ---- a call
 
 -- what a call leaves
@@ -349,6 +577,24 @@ does_one (Answer answer) s alike did did' = record {
 }
 does_one (Status a) s alike did did' =
     let same = same_put did.4 did'.4 in
+    let bytes : did.2 ≡ did'.2 = λ i x. same.memories x i in
+    record {
+      environments = alike_after did.1 did'.1 alike;
+      states = did.5 ∙ (λ i. answered (record s { bytes = bytes i }) (same.answers i)) ∙ sym did'.5;
+      accesses = same.accesses;
+      ends = did.0 ∙ sym did'.0;
+    }
+does_one (NamedStatus lookup a) s alike did did' =
+    let same = same_named did.4 did'.4 in
+    let bytes : did.2 ≡ did'.2 = λ i x. same.memories x i in
+    record {
+      environments = alike_after did.1 did'.1 alike;
+      states = did.5 ∙ (λ i. answered (record s { bytes = bytes i }) (same.answers i)) ∙ sym did'.5;
+      accesses = same.accesses;
+      ends = did.0 ∙ sym did'.0;
+    }
+does_one (ExtendedStatus lookup a) s alike did did' =
+    let same = same_named did.4 did'.4 in
     let bytes : did.2 ≡ did'.2 = λ i x. same.memories x i in
     record {
       environments = alike_after did.1 did'.1 alike;
@@ -401,6 +647,34 @@ does_one (WriteOutput a count) s {e = e} {e' = e'} alike did did' =
     }
 does_one (WriteErrors a count) s {e = e} {e' = e'} alike did did' =
     let same = same_writes e.errors e'.errors did.0 did'.0 alike.error_outputs did.2 did'.2 in
+    record {
+      environments = alike_after did.3 did'.3 record {
+        inputs = alike.inputs;
+        outputs = alike.outputs;
+        error_outputs = same.records;
+        heap = alike.heap;
+        held = alike.held;
+      };
+      states = did.4 ∙ ap (answered s) same.answers ∙ sym did'.4;
+      accesses = same.accesses;
+      ends = did.5 ∙ ap ended_by same.answers ∙ sym did'.5;
+    }
+does_one (WriteOutputPieces a count) s {e = e} {e' = e'} alike did did' =
+    let same = same_vectors e.output e'.output did.0 did'.0 alike.outputs did.2 did'.2 in
+    record {
+      environments = alike_after did.3 did'.3 record {
+        inputs = alike.inputs;
+        outputs = same.records;
+        error_outputs = alike.error_outputs;
+        heap = alike.heap;
+        held = alike.held;
+      };
+      states = did.4 ∙ ap (answered s) same.answers ∙ sym did'.4;
+      accesses = same.accesses;
+      ends = did.5 ∙ ap ended_by same.answers ∙ sym did'.5;
+    }
+does_one (WriteErrorPieces a count) s {e = e} {e' = e'} alike did did' =
+    let same = same_vectors e.errors e'.errors did.0 did'.0 alike.error_outputs did.2 did'.2 in
     record {
       environments = alike_after did.3 did'.3 record {
         inputs = alike.inputs;

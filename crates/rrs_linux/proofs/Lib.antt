@@ -1,4 +1,5 @@
 pub mod Determined
 pub mod KnownStreams
 pub mod Placed
+pub mod Vectored
 pub mod Written

@@ -19,7 +19,7 @@ first_place None = refl
 first_place (Some x) = ap Some (omega arith)
 
 -- a read of a byte gives the byte
-byte_read : (bytes mid : ByteMap) (a : ℕ) (answer : Option ℕ) → mid ≡ bytes → answer ≡ little_endian mid a 1
+pub byte_read : (bytes mid : ByteMap) (a : ℕ) (answer : Option ℕ) → mid ≡ bytes → answer ≡ little_endian mid a 1
     → answer ≡ bytes a
 byte_read bytes mid a answer kept value =
     let here : a + 0 ≡ a = omega arith in

@@ -4,5 +4,6 @@ pub mod Requests
 pub mod BufferedBytes
 pub mod Transfers
 pub mod Statuses
+pub mod Vectors
 pub mod SystemCalls
 pub mod Recording

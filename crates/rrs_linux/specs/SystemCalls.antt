@@ -8,11 +8,12 @@ use Rattle.rrs_linux.specs.declared.Process.{Process}
 use Rattle.rrs_linux.specs.declared.host_writer.HostWriter.{HostWriter}
 use Rattle.rrs_linux.specs.declared.input_buffer.InputBuffer.{InputBuffer}
 use Rattle.rrs_linux.specs.declared.requests.Request.{Request}
-use Rattle.rrs_linux.specs.declared.requests.Request.TheVariants.{Exit, Answer, Status, SetBreak, Read, WriteOutput, WriteErrors}
+use Rattle.rrs_linux.specs.declared.requests.Request.TheVariants.{Exit, Answer, Status, NamedStatus, ExtendedStatus, SetBreak, Read, WriteOutput, WriteErrors, WriteOutputPieces, WriteErrorPieces}
 use Rattle.rrs_linux.specs.Requests.{Asks, error}
 use Rattle.rrs_linux.specs.BufferedBytes.{buffered_bytes}
-use Rattle.rrs_linux.specs.Statuses.{PutsBytes, stream_status}
+use Rattle.rrs_linux.specs.Statuses.{PutsBytes, PutsNamed, stream_status, extended_status}
 use Rattle.rrs_linux.specs.Transfers.{Gives, Takes, WritesText, ReadsText}
+use Rattle.rrs_linux.specs.Vectors.{WritesVector}
 
 -- the break at an address, if it may lie there, and else as it was (brk(2), as the kernel answers)
 abbrev pub moved : Heap → ℕ → Heap
@@ -53,6 +54,14 @@ module _ {R W E K : Type 0} (gives : Gives R K) (takes : Takes W) (takes_errors 
       (end ≡ None) × (new ≡ old) × (bytes : ByteMap) × (answer : ℕ)
       × PutsBytes s.writable s.bytes bytes a stream_status accesses answer
       × (t ≡ answered (record s { bytes = bytes }) answer)
+  Does (NamedStatus lookup a) old s new t accesses end =
+      (end ≡ None) × (new ≡ old) × (bytes : ByteMap) × (answer : ℕ)
+      × PutsNamed s.writable s.bytes bytes lookup a stream_status accesses answer
+      × (t ≡ answered (record s { bytes = bytes }) answer)
+  Does (ExtendedStatus lookup a) old s new t accesses end =
+      (end ≡ None) × (new ≡ old) × (bytes : ByteMap) × (answer : ℕ)
+      × PutsNamed s.writable s.bytes bytes lookup a extended_status accesses answer
+      × (t ≡ answered (record s { bytes = bytes }) answer)
   Does (SetBreak address) old s new t accesses end =
       (end ≡ None) × (new ≡ record old { heap = moved old.heap address })
       × (t ≡ answered s (moved old.heap address).top) × (accesses ≡ [])
@@ -66,6 +75,14 @@ module _ {R W E K : Type 0} (gives : Gives R K) (takes : Takes W) (takes_errors 
       × (new ≡ record old { output = output }) × (t ≡ answered s answer) × (end ≡ ended_by answer)
   Does (WriteErrors a count) old s new t accesses end =
       (errors : E) × (answer : ℕ) × takes_errors s.bytes a count old.errors errors answer accesses
+      × (new ≡ record old { errors = errors }) × (t ≡ answered s answer) × (end ≡ ended_by answer)
+  Does (WriteOutputPieces a count) old s new t accesses end =
+      (output : W) × (answer : ℕ)
+      × WritesVector takes s.bytes a count old.output output answer accesses
+      × (new ≡ record old { output = output }) × (t ≡ answered s answer) × (end ≡ ended_by answer)
+  Does (WriteErrorPieces a count) old s new t accesses end =
+      (errors : E) × (answer : ℕ)
+      × WritesVector takes_errors s.bytes a count old.errors errors answer accesses
       × (new ≡ record old { errors = errors }) × (t ≡ answered s answer) × (end ≡ ended_by answer)
 
   -- What a call does: it asks for something, and that is done.

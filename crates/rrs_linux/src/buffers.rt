@@ -4,7 +4,7 @@ ghost use Rattle.std.specs.Prelude.{◌≡◌, ◌≤◌, ◌<◌, ◌+◌, ◌^
 ghost use Rattle.rrs_lib.specs.AccessLists.{Makes};
 ghost use Rattle.rrs_env.specs.Serving.{MakesSome};
 ghost use Rattle.rrs_linux.specs.Recording.{GivesText};
-ghost use Rattle.rrs_linux.specs.Statuses.{PutsBytes, stream_status};
+ghost use Rattle.rrs_linux.specs.Statuses.{PutsBytes};
 ghost use Rattle.rrs_linux.specs.Transfers.{Stands, byte_reads, counted, most_bytes};
 
 use rrs_lib::{MemAccessSize, Memory};
@@ -13,23 +13,14 @@ use rrs_lib::{MemAccessSize, Memory};
 pub const CHUNK: usize = 256;
 
 /// The most bytes that one call reads or writes, as on Linux.
-const MOST_BYTES: u32 = 0x7fff_f000;
-
-/// How many bytes the status of a stream has, as `struct stat64` has them.
-const STATUS_BYTES: u32 = 104;
-
-/// The status of a stream: a pipe that its owner may read and write, one link, blocks of 4,096
-/// bytes.
-const STATUS: [u8; STATUS_BYTES as usize] = [
-    0, 0, 0, 0, 0, 0, 0, 0, 0, 0, 0, 0, 0, 0, 0, 0, 0x80, 0x11, 0, 0, 1, 0, 0, 0, 0, 0, 0, 0, 0, 0,
-    0, 0, 0, 0, 0, 0, 0, 0, 0, 0, 0, 0, 0, 0, 0, 0, 0, 0, 0, 0, 0, 0, 0, 0, 0, 0, 0, 0x10, 0, 0, 0,
-    0, 0, 0, 0, 0, 0, 0, 0, 0, 0, 0, 0, 0, 0, 0, 0, 0, 0, 0, 0, 0, 0, 0, 0, 0, 0, 0, 0, 0, 0, 0, 0,
-    0, 0, 0, 0, 0, 0, 0, 0, 0, 0, 0,
-];
+pub const MOST_BYTES: u32 = 0x7fff_f000;
 
 /// The answer where a buffer's first byte can't be accessed, or the buffer passes the last address:
 /// -14, `EFAULT`.
 pub const BAD_ADDRESS: u32 = 0xffff_fff2;
+
+/// The answer where an argument is none that the call takes: -22, `EINVAL`.
+pub const BAD_ARGUMENT: u32 = 0xffff_ffea;
 
 /// How many bytes of a buffer may be transferred, or `None` where it passes the last address.
 pub fn most_of(address: u32, count: u32) -> Option<u32>
@@ -50,13 +41,8 @@ pub fn answer_of(done: u32, error: u32) -> u32
 }
 
 /// Copies bytes of the memory from an address on, up to the first that is not mapped.
-pub fn copy_chunk<M: Memory>(
-    memory: &mut M,
-    address: u32,
-    wanted: u32,
-    chunk: &mut [u8; CHUNK],
-) -> u32
-    requires room { wanted ≤ 256 }
+pub fn copy_chunk<M: Memory>(memory: &mut M, address: u32, wanted: u32, chunk: &mut [u8]) -> u32
+    requires room { wanted ≤ length chunk.old }
     requires in_range { address + wanted ≤ 2 ^ 32 }
     ensures stands { Stands (M.bytes memory.old) address (take result chunk.new) }
     ensures within { result ≤ wanted }
@@ -101,17 +87,19 @@ pub fn give_bytes<M: Memory>(input: &[u8], memory: &mut M, address: u32, count: 
     (most as usize, most)
 }
 
-/// Puts the status of a stream into memory, and gives the answer of the call.
-pub fn put_status<M: Memory>(memory: &mut M, address: u32) -> u32
+/// Puts the bytes of a structure into memory, and gives the answer of the call.
+pub fn put_bytes<M: Memory>(structure: &[u8], memory: &mut M, address: u32) -> u32
+    requires some { 0 < length structure.now }
+    requires small { length structure.now ≤ most_bytes }
     ensures put { MakesSome M.reads M.writes
         (λ accesses. PutsBytes (M.writable memory.old) (M.bytes memory.old) (M.bytes memory.new)
-        address stream_status accesses result)
+        address structure.now accesses result)
         memory.old memory.new }
     ensures writable_kept { M.writable memory.new ≡ M.writable memory.old }
     ensures layout_kept { M.layout memory.new ≡ M.layout memory.old }
 {
-    let (given, _answer) = give_bytes(&STATUS, memory, address, STATUS_BYTES);
-    if given == STATUS.len() {
+    let (given, _answer) = give_bytes(structure, memory, address, structure.len() as u32);
+    if given == structure.len() {
         0
     } else {
         BAD_ADDRESS

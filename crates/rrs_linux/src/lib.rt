@@ -13,8 +13,10 @@ mod buffers;
 mod host;
 mod host_writer;
 mod input_buffer;
+mod pieces;
 mod recorder;
 mod requests;
+mod statuses;
 mod streams;
 
 ghost use Rattle.std.specs.Prelude.{◌≡◌, ℕ, Bool, Option, None, slice_index, []};
@@ -22,9 +24,10 @@ ghost use Rattle.rrs_lib.specs.Machine.{state_of};
 ghost use Rattle.rrs_linux.specs.BufferedBytes.{buffered_bytes};
 ghost use Rattle.rrs_linux.specs.SystemCalls.{ServesBy, AreAlike, moved, answered, ended_by};
 
-use crate::buffers::put_status;
 use crate::host::NOBODY_READS;
+use crate::pieces::write_pieces;
 use crate::requests::system_call_of;
+use crate::statuses::{put_extended_status, put_named_status, put_status};
 pub use host_writer::HostWriter;
 pub use input_buffer::InputBuffer;
 pub use recorder::{Known, OutputRecorder, records_determined};
@@ -32,6 +35,7 @@ pub use requests::Request;
 use rrs_env::Environment;
 use rrs_lib::instruction_executor::InstructionExecutor;
 use rrs_lib::{HartState, Memory};
+pub use statuses::Lookup;
 pub use streams::{Input, Output};
 
 /// The status of a program that writes what nobody reads: 128 and the number of `SIGPIPE`.
@@ -116,13 +120,21 @@ impl<R: Input<K>, W: Output, E: Output, K> Environment for Process<R, W, E, K> {
 
     ghost alike = { AreAlike R.alike W.alike E.alike };
 
-    /// Serves a system call: the number is in a7, the arguments in a0 to a2, the answer in a0.
+    /// Serves a system call: the number is in a7, the arguments in a0 to a4, the answer in a0.
     fn serve<M: Memory>(&mut self, executor: &mut InstructionExecutor<M>) -> Option<u32> {
         match system_call_of(executor.hart_state) {
             Request::Exit(status) => Some(status),
             Request::Answer(answer) => go_on(executor.hart_state, answer),
             Request::Status(address) => {
                 let answer = put_status(executor.mem, address);
+                go_on(executor.hart_state, answer)
+            }
+            Request::NamedStatus(lookup, address) => {
+                let answer = put_named_status(executor.mem, lookup, address);
+                go_on(executor.hart_state, answer)
+            }
+            Request::ExtendedStatus(lookup, address) => {
+                let answer = put_extended_status(executor.mem, lookup, address);
                 go_on(executor.hart_state, answer)
             }
             Request::SetBreak(address) => {
@@ -141,6 +153,14 @@ impl<R: Input<K>, W: Output, E: Output, K> Environment for Process<R, W, E, K> {
             }
             Request::WriteErrors(address, count) => {
                 let answer = self.errors.write_from(executor.mem, address, count);
+                go_on_if_read(executor.hart_state, answer)
+            }
+            Request::WriteOutputPieces(address, count) => {
+                let answer = write_pieces(&mut self.output, executor.mem, address, count);
+                go_on_if_read(executor.hart_state, answer)
+            }
+            Request::WriteErrorPieces(address, count) => {
+                let answer = write_pieces(&mut self.errors, executor.mem, address, count);
                 go_on_if_read(executor.hart_state, answer)
             }
         }

@@ -2,8 +2,10 @@
 
 ghost use Rattle.std.specs.Prelude.{◌≡◌, ℕ, Bool, Option};
 ghost use Rattle.rrs_lib.specs.Machine.{state_of};
-ghost use Rattle.rrs_linux.specs.Requests.{Asks, AsksBy};
+ghost use Rattle.rrs_linux.specs.Requests.{Asks, AsksBy, are_flags, are_statx_flags};
 
+use crate::buffers::BAD_ARGUMENT;
+use crate::statuses::Lookup;
 use rrs_lib::HartState;
 
 /// `ioctl`.
@@ -16,6 +18,10 @@ const LSEEK: u32 = 62;
 const READ: u32 = 63;
 /// `write`.
 const WRITE: u32 = 64;
+/// `writev`.
+const WRITEV: u32 = 66;
+/// `newfstatat`.
+const NEWFSTATAT: u32 = 79;
 /// `fstat`.
 const FSTAT: u32 = 80;
 /// `exit`.
@@ -26,6 +32,8 @@ const EXIT_GROUP: u32 = 94;
 const GETPID: u32 = 172;
 /// `brk`.
 const BRK: u32 = 214;
+/// `statx`.
+const STATX: u32 = 291;
 
 /// The number of the process.
 const PROCESS_ID: u32 = 1;
@@ -39,6 +47,12 @@ const BAD_DESCRIPTOR: u32 = 0xffff_fff7;
 /// The answer to a call that there is not: -38, `ENOSYS`.
 const NO_SUCH_CALL: u32 = 0xffff_ffda;
 
+/// The flags that there are not for a path: all but `AT_SYMLINK_NOFOLLOW`, `AT_NO_AUTOMOUNT`,
+/// `AT_EMPTY_PATH` and the two of `AT_STATX_SYNC_TYPE`.
+const NO_FLAGS: u32 = 0xffff_86ff;
+/// The two flags of `AT_STATX_SYNC_TYPE`, of which a call has one at most.
+const SYNC_TYPE: u32 = 0x6000;
+
 /// What a call asks for.
 #[derive(Clone, Copy, Debug, PartialEq)]
 pub enum Request {
@@ -48,6 +62,10 @@ pub enum Request {
     Answer(u32),
     /// To put the status of an open stream at an address.
     Status(u32),
+    /// To put the status of what a path names at an address.
+    NamedStatus(Lookup, u32),
+    /// To put the status of what a path names at an address, as `statx` does.
+    ExtendedStatus(Lookup, u32),
     /// To move the break to an address.
     SetBreak(u32),
     /// To read from standard input, to an address, so many bytes at most.
@@ -56,6 +74,10 @@ pub enum Request {
     WriteOutput(u32, u32),
     /// To write to standard error, from an address, so many bytes at most.
     WriteErrors(u32, u32),
+    /// To write to standard output the pieces of a vector, which has an address and so many pieces.
+    WriteOutputPieces(u32, u32),
+    /// To write to standard error the pieces of a vector, which has an address and so many pieces.
+    WriteErrorPieces(u32, u32),
 }
 
 /// What the call of a hart at an `ecall` asks for.
@@ -67,12 +89,14 @@ pub fn system_call_of(hart: &HartState) -> Request
     let first = hart.read_register(10);
     let second = hart.read_register(11);
     let third = hart.read_register(12);
-    request_by(call, first, second, third)
+    let fourth = hart.read_register(13);
+    let fifth = hart.read_register(14);
+    request_by(call, first, second, third, fourth, fifth)
 }
 
 /// What a call with this number and these arguments asks for.
-fn request_by(call: u32, first: u32, second: u32, third: u32) -> Request
-    ensures { AsksBy call first second third result }
+fn request_by(call: u32, first: u32, second: u32, third: u32, fourth: u32, fifth: u32) -> Request
+    ensures { AsksBy call first second third fourth fifth result }
 {
     match call {
         EXIT | EXIT_GROUP => Request::Exit(first % 256),
@@ -85,7 +109,30 @@ fn request_by(call: u32, first: u32, second: u32, third: u32) -> Request
         READ if first == 0 => Request::Read(second, third),
         WRITE if first == 1 => Request::WriteOutput(second, third),
         WRITE if first == 2 => Request::WriteErrors(second, third),
-        CLOSE | FSTAT | IOCTL | LSEEK | READ | WRITE => Request::Answer(BAD_DESCRIPTOR),
+        WRITEV if first == 1 => Request::WriteOutputPieces(second, third),
+        WRITEV if first == 2 => Request::WriteErrorPieces(second, third),
+        CLOSE | FSTAT | IOCTL | LSEEK | READ | WRITE | WRITEV => Request::Answer(BAD_DESCRIPTOR),
+        NEWFSTATAT if are_flags(fourth) => {
+            Request::NamedStatus(Lookup::new(first, second, fourth), third)
+        }
+        STATX if are_statx_flags(third, fourth) => {
+            Request::ExtendedStatus(Lookup::new(first, second, third), fifth)
+        }
+        NEWFSTATAT | STATX => Request::Answer(BAD_ARGUMENT),
         _ => Request::Answer(NO_SUCH_CALL),
     }
+}
+
+/// Whether there are these flags of a path.
+fn are_flags(flags: u32) -> bool
+    ensures { result ≡ are_flags flags }
+{
+    flags & NO_FLAGS == 0
+}
+
+/// Whether `statx` takes these flags and this mask.
+fn are_statx_flags(flags: u32, mask: u32) -> bool
+    ensures { result ≡ are_statx_flags flags mask }
+{
+    are_flags(flags) && flags & SYNC_TYPE != SYNC_TYPE && mask < 1 << 31
 }

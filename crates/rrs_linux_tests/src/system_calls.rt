@@ -27,6 +27,20 @@ const FSTAT: u32 = 80;
 
 const GETPID: u32 = 172;
 
+/// The numbers of `writev`, `newfstatat` and `statx`.
+const WRITEV: u32 = 66;
+
+const NEWFSTATAT: u32 = 79;
+
+const STATX: u32 = 291;
+
+/// The answers -2, -20 and -22.
+const ENOENT: u32 = 0xffff_fffe;
+
+const ENOTDIR: u32 = 0xffff_ffec;
+
+const EINVAL: u32 = 0xffff_ffea;
+
 /// The answers -25 and -29.
 const ENOTTY: u32 = 0xffff_ffe7;
 
@@ -124,11 +138,26 @@ fn call<E: Environment>(
     mem: &mut VecMemory,
     request: Request,
 ) -> (Option<u32>, u32) {
+    call_of_five(
+        environment,
+        mem,
+        request.0,
+        [request.1, request.2, request.3, 0, 0],
+    )
+}
+
+/// Serves a call with its number and five arguments: how it ended, and what it answered.
+fn call_of_five<E: Environment>(
+    environment: &mut E,
+    mem: &mut VecMemory,
+    number: u32,
+    arguments: [u32; 5],
+) -> (Option<u32>, u32) {
     let mut hart = HartState::new();
-    hart.registers[17] = request.0;
-    hart.registers[10] = request.1;
-    hart.registers[11] = request.2;
-    hart.registers[12] = request.3;
+    hart.registers[17] = number;
+    for (index, argument) in arguments.iter().enumerate() {
+        hart.registers[10 + index] = *argument;
+    }
     let mut executor = InstructionExecutor {
         mem,
         hart_state: &mut hart,
@@ -182,6 +211,126 @@ fn a_stream_has_the_status_of_a_pipe(rt: HostRuntime) -> Result<(), Fail> {
     Ok(())
 }
 
+// The status of standard output as `statx` has it, 256 bytes: stx_mask is 0x7ff, stx_blksize at 4 is
+// 4096, stx_nlink at 16 is 1, stx_mode at 28 is a pipe with 0600, all other bytes are 0, and what is
+// behind them stays.
+#[test]
+fn a_stream_has_the_extended_status_of_a_pipe(rt: HostRuntime) -> Result<(), Fail> {
+    let mut memory = VecMemory::new(vec![in rt.alloc(); 0xffff_ff00; 67]?);
+    let mut linux = environment(rt.alloc(), &[], &[]);
+    let arguments = [1, 0, 0x1000, 0x7ff, 4];
+    let seen = call_of_five(&mut linux, &mut memory, STATX, arguments);
+    assert!(rt; seen == (None, 0));
+    for index in 0..67u32 {
+        let word = memory.read_mem(4 * index, MemAccessSize::Word);
+        let expected = match index {
+            0 | 65..=66 => 0xffff_ff00,
+            1 => 0x7ff,
+            2 => 4096,
+            5 => 1,
+            8 => 0o010_600,
+            _ => 0,
+        };
+        assert!(rt; word == Some(expected), "{index}");
+    }
+    Ok(())
+}
+
+/// Calls of `newfstatat` and `statx` with their arguments and their answers: the byte at 0 is 0,
+/// that at 47 is `/`, and that at 1 is another.
+static NAMED: [(u32, [u32; 5], u32); 24] = [
+    (NEWFSTATAT, [1, 0, 100, 0x1000, 0], 0),
+    (NEWFSTATAT, [2, 0, 100, 0x7900, 0], 0),
+    (NEWFSTATAT, [3, 0, 100, 0x1000, 0], EBADF),
+    (NEWFSTATAT, [0xffff_ff9c, 0, 100, 0x1000, 0], EBADF),
+    (NEWFSTATAT, [1, 0, 100, 0x6900, 0], ENOENT),
+    (NEWFSTATAT, [1, 300, 100, 0x1000, 0], EFAULT),
+    (NEWFSTATAT, [1, 47, 100, 0, 0], ENOENT),
+    (NEWFSTATAT, [3, 47, 100, 0x1000, 0], ENOENT),
+    (NEWFSTATAT, [0xffff_ff9c, 1, 100, 0, 0], ENOENT),
+    (NEWFSTATAT, [2, 1, 100, 0, 0], ENOTDIR),
+    (NEWFSTATAT, [3, 1, 100, 0, 0], EBADF),
+    (NEWFSTATAT, [1, 0, 100, 0x1200, 0], EINVAL),
+    (NEWFSTATAT, [1, 0, 100, 0x9000, 0], EINVAL),
+    (NEWFSTATAT, [1, 300, 100, 1, 0], EINVAL),
+    (NEWFSTATAT, [1, 0, 197, 0x1000, 0], EFAULT),
+    (NEWFSTATAT, [1, 0, 196, 0x1000, 0], 0),
+    (STATX, [0, 0, 0x1000, 0, 44], 0),
+    (STATX, [0, 0, 0x3000, 0x7fff_ffff, 44], 0),
+    (STATX, [0, 0, 0x5000, 0, 44], 0),
+    (STATX, [0, 0, 0x7000, 0, 44], EINVAL),
+    (STATX, [0, 0, 0x1000, 0x8000_0000, 44], EINVAL),
+    (STATX, [0, 0, 0x1400, 0, 44], EINVAL),
+    (STATX, [3, 0, 0x1000, 0, 44], EBADF),
+    (STATX, [0, 0, 0x1000, 0, 45], EFAULT),
+];
+
+// What a path names, and what there is not.
+#[test]
+fn paths_name_the_streams_alone(rt: HostRuntime) -> Result<(), Fail> {
+    let mut linux = environment(rt.alloc(), &[], &[]);
+    for &(number, arguments, answer) in &NAMED {
+        let mut memory = numbered(rt.alloc())?;
+        let seen = call_of_five(&mut linux, &mut memory, number, arguments);
+        assert!(rt; seen == (None, answer), "{number} {arguments:?}");
+    }
+    Ok(())
+}
+
+/// Calls of `writev` with a descriptor, the address and the count of a vector, each with the words
+/// at 200 to 223, its answer, and how much standard output and standard error hold after it.
+static PIECES: [([u32; 3], [u32; 6], u32, (usize, usize)); 17] = [
+    ([1, 200, 3], [0, 4, 4, 0, 4, 6], 10, (10, 0)),
+    ([1, 200, 2], [10, 5, 15, 2, 17, 9], 7, (17, 0)),
+    ([2, 200, 1], [30, 3, 0, 0, 0, 0], 3, (17, 3)),
+    ([2, 208, 2], [0, 9, 33, 1, 34, 1], 2, (17, 5)),
+    ([1, 200, 0], [17, 1, 18, 1, 19, 1], 0, (17, 5)),
+    ([1, 200, 3], [17, 3, 300, 1, 20, 1], 3, (20, 5)),
+    ([1, 200, 3], [300, 1, 20, 3, 23, 1], EFAULT, (20, 5)),
+    ([2, 200, 2], [35, 2, 299, 2, 0, 0], 3, (20, 8)),
+    ([1, 200, 2], [20, 2, 22, 0xffff_fff0, 0, 0], EINVAL, (20, 8)),
+    ([1, 200, 2], [20, 2, 22, 0x8000_0000, 0, 0], EINVAL, (20, 8)),
+    ([1, 200, 2], [20, 2, 0xffff_fff0, 17, 0, 0], 2, (22, 8)),
+    ([1, 200, 1025], [22, 2, 24, 2, 0, 0], EINVAL, (22, 8)),
+    ([1, 200, 13], [22, 2, 24, 2, 0, 0], EFAULT, (22, 8)),
+    ([1, 0xffff_fff8, 2], [22, 2, 24, 2, 0, 0], EFAULT, (22, 8)),
+    ([0, 200, 1], [22, 2, 24, 2, 0, 0], EBADF, (22, 8)),
+    ([3, 200, 1], [22, 2, 24, 2, 0, 0], EBADF, (22, 8)),
+    (
+        [1, 202, 1],
+        [0x0016_0000, 0x0002_0000, 0, 0, 0, 0],
+        2,
+        (24, 8),
+    ),
+];
+
+// Each call with its answer, and how much the streams hold after it. Each piece that is written
+// begins where the one before ended.
+#[test]
+fn pieces_are_written_in_order(rt: HostRuntime) -> Result<(), Fail> {
+    let mut linux = environment(rt.alloc(), &[], &[]);
+    for &(arguments, words, answer, written) in &PIECES {
+        let mut memory = numbered(rt.alloc())?;
+        for (index, word) in words.iter().enumerate() {
+            memory.write_mem(200 + 4 * index as u32, MemAccessSize::Word, *word);
+        }
+        let [fd, address, count] = arguments;
+        let seen = call(&mut linux, &mut memory, (WRITEV, fd, address, count));
+        let lengths = (
+            linux.output.stream.written.len(),
+            linux.errors.stream.written.len(),
+        );
+        assert!(rt;
+            seen == (None, answer) && lengths == written,
+            "{arguments:?} {words:?}"
+        );
+    }
+    let errors = [30, 31, 32, 33, 34, 35, 36, 43].as_slice();
+    let is_right = linux.errors.stream.written.as_slice() == errors;
+    assert!(rt; is_right && counts_from(&linux.output.stream.written, 0));
+    Ok(())
+}
+
 /// The number of a call, and three arguments.
 type Request = (u32, u32, u32, u32);
 
@@ -211,7 +360,7 @@ static CALLS: [(Request, Option<u32>, u32, (usize, usize)); 28] = [
     ((FSTAT, 3, 0, 0), None, EBADF, (300, 13)),
     ((FSTAT, 1, 300, 0), None, EFAULT, (300, 13)),
     ((FSTAT, 1, 0xffff_ff99, 0), None, EFAULT, (300, 13)),
-    ((79, 0, 0, 0), None, ENOSYS, (300, 13)),
+    ((NEWFSTATAT, 1, 0, 4), None, ENOENT, (300, 13)),
     ((169, 0, 0, 0), None, ENOSYS, (300, 13)),
     ((81, 0, 0, 0), None, ENOSYS, (300, 13)),
     ((93, 0x107, 0, 0), Some(7), 0x107, (300, 13)),
@@ -240,7 +389,7 @@ fn calls_answer(rt: HostRuntime) -> Result<(), Fail> {
 
 /// Calls of a recorder, each with how it ends, its answer, and what is left of the input and held
 /// of the output and of the errors after it.
-static RECORDED: [(Request, Option<u32>, u32, (usize, usize, usize)); 19] = [
+static RECORDED: [(Request, Option<u32>, u32, (usize, usize, usize)); 23] = [
     ((WRITE, 1, 0, 4), None, 4, (3, 4, 0)),
     ((WRITE, 1, 4, 10), None, 6, (3, 10, 0)),
     ((WRITE, 1, 10, 1), None, ENOSPC, (3, 10, 0)),
@@ -255,6 +404,10 @@ static RECORDED: [(Request, Option<u32>, u32, (usize, usize, usize)); 19] = [
     ((READ, 0, 102, 9), None, 1, (0, 10, 2)),
     ((READ, 0, 300, 9), None, 0, (0, 10, 2)),
     ((WRITE, 2, 100, 3), None, 3, (0, 10, 5)),
+    ((WRITEV, 2, 0, 0), None, 0, (0, 10, 5)),
+    ((WRITEV, 1, 296, 1), None, EFAULT, (0, 10, 5)),
+    ((NEWFSTATAT, 1, 48, 200), None, ENOTDIR, (0, 10, 5)),
+    ((STATX, 1, 300, 0), None, EFAULT, (0, 10, 5)),
     ((BRK, 96, 0, 0), None, 96, (0, 10, 5)),
     ((57, 3, 0, 0), None, EBADF, (0, 10, 5)),
     ((LSEEK, 2, 0, 0), None, ESPIPE, (0, 10, 5)),
@@ -359,6 +512,36 @@ fn a_program_ends_where_nobody_reads(rt: HostRuntime) -> Result<(), Fail> {
         );
     }
     assert!(rt; linux.output.is_broken() && linux.output.stream.written.len() == 260);
+    Ok(())
+}
+
+/// How four vectors of two pieces each are written, the first of two bytes and the second of four:
+/// how each call ends, and its answer. The output fails at the second piece, finds at the first that
+/// nobody reads, and then at the second.
+static UNREAD_PIECES: [(Option<u32>, u32); 4] = [
+    (None, 2),
+    (Some(141), EPIPE),
+    (None, 2),
+    (None, 6),
+];
+
+// No byte of a piece is lost or written twice, and a program ends as by SIGPIPE where nobody reads
+// its first piece.
+#[test]
+fn pieces_that_are_short_or_fail(rt: HostRuntime) -> Result<(), Fail> {
+    let turns = [Turn::Takes(9), FAILS, BREAKS, Turn::Takes(9), BREAKS];
+    let mut linux = environment(rt.alloc(), &[], &turns);
+    for &expected in &UNREAD_PIECES {
+        let mut memory = numbered(rt.alloc())?;
+        let done = linux.output.stream.written.len().min(10) as u32;
+        for (index, word) in [done, 2, done + 2, 4].iter().enumerate() {
+            memory.write_mem(200 + 4 * index as u32, MemAccessSize::Word, *word);
+        }
+        let seen = call(&mut linux, &mut memory, (WRITEV, 1, 200, 2));
+        assert!(rt; seen == expected, "after {done} bytes");
+    }
+    assert!(rt; linux.output.stream.written.len() == 10);
+    assert!(rt; counts_from(&linux.output.stream.written, 0));
     Ok(())
 }
 

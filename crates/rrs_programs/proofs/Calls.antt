@@ -19,7 +19,7 @@ use Rattle.rrs_linux.specs.declared.Process.{Process}
 use Rattle.rrs_linux.specs.declared.host_writer.HostWriter.{HostWriter}
 use Rattle.rrs_linux.specs.declared.requests.Request.{Request}
 use Rattle.rrs_linux.specs.declared.requests.Request.TheVariants.{Exit, Read, WriteOutput}
-use Rattle.rrs_linux.specs.Requests.{Asks, error, AsksBy, TakesEach, ToExit, ToRead, ToWriteOutput, ToWriteErrors, ToSetBreak, ToClose, ToControl, ToSeek, ToGetStatus, ToGetNumber, OfNoFile, OfNoCall}
+use Rattle.rrs_linux.specs.Requests.{Asks, error, AsksBy, TakesEach, ToExit, ToRead, ToWriteOutput, ToWriteErrors, ToSetBreak, ToClose, ToControl, ToSeek, ToGetStatus, ToGetNamed, ToGetExtended, ToWriteOutputPieces, ToWriteErrorPieces, ToGetNumber, OfNoFile, OfNoFlags, OfNoCall}
 use Rattle.rrs_linux.specs.SystemCalls.{Does, ServesBy, WritesOutput, ended_by}
 use Rattle.rrs_linux.specs.Transfers
 use Rattle.rrs_linux.specs.Transfers.{Gives, Takes, Stands, WriteEnds, counted, most_bytes}
@@ -47,23 +47,34 @@ none_of_each (inr (inl c)) = none_of (λ e. omega (arith, c)) (λ e f. omega (ar
 none_of_each (inr (inr (inl c))) = none_of (λ e. omega (arith, c)) (λ e f. omega (arith, c)) (λ e f. omega (arith, c))
 none_of_each (inr (inr (inr c))) = none_of (λ e. omega (arith, c)) (λ e f. omega (arith, c)) (λ e f. omega (arith, c))
 
-asked : {call a0 a1 a2 : ℕ} {request : Request} → AsksBy call a0 a1 a2 request → Asked call a0 a1 a2 request
+asked : {call a0 a1 a2 a3 a4 : ℕ} {request : Request} → AsksBy call a0 a1 a2 a3 a4 request
+    → Asked call a0 a1 a2 request
 asked (ToExit (inl c) is) = (λ e. is, λ e f. absurd (omega arith), λ e f. absurd (omega arith))
 asked (ToExit (inr c) is) = none_of (λ e. omega arith) (λ e f. omega arith) (λ e f. omega arith)
 asked (ToRead c d is) = (λ e. absurd (omega arith), λ e f. is, λ e f. absurd (omega arith))
 asked (ToWriteOutput c d is) = (λ e. absurd (omega arith), λ e f. absurd (omega arith), λ e f. is)
 asked (ToWriteErrors c d is) = none_of (λ e. omega arith) (λ e f. omega arith) (λ e f. omega arith)
+asked (ToWriteOutputPieces c d is) = none_of (λ e. omega arith) (λ e f. omega arith) (λ e f. omega arith)
+asked (ToWriteErrorPieces c d is) = none_of (λ e. omega arith) (λ e f. omega arith) (λ e f. omega arith)
 asked (ToSetBreak c is) = none_of (λ e. omega arith) (λ e f. omega arith) (λ e f. omega arith)
 asked (ToClose c d is) = none_of (λ e. omega arith) (λ e f. omega arith) (λ e f. omega arith)
 asked (ToControl c d is) = none_of (λ e. omega arith) (λ e f. omega arith) (λ e f. omega arith)
 asked (ToSeek c d is) = none_of (λ e. omega arith) (λ e f. omega arith) (λ e f. omega arith)
 asked (ToGetStatus c d is) = none_of (λ e. omega arith) (λ e f. omega arith) (λ e f. omega arith)
+asked (ToGetNamed c known is) = none_of (λ e. omega arith) (λ e f. omega arith) (λ e f. omega arith)
+asked (ToGetExtended c known is) = none_of (λ e. omega arith) (λ e f. omega arith) (λ e f. omega arith)
 asked (ToGetNumber c is) = none_of (λ e. omega arith) (λ e f. omega arith) (λ e f. omega arith)
 asked (OfNoFile (inl each) is) = none_of_each each.0
 asked (OfNoFile (inr (inl read)) is) =
     let c = read.0 in none_of (λ e. omega (arith, c)) (λ e f. read.1 f) (λ e f. omega (arith, c))
-asked (OfNoFile (inr (inr write)) is) =
-    let c = write.0 in none_of (λ e. omega (arith, c)) (λ e f. omega (arith, c)) (λ e f. write.1 f)
+asked (OfNoFile (inr (inr (inl c, no_output, no_errors))) is) =
+    none_of (λ e. omega (arith, c)) (λ e f. omega (arith, c)) (λ e f. no_output f)
+asked (OfNoFile (inr (inr (inr c, no_output, no_errors))) is) =
+    none_of (λ e. omega (arith, c)) (λ e f. omega (arith, c)) (λ e f. omega (arith, c))
+asked (OfNoFlags (inl flags) is) =
+    let c = flags.0 in none_of (λ e. omega (arith, c)) (λ e f. omega (arith, c)) (λ e f. omega (arith, c))
+asked (OfNoFlags (inr flags) is) =
+    let c = flags.0 in none_of (λ e. omega (arith, c)) (λ e f. omega (arith, c)) (λ e f. omega (arith, c))
 asked (OfNoCall none is) = none_of (λ e. none.3 e) (λ e f. none.1 e) (λ e f. none.2 e)
 
 -- ---- how a write ends the program

@@ -7,7 +7,7 @@ use Rattle.rrs_env.specs.Serving.{MakesSome}
 use Rattle.rrs_lib.specs.declared.HartState.{HartState}
 use Rattle.rrs_linux.specs.declared.Process.{Process}
 use Rattle.rrs_linux.specs.declared.requests.Request.{Request}
-use Rattle.rrs_linux.specs.declared.requests.Request.TheVariants.{Exit, Answer, Status, SetBreak, Read, WriteOutput, WriteErrors}
+use Rattle.rrs_linux.specs.declared.requests.Request.TheVariants.{Exit, Answer, Status, NamedStatus, ExtendedStatus, SetBreak, Read, WriteOutput, WriteErrors, WriteOutputPieces, WriteErrorPieces}
 use Rattle.rrs_linux.specs.Requests.{Asks}
 use Rattle.rrs_linux.specs.SystemCalls.{Does, ServesBy, answered}
 use Rattle.rrs_linux.specs.Transfers.{Gives, Takes}
@@ -84,3 +84,39 @@ returns-in-WriteErrors-clause-served g c =
     let kept = after c.args.executor.now.hart_state.now call.result did.bytes_kept did.writable_kept in
     served did.taken.accesses (WriteErrors c.in-WriteErrors.address c.in-WriteErrors.count) c.in-WriteErrors.ensures
     (call.new.self, call.result, did.taken.these, refl, went.answered _ _ ∙ kept, went.ends) did.taken.made
+
+pub returns-in-NamedStatus-clause-served : goal.returns-in-NamedStatus-clause-served
+returns-in-NamedStatus-clause-served g c =
+    let went = c.go_on-in-NamedStatus.ensures in
+    let call = c.put_named_status-answer in
+    let did = call.ensures.put in
+    let kept = after c.args.executor.now.hart_state.now call.result refl call.ensures.writable_kept in
+    served did.accesses (NamedStatus c.in-NamedStatus.lookup c.in-NamedStatus.address) c.in-NamedStatus.ensures
+    (went.goes_on, refl, _, call.result, did.these, went.answered _ _ ∙ kept) did.made
+
+pub returns-in-ExtendedStatus-clause-served : goal.returns-in-ExtendedStatus-clause-served
+returns-in-ExtendedStatus-clause-served g c =
+    let went = c.go_on-in-ExtendedStatus.ensures in
+    let call = c.put_extended_status-answer in
+    let did = call.ensures.put in
+    let kept = after c.args.executor.now.hart_state.now call.result refl call.ensures.writable_kept in
+    served did.accesses (ExtendedStatus c.in-ExtendedStatus.lookup c.in-ExtendedStatus.address) c.in-ExtendedStatus.ensures
+    (went.goes_on, refl, _, call.result, did.these, went.answered _ _ ∙ kept) did.made
+
+pub returns-in-WriteOutputPieces-clause-served : goal.returns-in-WriteOutputPieces-clause-served
+returns-in-WriteOutputPieces-clause-served g c =
+    let went = c.go_on_if_read-in-WriteOutputPieces.ensures in
+    let call = c.write_pieces-answer in
+    let did = call.ensures in
+    let kept = after c.args.executor.now.hart_state.now call.result did.bytes_kept did.writable_kept in
+    served did.taken.accesses (WriteOutputPieces c.in-WriteOutputPieces.address c.in-WriteOutputPieces.count) c.in-WriteOutputPieces.ensures
+    (call.new.out, call.result, did.taken.these, refl, went.answered _ _ ∙ kept, went.ends) did.taken.made
+
+pub returns-in-WriteErrorPieces-clause-served : goal.returns-in-WriteErrorPieces-clause-served
+returns-in-WriteErrorPieces-clause-served g c =
+    let went = c.go_on_if_read-in-WriteErrorPieces.ensures in
+    let call = c.write_pieces-answer-in-WriteErrorPieces in
+    let did = call.ensures in
+    let kept = after c.args.executor.now.hart_state.now call.result did.bytes_kept did.writable_kept in
+    served did.taken.accesses (WriteErrorPieces c.in-WriteErrorPieces.address c.in-WriteErrorPieces.count) c.in-WriteErrorPieces.ensures
+    (call.new.out, call.result, did.taken.these, refl, went.answered _ _ ∙ kept, went.ends) did.taken.made

@@ -7,4 +7,6 @@ returns c = λ bytes writable.
       c.read_register-first.ensures bytes writable,
       c.read_register-second.ensures bytes writable,
       c.read_register-third.ensures bytes writable,
+      c.read_register-fourth.ensures bytes writable,
+      c.read_register-fifth.ensures bytes writable,
     ) at c.request_by.ensures
