@@ -1,0 +1,3 @@
+-- Which words are directives of macros, and which lines a result has.
+pub mod Directives
+pub mod Lines

@@ -1,0 +1,31 @@
+-- The lines of a source, and of which of them each line of a result is.
+use Rattle.std.specs.Prelude.{◌≡◌, ℕ, ◌+◌, ◌-◌, ◌<◌, ◌≤◌, Bool, ◌==◌, List, length, get_or, count_by, All}
+use Rattle.std.specs.List.{slice_split}
+use Rattle.rrs_macros.specs.declared.output.Expanded.{Expanded}
+
+abbrev pub is_line_feed : ℕ → Bool
+is_line_feed b = b == 10
+
+-- the lines, cut at each line feed
+abbrev pub lines : List ℕ → List (List ℕ)
+lines text = slice_split is_line_feed text
+
+-- A number of a line, where there are so many: they are counted from 1.
+abbrev pub IsLine : ℕ → ℕ → Type 0
+IsLine total number = (1 ≤ number) × (number ≤ total)
+
+-- Each line of the result is of a line of the source.
+pub record IsMapped (source : List ℕ) (expanded : Expanded) : Type 0 where
+  pub one_each : length expanded.lines.items ≡ length (lines expanded.text.items)
+  pub within : All (IsLine (length (lines source))) expanded.lines.items
+
+-- The result is the source, and each of its lines is of itself.
+pub record IsSame (source : List ℕ) (expanded : Expanded) : Type 0 where
+  pub text : expanded.text.items ≡ source
+  pub count : length expanded.lines.items ≡ length (lines source)
+  pub each : (k : ℕ) → k < length (lines source) → get_or expanded.lines.items k 0 ≡ k + 1
+
+-- What is made so far: a line feed stands between two lines, and each is of one of so many lines.
+pub record IsMade (total : ℕ) (expanded : Expanded) : Type 0 where
+  pub feeds : count_by is_line_feed expanded.text.items ≡ length expanded.lines.items - 1
+  pub within : All (IsLine total) expanded.lines.items

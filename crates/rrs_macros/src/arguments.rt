@@ -1,0 +1,303 @@
+//! Parameters of macros, and the arguments that a call gives them.
+
+use crate::cursor::Cursor;
+use crate::errors::{Halt, MacroErrorKind, Slip};
+use crate::values::character;
+use std::alloc::{AllocError, Global};
+
+/// The most parameters of a macro.
+const MOST_PARAMETERS: usize = 256;
+
+/// What a parameter takes.
+#[derive(Clone, Copy, PartialEq)]
+pub enum Kind {
+    /// An argument, or its default.
+    Optional,
+    /// An argument that has to be there.
+    Required,
+    /// All that is left.
+    Rest,
+}
+
+/// A parameter.
+#[derive(Drop)]
+pub struct Parameter {
+    pub name: Vec<u8>,
+    pub default: Vec<u8>,
+    pub kind: Kind,
+}
+
+/// Takes the parameters of a macro.
+pub fn take_parameters(alloc: Global, cursor: &mut Cursor) -> Result<Vec<Parameter>, Halt> {
+    let mut parameters = Vec::new(alloc);
+    for _ in 0..u64::MAX {
+        if cursor.is_over() {
+            break;
+        }
+        let slip = cursor.slip(MacroErrorKind::DuplicateParameter);
+        let parameter = take_parameter(alloc, cursor)?;
+        let kind = if index_of(&parameters, &parameter.name).is_some() {
+            Some(MacroErrorKind::DuplicateParameter)
+        } else if parameters.len() >= MOST_PARAMETERS {
+            Some(MacroErrorKind::Parameters)
+        } else if takes_rest(&parameters) {
+            Some(MacroErrorKind::BehindRest)
+        } else {
+            None
+        };
+        if let Some(kind) = kind {
+            return Err(Halt::Slip(Slip { kind, ..slip }));
+        }
+        parameters.push(parameter)?;
+        cursor.skip_comma();
+    }
+    Ok(parameters)
+}
+
+/// Whether the last parameter takes all that is left.
+fn takes_rest(parameters: &[Parameter]) -> bool {
+    match parameters.last() {
+        Some(parameter) => parameter.kind == Kind::Rest,
+        None => false,
+    }
+}
+
+/// Takes a parameter: its name, what it takes, and its default.
+fn take_parameter(alloc: Global, cursor: &mut Cursor) -> Result<Parameter, Halt> {
+    let name = Vec::from_slice(alloc, cursor.name()?)?;
+    let mut kind = Kind::Optional;
+    if cursor.take_if(b':') {
+        let slip = cursor.slip(MacroErrorKind::Qualifier);
+        kind = match cursor.word() {
+            b"req" => Kind::Required,
+            b"vararg" => Kind::Rest,
+            _ => return Err(Halt::Slip(slip)),
+        };
+    }
+    let mut default = Vec::new(alloc);
+    if cursor.take_if(b'=') {
+        take_argument(cursor, &mut default)?;
+    }
+    Ok(Parameter {
+        name,
+        default,
+        kind,
+    })
+}
+
+/// Which parameter has a name.
+pub fn index_of(parameters: &[Parameter], name: &[u8]) -> Option<usize> {
+    for (index, parameter) in parameters.iter().enumerate() {
+        if parameter.name.as_slice() == name {
+            return Some(index);
+        }
+    }
+    None
+}
+
+/// Takes the arguments of a call: of each parameter what stands in its place, with its default where
+/// nothing is given.
+pub fn arguments(
+    alloc: Global,
+    cursor: &mut Cursor,
+    parameters: &[Parameter],
+) -> Result<Vec<Vec<u8>>, Halt> {
+    let call = cursor.slip(MacroErrorKind::Missing);
+    let mut values = Vec::new(alloc);
+    for _ in parameters {
+        values.push(Vec::new(alloc))?;
+    }
+    let mut next = 0usize;
+    let mut is_named = false;
+    for _ in 0..u64::MAX {
+        if cursor.is_over() {
+            break;
+        }
+        let name = keyword(cursor);
+        is_named = is_named || name.is_some();
+        let index = parameter_for(cursor, parameters, name, next, is_named)?;
+        next = next.saturating_add(1);
+        take_value(cursor, parameters, index, &mut values)?;
+        cursor.skip_comma();
+    }
+    give_defaults(parameters, &mut values, call)?;
+    Ok(values)
+}
+
+/// The name of the next argument, if it has one.
+fn keyword<'a>(cursor: &Cursor<'a>) -> Option<&'a [u8]> {
+    let mut ahead = *cursor;
+    let name = ahead.name().ok()?;
+    if ahead.take_if(b'=') {
+        Some(name)
+    } else {
+        None
+    }
+}
+
+/// Which parameter the next argument is of. Its name is taken.
+fn parameter_for(
+    cursor: &mut Cursor,
+    parameters: &[Parameter],
+    name: Option<&[u8]>,
+    next: usize,
+    is_named: bool,
+) -> Result<usize, Slip> {
+    let Some(name) = name else {
+        return if is_named {
+            Err(cursor.slip(MacroErrorKind::Mixed))
+        } else if next < parameters.len() {
+            Ok(next)
+        } else {
+            Err(cursor.slip(MacroErrorKind::Arguments))
+        };
+    };
+    let index = index_of(parameters, name).ok_or(cursor.slip(MacroErrorKind::NoParameter))?;
+    let _ = cursor.word();
+    let _ = cursor.take_if(b'=');
+    Ok(index)
+}
+
+/// Takes an argument as the value of a parameter.
+fn take_value(
+    cursor: &mut Cursor,
+    parameters: &[Parameter],
+    index: usize,
+    values: &mut Vec<Vec<u8>>,
+) -> Result<(), AllocError> {
+    let (Some(parameter), Some(value)) = (parameters.get(index), values.get_mut(index)) else {
+        return Ok(());
+    };
+    value.clear();
+    if parameter.kind == Kind::Rest {
+        take_all(cursor, value, None)
+    } else {
+        take_argument(cursor, value)
+    }
+}
+
+/// Gives each parameter that has no value its default.
+fn give_defaults(
+    parameters: &[Parameter],
+    values: &mut Vec<Vec<u8>>,
+    call: Slip,
+) -> Result<(), Halt> {
+    for (index, parameter) in parameters.iter().enumerate() {
+        let Some(value) = values.get_mut(index) else {
+            break;
+        };
+        if value.is_empty() {
+            if parameter.kind == Kind::Required {
+                return Err(Halt::Slip(call));
+            }
+            value.extend_from_slice(&parameter.default)?;
+        }
+    }
+    Ok(())
+}
+
+/// Takes an argument: a string without its quotation marks, or what stands before a comma or a blank,
+/// with blanks in parentheses and brackets.
+pub fn take_argument(cursor: &mut Cursor, value: &mut Vec<u8>) -> Result<(), AllocError> {
+    if cursor.take_if(b'"') {
+        return take_string(cursor, value);
+    }
+    let mut depth = 0usize;
+    for _ in 0..u64::MAX {
+        match cursor.peek() {
+            None | Some(b',') => break,
+            Some(b' ') if depth == 0 => break,
+            Some(b'(' | b'[') => depth = depth.saturating_add(1),
+            Some(b')' | b']') => depth = depth.saturating_sub(1),
+            _ => (),
+        }
+        take_piece(cursor, value)?;
+    }
+    Ok(())
+}
+
+/// Takes all that is left before a byte, without blanks that mean nothing.
+pub fn take_all(
+    cursor: &mut Cursor,
+    value: &mut Vec<u8>,
+    end: Option<u8>,
+) -> Result<(), AllocError> {
+    for _ in 0..u64::MAX {
+        let next = cursor.peek();
+        if next.is_none() || next == end {
+            break;
+        }
+        take_piece(cursor, value)?;
+    }
+    Ok(())
+}
+
+/// Takes a byte, a string as it stands, or a character constant as its number.
+fn take_piece(cursor: &mut Cursor, value: &mut Vec<u8>) -> Result<(), AllocError> {
+    let Some(byte) = cursor.take() else {
+        return Ok(());
+    };
+    if byte == b'\'' {
+        return take_character(cursor, value);
+    }
+    value.push(byte)?;
+    if byte == b'"' {
+        take_to_quote(cursor, value)?;
+    }
+    Ok(())
+}
+
+/// Takes what is left of a string, with the quotation mark that ends it.
+fn take_to_quote(cursor: &mut Cursor, value: &mut Vec<u8>) -> Result<(), AllocError> {
+    let mut is_escaped = false;
+    for _ in 0..u64::MAX {
+        let Some(byte) = cursor.take_raw() else {
+            break;
+        };
+        value.push(byte)?;
+        if byte == b'"' && !is_escaped {
+            break;
+        }
+        is_escaped = byte == b'\\' && !is_escaped;
+    }
+    Ok(())
+}
+
+/// Takes what is left of a character constant, with the apostrophe that can end it, and appends its
+/// number, as GNU `as` does before it looks at macros.
+fn take_character(cursor: &mut Cursor, value: &mut Vec<u8>) -> Result<(), AllocError> {
+    match character(cursor) {
+        Some(byte) => push_decimal(byte, value),
+        None => Ok(()),
+    }
+}
+
+/// Appends a number.
+fn push_decimal(number: u8, value: &mut Vec<u8>) -> Result<(), AllocError> {
+    if number >= 100 {
+        value.push(b'0' + number / 100)?;
+    }
+    if number >= 10 {
+        value.push(b'0' + number / 10 % 10)?;
+    }
+    Ok(value.push(b'0' + number % 10)?)
+}
+
+/// Takes what is left of a string, without the quotation mark that ends it. Two of them are one.
+pub fn take_string(cursor: &mut Cursor, value: &mut Vec<u8>) -> Result<(), AllocError> {
+    let mut is_escaped = false;
+    for _ in 0..u64::MAX {
+        let Some(byte) = cursor.take_raw() else {
+            break;
+        };
+        if byte == b'"' && !is_escaped {
+            if cursor.peek_raw() != Some(b'"') {
+                break;
+            }
+            let _ = cursor.take_raw();
+        }
+        value.push(byte)?;
+        is_escaped = byte == b'\\' && !is_escaped;
+    }
+    Ok(())
+}

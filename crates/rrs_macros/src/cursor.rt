@@ -1,0 +1,145 @@
+//! Reading the operands of a statement.
+//!
+//! GNU `as` takes blanks out of operands before it looks at macros: it keeps one where a letter, a
+//! digit or a quotation mark stands on both sides. So `1 + 2` is one argument, and `1 2` are two.
+
+use crate::errors::{MacroErrorKind, Slip};
+use crate::scanning::{behind_blanks, is_blank, is_in_name, split_word};
+
+/// What is left of the operands of a statement.
+#[derive(Clone, Copy)]
+pub struct Cursor<'a> {
+    rest: &'a [u8],
+    /// How many bytes of the text are behind the statement.
+    behind: usize,
+    /// The byte that was taken last.
+    before: u8,
+}
+
+/// Whether a blank between two bytes means something.
+fn keeps_blank(before: u8, after: u8) -> bool {
+    (is_in_name(before) || before == b'"')
+        && (is_in_name(after) || matches!(after, b'"' | b'\'' | b'\\'))
+}
+
+impl<'a> Cursor<'a> {
+    /// The operands of a statement, with so many bytes of the text behind it.
+    pub fn new(operands: &'a [u8], behind: usize) -> Self {
+        Cursor {
+            rest: operands,
+            behind,
+            before: b' ',
+        }
+    }
+
+    /// A mistake at this place.
+    pub fn slip(&self, kind: MacroErrorKind) -> Slip {
+        Slip {
+            kind,
+            left: self.rest.len().saturating_add(self.behind),
+        }
+    }
+
+    /// What is left.
+    pub fn rest(&self) -> &'a [u8] {
+        self.rest
+    }
+
+    /// The next byte, with no blank that means nothing, and what is behind it.
+    fn next(&self) -> Option<(u8, &'a [u8])> {
+        let after = behind_blanks(self.rest);
+        match (self.rest, after) {
+            (_, []) => None,
+            ([first, ..], [byte, ..]) if is_blank(*first) && keeps_blank(self.before, *byte) => {
+                Some((b' ', after))
+            }
+            (_, [byte, others @ ..]) => Some((*byte, others)),
+        }
+    }
+
+    /// The next byte, with no blank that means nothing.
+    pub fn peek(&self) -> Option<u8> {
+        match self.next() {
+            Some((byte, _)) => Some(byte),
+            None => None,
+        }
+    }
+
+    /// Takes the next byte, with no blank that means nothing.
+    pub fn take(&mut self) -> Option<u8> {
+        let (byte, rest) = self.next()?;
+        self.rest = rest;
+        self.before = byte;
+        Some(byte)
+    }
+
+    /// Takes a byte, if it is the next one behind blanks.
+    pub fn take_if(&mut self, wanted: u8) -> bool {
+        match behind_blanks(self.rest) {
+            [byte, rest @ ..] if *byte == wanted => {
+                self.rest = rest;
+                self.before = wanted;
+                true
+            }
+            _ => false,
+        }
+    }
+
+    /// Takes the next byte, whatever it is.
+    pub fn take_raw(&mut self) -> Option<u8> {
+        match self.rest {
+            [byte, rest @ ..] => {
+                self.rest = rest;
+                self.before = *byte;
+                Some(*byte)
+            }
+            [] => None,
+        }
+    }
+
+    /// The next byte, whatever it is.
+    pub fn peek_raw(&self) -> Option<u8> {
+        self.rest.first().copied()
+    }
+
+    /// Takes a comma and the blanks around it, or blanks alone.
+    pub fn skip_comma(&mut self) {
+        self.rest = behind_blanks(self.rest);
+        if self.take_if(b',') {
+            self.rest = behind_blanks(self.rest);
+        }
+        self.before = b' ';
+    }
+
+    /// Whether nothing is left.
+    pub fn is_over(&self) -> bool {
+        behind_blanks(self.rest).is_empty()
+    }
+
+    /// Takes a word, behind blanks. It is empty where none stands there.
+    pub fn word(&mut self) -> &'a [u8] {
+        let (word, rest) = split_word(self.rest);
+        self.rest = rest;
+        self.before = b'a';
+        word
+    }
+
+    /// Takes a name, which does not begin with a digit.
+    pub fn name(&mut self) -> Result<&'a [u8], Slip> {
+        let slip = self.slip(MacroErrorKind::Name);
+        let word = self.word();
+        match word {
+            [] | [b'0'..=b'9', ..] => Err(slip),
+            _ => Ok(word),
+        }
+    }
+
+    /// That nothing is left.
+    pub fn end(&self) -> Result<(), Slip> {
+        if self.is_over() {
+            Ok(())
+        } else {
+            Err(self.slip(MacroErrorKind::More))
+        }
+    }
+}

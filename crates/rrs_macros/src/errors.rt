@@ -1,0 +1,198 @@
+//! What can be wrong with macros, conditions and repetitions.
+
+use std::alloc::{AllocError, AllocFailed};
+use std::error::Error;
+use std::fmt;
+
+/// What is wrong at a place of a source.
+#[derive(Debug, PartialEq, Clone, Copy)]
+pub enum MacroErrorKind {
+    /// A macro or a repetition has no end.
+    Unended,
+    /// A condition has no `.endif` in the same source, macro or repetition.
+    UnendedCondition,
+    /// `.endm` or `.endr` ends nothing.
+    EndAlone,
+    /// There is no `.if` before `.else`, `.elseif` or `.endif`.
+    NoCondition,
+    /// `.else` or `.elseif` stands behind `.else`.
+    SecondElse,
+    /// `.exitm` stands in no macro and no repetition.
+    NothingToLeave,
+    /// There is no name where one is wanted.
+    Name,
+    /// The macro is defined already.
+    Duplicate,
+    /// The macro has this parameter already.
+    DuplicateParameter,
+    /// A parameter is neither `req` nor `vararg`.
+    Qualifier,
+    /// A parameter stands behind the one that takes all that is left.
+    BehindRest,
+    /// A macro has more than 256 parameters.
+    Parameters,
+    /// There is no macro of this name.
+    NoMacro,
+    /// The macro has no parameter of this name.
+    NoParameter,
+    /// There are more arguments than parameters.
+    Arguments,
+    /// An argument with no name stands behind one with a name.
+    Mixed,
+    /// An argument that has to be there is not.
+    Missing,
+    /// There is no number or symbol where a value is wanted.
+    Value,
+    /// A number is not written as one, or has more than 64 bits.
+    Number,
+    /// A parenthesis is not closed.
+    Parenthesis,
+    /// More operators and parentheses wait for their values than can.
+    Operators,
+    /// A number is divided by zero.
+    Division,
+    /// The value is not known at this place, since it depends on an address.
+    NotConstant,
+    /// A repetition is made a negative number of times.
+    Negative,
+    /// A string or a comma is wanted here.
+    Strings,
+    /// The statement is complete, and there is more.
+    More,
+    /// Macros and repetitions are nested too deeply.
+    Deep,
+    /// What is made is too much.
+    Much,
+}
+
+impl MacroErrorKind {
+    /// Whether nothing behind the mistake is read.
+    pub fn is_last(self) -> bool {
+        matches!(self, MacroErrorKind::Deep | MacroErrorKind::Much)
+    }
+}
+
+impl fmt::Display for MacroErrorKind {
+    fn fmt<W: fmt::Write>(&self, f: &mut fmt::Formatter<W>) -> fmt::Result {
+        f.write_str(match self {
+            MacroErrorKind::Unended => "there is no end of this macro or repetition",
+            MacroErrorKind::UnendedCondition => "there is no .endif for this condition",
+            MacroErrorKind::EndAlone => "this ends no macro and no repetition",
+            MacroErrorKind::NoCondition => "there is no .if before",
+            MacroErrorKind::SecondElse => "there is an .else before",
+            MacroErrorKind::NothingToLeave => ".exitm stands in no macro",
+            MacroErrorKind::Name => "a name is wanted here",
+            MacroErrorKind::Duplicate => "macro is defined already",
+            MacroErrorKind::DuplicateParameter => "the macro has this parameter already",
+            MacroErrorKind::Qualifier => "req or vararg is wanted here",
+            MacroErrorKind::BehindRest => "a parameter behind the one that is vararg",
+            MacroErrorKind::Parameters => "too many parameters",
+            MacroErrorKind::NoMacro => "there is no macro of this name",
+            MacroErrorKind::NoParameter => "the macro has no parameter of this name",
+            MacroErrorKind::Arguments => "too many arguments",
+            MacroErrorKind::Mixed => "an argument without a name behind one with a name",
+            MacroErrorKind::Missing => "an argument that the macro requires is missing",
+            MacroErrorKind::Value => "a value is wanted here",
+            MacroErrorKind::Number => "not a number of 64 bits",
+            MacroErrorKind::Parenthesis => "a parenthesis is wanted here",
+            MacroErrorKind::Operators => "too many operators and parentheses",
+            MacroErrorKind::Division => "division by zero",
+            MacroErrorKind::NotConstant => "the value has to be known here, and is not",
+            MacroErrorKind::Negative => "a negative number of repetitions",
+            MacroErrorKind::Strings => "two strings with a comma are wanted here",
+            MacroErrorKind::More => "more than the statement takes",
+            MacroErrorKind::Deep => "macros are nested too deeply",
+            MacroErrorKind::Much => "macros and repetitions make too much",
+        })
+    }
+}
+
+/// A mistake and its place.
+#[derive(Debug, PartialEq, Clone, Copy)]
+pub struct MacroError {
+    /// The line of the source, counted from 1. In a macro or a repetition it is that of its body.
+    pub line: usize,
+    /// The byte of the line, counted from 1. In a macro it is that of the line with the arguments
+    /// in the places of the parameters.
+    pub column: usize,
+    /// What is wrong there.
+    pub kind: MacroErrorKind,
+}
+
+impl fmt::Display for MacroError {
+    fn fmt<W: fmt::Write>(&self, f: &mut fmt::Formatter<W>) -> fmt::Result {
+        let line = self.line;
+        let column = self.column;
+        let kind = self.kind;
+        write!(f, "{line}:{column}: {kind}")
+    }
+}
+
+/// Why a source is not expanded.
+#[derive(Debug, Drop)]
+pub enum MacroFault {
+    /// The mistakes, in the order in which they are met, up to 20.
+    Mistakes(Vec<MacroError>),
+    /// Out of memory.
+    OutOfMemory,
+}
+
+impl fmt::Display for MacroFault {
+    fn fmt<W: fmt::Write>(&self, f: &mut fmt::Formatter<W>) -> fmt::Result {
+        match self {
+            MacroFault::Mistakes(mistakes) => {
+                let count = mistakes.len();
+                write!(f, "{count} mistakes")
+            }
+            MacroFault::OutOfMemory => write!(f, "out of memory"),
+        }
+    }
+}
+
+impl Error for MacroFault {}
+
+impl From<AllocError> for MacroFault {
+    fn from(_: AllocError) -> Self {
+        MacroFault::OutOfMemory
+    }
+}
+
+impl<T: Drop> From<AllocFailed<T>> for MacroFault {
+    fn from(_: AllocFailed<T>) -> Self {
+        MacroFault::OutOfMemory
+    }
+}
+
+/// A mistake, and how many bytes of the text are left at its place.
+#[derive(Clone, Copy)]
+pub struct Slip {
+    pub kind: MacroErrorKind,
+    pub left: usize,
+}
+
+/// Why a statement is not performed.
+#[derive(Clone, Copy)]
+pub enum Halt {
+    /// A mistake in it.
+    Slip(Slip),
+    /// Out of memory.
+    OutOfMemory,
+}
+
+impl From<Slip> for Halt {
+    fn from(slip: Slip) -> Self {
+        Halt::Slip(slip)
+    }
+}
+
+impl From<AllocError> for Halt {
+    fn from(_: AllocError) -> Self {
+        Halt::OutOfMemory
+    }
+}
+
+impl<T: Drop> From<AllocFailed<T>> for Halt {
+    fn from(_: AllocFailed<T>) -> Self {
+        Halt::OutOfMemory
+    }
+}

@@ -1,0 +1,190 @@
+//! What is being read: the source, and the macros and repetitions in it.
+
+use crate::blocks::height;
+use crate::errors::{MacroError, Slip};
+use std::alloc::{AllocError, Global};
+
+/// A condition whose `.endif` is not met yet.
+#[derive(Clone, Copy)]
+pub struct Condition {
+    /// Where it stands.
+    pub place: MacroError,
+    /// Whether its statements are read now.
+    pub is_read: bool,
+    /// Whether nothing of it is to be read any more.
+    pub is_done: bool,
+    /// Whether its `.else` was met.
+    pub is_behind_else: bool,
+}
+
+impl Condition {
+    /// A condition that holds or does not.
+    pub fn new(place: MacroError, holds: bool) -> Self {
+        Condition {
+            place,
+            is_read: holds,
+            is_done: holds,
+            is_behind_else: false,
+        }
+    }
+
+    /// A condition nothing of which is read.
+    pub fn skipped(place: MacroError) -> Self {
+        Condition {
+            place,
+            is_read: false,
+            is_done: true,
+            is_behind_else: false,
+        }
+    }
+
+    /// The condition behind `.else`, or behind `.elseif` with one that holds or does not.
+    pub fn or(self, holds: bool, is_behind_else: bool) -> Self {
+        Condition {
+            is_read: holds && !self.is_done,
+            is_done: holds || self.is_done,
+            is_behind_else,
+            ..self
+        }
+    }
+}
+
+/// How far a text is read.
+#[derive(Drop)]
+pub struct Reader {
+    /// Where what is left begins.
+    next: Option<usize>,
+    /// Where its line begins.
+    line_start: usize,
+    /// The line of the source that its first line is of.
+    first: usize,
+    /// How many lines it has, before they are of the same lines of the source again.
+    height: usize,
+    /// How many of these lines are behind.
+    passed: usize,
+    /// How often it is read once more.
+    copies: u64,
+    /// Whether it is the source.
+    pub is_source: bool,
+    /// The conditions whose `.endif` is not met yet, the innermost last.
+    pub conditions: Vec<Condition>,
+}
+
+impl Reader {
+    /// The line of the source that is read.
+    pub fn number(&self) -> usize {
+        self.first.saturating_add(self.passed)
+    }
+
+    /// What is left of its text.
+    pub fn rest<'a>(&self, text: &'a [u8]) -> Option<&'a [u8]> {
+        text.get(self.next?..)
+    }
+
+    /// Whether a line begins here.
+    pub fn is_at_line(&self) -> bool {
+        self.next == Some(self.line_start)
+    }
+
+    /// Whether what stands here is not read, by a condition.
+    pub fn is_skipping(&self) -> bool {
+        match self.conditions.last() {
+            Some(condition) => !condition.is_read,
+            None => false,
+        }
+    }
+
+    /// Goes on with what is left of its text, so many lines further on.
+    pub fn go_on(&mut self, text: &[u8], others: Option<&[u8]>, lines: usize) {
+        self.next = match others {
+            Some(others) => Some(text.len().saturating_sub(others.len())),
+            None => None,
+        };
+        if lines > 0 {
+            self.line_start = self.next.unwrap_or(text.len());
+            let passed = self.passed.saturating_add(lines);
+            self.passed = passed.checked_rem(self.height).unwrap_or(0);
+        }
+    }
+
+    /// Reads nothing more, in this copy.
+    pub fn stop(&mut self) {
+        self.next = None;
+    }
+
+    /// Begins again, if it is to be read once more.
+    pub fn begin_again(&mut self) -> bool {
+        match self.copies.checked_sub(1) {
+            Some(copies) => {
+                self.copies = copies;
+                self.next = Some(0);
+                self.line_start = 0;
+                self.passed = 0;
+                true
+            }
+            None => false,
+        }
+    }
+
+    /// Where the line begins that is read.
+    pub fn origin(&self) -> Origin {
+        Origin {
+            number: self.number(),
+            line_start: self.line_start,
+        }
+    }
+}
+
+/// Where a line begins.
+#[derive(Clone, Copy)]
+pub struct Origin {
+    /// The line of the source that it is of.
+    pub number: usize,
+    /// Its first byte.
+    line_start: usize,
+}
+
+impl Origin {
+    /// A mistake in the line, of a text of so many bytes.
+    pub fn mistake(self, length: usize, slip: Slip) -> MacroError {
+        let position = length.saturating_sub(slip.left);
+        MacroError {
+            line: self.number,
+            column: position.saturating_sub(self.line_start).saturating_add(1),
+            kind: slip.kind,
+        }
+    }
+}
+
+/// A text, and how far it is read.
+#[derive(Drop)]
+pub struct Frame {
+    pub text: Vec<u8>,
+    pub reader: Reader,
+}
+
+impl Frame {
+    /// A text whose first line is of a line of the source, which has so many lines before they are of
+    /// the same lines of the source again, and is read once and so often again.
+    pub fn new(alloc: Global, text: Vec<u8>, first: usize, height: usize, copies: u64) -> Self {
+        let reader = Reader {
+            next: Some(0),
+            line_start: 0,
+            first,
+            height,
+            passed: 0,
+            copies,
+            is_source: false,
+            conditions: Vec::new(alloc),
+        };
+        Frame { text, reader }
+    }
+
+    /// The source.
+    pub fn of_source(alloc: Global, source: &[u8]) -> Result<Self, AllocError> {
+        let text = Vec::from_slice(alloc, source)?;
+        let mut frame = Frame::new(alloc, text, 1, height(source), 0);
+        frame.reader.is_source = true;
+        Ok(frame)
+    }
+}

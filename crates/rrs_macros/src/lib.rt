@@ -1,0 +1,29 @@
+//! Macros, conditions and repetitions of assembly, as GNU `as` has them.
+//!
+//! [expand] makes of a source one without `.macro`, `.rept`, `.irp`, `.if` and their like, and says of
+//! each line of the result which line of the source it is of. `docs/ASSEMBLY.md` has the directives.
+
+#![tactic(auto)]
+
+mod arguments;
+mod blocks;
+mod conditions;
+mod cursor;
+mod directives;
+mod errors;
+mod expanding;
+mod frames;
+mod operators;
+mod output;
+mod performing;
+mod repetitions;
+mod scanning;
+mod substitution;
+mod symbols;
+mod tables;
+mod values;
+mod words;
+
+pub use errors::{MacroError, MacroErrorKind, MacroFault};
+pub use expanding::{MOST_MADE, expand};
+pub use output::Expanded;

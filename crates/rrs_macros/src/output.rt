@@ -1,0 +1,58 @@
+//! The result: its text, and the line of the source that each of its lines is of.
+
+ghost use Rattle.std.specs.Prelude.{◌≡◌, ℕ, ◌≤◌, length, OnOk, IfOk};
+ghost use Rattle.rrs_macros.specs.Lines.{IsLine, IsMade, IsSame};
+
+use crate::scanning::first_line;
+use std::alloc::{AllocError, Global};
+
+/// A source without macros, conditions and repetitions.
+#[derive(Debug, Drop)]
+pub struct Expanded {
+    /// Its text.
+    pub text: Vec<u8>,
+    /// Of each of its lines the line of the source that it is of, counted from 1.
+    pub lines: Vec<usize>,
+}
+
+impl Expanded {
+    /// Nothing.
+    pub fn new(alloc: Global) -> Self
+        ensures { (total : ℕ) → IsMade total result }
+    {
+        Expanded {
+            text: Vec::new(alloc),
+            lines: Vec::new(alloc),
+        }
+    }
+
+    /// Appends the first line of a text, which is of a line of the source.
+    pub fn put(&mut self, text: &[u8], number: usize) -> Result<(), AllocError>
+        ensures { (total : ℕ) → IsLine total number → IsMade total self.old
+            → OnOk result ((1 ≤ length self.new.lines.items) × IsMade total self.new) }
+    {
+        let (line, _) = first_line(text);
+        if !self.lines.is_empty() {
+            self.text.push(b'\n')?;
+        }
+        self.text.extend_from_slice(line)?;
+        Ok(self.lines.push(number)?)
+    }
+}
+
+/// A source as it stands.
+pub fn unchanged(alloc: Global, source: &[u8]) -> Result<Expanded, AllocError>
+    ensures { IfOk result (IsSame source.now) }
+{
+    let mut lines = Vec::new(alloc);
+    let mut number = 1usize;
+    lines.push(number)?;
+    for byte in source {
+        if *byte == b'\n' {
+            number += 1;
+            lines.push(number)?;
+        }
+    }
+    let text = Vec::from_slice(alloc, source)?;
+    Ok(Expanded { text, lines })
+}

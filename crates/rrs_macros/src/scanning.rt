@@ -1,0 +1,177 @@
+//! Cutting a text into statements, and a statement into labels, its first word and the rest.
+
+ghost use Rattle.std.specs.Prelude.{◌≡◌, count_by};
+ghost use Rattle.rrs_macros.specs.Directives.{is_in_name};
+ghost use Rattle.rrs_macros.specs.Lines.{is_line_feed};
+
+use crate::directives::{Directive, directive_named};
+
+/// Where a byte of a line stands.
+#[derive(Clone, Copy, PartialEq)]
+enum Place {
+    /// In no string, no character constant and no comment.
+    Plain,
+    /// In a string.
+    Text,
+    /// In a string, behind a backslash.
+    TextEscape,
+    /// Behind the apostrophe that begins a character constant.
+    Character,
+    /// In a character constant, behind a backslash.
+    CharacterEscape,
+    /// Behind the byte of a character constant, where an apostrophe can end it.
+    CharacterEnd,
+    /// In a comment, up to the end of the line.
+    Comment,
+}
+
+impl Place {
+    /// Where the byte behind this one stands.
+    fn behind(self, byte: u8, next: Option<u8>) -> Place {
+        match self {
+            Place::Plain => plain_behind(byte, next),
+            Place::Text => match byte {
+                b'\\' => Place::TextEscape,
+                b'"' => Place::Plain,
+                _ => Place::Text,
+            },
+            Place::TextEscape => Place::Text,
+            Place::Character => match byte {
+                b'\\' => Place::CharacterEscape,
+                _ => Place::CharacterEnd,
+            },
+            Place::CharacterEscape => Place::CharacterEnd,
+            Place::CharacterEnd if byte == b'\'' => Place::Plain,
+            Place::CharacterEnd => plain_behind(byte, next),
+            Place::Comment => Place::Comment,
+        }
+    }
+
+    /// Whether a semicolon here ends the statement.
+    fn ends_at_semicolon(self) -> bool {
+        matches!(self, Place::Plain | Place::CharacterEnd)
+    }
+}
+
+/// Where the byte behind one that stands in nothing stands. A comment begins before its first byte.
+fn plain_behind(byte: u8, next: Option<u8>) -> Place {
+    match byte {
+        b'"' => Place::Text,
+        b'\'' => Place::Character,
+        b'#' => Place::Comment,
+        b'/' if next == Some(b'/') => Place::Comment,
+        _ => Place::Plain,
+    }
+}
+
+/// The statement at the beginning of a text.
+#[derive(Clone, Copy)]
+pub struct Statement<'a> {
+    /// Its text, with its labels, and with no comment.
+    pub code: &'a [u8],
+    /// What is behind the semicolon or the line feed that ends it, if one does.
+    pub others: Option<&'a [u8]>,
+    /// Whether it is the last of its line.
+    pub ends_line: bool,
+}
+
+/// The statement at the beginning of a text, which ends at a semicolon or with its line.
+pub fn first_statement(text: &[u8]) -> Statement<'_> {
+    let mut place = Place::Plain;
+    let mut end = None;
+    for (index, byte) in text.iter().enumerate() {
+        let behind = &text[index + 1..];
+        let is_line_feed = *byte == b'\n';
+        if is_line_feed || *byte == b';' && place.ends_at_semicolon() {
+            return Statement {
+                code: text.get(..end.unwrap_or(index)).unwrap_or(text),
+                others: Some(behind),
+                ends_line: is_line_feed,
+            };
+        }
+        place = place.behind(*byte, behind.first().copied());
+        if place == Place::Comment && end.is_none() {
+            end = Some(index);
+        }
+    }
+    Statement {
+        code: text.get(..end.unwrap_or(text.len())).unwrap_or(text),
+        others: None,
+        ends_line: true,
+    }
+}
+
+/// The first line of a text, and what is behind its line feed, if there is one.
+pub fn first_line(text: &[u8]) -> (&[u8], Option<&[u8]>)
+    ensures { count_by is_line_feed result.0.now ≡ 0 }
+{
+    for (index, byte) in text.iter().enumerate() {
+        if *byte == b'\n' {
+            return (&text[..index], Some(&text[index + 1..]));
+        }
+    }
+    (text, None)
+}
+
+/// Whether a byte separates words and means nothing else.
+pub fn is_blank(byte: u8) -> bool {
+    matches!(byte, b' ' | b'\t' | b'\r')
+}
+
+/// Whether a byte can stand in a name.
+pub fn is_in_name(byte: u8) -> bool
+    ensures { result ≡ is_in_name byte }
+{
+    matches!(byte, b'a'..=b'z' | b'A'..=b'Z' | b'0'..=b'9' | b'_' | b'.' | b'$')
+}
+
+/// A text behind the blanks that it begins with.
+pub fn behind_blanks(text: &[u8]) -> &[u8] {
+    for (index, byte) in text.iter().enumerate() {
+        if !is_blank(*byte) {
+            return &text[index..];
+        }
+    }
+    &text[text.len()..]
+}
+
+/// The word that a text begins with, behind blanks, and what follows it.
+pub fn split_word(text: &[u8]) -> (&[u8], &[u8]) {
+    let words = behind_blanks(text);
+    for (index, byte) in words.iter().enumerate() {
+        if !is_in_name(*byte) {
+            return words.split_at(index);
+        }
+    }
+    words.split_at(words.len())
+}
+
+/// What is behind the first label of a text, and the label's name, if there is one.
+pub fn first_label(text: &[u8]) -> Option<(&[u8], &[u8])> {
+    let (word, rest) = split_word(text);
+    match behind_blanks(rest) {
+        [b':', others @ ..] if !word.is_empty() => Some((word, others)),
+        _ => None,
+    }
+}
+
+/// A statement behind its labels.
+pub fn behind_labels(code: &[u8]) -> &[u8] {
+    let mut rest = code;
+    for _ in 0..code.len() {
+        match first_label(rest) {
+            Some((_, others)) => rest = others,
+            None => break,
+        }
+    }
+    rest
+}
+
+/// The directive that a statement is, behind its labels, and its operands.
+pub fn directive_of(code: &[u8]) -> Option<(Directive, &[u8])> {
+    let (word, operands) = split_word(behind_labels(code));
+    match directive_named(word) {
+        Some(directive) => Some((directive, operands)),
+        None => None,
+    }
+}

@@ -1,0 +1,90 @@
+//! A macro's body with arguments in the places of its parameters.
+
+use crate::arguments::{Parameter, index_of};
+use crate::scanning::{first_statement, split_word};
+use std::alloc::{AllocError, Global};
+
+/// Appends a body with the values of the parameters in their places, and the number of the call in
+/// that of `\@`.
+pub fn substitute(
+    alloc: Global,
+    body: &[u8],
+    parameters: &[Parameter],
+    values: &[Vec<u8>],
+    call: u64,
+    out: &mut Vec<u8>,
+) -> Result<(), AllocError> {
+    let mut rest = body;
+    for _ in 0..body.len() {
+        rest = match rest {
+            [] => break,
+            [b'\\', b'(', others @ ..] => literally(others, out)?,
+            [b'\\', b'@', others @ ..] => {
+                out.extend_from_slice(format!(in alloc; "{call}")?.as_bytes())?;
+                others
+            }
+            [b'\\', b'&', others @ ..] => {
+                out.extend_from_slice(b"\\&")?;
+                others
+            }
+            [b'\\', others @ ..] => named(others, parameters, values, out)?,
+            [byte, others @ ..] => {
+                out.push(*byte)?;
+                others
+            }
+        };
+    }
+    Ok(())
+}
+
+/// Appends what stands before a closing parenthesis, and returns what is behind it.
+fn literally<'a>(text: &'a [u8], out: &mut Vec<u8>) -> Result<&'a [u8], AllocError> {
+    for (index, byte) in text.iter().enumerate() {
+        if *byte == b')' {
+            return Ok(&text[index + 1..]);
+        }
+        out.push(*byte)?;
+    }
+    Ok(&text[text.len()..])
+}
+
+/// Appends the value of the parameter whose name a text begins with, or the backslash and the name
+/// where there is none, and returns what is behind the name.
+fn named<'a>(
+    text: &'a [u8],
+    parameters: &[Parameter],
+    values: &[Vec<u8>],
+    out: &mut Vec<u8>,
+) -> Result<&'a [u8], AllocError> {
+    let (name, others) = match text {
+        [b'a'..=b'z' | b'A'..=b'Z' | b'_' | b'.' | b'$', ..] => split_word(text),
+        _ => (&text[..0], text),
+    };
+    let index = index_of(parameters, name);
+    match values.get(index.unwrap_or(values.len())) {
+        Some(value) => out.extend_from_slice(value)?,
+        None => {
+            out.push(b'\\')?;
+            out.extend_from_slice(name)?;
+        }
+    }
+    Ok(others)
+}
+
+/// A text without its comments.
+pub fn without_comments(alloc: Global, text: &[u8]) -> Result<Vec<u8>, AllocError> {
+    let mut out = Vec::new(alloc);
+    let mut rest = Some(text);
+    for _ in 0..=text.len() {
+        let Some(left) = rest else {
+            break;
+        };
+        let statement = first_statement(left);
+        out.extend_from_slice(statement.code)?;
+        rest = statement.others;
+        if rest.is_some() {
+            out.push(if statement.ends_line { b'\n' } else { b';' })?;
+        }
+    }
+    Ok(out)
+}

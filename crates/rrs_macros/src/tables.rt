@@ -1,0 +1,164 @@
+//! What is defined so far, and how much may still be read.
+
+use crate::arguments::{Parameter, arguments, take_parameters};
+use crate::cursor::Cursor;
+use crate::errors::{Halt, MacroErrorKind, Slip};
+use crate::scanning::{behind_labels, directive_of, first_statement, split_word};
+use crate::substitution::substitute;
+use crate::symbols::Symbols;
+use std::alloc::{AllocError, Global};
+use std::collections::BTreeMap;
+
+/// The most bytes of lines that are read, each as often as it is read.
+const MOST_READ: usize = 0x1000_0000;
+
+/// The lines of a macro or a repetition.
+#[derive(Drop)]
+pub struct Lines {
+    pub text: Vec<u8>,
+    /// The line of the source that the first is of.
+    pub first: usize,
+    /// How many lines there are.
+    pub height: usize,
+}
+
+/// A macro.
+#[derive(Drop)]
+struct Macro {
+    parameters: Vec<Parameter>,
+    /// Its lines, if it has any.
+    body: Option<Lines>,
+}
+
+/// What is defined so far.
+#[derive(Drop)]
+pub struct Tables {
+    pub alloc: Global,
+    macros: BTreeMap<Vec<u8>, Macro>,
+    pub symbols: Symbols,
+    /// How many calls were made.
+    pub calls: u64,
+    /// How many bytes may still be read.
+    left: usize,
+}
+
+impl Tables {
+    /// Nothing is defined.
+    pub fn new(alloc: Global) -> Self {
+        Tables {
+            alloc,
+            macros: BTreeMap::new(alloc),
+            symbols: Symbols::new(alloc),
+            calls: 0,
+            left: MOST_READ,
+        }
+    }
+
+    /// Counts bytes that are read.
+    pub fn spend(&mut self, bytes: usize, left: usize) -> Result<(), Slip> {
+        match self.left.checked_sub(bytes) {
+            Some(rest) => {
+                self.left = rest;
+                Ok(())
+            }
+            None => Err(Slip {
+                kind: MacroErrorKind::Much,
+                left,
+            }),
+        }
+    }
+
+    /// The name of the macro that a statement calls, in small letters, and the arguments.
+    pub fn call_in<'a>(&self, code: &'a [u8]) -> Result<Option<(Vec<u8>, &'a [u8])>, AllocError> {
+        if self.macros.is_empty() {
+            return Ok(None);
+        }
+        let (word, operands) = split_word(behind_labels(code));
+        let name = word.to_ascii_lowercase(self.alloc)?;
+        if self.macros.get(name.as_slice()).is_some() {
+            Ok(Some((name, operands)))
+        } else {
+            Ok(None)
+        }
+    }
+
+    /// Whether no statement of a line is a directive of macros or calls one.
+    pub fn is_plain(&self, line: &[u8]) -> Result<bool, AllocError> {
+        let mut rest = Some(line);
+        for _ in 0..=line.len() {
+            let Some(left) = rest else {
+                break;
+            };
+            let statement = first_statement(left);
+            if directive_of(statement.code).is_some() || self.call_in(statement.code)?.is_some() {
+                return Ok(false);
+            }
+            rest = statement.others;
+        }
+        Ok(true)
+    }
+
+    /// Defines what a line of such statements defines.
+    pub fn note_line(&mut self, line: &[u8]) -> Result<(), AllocError> {
+        let mut rest = Some(line);
+        for _ in 0..=line.len() {
+            let Some(left) = rest else {
+                break;
+            };
+            let statement = first_statement(left);
+            self.symbols.note(statement.code)?;
+            rest = statement.others;
+        }
+        Ok(())
+    }
+
+    /// Defines a macro with a name, parameters and a body.
+    pub fn define(&mut self, cursor: &mut Cursor, body: Option<Lines>) -> Result<(), Halt> {
+        let slip = cursor.slip(MacroErrorKind::Duplicate);
+        let name = cursor.name()?.to_ascii_lowercase(self.alloc)?;
+        cursor.skip_comma();
+        let parameters = take_parameters(self.alloc, cursor)?;
+        if self.macros.get(name.as_slice()).is_some() {
+            return Err(Halt::Slip(slip));
+        }
+        let _ = self.macros.insert(name, Macro { parameters, body })?;
+        Ok(())
+    }
+
+    /// Removes the macros that are named.
+    pub fn purge(&mut self, cursor: &mut Cursor) -> Result<(), Halt> {
+        for _ in 0..u64::MAX {
+            let slip = cursor.slip(MacroErrorKind::NoMacro);
+            let name = cursor.name()?.to_ascii_lowercase(self.alloc)?;
+            if self.macros.remove(name.as_slice()).is_none() {
+                return Err(Halt::Slip(slip));
+            }
+            if !cursor.take_if(b',') {
+                break;
+            }
+        }
+        Ok(cursor.end()?)
+    }
+
+    /// The lines that a call of a macro stands for, if there are any.
+    pub fn called(&mut self, name: &[u8], cursor: &mut Cursor) -> Result<Option<Lines>, Halt> {
+        let Some(definition) = self.macros.get(name) else {
+            return Ok(None);
+        };
+        let values = arguments(self.alloc, cursor, &definition.parameters)?;
+        let call = self.calls;
+        self.calls = self.calls.saturating_add(1);
+        let Some(body) = &definition.body else {
+            return Ok(None);
+        };
+        let mut text = Vec::new(self.alloc);
+        let parameters = &definition.parameters;
+        substitute(self.alloc, &body.text, parameters, &values, call, &mut text)?;
+        let lines = Lines {
+            text,
+            first: body.first,
+            height: body.height,
+        };
+        Ok(Some(lines))
+    }
+}
