@@ -3,3 +3,4 @@ pub mod PacketLemmas
 pub mod ShownLemmas
 pub mod WatchLemmas
 pub mod SessionLemmas
+pub mod FieldLemmas

@@ -1,6 +1,6 @@
 -- What packets leave as it was, and the calls between the runs of a program that goes on.
-use Rattle.std.proofs.Common.{◌≡◌, ◌≢◌, ◌⊎◌, ℕ, List, ◌∷◌, ◌++◌, Bool, Contains, Option, Some, None, Result, Ok, Err, OnOk, IfNone, MatchOption, slice_index, refl, sym, subst, ap, ◌∙◌, inl, inr, arith}
-use Rattle.std.specs.Bool.{OnTrue}
+use Rattle.std.proofs.Common.{◌≡◌, ◌≢◌, ◌⊎◌, ℕ, List, [], ◌∷◌, ◌++◌, Bool, true, false, Contains, Option, Some, None, Result, Ok, Err, OnOk, IfNone, MatchOption, ◌≤◌, length, slice_index, refl, sym, subst, ap, ◌∙◌, inl, inr, arith}
+use Rattle.std.specs.Bool.{OnTrue, OnFalse}
 use Rattle.std.proofs.lemmas.Bool.{OnTrue_from}
 use Rattle.std.proofs.lemmas.List.{append_cancel_left}
 use Rattle.rrs_lib.specs.declared.instruction_executor.InstructionException.{InstructionException}
@@ -16,6 +16,9 @@ use Rattle.rrs_gdb.specs.declared.session.Going.{Going}
 use Rattle.rrs_gdb.specs.declared.session.Going.TheVariants.{Step, Proceed, Killed}
 use Rattle.rrs_gdb.specs.Sessions.{letter, IsError, OutputTaken, CallMade, CallStops, Behind, GoesOn, Runs, GoesBy, GoesOnOrStays, GoesOnFrom, HasLetter}
 use Rattle.rrs_gdb.specs.Breaks.{GoesForward}
+use Rattle.rrs_gdb.specs.Packets.{before, behind, address_in, length_in}
+use Rattle.rrs_gdb.specs.Sessions.{SetsBytes, SetsMemory}
+use Rattle.hex.specs.Hex.{decode_of, decode_pairs}
 use Rattle.rrs_gdb.proofs.BreakLemmas.{none_stepped}
 use Rattle.rrs_gdb.proofs.WatchLemmas.{none_made}
 
@@ -41,6 +44,14 @@ pub texted_if : {A E : Type 0} (r : Result A E) (old new : List ℕ) (c : ℕ) (
     → OnOk r (new ≡ old ++ c ∷ rest) → OnOk r (OnTrue is_done (IsError old new → ⊥))
 texted_if (Ok x) old new c rest is_done other is = OnTrue_from _ _ (λ yes. no_error old new rest c other is)
 texted_if (Err e) old new c rest is_done other is = tt
+
+-- what begins with that letter is one
+pub error_if : {A E : Type 0} (r : Result A E) (old new text : List ℕ) (is_done : Bool) → slice_index text 0 ≡ 69
+    → OnOk r (new ≡ old ++ text) → OnOk r (OnFalse is_done (IsError old new))
+error_if (Ok x) old new [] is_done is added = absurd (omega (arith, is))
+error_if (Ok x) old new (c ∷ cs) true is added = tt
+error_if (Ok x) old new (c ∷ cs) false is added = (cs, added ∙ ap (λ k. old ++ k ∷ cs) is)
+error_if (Err e) old new text is_done is added = tt
 
 -- an error begins with its letter
 pub error_letter : (old new text : List ℕ) → new ≡ old ++ text → IsError old new → slice_index text 0 ≡ 69
@@ -155,3 +166,44 @@ some_limit (Ok x) Step stops watches limit e e' s t goes = (1, goes)
 some_limit (Ok x) Proceed stops watches limit e e' s t goes = (limit, goes)
 some_limit (Ok x) (Killed signal) stops watches limit e e' s t goes = (0, inl goes)
 some_limit (Err f) going stops watches limit e e' s t goes = tt
+
+-- ---- memory that is changed
+
+-- no digits are no bytes
+pub nothing_decoded : (text values : List ℕ) → text ≡ [] → decode_of text ≡ Ok values → 1 ≤ length values → ⊥
+unfolding decode_pairs
+nothing_decoded text [] none is some = absurd (omega (arith, some))
+nothing_decoded text (v ∷ vs) none is some =
+    let empty : decode_of [] ≡ Ok (v ∷ vs) = subst (λ (xs : List ℕ). decode_of xs ≡ Ok (v ∷ vs)) none is in
+    cc
+
+-- the bytes of digits are changed as they are
+pub sets_by_digits : {A F : Type 0} (r : Result A F) (text digits bytes : List ℕ) (address count : ℕ) (s t : State)
+    (old new : List ℕ) → address ≡ address_in (before 58 text) → count ≡ length_in (before 58 text)
+    → digits ≡ behind 58 text → decode_of digits ≡ Ok bytes
+    → OnOk r (length bytes ≡ count → 1 ≤ length bytes → SetsBytes address bytes s t old new)
+    → OnOk r ((values : List ℕ) → decode_of (behind 58 text) ≡ Ok values → SetsMemory values text s t old new)
+sets_by_digits (Ok x) text digits bytes address count s t old new at many same decoded sets = λ values is.
+    let both : Ok bytes ≡ Ok values = sym decoded ∙ ap decode_of same ∙ is in
+    let equal : bytes ≡ values = cc in
+    record {
+      set = λ place long one.
+          subst (λ (xs : List ℕ). SetsBytes (address_in (before 58 text)) xs s t old new) equal
+          (subst (λ (a : ℕ). SetsBytes a bytes s t old new) at
+          (sets (ap length equal ∙ long ∙ sym many) (subst (λ (xs : List ℕ). 1 ≤ length xs) (sym equal) one)));
+    }
+sets_by_digits (Err e) text digits bytes address count s t old new at many same decoded sets = tt
+
+-- what is said of what is Ok
+pub when_ok : {A F : Type 0} (P : Type 0) (r : Result A F) (x : A) → r ≡ Ok x → OnOk r P → P
+when_ok P r x ok holds = subst (λ o. OnOk o P) ok holds
+
+pub set_there : {A F : Type 0} (r : Result A F) (x : A) (text text' : List ℕ) (s t t' : State) (old new new' : List ℕ)
+    → r ≡ Ok x → text ≡ text' → t' ≡ t → new' ≡ new
+    → OnOk r ((values : List ℕ) → decode_of (behind 58 text) ≡ Ok values → SetsMemory values text s t old new)
+    → (values : List ℕ) → decode_of (behind 58 text') ≡ Ok values → SetsMemory values text' s t' old new'
+set_there r x text text' s t t' old new new' ok same moved added holds = λ values is.
+    let there = when_ok _ r x ok holds values (ap (λ (ys : List ℕ). decode_of (behind 58 ys)) same ∙ is) in
+    subst (λ (ys : List ℕ). SetsMemory values ys s t' old new') same
+    (subst (λ (u : State). SetsMemory values text s u old new') (sym moved)
+    (subst (λ (ns : List ℕ). SetsMemory values text s t old ns) (sym added) there))

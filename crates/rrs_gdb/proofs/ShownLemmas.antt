@@ -3,6 +3,7 @@ use Rattle.std.proofs.Common.{◌≡◌, ℕ, ◌+◌, ◌<◌, ◌%◌, ◌/◌
 use Rattle.std.specs.Bool.{OnTrue, OnFalse}
 use Rattle.rrs_lib.specs.Bytes.{ByteMap, little_endian, sum_if_both, at_place, store}
 use Rattle.rrs_lib.proofs.ByteLemmas.{store_by}
+use Rattle.rrs_gdb.specs.Packets.{digits_of}
 use Rattle.rrs_gdb.specs.Shown.{text_of, word_bytes, words_text}
 
 pub words_text-append : (xs ys : List ℕ) → words_text (xs ++ ys) ≡ words_text xs ++ words_text ys
@@ -13,6 +14,15 @@ words_text-append (w ∷ xs) ys =
 
 pub words_text-one : (w : ℕ) → words_text (w ∷ []) ≡ text_of (word_bytes w)
 words_text-one w = append-nil (text_of (word_bytes w))
+
+-- bytes as digits, one after another
+pub text_of-append : (xs ys : List ℕ) → text_of (xs ++ ys) ≡ text_of xs ++ text_of ys
+text_of-append [] ys = refl
+text_of-append (b ∷ xs) ys =
+    ap (λ r. digits_of b ++ r) (text_of-append xs ys) ∙ sym (append_assoc (digits_of b) (text_of xs) (text_of ys))
+
+pub text_of-one : (b : ℕ) → text_of (b ∷ []) ≡ digits_of b
+text_of-one b = append-nil (digits_of b)
 
 first_place : (o : Option ℕ) → sum_if_both (Some 0) (at_place 0 o) ≡ o
 first_place None = refl

@@ -1,8 +1,10 @@
 -- Packets (gdb's manual, "Remote Serial Protocol", "Overview"): `$`, the payload, `#`, and two
 -- hexadecimal digits of the sum of all bytes between, modulo 256. In a payload the bytes `#`, `$` and
 -- `}` are sent as `}` and the byte with its bit of value 32 turned; in an answer `*` too, which there
--- begins a run of a byte.
-use Rattle.std.specs.Prelude.{◌≡◌, ℕ, ◌/◌, ◌%◌, ◌==◌, ◌||◌, if◌then◌else◌, List, [], ◌∷◌, ◌++◌, sum, slice_index, bit_xor, Bool, true, false, Option, Some, None, option_map, Ok}
+-- begins a run of a byte. Numbers in a payload are hexadecimal, and a comma, a colon, a semicolon or
+-- an equals sign stands between two of its fields.
+use Rattle.std.specs.Prelude.{◌≡◌, ℕ, ◌/◌, ◌%◌, ◌≤◌, ◌==◌, ◌||◌, if◌then◌else◌, List, [], ◌∷◌, ◌++◌, length, sum, slice_index, bit_xor, Bool, true, false, Option, Some, None, option_map, Ok}
+use Rattle.std.specs.Str.Parse.{IsNumeral, digits_value}
 use Rattle.hex.specs.Hex.{lower_digits, decode_sized}
 use Rattle.rrs_gdb.specs.declared.framing.PacketError.{PacketError}
 use Rattle.rrs_gdb.specs.declared.framing.PacketError.TheVariants.{WrongSum, CutOff, OutOfMemory}
@@ -60,3 +62,32 @@ abbrev pub Refuses : PacketError → List ℕ → List ℕ → Type 0
 Refuses WrongSum bytes digits = HasSum bytes digits → ⊥
 Refuses CutOff bytes digits = unescaped bytes ≡ None
 Refuses OutOfMemory bytes digits = Unit {0}
+
+-- ---- the numbers and the fields of a payload
+
+-- one to eight hexadecimal digits, and the number that they are
+abbrev pub IsNumber : List ℕ → Type 0
+IsNumber digits = IsNumeral 16 digits × (length digits ≤ 8)
+
+abbrev pub number : List ℕ → ℕ
+number digits = digits_value 16 digits
+
+-- what stands before the first of these bytes, which is all where there is none
+abbrev pub before : ℕ → List ℕ → List ℕ
+before at [] = []
+before at (b ∷ bs) = if b == at then [] else b ∷ before at bs
+
+-- what stands behind it, which is nothing where there is none
+abbrev pub behind : ℕ → List ℕ → List ℕ
+behind at [] = []
+behind at (b ∷ bs) = if b == at then bs else behind at bs
+
+-- an address and a length, with a comma between
+abbrev pub IsPlace : List ℕ → Type 0
+IsPlace text = IsNumber (before 44 text) × IsNumber (behind 44 text)
+
+abbrev pub address_in : List ℕ → ℕ
+address_in text = number (before 44 text)
+
+abbrev pub length_in : List ℕ → ℕ
+length_in text = number (behind 44 text)

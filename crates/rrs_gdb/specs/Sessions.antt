@@ -1,6 +1,9 @@
 -- What a packet may change, by its letter (gdb's manual, "Remote Serial Protocol", "Packets"). Most
 -- packets ask, and change nothing of the program.
-use Rattle.std.specs.Prelude.{◌≡◌, ◌≢◌, ◌⊎◌, ℕ, ◌-◌, List, [], ◌∷◌, ◌++◌, Contains, Bool, slice_index, None, Ok}
+use Rattle.std.specs.Prelude.{◌≡◌, ◌≢◌, ◌⊎◌, ℕ, ◌+◌, ◌-◌, ◌^◌, ◌<◌, ◌≤◌, List, [], ◌∷◌, ◌++◌, Contains, Bool, false, length, slice_index, None, Ok, IsOk}
+use Rattle.hex.specs.Hex.{decode_sized}
+use Rattle.rrs_lib.specs.Bytes.{ByteMap}
+use Rattle.rrs_lib.specs.Loading.{Loaded}
 use Rattle.rrs_lib.specs.declared.instruction_executor.InstructionException.TheVariants.{EnvironmentCall}
 use Rattle.rrs_lib.specs.Accesses.{Access}
 use Rattle.rrs_lib.specs.Machine.{State, with_pc}
@@ -13,6 +16,8 @@ use Rattle.rrs_gdb.specs.declared.session.Going.{Going}
 use Rattle.rrs_gdb.specs.declared.session.Going.TheVariants.{Step, Proceed, Killed}
 use Rattle.rrs_gdb.specs.declared.state.SessionState.{SessionState}
 use Rattle.rrs_gdb.specs.Breaks.{GoesForward}
+use Rattle.rrs_gdb.specs.Packets.{IsNumber, number, before, behind, IsPlace, address_in, length_in}
+use Rattle.rrs_gdb.specs.Shown.{register_text, text_of, with_register, word_at, HasBytes}
 
 -- the letter of a packet: the first byte of its payload
 abbrev pub letter : List ℕ → ℕ
@@ -80,6 +85,56 @@ pub record SessionKept (old new : SessionState) : Type 0 where
 -- what was appended is an error: it begins with `E`
 abbrev pub IsError : List ℕ → List ℕ → Type 0
 IsError old new = (rest : List ℕ) × (new ≡ old ++ 69 ∷ rest)
+
+-- ---- what the text of a packet means
+
+-- `p n`: the register of this number is shown. 32 is the pc.
+pub record ShowsRegister (digits : List ℕ) (s : State) (old new : List ℕ) : Type 0 where
+  pub shown : IsNumber digits → number digits < 33 → new ≡ old ++ register_text s (number digits)
+  pub refused : ¬ (IsNumber digits × (number digits < 33)) → IsError old new
+
+-- the number of a register that can be changed: x1 to x31, and 32, the pc
+abbrev pub IsChangeable : List ℕ → Type 0
+IsChangeable digits = IsNumber digits × (1 ≤ number digits) × (number digits ≤ 32)
+
+-- `P n=r`: the register of this number is changed to the word that has these four bytes, the lowest
+-- first.
+pub record SetsRegister (text : List ℕ) (s t : State) (old new : List ℕ) : Type 0 where
+  pub set : (bytes : List ℕ) → IsChangeable (before 61 text) → decode_sized (behind 61 text) 4 ≡ Ok bytes
+      → t ≡ with_register s (number (before 61 text)) (word_at bytes 0)
+  pub refused : ¬ (IsChangeable (before 61 text) × IsOk (decode_sized (behind 61 text) 4))
+      → IsError old new
+
+-- So many bytes from an address on are shown: up to the first that is not mapped, or as many as an
+-- answer has room for.
+pub record ShowsBytes (bytes : ByteMap) (address count : ℕ) (old new : List ℕ) : Type 0 where
+  pub values : List ℕ
+  pub are_there : HasBytes bytes address values
+  pub within : length values ≤ count
+  pub ended : length values < count → length values < 8176 → address + length values < 2 ^ 32
+      → bytes (address + length values) ≡ None
+  pub shown : 1 ≤ length values → new ≡ old ++ text_of values
+  pub none : values ≡ [] → 1 ≤ count → IsError old new
+
+-- `m addr,length`
+pub record ShowsMemory (text : List ℕ) (s : State) (old new : List ℕ) : Type 0 where
+  pub shown : IsPlace text → ShowsBytes s.bytes (address_in text) (length_in text) old new
+  pub refused : ¬ IsPlace text → IsError old new
+
+-- The bytes from an address on are changed to these, or none is, and then one is not writable or
+-- behind the last address.
+pub data SetsBytes (address : ℕ) (values : List ℕ) (s t : State) (old new : List ℕ) : Type 0 where
+  Changed : Loaded s.bytes t.bytes s.writable address values → SetsBytes address values s t old new
+  Refused : IsError old new
+      → (address + length values ≤ 2 ^ 32
+      → (i : ℕ) × (i < length values) × (s.writable (address + i) ≡ false))
+      → SetsBytes address values s t old new
+
+-- `M addr,length:digits`, and `X addr,length:bytes`: as many values as the length says are to stand
+-- behind the colon, and one at least.
+pub record SetsMemory (values : List ℕ) (text : List ℕ) (s t : State) (old new : List ℕ) : Type 0 where
+  pub set : IsPlace (before 58 text) → length values ≡ length_in (before 58 text) → 1 ≤ length values
+      → SetsBytes (address_in (before 58 text)) values s t old new
 
 -- ---- the program goes on
 

@@ -1,26 +1,20 @@
 //! The numbers and the fields of a payload.
 
-ghost use Rattle.std.specs.Prelude.{◌<◌, length, IfSome};
-
-/// The value of a hexadecimal digit.
-fn value_of(digit: u8) -> Option<u8> {
-    match digit {
-        b'0'..=b'9' => Some(digit - b'0'),
-        b'a'..=b'f' => Some(digit - b'a' + 10),
-        b'A'..=b'F' => Some(digit - b'A' + 10),
-        _ => None,
-    }
-}
+ghost use Rattle.std.specs.Prelude.{◌≡◌, ◌<◌, [], length, IfSome, IfNone, MatchOption};
+ghost use Rattle.rrs_gdb.specs.Packets.{IsNumber, number, before, behind, IsPlace, address_in, length_in};
 
 /// The number that one to eight hexadecimal digits are.
-pub(crate) fn number_of(digits: &[u8]) -> Option<u32> {
+pub(crate) fn number_of(digits: &[u8]) -> Option<u32>
+    ensures { MatchOption result (¬ IsNumber digits.now)
+        (λ value. IsNumber digits.now × (value ≡ number digits.now)) }
+{
     if digits.is_empty() || digits.len() > 8 {
         return None;
     }
     let mut number = 0_u32;
     for digit in digits {
-        let value = value_of(*digit)?;
-        number = number.checked_mul(16)?.checked_add(u32::from(value))?;
+        let value = char::from(*digit).to_digit(16)?;
+        number = number * 16 + value;
     }
     Some(number)
 }
@@ -44,7 +38,10 @@ pub(crate) fn decimal_of(digits: &[u8]) -> Option<u64> {
 
 /// What stands before the first of these bytes, and behind it.
 pub(crate) fn cut(bytes: &[u8], at: u8) -> Option<(&[u8], &[u8])>
-    ensures { IfSome result (λ parts. length parts.1.now < length bytes.now) }
+    ensures shorter { IfSome result (λ parts. length parts.1.now < length bytes.now) }
+    ensures parts { MatchOption result
+        ((before at bytes.now ≡ bytes.now) × (behind at bytes.now ≡ []))
+        (λ parts. (parts.0.now ≡ before at bytes.now) × (parts.1.now ≡ behind at bytes.now)) }
 {
     for (index, byte) in bytes.iter().enumerate() {
         if *byte == at {
@@ -57,7 +54,8 @@ pub(crate) fn cut(bytes: &[u8], at: u8) -> Option<(&[u8], &[u8])>
 /// What stands before the first of these bytes, and behind it; all, and nothing, where there is
 /// none.
 pub(crate) fn cut_or_all(bytes: &[u8], at: u8) -> (&[u8], &[u8])
-    ensures { 0 < length bytes.now → length result.1.now < length bytes.now }
+    ensures shorter { 0 < length bytes.now → length result.1.now < length bytes.now }
+    ensures parts { (result.0.now ≡ before at bytes.now) × (result.1.now ≡ behind at bytes.now) }
 {
     match cut(bytes, at) {
         Some(parts) => parts,
@@ -66,13 +64,21 @@ pub(crate) fn cut_or_all(bytes: &[u8], at: u8) -> (&[u8], &[u8])
 }
 
 /// An address and a length, with a comma between.
-pub(crate) fn address_and_length(bytes: &[u8]) -> Option<(u32, u32)> {
-    let (address, length) = cut(bytes, b',')?;
+pub(crate) fn address_and_length(bytes: &[u8]) -> Option<(u32, u32)>
+    ensures { MatchOption result (¬ IsPlace bytes.now) (λ place. IsPlace bytes.now
+        × (place.0 ≡ address_in bytes.now) × (place.1 ≡ length_in bytes.now)) }
+{
+    let (address, length) = cut_or_all(bytes, b',');
     Some((number_of(address)?, number_of(length)?))
 }
 
 /// An address and a length before a colon, and the bytes behind it.
-pub(crate) fn place_and_bytes(bytes: &[u8]) -> Option<(u32, u32, &[u8])> {
+pub(crate) fn place_and_bytes(bytes: &[u8]) -> Option<(u32, u32, &[u8])>
+    ensures found { IfSome result (λ found. IsPlace (before 58 bytes.now)
+        × (found.0 ≡ address_in (before 58 bytes.now)) × (found.1 ≡ length_in (before 58 bytes.now))
+        × (found.2.now ≡ behind 58 bytes.now)) }
+    ensures none { IfNone result (IsPlace (before 58 bytes.now) → behind 58 bytes.now ≡ []) }
+{
     let (place, values) = cut(bytes, b':')?;
     let (address, length) = address_and_length(place)?;
     Some((address, length, values))

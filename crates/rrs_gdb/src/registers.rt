@@ -96,6 +96,7 @@ pub fn write_register(hart: &mut HartState, number: u32, value: u32) -> bool
     ensures found { OnTrue result ((1 ≤ number) × (number ≤ 32)) }
     ensures last { hart.new.last_register_write ≡ hart.old.last_register_write }
     ensures none { OnFalse result (hart.new ≡ hart.old) }
+    ensures refused { OnFalse result (1 ≤ number → 33 ≤ number) }
     ensures entry_zero { slice_index hart.new.registers 0 ≡ slice_index hart.old.registers 0 }
 {
     if number == 32 {
@@ -110,7 +111,7 @@ pub fn write_register(hart: &mut HartState, number: u32, value: u32) -> bool
 }
 
 /// The word at a place of bytes, the lowest first.
-fn word_at(bytes: &[u8], at: usize) -> u32
+pub(crate) fn word_at(bytes: &[u8], at: usize) -> u32
     requires { at + 4 ≤ length bytes.now }
     ensures { result ≡ word_at bytes.now at }
 {

@@ -1,10 +1,15 @@
 //! The packets of a session, and their answers.
 
-ghost use Rattle.std.specs.Prelude.{◌≡◌, ◌≢◌, ◌⊎◌, ℕ, ◌≤◌, IfOk, IfSome, OnOk, length, slice_index};
+ghost use Rattle.std.specs.Prelude.{◌≡◌, ◌≢◌, ◌⊎◌, ◌++◌, ℕ, ◌≤◌, Bool, List, Ok, IsOk, IsTrue, IfOk, IfSome, IfNone, MatchOption, OnOk, drop, length, slice_index};
 ghost use Rattle.std.specs.Bool.{OnTrue, OnFalse};
+ghost use Rattle.hex.specs.Hex.{decode_of, decode_sized};
+ghost use Rattle.rrs_lib.specs.Bytes.{ByteMap};
+ghost use Rattle.rrs_lib.specs.Machine.{state_of};
 ghost use Rattle.rrs_lib.specs.Executor.{state_in};
 ghost use Rattle.rrs_gdb.specs.declared.session.Going.{Going};
-ghost use Rattle.rrs_gdb.specs.Sessions.{letter, BreaksKept, BreaksNone, GoesBy, GoesOnFrom, GoesOnOrStays, HasLetter, ChangesMemory, ChangesNone, ChangesRegister, IsError, MemoryKept, PlacesKept, RegistersKept, RunsNone, SessionKept, SettingsKept};
+ghost use Rattle.rrs_gdb.specs.Sessions.{letter, BreaksKept, BreaksNone, GoesBy, GoesOnFrom, GoesOnOrStays, HasLetter, ChangesMemory, ChangesNone, ChangesRegister, IsError, MemoryKept, PlacesKept, RegistersKept, RunsNone, SessionKept, SettingsKept, IsChangeable, SetsBytes, SetsMemory, SetsRegister, ShowsBytes, ShowsMemory, ShowsRegister};
+ghost use Rattle.rrs_gdb.specs.Packets.{IsNumber, number, before, behind};
+ghost use Rattle.rrs_gdb.specs.Shown.{text_of, with_register, word_at};
 
 use crate::breaks::{Watch, WatchKind};
 use crate::contents::{read_memory, write_memory};
@@ -12,12 +17,13 @@ use crate::framing::push_hex;
 use crate::link::{Link, LinkError, Received};
 use crate::numbers::{address_and_length, behind, cut, cut_or_all, number_of, place_and_bytes};
 use crate::queries::{BAD_ADDRESS, INVALID, NO_MEMORY, catch_calls, query};
-use crate::registers::{push_register, push_registers, write_register, write_registers};
+use crate::registers::{push_register, push_registers, word_at, write_register, write_registers};
 use crate::resume::{go_backward, proceed, step, step_backward};
 use crate::runner::StopRunner;
 use crate::state::{SessionState, Stop, push_stop, push_text};
-use rrs_lib::Memory;
+use hex::{FromHex, FromHexError};
 use rrs_lib::instruction_executor::InstructionExecutor;
+use rrs_lib::{HartState, Memory};
 use rrs_linux::OutputRecorder;
 use std::alloc::{AllocError, Global};
 use std::io::{Read, Write};
@@ -58,7 +64,9 @@ enum Going {
 
 /// Appends the answer of a change that is done, or can't be.
 fn push_done(reply: &mut Vec<u8>, is_done: bool, error: &[u8]) -> Result<(), AllocError>
-    ensures { OnOk result (OnTrue is_done (IsError reply.old.items reply.new.items → ⊥)) }
+    requires { slice_index error.now 0 ≡ 69 }
+    ensures done { OnOk result (OnTrue is_done (IsError reply.old.items reply.new.items → ⊥)) }
+    ensures refused { OnOk result (OnFalse is_done (IsError reply.old.items reply.new.items)) }
 {
     if is_done {
         return push_text(reply, b"OK");
@@ -83,13 +91,48 @@ fn change_registers<M: Memory>(
     }
 }
 
-/// The number and the value of a `P`.
-fn register_and_value(text: &[u8]) -> Option<(u32, u32)> {
-    let (number, digits) = cut(text, b'=')?;
-    if digits.len() != 8 {
-        return None;
+/// Appends that a packet can't be understood.
+fn push_invalid(reply: &mut Vec<u8>) -> Result<(), AllocError>
+    ensures { OnOk result (IsError reply.old.items reply.new.items) }
+{
+    push_text(reply, INVALID)
+}
+
+/// `p`: shows a register.
+fn show_register(hart: &HartState, reply: &mut Vec<u8>, digits: &[u8]) -> Result<(), AllocError>
+    ensures { (bytes : ByteMap) (writable : ℕ → Bool) → OnOk result (ShowsRegister digits.now
+        (state_of hart.now bytes writable) reply.old.items reply.new.items) }
+{
+    let Some(number) = number_of(digits) else {
+        return push_invalid(reply);
+    };
+    if !push_register(hart, number, reply)? {
+        push_invalid(reply)?;
     }
-    Some((number_of(number)?, number_of(digits)?.swap_bytes()))
+    Ok(())
+}
+
+/// The word of the eight digits of four bytes, the lowest first.
+fn word_of(digits: &[u8]) -> Option<u32>
+    ensures { MatchOption result (¬ IsOk (decode_sized digits.now 4)) (λ word. (bytes : List ℕ)
+        × (decode_sized digits.now 4 ≡ Ok bytes) × (word ≡ word_at bytes 0)) }
+{
+    match <[u8; 4] as FromHex>::from_hex(digits) {
+        Ok(bytes) => Some(word_at(&bytes, 0)),
+        Err(_) => None,
+    }
+}
+
+/// The number and the value of a `P`.
+fn register_and_value(text: &[u8]) -> Option<(u32, u32)>
+    ensures found { IfSome result (λ found. IsNumber (before 61 text.now)
+        × (found.0 ≡ number (before 61 text.now)) × ((bytes : List ℕ)
+        × (decode_sized (behind 61 text.now) 4 ≡ Ok bytes) × (found.1 ≡ word_at bytes 0))) }
+    ensures none { IfNone result (IsNumber (before 61 text.now)
+        → IsOk (decode_sized (behind 61 text.now) 4) → ⊥) }
+{
+    let (number, digits) = cut_or_all(text, b'=');
+    Some((number_of(number)?, word_of(digits)?))
 }
 
 /// `P`: changes a register.
@@ -98,11 +141,69 @@ fn change_register<M: Memory>(executor: &mut InstructionExecutor<M>, text: &[u8]
         (state_in M.bytes M.writable executor.new) }
     ensures none { OnFalse result (state_in M.bytes M.writable executor.new
         ≡ state_in M.bytes M.writable executor.old) }
+    ensures set { OnTrue result (IsChangeable (before 61 text.now) × ((bytes : List ℕ)
+        × (decode_sized (behind 61 text.now) 4 ≡ Ok bytes)
+        × (state_in M.bytes M.writable executor.new
+        ≡ with_register (state_in M.bytes M.writable executor.old)
+        (number (before 61 text.now)) (word_at bytes 0)))) }
+    ensures refused { OnFalse result (IsChangeable (before 61 text.now)
+        → IsOk (decode_sized (behind 61 text.now) 4) → ⊥) }
 {
     match register_and_value(text) {
         Some((number, value)) => write_register(executor.hart_state, number, value),
         None => false,
     }
+}
+
+/// `P`.
+fn set_register<M: Memory>(
+    executor: &mut InstructionExecutor<M>,
+    reply: &mut Vec<u8>,
+    text: &[u8],
+) -> Result<bool, AllocError>
+    ensures kept { MemoryKept (state_in M.bytes M.writable executor.old)
+        (state_in M.bytes M.writable executor.new) }
+    ensures none { IfOk result (λ changed. OnFalse changed
+        (state_in M.bytes M.writable executor.new ≡ state_in M.bytes M.writable executor.old)) }
+    ensures error { IfOk result (λ changed. OnTrue changed
+        (IsError reply.old.items reply.new.items → ⊥)) }
+    ensures set { OnOk result (SetsRegister text.now
+        (state_in M.bytes M.writable executor.old) (state_in M.bytes M.writable executor.new)
+        reply.old.items reply.new.items) }
+{
+    let is_changed = change_register(executor, text);
+    push_done(reply, is_changed, INVALID)?;
+    Ok(is_changed)
+}
+
+/// Appends bytes as digits.
+fn push_bytes(reply: &mut Vec<u8>, bytes: &[u8]) -> Result<(), AllocError>
+    ensures { OnOk result (reply.new.items ≡ reply.old.items ++ text_of bytes.now) }
+{
+    for byte in bytes {
+        push_hex(reply, *byte)?;
+    }
+    Ok(())
+}
+
+/// Shows so many bytes from an address on.
+fn show_bytes<M: Memory>(
+    alloc: Global,
+    executor: &mut InstructionExecutor<M>,
+    reply: &mut Vec<u8>,
+    address: u32,
+    count: u32,
+) -> Result<(), AllocError>
+    ensures kept { state_in M.bytes M.writable executor.new
+        ≡ state_in M.bytes M.writable executor.old }
+    ensures shown { OnOk result (ShowsBytes (M.bytes executor.old.mem.now) address count
+        reply.old.items reply.new.items) }
+{
+    let bytes = read_memory(alloc, executor.mem, address, count.min(0x1ff0))?;
+    if bytes.is_empty() && count > 0 {
+        return push_text(reply, BAD_ADDRESS);
+    }
+    push_bytes(reply, &bytes)
 }
 
 /// `m`: shows memory.
@@ -112,20 +213,15 @@ fn show_memory<M: Memory>(
     reply: &mut Vec<u8>,
     place: &[u8],
 ) -> Result<(), AllocError>
-    ensures { state_in M.bytes M.writable executor.new
+    ensures kept { state_in M.bytes M.writable executor.new
         ≡ state_in M.bytes M.writable executor.old }
+    ensures shown { OnOk result (ShowsMemory place.now (state_in M.bytes M.writable executor.old)
+        reply.old.items reply.new.items) }
 {
-    let Some((address, length)) = address_and_length(place) else {
-        return push_text(reply, INVALID);
-    };
-    let bytes = read_memory(alloc, executor.mem, address, length.min(0x1ff0))?;
-    if bytes.is_empty() && length > 0 {
-        return push_text(reply, BAD_ADDRESS);
+    match address_and_length(place) {
+        Some((address, length)) => show_bytes(alloc, executor, reply, address, length),
+        None => push_invalid(reply),
     }
-    for byte in &bytes {
-        push_hex(reply, *byte)?;
-    }
-    Ok(())
 }
 
 /// `M` and `X`: changes memory to bytes, of which there are to be so many.
@@ -133,7 +229,7 @@ fn change_memory<M: Memory>(
     executor: &mut InstructionExecutor<M>,
     reply: &mut Vec<u8>,
     address: u32,
-    length: u32,
+    count: u32,
     bytes: &[u8],
 ) -> Result<bool, AllocError>
     ensures kept { RegistersKept (state_in M.bytes M.writable executor.old)
@@ -142,8 +238,11 @@ fn change_memory<M: Memory>(
         (state_in M.bytes M.writable executor.new ≡ state_in M.bytes M.writable executor.old)) }
     ensures error { IfOk result (λ changed. OnTrue changed
         (IsError reply.old.items reply.new.items → ⊥)) }
+    ensures set { OnOk result (length bytes.now ≡ count → 1 ≤ length bytes.now
+        → SetsBytes address bytes.now (state_in M.bytes M.writable executor.old)
+        (state_in M.bytes M.writable executor.new) reply.old.items reply.new.items) }
 {
-    if bytes.len() != length as usize {
+    if bytes.len() != count as usize {
         push_text(reply, INVALID)?;
         return Ok(false);
     }
@@ -169,6 +268,9 @@ fn change_by_digits<M: Memory>(
         (state_in M.bytes M.writable executor.new ≡ state_in M.bytes M.writable executor.old)) }
     ensures error { IfOk result (λ changed. OnTrue changed
         (IsError reply.old.items reply.new.items → ⊥)) }
+    ensures set { OnOk result ((values : List ℕ) → decode_of (behind 58 text.now) ≡ Ok values
+        → SetsMemory values text.now (state_in M.bytes M.writable executor.old)
+        (state_in M.bytes M.writable executor.new) reply.old.items reply.new.items) }
 {
     let Some((address, length, digits)) = place_and_bytes(text) else {
         push_text(reply, INVALID)?;
@@ -176,6 +278,7 @@ fn change_by_digits<M: Memory>(
     };
     match hex::decode(alloc, digits) {
         Ok(bytes) => change_memory(executor, reply, address, length, &bytes),
+        Err(FromHexError::OutOfMemory) => Err(AllocError),
         Err(_) => {
             push_text(reply, INVALID)?;
             Ok(false)
@@ -195,6 +298,9 @@ fn change_by_bytes<M: Memory>(
         (state_in M.bytes M.writable executor.new ≡ state_in M.bytes M.writable executor.old)) }
     ensures error { IfOk result (λ changed. OnTrue changed
         (IsError reply.old.items reply.new.items → ⊥)) }
+    ensures set { OnOk result (SetsMemory (behind 58 text.now) text.now
+        (state_in M.bytes M.writable executor.old) (state_in M.bytes M.writable executor.new)
+        reply.old.items reply.new.items) }
 {
     let Some((address, length, bytes)) = place_and_bytes(text) else {
         push_text(reply, INVALID)?;
@@ -228,27 +334,33 @@ fn inspect<M: Memory>(
         ((reply.new.items ≡ reply.old.items)
         × (state_in M.bytes M.writable executor.new ≡ state_in M.bytes M.writable executor.old)
         × SessionKept state.old state.new)) }
+    ensures p { letter payload.now ≡ 112 → IfOk result (λ is_answered. IsTrue is_answered
+        × ShowsRegister (drop 1 payload.now) (state_in M.bytes M.writable executor.old)
+        reply.old.items reply.new.items) }
+    ensures set_p { letter payload.now ≡ 80 → IfOk result (λ is_answered. IsTrue is_answered
+        × SetsRegister (drop 1 payload.now) (state_in M.bytes M.writable executor.old)
+        (state_in M.bytes M.writable executor.new) reply.old.items reply.new.items) }
+    ensures m { letter payload.now ≡ 109 → IfOk result (λ is_answered. IsTrue is_answered
+        × ShowsMemory (drop 1 payload.now) (state_in M.bytes M.writable executor.old)
+        reply.old.items reply.new.items) }
+    ensures set_m { letter payload.now ≡ 77 → IfOk result (λ is_answered. IsTrue is_answered
+        × ((values : List ℕ) → decode_of (behind 58 (drop 1 payload.now)) ≡ Ok values
+        → SetsMemory values (drop 1 payload.now) (state_in M.bytes M.writable executor.old)
+        (state_in M.bytes M.writable executor.new) reply.old.items reply.new.items)) }
+    ensures set_x { letter payload.now ≡ 88 → IfOk result (λ is_answered. IsTrue is_answered
+        × SetsMemory (behind 58 (drop 1 payload.now)) (drop 1 payload.now)
+        (state_in M.bytes M.writable executor.old) (state_in M.bytes M.writable executor.new)
+        reply.old.items reply.new.items) }
 {
     let mut is_changed = false;
     match payload {
         [b'g'] => push_registers(executor.hart_state, reply)?,
-        [b'p', number @ ..] => {
-            let is_there = match number_of(number) {
-                Some(number) => push_register(executor.hart_state, number, reply)?,
-                None => false,
-            };
-            if !is_there {
-                push_text(reply, INVALID)?;
-            }
-        }
+        [b'p', digits @ ..] => show_register(executor.hart_state, reply, digits)?,
         [b'G', digits @ ..] => {
             is_changed = change_registers(alloc, executor, digits);
             push_done(reply, is_changed, INVALID)?;
         }
-        [b'P', text @ ..] => {
-            is_changed = change_register(executor, text);
-            push_done(reply, is_changed, INVALID)?;
-        }
+        [b'P', text @ ..] => is_changed = set_register(executor, reply, text)?,
         [b'm', place @ ..] => show_memory(alloc, executor, reply, place)?,
         [b'M', text @ ..] => is_changed = change_by_digits(alloc, executor, reply, text)?,
         [b'X', text @ ..] => is_changed = change_by_bytes(executor, reply, text)?,
@@ -596,7 +708,9 @@ fn manage<R, W>(
 /// Only a packet with the letter of a change changes the machine, and only what its letter says
 /// (`asks`, `registers`, `memory`), and only one by which the program goes on or back takes it on.
 /// Breakpoints, watchpoints and settings are changed by the packets that are for them alone
-/// (`breaks`, `settings`), and a packet that is answered by an error changes nothing (`error`).
+/// (`breaks`, `settings`), and a packet that is answered by an error changes nothing (`error`). What
+/// the text of `p`, `P`, `m`, `M` and `X` means is said by `shows_register`, `sets_register`,
+/// `shows_memory`, `sets_memory` and `sets_bytes`.
 ///
 /// # Errors
 ///
@@ -641,6 +755,23 @@ pub fn answer_to<'a, M: Memory, G: StopRunner<M>, R: Read, W: Write>(
         (IsError reply.old.items reply.new.items
         → (state_in M.bytes M.writable executor.new ≡ state_in M.bytes M.writable executor.old)
         × (environment.new ≡ environment.old) × SessionKept state.old state.new) }
+    ensures shows_register { letter payload.now ≡ 112 → OnOk result (ShowsRegister
+        (drop 1 payload.now) (state_in M.bytes M.writable executor.old)
+        reply.old.items reply.new.items) }
+    ensures sets_register { letter payload.now ≡ 80 → OnOk result (SetsRegister
+        (drop 1 payload.now) (state_in M.bytes M.writable executor.old)
+        (state_in M.bytes M.writable executor.new) reply.old.items reply.new.items) }
+    ensures shows_memory { letter payload.now ≡ 109 → OnOk result (ShowsMemory
+        (drop 1 payload.now) (state_in M.bytes M.writable executor.old)
+        reply.old.items reply.new.items) }
+    ensures sets_memory { letter payload.now ≡ 77 → OnOk result ((values : List ℕ)
+        → decode_of (behind 58 (drop 1 payload.now)) ≡ Ok values
+        → SetsMemory values (drop 1 payload.now) (state_in M.bytes M.writable executor.old)
+        (state_in M.bytes M.writable executor.new) reply.old.items reply.new.items) }
+    ensures sets_bytes { letter payload.now ≡ 88 → OnOk result (SetsMemory
+        (behind 58 (drop 1 payload.now)) (drop 1 payload.now)
+        (state_in M.bytes M.writable executor.old) (state_in M.bytes M.writable executor.new)
+        reply.old.items reply.new.items) }
 {
     if inspect(link.alloc, state, executor, reply, payload)? {
         return Ok(Next::Reply);
