@@ -37,6 +37,7 @@ fi
 
 failed=0
 tries=0
+fails=0
 # try WHAT COMMAND ..: runs it, and shows what it printed where it fails
 try() {
     local what=$1
@@ -47,6 +48,7 @@ try() {
     else
         echo "failed: $what"
         cat "$room/said"
+        fails=$((fails + 1))
         failed=1
     fi
 }
@@ -97,13 +99,15 @@ answers() {
     return 1
 }
 
-# refuses_lines COMMAND ..: it answers none of the lines with a word too much, but fails
+# refuses_lines COMMAND ..: it answers none of the lines with a word too much, but fails, and so it does
+# where its answers can't be written
 refuses_lines() {
     local line
     for line in "decode 0x00000033" "name row 1" "request 0x00000033 pc=0x00000000 last=- regs=- mem=-"; do
         echo "$line" | "$@" >"$room/answered" 2>"$room/errors" || { cat "$room/errors"; return 1; }
         ! echo "$line more" | "$@" >"$room/answered" 2>"$room/errors" || return 1
     done
+    ! echo "decode 0x00000033" | "$@" >/dev/full 2>"$room/errors"
 }
 
 # The sanitizers end a program that adds past the greatest number, and one that reads past its bytes.
@@ -164,6 +168,14 @@ header_asserts() {
     [ "$tried" = 8 ]
 }
 
+# RRS_VERSION has each of its three parts.
+counts_version() {
+    sed 's/\(#define RRS_VERSION_MAJOR\) .*/\1 1/; s/\(#define RRS_VERSION_MINOR\) .*/\1 2/
+        s/\(#define RRS_VERSION_PATCH\) .*/\1 3/' "$header" >"$room/version.h"
+    echo 'int version[RRS_VERSION == 0x010203 ? 1 : -1];' >>"$room/version.h"
+    gcc -std=c99 -fsyntax-only -x c "$room/version.h"
+}
+
 declares() {
     "$here/layouts.py" functions "$header" | diff "$here/functions" -
 }
@@ -177,6 +189,7 @@ header_is_right() {
     try "rrs.h has the stored layouts and constants, in C++" header_has "g++ -std=c++11 -x c++"
     try "rrs.h declares the stored functions" declares
     try "rrs.h asserts each layout" asserts_all
+    try "rrs.h counts its version" counts_version
     try "rrs.h is C99 to C++20, and refuses another layout" header_asserts
 }
 
@@ -210,34 +223,48 @@ fails_with() {
     return 1
 }
 
-# shadow and lockstep fail where one record of the kit is wrong in the lowest byte of a load, and
-# lockstep where a fault is not planted.
+# shadow and lockstep fail where the kit tells or does something wrong in one step of each: a field of
+# the record in its lowest bit, or the last word of memory; and lockstep where a fault is not planted.
 examples_see() {
-    local checks="-O1 -Drrs_step_rvfi=wrong_step_rvfi" design=$here/c/lockstep/design.c
+    local field lockstep=$here/c/lockstep
+    local checks="-O1 -Drrs_step_rvfi=wrong_step_rvfi -I$here/c/lockstep"
     local steps='rrs_hart *hart, uint32_t *words, size_t count, uint32_t base, uint64_t order,
         rrs_retired *retired'
     cat >"$room/record.c" <<C
+#include <stdlib.h>
 #include "rrs.h"
 #undef rrs_step_rvfi
 rrs_fault rrs_step_rvfi($steps);
 rrs_fault wrong_step_rvfi($steps) {
     static int is_made;
     rrs_fault fault = rrs_step_rvfi(hart, words, count, base, order, retired);
-    if (!is_made && order > 20 && retired->mem_rmask == 15) {
-        retired->mem_rdata ^= 1;
-        is_made = 1;
-    }
+    int field = atoi(getenv("FIELD"));
+    int is_of_access = field == 7 || field == 11 || (field > 12 && field < 16);
+    uint32_t mask = field == 14 ? retired->mem_rmask : retired->mem_wmask;
+    if (is_made || order < 21 || fault.kind != RRS_OK || (is_of_access && mask == 0)) return fault;
+    is_made = 1;
+    if (field < 16) (&retired->insn)[field] ^= 1;
+    else if (field == 16) retired->order ^= 1;
+    else words[count - 1] ^= 1;
     return fault;
 }
 C
-    sed 's/width == 2 && design->planted == PLANTED_STORE_MASK/0/' "$design" >"$room/unplanted.c"
-    ! cmp -s "$design" "$room/unplanted.c" || return 1
-    build "gcc -std=c99 -x c" wrong_shadow "$here/c/shadow.c" "$room/record.c" &&
-        fails_with ", 1 disagreements, " wrong_shadow &&
-        build "gcc -std=c99 -x c" wrong_kit "$here/c/lockstep/main.c" "$design" "$room/record.c" &&
-        fails_with "  found after " wrong_kit || return 1
-    checks="-O1 -I$here/c/lockstep"
-    build "gcc -std=c99 -x c" unplanted "$here/c/lockstep/main.c" "$room/unplanted.c" &&
+    sed 's/width == 2 && design->planted == PLANTED_STORE_MASK/0/' "$lockstep/design.c" \
+        >"$room/unplanted.c"
+    ! cmp -s "$lockstep/design.c" "$room/unplanted.c" || return 1
+    build "gcc -std=c99 -DSTEPS=3000u -x c" wrong_shadow "$here/c/shadow.c" "$room/record.c" &&
+        build "gcc -std=c99 -x c" wrong_kit "$lockstep/main.c" "$lockstep/design.c" \
+            "$room/record.c" || return 1
+    for field in $(seq 0 17); do
+        # the shadow looks at no `fetched`, and at the bytes of a load's mask alone
+        case $field in
+        1 | 12) ;;
+        *) FIELD=$field fails_with " the sum " wrong_shadow || return 1 ;;
+        esac
+        FIELD=$field fails_with "  found after \|memory differs" wrong_kit || return 1
+    done
+    checks="-O1 -I$lockstep"
+    build "gcc -std=c99 -x c" unplanted "$lockstep/main.c" "$room/unplanted.c" &&
         fails_with "^5 of 6 planted faults found" unplanted
 }
 
@@ -273,6 +300,15 @@ rust() {
     shift
     CARGO_TARGET_DIR=$room/rust RUSTFLAGS=-Dwarnings RRS_LIB_DIR=$folder \
         cargo "$@" --offline --quiet --manifest-path "$here/rust/Cargo.toml"
+}
+
+# rust_refuses LIBRARY WORD ..: a test passes over a library that must be refused. Each is put into the
+# same folder, and so the crate has to be linked again.
+rust_refuses() {
+    local name=$1
+    shift
+    mkdir -p "$room/refused" && cp "$room/$name/librrs_c.a" "$room/refused" || return 1
+    rust_passes 1 "$room/refused" --test refused -- --ignored "$@"
 }
 
 # rust_passes COUNT FOLDER WORD ..: so many tests pass
@@ -332,10 +368,8 @@ all() {
     try "rust: replay is built" rust "$crate/out" build --release --example replay
     try "rust: replay answers as is stored" answers "$room/rust/release/examples/replay"
     try "rust: replay refuses a line with more" refuses_lines "$room/rust/release/examples/replay"
-    try "rust: a library of another version is refused" \
-        rust_passes 1 "$room/version" --test refused -- --ignored another_version
-    try "rust: an unknown kind is refused" \
-        rust_passes 1 "$room/kind" --test refused -- --ignored unknown_kind
+    try "rust: a library of another version is refused" rust_refuses version another_version
+    try "rust: an unknown kind is refused" rust_refuses kind unknown_kind
     try "rust: README says which Rust it needs" rust_says_what_it_needs
     try "the library for Python" gcc -shared -o "$room/librrs.so" \
         -Wl,--whole-archive "$library" -Wl,--no-whole-archive
@@ -344,7 +378,7 @@ all() {
     try "python: replay answers as is stored" answers python replay.py
     try "python: replay refuses a line with more" refuses_lines python replay.py
     try "python: the structs and constants are those of rrs.h" python_has_layouts
-    finish 47
+    finish 48
 }
 
 # The calls that do more than they may: some write a text where there is room for it, and none for
@@ -423,6 +457,63 @@ void wrong_undo(rrs_hart *hart, uint32_t *words, size_t count, uint32_t base,
 C
 }
 
+# The tries of what is compared and counted, where each tool answers as is stored, and ends with a status.
+# They print a line more, or say of so many tests fewer that they passed: STATUS [MORE] [FEWER]
+over_tools() {
+    local tool fewer=${3:-0}
+    mkdir "$room/bin"
+    cat >"$room/bin/tool" <<SH
+#!/bin/sh
+here=$here layouts=$layouts
+case "\$*" in
+*" -o "*)
+    while [ "\$1" != -o ]; do shift; done
+    ln -s "\$0" "\$2"
+    exit
+    ;;
+*"functions "*) cat "\$here/functions" ;;
+*layouts.py) cat "\$layouts" ;;
+*test_rrs.py) echo "Ran $((24 - fewer)) tests" ;;
+*three_words.py) cat "\$here/python/expected.txt" ;;
+run*) cat "\$here/rust/expected.txt" ;;
+test*) echo "test result: ok. $((7 - fewer)) passed" ;;
+"") case \$0 in
+    */layouts) cat "\$layouts" ;;
+    *) cat "\$here/c/expected/three_words.txt" ;;
+    esac ;;
+esac
+${2:-}
+exit $1
+SH
+    chmod +x "$room/bin/tool"
+    for tool in gcc cargo python3; do ln -s tool "$room/bin/$tool"; done
+    PATH=$room/bin:$PATH
+    try "rrs.h has the stored layouts and constants" header_has gcc
+    try "rrs.h declares the stored functions" declares
+    try "rrs.h asserts each layout" asserts_all
+    try "three_words is built" build gcc three_words "$here/c/three_words.c"
+    try "three_words prints what is stored" prints three_words
+    try "rust: its tests" rust_passes 7 "$crate/out"
+    try "rust: three_words prints what is stored" rust_prints
+    try "python: its tests" python_passes 24
+    try "python: three_words prints what is stored" python_prints
+    try "python: the structs and constants are those of rrs.h" python_has_layouts
+}
+
+# Tools that answer as is stored; that print more, end otherwise, or run fewer tests. Each try that
+# looks at this must fail: right, more, ended or fewer
+wrong_tools() {
+    local wanted
+    case $1 in
+    right) wanted=0 && over_tools 0 ;;
+    more) wanted=6 && over_tools 0 "echo more" ;;
+    ended) wanted=9 && over_tools 1 ;;
+    fewer) wanted=2 && over_tools 0 "" 1 ;;
+    esac
+    [ "$fails" = "$wanted" ] || { echo "$fails tries fail, and $wanted must" && exit 3; }
+    finish 10
+}
+
 # What is small, with something wrong in it: nothing, answers, lines, talks, layouts, assertions,
 # asserted, names, asks, state, tries, or one of the calls
 wrong() {
@@ -461,12 +552,13 @@ wrong() {
 # Each wrong subject must be seen, and the right one must pass.
 self_test() {
     local what status
-    for what in nothing answers lines talks layouts assertions asserted names asks state tries $wrong_calls; do
+    for what in nothing right more ended fewer answers lines talks layouts assertions asserted names \
+        asks state tries $wrong_calls; do
         status=0
         "$here/check.sh" --wrong "$what" >"$room/seen" 2>&1 || status=$?
         case $what:$status in
-        nothing:0) ;;
-        nothing:*) cat "$room/seen" && failed=1 ;;
+        nothing:0 | right:0) ;;
+        nothing:* | right:* | *:3) cat "$room/seen" && failed=1 ;;
         *:1) grep -q '^failed: ' "$room/seen" || failed=1 ;;
         *) echo "not seen: $what is wrong" && failed=1 ;;
         esac
@@ -478,6 +570,7 @@ self_test() {
 case "$*" in
 "") all ;;
 --self-test) self_test ;;
+--wrong\ right | --wrong\ more | --wrong\ ended | --wrong\ fewer) wrong_tools "$2" ;;
 --wrong\ *) wrong "$2" ;;
 *)
     echo "usage: check.sh [--self-test]" >&2

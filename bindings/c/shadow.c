@@ -8,7 +8,9 @@
 
 #define BASE 0x80000000u
 #define WORDS 1024
+#ifndef STEPS
 #define STEPS 5000000u
+#endif
 
 /* The registers of the program. */
 enum { LINK = 1, NUMBER = 5, DATA = 6, PLACE = 7, SUM = 8, END = 9, A = 10, B, C, D, E, F, G };

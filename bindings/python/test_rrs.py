@@ -67,12 +67,16 @@ class Faces(unittest.TestCase):
         ):
             self.assertRaises(ValueError, *call)
         self.assertEqual((machine.pc, machine.registers[:]), (0, [0] * 32))
+        for value, word in ((-(2**31), 2**31), (-1, 2**32 - 1), (2**32 - 1, 2**32 - 1), (0, 0)):
+            self.assertEqual(Machine([value]).memory[0], word)
 
     def test_programs_are_words_or_bytes_and_have_a_size(self):
         for program in (b"\x93\x80\x10\x00\x73", [0x00108093, 0x73], (0x00108093, 0x73)):
             self.assertEqual(Machine(program).memory[:], [0x00108093, 0x73])
         for program in (bytearray(b"\1\2\3"), memoryview(b"\1\2\3\0")):
             self.assertEqual(Machine(program, size=3).memory[:], [0x00030201, 0, 0])
+        for count in range(9):
+            self.assertEqual(len(Machine(bytes(count)).memory), (count + 3) // 4)
         self.assertEqual(Machine([-1], 2**32 - 4, 2).memory[:], [2**32 - 1, 0])
         self.assertEqual(Machine([], -4).base, 2**32 - 4)
         self.assertEqual(Machine([1]).base, 0)
