@@ -1,5 +1,6 @@
-// Three tasks take turns by the timer. Each computes until it had TURNS turns, and then looks
-// whether its result is what it would be alone: a register that a switch lost would change it. What
+// Three tasks take turns by the timer. Each computes until it had TURNS turns, with values of its own
+// in all registers, and looks whether its result is what it would be alone: a register that a switch
+// lost would change it. What
 // is printed does not depend on how long a turn is.
 #include "board.h"
 
@@ -16,6 +17,7 @@ static char order[TASKS * TURNS + 1];
 static int current, switches;
 
 void start_task(struct frame *frame);
+uint32_t holds(uint32_t seed);
 void finish(uint32_t status);
 
 static uint32_t mixed(uint32_t x, uint32_t task) {
@@ -28,6 +30,8 @@ static void task(uint32_t number) {
     uint32_t result = 0, rounds = 0;
     while (turns[number] < TURNS || rounds == 0) {
         result = mixed(number, number);
+        for (int i = 0; i < 20; i++)
+            result = holds(result);
         rounds++;
         if (result != wanted[number])
             break;

@@ -44,6 +44,29 @@ restore:
     lw a0, 40(a0)
     mret
 
+# holds(seed): has seed + n in each register xn but sp and a0, and answers the seed where each still has
+# it, and else 0
+    .globl holds
+holds:
+    addi sp, sp, -128
+    .irp n, 1,3,4,8,9,18,19,20,21,22,23,24,25,26,27
+    sw x\n, 4*\n(sp)
+    .endr
+    .irp n, 1,3,4,5,6,7,8,9,11,12,13,14,15,16,17,18,19,20,21,22,23,24,25,26,27,28,29,30,31
+    addi x\n, a0, \n
+    .endr
+    .irp n, 1,3,4,5,6,7,8,9,11,12,13,14,15,16,17,18,19,20,21,22,23,24,25,26,27,28,29,30,31
+    addi x\n, x\n, -\n
+    bne x\n, a0, 1f
+    .endr
+    j 2f
+1:  li a0, 0
+2:  .irp n, 1,3,4,8,9,18,19,20,21,22,23,24,25,26,27
+    lw x\n, 4*\n(sp)
+    .endr
+    addi sp, sp, 128
+    ret
+
 # finish(status): ends the program
     .globl finish
 finish:
