@@ -6,7 +6,8 @@ usage: packets.py RRS PROGRAM COUNT
 Each packet has to end in one answer, and the session has to go on behind it. Before and behind each
 packet the registers and some bytes of memory are asked for: where the answer is an error they must be
 the same. The packets are those of a list, of which most are changed in a byte or more; some are
-random bytes. A packet with a wrong sum is answered by `-`. The status is 0 where all is so, else 1.
+random bytes. A packet with a wrong sum is answered by `-`. The status is 0 where all is so, else 1. The
+last line says how many answers were errors, and behind how many packets something was other than before.
 """
 
 import random
@@ -91,16 +92,17 @@ def main():
     if run.returncode or len(seen) != len(sent):
         print(f"status {run.returncode}, {len(seen)} answers to {len(sent)} packets: {run.stderr[:200]}")
         return 1
-    errors = 0
+    errors = changes = 0
     for index, (payload, wrong) in enumerate(wants):
         before, after = seen[3 * index:3 * index + 2], seen[3 * index + 3:3 * index + 5]
         answer = seen[3 * index + 2]
         is_kept = answer[:1] == b"E" or answer == b"-"
         errors += answer[:1] == b"E"
+        changes += before != after
         if (answer == b"-") != (wrong != 0) or is_kept and before != after:
             print(f"{payload}: {answer}, {before} {after}")
             return 1
-    print(f"{count} random packets: {errors} errors, each with the machine as it was")
+    print(f"{count} random packets: {errors} errors, each with the machine as it was, {changes} changes")
     return 0
 
 
