@@ -140,6 +140,22 @@ def assembly_from_elsewhere(machine):
          [page.ask("rrs.session.language"), machine.register("x2")])
 
 
+def long_sources(machine):
+    """a long source is not coloured, and a longer one is not read while one types"""
+    page = machine.page
+    machine.choose("three")
+    machine.keys("e")
+    page.choose("#language", "words")
+    seen = {length: page.ask(
+        f"(() => {{ $('text').value = 'x'.repeat({length}); rrs.editor.changed();"
+        " rrs.editor.read(); return [$('code').className, $('colours').textContent.length,"
+        " rrs.editor.mistakes.length]; })()") for length in (1 << 15, (1 << 15) + 1, 1 << 17, (1 << 17) + 1)}
+    same("sources by their lengths", {
+        32768: ["code", 32769, 1], 32769: ["code plain", 0, 1], 131072: ["code plain", 0, 1],
+        131073: ["code plain", 0, 0]}, seen)
+    machine.escape()
+
+
 CHECK = "document.getElementById('exercise-check').className"
 CURRENT = "document.querySelector('#exercises [aria-current]').textContent"
 
@@ -227,4 +243,4 @@ def convention(machine):
     same("at the start", [], page.ask(REMARKS))
 
 
-TRIALS = [assembly, while_one_types, assembly_from_elsewhere, lesson, convention]
+TRIALS = [assembly, while_one_types, long_sources, assembly_from_elsewhere, lesson, convention]

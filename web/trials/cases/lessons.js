@@ -137,6 +137,8 @@ function convention(report, page, kit) {
       + "call."]],
     ["jal t0, 1f\nebreak\n1: addi sp, sp, -16; jr t0", []],
   ], told);
+  const many = `li t1, 1\n${"jal f\nmv a0, t1\n".repeat(25)}ebreak\nf: ret`;
+  report.same("how many remarks are kept", 20, page.remarksOf(ran(page, kit, many)).length);
   // by the psABI: those that a function keeps, and those in which it returns its value
   const kept = [2, 3, 4, 8, 9, ...Array.from({ length: 10 }, (_, at) => 18 + at)];
   for (let number = 1; number < 32; number++) {

@@ -82,6 +82,9 @@ function files(report, page) {
     const refused = Report.refused(() => { text = page.textOfFile(content, 65536); });
     return refused ?? text;
   });
+  report.same("the control characters that a text may have", [9, 10, 11, 12, 13],
+    [...Array.from({ length: 32 }, (_, byte) => byte), 127]
+      .filter((byte) => page.textIn(bytes(0x31, byte)) !== null));
   report.cases("why a file of a size is not read", [
     [0, "is empty."], [1, ""], [8 * MIB, ""],
     [8 * MIB + 1, "has 8,388,609 bytes, and a program 8,388,608 at most."],
