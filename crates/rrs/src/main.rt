@@ -13,5 +13,5 @@ use std::process::ExitCode;
 fn main(rt: HostRuntime) -> ExitCode {
     let heap = Heap::new(HEAP_START, HEAP_END);
     let mut environment = Linux::new(rt.stdin(), rt.stdout(), rt.stderr(), heap);
-    run_rrs(&rt, &mut environment)
+    run_rrs(&rt, &mut environment, &mut rt.stderr())
 }

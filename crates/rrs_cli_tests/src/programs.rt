@@ -12,8 +12,9 @@ use std::alloc::Global;
 use std::process::ExitCode;
 use std::test::Fail;
 
-/// What is left of a program: its status, what it says on standard error, and what it printed.
-type Left = (ExitCode, Vec<u8>, Vec<u8>);
+/// What is left of a program: its status, what it says on standard error, what it printed, and the
+/// report of a run.
+type Left = (ExitCode, Vec<u8>, Vec<u8>, Vec<u8>);
 
 /// A program.
 #[derive(Clone, Copy)]
@@ -24,8 +25,14 @@ enum Program {
     Rrs,
 }
 
-/// Ends a program, and gives its status. What it simulates reads nothing, and prints nothing.
-fn status_of(machine: &Machine<'_>, alloc: Global, program: Program) -> ExitCode {
+/// Ends a program, and gives its status. What it simulates reads nothing, and prints nothing. The
+/// report of a run goes to `report`.
+fn status_of(
+    machine: &Machine<'_>,
+    alloc: Global,
+    program: Program,
+    report: &mut Vec<u8>,
+) -> ExitCode {
     match program {
         Program::Run => run_program(machine),
         Program::Rrs => {
@@ -34,6 +41,7 @@ fn status_of(machine: &Machine<'_>, alloc: Global, program: Program) -> ExitCode
             run_rrs(
                 machine,
                 &mut Linux::new(b"".as_slice(), output, errors, heap),
+                report,
             )
         }
     }
@@ -48,13 +56,24 @@ fn run(
     room: usize,
 ) -> Left {
     let machine = Machine::new(alloc, words, files, room);
-    let status = status_of(&machine, alloc, program);
+    let mut report = Vec::new(alloc);
+    let status = status_of(&machine, alloc, program, &mut report);
     let (said, printed) = machine.into_outputs();
-    (status, said, printed)
+    (status, said, printed, report)
 }
 
-/// Files of a program, and of jal x0, 0, which jumps to itself.
-const FILES: [Contents<'static>; 2] = [
+/// An executable with no symbols, from 0x10054 on: addi x10, x0, 7 / lui x12, 0x10 / sw x10, 0(x12) /
+/// lw x11, 0(x12) / addi x17, x0, 93 / ecall.
+const PROCESS: &[u8] = b"\x7f\x45\x4c\x46\x01\x01\x01\x00\x00\x00\x00\x00\x00\x00\x00\x00\
+    \x02\x00\xf3\x00\x01\x00\x00\x00\x54\x00\x01\x00\x34\x00\x00\x00\
+    \x00\x00\x00\x00\x00\x00\x00\x00\x34\x00\x20\x00\x01\x00\x28\x00\x00\x00\x00\x00\
+    \x01\x00\x00\x00\x00\x00\x00\x00\x00\x00\x01\x00\x00\x00\x01\x00\
+    \x6c\x00\x00\x00\x6c\x00\x00\x00\x07\x00\x00\x00\x00\x10\x00\x00\
+    \x13\x05\x70\x00\x37\x06\x01\x00\x23\x20\xa6\x00\
+    \x83\x25\x06\x00\x93\x08\xd0\x05\x73\x00\x00\x00";
+
+/// Files of a program, of jal x0, 0, which jumps to itself, and of an executable. None can be written.
+const FILES: [Contents<'static>; 3] = [
     Contents {
         name: "program",
         bytes: THREE_WORDS,
@@ -65,27 +84,43 @@ const FILES: [Contents<'static>; 2] = [
         bytes: b"\x6f\x00\x00\x00",
         fails: false,
     },
+    Contents {
+        name: "process",
+        bytes: PROCESS,
+        fails: false,
+    },
 ];
 
 /// Whether a program printed nothing, and ended with this status and this line.
 fn says(left: &Left, status: u8, line: &str) -> bool {
-    left.0 == ExitCode::from(status) && left.1.as_slice() == line.as_bytes() && left.2.is_empty()
+    left.0 == ExitCode::from(status)
+        && left.1.as_slice() == line.as_bytes()
+        && left.2.is_empty()
+        && left.3.is_empty()
 }
 
 /// How `rrs-run` is called.
 const RUN_USAGE: &str = "usage: rrs-run FILE LIMIT\n";
 
 /// How `rrs` is called.
-const RRS_USAGE: &str = "usage: rrs run|exec|as|dis|elf|board|gdb|help ..\n";
+const RRS_USAGE: &str = "usage: rrs run|exec|trace|cover|as|dis|elf|board|gdb|help ..\n";
 
 /// How `rrs run` is called.
 const QUIET_USAGE: &str = "usage: rrs run [--quiet] FILE LIMIT\n";
+
+/// How `rrs trace` is called.
+const TRACE_USAGE: &str = "usage: rrs trace [--limit STEPS] [--memory BYTES] \
+    [--from ADDRESS|SYMBOL] [--output FILE]\n    PROGRAM [ARGUMENT] ..\n";
+
+/// How `rrs cover` is called.
+const COVER_USAGE: &str = "usage: rrs cover [--limit STEPS] [--memory BYTES] [--annotate] \
+    [--callgrind FILE]\n    [--output FILE] PROGRAM [ARGUMENT] ..\n";
 
 /// A program, words of its command line of which it does not do what they ask, its status, and its
 /// line on standard error.
 type Refused = (Program, &'static [&'static [u8]], u8, &'static str);
 
-static REFUSED: [Refused; 22] = [
+static REFUSED: [Refused; 31] = [
     (Program::Run, &[], 2, RUN_USAGE),
     (Program::Run, &[b"rrs-run"], 2, RUN_USAGE),
     (Program::Run, &[b"rrs-run", b"program"], 2, RUN_USAGE),
@@ -158,6 +193,55 @@ static REFUSED: [Refused; 22] = [
         132,
         "rrs exec: IllegalInstruction pc=0x0000000c word=0x00000000\n",
     ),
+    (Program::Rrs, &[b"rrs", b"trace"], 125, TRACE_USAGE),
+    (
+        Program::Rrs,
+        &[b"rrs", b"trace", b"--from"],
+        125,
+        TRACE_USAGE,
+    ),
+    (
+        Program::Rrs,
+        &[b"rrs", b"cover", b"--callgrind", b"loop"],
+        125,
+        COVER_USAGE,
+    ),
+    (
+        Program::Rrs,
+        &[b"rrs", b"cover", b"--from", b"0", b"process"],
+        125,
+        "rrs cover: cannot open file\n",
+    ),
+    (
+        Program::Rrs,
+        &[b"rrs", b"trace", b"--annotate", b"process"],
+        125,
+        "rrs trace: cannot open file\n",
+    ),
+    (
+        Program::Rrs,
+        &[b"rrs", b"trace", b"--from", b"main", b"process"],
+        125,
+        "rrs trace: --from: no address, and no symbol of PROGRAM\n",
+    ),
+    (
+        Program::Rrs,
+        &[b"rrs", b"trace", b"--output", b"missing", b"process"],
+        125,
+        "rrs trace: cannot create file\n",
+    ),
+    (
+        Program::Rrs,
+        &[b"rrs", b"cover", b"--callgrind", b"missing", b"process"],
+        125,
+        "rrs cover: cannot create file\n",
+    ),
+    (
+        Program::Rrs,
+        &[b"rrs", b"trace", b"--output", b"loop", b"process"],
+        125,
+        "rrs trace: cannot write output\n",
+    ),
 ];
 
 #[test]
@@ -227,7 +311,7 @@ fn says_why_a_file_is_not_run(rt: HostRuntime) -> Result<(), Fail> {
 
 /// What is printed of a file that is run, where there is room for all of it.
 fn whole_account(alloc: Global, program: Program, words: &[&[u8]]) -> Result<Vec<u8>, Fail> {
-    let (status, said, printed) = run(alloc, program, words, &FILES, 100_000);
+    let (status, said, printed, _report) = run(alloc, program, words, &FILES, 100_000);
     if status != ExitCode::SUCCESS || !said.is_empty() {
         return Err(Fail::from("the run with room for all failed"));
     }
@@ -307,6 +391,94 @@ fn runs_the_file_that_is_named_up_to_the_limit_that_is_named(rt: HostRuntime) ->
         assert!(rt; is_account(&printed, want.as_bytes()), "{want}");
     }
     Ok(())
+}
+
+/// The last two lines of the log of `process`, in Spike's form.
+const LAST_LINES: &str = "core   0: 3 0x00010064 (0x05d00893) x17 0x0000005d\n\
+    core   0: 3 0x00010068 (0x00000073)\n";
+
+/// The log of `process`, in Spike's form, up to those.
+const FIRST_LINES: &str = "core   0: 3 0x00010054 (0x00700513) x10 0x00000007\n\
+    core   0: 3 0x00010058 (0x00010637) x12 0x00010000\n\
+    core   0: 3 0x0001005c (0x00a62023) mem 0x00010000 0x00000007\n\
+    core   0: 3 0x00010060 (0x00062583) x11 0x00000007 mem 0x00010000\n";
+
+/// Words of a command line, the status, what is said, and how the report begins and ends.
+type Reported = (
+    &'static [&'static [u8]],
+    u8,
+    &'static str,
+    &'static str,
+    &'static str,
+);
+
+static REPORTED: [Reported; 5] = [
+    (
+        &[b"rrs", b"trace", b"process", b"argument"],
+        7,
+        "",
+        FIRST_LINES,
+        LAST_LINES,
+    ),
+    (
+        &[b"rrs", b"trace", b"--from", b"0x10064", b"process"],
+        7,
+        "",
+        LAST_LINES,
+        LAST_LINES,
+    ),
+    (
+        &[
+            b"rrs", b"trace", b"--from", b"65636", b"--limit", b"5", b"process",
+        ],
+        124,
+        "rrs trace: limit\n",
+        "core   0: 3 0x00010064 (0x05d00893) x17 0x0000005d\n",
+        "core   0: 3 0x00010064 (0x05d00893) x17 0x0000005d\n",
+    ),
+    (
+        &[b"rrs", b"cover", b"process"],
+        7,
+        "",
+        "executed       of      entered        steps  function\n",
+        "            6  (all)\n",
+    ),
+    (
+        &[
+            b"rrs",
+            b"cover",
+            b"--annotate",
+            b"--limit",
+            b"1",
+            b"process",
+        ],
+        124,
+        "rrs cover: limit\n",
+        "\nprocess:     file format elf32-littleriscv\n",
+        "           0     10068:\t00000073          \tecall\n",
+    ),
+];
+
+/// Whether a report begins and ends so. A log has these lines alone.
+fn is_report(report: &[u8], beginning: &str, end: &str) -> bool {
+    let is_whole = report.len() <= beginning.len().saturating_add(end.len());
+    report.starts_with(beginning.as_bytes())
+        && report.ends_with(end.as_bytes())
+        && (is_whole || !beginning.starts_with("core"))
+}
+
+#[test]
+fn reports_a_run(rt: HostRuntime) {
+    for &(words, status, line, beginning, end) in &REPORTED {
+        let (ended, said, printed, report) = run(rt.alloc(), Program::Rrs, words, &FILES, 10_000);
+        assert!(rt;
+            ended == ExitCode::from(status)
+                && said.as_slice() == line.as_bytes()
+                && printed.is_empty()
+                && is_report(&report, beginning, end),
+            "{words:?}"
+        );
+    }
 }
 
 /// Whether an account of this length is tried with this room: near both ends, and at times between.

@@ -9,9 +9,9 @@ use Rattle.rrs_env.specs.declared.Ending.{Ending}
 use Rattle.rrs_env.specs.declared.Ending.TheVariants.{Limit, Fault, Exit}
 use Rattle.rrs_cli.specs.Failures as Failures
 use Rattle.rrs_commands.specs.declared.ending.Refusal.{Refusal}
-use Rattle.rrs_commands.specs.declared.ending.Refusal.TheVariants.{SourceErrors, UnreadableSource, LargeSource, UnreadableInput, LargeProgram, WrongLimit, Image, IsElf, Failed}
+use Rattle.rrs_commands.specs.declared.ending.Refusal.TheVariants.{SourceErrors, UnreadableSource, LargeSource, UnreadableInput, LargeProgram, WrongLimit, Image, IsElf, NoAddress, CannotCreate, Failed}
 use Rattle.rrs_commands.specs.declared.subcommands.Task.{Task}
-use Rattle.rrs_commands.specs.declared.subcommands.Task.TheVariants.{Execute, Board}
+use Rattle.rrs_commands.specs.declared.subcommands.Task.TheVariants.{Execute, Trace, Cover, Board}
 
 abbrev pub signal_of : InstructionException → ℕ
 signal_of (IllegalInstruction pc word) = 4  -- SIGILL
@@ -25,6 +25,8 @@ signal_of (EnvironmentCall pc) = 31  -- SIGSYS; each call is served
 -- where a subcommand refuses what it is asked
 abbrev pub refused_status : Task → Refusal → ℕ
 refused_status Execute refusal = 125
+refused_status Trace refusal = 125
+refused_status Cover refusal = 125
 refused_status Board refusal = 125
 refused_status task SourceErrors = 1
 refused_status task UnreadableSource = 1
@@ -34,6 +36,8 @@ refused_status task LargeProgram = 1
 refused_status task WrongLimit = 2
 refused_status task (Image error) = 1
 refused_status task IsElf = 1
+refused_status task NoAddress = 1
+refused_status task CannotCreate = 1
 refused_status task (Failed failure) = Failures.status_of failure
 
 abbrev pub status_of : Task → Result Ending Refusal → ℕ

@@ -6,3 +6,4 @@ pub mod Quiet
 pub mod Execution
 pub mod Endings
 pub mod Requests
+pub mod Reports

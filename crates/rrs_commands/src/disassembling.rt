@@ -27,7 +27,7 @@ fn unwritten(_error: io::Error) -> Refusal {
 ///
 /// `Refusal::Image` where the file is no executable, or has a symbol table that can't be read, and
 /// out of memory.
-fn code_of(alloc: Global, file: &[u8]) -> Result<Code<'_>, Refusal> {
+pub(crate) fn code_of(alloc: Global, file: &[u8]) -> Result<Code<'_>, Refusal> {
     let program = Executable::parse(file).map_err(refused)?;
     let symbols = program.symbols().map_err(refused)?;
     match Code::new(alloc, file, &program, symbols) {

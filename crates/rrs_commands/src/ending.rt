@@ -31,6 +31,10 @@ pub enum Refusal {
     Image(ImageError),
     /// The file is an ELF file, and its bytes are not to be run as they stand.
     IsElf,
+    /// The word for an address is none, and no symbol has this name.
+    NoAddress,
+    /// A file that is to be written can't be created.
+    CannotCreate,
     /// Something else failed.
     Failed(Failure),
 }
@@ -67,7 +71,7 @@ fn refused_status(task: Task, refusal: &Refusal) -> u8
     ensures { result ≡ refused_status task refusal.now }
 {
     match (task, refusal) {
-        (Task::Execute | Task::Board, _) => 125,
+        (Task::Execute | Task::Trace | Task::Cover | Task::Board, _) => 125,
         (_, Refusal::WrongLimit) => 2,
         (_, Refusal::Failed(failure)) => failure.status(),
         (_, _) => 1,
@@ -121,6 +125,13 @@ pub fn conclude<H: Eprint>(
             eprintln!(rt; "{}: {}", program.name, ToldImageError(error))
         }
         Err(Refusal::IsElf) => { eprintln!(rt; "{}: an ELF file: rrs exec runs it", program.name) }
+        Err(Refusal::NoAddress) => {
+            eprintln!(rt;
+                "{}: --from: no address, and no symbol of PROGRAM",
+                program.name
+            )
+        }
+        Err(Refusal::CannotCreate) => eprintln!(rt; "{}: cannot create file", program.name),
         Err(Refusal::Failed(failure)) => rt.eprintln(NamedFailure { program, failure }),
     };
     ExitCode::from(status)

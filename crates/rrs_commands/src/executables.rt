@@ -42,7 +42,7 @@ pub fn execute_executable<H: Files + Eprint + AllocGlobal, R: Read, W: Write, E:
     );
     match run {
         Ok(end) => {
-            tell(rt, &file, &end);
+            tell(rt, "rrs exec", &file, &end);
             Ok(end.ending)
         }
         Err(error) => Err(Refusal::Image(error)),
@@ -73,23 +73,23 @@ fn read_all<R: Read + Drop>(alloc: Global, reader: R) -> Result<Vec<u8>, Refusal
     }
 }
 
-/// Tells of a fault where it was, in which function, and after how many steps. Where that can't be
-/// printed nothing is told.
-fn tell<H: Eprint>(rt: &H, file: &[u8], end: &ProcessEnd) {
+/// Tells of a fault where it was, in which function, and after how many steps, behind the name of the
+/// program. Where that can't be printed nothing is told.
+pub fn tell<H: Eprint>(rt: &H, program: &str, file: &[u8], end: &ProcessEnd) {
     let Ending::Fault(fault) = &end.ending else {
         return;
     };
     let (pc, steps) = (end.pc, end.steps);
     let _ = match place_of(file, pc) {
         Some((name, distance)) => {
-            eprintln!(rt; "rrs exec: at pc 0x{pc:08x}, {name} + {distance}, after {steps} steps")
+            eprintln!(rt; "{program}: at pc 0x{pc:08x}, {name} + {distance}, after {steps} steps")
         }
-        None => eprintln!(rt; "rrs exec: at pc 0x{pc:08x}, after {steps} steps"),
+        None => eprintln!(rt; "{program}: at pc 0x{pc:08x}, after {steps} steps"),
     };
     if let InstructionException::IllegalInstruction(_, word) = fault {
         if word % 4 != 3 {
             let half = word % 65536;
-            let _ = eprintln!(rt; "rrs exec: 0x{half:04x} is compressed code");
+            let _ = eprintln!(rt; "{program}: 0x{half:04x} is compressed code");
         }
     }
 }

@@ -1,5 +1,6 @@
 //! What the subcommands of `rrs` do: runs of files, with and without a line for each instruction,
-//! programs that make system calls of Linux, and the assembly of sources.
+//! programs that make system calls of Linux, with a report of the run or none, and the assembly of
+//! sources.
 //!
 //! `subcommands` has the table of them, and `ending` turns how one ended into its status and its
 //! line on standard error.
@@ -8,6 +9,7 @@
 
 pub mod assembly;
 pub mod boards;
+pub mod covering;
 pub mod debugging;
 pub mod debugging_request;
 pub mod disassembling;
@@ -18,5 +20,8 @@ pub mod execution;
 pub mod image_errors;
 pub mod program;
 pub mod quiet;
+pub mod report_files;
+pub mod report_requests;
 pub mod requests;
 pub mod subcommands;
+pub mod tracing;

@@ -150,7 +150,7 @@ pub fn program_request_of(words: &[String]) -> Result<ProgramRequest<'_>, Refusa
 /// # Errors
 ///
 /// `Refusal::WrongLimit` where it is none, and where there is no word `Failure::Usage`.
-fn number_before(words: &[String]) -> Result<(u64, &[String]), Refusal>
+pub(crate) fn number_before(words: &[String]) -> Result<(u64, &[String]), Refusal>
     ensures number { IfOk result (λ found. BeginsWithNumber (map string_bytes words.now) found.0
         (map string_bytes found.1.now)) }
     ensures refused { IfErr result (λ refusal.

@@ -9,6 +9,10 @@ pub enum Task {
     Run,
     /// It runs a program that makes system calls.
     Execute,
+    /// It runs such a program, and writes the log of the run.
+    Trace,
+    /// It runs such a program, and writes what the run covered.
+    Cover,
     /// It assembles a source.
     Assemble,
     /// It lists what an executable has.
@@ -39,7 +43,17 @@ pub struct Subcommand {
 }
 
 /// The subcommands.
-pub static SUBCOMMANDS: [Subcommand; 7] = [RUN, EXECUTE, ASSEMBLE, DISASSEMBLE, LIST, BOARD, DEBUG];
+pub static SUBCOMMANDS: [Subcommand; 9] = [
+    RUN,
+    EXECUTE,
+    TRACE,
+    COVER,
+    ASSEMBLE,
+    DISASSEMBLE,
+    LIST,
+    BOARD,
+    DEBUG,
+];
 
 /// The program itself, where it is asked for help or for no subcommand.
 pub static ITSELF: Subcommand = HELP;
@@ -83,6 +97,48 @@ Status: the program's own; 124 at the limit; 125 where it can't be run; 128 and
 the number of a signal for a fault: 132 illegal instruction, 133 breakpoint,
 135 misaligned address, 139 address that is not mapped or not writable; 141 where
 nobody reads what the program writes.
+",
+};
+
+/// `rrs trace`.
+const TRACE: Subcommand = Subcommand {
+    word: "trace",
+    task: Task::Trace,
+    command: Command {
+        name: "rrs trace",
+        usage: "rrs trace [--limit STEPS] [--memory BYTES] [--from ADDRESS|SYMBOL] [--output FILE]
+    PROGRAM [ARGUMENT] ..",
+    },
+    summary: "runs a program as rrs exec does, and writes Spike's commit log",
+    help: "Runs PROGRAM as rrs exec does, and writes a line for each step, as Spike's
+--log-commits does: its pc, its word, the register that it wrote with its value, and
+mem with the address of its load, or of its store with the value. The lines go to
+standard error, or to FILE (--output), which is created or made empty. With --from
+they begin at the first step at an ADDRESS, which is decimal digits, or 0x and
+hexadecimal ones, or else the name of a SYMBOL.
+
+Status: as that of rrs exec.
+",
+};
+
+/// `rrs cover`.
+const COVER: Subcommand = Subcommand {
+    word: "cover",
+    task: Task::Cover,
+    command: Command {
+        name: "rrs cover",
+        usage: "rrs cover [--limit STEPS] [--memory BYTES] [--annotate] [--callgrind FILE]
+    [--output FILE] PROGRAM [ARGUMENT] ..",
+    },
+    summary: "runs a program as rrs exec does, and says what the run covered",
+    help: "Runs PROGRAM as rrs exec does, and writes what the run covered: of each function how
+many of its instructions were executed, how many it has, how often it was entered, and
+how many steps were made in it, those first that never ran. With --annotate it writes
+the disassembly, with a count before each instruction. It goes to standard error, or to
+FILE (--output), and with --callgrind the counts by function and by call go to a FILE
+in Callgrind's profile format, which callgrind_annotate and KCachegrind read.
+
+Status: as that of rrs exec.
 ",
 };
 
@@ -184,12 +240,12 @@ const HELP: Subcommand = Subcommand {
     task: Task::Help,
     command: Command {
         name: "rrs",
-        usage: "rrs run|exec|as|dis|elf|board|gdb|help ..",
+        usage: "rrs run|exec|trace|cover|as|dis|elf|board|gdb|help ..",
     },
     summary: "says this, as --help does",
     help: "A subcommand's own --help says more, such as rrs run --help. The status is 0, 1
-where something fails, and 2 for other words; rrs exec ends with that of its
-program.
+where something fails, and 2 for other words; rrs exec, rrs trace and rrs
+cover end with that of their program.
 ",
 };
 
