@@ -72,7 +72,7 @@ int kill(pid_t process, int signal)
     return 0;
 }
 
-// A call that is not served gives -1, and so do time and clock.
+// Where no clock is served, time gives -1.
 int gettimeofday(struct timeval *time, void *zone)
 {
     struct {

@@ -7,11 +7,12 @@
 
 use rrs_commands::execution::{HEAP_END, HEAP_START};
 use rrs_commands::program::run_rrs;
-use rrs_linux::{Heap, Linux};
+use rrs_linux::{Heap, Linux, LinuxClocks};
 use std::process::ExitCode;
 
 fn main(rt: HostRuntime) -> ExitCode {
     let heap = Heap::new(HEAP_START, HEAP_END);
-    let mut environment = Linux::new(rt.stdin(), rt.stdout(), rt.stderr(), heap);
+    let clocks = LinuxClocks::Host(rt);
+    let mut environment = Linux::new(rt.stdin(), rt.stdout(), rt.stderr(), heap, clocks);
     run_rrs(&rt, &mut environment, &mut rt.stderr())
 }

@@ -7,7 +7,7 @@ use rrs_cli::fault::RunFault;
 use rrs_cli::programs::{RRS_REPLAY, RRS_RUN};
 use rrs_commands::execution::{HEAP_END, HEAP_START};
 use rrs_commands::program::run_rrs;
-use rrs_linux::{Heap, Linux};
+use rrs_linux::{Heap, Linux, LinuxClocks, StoppedClocks};
 use std::alloc::Global;
 use std::process::ExitCode;
 use std::test::Fail;
@@ -38,9 +38,10 @@ fn status_of(
         Program::Rrs => {
             let heap = Heap::new(HEAP_START, HEAP_END);
             let (output, errors) = (Vec::new(alloc), Vec::new(alloc));
+            let clocks = LinuxClocks::Stopped(StoppedClocks::ZERO);
             run_rrs(
                 machine,
-                &mut Linux::new(b"".as_slice(), output, errors, heap),
+                &mut Linux::new(b"".as_slice(), output, errors, heap, clocks),
                 report,
             )
         }

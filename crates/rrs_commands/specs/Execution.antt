@@ -10,7 +10,7 @@ use Rattle.rrs_env.specs.declared.Ending.{Ending}
 use Rattle.rrs_env.specs.Serving.{Served}
 use Rattle.rrs_linux.specs.declared.Process.{Process}
 use Rattle.rrs_linux.specs.declared.host_writer.HostWriter.{HostWriter}
-use Rattle.rrs_linux.specs.declared.input_buffer.InputBuffer.{InputBuffer}
+use Rattle.rrs_linux.specs.declared.host_side.HostSide.{HostSide}
 use Rattle.rrs_linux.specs.SystemCalls.{Serves}
 
 -- The machine that a program starts in: 1 MiB with these bytes, and a hart all of whose registers
@@ -25,7 +25,7 @@ program_start bytes = start_of 262144 (0 ∷ 2 ^ 20 ∷ replicate 29 0) bytes
 pub record ExecutesProgram {R W E : Type 0} (remaining : R → Option (List ℕ))
     (contents : W → Option (List ℕ)) (errors_of : E → Option (List ℕ)) (limit : ℕ)
     (input rest : Option (List ℕ))
-    (old new : Process R (HostWriter W) (HostWriter E) InputBuffer) (ending : Ending) : Type 0 where
+    (old new : Process R (HostWriter W) (HostWriter E) HostSide) (ending : Ending) : Type 0 where
   pub bytes : ByteMap
   pub loaded : Loads input rest (bytes_of_words (zero_words 262144)) bytes
       (lies_in_words (zero_words 262144)) 0 (Ok tt)

@@ -13,7 +13,7 @@ use Rattle.rrs_env.specs.Serving.{Served}
 use Rattle.rrs_linux.specs.declared.Heap.{Heap}
 use Rattle.rrs_linux.specs.declared.Process.{Process}
 use Rattle.rrs_linux.specs.declared.host_writer.HostWriter.{HostWriter}
-use Rattle.rrs_linux.specs.declared.input_buffer.InputBuffer.{InputBuffer}
+use Rattle.rrs_linux.specs.declared.host_side.HostSide.{HostSide}
 use Rattle.rrs_linux.specs.SystemCalls.{Serves}
 
 -- a hart at its entry, all of whose registers are 0 but x2, which is sp
@@ -40,7 +40,7 @@ module _ {R W E : Type 0} (remaining : R → Option (List ℕ))
   -- From an image, in a memory of these bytes under its marks, the machine runs and its system
   -- calls are served, and this is how that ends.
   pub record RunsImage (image : Image) (bytes : ByteMap) (writable : ℕ → Bool) (limit : ℕ)
-      (old new : Process R (HostWriter W) (HostWriter E) InputBuffer) (ending : Ending) : Type 0 where
+      (old new : Process R (HostWriter W) (HostWriter E) HostSide) (ending : Ending) : Type 0 where
     pub end : State
     pub steps : ℕ
     pub accesses : List Access
@@ -55,7 +55,7 @@ module _ {R W E : Type 0} (remaining : R → Option (List ℕ))
   -- is what they held, and what each write wrote, in order; and what its reader gave, the calls
   -- that read gave to the program.
   pub record RunsProcess (file : List ℕ) (arguments : List (List ℕ)) (wanted limit : ℕ)
-      (old new : Process R (HostWriter W) (HostWriter E) InputBuffer) (ending : Ending) : Type 0 where
+      (old new : Process R (HostWriter W) (HostWriter E) HostSide) (ending : Ending) : Type 0 where
     pub executable : IsExecutable file
     pub image : Image
     pub is_image : IsImage file arguments wanted image

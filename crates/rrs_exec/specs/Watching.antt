@@ -16,7 +16,7 @@ use Rattle.rrs_env.specs.declared.Ending.TheVariants.{Limit, Fault, Exit}
 use Rattle.rrs_env.specs.Serving.{Relation, resumed, Served}
 use Rattle.rrs_linux.specs.declared.Process.{Process}
 use Rattle.rrs_linux.specs.declared.host_writer.HostWriter.{HostWriter}
-use Rattle.rrs_linux.specs.declared.input_buffer.InputBuffer.{InputBuffer}
+use Rattle.rrs_linux.specs.declared.host_side.HostSide.{HostSide}
 use Rattle.rrs_linux.specs.SystemCalls.{Serves}
 use Rattle.rrs_exec.specs.Processes.{started, heap_of, RunsImage, RunsProcess}
 
@@ -107,7 +107,7 @@ module _ {R W E V : Type 0} (remaining : R → Option (List ℕ))
   -- A run from an image within the limit, or, where the watcher wants no more, within fewer steps.
   -- Each of its steps is shown.
   pub record WatchesImage (image : Image) (bytes : ByteMap) (writable : ℕ → Bool) (limit : ℕ)
-      (old new : Process R (HostWriter W) (HostWriter E) InputBuffer) (v v' : V)
+      (old new : Process R (HostWriter W) (HostWriter E) HostSide) (v v' : V)
       (steps : ℕ) (ending : Ending) : Type 0 where
     pub most : ℕ
     pub within : most ≤ limit
@@ -121,7 +121,7 @@ module _ {R W E V : Type 0} (remaining : R → Option (List ℕ))
   -- The run is one of `execute_process`, within the limit, or, where the watcher wants no more,
   -- within fewer steps. Each of its steps is shown.
   pub record WatchesProcess (file : List ℕ) (arguments : List (List ℕ)) (wanted limit : ℕ)
-      (old new : Process R (HostWriter W) (HostWriter E) InputBuffer) (v v' : V)
+      (old new : Process R (HostWriter W) (HostWriter E) HostSide) (v v' : V)
       (steps : ℕ) (ending : Ending) : Type 0 where
     pub most : ℕ
     pub within : most ≤ limit

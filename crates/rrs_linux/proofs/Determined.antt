@@ -1,28 +1,34 @@
 -- The calls of an environment over known bytes are determined: what is asked for, which text is transferred, and what is
 -- left.
-use Rattle.std.proofs.Common.{nat_lt, false, ◌≡◌, ℕ, zero, suc, ◌+◌, ◌*◌, min, ◌-◌, ◌%◌, ◌<◌, ◌≤◌, ◌==◌, ◌||◌, if◌then◌else◌, Bool, true, List, [], ◌∷◌, ◌++◌, length, take, get_or, Option, None, inl, inr, refl, sym, subst, ap, ◌∙◌, arith, ext_get_or, Vec, vec_capacity}
+use Rattle.std.proofs.Common.{nat_lt, false, ◌≡◌, ℕ, zero, suc, ◌+◌, ◌*◌, min, ◌-◌, ◌%◌, ◌<◌, ◌≤◌, ◌==◌, ◌||◌, if◌then◌else◌, Bool, true, List, [], ◌∷◌, ◌++◌, length, take, get_or, Option, None, Some, inl, inr, refl, sym, subst, ap, ◌∙◌, arith, ext_get_or, Vec, vec_capacity}
 use Rattle.std.proofs.lemmas.Bool.{cases_lt, ne_eqb, le-ltb, lt-ltb, false≢true}
 use Rattle.std.proofs.lemmas.Option.{none-some, same_Some}
 use Rattle.std.proofs.lemmas.List.{length-append, append_cancel_left}
 use Rattle.std.proofs.Math.Seq.{take-append_seam}
+use Rattle.std.specs.Duration.{as_nanos}
 use Rattle.std.specs.declared.alloc.Global.{Global}
+use Rattle.std.specs.declared.time.Duration.{Duration}
 use Rattle.rrs_lib.specs.declared.MemAccessSize.TheVariants.{Byte}
 use Rattle.rrs_lib.specs.Bytes.{ByteMap}
 use Rattle.rrs_lib.specs.AccessLists.{Access}
 use Rattle.rrs_lib.specs.Loading.{Loaded, byte_writes}
 use Rattle.rrs_lib.specs.Machine.{State}
 use Rattle.rrs_env.specs.Serving.{IsDeterminedBy}
+use Rattle.rrs_linux.specs.declared.clocks.TimeForm.TheVariants.{Timespec, Timeval}
+use Rattle.rrs_linux.specs.declared.recorder.Known.{Known}
 use Rattle.rrs_linux.specs.declared.requests.Request.{Request}
 use Rattle.rrs_linux.specs.declared.statuses.Lookup.{Lookup}
-use Rattle.rrs_linux.specs.declared.requests.Request.TheVariants.{Exit, Answer, Status, NamedStatus, ExtendedStatus, SetBreak, Read, WriteOutput, WriteErrors, WriteOutputPieces, WriteErrorPieces}
-use Rattle.rrs_linux.specs.Requests.{Asks, AsksBy, error, ToExit, ToRead, ToWriteOutput, ToWriteErrors, ToSetBreak, ToClose, ToControl, ToSeek, ToGetStatus, ToGetNamed, ToGetExtended, ToWriteOutputPieces, ToWriteErrorPieces, ToGetNumber, OfNoFile, OfNoFlags, OfNoCall, are_flags, are_statx_flags}
+use Rattle.rrs_linux.specs.declared.requests.Request.TheVariants.{Exit, Answer, Status, NamedStatus, ExtendedStatus, Time, SetBreak, Read, WriteOutput, WriteErrors, WriteOutputPieces, WriteErrorPieces}
+use Rattle.rrs_linux.specs.Requests.{Asks, AsksBy, error, ToExit, ToRead, ToWriteOutput, ToWriteErrors, ToSetBreak, ToClose, ToControl, ToSeek, ToGetStatus, ToGetNamed, ToGetExtended, ToWriteOutputPieces, ToWriteErrorPieces, ToGetTime, ToGetTimeOfDay, ToGetNumber, OfNoFile, OfNoFlags, OfNoClock, OfNoCall, are_flags, are_statx_flags}
+use Rattle.rrs_linux.specs.Clocks
+use Rattle.rrs_linux.specs.Clocks.{PutsTime, IsTold, form_of, stopped_at}
 use Rattle.rrs_linux.specs.Statuses
-use Rattle.rrs_linux.specs.Statuses.{PutsBytes, PutsNamed, IsPut, IsNamed, HasFailed, failed}
+use Rattle.rrs_linux.specs.Statuses.{PutsBytes, PutsNamed, IsPut, IsNamed, failed}
 use Rattle.rrs_linux.specs.Transfers.{Stands, byte_reads, most_bytes}
 use Rattle.rrs_linux.specs.Vectors
 use Rattle.rrs_linux.specs.Vectors.{WritesPieces, WritesVector, IsWritten, IsNegative, IsTooLong, together}
 use Rattle.rrs_linux.specs.SystemCalls.{Does, answered, moved, ended_by}
-use Rattle.rrs_linux.specs.Recording.{TakingEnds, GivingEnds, GivesText, TakesText, GivesInput, TakesOutput, Recording, Records, AlikeInputs, AlikeRecords, AlikeRecordings}
+use Rattle.rrs_linux.specs.Recording.{TakingEnds, GivingEnds, GivesText, TakesText, GivesInput, TakesOutput, TellsKnown, Recording, Records, AlikeInputs, AlikeRecords, AlikeRecordings}
 use Rattle.rrs_linux.specs.Recording
 
 -- ---- what is asked for
@@ -47,6 +53,16 @@ are_there request known = rw known refl
 are_not : {known : Bool} (request : Request) → known ≡ false → if_flags known request ≡ Answer (error 22)
 are_not request known = rw known refl
 
+-- what is asked for of a clock that there is
+abbrev if_clock : ℕ → Request → Request
+if_clock clock request = if nat_lt 3 clock then Answer (error 22) else request
+
+is_clock : (clock : ℕ) (request : Request) → clock ≤ 3 → if_clock clock request ≡ request
+is_clock clock request fits = rw (le-ltb 3 clock fits) refl
+
+is_no_clock : (clock : ℕ) (request : Request) → 3 < clock → if_clock clock request ≡ Answer (error 22)
+is_no_clock clock request past = rw (lt-ltb 3 clock past) refl
+
 -- what newfstatat and statx ask for
 abbrev named : (a0 a1 a2 a3 : ℕ) → Request
 named a0 a1 a2 a3 = NamedStatus (record { descriptor = a0; path = a1; flags = a3 }) a2
@@ -67,10 +83,12 @@ asked_for call a0 a1 a2 a3 a4 =
     else (if call == 172 then Answer 1
     else (if call == 79 then if_flags (are_flags a3) (named a0 a1 a2 a3)
     else (if call == 291 then if_flags (are_statx_flags a2 a3) (extended a0 a1 a2 a4)
+    else (if call == 403 then if_clock a0 (Time a0 Timespec a1)
+    else (if call == 169 then Time 0 Timeval a0
     else (if call == 57 then if_open a0 (Answer 0)
     else (if call == 29 then if_open a0 (Answer (error 25))
     else (if call == 62 then if_open a0 (Answer (error 29))
-    else (if call == 80 then if_open a0 (Status a1) else Answer (error 38))))))))))))
+    else (if call == 80 then if_open a0 (Status a1) else Answer (error 38))))))))))))))
 
 asks_for : {call a0 a1 a2 a3 a4 : ℕ} {r : Request} → AsksBy call a0 a1 a2 a3 a4 r → r ≡ asked_for call a0 a1 a2 a3 a4
 unfolding asked_for
@@ -118,6 +136,12 @@ asks_for {a0 = a0} {a1 = a1} {a2 = a2} {a3 = a3} {a4 = a4} (OfNoFile (inr (inr (
     is ∙ sym (ap (λ n. asked_for n a0 a1 a2 a3 a4) c ∙ rw (ne_eqb a0 1 no_output) (rw (ne_eqb a0 2 no_errors) refl))
 asks_for {a0 = a0} {a1 = a1} {a2 = a2} {a3 = a3} {a4 = a4} (OfNoFile (inr (inr (inr c, no_output, no_errors))) is) =
     is ∙ sym (ap (λ n. asked_for n a0 a1 a2 a3 a4) c ∙ rw (ne_eqb a0 1 no_output) (rw (ne_eqb a0 2 no_errors) refl))
+asks_for {a0 = a0} {a1 = a1} {a2 = a2} {a3 = a3} {a4 = a4} (ToGetTime c fits is) =
+    is ∙ sym (is_clock a0 (Time a0 Timespec a1) fits) ∙ (λ i. asked_for (sym c i) a0 a1 a2 a3 a4)
+asks_for {a0 = a0} {a1 = a1} {a2 = a2} {a3 = a3} {a4 = a4} (ToGetTimeOfDay c is) =
+    is ∙ (λ i. asked_for (sym c i) a0 a1 a2 a3 a4)
+asks_for {a0 = a0} {a1 = a1} {a2 = a2} {a3 = a3} {a4 = a4} (OfNoClock c past is) =
+    is ∙ sym (is_no_clock a0 (Time a0 Timespec a1) past) ∙ (λ i. asked_for (sym c i) a0 a1 a2 a3 a4)
 asks_for {a0 = a0} {a1 = a1} {a2 = a2} {a3 = a3} {a4 = a4} (OfNoFlags (inl named_so) is) =
     is ∙ sym (are_not (named a0 a1 a2 a3) named_so.1) ∙ (λ i. asked_for (sym named_so.0 i) a0 a1 a2 a3 a4)
 asks_for {a0 = a0} {a1 = a1} {a2 = a2} {a3 = a3} {a4 = a4} (OfNoFlags (inr named_so) is) =
@@ -125,8 +149,9 @@ asks_for {a0 = a0} {a1 = a1} {a2 = a2} {a3 = a3} {a4 = a4} (OfNoFlags (inr named
 asks_for {call = call} (OfNoCall none is) =
     is ∙ sym (rw (ne_eqb call 93 none.3) (rw (ne_eqb call 94 none.4) (rw (ne_eqb call 63 none.1)
     (rw (ne_eqb call 64 none.2) (rw (ne_eqb call 66 none.10) (rw (ne_eqb call 214 none.5) (rw (ne_eqb call 172 none.9)
-    (rw (ne_eqb call 79 none.11) (rw (ne_eqb call 291 none.12) (rw (ne_eqb call 57 none.0) (rw (ne_eqb call 29 none.6)
-    (rw (ne_eqb call 62 none.7) (rw (ne_eqb call 80 none.8) refl)))))))))))))
+    (rw (ne_eqb call 79 none.11) (rw (ne_eqb call 291 none.12)
+    (rw (ne_eqb call 403 none.13) (rw (ne_eqb call 169 none.14) (rw (ne_eqb call 57 none.0) (rw (ne_eqb call 29 none.6)
+    (rw (ne_eqb call 62 none.7) (rw (ne_eqb call 80 none.8) refl)))))))))))))))
 
 asks_one : (s : State) {r r' : Request} → Asks s r → Asks s r' → r ≡ r'
 asks_one s asks asks' = asks_for asks ∙ sym (asks_for asks')
@@ -378,12 +403,33 @@ module _ {writable : ℕ → Bool} {bytes : ByteMap} {lookup : Lookup} {a : ℕ}
         answers = same.answers;
         accesses = made ∙ (λ i. Access.Read lookup.path Byte (bytes lookup.path) ∷ same.accesses i) ∙ sym made';
       }
-  same_named (IsNamed put none puts made) (HasFailed fails kept made') = absurd (none-some _ (sym none ∙ fails))
-  same_named (HasFailed fails kept made) (IsNamed put none puts made') = absurd (none-some _ (sym none ∙ fails))
-  same_named (HasFailed fails kept made) (HasFailed fails' kept' made') = record {
+  same_named (IsNamed put none puts made) (Statuses.HasFailed fails kept made') = absurd (none-some _ (sym none ∙ fails))
+  same_named (Statuses.HasFailed fails kept made) (IsNamed put none puts made') = absurd (none-some _ (sym none ∙ fails))
+  same_named (Statuses.HasFailed fails kept made) (Statuses.HasFailed fails' kept' made') = record {
     inputs = refl;
     memories = λ x. ap (λ f. f x) (kept ∙ sym kept');
     answers = same_Some _ _ (sym fails ∙ fails');
+    accesses = made ∙ sym made';
+  }
+
+-- ---- a time
+
+module _ {form : ℕ → List ℕ} {writable : ℕ → Bool} {bytes : ByteMap} {a : ℕ} where
+  same_time : {new new' : ByteMap} {told told' : Option Duration} {xs xs' : List Access} {answer answer' : ℕ}
+      → told ≡ told' → PutsTime form writable bytes new told a xs answer
+      → PutsTime form writable bytes new' told' a xs' answer' → SameReads [] [] new new' answer answer' xs xs'
+  same_time {new = new} {xs = xs} {answer = answer} same (IsTold time is puts) (IsTold time' is' puts') =
+      let one : time ≡ time' = same_Some _ _ (sym is ∙ same ∙ is') in
+      let both = same_put (subst (λ t. PutsBytes writable bytes new a (form (as_nanos t)) xs answer) one puts) puts' in
+      record { inputs = refl; memories = both.memories; answers = both.answers; accesses = both.accesses }
+  same_time same (IsTold time is puts) (Clocks.HasFailed none kept made answers) =
+      absurd (none-some _ (sym none ∙ sym same ∙ is))
+  same_time same (Clocks.HasFailed none kept made answers) (IsTold time is puts) =
+      absurd (none-some _ (sym none ∙ same ∙ is))
+  same_time same (Clocks.HasFailed none kept made answers) (Clocks.HasFailed none' kept' made' answers') = record {
+    inputs = refl;
+    memories = λ x. ap (λ f. f x) (kept ∙ sym kept');
+    answers = answers ∙ sym answers';
     accesses = made ∙ sym made';
   }
 
@@ -560,9 +606,14 @@ alike_after : {d d' e e' : Recording} → d ≡ e → d' ≡ e' → AlikeRecordi
 alike_after {d = d} {e' = e'} same same' alike =
     subst (AlikeRecordings d) (sym same') (subst (λ x. AlikeRecordings x e') (sym same) alike)
 
+-- clocks that stand alike tell one time
+one_told : {known known' : Known} {told told' : Option Duration} (clock : ℕ) → known ≡ known'
+    → TellsKnown known clock told → TellsKnown known' clock told' → told ≡ told'
+one_told clock same told told' = told ∙ (λ i. Some (stopped_at (same i).clocks clock)) ∙ sym told'
+
 does_one : (request : Request) (s : State) {e e' d d' : Recording} {t t' : State} {xs xs' : List Access} {end end' : Option ℕ}
-    → AlikeRecordings e e' → Does GivesInput TakesOutput TakesOutput request e s d t xs end
-    → Does GivesInput TakesOutput TakesOutput request e' s d' t' xs' end' → SameCalls d d' t t' xs xs' end end'
+    → AlikeRecordings e e' → Does GivesInput TakesOutput TakesOutput TellsKnown request e s d t xs end
+    → Does GivesInput TakesOutput TakesOutput TellsKnown request e' s d' t' xs' end' → SameCalls d d' t t' xs xs' end end'
 does_one (Exit status) s alike did did' = record {
   environments = alike_after did.1 did'.1 alike;
   states = did.2 ∙ sym did'.2;
@@ -602,6 +653,16 @@ does_one (ExtendedStatus lookup a) s alike did did' =
       accesses = same.accesses;
       ends = did.0 ∙ sym did'.0;
     }
+does_one (Time clock form a) s alike did did' =
+    let told = one_told clock alike.held did.3 did'.3 in
+    let same = same_time told did.6 did'.6 in
+    let bytes : did.4 ≡ did'.4 = λ i x. same.memories x i in
+    record {
+      environments = alike_after did.1 did'.1 alike;
+      states = did.7 ∙ (λ i. answered (record s { bytes = bytes i }) (same.answers i)) ∙ sym did'.7;
+      accesses = same.accesses;
+      ends = did.0 ∙ sym did'.0;
+    }
 does_one (SetBreak a) s alike did did' =
     let heap = ap (λ h. moved h a) alike.heap in
     record {
@@ -617,7 +678,7 @@ does_one (SetBreak a) s alike did did' =
       ends = did.0 ∙ sym did'.0;
     }
 does_one (Read a count) s alike did did' =
-    let same = same_reads alike.inputs did.5 did'.5 in
+    let same = same_reads alike.inputs did.5.0 did'.5.0 in
     let bytes : did.3 ≡ did'.3 = λ i x. same.memories x i in
     record {
       environments = alike_after did.6 did'.6 record {
@@ -625,7 +686,7 @@ does_one (Read a count) s alike did did' =
         outputs = alike.outputs;
         error_outputs = alike.error_outputs;
         heap = alike.heap;
-        held = refl;
+        held = did.5.1 ∙ alike.held ∙ sym did'.5.1;
       };
       states = did.7 ∙ (λ i. answered (record s { bytes = bytes i }) (same.answers i)) ∙ sym did'.7;
       accesses = same.accesses;
@@ -694,7 +755,7 @@ determined = record {
   reflexive = λ e. record { inputs = refl; outputs = (refl, refl); error_outputs = (refl, refl); heap = refl; held = refl };
   determined = λ e e' d d' s t t' xs xs' end end' alike served served'.
       let asked = asks_one s served.asks served'.asks in
-      let does = subst (λ r. Does GivesInput TakesOutput TakesOutput r e s d t xs end) asked served.does in
+      let does = subst (λ r. Does GivesInput TakesOutput TakesOutput TellsKnown r e s d t xs end) asked served.does in
       let one = does_one served'.request s alike does served'.does in
       (one.environments, one.states, one.accesses, one.ends);
 }

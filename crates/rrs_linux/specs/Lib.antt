@@ -5,5 +5,6 @@ pub mod BufferedBytes
 pub mod Transfers
 pub mod Statuses
 pub mod Vectors
+pub mod Clocks
 pub mod SystemCalls
 pub mod Recording

@@ -11,6 +11,7 @@ use Rattle.rrs_lib.specs.Loading.{Loaded, byte_writes}
 use Rattle.rrs_lib.specs.Machine.{State}
 use Rattle.rrs_linux.specs.declared.Process.{Process}
 use Rattle.rrs_linux.specs.declared.recorder.Known.{Known}
+use Rattle.rrs_linux.specs.Clocks.{Tells, TellsStopped}
 use Rattle.rrs_linux.specs.Requests.{error}
 use Rattle.rrs_linux.specs.SystemCalls.{ServesBy, AreAlike}
 use Rattle.rrs_linux.specs.Transfers.{Gives, Takes, Stands, byte_reads, counted, most_bytes}
@@ -90,7 +91,7 @@ pub record GivesText (writable : ℕ → Bool) (bytes bytes' : ByteMap) (a count
 -- a read of bytes that are known: those that are left
 abbrev pub GivesInput : Gives (Bor (List ℕ)) Known
 GivesInput writable bytes bytes' a count old held new held' answer accesses =
-    GivesText writable bytes bytes' a count old.now new.now answer accesses
+    GivesText writable bytes bytes' a count old.now new.now answer accesses × (held' ≡ held)
 
 -- a write to a record, whose capacity is the room that it has
 abbrev pub TakesOutput : Takes (Vec ℕ Global)
@@ -98,13 +99,17 @@ TakesOutput bytes a count old new answer accesses =
     TakesText bytes a count (vec_capacity old) old.items new.items answer accesses
     × (vec_capacity new ≡ vec_capacity old)
 
+-- a clock that stands still
+abbrev pub TellsKnown : Tells Known
+TellsKnown known = TellsStopped known.clocks
+
 -- an environment over known bytes
 abbrev pub Recording : Type 0
 Recording = Process (Bor (List ℕ)) (Vec ℕ Global) (Vec ℕ Global) Known
 
 -- What a call does over known bytes.
 abbrev pub Records : Recording → State → Recording → State → List Access → Option ℕ → Type 0
-Records = ServesBy GivesInput TakesOutput TakesOutput
+Records = ServesBy GivesInput TakesOutput TakesOutput TellsKnown
 
 -- ---- which are alike
 

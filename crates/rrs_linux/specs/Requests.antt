@@ -6,10 +6,12 @@
 -- to write, each as a pipe is: it has no position, and is no terminal. close answers that it was
 -- done, and they stay open. The process is number 1. fstat, newfstatat and lseek, which Linux has
 -- in another form for 32 bits, take what a C library passes: three words to lseek, and a struct
--- stat64. Each other call is one that there is not.
+-- stat64. So does gettimeofday, which it has not: its second argument is not looked at. Each other
+-- call is one that there is not.
 use Rattle.std.specs.Prelude.{◌≡◌, ◌≢◌, ◌⊎◌, ℕ, ◌-◌, ◌%◌, ◌^◌, ◌<◌, ◌≤◌, ◌==◌, ◌&&◌, nat_lt, not, bit_and, Bool, true, false}
+use Rattle.rrs_linux.specs.declared.clocks.TimeForm.TheVariants.{Timespec, Timeval}
 use Rattle.rrs_linux.specs.declared.requests.Request.{Request}
-use Rattle.rrs_linux.specs.declared.requests.Request.TheVariants.{Exit, Answer, Status, NamedStatus, ExtendedStatus, SetBreak, Read, WriteOutput, WriteErrors, WriteOutputPieces, WriteErrorPieces}
+use Rattle.rrs_linux.specs.declared.requests.Request.TheVariants.{Exit, Answer, Status, NamedStatus, ExtendedStatus, Time, SetBreak, Read, WriteOutput, WriteErrors, WriteOutputPieces, WriteErrorPieces}
 use Rattle.rrs_lib.specs.Machine.{State, reg}
 
 -- the word that answers error n: -n
@@ -48,7 +50,7 @@ abbrev pub IsNoCall : ℕ → Type 0
 IsNoCall call =
     (call ≢ 57) × (call ≢ 63) × (call ≢ 64) × (call ≢ 93) × (call ≢ 94) × (call ≢ 214)
     × (call ≢ 29) × (call ≢ 62) × (call ≢ 80) × (call ≢ 172) × (call ≢ 66) × (call ≢ 79)
-    × (call ≢ 291)
+    × (call ≢ 291) × (call ≢ 403) × (call ≢ 169)
 
 -- what a call with this number and these arguments asks for
 pub data AsksBy (call a0 a1 a2 a3 a4 : ℕ) (request : Request) : Type 0 where
@@ -91,6 +93,13 @@ pub data AsksBy (call a0 a1 a2 a3 a4 : ℕ) (request : Request) : Type 0 where
       call ≡ 291 → are_statx_flags a2 a3 ≡ true
       → request ≡ ExtendedStatus (record { descriptor = a0; path = a1; flags = a2 }) a4
       → AsksBy call a0 a1 a2 a3 a4 request
+  -- clock_gettime64, of the clocks that there are, and gettimeofday
+  ToGetTime :
+      call ≡ 403 → a0 ≤ 3 → request ≡ Time a0 Timespec a1
+      → AsksBy call a0 a1 a2 a3 a4 request
+  ToGetTimeOfDay :
+      call ≡ 169 → request ≡ Time 0 Timeval a0
+      → AsksBy call a0 a1 a2 a3 a4 request
   -- getpid
   ToGetNumber : call ≡ 172 → request ≡ Answer 1 → AsksBy call a0 a1 a2 a3 a4 request
   -- EBADF is 9
@@ -100,6 +109,8 @@ pub data AsksBy (call a0 a1 a2 a3 a4 : ℕ) (request : Request) : Type 0 where
   -- EINVAL is 22
   OfNoFlags :
       HasBadFlags call a2 a3 → request ≡ Answer (error 22) → AsksBy call a0 a1 a2 a3 a4 request
+  OfNoClock :
+      call ≡ 403 → 3 < a0 → request ≡ Answer (error 22) → AsksBy call a0 a1 a2 a3 a4 request
   -- ENOSYS is 38
   OfNoCall : IsNoCall call → request ≡ Answer (error 38) → AsksBy call a0 a1 a2 a3 a4 request
 

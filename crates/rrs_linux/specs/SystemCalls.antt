@@ -1,16 +1,18 @@
 -- What a system call does to the environment and to the machine, and whether it ends the program.
 use Rattle.std.specs.Prelude.{◌≡◌, ℕ, ◌==◌, ◌&&◌, nat_le, if◌then◌else◌, List, [], Option, Some, None, pos}
+use Rattle.std.specs.declared.time.Duration.{Duration}
 use Rattle.rrs_lib.specs.Bytes.{ByteMap}
 use Rattle.rrs_lib.specs.AccessLists.{Access}
 use Rattle.rrs_lib.specs.Machine.{State, put}
 use Rattle.rrs_linux.specs.declared.Heap.{Heap}
 use Rattle.rrs_linux.specs.declared.Process.{Process}
 use Rattle.rrs_linux.specs.declared.host_writer.HostWriter.{HostWriter}
-use Rattle.rrs_linux.specs.declared.input_buffer.InputBuffer.{InputBuffer}
+use Rattle.rrs_linux.specs.declared.host_side.HostSide.{HostSide}
 use Rattle.rrs_linux.specs.declared.requests.Request.{Request}
-use Rattle.rrs_linux.specs.declared.requests.Request.TheVariants.{Exit, Answer, Status, NamedStatus, ExtendedStatus, SetBreak, Read, WriteOutput, WriteErrors, WriteOutputPieces, WriteErrorPieces}
+use Rattle.rrs_linux.specs.declared.requests.Request.TheVariants.{Exit, Answer, Status, NamedStatus, ExtendedStatus, Time, SetBreak, Read, WriteOutput, WriteErrors, WriteOutputPieces, WriteErrorPieces}
 use Rattle.rrs_linux.specs.Requests.{Asks, error}
 use Rattle.rrs_linux.specs.BufferedBytes.{buffered_bytes}
+use Rattle.rrs_linux.specs.Clocks.{Tells, TellsTime, PutsTime, form_of}
 use Rattle.rrs_linux.specs.Statuses.{PutsBytes, PutsNamed, stream_status, extended_status}
 use Rattle.rrs_linux.specs.Transfers.{Gives, Takes, WritesText, ReadsText}
 use Rattle.rrs_linux.specs.Vectors.{WritesVector}
@@ -41,8 +43,9 @@ pub record AreAlike {R W E K : Type 0} (input : R → R → Type 0) (output : W 
   pub heap : d.heap ≡ e.heap
   pub held : d.held ≡ e.held
 
--- By what the streams do with the bytes of a buffer:
-module _ {R W E K : Type 0} (gives : Gives R K) (takes : Takes W) (takes_errors : Takes E) where
+-- By what the streams do with the bytes of a buffer, and by what the clocks tell:
+module _ {R W E K : Type 0} (gives : Gives R K) (takes : Takes W) (takes_errors : Takes E)
+    (tells : Tells K) where
   -- what is asked for takes the environment and the machine from the first to the second
   abbrev pub Does : Request → Process R W E K → State → Process R W E K → State
       → List Access → Option ℕ → Type 0
@@ -61,6 +64,11 @@ module _ {R W E K : Type 0} (gives : Gives R K) (takes : Takes W) (takes_errors 
   Does (ExtendedStatus lookup a) old s new t accesses end =
       (end ≡ None) × (new ≡ old) × (bytes : ByteMap) × (answer : ℕ)
       × PutsNamed s.writable s.bytes bytes lookup a extended_status accesses answer
+      × (t ≡ answered (record s { bytes = bytes }) answer)
+  Does (Time clock form a) old s new t accesses end =
+      (end ≡ None) × (new ≡ old) × (told : Option Duration) × tells old.held clock told
+      × (bytes : ByteMap) × (answer : ℕ)
+      × PutsTime (form_of form) s.writable s.bytes bytes told a accesses answer
       × (t ≡ answered (record s { bytes = bytes }) answer)
   Does (SetBreak address) old s new t accesses end =
       (end ≡ None) × (new ≡ record old { heap = moved old.heap address })
@@ -103,14 +111,16 @@ WritesOutput contents bytes a count old new answer accesses =
 
 -- A read of a reader, by the bytes that it has left, where these are known, by those held, and by
 -- how many reads failed. The library's contract of a reader doesn't say when it fails.
-abbrev pub ReadsInput : {R : Type 0} → (R → Option (List ℕ)) → Gives R InputBuffer
+abbrev pub ReadsInput : {R : Type 0} → (R → Option (List ℕ)) → Gives R HostSide
 ReadsInput remaining writable bytes bytes' a count old held new held' answer accesses =
-    ReadsText writable bytes bytes' a count (buffered_bytes held) (buffered_bytes held')
-    (remaining old) (remaining new) held.failures held'.failures answer accesses
+    ReadsText writable bytes bytes' a count (buffered_bytes held.buffer)
+    (buffered_bytes held'.buffer) (remaining old) (remaining new)
+    held.buffer.failures held'.buffer.failures answer accesses
+    × (held'.clocks ≡ held.clocks)
 
 -- What a call does over a reader and two writers of the host, by what is known of each.
 abbrev pub Serves : {R W E : Type 0} → (R → Option (List ℕ)) → (W → Option (List ℕ))
-    → (E → Option (List ℕ)) → Process R (HostWriter W) (HostWriter E) InputBuffer → State
-    → Process R (HostWriter W) (HostWriter E) InputBuffer → State → List Access → Option ℕ → Type 0
+    → (E → Option (List ℕ)) → Process R (HostWriter W) (HostWriter E) HostSide → State
+    → Process R (HostWriter W) (HostWriter E) HostSide → State → List Access → Option ℕ → Type 0
 Serves remaining contents errors_of =
-    ServesBy (ReadsInput remaining) (WritesOutput contents) (WritesOutput errors_of)
+    ServesBy (ReadsInput remaining) (WritesOutput contents) (WritesOutput errors_of) TellsTime

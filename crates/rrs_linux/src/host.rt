@@ -5,14 +5,14 @@ ghost use Rattle.rrs_linux.specs.SystemCalls.{ReadsInput, WritesOutput};
 ghost use Rattle.rrs_linux.specs.Transfers;
 
 use crate::buffers::{BAD_ADDRESS, CHUNK, answer_of, copy_chunk, give_bytes, most_of};
+use crate::host_side::HostSide;
 use crate::host_writer::HostWriter;
-use crate::input_buffer::InputBuffer;
 use crate::streams::{Input, Output};
 use rrs_lib::Memory;
 use std::io::{Read, Write};
 
-/// The answer where the host's read or write failed: -5, `EIO`.
-const HOST_FAILED: u32 = 0xffff_fffb;
+/// The answer where the host's read or write failed, or a clock can't be read: -5, `EIO`.
+pub const HOST_FAILED: u32 = 0xffff_fffb;
 
 /// The answer where nobody reads what is written: -32, `EPIPE`.
 pub const NOBODY_READS: u32 = 0xffff_ffe0;
@@ -50,13 +50,13 @@ fn failure(is_broken: bool) -> u32
     if is_broken { NOBODY_READS } else { HOST_FAILED }
 }
 
-impl<R: Read> Input<InputBuffer> for R {
+impl<R: Read> Input<HostSide> for R {
     ghost gives = { ReadsInput R.remaining };
 
     /// Gives bytes that are held, and reads once before, where none are.
     fn read_to<M: Memory>(
         &mut self,
-        held: &mut InputBuffer,
+        held: &mut HostSide,
         memory: &mut M,
         address: u32,
         count: u32,
@@ -67,12 +67,12 @@ impl<R: Read> Input<InputBuffer> for R {
         if most == 0 {
             return 0;
         }
-        match held.hold(self, most as usize) {
+        match held.buffer.hold(self, most as usize) {
             None => HOST_FAILED,
             Some(0) => 0,
             Some(_) => {
-                let (given, answer) = give_bytes(held.as_slice(), memory, address, count);
-                held.skip(given);
+                let (given, answer) = give_bytes(held.buffer.as_slice(), memory, address, count);
+                held.buffer.skip(given);
                 answer
             }
         }

@@ -10,7 +10,9 @@
 #![tactic(auto)]
 
 mod buffers;
+mod clocks;
 mod host;
+mod host_side;
 mod host_writer;
 mod input_buffer;
 mod pieces;
@@ -24,10 +26,13 @@ ghost use Rattle.rrs_lib.specs.Machine.{state_of};
 ghost use Rattle.rrs_linux.specs.BufferedBytes.{buffered_bytes};
 ghost use Rattle.rrs_linux.specs.SystemCalls.{ServesBy, AreAlike, moved, answered, ended_by};
 
+use crate::clocks::put_time;
 use crate::host::NOBODY_READS;
 use crate::pieces::write_pieces;
 use crate::requests::system_call_of;
 use crate::statuses::{put_extended_status, put_named_status, put_status};
+pub use clocks::{Clocks, LinuxClocks, StoppedClocks, TimeForm};
+pub use host_side::HostSide;
 pub use host_writer::HostWriter;
 pub use input_buffer::InputBuffer;
 pub use recorder::{Known, OutputRecorder, records_determined};
@@ -87,81 +92,77 @@ pub struct Process<R, W, E, K> {
     pub errors: E,
     /// The program's heap.
     pub heap: Heap,
-    /// What is kept of standard input between two reads: of a [Linux] what was read of it and not
-    /// given to the program yet.
+    /// What is kept between two calls, which says of what kind the environment is: of a [Linux] what
+    /// was read of its input and not given to the program yet, and its clocks.
     pub held: K,
 }
 
 /// The environment of a program whose standard input is a reader of the host, and whose standard
 /// output and standard error are writers.
-pub type Linux<R, W, E> = Process<R, HostWriter<W>, HostWriter<E>, InputBuffer>;
+pub type Linux<R, W, E> = Process<R, HostWriter<W>, HostWriter<E>, HostSide>;
 
-impl<R, W, E> Process<R, HostWriter<W>, HostWriter<E>, InputBuffer> {
-    /// An environment with these streams and this heap, which holds nothing of the input yet.
-    pub fn new(input: R, output: W, errors: E, heap: Heap) -> Self
+impl<R, W, E> Process<R, HostWriter<W>, HostWriter<E>, HostSide> {
+    /// An environment with these streams, this heap and these clocks, which holds nothing of the
+    /// input yet.
+    pub fn new(input: R, output: W, errors: E, heap: Heap, clocks: LinuxClocks) -> Self
         ensures input { result.input ≡ input }
         ensures output { result.output.stream ≡ output }
         ensures errors { result.errors.stream ≡ errors }
         ensures heap { result.heap ≡ heap }
-        ensures held { buffered_bytes result.held ≡ [] }
+        ensures held { buffered_bytes result.held.buffer ≡ [] }
+        ensures clocks { result.held.clocks ≡ clocks }
     {
         Process {
             input,
             output: HostWriter::new(output),
             errors: HostWriter::new(errors),
             heap,
-            held: InputBuffer::new(),
+            held: HostSide {
+                buffer: InputBuffer::new(),
+                clocks,
+            },
         }
     }
 }
 
-impl<R: Input<K>, W: Output, E: Output, K> Environment for Process<R, W, E, K> {
-    ghost serves = { ServesBy R.gives W.takes E.takes };
+impl<R: Input<K>, W: Output, E: Output, K: Clocks> Environment for Process<R, W, E, K> {
+    ghost serves = { ServesBy R.gives W.takes E.takes K.tells };
 
     ghost alike = { AreAlike R.alike W.alike E.alike };
 
     /// Serves a system call: the number is in a7, the arguments in a0 to a4, the answer in a0.
     fn serve<M: Memory>(&mut self, executor: &mut InstructionExecutor<M>) -> Option<u32> {
-        match system_call_of(executor.hart_state) {
+        let hart = &mut *executor.hart_state;
+        let mem = &mut *executor.mem;
+        match system_call_of(hart) {
             Request::Exit(status) => Some(status),
-            Request::Answer(answer) => go_on(executor.hart_state, answer),
-            Request::Status(address) => {
-                let answer = put_status(executor.mem, address);
-                go_on(executor.hart_state, answer)
-            }
+            Request::Answer(answer) => go_on(hart, answer),
+            Request::Status(address) => go_on(hart, put_status(mem, address)),
             Request::NamedStatus(lookup, address) => {
-                let answer = put_named_status(executor.mem, lookup, address);
-                go_on(executor.hart_state, answer)
+                go_on(hart, put_named_status(mem, lookup, address))
             }
             Request::ExtendedStatus(lookup, address) => {
-                let answer = put_extended_status(executor.mem, lookup, address);
-                go_on(executor.hart_state, answer)
+                go_on(hart, put_extended_status(mem, lookup, address))
             }
-            Request::SetBreak(address) => {
-                let answer = self.heap.set_break(address);
-                go_on(executor.hart_state, answer)
+            Request::Time(clock, form, address) => {
+                go_on(hart, put_time(self.held.tell(clock), form, mem, address))
             }
+            Request::SetBreak(address) => go_on(hart, self.heap.set_break(address)),
             Request::Read(address, count) => {
-                let answer = self
-                    .input
-                    .read_to(&mut self.held, executor.mem, address, count);
-                go_on(executor.hart_state, answer)
+                let answer = self.input.read_to(&mut self.held, mem, address, count);
+                go_on(hart, answer)
             }
             Request::WriteOutput(address, count) => {
-                let answer = self.output.write_from(executor.mem, address, count);
-                go_on_if_read(executor.hart_state, answer)
+                go_on_if_read(hart, self.output.write_from(mem, address, count))
             }
             Request::WriteErrors(address, count) => {
-                let answer = self.errors.write_from(executor.mem, address, count);
-                go_on_if_read(executor.hart_state, answer)
+                go_on_if_read(hart, self.errors.write_from(mem, address, count))
             }
             Request::WriteOutputPieces(address, count) => {
-                let answer = write_pieces(&mut self.output, executor.mem, address, count);
-                go_on_if_read(executor.hart_state, answer)
+                go_on_if_read(hart, write_pieces(&mut self.output, mem, address, count))
             }
             Request::WriteErrorPieces(address, count) => {
-                let answer = write_pieces(&mut self.errors, executor.mem, address, count);
-                go_on_if_read(executor.hart_state, answer)
+                go_on_if_read(hart, write_pieces(&mut self.errors, mem, address, count))
             }
         }
     }

@@ -2,20 +2,33 @@
 
 ghost use Rattle.std.specs.Prelude.{◌≡◌, [], IfOk, vec_capacity};
 ghost use Rattle.rrs_env.specs.Serving.{IsDeterminedBy};
-ghost use Rattle.rrs_linux.specs.Recording.{GivesInput, TakesOutput, AlikeInputs, AlikeRecords, Records, AlikeRecordings};
+ghost use Rattle.rrs_linux.specs.Recording.{GivesInput, TakesOutput, TellsKnown, AlikeInputs, AlikeRecords, Records, AlikeRecordings};
 
 use crate::buffers::{BAD_ADDRESS, answer_of, give_bytes, most_of};
+use crate::clocks::{Clocks, StoppedClocks};
 use crate::streams::{Input, Output};
 use crate::{Heap, Process};
 use rrs_lib::{MemAccessSize, Memory};
 use std::alloc::{AllocError, Global};
+use std::time::Duration;
 
 /// The answer where a record has no room for a byte: -28, `ENOSPC`.
 const NO_ROOM: u32 = 0xffff_ffe4;
 
-/// Says of an input that it is known bytes. Nothing is kept of it between two reads.
+/// Says of an environment that its input is known bytes, and has its clocks, which stand still.
 #[derive(Drop)]
-pub struct Known;
+pub struct Known {
+    /// The clocks.
+    pub clocks: StoppedClocks,
+}
+
+impl Clocks for Known {
+    ghost tells = { TellsKnown };
+
+    fn tell(&self, clock: u32) -> Option<Duration> {
+        self.clocks.tell(clock)
+    }
+}
 
 /// The environment of a program that reads its input from bytes that are given beforehand, and
 /// whose output is recorded.
@@ -29,7 +42,7 @@ pub type OutputRecorder<'a> = Process<&'a [u8], Vec<u8>, Vec<u8>, Known>;
 
 impl<'a> Process<&'a [u8], Vec<u8>, Vec<u8>, Known> {
     /// An environment with this input, with room for so many bytes of the output and of the errors
-    /// each, and with this heap. Nothing is written yet.
+    /// each, with this heap, and with clocks that stand at 0. Nothing is written yet.
     ///
     /// # Errors
     ///
@@ -46,13 +59,16 @@ impl<'a> Process<&'a [u8], Vec<u8>, Vec<u8>, Known> {
         ensures room { IfOk result (λ made.
             (vec_capacity made.output ≡ room) × (vec_capacity made.errors ≡ room)) }
         ensures heap { IfOk result (λ made. made.heap ≡ heap) }
+        ensures clocks { IfOk result (λ made. made.held.clocks ≡ StoppedClocks.ZERO) }
     {
         Ok(Process {
             input,
             output: Vec::with_capacity(alloc, room)?,
             errors: Vec::with_capacity(alloc, room)?,
             heap,
-            held: Known,
+            held: Known {
+                clocks: StoppedClocks::ZERO,
+            },
         })
     }
 }

@@ -5,6 +5,7 @@ ghost use Rattle.rrs_lib.specs.Machine.{state_of};
 ghost use Rattle.rrs_linux.specs.Requests.{Asks, AsksBy, are_flags, are_statx_flags};
 
 use crate::buffers::BAD_ARGUMENT;
+use crate::clocks::{REALTIME, TimeForm};
 use crate::statuses::Lookup;
 use rrs_lib::HartState;
 
@@ -28,12 +29,16 @@ const FSTAT: u32 = 80;
 const EXIT: u32 = 93;
 /// `exit_group`.
 const EXIT_GROUP: u32 = 94;
+/// `gettimeofday`.
+const GETTIMEOFDAY: u32 = 169;
 /// `getpid`.
 const GETPID: u32 = 172;
 /// `brk`.
 const BRK: u32 = 214;
 /// `statx`.
 const STATX: u32 = 291;
+/// `clock_gettime64`.
+const CLOCK_GETTIME64: u32 = 403;
 
 /// The number of the process.
 const PROCESS_ID: u32 = 1;
@@ -66,6 +71,8 @@ pub enum Request {
     NamedStatus(Lookup, u32),
     /// To put the status of what a path names at an address, as `statx` does.
     ExtendedStatus(Lookup, u32),
+    /// To put what a clock tells at an address, in a form.
+    Time(u32, TimeForm, u32),
     /// To move the break to an address.
     SetBreak(u32),
     /// To read from standard input, to an address, so many bytes at most.
@@ -118,7 +125,9 @@ fn request_by(call: u32, first: u32, second: u32, third: u32, fourth: u32, fifth
         STATX if are_statx_flags(third, fourth) => {
             Request::ExtendedStatus(Lookup::new(first, second, third), fifth)
         }
-        NEWFSTATAT | STATX => Request::Answer(BAD_ARGUMENT),
+        CLOCK_GETTIME64 if first <= 3 => Request::Time(first, TimeForm::Timespec, second),
+        GETTIMEOFDAY => Request::Time(REALTIME, TimeForm::Timeval, first),
+        NEWFSTATAT | STATX | CLOCK_GETTIME64 => Request::Answer(BAD_ARGUMENT),
         _ => Request::Answer(NO_SUCH_CALL),
     }
 }

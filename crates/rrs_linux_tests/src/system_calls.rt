@@ -5,11 +5,12 @@ use rrs_env::Environment;
 use rrs_lib::instruction_executor::InstructionExecutor;
 use rrs_lib::memories::VecMemory;
 use rrs_lib::{HartState, MemAccessSize, Memory};
-use rrs_linux::{Heap, Linux, OutputRecorder, records_determined};
+use rrs_linux::{Heap, Linux, LinuxClocks, OutputRecorder, StoppedClocks, records_determined};
 use std::alloc::{AllocError, Global};
 use std::io;
 use std::io::{ErrorKind, Read, Write};
 use std::test::Fail;
+use std::time::Duration;
 
 /// The numbers of `read`, `write` and `brk`.
 const READ: u32 = 63;
@@ -33,6 +34,11 @@ const WRITEV: u32 = 66;
 const NEWFSTATAT: u32 = 79;
 
 const STATX: u32 = 291;
+
+/// The numbers of `gettimeofday` and `clock_gettime64`.
+const GETTIMEOFDAY: u32 = 169;
+
+const CLOCK_GETTIME64: u32 = 403;
 
 /// The answers -2, -20 and -22.
 const ENOENT: u32 = 0xffff_fffe;
@@ -178,7 +184,16 @@ fn counts_from(bytes: &[u8], first: u8) -> bool {
     true
 }
 
-/// Streams with these turns of the input and of the output, and a heap.
+/// What the clocks of the program stand at.
+fn clocks() -> StoppedClocks {
+    StoppedClocks {
+        since_1970: Duration::new(0x1_0000_0002, 999_999_999),
+        monotonic: Duration::new(7, 1),
+        used: Duration::new(0, 123_456_789),
+    }
+}
+
+/// Streams with these turns of the input and of the output, a heap, and clocks that stand still.
 fn environment<'a>(
     alloc: Global,
     reads: &'a [Turn],
@@ -186,7 +201,9 @@ fn environment<'a>(
 ) -> Linux<Stream<'a>, Stream<'a>, Stream<'a>> {
     let input = Stream::new(alloc, reads);
     let output = Stream::new(alloc, writes);
-    Linux::new(input, output, Stream::new(alloc, &[]), Heap::new(64, 96))
+    let errors = Stream::new(alloc, &[]);
+    let clocks = LinuxClocks::Stopped(clocks());
+    Linux::new(input, output, errors, Heap::new(64, 96), clocks)
 }
 
 // The status of standard output, 104 bytes: st_mode at 16 is a pipe with 0600, st_nlink at 20 is 1,
@@ -277,6 +294,64 @@ fn paths_name_the_streams_alone(rt: HostRuntime) -> Result<(), Fail> {
     Ok(())
 }
 
+/// The words at 100 to 115 where no time is put.
+const NO_TIME: [u32; 4] = [0x6766_6564, 0x6b6a_6968, 0x6f6e_6d6c, 0x7372_7170];
+
+/// Calls of `clock_gettime64` and `gettimeofday` with two arguments, their answers, and the words at
+/// 100 to 115 after them.
+static TIMES: [(u32, [u32; 2], u32, [u32; 4]); 10] = [
+    (CLOCK_GETTIME64, [0, 100], 0, [2, 1, 999_999_999, 0]),
+    (CLOCK_GETTIME64, [1, 100], 0, [7, 0, 1, 0]),
+    (CLOCK_GETTIME64, [2, 100], 0, [0, 0, 123_456_789, 0]),
+    (CLOCK_GETTIME64, [3, 100], 0, [0, 0, 123_456_789, 0]),
+    (CLOCK_GETTIME64, [4, 100], EINVAL, NO_TIME),
+    (CLOCK_GETTIME64, [0xffff_ffff, 100], EINVAL, NO_TIME),
+    (CLOCK_GETTIME64, [0, 300], EFAULT, NO_TIME),
+    (CLOCK_GETTIME64, [0, 285], EFAULT, NO_TIME),
+    (GETTIMEOFDAY, [100, 1], 0, [2, 1, 999_999, 0]),
+    (GETTIMEOFDAY, [300, 0], EFAULT, NO_TIME),
+];
+
+// Clocks that stand still tell known times.
+#[test]
+fn clocks_tell_times(rt: HostRuntime) -> Result<(), Fail> {
+    let mut linux = environment(rt.alloc(), &[], &[]);
+    for &(number, [first, second], answer, expected) in &TIMES {
+        let mut memory = numbered(rt.alloc())?;
+        let seen = call(&mut linux, &mut memory, (number, first, second, 0));
+        let mut words = [0; 4];
+        for (index, word) in words.iter_mut().enumerate() {
+            let read = memory.read_mem(100 + 4 * index as u32, MemAccessSize::Word);
+            *word = read.unwrap_or(0);
+        }
+        let is_right = seen == (None, answer) && words == expected;
+        assert!(rt; is_right, "{number} {first} {second}");
+    }
+    Ok(())
+}
+
+// The clocks of the host tell some time: the first is past 2020, and each has less than a second of
+// nanoseconds.
+#[test]
+fn clocks_of_the_host_tell_times(rt: HostRuntime) -> Result<(), Fail> {
+    let alloc = rt.alloc();
+    let heap = Heap::new(64, 96);
+    let errors = Vec::new(alloc);
+    let clocks = LinuxClocks::Host(rt);
+    let mut linux = Linux::new(b"".as_slice(), Vec::new(alloc), errors, heap, clocks);
+    for clock in 0..4 {
+        let mut memory = numbered(alloc)?;
+        let seen = call(&mut linux, &mut memory, (CLOCK_GETTIME64, clock, 100, 0));
+        let seconds = memory.read_mem(100, MemAccessSize::Word).unwrap_or(0);
+        let nanos = memory
+            .read_mem(108, MemAccessSize::Word)
+            .unwrap_or(u32::MAX);
+        let is_time = (clock > 0 || seconds > 1_577_836_800) && nanos < 1_000_000_000;
+        assert!(rt; seen == (None, 0) && is_time, "{clock}");
+    }
+    Ok(())
+}
+
 /// Calls of `writev` with a descriptor, the address and the count of a vector, each with the words
 /// at 200 to 223, its answer, and how much standard output and standard error hold after it.
 static PIECES: [([u32; 3], [u32; 6], u32, (usize, usize)); 17] = [
@@ -336,7 +411,7 @@ type Request = (u32, u32, u32, u32);
 
 /// Calls, each with how it ends, its answer, and how much standard output and standard error hold
 /// after it.
-static CALLS: [(Request, Option<u32>, u32, (usize, usize)); 28] = [
+static CALLS: [(Request, Option<u32>, u32, (usize, usize)); 29] = [
     ((WRITE, 1, 0, 300), None, 300, (300, 0)),
     ((WRITE, 2, 290, 20), None, 10, (300, 10)),
     ((WRITE, 2, 44, 3), None, 3, (300, 13)),
@@ -361,7 +436,8 @@ static CALLS: [(Request, Option<u32>, u32, (usize, usize)); 28] = [
     ((FSTAT, 1, 300, 0), None, EFAULT, (300, 13)),
     ((FSTAT, 1, 0xffff_ff99, 0), None, EFAULT, (300, 13)),
     ((NEWFSTATAT, 1, 0, 4), None, ENOENT, (300, 13)),
-    ((169, 0, 0, 0), None, ENOSYS, (300, 13)),
+    ((GETTIMEOFDAY, 300, 0, 0), None, EFAULT, (300, 13)),
+    ((CLOCK_GETTIME64, 4, 0, 0), None, EINVAL, (300, 13)),
     ((81, 0, 0, 0), None, ENOSYS, (300, 13)),
     ((93, 0x107, 0, 0), Some(7), 0x107, (300, 13)),
     ((94, 255, 0, 0), Some(255), 255, (300, 13)),
@@ -389,7 +465,7 @@ fn calls_answer(rt: HostRuntime) -> Result<(), Fail> {
 
 /// Calls of a recorder, each with how it ends, its answer, and what is left of the input and held
 /// of the output and of the errors after it.
-static RECORDED: [(Request, Option<u32>, u32, (usize, usize, usize)); 23] = [
+static RECORDED: [(Request, Option<u32>, u32, (usize, usize, usize)); 25] = [
     ((WRITE, 1, 0, 4), None, 4, (3, 4, 0)),
     ((WRITE, 1, 4, 10), None, 6, (3, 10, 0)),
     ((WRITE, 1, 10, 1), None, ENOSPC, (3, 10, 0)),
@@ -408,6 +484,8 @@ static RECORDED: [(Request, Option<u32>, u32, (usize, usize, usize)); 23] = [
     ((WRITEV, 1, 296, 1), None, EFAULT, (0, 10, 5)),
     ((NEWFSTATAT, 1, 48, 200), None, ENOTDIR, (0, 10, 5)),
     ((STATX, 1, 300, 0), None, EFAULT, (0, 10, 5)),
+    ((CLOCK_GETTIME64, 1, 200, 0), None, 0, (0, 10, 5)),
+    ((GETTIMEOFDAY, 290, 0, 0), None, EFAULT, (0, 10, 5)),
     ((BRK, 96, 0, 0), None, 96, (0, 10, 5)),
     ((57, 3, 0, 0), None, EBADF, (0, 10, 5)),
     ((LSEEK, 2, 0, 0), None, ESPIPE, (0, 10, 5)),

@@ -19,7 +19,8 @@ use Rattle.rrs_linux.specs.declared.Process.{Process}
 use Rattle.rrs_linux.specs.declared.host_writer.HostWriter.{HostWriter}
 use Rattle.rrs_linux.specs.declared.requests.Request.{Request}
 use Rattle.rrs_linux.specs.declared.requests.Request.TheVariants.{Exit, Read, WriteOutput}
-use Rattle.rrs_linux.specs.Requests.{Asks, error, AsksBy, TakesEach, ToExit, ToRead, ToWriteOutput, ToWriteErrors, ToSetBreak, ToClose, ToControl, ToSeek, ToGetStatus, ToGetNamed, ToGetExtended, ToWriteOutputPieces, ToWriteErrorPieces, ToGetNumber, OfNoFile, OfNoFlags, OfNoCall}
+use Rattle.rrs_linux.specs.Clocks.{Tells}
+use Rattle.rrs_linux.specs.Requests.{Asks, error, AsksBy, TakesEach, ToExit, ToRead, ToWriteOutput, ToWriteErrors, ToSetBreak, ToClose, ToControl, ToSeek, ToGetStatus, ToGetNamed, ToGetExtended, ToWriteOutputPieces, ToWriteErrorPieces, ToGetTime, ToGetTimeOfDay, ToGetNumber, OfNoFile, OfNoFlags, OfNoClock, OfNoCall}
 use Rattle.rrs_linux.specs.SystemCalls.{Does, ServesBy, WritesOutput, ended_by}
 use Rattle.rrs_linux.specs.Transfers
 use Rattle.rrs_linux.specs.Transfers.{Gives, Takes, Stands, WriteEnds, counted, most_bytes}
@@ -63,6 +64,9 @@ asked (ToSeek c d is) = none_of (λ e. omega arith) (λ e f. omega arith) (λ e 
 asked (ToGetStatus c d is) = none_of (λ e. omega arith) (λ e f. omega arith) (λ e f. omega arith)
 asked (ToGetNamed c known is) = none_of (λ e. omega arith) (λ e f. omega arith) (λ e f. omega arith)
 asked (ToGetExtended c known is) = none_of (λ e. omega arith) (λ e f. omega arith) (λ e f. omega arith)
+asked (ToGetTime c known is) = none_of (λ e. omega arith) (λ e f. omega arith) (λ e f. omega arith)
+asked (ToGetTimeOfDay c is) = none_of (λ e. omega arith) (λ e f. omega arith) (λ e f. omega arith)
+asked (OfNoClock c past is) = none_of (λ e. omega arith) (λ e f. omega arith) (λ e f. omega arith)
 asked (ToGetNumber c is) = none_of (λ e. omega arith) (λ e f. omega arith) (λ e f. omega arith)
 asked (OfNoFile (inl each) is) = none_of_each each.0
 asked (OfNoFile (inr (inl read)) is) =
@@ -115,17 +119,18 @@ never_breaks bytes a count old new answer accesses took = goes_on_by answer (tak
 
 -- ---- what follows a call, over any streams
 
-module _ {R W E K : Type 0} (gives : Gives R K) (takes : Takes W) (takes_errors : Takes E) (ending : Ending)
+module _ {R W E K : Type 0} (gives : Gives R K) (takes : Takes W) (takes_errors : Takes E)
+    (tells : Tells K) (ending : Ending)
     (new : Process R W E K) (t : State) where
   abbrev serves : Relation (Process R W E K)
-  serves = ServesBy gives takes takes_errors
+  serves = ServesBy gives takes takes_errors tells
 
   -- what is done is what was asked for
   done : {e d : Process R W E K} {u m : State} {accesses : List Access} {end : Option ℕ} (request : Request)
       (by : serves e u d m accesses end) → by.request ≡ request
-      → Does gives takes takes_errors request e u d m accesses end
+      → Does gives takes takes_errors tells request e u d m accesses end
   done {e = e} {d = d} {u = u} {m = m} {accesses = accesses} {end = end} request by is =
-      subst (λ r. Does gives takes takes_errors r e u d m accesses end) is by.does
+      subst (λ r. Does gives takes takes_errors tells r e u d m accesses end) is by.does
 
   -- by an exit the program ended, and changed nothing
   pub record Exited (n steps : ℕ) (e : Process R W E K) (u : State) : Type 0 where
@@ -141,7 +146,7 @@ module _ {R W E K : Type 0} (gives : Gives R K) (takes : Takes W) (takes_errors 
     pub of_call : List Access
     pub of_later : List Access
     pub later : ℕ
-    pub does : Does gives takes takes_errors request e u after there of_call None
+    pub does : Does gives takes takes_errors tells request e u after there of_call None
     pub goes_on : Served serves ending new t (limit - (n + 1)) after (with_pc there (word (pos (pc + 4)))) later
         of_later
     pub counted : steps ≡ n + 1 + later
@@ -150,7 +155,7 @@ module _ {R W E K : Type 0} (gives : Gives R K) (takes : Takes W) (takes_errors 
   pub record Stopped (n steps : ℕ) (e : Process R W E K) (u : State) (request : Request) : Type 0 where
     pub of_call : List Access
     pub status : ℕ
-    pub does : Does gives takes takes_errors request e u new t of_call (Some status)
+    pub does : Does gives takes takes_errors tells request e u new t of_call (Some status)
     pub ends : ending ≡ Exits status
     pub counted : steps ≡ n + 1
 
@@ -164,7 +169,7 @@ module _ {R W E K : Type 0} (gives : Gives R K) (takes : Takes W) (takes_errors 
 
     answers : (request : Request) → ((r : Request) → Asks u r → r ≡ request)
         → ((d : Process R W E K) (m : State) (accesses : List Access) (status : ℕ)
-        → Does gives takes takes_errors request e u d m accesses (Some status) → ⊥)
+        → Does gives takes takes_errors tells request e u d m accesses (Some status) → ⊥)
         → Follows serves ending new t limit n pc e u steps → Answered limit n pc steps e u request
     answers request asks no_end (Ended status of_call by is made) =
         absurd (no_end new t of_call status (done request by (asks by.request by.asks)))

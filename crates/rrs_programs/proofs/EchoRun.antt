@@ -17,7 +17,7 @@ use Rattle.rrs_env.specs.declared.Ending.TheVariants.{Exit}
 use Rattle.rrs_env.specs.Serving.{Served}
 use Rattle.rrs_env.proofs.Following.{Follows, follows}
 use Rattle.rrs_linux.specs.Transfers.{Stands, most_bytes}
-use Rattle.rrs_linux.specs.Recording.{Recording, Records, GivesInput, TakesOutput}
+use Rattle.rrs_linux.specs.Recording.{Recording, Records, GivesInput, TakesOutput, TellsKnown}
 use Rattle.rrs_linux.proofs.Placed.{no_length}
 use Rattle.rrs_extra.specs.Programs.{HoldsWords, IsWritable, AreApart}
 use Rattle.rrs_extra.proofs.Words.{words-end, writable-ends, holds_after, at_word, writes, Chain, ◌▸◌, done}
@@ -162,8 +162,8 @@ module _ (r : ℕ → ℕ) (writable : ℕ → Bool) (p b size : ℕ) (aligned :
       → Follows Records ending new t limit (k + 4) (p + 24) old (at_read x13 bytes) steps
       → Got limit k x13 steps old bytes
   got limit k x13 steps old bytes follow =
-      let read = Calls.got GivesInput TakesOutput TakesOutput ending new t refl refl follow in
-      let given = read.does.5 in
+      let read = Calls.got GivesInput TakesOutput TakesOutput TellsKnown ending new t refl refl follow in
+      let given = read.does.5.0 in
       let same = sym read.does.6 in
       let all = given_all writable b size read.does.4 old.input.now given.text read.of_call open_there buffer_fits
       given.ended in
@@ -214,7 +214,7 @@ module _ (r : ℕ → ℕ) (writable : ℕ → Bool) (p b size : ℕ) (aligned :
         let no_input : length old.input.now ≡ 0 = omega (arith, none, read.long, some) in
         let served = subst (λ n. Served Records ending new t (limit - (k + 4 + 1)) read.after
         (behind_read n x13 read.bytes') read.later read.of_later) none read.goes_on in
-        let exit = exited GivesInput TakesOutput TakesOutput ending new t refl (follows Records ending new t
+        let exit = exited GivesInput TakesOutput TakesOutput TellsKnown ending new t refl (follows Records ending new t
         (limit - (k + 4 + 1)) 6 (p + 52) read.after _ (at_exit x13 read.bytes') read.later read.of_later
         (to_exit (limit - (k + 4 + 1)) x13 read.bytes' there (omega (arith, within))) served) in
         let ended = ap (λ l. old.output.items ++ l) (sym (no_length old.input.now no_input)) in
@@ -240,7 +240,7 @@ module _ (r : ℕ → ℕ) (writable : ℕ → Bool) (p b size : ℕ) (aligned :
         let d = read.after in
         let same_room = ap (λ y. vec_capacity y.output) read.others in
         let held = ap (λ y. length y.output.items) read.others in
-        let write = wrote_on GivesInput TakesOutput TakesOutput ending new t never_breaks refl refl (follows Records ending new t
+        let write = wrote_on GivesInput TakesOutput TakesOutput TellsKnown ending new t never_breaks refl refl (follows Records ending new t
         (limit - (k + 4 + 1)) 4 (p + 64) d _ (at_write n x13 read.bytes') read.later read.of_later
         (to_write (limit - (k + 4 + 1)) n x13 read.bytes' there (omega (arith, within)) more (omega (arith, read.long)))
         read.goes_on) in

@@ -13,6 +13,7 @@ use Rattle.rrs_env.specs.Serving.{Relation, Served}
 use Rattle.rrs_env.proofs.Following.{follows}
 use Rattle.rrs_linux.specs.declared.Process.{Process}
 use Rattle.rrs_linux.specs.declared.requests.Request.TheVariants.{WriteOutput}
+use Rattle.rrs_linux.specs.Clocks.{Tells}
 use Rattle.rrs_linux.specs.Requests.{error}
 use Rattle.rrs_linux.specs.SystemCalls.{ServesBy}
 use Rattle.rrs_linux.specs.Transfers.{Gives, Takes, Stands}
@@ -26,7 +27,8 @@ use Rattle.rrs_programs.proofs.Runs.{registers_by, opened, to_call}
 text_mapped : (bytes : ByteMap) (a : ℕ) (text : List ℕ) → Stands bytes a text → IsMapped bytes a (length text)
 text_mapped bytes a text stands = λ i less. subst (λ (o : Option ℕ). IsSome o) (sym (stands i less)) refl
 
-module _ {R W E K : Type 0} (gives : Gives R K) (takes : Takes W) (takes_errors : Takes E) (text : List ℕ)
+module _ {R W E K : Type 0} (gives : Gives R K) (takes : Takes W) (takes_errors : Takes E)
+    (tells : Tells K) (text : List ℕ)
     (old : Process R W E K)
     (Left Unread : W → Type 0) where
   -- whatever a write of the text does to the output, this holds of it then, and that if it ends the program
@@ -48,7 +50,7 @@ module _ {R W E K : Type 0} (gives : Gives R K) (takes : Takes W) (takes_errors 
     pub bytes_kept : t.bytes ≡ s.bytes
 
   abbrev serves : Relation (Process R W E K)
-  serves = ServesBy gives takes takes_errors
+  serves = ServesBy gives takes takes_errors tells
 
   module _ (leaves : Leaves) (new : Process R W E K) (t : State) (ending : Ending) (limit : ℕ) (enough : 13 ≤ limit)
       (r : ℕ → ℕ) (bytes : ByteMap) (writable : ℕ → Bool) (p a n status x13 x14 x15 x17 : ℕ) (last : Option ℕ)
@@ -98,7 +100,7 @@ module _ {R W E K : Type 0} (gives : Gives R K) (takes : Takes W) (takes_errors 
         leaves bytes a n answer output accesses starts.length_given starts.text_there within takes
 
     -- the write ends the program
-    stops : (steps : ℕ) → Stopped gives takes takes_errors ending new t 7 steps old at_write (WriteOutput a n)
+    stops : (steps : ℕ) → Stopped gives takes takes_errors tells ending new t 7 steps old at_write (WriteOutput a n)
         → WritesAndExits new start t steps ending
     stops steps stopped =
         let did = left stopped.does.0 stopped.does.1 stopped.of_call stopped.does.2 in
@@ -115,7 +117,7 @@ module _ {R W E K : Type 0} (gives : Gives R K) (takes : Takes W) (takes_errors 
         }
 
     -- the write is answered, and then comes the exit
-    goes_on : (steps : ℕ) → Answered gives takes takes_errors ending new t limit 7 (p + 28) steps old at_write
+    goes_on : (steps : ℕ) → Answered gives takes takes_errors tells ending new t limit 7 (p + 28) steps old at_write
         (WriteOutput a n) → WritesAndExits new start t steps ending
     goes_on steps write =
         let x10 = word (pos write.does.1) in
@@ -124,7 +126,7 @@ module _ {R W E K : Type 0} (gives : Gives R K) (takes : Takes W) (takes_errors 
         ap (λ y. with_pc y (word (pos (p + 28 + 4)))) write.does.4 ∙ (λ i. with_pc (behind x10) (pc i)) in
         let rest = subst (λ y. Served serves ending new t (limit - 8) write.after y write.later write.of_later) here
         write.goes_on in
-        let exit = exited gives takes takes_errors ending new t refl (follows serves ending new t (limit - 8) 4 (p + 48)
+        let exit = exited gives takes takes_errors tells ending new t refl (follows serves ending new t (limit - 8) 4 (p + 48)
         write.after (behind x10) at_exit write.later write.of_later (to_exit x10) rest) in
         let did = left write.does.0 write.does.1 write.of_call write.does.2 in
         record {
@@ -137,7 +139,7 @@ module _ {R W E K : Type 0} (gives : Gives R K) (takes : Takes W) (takes_errors 
     from_start : (steps : ℕ) (accesses : List Access) → Served serves ending new t limit old start steps accesses
         → WritesAndExits new start t steps ending
     from_start steps accesses served =
-        elim (wrote gives takes takes_errors ending new t refl refl
+        elim (wrote gives takes takes_errors tells ending new t refl refl
         (follows serves ending new t limit 7 (p + 28) old start at_write steps accesses to_write served)) [
           | inl stopped ↦ stops steps stopped
           | inr write ↦ goes_on steps write

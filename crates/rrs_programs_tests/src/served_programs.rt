@@ -13,7 +13,7 @@ use rrs_fast::DecodeCache;
 use rrs_lib::instruction_executor::InstructionExecutor;
 use rrs_lib::memories::VecMemory;
 use rrs_lib::{HartState, Memory};
-use rrs_linux::{Heap, Linux, OutputRecorder};
+use rrs_linux::{Heap, Linux, LinuxClocks, OutputRecorder, StoppedClocks};
 use rrs_programs::{echo, write_and_exit, write_and_exit_over};
 use rrs_test_machines::hart_of;
 use std::alloc::{AllocError, Global};
@@ -114,7 +114,8 @@ fn writes_a_text_to_a_stream(rt: HostRuntime) -> Result<(), Fail> {
     let mut hart = HartState::new();
     let none: &[u8] = &[];
     let errors = Vec::new(rt.alloc());
-    let mut linux = Linux::new(none, Vec::new(rt.alloc()), errors, Heap::new(0, 0));
+    let clocks = LinuxClocks::Stopped(StoppedClocks::ZERO);
+    let mut linux = Linux::new(none, Vec::new(rt.alloc()), errors, Heap::new(0, 0), clocks);
     let text = b"Hello, RISC-V!";
     let end = write_over(&mut memory, &mut hart, &mut linux, 52, text);
     assert!(rt; end == exit_at(13, 7) && linux.output.stream.as_slice() == text.as_slice());
@@ -215,7 +216,9 @@ fn run_streamed(
     input: &[u8],
     text: &[u8],
 ) -> Result<(ServedEnd, bool), AllocError> {
-    let mut linux = Linux::new(input, Vec::new(alloc), Vec::new(alloc), Heap::new(0, 0));
+    let clocks = LinuxClocks::Stopped(StoppedClocks::ZERO);
+    let (output, errors) = (Vec::new(alloc), Vec::new(alloc));
+    let mut linux = Linux::new(input, output, errors, Heap::new(0, 0), clocks);
     let end = run_words(alloc, program, arguments, &mut linux)?;
     Ok((end, linux.output.stream.as_slice() == text))
 }

@@ -7,7 +7,7 @@ use Rattle.rrs_env.specs.declared.Ending.{Ending}
 use Rattle.rrs_env.specs.Serving.{Relation}
 use Rattle.rrs_linux.specs.declared.Process.{Process}
 use Rattle.rrs_linux.specs.declared.host_writer.HostWriter.{HostWriter}
-use Rattle.rrs_linux.specs.declared.input_buffer.InputBuffer.{InputBuffer}
+use Rattle.rrs_linux.specs.declared.host_side.HostSide.{HostSide}
 use Rattle.rrs_linux.specs.SystemCalls.{Serves}
 use Rattle.rrs_exec.specs.Processes.{started, heap_of}
 use Rattle.rrs_exec.specs.Watching.{start_in, WatchesProcess}
@@ -60,7 +60,7 @@ pub run_kept : {R W E V : Type 0} (remaining : R → Option (List ℕ))
     (sees : V → Retired → V → Type 0) (wants : V → Bool) (P : List Retired → V → Type 0)
     → ((rs : List Retired) (r : Retired) (v w : V) → P rs v → sees v r w → P (rs ++ r ∷ []) w)
     → (file : List ℕ) (arguments : List (List ℕ)) (wanted limit : ℕ)
-    (old new : Process R (HostWriter W) (HostWriter E) InputBuffer) (v v' : V) (steps : ℕ) (ending : Ending)
+    (old new : Process R (HostWriter W) (HostWriter E) HostSide) (v v' : V) (steps : ℕ) (ending : Ending)
     → WatchesProcess remaining contents errors_of sees wants file arguments wanted limit old new v v' steps ending
     → wants v' ≡ true → P [] v
     → (rs : List Retired)

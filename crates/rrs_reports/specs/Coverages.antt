@@ -4,7 +4,7 @@ use Rattle.rrs_trace.specs.declared.retired.Retired.{Retired}
 use Rattle.rrs_env.specs.declared.Ending.{Ending}
 use Rattle.rrs_linux.specs.declared.Process.{Process}
 use Rattle.rrs_linux.specs.declared.host_writer.HostWriter.{HostWriter}
-use Rattle.rrs_linux.specs.declared.input_buffer.InputBuffer.{InputBuffer}
+use Rattle.rrs_linux.specs.declared.host_side.HostSide.{HostSide}
 use Rattle.rrs_reports.specs.CommitLogs.{committed}
 use Rattle.rrs_reports.specs.Records.{RunsWithRecords}
 use Rattle.rrs_reports.specs.declared.coverage.Coverage.{Coverage}
@@ -60,7 +60,7 @@ pub record Covers (records : List Retired) (c : Coverage) : Type 0 where
 pub record CoversProcess {R W E : Type 0} (remaining : R → Option (List ℕ))
     (contents : W → Option (List ℕ)) (errors_of : E → Option (List ℕ))
     (file : List ℕ) (arguments : List (List ℕ)) (wanted limit : ℕ)
-    (old new : Process R (HostWriter W) (HostWriter E) InputBuffer)
+    (old new : Process R (HostWriter W) (HostWriter E) HostSide)
     (steps : ℕ) (ending : Ending) (c : Coverage) : Type 0 where
   pub records : List Retired
   pub runs : RunsWithRecords remaining contents errors_of file arguments wanted limit old new

@@ -5,7 +5,7 @@ use Rattle.rrs_trace.specs.declared.retired.Retired.{Retired}
 use Rattle.rrs_env.specs.declared.Ending.{Ending}
 use Rattle.rrs_linux.specs.declared.Process.{Process}
 use Rattle.rrs_linux.specs.declared.host_writer.HostWriter.{HostWriter}
-use Rattle.rrs_linux.specs.declared.input_buffer.InputBuffer.{InputBuffer}
+use Rattle.rrs_linux.specs.declared.host_side.HostSide.{HostSide}
 use Rattle.rrs_linux.specs.SystemCalls.{Serves}
 use Rattle.rrs_exec.specs.Processes.{heap_of, RunsProcess}
 use Rattle.rrs_exec.specs.Watching.{Shown, start_in}
@@ -21,7 +21,7 @@ wants_all records = true
 pub record RunsWithRecords {R W E : Type 0} (remaining : R → Option (List ℕ))
     (contents : W → Option (List ℕ)) (errors_of : E → Option (List ℕ))
     (file : List ℕ) (arguments : List (List ℕ)) (wanted limit : ℕ)
-    (old new : Process R (HostWriter W) (HostWriter E) InputBuffer)
+    (old new : Process R (HostWriter W) (HostWriter E) HostSide)
     (steps : ℕ) (ending : Ending) (records : List Retired) : Type 0 where
   pub runs : RunsProcess remaining contents errors_of file arguments wanted limit old new ending
   pub counted : runs.runs.steps ≡ steps

@@ -1,16 +1,58 @@
-// Asks for the time, which rrs exec does not have.
+// Asks for the time: what differs from run to run is compared with what it must be.
 #include <errno.h>
 #include <stdio.h>
 #include <string.h>
 #include <time.h>
 
+#define CLOCK_GETTIME64 403
+
+struct timespec64 {
+    long long seconds;
+    long long nanoseconds;
+};
+
+static long clock_gettime64(long clock, struct timespec64 *time)
+{
+    register long a0 __asm__("a0") = clock;
+    register long a1 __asm__("a1") = (long)time;
+    register long a7 __asm__("a7") = CLOCK_GETTIME64;
+    __asm__ volatile("ecall" : "+r"(a0) : "r"(a1), "r"(a7) : "memory");
+    return a0;
+}
+
+static long long nanoseconds(const struct timespec64 *time)
+{
+    return time->seconds * 1000000000 + time->nanoseconds;
+}
+
+// Whether a clock that is read again and again never goes back.
+static int goes_on(long clock)
+{
+    struct timespec64 last, next;
+    if (clock_gettime64(clock, &last) != 0) {
+        return 0;
+    }
+    for (int i = 0; i < 1000; i++) {
+        if (clock_gettime64(clock, &next) != 0 || next.nanoseconds < 0 ||
+            next.nanoseconds >= 1000000000 || nanoseconds(&next) < nanoseconds(&last)) {
+            return 0;
+        }
+        last = next;
+    }
+    return 1;
+}
+
 int main(void)
 {
-    errno = 0;
-    printf("time %d, ", time(NULL) == (time_t)-1);
-    printf("%s\n", strerror(errno));
-    errno = 0;
-    printf("clock %d, ", clock() == (clock_t)-1);
-    printf("%s\n", strerror(errno));
+    struct timespec64 now[2];
+    time_t seconds = time(NULL);
+    printf("time %d\n", seconds > 1600000000 && seconds < 4000000000);
+    memset(now, -1, sizeof now);
+    printf("clock_gettime64 %ld", clock_gettime64(0, now));
+    printf(", %d", now[0].seconds - seconds == 0 || now[0].seconds - seconds == 1);
+    printf(", %lld %lld behind it\n", now[1].seconds, now[1].nanoseconds);
+    printf("monotonic %d, process %d, thread %d\n", goes_on(1), goes_on(2), goes_on(3));
+    printf("no clock %ld, %ld\n", clock_gettime64(1000, now), clock_gettime64(-1000, now));
+    printf("no room %ld\n", clock_gettime64(0, (void *)0x7ff00000));
     return 0;
 }

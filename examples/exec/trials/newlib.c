@@ -1,11 +1,12 @@
 // Makes the calls that newlib makes and that the Linux of 32 bits has in another form: fstat,
-// newfstatat, and lseek of three arguments.
+// newfstatat, lseek of three arguments, and gettimeofday.
 #include <stdio.h>
 #include <string.h>
 
 #define LSEEK 62
 #define NEWFSTATAT 79
 #define FSTAT 80
+#define GETTIMEOFDAY 169
 #define AT_EMPTY_PATH 0x1000
 
 // As newlib's struct kernel_stat has it, up to the times.
@@ -49,5 +50,10 @@ int main(void)
     printf("no descriptor %ld\n", call(NEWFSTATAT, 7, (long)"", (long)&status, AT_EMPTY_PATH));
     printf("no directory %ld\n", call(NEWFSTATAT, 1, (long)"input.txt", (long)&status, 0));
     printf("lseek %ld\n", call(LSEEK, 1, 0, 1, 0));
+    long long now[3] = {-1, -1, -1};
+    printf("gettimeofday %ld: ", call(GETTIMEOFDAY, (long)now, 0, 0, 0));
+    printf("seconds %d, ", now[0] > 1600000000 && now[0] < 4000000000);
+    printf("microseconds %d, behind it %lld\n", now[1] >= 0 && now[1] < 1000000, now[2]);
+    printf("no room %ld\n", call(GETTIMEOFDAY, 0x7ff00000, 0, 0, 0));
     return 0;
 }

@@ -7,7 +7,8 @@ use Rattle.rrs_env.specs.Serving.{MakesSome}
 use Rattle.rrs_lib.specs.declared.HartState.{HartState}
 use Rattle.rrs_linux.specs.declared.Process.{Process}
 use Rattle.rrs_linux.specs.declared.requests.Request.{Request}
-use Rattle.rrs_linux.specs.declared.requests.Request.TheVariants.{Exit, Answer, Status, NamedStatus, ExtendedStatus, SetBreak, Read, WriteOutput, WriteErrors, WriteOutputPieces, WriteErrorPieces}
+use Rattle.rrs_linux.specs.declared.requests.Request.TheVariants.{Exit, Answer, Status, NamedStatus, ExtendedStatus, Time, SetBreak, Read, WriteOutput, WriteErrors, WriteOutputPieces, WriteErrorPieces}
+use Rattle.rrs_linux.specs.Clocks.{Tells}
 use Rattle.rrs_linux.specs.Requests.{Asks}
 use Rattle.rrs_linux.specs.SystemCalls.{Does, ServesBy, answered}
 use Rattle.rrs_linux.specs.Transfers.{Gives, Takes}
@@ -15,11 +16,11 @@ use Rattle.rrs_linux.proofs.ProcessEnvironment.serve.Goals as goal
 
 served : {M R W E K : Type 0} {reads : M → ℕ → MemAccessSize → M → Option ℕ → Type 0}
     {writes : M → ℕ → MemAccessSize → ℕ → M → Bool → Type 0}
-    {gives : Gives R K} {takes : Takes W} {takes_errors : Takes E}
+    {gives : Gives R K} {takes : Takes W} {takes_errors : Takes E} {tells : Tells K}
     {old new : Process R W E K} {s t : State} {end : Option ℕ} {m m' : M} (accesses : List Access) (request : Request)
     → ((bytes : ByteMap) (writable : ℕ → Bool) → Asks (record s { bytes = bytes; writable = writable }) request)
-    → Does gives takes takes_errors request old s new t accesses end → Makes reads writes accesses m m'
-    → MakesSome reads writes (λ of. ServesBy gives takes takes_errors old s new t of end) m m'
+    → Does gives takes takes_errors tells request old s new t accesses end → Makes reads writes accesses m m'
+    → MakesSome reads writes (λ of. ServesBy gives takes takes_errors tells old s new t of end) m m'
 served {s = s} xs r asks does made =
     record { accesses = xs; these = record { request = r; asks = asks s.bytes s.writable; does = does }; made = made }
 
@@ -41,7 +42,7 @@ returns-in-Answer-clause-served g c =
 pub returns-in-SetBreak-clause-served : goal.returns-in-SetBreak-clause-served
 returns-in-SetBreak-clause-served g c =
     let went = c.go_on-in-SetBreak.ensures in
-    let set = c.set_break-answer.ensures in
+    let set = c.set_break.ensures in
     let process = c.args.self.now in
     let lent = c.args.executor.now in
     let s = state_of lent.hart_state.now (g.M.Memory.bytes lent.mem.now) (g.M.Memory.writable lent.mem.now) in
@@ -52,7 +53,7 @@ returns-in-SetBreak-clause-served g c =
 pub returns-in-Status-clause-served : goal.returns-in-Status-clause-served
 returns-in-Status-clause-served g c =
     let went = c.go_on-in-Status.ensures in
-    let call = c.put_status-answer in
+    let call = c.put_status in
     let did = call.ensures.put in
     let kept = after c.args.executor.now.hart_state.now call.result refl call.ensures.writable_kept in
     served did.accesses (Status c.in-Status.address) c.in-Status.ensures
@@ -70,7 +71,7 @@ returns-in-Read-clause-served g c =
 pub returns-in-WriteOutput-clause-served : goal.returns-in-WriteOutput-clause-served
 returns-in-WriteOutput-clause-served g c =
     let went = c.go_on_if_read.ensures in
-    let call = c.write_from-answer in
+    let call = c.write_from in
     let did = call.ensures in
     let kept = after c.args.executor.now.hart_state.now call.result did.bytes_kept did.writable_kept in
     served did.taken.accesses (WriteOutput c.in-WriteOutput.address c.in-WriteOutput.count) c.in-WriteOutput.ensures
@@ -79,7 +80,7 @@ returns-in-WriteOutput-clause-served g c =
 pub returns-in-WriteErrors-clause-served : goal.returns-in-WriteErrors-clause-served
 returns-in-WriteErrors-clause-served g c =
     let went = c.go_on_if_read-in-WriteErrors.ensures in
-    let call = c.write_from-answer-in-WriteErrors in
+    let call = c.write_from-in-WriteErrors in
     let did = call.ensures in
     let kept = after c.args.executor.now.hart_state.now call.result did.bytes_kept did.writable_kept in
     served did.taken.accesses (WriteErrors c.in-WriteErrors.address c.in-WriteErrors.count) c.in-WriteErrors.ensures
@@ -88,7 +89,7 @@ returns-in-WriteErrors-clause-served g c =
 pub returns-in-NamedStatus-clause-served : goal.returns-in-NamedStatus-clause-served
 returns-in-NamedStatus-clause-served g c =
     let went = c.go_on-in-NamedStatus.ensures in
-    let call = c.put_named_status-answer in
+    let call = c.put_named_status in
     let did = call.ensures.put in
     let kept = after c.args.executor.now.hart_state.now call.result refl call.ensures.writable_kept in
     served did.accesses (NamedStatus c.in-NamedStatus.lookup c.in-NamedStatus.address) c.in-NamedStatus.ensures
@@ -97,7 +98,7 @@ returns-in-NamedStatus-clause-served g c =
 pub returns-in-ExtendedStatus-clause-served : goal.returns-in-ExtendedStatus-clause-served
 returns-in-ExtendedStatus-clause-served g c =
     let went = c.go_on-in-ExtendedStatus.ensures in
-    let call = c.put_extended_status-answer in
+    let call = c.put_extended_status in
     let did = call.ensures.put in
     let kept = after c.args.executor.now.hart_state.now call.result refl call.ensures.writable_kept in
     served did.accesses (ExtendedStatus c.in-ExtendedStatus.lookup c.in-ExtendedStatus.address) c.in-ExtendedStatus.ensures
@@ -106,7 +107,7 @@ returns-in-ExtendedStatus-clause-served g c =
 pub returns-in-WriteOutputPieces-clause-served : goal.returns-in-WriteOutputPieces-clause-served
 returns-in-WriteOutputPieces-clause-served g c =
     let went = c.go_on_if_read-in-WriteOutputPieces.ensures in
-    let call = c.write_pieces-answer in
+    let call = c.write_pieces in
     let did = call.ensures in
     let kept = after c.args.executor.now.hart_state.now call.result did.bytes_kept did.writable_kept in
     served did.taken.accesses (WriteOutputPieces c.in-WriteOutputPieces.address c.in-WriteOutputPieces.count) c.in-WriteOutputPieces.ensures
@@ -115,8 +116,18 @@ returns-in-WriteOutputPieces-clause-served g c =
 pub returns-in-WriteErrorPieces-clause-served : goal.returns-in-WriteErrorPieces-clause-served
 returns-in-WriteErrorPieces-clause-served g c =
     let went = c.go_on_if_read-in-WriteErrorPieces.ensures in
-    let call = c.write_pieces-answer-in-WriteErrorPieces in
+    let call = c.write_pieces-in-WriteErrorPieces in
     let did = call.ensures in
     let kept = after c.args.executor.now.hart_state.now call.result did.bytes_kept did.writable_kept in
     served did.taken.accesses (WriteErrorPieces c.in-WriteErrorPieces.address c.in-WriteErrorPieces.count) c.in-WriteErrorPieces.ensures
     (call.new.out, call.result, did.taken.these, refl, went.answered _ _ ∙ kept, went.ends) did.taken.made
+
+pub returns-in-Time-clause-served : goal.returns-in-Time-clause-served
+returns-in-Time-clause-served g c =
+    let went = c.go_on-in-Time.ensures in
+    let call = c.put_time in
+    let did = call.ensures.put in
+    let kept = after c.args.executor.now.hart_state.now call.result refl call.ensures.writable_kept in
+    served did.accesses (Time c.in-Time.clock c.in-Time.form c.in-Time.address) c.in-Time.ensures
+    (went.goes_on, refl, c.tell.result, c.tell.ensures.told, _, call.result, did.these, went.answered _ _ ∙ kept)
+    did.made

@@ -4,7 +4,7 @@ use Rattle.std.proofs.lemmas.List.{length-drop}
 use Rattle.rrs_lib.specs.Executor.{state_in}
 use Rattle.rrs_lib.specs.Machine.{reg}
 use Rattle.rrs_env.specs.declared.Ending.TheVariants.{Exit}
-use Rattle.rrs_linux.specs.Recording.{GivesInput, TakesOutput}
+use Rattle.rrs_linux.specs.Recording.{GivesInput, TakesOutput, TellsKnown}
 use Rattle.rrs_programs.proofs.Calls.{took_all, taking_goes_on}
 use Rattle.rrs_programs.proofs.WriteAndExit.{writes_and_exits}
 use Rattle.rrs_linux.proofs.Determined.{determined}
@@ -18,7 +18,7 @@ returns g c =
     let ends = c.run_served.ensures.ends (omega (arith, c.requires.enough)) c.requires.starts.aligned in
     let old = c.args.environment.now in
     let text = c.args.text.now in
-    let run = writes_and_exits GivesInput TakesOutput TakesOutput text old (λ o. o.items ≡ old.output.items ++ text)
+    let run = writes_and_exits GivesInput TakesOutput TakesOutput TellsKnown text old (λ o. o.items ≡ old.output.items ++ text)
     (λ o. ⊥)
     (λ bytes a count answer o accesses known stands fits takes. (
       (took_all bytes a count text old.output o answer accesses known stands c.requires.starts.at_once fits

@@ -2,6 +2,7 @@
 use Rattle.std.proofs.Common.{ap, arith, inl, inr}
 use Rattle.std.proofs.lemmas.List.{length-drop}
 use Rattle.rrs_lib.specs.Executor.{state_in}
+use Rattle.rrs_linux.specs.Clocks.{TellsTime}
 use Rattle.rrs_linux.specs.SystemCalls.{ReadsInput, WritesOutput}
 use Rattle.rrs_programs.specs.WritingAndExiting.{AtExit, AtWrite}
 use Rattle.rrs_programs.proofs.Calls.{WroteSome, IsUnread, took_some}
@@ -18,7 +19,7 @@ returns g c =
     let text = c.args.text.now in
     let contents = g.W.Write.contents in
     let run = writes_and_exits (ReadsInput g.R.Read.remaining) (WritesOutput contents)
-    (WritesOutput g.E.Write.contents) text old (WroteSome contents text old.output)
+    (WritesOutput g.E.Write.contents) TellsTime text old (WroteSome contents text old.output)
     (IsUnread old.output)
     (λ bytes a count answer o accesses known stands fits writes. took_some contents bytes a count text old.output o
     answer accesses known stands writes)
