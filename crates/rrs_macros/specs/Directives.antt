@@ -1,7 +1,7 @@
 -- The words of a source, and the directives of macros, conditions and repetitions (GNU assembler
--- manual, ".macro", ".rept", ".irp", ".irpc", ".purgem", ".if", ".else", ".elseif", ".endif"). In their names
--- capital and small letters are the same.
-use Rattle.std.specs.Prelude.{ℕ, Bool, not, ◌||◌, ◌&&◌, ◌==◌, nat_le, List, [], ◌∷◌, codes}
+-- manual, ".macro", ".rept", ".irp", ".irpc", ".purgem", ".if", ".else", ".elseif", ".endif"). In
+-- their names capital and small letters are the same.
+use Rattle.std.specs.Prelude.{ℕ, Bool, not, ◌||◌, ◌&&◌, ◌==◌, nat_le, if◌then◌else◌, List, [], ◌∷◌, codes}
 use Rattle.std.specs.List.{slice_split, list_any}
 use Rattle.std.specs.Str.{str_eq_ignore_ascii_case}
 
@@ -29,6 +29,26 @@ is_in_name b =
 -- What stands between bytes that stand in no name.
 abbrev pub words : List ℕ → List (List ℕ)
 words text = slice_split (λ b. not (is_in_name b)) text
+
+-- a space, a tab and a carriage return
+abbrev pub is_blank : ℕ → Bool
+is_blank b = b == 32 || (b == 9 || b == 13)
+
+abbrev pub behind_blanks : List ℕ → List ℕ
+behind_blanks [] = []
+behind_blanks (b ∷ bs) = if is_blank b then behind_blanks bs else b ∷ bs
+
+abbrev pub first_word : List ℕ → List ℕ
+first_word [] = []
+first_word (b ∷ bs) = if is_in_name b then b ∷ first_word bs else []
+
+-- the word that a line begins with
+abbrev pub word : List ℕ → List ℕ
+word line = first_word (behind_blanks line)
+
+-- A line begins with a directive.
+abbrev pub begins_one : List ℕ → Bool
+begins_one line = is_directive (word line)
 
 -- A word of the source is a directive.
 abbrev pub has_directives : List ℕ → Bool

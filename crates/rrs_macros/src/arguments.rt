@@ -95,8 +95,8 @@ pub fn index_of(parameters: &[Parameter], name: &[u8]) -> Option<usize> {
     None
 }
 
-/// Takes the arguments of a call: of each parameter what stands in its place, with its default where
-/// nothing is given.
+/// Takes the arguments of a call: of each parameter what stands in its place, which is its default
+/// where nothing is given.
 pub fn arguments(
     alloc: Global,
     cursor: &mut Cursor,
@@ -196,8 +196,8 @@ fn give_defaults(
     Ok(())
 }
 
-/// Takes an argument: a string without its quotation marks, or what stands before a comma or a blank,
-/// with blanks in parentheses and brackets.
+/// Takes an argument: a string without its quotation marks, or what stands before a comma or a
+/// blank, with blanks in parentheses and brackets.
 pub fn take_argument(cursor: &mut Cursor, value: &mut Vec<u8>) -> Result<(), AllocError> {
     if cursor.take_if(b'"') {
         return take_string(cursor, value);

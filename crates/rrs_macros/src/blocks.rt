@@ -72,7 +72,8 @@ pub fn first_block(text: &[u8], kind: BlockKind) -> Option<Block<'_>> {
     None
 }
 
-/// What stands before a statement, with its labels and without the last line feed, if anything does.
+/// What stands before a statement, with its labels and without the last line feed, if it is
+/// anything.
 fn inside<'a>(text: &'a [u8], rest: &[u8], code: &[u8]) -> Option<&'a [u8]> {
     let labels = code.len().saturating_sub(behind_labels(code).len());
     let end = text.len().saturating_sub(rest.len()).saturating_add(labels);

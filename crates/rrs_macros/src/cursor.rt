@@ -32,11 +32,11 @@ impl<'a> Cursor<'a> {
         }
     }
 
-    /// A mistake at this place.
+    /// A mistake at this place, behind blanks.
     pub fn slip(&self, kind: MacroErrorKind) -> Slip {
         Slip {
             kind,
-            left: self.rest.len().saturating_add(self.behind),
+            left: behind_blanks(self.rest).len().saturating_add(self.behind),
         }
     }
 

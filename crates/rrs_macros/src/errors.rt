@@ -63,6 +63,8 @@ pub enum MacroErrorKind {
     Deep,
     /// What is made is too much.
     Much,
+    /// A directive is left in the result.
+    LeftOver,
 }
 
 impl MacroErrorKind {
@@ -103,6 +105,7 @@ impl fmt::Display for MacroErrorKind {
             MacroErrorKind::More => "more than the statement takes",
             MacroErrorKind::Deep => "macros are nested too deeply",
             MacroErrorKind::Much => "macros and repetitions make too much",
+            MacroErrorKind::LeftOver => "a directive of macros is left",
         })
     }
 }

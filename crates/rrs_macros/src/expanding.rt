@@ -1,7 +1,8 @@
 //! Expanding a source.
 
-ghost use Rattle.std.specs.Prelude.{◌≡◌, ℕ, ◌≤◌, false, length, IfOk, OnOk, IfErr};
-ghost use Rattle.rrs_macros.specs.Directives.{has_directives};
+ghost use Rattle.std.specs.Prelude.{◌≡◌, ℕ, ◌≤◌, false, true, length, IfOk, OnOk, IfErr};
+ghost use Rattle.std.specs.List.{list_any};
+ghost use Rattle.rrs_macros.specs.Directives.{begins_one, has_directives};
 ghost use Rattle.rrs_macros.specs.Lines.{IsMade, IsMapped, IsSame, lines};
 
 use crate::blocks::height;
@@ -9,6 +10,7 @@ use crate::errors::{Halt, MacroError, MacroErrorKind, MacroFault, Slip};
 use crate::frames::{Frame, Origin};
 use crate::output::{Expanded, unchanged};
 use crate::performing::{Span, Turn, read_step};
+use crate::scanning::begins_directive;
 use crate::tables::Tables;
 use crate::words::has_directives;
 use std::alloc::{AllocError, Global};
@@ -141,8 +143,9 @@ impl Expansion {
     }
 }
 
-/// A source without macros, conditions and repetitions, and of each of its lines the line of the source
-/// that it is of: for a line of a macro or of a repetition that of its body, as GNU `as` tells it.
+/// A source without macros, conditions and repetitions, and of each of its lines the line of the
+/// source that it is of: for a line of a macro or of a repetition that of its body, as GNU `as`
+/// tells it.
 ///
 /// # Errors
 ///
@@ -152,6 +155,8 @@ pub fn expand(alloc: Global, source: &[u8]) -> Result<Expanded, MacroFault>
     ensures same { has_directives source.now ≡ false → IfOk result (IsSame source.now) }
     ensures taken { has_directives source.now ≡ false
         → IfErr result (λ fault. fault ≡ MacroFault.OutOfMemory) }
+    ensures gone { has_directives source.now ≡ true → IfOk result (λ expanded.
+        list_any begins_one (lines expanded.text.items) ≡ false) }
     ensures mapped { IfOk result (IsMapped source.now) }
 {
     if has_directives(source) {
@@ -166,7 +171,9 @@ pub fn expand(alloc: Global, source: &[u8]) -> Result<Expanded, MacroFault>
 
 /// A source with directives, expanded.
 fn expanded(alloc: Global, source: &[u8]) -> Result<Expanded, MacroFault>
-    ensures { IfOk result (IsMapped source.now) }
+    ensures gone { IfOk result (λ expanded.
+        list_any begins_one (lines expanded.text.items) ≡ false) }
+    ensures mapped { IfOk result (IsMapped source.now) }
 {
     let total = height(source);
     let mut out = Expanded::new(alloc);
@@ -192,9 +199,21 @@ fn expanded(alloc: Global, source: &[u8]) -> Result<Expanded, MacroFault>
         return Err(MacroFault::Mistakes(mistakes));
     }
     match completed(out, total) {
+        Ok(whole) if begins_directive(&whole.text) => Err(left_over(alloc)?),
         Ok(whole) => Ok(whole),
         Err(_) => Err(MacroFault::OutOfMemory),
     }
+}
+
+/// That a directive is left in a result. No source is known of which that is so.
+fn left_over(alloc: Global) -> Result<MacroFault, AllocError> {
+    let mut mistakes = Vec::new(alloc);
+    mistakes.push(MacroError {
+        line: 1,
+        column: 1,
+        kind: MacroErrorKind::LeftOver,
+    })?;
+    Ok(MacroFault::Mistakes(mistakes))
 }
 
 /// A result of one of so many lines of the source, with a line at least.

@@ -164,8 +164,8 @@ pub struct Frame {
 }
 
 impl Frame {
-    /// A text whose first line is of a line of the source, which has so many lines before they are of
-    /// the same lines of the source again, and is read once and so often again.
+    /// A text whose first line is of a line of the source, with so many lines before they are of the
+    /// same lines of the source again. It is read once and so often again.
     pub fn new(alloc: Global, text: Vec<u8>, first: usize, height: usize, copies: u64) -> Self {
         let reader = Reader {
             next: Some(0),

@@ -1,7 +1,8 @@
 //! Macros, conditions and repetitions of assembly, as GNU `as` has them.
 //!
-//! [expand] makes of a source one without `.macro`, `.rept`, `.irp`, `.if` and their like, and says of
-//! each line of the result which line of the source it is of. `docs/ASSEMBLY.md` has the directives.
+//! [expand] makes of a source one without `.macro`, `.rept`, `.irp`, `.if` and their like, and says
+//! of each line of the result which line of the source it is of. `docs/ASSEMBLY.md` has the
+//! directives, and `specs/` what is proved of a result.
 
 #![tactic(auto)]
 

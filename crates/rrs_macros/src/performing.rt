@@ -142,8 +142,8 @@ fn place(site: Site, code: &[u8]) -> MacroError {
     site.origin.mistake(site.text.len(), slip)
 }
 
-/// Performs a statement that begins at a place of its text. Its labels are put, and all of it where it
-/// is no directive of macros and no call.
+/// Performs a statement that begins at a place of its text. Its labels are put, and all of it where
+/// it is no directive of macros and no call.
 fn perform(
     tables: &mut Tables,
     site: Site,
@@ -214,7 +214,7 @@ fn direct(
     reader: &mut Reader,
 ) -> Result<Turn, Halt> {
     let cursor = &mut Cursor::new(operands, site.behind);
-    let left = code.len().saturating_add(site.behind);
+    let left = behind_blanks(code).len().saturating_add(site.behind);
     match directive {
         Directive::EndMacro | Directive::EndRepeat => Err(slip(MacroErrorKind::EndAlone, left)),
         Directive::ExitMacro if reader.is_source => Err(slip(MacroErrorKind::NothingToLeave, left)),
@@ -294,23 +294,25 @@ fn repeat(
 ) -> Result<Turn, Halt> {
     let start = *cursor;
     let first = site.next_number;
-    let Some(inside) = block.inside else {
+    let count = match directive {
+        Directive::Repeat => count(tables, cursor)?,
+        _ => 1,
+    };
+    let (Some(inside), Some(copies)) = (block.inside, count.checked_sub(1)) else {
         return Ok(Turn::Stay);
     };
     let height = height(inside);
-    let (text, copies) = match directive {
-        Directive::Repeat => {
-            let count = count(tables, cursor)?;
-            let Some(copies) = count.checked_sub(1) else {
-                return Ok(Turn::Stay);
-            };
-            (Vec::from_slice(tables.alloc, inside)?, copies)
-        }
-        Directive::RepeatEach => (each_value(tables, inside, cursor)?, 0),
-        _ => (each_character(tables, inside, cursor)?, 0),
+    let text = match directive {
+        Directive::Repeat => Vec::from_slice(tables.alloc, inside)?,
+        Directive::RepeatEach => each_value(tables, inside, cursor)?,
+        _ => each_character(tables, inside, cursor)?,
     };
     let slip = start.slip(MacroErrorKind::Much);
-    tables.spend(text.len(), slip.left)?;
+    if tables.has_left(text.len(), copies) {
+        tables.spend(text.len(), slip.left)?;
+    } else {
+        return Err(Halt::Slip(slip));
+    }
     let lines = Lines {
         text,
         first,

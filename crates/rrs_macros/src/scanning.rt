@@ -1,10 +1,12 @@
 //! Cutting a text into statements, and a statement into labels, its first word and the rest.
 
-ghost use Rattle.std.specs.Prelude.{◌≡◌, count_by};
-ghost use Rattle.rrs_macros.specs.Directives.{is_in_name};
-ghost use Rattle.rrs_macros.specs.Lines.{is_line_feed};
+ghost use Rattle.std.specs.Prelude.{◌≡◌, ◌<◌, [], ◌∷◌, IfSome, count_by, length};
+ghost use Rattle.std.specs.List.{list_any};
+ghost use Rattle.std.specs.Option.{option_map_or};
+ghost use Rattle.rrs_macros.specs.Directives.{begins_one, behind_blanks, is_blank, is_in_name, word};
+ghost use Rattle.rrs_macros.specs.Lines.{is_line_feed, lines};
 
-use crate::directives::{Directive, directive_named};
+use crate::directives::{Directive, directive_named, is_directive};
 
 /// Where a byte of a line stands.
 #[derive(Clone, Copy, PartialEq)]
@@ -103,7 +105,10 @@ pub fn first_statement(text: &[u8]) -> Statement<'_> {
 
 /// The first line of a text, and what is behind its line feed, if there is one.
 pub fn first_line(text: &[u8]) -> (&[u8], Option<&[u8]>)
-    ensures { count_by is_line_feed result.0.now ≡ 0 }
+    ensures whole { count_by is_line_feed result.0.now ≡ 0 }
+    ensures lines { lines text.now
+        ≡ result.0.now ∷ option_map_or (λ rest. lines rest.now) result.1 [] }
+    ensures shorter { IfSome result.1 (λ rest. length rest.now < length text.now) }
 {
     for (index, byte) in text.iter().enumerate() {
         if *byte == b'\n' {
@@ -114,7 +119,9 @@ pub fn first_line(text: &[u8]) -> (&[u8], Option<&[u8]>)
 }
 
 /// Whether a byte separates words and means nothing else.
-pub fn is_blank(byte: u8) -> bool {
+pub fn is_blank(byte: u8) -> bool
+    ensures { result ≡ is_blank byte }
+{
     matches!(byte, b' ' | b'\t' | b'\r')
 }
 
@@ -126,7 +133,9 @@ pub fn is_in_name(byte: u8) -> bool
 }
 
 /// A text behind the blanks that it begins with.
-pub fn behind_blanks(text: &[u8]) -> &[u8] {
+pub fn behind_blanks(text: &[u8]) -> &[u8]
+    ensures { result.now ≡ behind_blanks text.now }
+{
     for (index, byte) in text.iter().enumerate() {
         if !is_blank(*byte) {
             return &text[index..];
@@ -136,7 +145,9 @@ pub fn behind_blanks(text: &[u8]) -> &[u8] {
 }
 
 /// The word that a text begins with, behind blanks, and what follows it.
-pub fn split_word(text: &[u8]) -> (&[u8], &[u8]) {
+pub fn split_word(text: &[u8]) -> (&[u8], &[u8])
+    ensures { result.0.now ≡ word text.now }
+{
     let words = behind_blanks(text);
     for (index, byte) in words.iter().enumerate() {
         if !is_in_name(*byte) {
@@ -146,11 +157,27 @@ pub fn split_word(text: &[u8]) -> (&[u8], &[u8]) {
     words.split_at(words.len())
 }
 
-/// What is behind the first label of a text, and the label's name, if there is one.
+/// Whether a line of a text begins with a directive.
+pub fn begins_directive(text: &[u8]) -> bool
+    ensures { result ≡ list_any begins_one (lines text.now) }
+{
+    let mut rest = Some(text);
+    while let Some(left) = rest {
+        let (line, others) = first_line(left);
+        let (word, _) = split_word(line);
+        if is_directive(word) {
+            return true;
+        }
+        rest = others;
+    }
+    false
+}
+
+/// The name of the first label of a text, and what is behind it, if there is one.
 pub fn first_label(text: &[u8]) -> Option<(&[u8], &[u8])> {
     let (word, rest) = split_word(text);
     match behind_blanks(rest) {
-        [b':', others @ ..] if !word.is_empty() => Some((word, others)),
+        [b':', others @ ..] if !word.is_empty() && !is_directive(word) => Some((word, others)),
         _ => None,
     }
 }

@@ -54,6 +54,12 @@ impl Tables {
         }
     }
 
+    /// Whether so many bytes may still be read, once and so often again.
+    pub fn has_left(&self, bytes: usize, copies: u64) -> bool {
+        let lines = (bytes as u64).saturating_add(1);
+        lines.saturating_mul(copies.saturating_add(1)) <= self.left as u64
+    }
+
     /// Counts bytes that are read.
     pub fn spend(&mut self, bytes: usize, left: usize) -> Result<(), Slip> {
         match self.left.checked_sub(bytes) {
