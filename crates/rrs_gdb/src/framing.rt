@@ -41,7 +41,7 @@ fn digit_of(value: u8) -> u8
 /// # Errors
 ///
 /// Out of memory.
-pub(crate) fn push_hex(text: &mut Vec<u8>, byte: u8) -> Result<(), AllocError>
+pub fn push_hex(text: &mut Vec<u8>, byte: u8) -> Result<(), AllocError>
     ensures { OnOk result (text.new.items ≡ text.old.items ++ digits_of byte) }
 {
     text.push(digit_of(byte / 16))?;

@@ -29,9 +29,15 @@ pub use back::{BackEnd, go_back};
 pub use breaks::{Breaks, Watch, WatchKind};
 pub use contents::{read_memory, write_memory};
 pub use forward::{ForwardEnd, ForwardReason, go_forward};
-pub use framing::{PacketError, decode, encode};
-pub use link::{Link, LinkError};
-pub use registers::{REGISTERS, push_register, push_registers, write_register, write_registers};
+pub use framing::{PacketError, decode, encode, push_hex};
+pub use link::{Link, LinkError, Received};
+pub use numbers::{address_and_length, behind, cut, cut_or_all, number_of, place_and_bytes};
+pub use queries::{BAD_ADDRESS, INVALID, NO_MEMORY, push_part};
+pub use registers::{
+    REGISTERS, push_register, push_registers, push_word, register_value, write_register,
+    write_registers,
+};
 pub use runner::{PlainRunner, StopRunner};
-pub use session::{Next, SessionEnd, answer_to, serve};
-pub use state::{SessionState, Settings};
+pub use session::{Next, SessionEnd, answer_to, push_done, register_and_value, serve};
+pub use state::{SessionState, Settings, push_text};
+pub use target::TARGET;

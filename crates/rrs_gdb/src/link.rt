@@ -30,7 +30,7 @@ impl From<AllocFailed<u8>> for LinkError {
 
 /// What was received.
 #[derive(Drop)]
-pub(crate) enum Received {
+pub enum Received {
     /// A packet with this payload.
     Packet(Vec<u8>),
     /// A packet that is no good: longer than said, cut off, or, where nothing is acknowledged, with
@@ -44,13 +44,13 @@ pub(crate) enum Received {
 #[derive(Drop)]
 pub struct Link<R, W> {
     /// Where memory comes from.
-    pub(crate) alloc: Global,
+    pub alloc: Global,
     /// The reader.
     reader: R,
     /// The writer.
     writer: W,
     /// Whether packets are acknowledged.
-    pub(crate) acknowledges: bool,
+    pub acknowledges: bool,
     /// The packet that was sent last.
     last: Vec<u8>,
 }
@@ -134,7 +134,11 @@ impl<R: Read, W: Write> Link<R, W> {
     }
 
     /// Sends a payload.
-    pub(crate) fn send(&mut self, payload: &[u8]) -> Result<(), LinkError> {
+    ///
+    /// # Errors
+    ///
+    /// Out of memory, and a write that fails.
+    pub fn send(&mut self, payload: &[u8]) -> Result<(), LinkError> {
         let frame = encode(self.alloc, payload)?;
         self.write(&frame)?;
         self.last = frame;
@@ -182,7 +186,11 @@ impl<R: Read, W: Write> Link<R, W> {
 
     /// The next packet. What lies between two packets is skipped; a `-` there has the last packet
     /// sent again.
-    pub(crate) fn receive(&mut self) -> Result<Received, LinkError> {
+    ///
+    /// # Errors
+    ///
+    /// Out of memory, and a write that fails.
+    pub fn receive(&mut self) -> Result<Received, LinkError> {
         for _ in 0..u64::MAX {
             match next_byte(&mut self.reader) {
                 None => return Ok(Received::End),

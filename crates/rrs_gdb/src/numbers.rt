@@ -4,7 +4,7 @@ ghost use Rattle.std.specs.Prelude.{◌≡◌, ◌<◌, [], length, IfSome, IfNo
 ghost use Rattle.rrs_gdb.specs.Packets.{IsNumber, number, before, behind, IsPlace, address_in, length_in};
 
 /// The number that one to eight hexadecimal digits are.
-pub(crate) fn number_of(digits: &[u8]) -> Option<u32>
+pub fn number_of(digits: &[u8]) -> Option<u32>
     ensures { MatchOption result (¬ IsNumber digits.now)
         (λ value. IsNumber digits.now × (value ≡ number digits.now)) }
 {
@@ -37,7 +37,7 @@ pub(crate) fn decimal_of(digits: &[u8]) -> Option<u64> {
 }
 
 /// What stands before the first of these bytes, and behind it.
-pub(crate) fn cut(bytes: &[u8], at: u8) -> Option<(&[u8], &[u8])>
+pub fn cut(bytes: &[u8], at: u8) -> Option<(&[u8], &[u8])>
     ensures shorter { IfSome result (λ parts. length parts.1.now < length bytes.now) }
     ensures parts { MatchOption result
         ((before at bytes.now ≡ bytes.now) × (behind at bytes.now ≡ []))
@@ -53,7 +53,7 @@ pub(crate) fn cut(bytes: &[u8], at: u8) -> Option<(&[u8], &[u8])>
 
 /// What stands before the first of these bytes, and behind it; all, and nothing, where there is
 /// none.
-pub(crate) fn cut_or_all(bytes: &[u8], at: u8) -> (&[u8], &[u8])
+pub fn cut_or_all(bytes: &[u8], at: u8) -> (&[u8], &[u8])
     ensures shorter { 0 < length bytes.now → length result.1.now < length bytes.now }
     ensures parts { (result.0.now ≡ before at bytes.now) × (result.1.now ≡ behind at bytes.now) }
 {
@@ -64,7 +64,7 @@ pub(crate) fn cut_or_all(bytes: &[u8], at: u8) -> (&[u8], &[u8])
 }
 
 /// An address and a length, with a comma between.
-pub(crate) fn address_and_length(bytes: &[u8]) -> Option<(u32, u32)>
+pub fn address_and_length(bytes: &[u8]) -> Option<(u32, u32)>
     ensures { MatchOption result (¬ IsPlace bytes.now) (λ place. IsPlace bytes.now
         × (place.0 ≡ address_in bytes.now) × (place.1 ≡ length_in bytes.now)) }
 {
@@ -73,7 +73,7 @@ pub(crate) fn address_and_length(bytes: &[u8]) -> Option<(u32, u32)>
 }
 
 /// An address and a length before a colon, and the bytes behind it.
-pub(crate) fn place_and_bytes(bytes: &[u8]) -> Option<(u32, u32, &[u8])>
+pub fn place_and_bytes(bytes: &[u8]) -> Option<(u32, u32, &[u8])>
     ensures found { IfSome result (λ found. IsPlace (before 58 bytes.now)
         × (found.0 ≡ address_in (before 58 bytes.now)) × (found.1 ≡ length_in (before 58 bytes.now))
         × (found.2.now ≡ behind 58 bytes.now)) }
@@ -85,6 +85,6 @@ pub(crate) fn place_and_bytes(bytes: &[u8]) -> Option<(u32, u32, &[u8])>
 }
 
 /// What is behind a prefix.
-pub(crate) fn behind<'a>(bytes: &'a [u8], prefix: &[u8]) -> Option<&'a [u8]> {
+pub fn behind<'a>(bytes: &'a [u8], prefix: &[u8]) -> Option<&'a [u8]> {
     bytes.strip_prefix(prefix)
 }

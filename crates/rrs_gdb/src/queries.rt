@@ -13,14 +13,18 @@ const SUPPORTED: &[u8] = b"PacketSize=4000;QStartNoAckMode+;qXfer:features:read+
 qXfer:exec-file:read+;ReverseStep+;ReverseContinue+;QCatchSyscalls+;vContSupported+";
 
 /// The answer where a packet can't be understood: `EINVAL`, 22.
-pub(crate) const INVALID: &[u8] = b"E16";
+pub const INVALID: &[u8] = b"E16";
 /// The answer where an address is not mapped, or not writable: `EFAULT`, 14.
-pub(crate) const BAD_ADDRESS: &[u8] = b"E0e";
+pub const BAD_ADDRESS: &[u8] = b"E0e";
 /// The answer where there is no memory: `ENOMEM`, 12.
-pub(crate) const NO_MEMORY: &[u8] = b"E0c";
+pub const NO_MEMORY: &[u8] = b"E0c";
 
 /// Appends a part of an object, by the offset and the length that are asked for.
-fn push_part(reply: &mut Vec<u8>, object: &[u8], place: &[u8]) -> Result<(), AllocError> {
+///
+/// # Errors
+///
+/// Out of memory.
+pub fn push_part(reply: &mut Vec<u8>, object: &[u8], place: &[u8]) -> Result<(), AllocError> {
     let Some((offset, length)) = address_and_length(place) else {
         return push_text(reply, INVALID);
     };

@@ -16,7 +16,11 @@ pub const REGISTERS: u32 = 33;
 const REGISTER_BYTES: usize = 132;
 
 /// Appends a word: its bytes, the lowest first, each as two digits.
-fn push_word(text: &mut Vec<u8>, word: u32) -> Result<(), AllocError>
+///
+/// # Errors
+///
+/// Out of memory.
+pub fn push_word(text: &mut Vec<u8>, word: u32) -> Result<(), AllocError>
     ensures { OnOk result (text.new.items ≡ text.old.items ++ text_of (word_bytes word)) }
 {
     push_hex(text, (word % 256) as u8)?;
@@ -37,7 +41,7 @@ fn push_words(text: &mut Vec<u8>, words: &[u32]) -> Result<(), AllocError>
 }
 
 /// The value of a register by its number, 32 for the pc.
-fn value_of(hart: &HartState, number: u32) -> u32
+pub fn register_value(hart: &HartState, number: u32) -> u32
     requires { number < 33 }
     ensures { (bytes : ℕ → Option ℕ) (writable : ℕ → Bool)
         → result ≡ register (state_of hart.now bytes writable) number }
@@ -66,7 +70,7 @@ pub fn push_register(hart: &HartState, number: u32, text: &mut Vec<u8>) -> Resul
     if number >= REGISTERS {
         return Ok(false);
     }
-    push_word(text, value_of(hart, number))?;
+    push_word(text, register_value(hart, number))?;
     Ok(true)
 }
 

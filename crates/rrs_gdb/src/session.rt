@@ -63,7 +63,11 @@ enum Going {
 }
 
 /// Appends the answer of a change that is done, or can't be.
-fn push_done(reply: &mut Vec<u8>, is_done: bool, error: &[u8]) -> Result<(), AllocError>
+///
+/// # Errors
+///
+/// Out of memory.
+pub fn push_done(reply: &mut Vec<u8>, is_done: bool, error: &[u8]) -> Result<(), AllocError>
     requires { slice_index error.now 0 ≡ 69 }
     ensures done { OnOk result (OnTrue is_done (IsError reply.old.items reply.new.items → ⊥)) }
     ensures refused { OnOk result (OnFalse is_done (IsError reply.old.items reply.new.items)) }
@@ -124,7 +128,7 @@ fn word_of(digits: &[u8]) -> Option<u32>
 }
 
 /// The number and the value of a `P`.
-fn register_and_value(text: &[u8]) -> Option<(u32, u32)>
+pub fn register_and_value(text: &[u8]) -> Option<(u32, u32)>
     ensures found { IfSome result (λ found. IsNumber (before 61 text.now)
         × (found.0 ≡ number (before 61 text.now)) × ((bytes : List ℕ)
         × (decode_sized (behind 61 text.now) 4 ≡ Ok bytes) × (found.1 ≡ word_at bytes 0))) }

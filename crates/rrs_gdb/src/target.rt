@@ -1,7 +1,7 @@
 //! What gdb is told of the machine.
 
 /// The description of the target: 32 registers with the names of the ABI, and the pc.
-pub(crate) static TARGET: &[u8] = b"<?xml version=\"1.0\"?>
+pub static TARGET: &[u8] = b"<?xml version=\"1.0\"?>
 <!DOCTYPE target SYSTEM \"gdb-target.dtd\">
 <target version=\"1.0\">
 <architecture>riscv:rv32</architecture>
