@@ -1,0 +1,194 @@
+-- Steps of a board under gdb, one after another.
+use Rattle.std.proofs.Common.{◌≡◌, ℕ, zero, suc, ◌+◌, ◌≤◌, List, ◌++◌, Contains, Option, None, refl, sym, subst, ap, ◌∙◌, arith, append-nil, append_assoc, inl}
+use Rattle.rrs_board.specs.declared.board.Board.{Board}
+use Rattle.rrs_board.specs.declared.effects.BoardEvent.{BoardEvent}
+use Rattle.rrs_board_gdb.specs.declared.going.GoReason.{GoReason}
+use Rattle.rrs_board_gdb.specs.declared.going.GoReason.TheVariants as Reason
+use Rattle.rrs_board_gdb.specs.Going.{Debugged, with_left, printed_by, ending, ServedStep, PassingSteps, EndsBy, GoesTo, GoesOnOrStays}
+
+-- a step that leads to an end, after some that do not
+pub ends_at : (stops : List ℕ) (limit n steps : ℕ) (d m t : Debugged) (before printed : List ℕ)
+    (event : Option BoardEvent) (reason : GoReason)
+    → PassingSteps stops n d before m → ServedStep m event t → EndsBy stops event t reason
+    → steps ≡ suc n → steps ≤ limit → printed ≡ before ++ printed_by event
+    → GoesTo stops limit d steps reason printed t
+ends_at stops limit n steps d m t before printed event Reason.Limit passing last ends counted within prints =
+    absurd ends
+ends_at stops limit n steps d m t before printed event Reason.AtStop passing last ends counted within prints =
+    record {
+      quiet = n;
+      mid = m;
+      before = before;
+      event = event;
+      passing = passing;
+      last = last;
+      ends = ends;
+      counted = counted;
+      within = within;
+      prints = prints;
+    }
+ends_at stops limit n steps d m t before printed event (Reason.Finished status) passing last ends counted within prints =
+    record {
+      quiet = n;
+      mid = m;
+      before = before;
+      event = event;
+      passing = passing;
+      last = last;
+      ends = ends;
+      counted = counted;
+      within = within;
+      prints = prints;
+    }
+ends_at stops limit n steps d m t before printed event Reason.NothingWakes passing last ends counted within prints =
+    record {
+      quiet = n;
+      mid = m;
+      before = before;
+      event = event;
+      passing = passing;
+      last = last;
+      ends = ends;
+      counted = counted;
+      within = within;
+      prints = prints;
+    }
+
+-- the same, with the output so far
+pub go_ends : (stops : List ℕ) (limit n steps : ℕ) (d m t : Debugged) (first mid last : List ℕ)
+    (event : Option BoardEvent) (reason : GoReason)
+    → ((printed : List ℕ) × (mid ≡ first ++ printed) × PassingSteps stops n d printed m)
+    → ServedStep m event t → last ≡ mid ++ printed_by event → EndsBy stops event t reason
+    → steps ≡ suc n → steps ≤ limit
+    → (printed : List ℕ) × (last ≡ first ++ printed) × GoesTo stops limit d steps reason printed t
+go_ends stops limit n steps d m t first mid last event reason (printed, out, passing) step told ends counted within = (
+  printed ++ printed_by event,
+  told ∙ ap (λ (xs : List ℕ). xs ++ printed_by event) out ∙ append_assoc first printed (printed_by event),
+  ends_at stops limit n steps d m t printed (printed ++ printed_by event) event reason passing step ends counted within refl,
+)
+
+-- a step that leads to no end
+pub go_passes : (stops : List ℕ) (n steps : ℕ) (d m t : Debugged) (first mid last : List ℕ)
+    (event : Option BoardEvent)
+    → ((printed : List ℕ) × (mid ≡ first ++ printed) × PassingSteps stops n d printed m)
+    → ServedStep m event t → last ≡ mid ++ printed_by event
+    → (ending event ≡ None) × (Contains stops t.board.hart.pc → ⊥) → steps ≡ suc n
+    → (printed : List ℕ) × (last ≡ first ++ printed) × PassingSteps stops steps d printed t
+go_passes stops n steps d m t first mid last event (printed, out, passing) step told (none, no_stop) counted = (
+  printed ++ printed_by event,
+  told ∙ ap (λ (xs : List ℕ). xs ++ printed_by event) out ∙ append_assoc first printed (printed_by event),
+  subst (λ (k : ℕ). PassingSteps stops k d (printed ++ printed_by event) t) (sym counted)
+      (m, printed, event, passing, step, none, no_stop, refl),
+)
+
+-- steps, and then others
+joined : (stops : List ℕ) (a b : ℕ) (d m t : Debugged) (p q : List ℕ)
+    → PassingSteps stops a d p m → PassingSteps stops b m q t
+    → PassingSteps stops (b + a) d (p ++ q) t
+joined stops a zero d m t p q first (same, none) =
+    let sum : a ≡ 0 + a = omega arith in
+    subst (λ (k : ℕ). PassingSteps stops k d (p ++ q) t) sum
+    (subst (λ (x : Debugged). PassingSteps stops a d (p ++ q) x) (sym same)
+    (subst (λ (xs : List ℕ). PassingSteps stops a d xs m)
+    (sym (ap (λ (xs : List ℕ). p ++ xs) none ∙ append-nil p)) first))
+joined stops a (suc b) d m t p q first (u, before, event, passing, step, none, no_stop, prints) =
+    let sum : suc (b + a) ≡ suc b + a = omega arith in
+    subst (λ (k : ℕ). PassingSteps stops k d (p ++ q) t) sum (
+      u,
+      p ++ before,
+      event,
+      joined stops a b d m u p before first passing,
+      step,
+      none,
+      no_stop,
+      ap (λ (xs : List ℕ). p ++ xs) prints ∙ sym (append_assoc p before (printed_by event)),
+    )
+
+-- a leg that ends at its limit
+pub leg_made : (stops : List ℕ) (a b leg : ℕ) (d m t : Debugged) (p q : List ℕ) (reason : GoReason)
+    → reason ≡ Reason.Limit → PassingSteps stops a d p m → GoesTo stops leg m b reason q t
+    → (b ≡ leg) × PassingSteps stops (a + b) d (p ++ q) t
+leg_made stops a b leg d m t p q reason is first goes =
+    let made : (b ≡ leg) × PassingSteps stops b m q t =
+    subst (λ (r : GoReason). GoesTo stops leg m b r q t) is goes in
+    let sum : b + a ≡ a + b = omega arith in (
+      made.0,
+      subst (λ (n : ℕ). PassingSteps stops n d (p ++ q) t) sum (joined stops a b d m t p q first made.1),
+    )
+
+-- a leg that leads to another end
+pub leg_ends : (stops : List ℕ) (limit a b leg : ℕ) (d m t : Debugged) (p q : List ℕ) (reason : GoReason)
+    → (reason ≡ Reason.Limit → ⊥) → a + leg ≤ limit
+    → PassingSteps stops a d p m → GoesTo stops leg m b reason q t
+    → GoesTo stops limit d (a + b) reason (p ++ q) t
+leg_ends stops limit a b leg d m t p q Reason.Limit other within first goes = absurd (other refl)
+leg_ends stops limit a b leg d m t p q Reason.AtStop other within first goes = record {
+  quiet = goes.quiet + a;
+  mid = goes.mid;
+  before = p ++ goes.before;
+  event = goes.event;
+  passing = joined stops a goes.quiet d m goes.mid p goes.before first goes.passing;
+  last = goes.last;
+  ends = goes.ends;
+  counted = omega (arith, goes.counted);
+  within = omega (arith, goes.within);
+  prints = ap (λ (xs : List ℕ). p ++ xs) goes.prints ∙ sym (append_assoc p goes.before (printed_by goes.event));
+}
+leg_ends stops limit a b leg d m t p q (Reason.Finished status) other within first goes = record {
+  quiet = goes.quiet + a;
+  mid = goes.mid;
+  before = p ++ goes.before;
+  event = goes.event;
+  passing = joined stops a goes.quiet d m goes.mid p goes.before first goes.passing;
+  last = goes.last;
+  ends = goes.ends;
+  counted = omega (arith, goes.counted);
+  within = omega (arith, goes.within);
+  prints = ap (λ (xs : List ℕ). p ++ xs) goes.prints ∙ sym (append_assoc p goes.before (printed_by goes.event));
+}
+leg_ends stops limit a b leg d m t p q Reason.NothingWakes other within first goes = record {
+  quiet = goes.quiet + a;
+  mid = goes.mid;
+  before = p ++ goes.before;
+  event = goes.event;
+  passing = joined stops a goes.quiet d m goes.mid p goes.before first goes.passing;
+  last = goes.last;
+  ends = goes.ends;
+  counted = omega (arith, goes.counted);
+  within = omega (arith, goes.within);
+  prints = ap (λ (xs : List ℕ). p ++ xs) goes.prints ∙ sym (append_assoc p goes.before (printed_by goes.event));
+}
+
+-- ---- legs with what they print
+
+pub leg_passes : (stops : List ℕ) (a b leg : ℕ) (d m t : Debugged) (first mid : List ℕ) (reason : GoReason)
+    → reason ≡ Reason.Limit
+    → ((p : List ℕ) × PassingSteps stops a d p m)
+    → ((q : List ℕ) × (mid ≡ first ++ q) × GoesTo stops leg m b reason q t)
+    → (r : List ℕ) × PassingSteps stops (a + b) d r t
+leg_passes stops a b leg d m t first mid reason is (p, passed) (q, out, goes) =
+    (p ++ q, (leg_made stops a b leg d m t p q reason is passed goes).1)
+
+pub leg_leads : (stops : List ℕ) (limit a b leg : ℕ) (d m t : Debugged) (first mid : List ℕ) (reason : GoReason)
+    → (reason ≡ Reason.Limit → ⊥) → a + leg ≤ limit
+    → ((p : List ℕ) × PassingSteps stops a d p m)
+    → ((q : List ℕ) × (mid ≡ first ++ q) × GoesTo stops leg m b reason q t)
+    → (r : List ℕ) × GoesTo stops limit d (a + b) reason r t
+leg_leads stops limit a b leg d m t first mid reason other within (p, passed) (q, out, goes) =
+    (p ++ q, leg_ends stops limit a b leg d m t p q reason other within passed goes)
+
+-- ---- boards that are the same
+
+pub goes_same : (stops : List ℕ) (limit : ℕ) (input : List ℕ) (b b' : Board) (t : Debugged) → b' ≡ b
+    → GoesOnOrStays stops limit (with_left b' input) t → GoesOnOrStays stops limit (with_left b input) t
+goes_same stops limit input b b' t same goes =
+    subst (λ (x : Board). GoesOnOrStays stops limit (with_left x input) t) same goes
+
+pub some_same : (stops : List ℕ) (input : List ℕ) (b b' : Board) (t : Debugged) → b' ≡ b
+    → ((limit : ℕ) × GoesOnOrStays stops limit (with_left b' input) t)
+    → (limit : ℕ) × GoesOnOrStays stops limit (with_left b input) t
+some_same stops input b b' t same (limit, goes) = (limit, goes_same stops limit input b b' t same goes)
+
+pub stays : (stops : List ℕ) (limit : ℕ) (input : List ℕ) (b b' : Board) → b' ≡ b
+    → GoesOnOrStays stops limit (with_left b input) (with_left b' input)
+stays stops limit input b b' same = inl (ap (λ (x : Board). with_left x input) same)

@@ -1,0 +1,14 @@
+use Rattle.std.proofs.Common.{ℕ, ◌≤◌, ◌-◌, List}
+use Rattle.rrs_board_gdb.specs.Going.{debugged, PassingSteps}
+use Rattle.rrs_board_gdb.proofs.going.DebuggedBoard.proceed.Given as goal
+
+-- none of the steps so far leads to an end
+abbrev pub invariant-legs : goal.invariant-legs
+invariant-legs g l = record {
+  within : l.steps ≤ l.fn.limit;
+  made : (printed : List ℕ)
+      × PassingSteps l.stops l.steps (debugged l.fn.self) printed (debugged l.self);
+}
+
+abbrev pub decreases-legs : goal.decreases-legs
+decreases-legs g l = l.fn.limit - l.steps

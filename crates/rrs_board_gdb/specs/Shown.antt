@@ -1,0 +1,73 @@
+-- How gdb is shown a board (gdb's manual, "RISC-V Features": org.gnu.gdb.riscv.csr, and "Remote Serial
+-- Protocol", "Packets": p, P, m, M, X), and what it can change. The registers are x0 to x31, the pc,
+-- and, from 65 on, the CSRs by their numbers. Of memory RAM is shown, and no device.
+use Rattle.std.specs.Prelude.{◌≡◌, ◌⊎◌, ℕ, ◌-◌, ◌==◌, nat_lt, Bool, if◌then◌else◌, slice_set, Option, Some, None}
+use Rattle.rrs_lib.specs.declared.HartState.{HartState}
+use Rattle.rrs_lib.specs.Machine.{state_of}
+use Rattle.rrs_memory.specs.Bytes.{ByteMap}
+use Rattle.rrs_memory.specs.VecBytes.{vec_bytes, vec_writable}
+use Rattle.rrs_privileged.specs.declared.csrs.Csr.{Csr}
+use Rattle.rrs_privileged.specs.Csrs.{csr_at, is_read_only, csr_value, csr_written}
+use Rattle.rrs_board.specs.declared.board.Board.{Board}
+use Rattle.rrs_board.specs.Registers.{board_bytes, board_writable}
+use Rattle.rrs_board.specs.Effects.{inputs_of}
+use Rattle.rrs_gdb.specs.Shown.{register}
+
+-- ---- registers
+
+-- a CSR as an instruction reads it
+abbrev pub csr_shown : Board → Option Csr → Option ℕ
+csr_shown b None = None
+csr_shown b (Some csr) = Some (csr_value csr b.csrs (inputs_of b.memory.devices))
+
+-- the register of a number
+abbrev pub shown_register : Board → ℕ → Option ℕ
+shown_register b n =
+    if nat_lt n 33
+    then Some (register (state_of b.hart (board_bytes b.memory) (board_writable b.memory)) n)
+    else (if nat_lt n 65 then None else csr_shown b (csr_at (n - 65)))
+
+-- a CSR is written as an instruction writes it, unless it is read only
+abbrev pub csr_changed : ℕ → Option Csr → ℕ → Board → Option Board
+csr_changed number None value b = None
+csr_changed number (Some csr) value b =
+    if is_read_only number then None
+    else Some (record b { csrs = csr_written csr value b.csrs })
+
+abbrev pub hart_changed : HartState → ℕ → ℕ → HartState
+hart_changed h n value =
+    if n == 32 then record h { pc = value }
+    else record h { registers = slice_set h.registers n value }
+
+-- The board with one register changed, where there is one that can be. x0 is none.
+abbrev pub with_register : Board → ℕ → ℕ → Option Board
+with_register b n value =
+    if n == 0 then None
+    else (if nat_lt n 33 then Some (record b { hart = hart_changed b.hart n value })
+    else (if nat_lt n 65 then None else csr_changed (n - 65) (csr_at (n - 65)) value b))
+
+-- one register is changed, or none is
+abbrev pub RegisterChanged : Board → Board → Type 0
+RegisterChanged old new =
+    (new ≡ old) ⊎ ((number : ℕ) × (value : ℕ) × (with_register old number value ≡ Some new))
+
+-- ---- RAM
+
+-- each byte of RAM by its distance from where RAM begins
+abbrev pub ram_bytes : Board → ByteMap
+ram_bytes b = vec_bytes b.memory.ram
+
+abbrev pub ram_writable : Board → ℕ → Bool
+ram_writable b = vec_writable b.memory.ram
+
+-- the hart, its CSRs and the devices are as they were, and RAM begins and ends where it did
+pub record SameButRam (old new : Board) : Type 0 where
+  pub hart_kept : new.hart ≡ old.hart
+  pub csrs_kept : new.csrs ≡ old.csrs
+  pub devices_kept : new.memory.devices ≡ old.memory.devices
+  pub writable_kept : ram_writable new ≡ ram_writable old
+
+-- and each byte of RAM is as it was
+pub record SameBoard (old new : Board) : Type 0 where
+  pub rest_kept : SameButRam old new
+  pub bytes_kept : ram_bytes new ≡ ram_bytes old

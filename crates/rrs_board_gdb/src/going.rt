@@ -1,0 +1,188 @@
+//! A board that goes on under gdb.
+
+ghost use Rattle.std.specs.Prelude.{◌≡◌, ◌≤◌, ◌++◌, List, ℕ, None, Contains, IfOk, OnOk, MatchOption};
+ghost use Rattle.rrs_board_gdb.specs.Going.{debugged, handed_in, served, printed_by, ending, EndsBy, ServedStep, GoesTo};
+
+use rrs_board::{Board, BoardEvent};
+use rrs_gdb::{Link, LinkError, push_hex};
+use std::alloc::AllocError;
+use std::io::{Read, Write};
+
+/// The most steps that are made before output is sent.
+const LEG: u64 = 1_000_000;
+/// The most bytes of output in a packet.
+const OUTPUT_BYTES: usize = 2048;
+
+/// A board, what its UART is to receive, and what it transmitted.
+#[derive(Drop)]
+pub struct DebuggedBoard<'a> {
+    /// The board.
+    pub board: Board,
+    /// What is left of the input of the UART.
+    pub input: &'a [u8],
+    /// What the UART transmitted, and gdb was not sent.
+    pub output: Vec<u8>,
+}
+
+/// Why a board went no further.
+#[derive(Debug, PartialEq, Clone, Copy)]
+pub enum GoReason {
+    /// The pc is a breakpoint, and at least one step was made.
+    AtStop,
+    /// As many steps as the limit were made.
+    Limit,
+    /// The program ended with this status.
+    Finished(u32),
+    /// A `wfi` waits, and nothing on the board can wake it.
+    NothingWakes,
+}
+
+/// How a board that went on ended.
+#[derive(Debug, PartialEq, Clone, Copy)]
+pub struct GoEnd {
+    /// How many steps were made: instructions that retired, exceptions and interrupts.
+    pub steps: u64,
+    /// Why no further one was.
+    pub reason: GoReason,
+}
+
+/// Sends output of the program, as `O` packets.
+fn send_output<R: Read, W: Write>(link: &mut Link<R, W>, bytes: &[u8]) -> Result<(), LinkError> {
+    for part in bytes.chunks(OUTPUT_BYTES) {
+        let mut payload = Vec::new(link.alloc);
+        payload.push(b'O')?;
+        for byte in part {
+            push_hex(&mut payload, *byte)?;
+        }
+        link.send(&payload)?;
+    }
+    Ok(())
+}
+
+impl<'a> DebuggedBoard<'a> {
+    /// Hands the UART the next byte of the input, or its end.
+    fn hand_in(&mut self)
+        ensures board { debugged self.new ≡ handed_in self.old.input.now self.old.board }
+        ensures output { self.new.output ≡ self.old.output }
+    {
+        match self.input {
+            [byte, rest @ ..] => {
+                self.board.memory.devices.receive(Some(*byte));
+                self.input = rest;
+            }
+            [] => self.board.memory.devices.receive(None),
+        }
+    }
+
+    /// Serves what a step tells.
+    fn serve(&mut self, event: Option<BoardEvent>) -> Result<(), AllocError>
+        ensures board { OnOk result
+            (debugged self.new ≡ served event self.old.input.now self.old.board) }
+        ensures output { OnOk result
+            (self.new.output.items ≡ self.old.output.items ++ printed_by event) }
+    {
+        match event {
+            Some(BoardEvent::Transmitted(byte)) => self.output.push(byte)?,
+            Some(BoardEvent::WantsInput) => self.hand_in(),
+            _ => {}
+        }
+        Ok(())
+    }
+
+    /// Makes a step, and serves what it tells.
+    fn step(&mut self) -> Result<Option<BoardEvent>, AllocError>
+        ensures step { IfOk result (λ event.
+            ServedStep (debugged self.old) event (debugged self.new)) }
+        ensures output { IfOk result (λ event.
+            self.new.output.items ≡ self.old.output.items ++ printed_by event) }
+    {
+        let event = self.board.step().event;
+        self.serve(event)?;
+        Ok(event)
+    }
+
+    /// Why a board goes no further behind a step, if it does not.
+    fn reason_behind(&self, event: Option<BoardEvent>, stops: &[u32]) -> Option<GoReason>
+        ensures { MatchOption result
+            ((ending event ≡ None) × (Contains stops.now self.now.board.hart.pc → ⊥))
+            (λ reason. EndsBy stops.now event (debugged self.now) reason) }
+    {
+        match event {
+            Some(BoardEvent::Finished(status)) => return Some(GoReason::Finished(status)),
+            Some(BoardEvent::NothingWakes) => return Some(GoReason::NothingWakes),
+            _ => {}
+        }
+        if stops.contains(&self.board.hart.pc) {
+            return Some(GoReason::AtStop);
+        }
+        None
+    }
+
+    /// Makes steps until as many as `limit` were made, the pc is one of the stops, or the program
+    /// ends.
+    ///
+    /// A chain of steps of the board leads from there to here, and what each tells is served: what
+    /// is transmitted is appended to the output, and what is wanted comes from the input. None but
+    /// the last leads to a stop or ends the program (`run`).
+    ///
+    /// # Errors
+    ///
+    /// Out of memory for the output.
+    pub fn go(&mut self, limit: u64, stops: &[u32]) -> Result<GoEnd, AllocError>
+        ensures run { IfOk result (λ end. (printed : List ℕ)
+            × (self.new.output.items ≡ self.old.output.items ++ printed)
+            × GoesTo stops.now limit (debugged self.old) end.steps end.reason printed
+            (debugged self.new)) }
+        ensures within { IfOk result (λ end. end.steps ≤ limit) }
+    {
+        let mut steps = 0;
+        'steps: while steps < limit {
+            let event = self.step()?;
+            steps += 1;
+            if let Some(reason) = self.reason_behind(event, stops) {
+                return Ok(GoEnd { steps, reason });
+            }
+        }
+        Ok(GoEnd {
+            steps,
+            reason: GoReason::Limit,
+        })
+    }
+
+    /// The same, and sends what is transmitted, as `O` packets (`run`).
+    ///
+    /// # Errors
+    ///
+    /// Out of memory, and a write that fails.
+    pub fn proceed<R: Read, W: Write>(
+        &mut self,
+        link: &mut Link<R, W>,
+        limit: u64,
+        stops: &[u32],
+    ) -> Result<GoEnd, LinkError>
+        ensures run { IfOk result (λ end. (printed : List ℕ)
+            × GoesTo stops.now limit (debugged self.old) end.steps end.reason printed
+            (debugged self.new)) }
+    {
+        let mut steps = 0;
+        'legs: while steps < limit {
+            let end = self.go((limit - steps).min(LEG), stops)?;
+            send_output(link, &self.output)?;
+            self.output.clear();
+            steps += end.steps;
+            match end.reason {
+                GoReason::Limit => {}
+                _ => {
+                    return Ok(GoEnd {
+                        steps,
+                        reason: end.reason,
+                    });
+                }
+            }
+        }
+        Ok(GoEnd {
+            steps,
+            reason: GoReason::Limit,
+        })
+    }
+}

@@ -1,0 +1,108 @@
+//! The registers as gdb has them: x0 to x31, the pc, and, from 65 on, the CSRs by their numbers.
+
+ghost use Rattle.std.specs.Prelude.{◌≡◌, ◌<◌, ◌++◌, false, true, IfOk, MatchOption};
+ghost use Rattle.rrs_gdb.specs.Shown.{text_of, word_bytes};
+ghost use Rattle.rrs_board_gdb.specs.Shown.{csr_shown, shown_register, csr_changed, hart_changed, with_register};
+
+use rrs_board::Board;
+use rrs_gdb::{REGISTERS, push_word, register_value};
+use rrs_lib::HartState;
+use rrs_privileged::Csr;
+use rrs_privileged::csrs::is_read_only;
+use std::alloc::AllocError;
+
+/// The number that gdb has for the CSR of number 0.
+pub const FIRST_CSR: u32 = 65;
+
+/// The value of a CSR, as an instruction reads it.
+fn csr_of(board: &Board, csr: Option<Csr>) -> Option<u32>
+    ensures { result ≡ csr_shown board.now csr }
+{
+    match csr {
+        Some(csr) => Some(board.csrs.read(csr, &board.memory.devices.inputs())),
+        None => None,
+    }
+}
+
+/// The value of a register by its number, if there is one.
+fn value_of(board: &Board, number: u32) -> Option<u32>
+    ensures { result ≡ shown_register board.now number }
+{
+    if number < REGISTERS {
+        return Some(register_value(&board.hart, number));
+    }
+    if number < FIRST_CSR {
+        return None;
+    }
+    csr_of(board, Csr::at(number - FIRST_CSR))
+}
+
+/// Appends the text of a register by its number: the value's bytes, the lowest first. It tells
+/// whether there is such a register; where there is none, nothing is appended.
+///
+/// # Errors
+///
+/// Out of memory.
+pub fn show_register(board: &Board, number: u32, text: &mut Vec<u8>) -> Result<bool, AllocError>
+    ensures shown { IfOk result (λ found. MatchOption (shown_register board.now number)
+        ((found ≡ false) × (text.new.items ≡ text.old.items))
+        (λ value. (found ≡ true)
+        × (text.new.items ≡ text.old.items ++ text_of (word_bytes value)))) }
+{
+    match value_of(board, number) {
+        Some(value) => {
+            push_word(text, value)?;
+            Ok(true)
+        }
+        None => Ok(false),
+    }
+}
+
+/// Changes a CSR, if it can be written, as an instruction does.
+fn change_csr(board: &mut Board, number: u32, csr: Option<Csr>, value: u32) -> bool
+    ensures { MatchOption (csr_changed number csr value board.old)
+        ((result ≡ false) × (board.new ≡ board.old))
+        (λ changed. (result ≡ true) × (board.new ≡ changed)) }
+{
+    match csr {
+        Some(csr) if !is_read_only(number) => {
+            board.csrs.write(csr, value);
+            true
+        }
+        _ => false,
+    }
+}
+
+/// Changes one of x0 to x31, or, by 32, the pc.
+fn change_hart(hart: &mut HartState, number: u32, value: u32)
+    requires { number < 33 }
+    ensures { hart.new ≡ hart_changed hart.old number value }
+{
+    if number == 32 {
+        hart.pc = value;
+    } else {
+        hart.registers[number as usize] = value;
+    }
+}
+
+/// Changes a register by its number, and tells whether there is one that can be changed: x1 to x31,
+/// the pc, or a CSR that is not read only, of which the bits that an instruction writes are changed.
+/// Nothing else changes.
+pub fn change_register(board: &mut Board, number: u32, value: u32) -> bool
+    ensures { MatchOption (with_register board.old number value)
+        ((result ≡ false) × (board.new ≡ board.old))
+        (λ changed. (result ≡ true) × (board.new ≡ changed)) }
+{
+    if number == 0 {
+        return false;
+    }
+    if number < REGISTERS {
+        change_hart(&mut board.hart, number, value);
+        return true;
+    }
+    if number < FIRST_CSR {
+        return false;
+    }
+    let number = number - FIRST_CSR;
+    change_csr(board, number, Csr::at(number), value)
+}
