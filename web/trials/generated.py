@@ -13,6 +13,8 @@ from trials.view import WEB, Subject
 
 PROGRAMS = 100
 IN_THE_PAGE = 4
+# how long a script may take, in seconds
+LONGEST = 300
 
 # how the page heads each exception that `rrs run` names
 HEADINGS = {
@@ -30,7 +32,10 @@ def node(script, *arguments):
     """Runs a script of the trials in node. Answers its status and what it printed."""
     command = ["node", "--experimental-wasm-memory64", "--no-warnings", WEB / "trials" / script,
                Subject.scripts, Subject.module, *arguments]
-    run = subprocess.run(command, capture_output=True, text=True, check=False)
+    try:
+        run = subprocess.run(command, capture_output=True, text=True, check=False, timeout=LONGEST)
+    except subprocess.TimeoutExpired:
+        return 1, f"{script} did not end in {LONGEST} s"
     return run.returncode, run.stdout + run.stderr
 
 

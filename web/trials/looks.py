@@ -72,9 +72,16 @@ def listeners(page):
     return [f"{event} {count}" for event, count in sorted(counts.items())]
 
 
+MENUS = """[...document.querySelectorAll("select")].map(({ id, options }) => `${id}: ${
+    [...options].map(({ text, hidden }) => (hidden ? `(${text})` : text)).join(", ")}`)"""
+TITLES = """[...document.querySelectorAll("[title]")]
+    .filter((element) => element.title && !element.closest("#listing, #memory, #frames"))
+    .map(({ id, dataset, tagName, title }) => `${id || dataset.action || tagName}: ${title}`)"""
+
+
 def trees(machine):
-    """The trees of the page and of its dialogs, what its fields are, and the events that it listens
-    to, as one text."""
+    """The trees of the page and of its dialogs, what its fields are, what menus and titles say, and the
+    events that it listens to, as one text."""
     page = machine.page
     machine.choose("three")
     machine.keys("gsk")
@@ -88,6 +95,7 @@ def trees(machine):
         parts += ["", f"the dialog {name}", *tree(page, name)]
         machine.escape()
     parts += ["", "the page and its fields", *page.ask(f"{SEEN}.fields()")]
+    parts += ["", "the menus", *page.ask(MENUS), "", "the titles", *page.ask(TITLES)]
     parts += ["", "the events", *listeners(page)]
     # the length of a link is that of a path
     return re.sub(r"\d+ characters", "N characters", "\n".join(parts)) + "\n"

@@ -23,6 +23,10 @@ def drop(machine, name, content):
         path = pathlib.Path(folder) / name
         path.write_bytes(content)
         data = {"items": [], "files": [str(path)], "dragOperationsMask": 1}
+        # what the page does not keep the browser from, it opens in the place of the page
+        page.ask("globalThis.kept = {}; for (const type of ['dragover', 'drop'])"
+                 " addEventListener(type, (event) => { kept[type] = event.defaultPrevented; });"
+                 " null")
         # over the page, from one part of it to another, out of it, and over it again
         for leaves_to in ("document.body", "null", None):
             for kind in ("dragEnter", "dragOver"):
@@ -34,6 +38,8 @@ def drop(machine, name, content):
                  page.ask("!document.querySelector('#drop').hidden"))
         page.send("Input.dispatchDragEvent", type="drop", x=300, y=300, data=data)
         page.wait(f"document.querySelector('#program-title').textContent === {js(name)}")
+    same("whether the browser is kept from the file", {"dragover": True, "drop": True},
+         page.ask("kept"))
     same("whether the page still says so", True, page.ask("document.querySelector('#drop').hidden"))
 
 

@@ -331,8 +331,18 @@ def long_listing(machine):
     page.ask("document.querySelector('#listing').scrollTop = 24 * 900")
     page.wait("document.querySelector('#line-900') !== null")
     same("whether the active line, out of view, is there", None, page.ask(active))
-    same("how many lines are made", True,
-         page.ask("document.querySelectorAll('.line').length < 60"))
+    lines, height = page.ask("[rrs.session.lines, Math.ceil($('listing').clientHeight / 24)]")
+    for top in (0, 2, 900, 1990):
+        made = page.ask(f"(() => {{ $('listing').scrollTop = {24 * top}; rrs.listing.renderLines();"
+                        " return [Math.floor($('listing').scrollTop / 24), ...[...document"
+                        ".querySelectorAll('.line')].map(({ id }) => Number(id.slice(5)))]; })()")
+        first = max(0, made[0] - 4)
+        same(f"the lines that are made at {top}", [*range(first, min(lines, first + height + 8))],
+             made[1:])
+        for index in (made[1] - 1, made[1], made[-1], made[-1] + 1):
+            page.ask(f"rrs.session.selected = {index}; rrs.listing.renderLines(); null")
+            same(f"whether line {index} is the active one", True if index in made[1:] else None,
+                 page.ask(active))
     machine.keys("g")
     page.press("End")
     page.wait(IN_VIEW % "#line-2000")

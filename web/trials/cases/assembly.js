@@ -31,6 +31,7 @@ function words(report, page, kit) {
     [".word 1\n.align 3\n.word 2", "010000001300000002000000"],
     ['.ascii "a\\n\\x41\\101"', "610a4141"], ['.asciz "é"', "c3a900"], [".space 3, 7", "070707"],
     [".data\nx: .word 9\n.text\nla a0, x", "170500001305850009000000"],
+    ['.data\n.byte 1\n.section own,"aw"\n.byte 2', "0102"],
     [".bss\n.space 4\n.text\nnop", "1300000000000000"], ["fence; fence rw, w", "0f00f00f0f001003"],
     ["li a0, 2 + 3 * 4 - (1 << 2) | 1", "13059000"],
     ["li a0, ~0 & 255; li a1, -(-7)", "1305f00f93057000"],
@@ -46,6 +47,9 @@ function words(report, page, kit) {
     ["sgt a0, a1, a2; unimp", "3325b600731000c0"],
     ["tail f\nf: jump f, t0", "17030000670083009702000067800200"],
   ], (text) => made(page, kit, text));
+  report.cases("local labels, by their digit", Array.from("0123456789", (digit) =>
+    [`${digit}: j ${digit}b\nj ${digit}f\n${digit}:`, "6f0000006f004000"]),
+  (text) => made(page, kit, text));
   report.same("from another address", "b7020080", made(page, kit, "x: lui t0, %hi(x)", 0x80000000));
 }
 
@@ -83,7 +87,8 @@ function mistakes(report, page, kit) {
     ["lw a0, 4", one(1, 9, "A register in parentheses is wanted here, and the statement ends.")],
     [".byte 256", one(1, 7, "256 is out of range: it has more than 8 bits.")],
     ['.ascii "a', one(1, 10, "The string is not ended: a quotation mark is wanted here.")],
-    [".byte 1\nnop", one(2, 1, "An instruction stands at a multiple of 4: .align 2 goes there.")],
+    [".byte 1\nnop\nnop", one(2, 1, "An instruction stands at a multiple of 4: .align 2 goes "
+      + "there.")],
     [".macro x", one(1, 1, ".macro is not implemented here.")],
     ["lui a0, %lo(4)", one(1, 9, "The upper 20 bits are wanted here, by %hi.")],
     ["addi a0, a0, %hi(4)", one(1, 14, "The lower 12 bits are wanted here, by %lo.")],
@@ -99,6 +104,8 @@ function mistakes(report, page, kit) {
     [".section foo", one(1, 13, 'Nothing says what foo holds: flags do, as "aw".')],
     [".option rvc", one(1, 9, ".option rvc would mean other instructions.")],
   ], (text) => made(page, kit, text));
+  report.cases("the most bytes of a source", [[1 << 20, 0], [(1 << 20) + 1, 1]], (count) =>
+    page.assemble(`.space ${count - 4}\n.word 1`, 0, kit).mistakes.length);
   report.same("how many are told", 20, made(page, kit, "foo\n".repeat(30)).length);
 }
 
@@ -144,6 +151,11 @@ function known(report, page, kit) {
     ["li a0, '\\''#", ["li name", "a0 register", "'\\'' string", "# comment"]],
     ["j there", ["j name"]], ["li a0, 'a'", ["li name", "a0 register", "'a' string"]], ["", []],
   ], coloured);
+  const text = "add a0, a1\nx\n";
+  report.cases("the place of a mistake in a text", [
+    [[1, 5], [4, 6]], [[1, 7], [6, 7]], [[1, 11], [9, 10]], [[2, 1], [11, 12]], [[3, 1], [13, 13]],
+  ], ([line, column]) => page.EditorView.prototype.wrongIn
+    .call({ mistakes: [{ line, column }] }, text, page.lineStartsOf(text))[0]);
   report.cases("the nearest word", [
     ["adi", "addi"], ["loop1", "loop"], ["x", undefined], ["zzzz", undefined],
   ], (word) => page.nearestOf(word, ["addi", "andi", "loop", "y"]));

@@ -71,6 +71,10 @@ async function programs(report, page, kit) {
   let end = null;
   while (end === null) end = machine.step();
   report.same("how it ends", [{ reason: "exit", status: 37 }, 8], [end, machine.steps]);
+  // the second segment has two bytes of the file more
+  const longer = await opened(page, kit, executable({ [84 + 16]: 6 }));
+  report.same("words of a file whose last one is not whole", 1026,
+    page.parseProgram(longer.text, 1 << 20).words.length);
   const named = await opened(page, kit, executable({ [NAMES_AT + 1]: 0x61 }));
   report.same("the label of the entry under another name", true,
     named.text.includes("_start:\nastart:\n0x00012503\n"));
@@ -103,6 +107,10 @@ async function refused(report, page, kit) {
     [{ 25: 0x08 }, `${none}e_entry is 0x00010874, in no loaded segment.`],
     [{ [second + 22]: 8 }, "It takes 528,640 bytes from 0x00010000 on, and the memory has 524,288 "
       + "for a program."],
+    // p_memsz up to 0x90000, and a byte more
+    [{ [second + 20]: 0, [second + 21]: 0xf0, [second + 22]: 7 }, "opened"],
+    [{ [second + 20]: 1, [second + 21]: 0xf0, [second + 22]: 7 }, "It takes 524,289 bytes from "
+      + "0x00010000 on, and the memory has 524,288 for a program."],
     [{ [first + 11]: 0xff, [second + 11]: 0xff, 27: 0xff }, "opened"],
   ];
   for (const [changes, wanted] of cases) {
