@@ -190,8 +190,103 @@ fn each_session_is_answered(rt: HostRuntime) -> Result<(), Fail> {
     Ok(())
 }
 
+/// Each packet that the stub knows, in a session of its own, and three that it does not know; then the
+/// signal of each fault, and a program that does not stop before it exits. `G` stands in the sessions
+/// above, and `k`, `R` and `vRun`, which are not answered, in the streams below.
+const PACKETS: [(&str, &str); 57] = [
+    ("?", "S05"),
+    ("!", "OK"),
+    (
+        "g",
+        "000000000000000000000000000000000000000000000000000000000000000000000000000000000000000000000000000000000000000000000000000000000000000000000000000000000000000000000000000000000000000000000000000000000000000000000000000000000000000000000000000000000000000000000000",
+    ),
+    ("p20", "00000000"),
+    ("P1=01000000", "OK"),
+    ("m40,4", "41424344"),
+    ("M40,1:00", "OK"),
+    ("X40,1:a", "OK"),
+    ("c", "O64000000|S05"),
+    ("C00", "O64000000|S05"),
+    ("C0b", "X0b"),
+    ("s", "S05"),
+    ("S00", "S05"),
+    ("S04", "X04"),
+    ("vCont?", "vCont;c;C;s;S"),
+    ("vCont;c", "O64000000|S05"),
+    ("vCont;C00:1", "O64000000|S05"),
+    ("vCont;s:1", "S05"),
+    ("vCont;S00", "S05"),
+    ("bs", "T05replaylog:begin;"),
+    ("bc", "T05replaylog:begin;"),
+    ("Z0,4,4", "OK"),
+    ("Z1,4,4", "OK"),
+    ("Z2,40,4", "OK"),
+    ("Z3,40,4", "OK"),
+    ("Z4,40,4", "OK"),
+    ("z0,4,4", "OK"),
+    ("z1,4,4", "OK"),
+    ("z2,40,4", "OK"),
+    ("z3,40,4", "OK"),
+    ("z4,40,4", "OK"),
+    ("Hc-1", "OK"),
+    ("T1", "OK"),
+    ("D;1", "OK"),
+    ("vKill;1", "OK"),
+    (
+        "qSupported:swbreak+",
+        "PacketSize=4000;QStartNoAckMode+;qXfer:features:read+;qXfer:exec-file:read+;ReverseStep+;ReverseContinue+;QCatchSyscalls+;vContSupported+",
+    ),
+    (
+        "qXfer:features:read:target.xml:0,15",
+        "m<?xml version=\"1.0\"?>",
+    ),
+    ("qXfer:exec-file:read:1:0,9", "l/a"),
+    ("qAttached", "1"),
+    ("qC", "QC1"),
+    ("qfThreadInfo", "m1"),
+    ("qsThreadInfo", "l"),
+    ("QStartNoAckMode", "OK"),
+    ("QCatchSyscalls:1", "OK"),
+    ("qRcmd,7374657073", "73746570733a20300a"),
+    ("qRcmd,6c696d69742035", "6c696d69743a20350a"),
+    ("qRcmd,686973746f72792039", "686973746f72793a20390a"),
+    (
+        "qRcmd,73746f702d61742d65786974206f6666",
+        "73746f702d61742d657869743a206f66660a",
+    ),
+    (
+        "qRcmd,73746f702d61742d65786974206f6e",
+        "73746f702d61742d657869743a206f6e0a",
+    ),
+    ("vMustReplyEmpty", ""),
+    ("qTStatus", ""),
+    ("x40,4", ""),
+    ("P20=3c000000|s", "OK|+|S04"),
+    ("M3c,4:73001000|P20=3c000000|c", "OK|+|OK|+|S05"),
+    ("P20=02000000|s", "OK|+|S0a"),
+    ("P20=00100000|s", "OK|+|S0b"),
+    (
+        "qRcmd,73746f702d61742d65786974206f6666|c",
+        "73746f702d61742d657869743a206f66660a|+|O64000000|W05",
+    ),
+];
+
+#[test]
+fn each_packet_is_answered(rt: HostRuntime) -> Result<(), Fail> {
+    let alloc = rt.alloc();
+    let mut wrong = Vec::new(alloc);
+    for (index, (payloads, answers)) in PACKETS.iter().enumerate() {
+        let (sent, _end) = answers_to(alloc, payloads)?;
+        if sent.as_slice() != wanted(alloc, answers)?.as_slice() {
+            wrong.push(index)?;
+        }
+    }
+    assert_eq!(rt; wrong.as_slice(), [].as_slice());
+    Ok(())
+}
+
 /// Bytes that are no packets alone, what is sent for them, and how the session ends.
-const STREAMS: [(&[u8], &[u8], SessionEnd); 7] = [
+const STREAMS: [(&[u8], &[u8], SessionEnd); 9] = [
     (b"", b"", SessionEnd::Ended),
     (b"+-$?#3f$k#6b$?#3f", b"+$S05#b8+", SessionEnd::Ended),
     (b"$?#00$?#3f-", b"-+$S05#b8$S05#b8", SessionEnd::Ended),
@@ -202,6 +297,8 @@ const STREAMS: [(&[u8], &[u8], SessionEnd); 7] = [
         b"+$OK#9a$E16#ac$S05#b8",
         SessionEnd::Ended,
     ),
+    (b"$k#6b$?#3f", b"+", SessionEnd::Ended),
+    (b"$vRun;61#4d", b"+", SessionEnd::Restart),
     (b"$R00#b2", b"+", SessionEnd::Restart),
 ];
 
