@@ -28,10 +28,8 @@ SHOWN = (b"g", b"m0,140")
 
 def framed(payload, wrong=0):
     """The packet of a payload, whose sum is wrong by so much."""
-    body = bytearray()
-    for byte in payload:
-        body += bytes([0x7D, byte ^ 0x20]) if byte in b"#$}" else bytes([byte])
-    return b"$%s#%02x" % (bytes(body), (sum(body) + wrong) % 256)
+    body = payload.replace(b"}", b"}]").replace(b"#", b"}\x03").replace(b"$", b"}\x04")
+    return b"$%s#%02x" % (body, (sum(body) + wrong) % 256)
 
 
 def changed(choice):
@@ -76,15 +74,16 @@ def main():
     """Sends the packets, and compares."""
     rrs, program, count = sys.argv[1], sys.argv[2], int(sys.argv[3])
     choice = random.Random(46)
+    shown = [framed(question) for question in SHOWN]
     sent, wants = [], []
     for _ in range(count):
         payload = changed(choice)
         while payload.startswith(ENDING) or payload[:1] in (b"k", b"D", b"R"):
             payload = changed(choice)
         wrong = choice.randrange(1, 256) if choice.random() < 0.02 else 0
-        sent += [framed(shown) for shown in SHOWN] + [framed(payload, wrong)]
+        sent += [*shown, framed(payload, wrong)]
         wants.append((payload, wrong))
-    sent += [framed(shown) for shown in SHOWN]
+    sent += shown
     limit = framed(b"qRcmd," + b"limit 200".hex().encode())
     run = subprocess.run([rrs, "gdb", "--raw", program], input=limit + b"".join(sent),
                          capture_output=True, check=False, timeout=600)
