@@ -255,13 +255,16 @@ C
     build "gcc -std=c99 -DSTEPS=3000u -x c" wrong_shadow "$here/c/shadow.c" "$room/record.c" &&
         build "gcc -std=c99 -x c" wrong_kit "$lockstep/main.c" "$lockstep/design.c" \
             "$room/record.c" || return 1
+    local names=(insn fetched trap pc_rdata pc_wdata rs1_addr rs1_rdata rs2_addr rs2_rdata rd_addr
+        rd_wdata mem_addr mem_rmask mem_wmask mem_rdata mem_wdata)
     for field in $(seq 0 17); do
         # the shadow looks at no `fetched`, and at the bytes of a load's mask alone
         case $field in
         1 | 12) ;;
         *) FIELD=$field fails_with " the sum " wrong_shadow || return 1 ;;
         esac
-        FIELD=$field fails_with "  found after \|memory differs" wrong_kit || return 1
+        FIELD=$field fails_with "^    ${names[field]:-.*}: 0x\|found after" wrong_kit || return 1
+        [ "$field" -gt 15 ] || grep -q "^    ${names[field]}: 0x" "$room/printed" || return 1
     done
     checks="-O1 -I$lockstep"
     build "gcc -std=c99 -x c" unplanted "$lockstep/main.c" "$room/unplanted.c" &&
@@ -329,8 +332,8 @@ rust_prints() {
 
 rust_says_what_it_needs() {
     local needed
-    needed=$(sed -n 's/^rust-version = "\(.*\)"$/\1/p' "$here/rust/Cargo.toml")
-    [ -n "$needed" ] && grep -q "Rust $needed" "$here/rust/README.md"
+    needed=$(sed -n 's/^rust-version = "\(.*\)"$/\1/p' "$1/rust/Cargo.toml")
+    [ -n "$needed" ] && grep -q "Rust $needed" "$1/rust/README.md"
 }
 
 python() {
@@ -370,7 +373,7 @@ all() {
     try "rust: replay refuses a line with more" refuses_lines "$room/rust/release/examples/replay"
     try "rust: a library of another version is refused" rust_refuses version another_version
     try "rust: an unknown kind is refused" rust_refuses kind unknown_kind
-    try "rust: README says which Rust it needs" rust_says_what_it_needs
+    try "rust: README says which Rust it needs" rust_says_what_it_needs "$here"
     try "the library for Python" gcc -shared -o "$room/librrs.so" \
         -Wl,--whole-archive "$library" -Wl,--no-whole-archive
     try "python: its tests" python_passes 25
@@ -384,7 +387,7 @@ all() {
 # The calls that do more than they may: some write a text where there is room for it, and none for
 # the 0 behind it, and the others give a number where there must be 0
 wrong_calls="disassemble register_name elf_function_at decode elf_parse elf_segment csr_read request
-    compare step run run_cached run_until_cached csr_write undo"
+    compare step run run_cached run_until_cached csr_write undo complete_rvfi step_rvfi"
 
 make_wrong_calls() {
     cat >"$room/calls.c" <<'C'
@@ -405,6 +408,8 @@ make_wrong_calls() {
 #undef rrs_run_until_cached
 #undef rrs_csr_write
 #undef rrs_undo
+#undef rrs_complete_rvfi
+#undef rrs_step_rvfi
 #define WRONG(kind, name, parameters, arguments, change)                    \
     kind wrong_##name parameters;                                           \
     kind rrs_##name parameters;                                             \
@@ -445,6 +450,24 @@ WRONG(rrs_end, run_until_cached,
       (hart, cache, words, count, base, limit + (limit == 100), stops, stop_count), )
 WRONG(uint32_t, csr_write, (rrs_csrs *csrs, uint32_t number, uint32_t value),
       (csrs, number, value), if (a == 0) csrs->mscratch ^= 1)
+/* a field of a record that is left as it was, in place of 0 */
+#define LEAVES(name, parameters, arguments)                                 \
+    rrs_fault wrong_##name parameters;                                      \
+    rrs_fault rrs_##name parameters;                                        \
+    rrs_fault wrong_##name parameters {                                     \
+        uint32_t before = retired->mem_wdata;                               \
+        rrs_fault fault = rrs_##name arguments;                             \
+        if (retired->mem_wdata == 0) retired->mem_wdata = before;           \
+        return fault;                                                       \
+    }
+LEAVES(complete_rvfi,
+       (rrs_hart *hart, uint32_t word, uint32_t granted, uint32_t value, uint64_t order,
+        rrs_retired *retired),
+       (hart, word, granted, value, order, retired))
+LEAVES(step_rvfi,
+       (rrs_hart *hart, uint32_t *words, size_t count, uint32_t base, uint64_t order,
+        rrs_retired *retired),
+       (hart, words, count, base, order, retired))
 void wrong_undo(rrs_hart *hart, uint32_t *words, size_t count, uint32_t base,
                 const rrs_change *change);
 void rrs_undo(rrs_hart *hart, uint32_t *words, size_t count, uint32_t base,
@@ -488,6 +511,9 @@ SH
     chmod +x "$room/bin/tool"
     for tool in gcc cargo python3; do ln -s tool "$room/bin/$tool"; done
     PATH=$room/bin:$PATH
+    mkdir -p "$room/rust" && cp "$here"/rust/{Cargo.toml,README.md} "$room/rust" || exit 2
+    [ "$fewer" = 0 ] || sed -i 's/^rust-version = .*/rust-version = "1.99"/' "$room/rust/Cargo.toml"
+    try "rust: README says which Rust it needs" rust_says_what_it_needs "$room"
     try "rrs.h has the stored layouts and constants" header_has gcc
     try "rrs.h declares the stored functions" declares
     try "rrs.h asserts each layout" asserts_all
@@ -508,10 +534,10 @@ wrong_tools() {
     right) wanted=0 && over_tools 0 ;;
     more) wanted=6 && over_tools 0 "echo more" ;;
     ended) wanted=9 && over_tools 1 ;;
-    fewer) wanted=2 && over_tools 0 "" 1 ;;
+    fewer) wanted=3 && over_tools 0 "" 1 ;;
     esac
     [ "$fails" = "$wanted" ] || { echo "$fails tries fail, and $wanted must" && exit 3; }
-    finish 10
+    finish 11
 }
 
 # What is small, with something wrong in it: nothing, answers, lines, talks, layouts, assertions,
@@ -551,18 +577,22 @@ wrong() {
 
 # Each wrong subject must be seen, and the right one must pass.
 self_test() {
-    local what status
+    local what status tried=0
     for what in nothing right more ended fewer answers lines talks layouts assertions asserted names \
         asks state tries $wrong_calls; do
         status=0
+        tried=$((tried + 1))
         "$here/check.sh" --wrong "$what" >"$room/seen" 2>&1 || status=$?
         case $what:$status in
         nothing:0 | right:0) ;;
         nothing:* | right:* | *:3) cat "$room/seen" && failed=1 ;;
-        *:1) grep -q '^failed: ' "$room/seen" || failed=1 ;;
+        # what is not built shows nothing
+        *:1) grep -q '^failed: ' "$room/seen" && ! grep -q '^failed: replay, as C99$' "$room/seen" ||
+            { echo "not seen: $what is wrong" && failed=1; } ;;
         *) echo "not seen: $what is wrong" && failed=1 ;;
         esac
     done
+    [ "$tried" = 32 ] || { echo "$tried subjects, and there must be 32" && failed=1; }
     echo "self-test: status $failed"
     exit "$failed"
 }

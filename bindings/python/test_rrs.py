@@ -200,6 +200,9 @@ class Faces(unittest.TestCase):
                 self.assertTrue(function.__doc__ or function.__name__.startswith("__"))
                 count += 1
         self.assertGreater(count, 20)
+        own = [name for name, value in vars(rrs).items() if name[0] != "_" and (
+            getattr(value, "__module__", None) == "rrs" or isinstance(value, type(rrs.Row)))]
+        self.assertEqual(sorted(own), sorted(rrs.__all__))
 
     def test_a_machine_keeps_its_memory_and_its_base(self):
         machine = Machine([1, 2], base=8)

@@ -11,7 +11,8 @@
 #define CODE 192 /* words of code, and data behind them */
 #define WORDS 256
 #define RANDOM_PROGRAMS 400
-#define PROGRAMS (RANDOM_PROGRAMS + 1) /* and one of divisions */
+#define TARGETS 60
+#define PROGRAMS (RANDOM_PROGRAMS + 1 + TARGETS) /* and one of divisions, and each target */
 #define STEPS 1000
 
 /* Numbers that look random, the same in each run (xorshift). */
@@ -94,6 +95,14 @@ static void make_divisions(uint32_t *words, uint32_t *x) {
     words[i] = 0x00100073; /* ebreak */
 }
 
+/* A jump or a branch, by each bit of its offset, forward and back: of the first 40 each is a jump. */
+static uint32_t target_word(unsigned number) {
+    unsigned bit = number < 40 ? number / 2 : (number - 40) / 2;
+    int32_t offset = (int32_t)1 << (bit % (number < 40 ? 19 : 10) + 2);
+    if (number % 2 != 0) offset = -offset;
+    return number < 40 ? jal(3, number < 38 ? offset : 4) : b_type(0, 0, 0, offset);
+}
+
 /* Prints the fields of two records that differ. */
 static void print_difference(const rrs_retired *wanted, const rrs_retired *got) {
     static const char *const names[] = {
@@ -121,6 +130,7 @@ static int differs(struct design *design, unsigned program, uint64_t *records) {
     for (i = 1; i < 32; i++) hart.x[i] = random_value();
     hart.x[1] = BASE + 4 * CODE;
     if (program == RANDOM_PROGRAMS) make_divisions(words, hart.x);
+    if (program > RANDOM_PROGRAMS) words[0] = target_word(program - RANDOM_PROGRAMS - 1);
     memcpy(copy, words, sizeof words);
     hart.pc = BASE;
     hart.last = 0;
