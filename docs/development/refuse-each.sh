@@ -113,10 +113,11 @@ C
 
 # Each wrong subject must be seen, and the right one must pass.
 self_test() {
-    local what wanted status failed=0
+    local what wanted status failed=0 tried=0
     for what in nothing:0 test:1 count:1 tests:1 preload:1 name:2; do
         wanted=${what#*:}
         status=0
+        tried=$((tried + 1))
         "$here/refuse-each.sh" --wrong "${what%:*}" >"$room/seen" 2>&1 || status=$?
         [ "$status" = "$wanted" ] && continue
         echo "${what%:*} is wrong: status $status, and not $wanted"
@@ -127,6 +128,11 @@ self_test() {
     status=0
     "$here/refuse-each.sh" none tests::it >"$room/seen" 2>&1 || status=$?
     [ "$status" = 2 ] || { echo "no crate: status $status, and not 2" && failed=1; }
+    # without a compiler nothing is tried
+    status=0
+    CC=false "$here/refuse-each.sh" none tests::it >"$room/seen" 2>&1 || status=$?
+    [ "$status" = 2 ] || { echo "no compiler: status $status, and not 2" && failed=1; }
+    [ "$tried" = 6 ] || { echo "$tried wrong subjects, and there must be 6" && failed=1; }
     echo "self-test: status $failed"
     return "$failed"
 }
