@@ -165,7 +165,6 @@ fn touched(watches: &[Watch], access: DataRequest) -> Option<Watch>
 }
 
 /// The access that the step from here makes beside its fetch.
-#[inline(never)]
 fn access_at<M: Memory>(executor: &mut InstructionExecutor<M>) -> Option<DataRequest>
     ensures kept { state_in M.bytes M.writable executor.new
         ≡ state_in M.bytes M.writable executor.old }
@@ -191,7 +190,6 @@ fn access_of(hart: &HartState, word: u32) -> Option<DataRequest>
 
 /// The first watchpoint that the step from here touches. The word of the step is fetched, if there
 /// are watchpoints, and nothing else is accessed.
-#[inline(always)]
 pub(crate) fn watch_at<M: Memory>(
     executor: &mut InstructionExecutor<M>,
     watches: &[Watch],

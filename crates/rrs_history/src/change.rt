@@ -99,7 +99,7 @@ pub fn step_noted_parts<M: Memory>(
 /// The first of the two is the answer of `step`, with its exceptions. After each of them the
 /// registers, the pc and the bytes are as before, and no register is the one written last; the
 /// change takes that back too.
-#[inline(always)]
+#[inline]
 pub fn step_noted<M: Memory>(
     executor: &mut InstructionExecutor<M>,
 ) -> (Result<(), InstructionException>, Change)

@@ -112,7 +112,6 @@ impl History {
 /// The exceptions of `step`. After each of them the registers, the pc and the bytes are as before,
 /// and no register is the one written last. Nothing is kept, and the history leads back to the
 /// states to which it led before (`kept`).
-#[inline(always)]
 pub fn step_recorded<M: Memory>(
     executor: &mut InstructionExecutor<M>,
     history: &mut History,
