@@ -1,0 +1,78 @@
+"""A small repository with one thing wrong in its pages, which the check must tell."""
+
+import shutil
+import subprocess
+import sys
+import tempfile
+from pathlib import Path
+
+from surface import BELOW
+
+TABLE = "crates/rrs_instruction/specs/Table.antt"
+RIGHT = {
+    "crates.txt": "one:\n",
+    "crates/one/src/lib.rt": "//! A crate.\n\n/// One.\npub fn one_name() -> u32 {\n    1\n}\n",
+    TABLE: "table Row.Add = row \"add\"\n",
+    "docs/ADDING.md": f"# Adding\n\n| `{TABLE}` | 1 |\n",
+    "docs/OTHER.md": "# Other\n\n## A heading\n",
+    "docs/SURFACE.md": f"# Surface\n\n{BELOW}\n",
+    "README.md": """# A page
+
+The name `one_name`, [a heading](docs/OTHER.md#a-heading), and 1<!--count crates--> crate.
+
+<!-- from crates/one/src/lib.rt -->
+```rust
+pub fn one_name() -> u32 {
+    1
+```
+""",
+}
+
+# a file, what stands in it, what stands there instead, and what is told of it
+WRONG = [
+    ("README.md", "    1\n", "    2\n", "no copy of crates/one/src/lib.rt: not there: `2`"),
+    ("README.md", "from crates/one/src/lib.rt", "from none", "from none, which is not there"),
+    ("README.md", "<!-- from", "<!-- of", "neither `<!-- from PATH -->` nor"),
+    ("README.md", "    1\n```", "    1\n", "a code block that nothing ends"),
+    ("README.md", "OTHER.md#", "NONE.md#", "there is no such file"),
+    ("README.md", "#a-heading", "#another", "there is no such heading"),
+    ("README.md", "`one_name`", "`two_name`", "no source has `two_name`"),
+    ("README.md", "1<!--", "2<!--", "`crates` is 1, and not 2"),
+    ("README.md", "count crates", "count none", "there is no count `none`"),
+    ("docs/ADDING.md", "specs/Table.antt", "src/lib.rt", "lists " + TABLE),
+    ("docs/SURFACE.md", "one_name", "two_name", "call docs/check --write"),
+]
+
+
+def checked(folder, *words):
+    """The status of the check in a repository, and what it prints."""
+    run = subprocess.run([sys.executable, folder / "docs/check", *words], capture_output=True,
+                         text=True, check=False)
+    return run.returncode, run.stdout + run.stderr
+
+
+def self_test(root):
+    """Tries the check on what is right, and on each wrong page. Returns 0 where all is told."""
+    missed = []
+    with tempfile.TemporaryDirectory() as name:
+        folder = Path(name)
+        for file, text in RIGHT.items():
+            (folder / file).parent.mkdir(parents=True, exist_ok=True)
+            (folder / file).write_text(text)
+        shutil.copy(root / "docs/check", folder / "docs")
+        shutil.copytree(root / "docs/checks", folder / "docs/checks")
+        subprocess.run(["git", "init", "--quiet", folder], check=True)
+        checked(folder, "--write")
+        status, said = checked(folder)
+        if status != 0:
+            missed.append(f"status {status} where nothing is wrong: {said}")
+        for file, old, new, wanted in WRONG:
+            path = folder / file
+            text = path.read_text()
+            path.write_text(text.replace(old, new, 1))
+            status, said = checked(folder)
+            path.write_text(text)
+            if status != 1 or wanted not in said or text.count(old) == 0:
+                missed.append(f"{file}: {new!r} for {old!r}: status {status}, {said}")
+    print("\n".join([*missed, f"self-test: status {int(bool(missed))}"]))
+    return int(bool(missed))
