@@ -4,14 +4,16 @@
 It makes the programs that the test `generated_programs` of crates/rrs_privileged_tests makes, from
 the same numbers, and runs them. What it prints is the table CHECKSUMS of that test.
 
-usage: model.py            prints the table
-       model.py --check    compares it with the one in the test
+usage: model.py                prints the table
+       model.py --check        compares it with the one in the test
+       model.py --self-test    tries the comparison, over tables of fewer programs that are wrong
 
 RV32IM here is what the programs use of it: loads, stores, addi, add, jumps and branches.
 """
 
 import re
 import sys
+import tempfile
 from pathlib import Path
 
 TEST = Path(__file__).resolve().parents[2] / "crates/rrs_privileged_tests/src/generated.rt"
@@ -333,7 +335,23 @@ def checksums():
         yield checksum
 
 
+def self_test():
+    """A table with another number, and one that is cut off, must be seen. Gives the status."""
+    global PROGRAMS, TEST
+    PROGRAMS, failed = 5, 0
+    right = [f"0x{value:08x}" for value in checksums()]
+    with tempfile.TemporaryDirectory() as folder:
+        TEST = Path(folder) / "generated.rt"
+        for table, wanted in ((right, 0), (["0x00000000", *right[1:]], 1), (right[:-1], 1)):
+            TEST.write_text(f"const CHECKSUMS: [u32; 20] = [{', '.join(table)}];", encoding="utf-8")
+            failed |= main(["--check"]) != wanted
+    print(f"self-test: status {int(failed)}")
+    return int(failed)
+
+
 def main(words):
+    if words == ["--self-test"]:
+        return self_test()
     table = list(checksums())
     if words == ["--check"]:
         text = TEST.read_text(encoding="utf-8")
