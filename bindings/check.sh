@@ -168,11 +168,11 @@ header_asserts() {
     [ "$tried" = 8 ]
 }
 
-# RRS_VERSION has each of its three parts.
+# RRS_VERSION has each of its three parts, and is one operand.
 counts_version() {
     sed 's/\(#define RRS_VERSION_MAJOR\) .*/\1 1/; s/\(#define RRS_VERSION_MINOR\) .*/\1 2/
         s/\(#define RRS_VERSION_PATCH\) .*/\1 3/' "$header" >"$room/version.h"
-    echo 'int version[RRS_VERSION == 0x010203 ? 1 : -1];' >>"$room/version.h"
+    echo 'int version[2 * RRS_VERSION == 2 * 0x010203 ? 1 : -1];' >>"$room/version.h"
     gcc -std=c99 -fsyntax-only -x c "$room/version.h"
 }
 
@@ -205,7 +205,7 @@ examples() {
         try "$program, as C++" build "g++ -std=c++11 -x c++" "$program" "$@"
         try "$program, as C++, prints what is stored" prints "$program"
     done
-    try "shadow and lockstep see what is wrong" examples_see
+    try "uart, shadow and lockstep see what is wrong" examples_see
     try "replay, as C99" build "gcc -std=c99 -x c" replay "$here/c/replay.c"
     try "replay, as C99, answers as is stored" answers "$room/replay"
     try "replay refuses a line with more" refuses_lines "$room/replay"
@@ -224,7 +224,8 @@ fails_with() {
 }
 
 # shadow and lockstep fail where the kit tells or does something wrong in one step of each: a field of
-# the record in its lowest bit, or the last word of memory; and lockstep where a fault is not planted.
+# the record in its lowest bit, or the last word of memory; lockstep where a fault is not planted; and
+# uart where its program sends before the device is ready.
 examples_see() {
     local field lockstep=$here/c/lockstep
     local checks="-O1 -Drrs_step_rvfi=wrong_step_rvfi -I$here/c/lockstep"
@@ -266,9 +267,11 @@ C
         FIELD=$field fails_with "^    ${names[field]:-.*}: 0x\|found after" wrong_kit || return 1
         [ "$field" -gt 15 ] || grep -q "^    ${names[field]}: 0x" "$room/printed" || return 1
     done
-    checks="-O1 -I$lockstep"
+    checks="-O1 -I$lockstep -I$here/c"
     build "gcc -std=c99 -x c" unplanted "$lockstep/main.c" "$room/unplanted.c" &&
-        fails_with "^5 of 6 planted faults found" unplanted
+        fails_with "^5 of 6 planted faults found" unplanted || return 1
+    sed 's/b_type(0, 13, 0, -8)/addi(0, 0, 0)/' "$here/c/uart.c" >"$room/hasty.c"
+    build "gcc -std=c99 -x c" hasty "$room/hasty.c" && fails_with "bytes refused [1-9]" hasty
 }
 
 # Libraries that the faces must refuse: of another version, one with no rrs_request, and one that
@@ -305,24 +308,34 @@ rust() {
         cargo "$@" --offline --quiet --manifest-path "$here/rust/Cargo.toml"
 }
 
-# rust_refuses LIBRARY WORD ..: a test passes over a library that must be refused. Each is put into the
-# same folder, and so the crate has to be linked again.
+# rust_refuses LIBRARY COMPARED WORD ..: a test passes over a library that must be refused. Each is put
+# into the same folder, and so the crate has to be linked again.
 rust_refuses() {
-    local name=$1
-    shift
+    local name=$1 compared=$2
+    shift 2
     mkdir -p "$room/refused" && cp "$room/$name/librrs_c.a" "$room/refused" || return 1
-    rust_passes 1 "$room/refused" --test refused -- --ignored "$@"
+    rust_passes 1 "$compared" "$room/refused" --test refused -- --ignored "$@"
 }
 
-# rust_passes COUNT FOLDER WORD ..: so many tests pass
+# rust_passes COUNT COMPARED FOLDER WORD ..: so many tests pass, which compare so often
 rust_passes() {
-    local count=$1 passed folder=$2
-    shift 2
+    local count=$1 compared=$2 folder=$3 passed made
+    shift 3
+    [ $# -gt 0 ] || set -- --
     CARGO_TARGET_DIR=$room/rust RUSTFLAGS=-Dwarnings RRS_LIB_DIR=$folder \
-        cargo test --offline --manifest-path "$here/rust/Cargo.toml" "$@" >"$room/printed" 2>&1 ||
-        { cat "$room/printed"; return 1; }
+        cargo test --offline --manifest-path "$here/rust/Cargo.toml" "$@" --show-output \
+        >"$room/printed" 2>&1 || { cat "$room/printed"; return 1; }
     passed=$(sed -n 's/^test result: ok\. \([0-9]*\) passed.*/\1/p' "$room/printed" | paste -sd+)
-    [ "$((passed))" = "$count" ] || { cat "$room/printed"; return 1; }
+    made=$(grep -c '^compared$' "$room/printed")
+    [ "$((passed)) $made" = "$count $compared" ] && return
+    cat "$room/printed"
+    echo "$((passed)) tests and $made comparisons, and there must be $count and $compared"
+    return 1
+}
+
+# rust_examples COUNT: the examples of its docs compare so often
+rust_examples() {
+    [ "$(grep -c '^//[/!] assert_eq!' "$here/rust/src/lib.rs")" = "$1" ]
 }
 
 rust_prints() {
@@ -346,10 +359,12 @@ python_prints() {
     diff "$here/python/expected.txt" "$room/printed"
 }
 
-# python_passes COUNT: so many tests pass
+# python_passes COUNT COMPARED EXAMPLES: so many tests pass, which compare so often, and have so many
+# lines of examples
 python_passes() {
     python test_rrs.py >"$room/printed" 2>&1 || { cat "$room/printed"; return 1; }
-    grep -q "^Ran $1 tests" "$room/printed" || { cat "$room/printed"; return 1; }
+    grep -q "^Ran $1 tests" "$room/printed" &&
+        grep -qx "$2 comparisons, $3 examples" "$room/printed" || { cat "$room/printed"; return 1; }
 }
 
 python_has_layouts() {
@@ -366,22 +381,23 @@ all() {
     examples
     try "libraries that must be refused" make_refused
     try "three_words refuses a library of another version" c_refuses
-    try "rust: its tests" rust_passes 8 "$crate/out"
+    try "rust: its tests" rust_passes 8 57 "$crate/out"
+    try "rust: the examples of its docs" rust_examples 3
     try "rust: three_words prints what is stored" rust_prints
     try "rust: replay is built" rust "$crate/out" build --release --example replay
     try "rust: replay answers as is stored" answers "$room/rust/release/examples/replay"
     try "rust: replay refuses a line with more" refuses_lines "$room/rust/release/examples/replay"
-    try "rust: a library of another version is refused" rust_refuses version another_version
-    try "rust: an unknown kind is refused" rust_refuses kind unknown_kind
+    try "rust: a library of another version is refused" rust_refuses version 21 another_version
+    try "rust: an unknown kind is refused" rust_refuses kind 11 unknown_kind
     try "rust: README says which Rust it needs" rust_says_what_it_needs "$here"
     try "the library for Python" gcc -shared -o "$room/librrs.so" \
         -Wl,--whole-archive "$library" -Wl,--no-whole-archive
-    try "python: its tests" python_passes 25
+    try "python: its tests" python_passes 25 333 11
     try "python: three_words prints what is stored" python_prints
     try "python: replay answers as is stored" answers python replay.py
     try "python: replay refuses a line with more" refuses_lines python replay.py
     try "python: the structs and constants are those of rrs.h" python_has_layouts
-    finish 48
+    finish 49
 }
 
 # The calls that do more than they may: some write a text where there is room for it, and none for
@@ -481,7 +497,8 @@ C
 }
 
 # The tries of what is compared and counted, where each tool answers as is stored, and ends with a status.
-# They print a line more, or say of so many tests fewer that they passed: STATUS [MORE] [FEWER]
+# They print a line more, or say of so many tests fewer that they passed, or of so many comparisons fewer
+# that they were made: STATUS [MORE] [FEWER] [UNCOMPARED]
 over_tools() {
     local tool fewer=${3:-0}
     mkdir "$room/bin"
@@ -496,10 +513,10 @@ case "\$*" in
     ;;
 *"functions "*) cat "\$here/functions" ;;
 *layouts.py) cat "\$layouts" ;;
-*test_rrs.py) echo "Ran $((24 - fewer)) tests" ;;
+*test_rrs.py) echo "Ran $((24 - fewer)) tests" && echo "$((5 - ${4:-0})) comparisons, 2 examples" ;;
 *three_words.py) cat "\$here/python/expected.txt" ;;
 run*) cat "\$here/rust/expected.txt" ;;
-test*) echo "test result: ok. $((7 - fewer)) passed" ;;
+test*) echo "test result: ok. $((7 - fewer)) passed" && echo compared && echo ${4:+not }compared ;;
 "") case \$0 in
     */layouts) cat "\$layouts" ;;
     *) cat "\$here/c/expected/three_words.txt" ;;
@@ -519,15 +536,15 @@ SH
     try "rrs.h asserts each layout" asserts_all
     try "three_words is built" build gcc three_words "$here/c/three_words.c"
     try "three_words prints what is stored" prints three_words
-    try "rust: its tests" rust_passes 7 "$crate/out"
+    try "rust: its tests" rust_passes 7 2 "$crate/out"
     try "rust: three_words prints what is stored" rust_prints
-    try "python: its tests" python_passes 24
+    try "python: its tests" python_passes 24 5 2
     try "python: three_words prints what is stored" python_prints
     try "python: the structs and constants are those of rrs.h" python_has_layouts
 }
 
-# Tools that answer as is stored; that print more, end otherwise, or run fewer tests. Each try that
-# looks at this must fail: right, more, ended or fewer
+# Tools that answer as is stored; that print more, end otherwise, run fewer tests, or compare less. Each
+# try that looks at this must fail: right, more, ended, fewer or uncompared
 wrong_tools() {
     local wanted
     case $1 in
@@ -535,13 +552,14 @@ wrong_tools() {
     more) wanted=6 && over_tools 0 "echo more" ;;
     ended) wanted=9 && over_tools 1 ;;
     fewer) wanted=3 && over_tools 0 "" 1 ;;
+    uncompared) wanted=2 && over_tools 0 "" 0 1 ;;
     esac
     [ "$fails" = "$wanted" ] || { echo "$fails tries fail, and $wanted must" && exit 3; }
     finish 11
 }
 
-# What is small, with something wrong in it: nothing, answers, lines, talks, layouts, assertions,
-# asserted, names, asks, state, tries, or one of the calls
+# What is small, with something wrong in it: nothing, answers, lines, talks, takes, unwritten, layouts,
+# assertions, asserted, names, asks, state, tries, or one of the calls
 wrong() {
     local more=() driver=("$room/replay")
     checks=-O0
@@ -561,6 +579,8 @@ wrong() {
     asserted) sed 's/^RRS_ASSERT(fault_word, .*/RRS_ASSERT(fault_more, sizeof(rrs_fault) == 12);/' \
         "$header" >"$room/rrs.h" && header=$room/rrs.h ;;
     talks) driver=(sh -c 'echo more >&2; exec "$0"' "$room/replay") ;;
+    takes) driver=(sh -c 'sed "s/ more\$//" | "$0"' "$room/replay") ;;
+    unwritten) driver=(sh -c 'said=$("$0") && { echo "$said" 2>/dev/null; true; }' "$room/replay") ;;
     names | asks | state) cp "$library" "$room/wrong.a" && library=$room/wrong.a &&
         gcc -c -o "$room/more.o" "$room/$1.c" && ar r "$library" "$room/more.o" ;;
     nothing | tries) ;;
@@ -570,16 +590,17 @@ wrong() {
     try "rrs.h asserts each layout" asserts_all
     try "replay, as C99" build "gcc -std=c99 -x c" replay "$here/c/replay.c" "${more[@]}"
     try "replay, as C99, answers as is stored" answers "${driver[@]}"
+    try "replay refuses a line with more" refuses_lines "${driver[@]}"
     try "the names of the library" has_names
-    [ "$1" != tries ] || tries=4
-    finish 5
+    [ "$1" != tries ] || tries=5
+    finish 6
 }
 
 # Each wrong subject must be seen, and the right one must pass.
 self_test() {
     local what status tried=0
-    for what in nothing right more ended fewer answers lines talks layouts assertions asserted names \
-        asks state tries $wrong_calls; do
+    for what in nothing right more ended fewer uncompared answers lines talks takes unwritten layouts \
+        assertions asserted names asks state tries $wrong_calls; do
         status=0
         tried=$((tried + 1))
         "$here/check.sh" --wrong "$what" >"$room/seen" 2>&1 || status=$?
@@ -592,7 +613,7 @@ self_test() {
         *) echo "not seen: $what is wrong" && failed=1 ;;
         esac
     done
-    [ "$tried" = 32 ] || { echo "$tried subjects, and there must be 32" && failed=1; }
+    [ "$tried" = 35 ] || { echo "$tried subjects, and there must be 35" && failed=1; }
     echo "self-test: status $failed"
     exit "$failed"
 }
@@ -600,7 +621,9 @@ self_test() {
 case "$*" in
 "") all ;;
 --self-test) self_test ;;
---wrong\ right | --wrong\ more | --wrong\ ended | --wrong\ fewer) wrong_tools "$2" ;;
+--wrong\ right | --wrong\ more | --wrong\ ended | --wrong\ fewer | --wrong\ uncompared)
+    wrong_tools "$2"
+    ;;
 --wrong\ *) wrong "$2" ;;
 *)
     echo "usage: check.sh [--self-test]" >&2

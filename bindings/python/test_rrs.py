@@ -21,7 +21,28 @@ from core_check import PORTS, check_core
 from rrs import Access, AccessKind, End, Fault, FaultKind, Machine
 
 
-class Faces(unittest.TestCase):
+class Counted(unittest.TestCase):
+    """Counts its comparisons, and check.sh compares how many they are with a stored count."""
+
+    made = 0
+
+
+def counted(name):
+    """An assertion of unittest, by its name, which is counted."""
+    assertion = getattr(unittest.TestCase, name)
+
+    def compare(*arguments, **more):
+        Counted.made += 1
+        return assertion(*arguments, **more)
+
+    return compare
+
+
+for _name in "Equal In IsNone Raises Greater True".split():
+    setattr(Counted, f"assert{_name}", counted(f"assert{_name}"))
+
+
+class Faces(Counted):
     def test_faults_and_ends_are_shown(self):
         shown = {
             Fault(FaultKind.ILLEGAL_INSTRUCTION, 4, 5): (
@@ -317,7 +338,7 @@ class Faces(unittest.TestCase):
             self.assertIn("Only one thread at a time may use a machine", " ".join(text.split()))
 
 
-class Libraries(unittest.TestCase):
+class Libraries(Counted):
     """The way to the library, and the libraries that are refused: RRS_REFUSED is the folder where
     check.sh puts them."""
 
@@ -370,4 +391,7 @@ def load_tests(loader, tests, pattern):
 
 
 if __name__ == "__main__":
-    unittest.main()
+    run = unittest.main(exit=False)
+    examples = sum(len(test.examples) for test in doctest.DocTestFinder().find(rrs))
+    print(f"{Counted.made} comparisons, {examples} examples")
+    sys.exit(not run.result.wasSuccessful())

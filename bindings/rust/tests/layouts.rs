@@ -1,6 +1,9 @@
 //! The layouts of the structs that the library shares with this crate, in the form of the list that
 //! `bindings/layouts.py` makes of `rrs.h`, which stands beside this crate.
 
+#[macro_use]
+mod same;
+
 use rrs::{Change, Csrs, Hart, Instruction, VERSION};
 use std::any::type_name;
 use std::mem::{offset_of, size_of};
@@ -58,5 +61,5 @@ fn the_structs_are_those_of_the_header() {
     let of_header: Vec<_> = listed
         .filter(|line| line.starts_with("rrs_") || line.starts_with("RRS_VERSION "))
         .collect();
-    assert_eq!(lines, of_header);
+    same!(lines, of_header);
 }
