@@ -104,9 +104,9 @@ function keepBefore(frame, register, value) {
  * and how often each happened. */
 function remarksOf({ history }) {
   const convention = new Convention();
-  eachRecord(history, (block, at) => {
-    convention.look(block[at + RECORD.pc], block[at + RECORD.word], rdIn(block[at + RECORD.flags]),
-      block[at + RECORD.rdBefore], block[at + RECORD.rdAfter]);
+  eachRecord(history, (u32, at) => {
+    convention.look(u32[at + RECORD.pc], u32[at + RECORD.word], u32[at + RECORD.rd],
+      u32[at + RECORD.rdBefore], u32[at + RECORD.rdAfter]);
   });
   return [...convention.remarks.values()];
 }

@@ -19,12 +19,10 @@ function kindOfJump(word) {
 /* The most frames that are kept. A deeper recursion loses its outermost ones. */
 const MOST_FRAMES = 1000;
 
-/* Calls `visit` with each kept record, oldest first: its block, and its place there. */
-function eachRecord({ blocks, first, steps }, visit) {
-  for (let step = first; step < steps; step++) {
-    const block = blocks[Math.floor(step / BLOCK_STEPS) % BLOCKS];
-    visit(block, step % BLOCK_STEPS * RECORD_WORDS);
-  }
+/* Calls `visit` with each kept record, oldest first: the words of memory, and its place there. */
+function eachRecord(history, visit) {
+  const { u32 } = history.kit;
+  for (let step = history.first; step < history.steps; step++) visit(u32, history.placeOf(step));
 }
 
 /** The calls that have not returned, the innermost first, by the steps whose records are kept. Of
@@ -35,16 +33,16 @@ function framesOf({ kit, history }) {
   const withoutSp = [];
   let sp;
   let called = null;
-  eachRecord(history, (block, at) => {
-    const pc = block[at + RECORD.pc];
+  eachRecord(history, (u32, at) => {
+    const pc = u32[at + RECORD.pc];
     if (called !== null) called.entry = pc;
     called = null;
-    if (rdIn(block[at + RECORD.flags]) === REGISTER.SP) {
-      const before = block[at + RECORD.rdBefore];
+    if (u32[at + RECORD.rd] === REGISTER.SP) {
+      const before = u32[at + RECORD.rdBefore];
       for (const frame of withoutSp.splice(0)) frame.sp = before;
-      sp = block[at + RECORD.rdAfter];
+      sp = u32[at + RECORD.rdAfter];
     }
-    const kind = kindOfJump(block[at + RECORD.word]);
+    const kind = kindOfJump(u32[at + RECORD.word]);
     if (kind === "return") frames.pop();
     if (kind !== "call") return;
     called = { from: pc, entry: kit.pc, back: (pc + 4) % 2 ** 32, sp };

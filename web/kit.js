@@ -11,6 +11,9 @@ const LAYOUT = {
     size: 72, insn: 8, pcBefore: 20, rd: 44, rdValue: 48, memoryAddress: 52,
     readMask: 56, writeMask: 60, readValue: 64, writtenValue: 68,
   },
+  change: {
+    size: 28, pc: 0, lastBefore: 4, rd: 8, rdBefore: 12, address: 16, stored: 20, bytesBefore: 24,
+  },
   instruction: { size: 24, row: 0, rd: 4, rs1: 8, rs2: 12, shamt: 16, imm: 20 },
   access: { size: 28, fault: 0, kind: 12, address: 16, bytes: 20, value: 24 },
   text: { size: 26 },
@@ -26,9 +29,20 @@ const IS_CODE = 1;
 /* The most bytes of the name of a function that the page shows. */
 const MOST_NAME = 255;
 
-/* Where in a record of a step its words are, for the loop that has to be fast. */
-const RETIRED = Object.fromEntries(
-  Object.entries(LAYOUT.retired).map(([name, offset]) => [name, offset / 4]));
+/* Which words of a struct its fields are. */
+const wordsOf = (layout) => Object.fromEntries(
+  Object.entries(layout).map(([name, offset]) => [name, offset / 4]));
+const RETIRED = wordsOf(LAYOUT.retired);
+
+/* A record of a step: the change that takes it back, as the library notes it, and behind it the
+ * word that was executed and the value that the register was given, or 0. */
+const RECORD = wordsOf({
+  ...LAYOUT.change, word: LAYOUT.change.size, rdAfter: LAYOUT.change.size + 4,
+});
+const RECORD_WORDS = LAYOUT.change.size / 4 + 2;
+
+/* How many records there is room for. */
+const RECORDS = (1 << 21) + 1;
 
 /* The kinds of a fault, and of an access, as rrs.h numbers them. */
 const FAULT = {
@@ -66,10 +80,13 @@ class Kit {
     this.pcAt = (this.hart + LAYOUT.hart.pc) / 4;
     this.lastAt = (this.hart + LAYOUT.hart.last) / 4;
     this.retiredAt = this.retired / 4;
+    this.changeAt = this.change / 4;
+    this.recordsAt = this.records / 4;
     this.setMemory(0, PAGE_BYTES);
   }
 
-  /* Gives each struct a place behind what the module uses, and then the words. */
+  /* Gives each struct a place behind what the module uses, and then the words, a second hart with
+   * its words, and the records of steps. */
   placeStructs() {
     const { memory, __heap_base: heapBase } = this.exports;
     let next = (Number(heapBase.value) + 15) & ~15;
@@ -78,16 +95,27 @@ class Kit {
       next += (size + 15) & ~15;
       return at;
     };
-    for (const name of ["hart", "fault", "retired", "instruction", "access", "text"]) {
-      this[name] = place(LAYOUT[name].size);
-    }
+    const structs = ["hart", "fault", "retired", "change", "instruction", "access", "text"];
+    for (const name of structs) this[name] = place(LAYOUT[name].size);
     this.memory = place(MOST_BYTES);
+    this.hartCopy = place(LAYOUT.hart.size);
+    this.memoryCopy = place(MOST_BYTES);
+    this.records = place(4 * RECORD_WORDS * RECORDS);
     const short = next - memory.buffer.byteLength;
     if (short > 0) memory.grow(BigInt(Math.ceil(short / PAGE_BYTES)));
     this.addresses = {};
-    for (const name of ["hart", "fault", "retired", "instruction", "access", "text", "memory"]) {
-      this.addresses[name] = BigInt(this[name]);
-    }
+    for (const name of [...structs, "memory"]) this.addresses[name] = BigInt(this[name]);
+    const ofCopy = { hart: BigInt(this.hartCopy), memory: BigInt(this.memoryCopy) };
+    this.copied = { ...this.addresses, ...ofCopy };
+    this.wide = new BigInt64Array(1);
+    this.low = new Uint32Array(this.wide.buffer);
+  }
+
+  /* The address of a word of the module's memory, as the module takes it. Where a step makes a
+   * BigInt of a number, that takes longer than this. */
+  addressOf(at) {
+    this.low[0] = 4 * at;
+    return this.wide[0];
   }
 
   /** Has `size` bytes of memory from `base` on, both multiples of 4, with what they held. */
@@ -104,11 +132,46 @@ class Kit {
   get last() { return this.u32[this.lastAt]; }
   set last(value) { this.u32[this.lastAt] = value; }
 
-  /** Makes a step, leaves what it retired in `retired`, and returns the kind of its fault, or 0. */
-  stepRetired() {
+  /** Makes a step, and notes in the words from `change` on what takes it back. Returns the kind of
+   * its fault, or 0. */
+  stepNoted(change) {
     const at = this.addresses;
-    this.exports.rrs_step_rvfi(at.fault, at.hart, at.memory, this.count, this.base, 0n, at.retired);
+    this.exports.rrs_step_noted(
+      at.fault, at.hart, at.memory, this.count, this.base, this.addressOf(change));
     return this.u32[this.fault / 4];
+  }
+
+  /** Takes the change in the words from `change` on back, in the hart and the words at addresses. */
+  undo(change, at) {
+    this.exports.rrs_undo(at.hart, at.memory, this.count, this.base, this.addressOf(change));
+  }
+
+  /** The words of a change that takes back what the page is about to write itself into a register. */
+  noteRegister(register) {
+    return [this.pc, this.last, register, this.x[register], 0, 0, 0];
+  }
+
+  /** The words of a change that takes back what it is about to write into the word at an index. */
+  noteWord(index) {
+    return [this.pc, this.last, 0, 0, this.base + 4 * index, 4, this.words[index]];
+  }
+
+  /** Takes a change back that is given as its words. */
+  undoWords(words, at) {
+    this.u32.set(words, this.changeAt);
+    this.undo(this.changeAt, at);
+  }
+
+  /** Copies the hart and the words to where `copied` is. */
+  copyState() {
+    this.u8.copyWithin(this.hartCopy, this.hart, this.hart + LAYOUT.hart.size);
+    this.u8.copyWithin(this.memoryCopy, this.memory, this.memory + this.size);
+  }
+
+  /** Makes a step in the copy, and leaves what it retired in `retired`. */
+  stepRetired() {
+    const at = this.copied;
+    this.exports.rrs_step_rvfi(at.fault, at.hart, at.memory, this.count, this.base, 0n, at.retired);
   }
 
   /** The fault that the latest call told. */

@@ -1,7 +1,7 @@
 "use strict";
 
-// The machine of the page: the proved steps of the kit, and around them what serves the program's
-// calls and the port, what takes steps back, and what counts them.
+// The machine of the page: the proved steps of the kit, there and back, and around them what serves
+// the program's calls and the port, and what counts steps.
 
 const REGISTER = { SP: 2, A0: 10, A1: 11, A2: 12, A7: 17 };
 
@@ -33,7 +33,7 @@ class Machine {
   constructor(kit) {
     this.kit = kit;
     this.terminal = new Terminal();
-    this.history = new History();
+    this.history = new Records(kit);
     this.environment = ENVIRONMENTS.linux;
     this.load(new Uint32Array(0), 0, PAGE_BYTES, false);
   }
@@ -59,8 +59,6 @@ class Machine {
     kit.last = 0;
     kit.words.fill(0);
     kit.words.set(this.program);
-    this.xBefore = Uint32Array.from(kit.x);
-    this.wordsBefore = Uint32Array.from(kit.words);
     this.executed = new Float64Array(kit.words.length);
     this.kinds = new Float64Array(KINDS);
     this.wordOfKind = new Uint32Array(KINDS);
@@ -90,15 +88,15 @@ class Machine {
 
   /** Makes one step. Returns null where it was made, and else why it was not: an end. */
   step() {
-    const { kit } = this;
-    const lastBefore = kit.last;
-    if (kit.stepRetired() === FAULT.NONE) {
-      this.keepRetired(lastBefore);
+    const { kit, history } = this;
+    const word = kit.words[(kit.pc - kit.base) >>> 2];
+    if (kit.stepNoted(history.next) === FAULT.NONE) {
+      this.keep(word);
       return null;
     }
-    const end = this.serve(lastBefore);
+    const end = this.serve(word);
     // the kit forgets the register that was the last written, also in a step that is not made
-    if (end !== null) kit.last = lastBefore;
+    if (end !== null) kit.undo(history.next, kit.addresses);
     return end;
   }
 
@@ -122,83 +120,61 @@ class Machine {
     return null;
   }
 
-  /* Keeps the record of the step that the kit made. */
-  keepRetired(lastBefore) {
-    const { u32, retiredAt, base } = this.kit;
-    const rd = u32[retiredAt + RETIRED.rd];
-    const address = u32[retiredAt + RETIRED.memoryAddress];
-    const readMask = u32[retiredAt + RETIRED.readMask];
-    const writeMask = u32[retiredAt + RETIRED.writeMask];
-    const value = u32[retiredAt + (readMask ? RETIRED.readValue : RETIRED.writtenValue)];
-    let wordBefore = 0;
-    if (writeMask) {
-      const index = (address - base) >>> 2;
-      wordBefore = this.wordsBefore[index];
-      this.wordsBefore[index] = this.kit.words[index];
-    }
-    const flags = packFlags(rd, lastBefore, readMask, writeMask, MADE_BY.MACHINE);
-    const pc = u32[retiredAt + RETIRED.pcBefore];
-    const word = u32[retiredAt + RETIRED.insn];
-    this.keep(pc, word, flags, rd, address, wordBefore, value);
-  }
-
-  /* Keeps a record, and counts the step. */
-  keep(pc, word, flags, rd, address, wordBefore, value, extra) {
-    const rdBefore = this.xBefore[rd];
-    const rdAfter = rd ? this.kit.x[rd] : 0;
-    this.xBefore[rd] = rdAfter;
-    this.history.push(pc, word, flags, rdBefore, rdAfter, address, wordBefore, value, extra);
-    this.executed[(pc - this.kit.base) >>> 2]++;
+  /* Keeps the step that was made, with the word that it executed, and counts it. */
+  keep(word, extra) {
+    const { kit, history } = this;
+    const pc = kit.u32[history.next + RECORD.pc];
+    history.push(word, extra);
+    this.executed[(pc - kit.base) >>> 2]++;
     const kind = kindOf(word);
     this.kinds[kind]++;
     this.wordOfKind[kind] = word;
   }
 
   /* Serves the step that the kit did not make, or returns why it ends the program. */
-  serve(lastBefore) {
+  serve(word) {
     const fault = this.kit.readFault();
-    if (fault.kind === FAULT.ECALL) return this.serveCall(fault, lastBefore);
+    if (fault.kind === FAULT.ECALL) return this.serveCall(fault, word);
     const isAccess = fault.kind === FAULT.LOAD || fault.kind === FAULT.STORE;
-    if (isAccess && fault.address === PORT_ADDRESS) return this.servePort(fault, lastBefore);
+    if (isAccess && fault.address === PORT_ADDRESS) return this.servePort(fault, word);
     return { reason: "fault", ...fault };
   }
 
   /* The port takes and gives one byte. */
-  servePort(fault, lastBefore) {
+  servePort(fault, word) {
     const { kit, terminal } = this;
-    const word = this.wordAtPc();
-    const pc = kit.pc;
-    const access = kit.request(word);
-    if (access.bytes !== 1) return { reason: "fault", ...fault };
-    const extra = { mark: terminal.mark() };
-    const isLoad = access.kind === ACCESS.LOAD;
-    const value = isLoad ? terminal.port : access.value & 0xff;
+    const { kind, bytes, value: stored } = kit.request(word);
+    if (bytes !== 1) return { reason: "fault", ...fault };
+    const mark = terminal.mark();
+    const isLoad = kind === ACCESS.LOAD;
+    const value = isLoad ? terminal.port : stored & 0xff;
+    this.history.noteWritten(kit.decode(word).rd);
     kit.complete(word, value);
     if (!isLoad) terminal.storeToPort(value);
-    const rd = isLoad ? kit.decode(word).rd : 0;
-    const flags = packFlags(rd, lastBefore, isLoad ? 1 : 0, isLoad ? 0 : 1, MADE_BY.PORT);
-    this.keep(pc, word, flags, rd, PORT_ADDRESS, 0, value, extra);
+    const masks = { readMask: Number(isLoad), writeMask: Number(!isLoad) };
+    const access = { address: PORT_ADDRESS, value, ...masks };
+    this.keep(word, { madeBy: MADE_BY.PORT, access, mark });
     return null;
   }
 
   /* A call of the environment. */
-  serveCall(fault, lastBefore) {
+  serveCall(fault, word) {
     const { kit, terminal, environment, heap, break: breakBefore } = this;
     const call = environment.calls[kit.x[environment.number]];
     if (call === undefined) return { reason: "fault", ...fault };
-    const { name } = call;
-    const extra = { mark: terminal.mark(), heap, breakBefore, name, words: [] };
+    const extra = {
+      madeBy: MADE_BY.CALL, access: NO_ACCESS, name: call.name, mark: terminal.mark(), heap,
+      breakBefore, changes: [],
+    };
     const answer = call.serve(this, extra);
     if (answer === null) return { reason: "waiting" };
     if (typeof answer === "object") return answer;
-    const { pc } = kit;
-    const word = this.wordAtPc();
     const rd = answer === undefined ? 0 : REGISTER.A0;
+    this.history.noteWritten(rd);
     if (rd !== 0) kit.x[rd] = answer;
-    kit.pc = pc + 4;
+    kit.pc += 4;
     kit.last = rd;
-    const flags = packFlags(rd, lastBefore, 0, 0, MADE_BY.CALL);
-    this.keep(pc, word, flags, rd, 0, 0, 0, extra);
+    this.keep(word, extra);
     return null;
   }
 
@@ -272,27 +248,25 @@ class Machine {
 
   /* Stores what a call gives, and keeps the words that stood there. */
   storeBytes(address, given, extra) {
-    const offset = address - this.kit.base;
+    const { kit } = this;
+    const offset = address - kit.base;
     const end = (offset + given.length - 1) >>> 2;
-    for (let index = offset >>> 2; index <= end; index++) {
-      extra.words.push([index, this.wordsBefore[index]]);
-    }
-    this.kit.bytes.set(given, offset);
-    for (const [index] of extra.words) this.wordsBefore[index] = this.kit.words[index];
+    for (let index = offset >>> 2; index <= end; index++) extra.changes.push(kit.noteWord(index));
+    kit.bytes.set(given, offset);
     extra.stored = { address, length: given.length };
   }
 
-  /* ---- changes by hand */
+  /* ---- changes by hand, which are taken back with the latest step */
 
   /** Changes one of the registers x1 to x31. */
   setRegister(register, value) {
     const { kit } = this;
-    this.keepChange({ register, before: kit.x[register] });
-    kit.x[register] = this.xBefore[register] = value;
+    this.history.addChange(kit.noteRegister(register));
+    kit.x[register] = value;
   }
 
+  /** Changes the pc. A step back gives the pc of the step in any case. */
   setPc(value) {
-    this.keepChange({ before: this.kit.pc });
     this.kit.pc = value;
   }
 
@@ -300,59 +274,30 @@ class Machine {
   setMemory(address, value, bytes) {
     const { kit } = this;
     const index = this.indexOf(address);
-    this.keepChange({ index, before: kit.words[index] });
+    this.history.addChange(kit.noteWord(index));
     if (bytes === 1) kit.bytes[address - kit.base] = value;
     else kit.words[index] = value;
-    this.wordsBefore[index] = kit.words[index];
   }
 
-  /* Keeps what a change took away with the latest step, if there is one: who takes this step back
-   * takes back the change too. */
-  keepChange(change) {
-    if (this.history.length === 0) return;
-    const extra = this.history.extraOfLatest();
-    extra.changes ??= [];
-    extra.changes.push(change);
-  }
+  /* ---- the way back */
 
-  takeBack({ register, index, before }) {
-    if (register !== undefined) this.kit.x[register] = this.xBefore[register] = before;
-    else if (index !== undefined) this.putBack(index, before);
-    else this.kit.pc = before;
-  }
-
-  /** Takes the latest step back by its record. Returns whether one was kept. */
+  /** Takes the latest step back. Returns whether one was kept. */
   stepBack() {
     const { kit, history } = this;
     if (history.length === 0) return false;
-    history.pop();
-    const { block, at, extra } = history;
-    for (const change of extra?.changes?.reverse() ?? []) this.takeBack(change);
-    const pc = block[at + RECORD.pc];
-    const flags = block[at + RECORD.flags];
-    kit.pc = pc;
-    kit.last = lastBeforeIn(flags);
-    const rd = rdIn(flags);
-    if (rd) kit.x[rd] = this.xBefore[rd] = block[at + RECORD.rdBefore];
-    if (writeMaskIn(flags) && madeByIn(flags) === MADE_BY.MACHINE) {
-      this.putBack((block[at + RECORD.address] - kit.base) >>> 2, block[at + RECORD.wordBefore]);
-    }
+    const extra = history.pop();
     if (extra !== undefined) this.restore(extra);
-    this.executed[(pc - kit.base) >>> 2]--;
-    this.kinds[kindOf(block[at + RECORD.word])]--;
+    const index = (kit.pc - kit.base) >>> 2;
+    this.executed[index]--;
+    this.kinds[kindOf(kit.words[index])]--;
     return true;
   }
 
-  /* Takes back what a system call or the port did beside the registers. */
-  restore({ mark, heap, breakBefore, words }) {
+  /* Takes back what a system call or the port did beside registers and memory. */
+  restore({ mark, heap, breakBefore }) {
     this.terminal.restore(mark);
     this.heap = heap ?? this.heap;
     this.break = breakBefore ?? this.break;
-    for (const [index, word] of words ?? []) this.putBack(index, word);
-  }
-
-  putBack(index, word) {
-    this.kit.words[index] = this.wordsBefore[index] = word;
   }
 
   /** Takes `most` steps back, or as many as are kept, and stops where the pc is a stop. Returns
@@ -363,15 +308,6 @@ class Machine {
       if (this.isAtStop(stops)) return "stop";
     }
     return this.history.length === 0 ? "oldest" : null;
-  }
-
-  /** The bytes that the latest step stored: their address and how many, or null. */
-  latestStore() {
-    if (this.history.length === 0) return null;
-    const { address, writeMask, madeBy, extra } = this.history.read(this.steps - 1);
-    if (extra?.stored) return extra.stored;
-    if (!writeMask || madeBy === MADE_BY.PORT) return null;
-    return { address, length: writeMask === 15 ? 4 : writeMask === 3 ? 2 : 1 };
   }
 
   /** How often each kind of instruction was executed: `{ name, word, count }`, most first. */

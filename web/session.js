@@ -156,7 +156,7 @@ class Session {
 
   sayStep() {
     const { machine } = this;
-    const record = machine.history.read(machine.steps - 1);
+    const [record] = machine.history.latest(1);
     const text = this.disassemble(record.word, record.pc);
     const effect = this.effectOf(record);
     this.say(`Step ${machine.steps.toLocaleString("en")}`, effect ? `${text}: ${effect}` : text);

@@ -281,7 +281,7 @@ class MemoryView {
     if (this.around === "sp") return kit.x[2];
     if (this.around === "pc") return kit.pc;
     if (this.around === "store") {
-      return machine.latestStore()?.address ?? this.storeShown ?? kit.base;
+      return machine.history.latestStore()?.address ?? this.storeShown ?? kit.base;
     }
     if (this.around === "address") return this.typed;
     return this.session.addressOf(this.around.slice(6)) ?? kit.base;
@@ -328,7 +328,7 @@ class MemoryView {
     $("around").value = this.around;
     const rows = resize($("memory").tBodies[0], MEMORY_ROWS, () => make("tr"));
     const cells = this.rowBytes / this.unit;
-    const stored = this.session.machine.latestStore();
+    const stored = this.session.machine.history.latestStore();
     for (let row = 0; row < MEMORY_ROWS; row++) {
       if (rows[row].children.length !== cells + 2) this.makeCells(rows[row], cells);
       this.fillRow(rows[row], this.start + row * this.rowBytes, target, stored);
@@ -416,18 +416,16 @@ class LogView {
   }
 
   render() {
-    const { machine } = this.session;
-    const { history } = machine;
-    const count = Math.min(LOG_ROWS, history.length);
-    const rows = resize(this.body, count, () => makeRow("tr", [1, 2, 3, 4].map(() => make("td"))));
-    for (let i = 0; i < count; i++) {
-      const record = history.read(history.steps - 1 - i);
-      const [step, address, text, effect] = rows[i].children;
+    const records = this.session.machine.history.latest(LOG_ROWS);
+    const makeOne = () => makeRow("tr", [1, 2, 3, 4].map(() => make("td")));
+    const rows = resize(this.body, records.length, makeOne);
+    records.forEach((record, at) => {
+      const [step, address, text, effect] = rows[at].children;
       setText(step, (record.step + 1).toLocaleString("en"));
       setText(address, hexOf(record.pc));
       setText(text, this.session.disassemble(record.word, record.pc));
       setText(effect, this.session.effectOf(record));
-    }
+    });
   }
 }
 

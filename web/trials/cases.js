@@ -29,7 +29,7 @@ async function main([folder, module]) {
   report.begin("module");
   report.same("64-bit memories", true, page.hasMemory64());
   tryMachine(report, page, kit);
-  tryRecords(report, page);
+  tryRecords(report, page, kit);
   await tryPrograms(report, page, kit);
   tryWording(report, page, kit);
   await trySessions(report, page, kit, clock);

@@ -12,7 +12,7 @@ from trials.view import EXPECTED, WEB, Subject, opened
 # a file, what stands in it, and what stands there instead
 IN_NODE = [
     ("wording.js", '"zero", "ra", "sp"', '"zero", "sp", "ra"'),
-    ("machine.js", "kit.last = lastBeforeIn(flags);", ""),
+    ("machine.js", "if (end !== null) kit.undo(history.next, kit.addresses);", ""),
     ("terminal.js", "Object.assign(this, mark);", ""),
     ("statements.js", 'mv: ofOne((rd, rs1) => ["addi", { rd, rs1 }])',
      'mv: ofOne((rd, rs1) => ["addi", { rd, imm: rs1 }])'),

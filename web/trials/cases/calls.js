@@ -15,9 +15,8 @@ function beforeCall(page, kit, environment, registers, { typed = "", isClosed = 
   machine.environment = page.ENVIRONMENTS[environment];
   kit.bytes.set(new TextEncoder().encode("Grüße\n\0."), AT);
   kit.bytes.fill(0xff, SIZE - 4);
-  machine.wordsBefore.set(kit.words);
   for (const [register, value] of Object.entries(registers)) {
-    kit.x[register] = machine.xBefore[register] = value;
+    kit.x[register] = value;
   }
   kit.last = 5;
   machine.terminal.type(typed);
@@ -33,7 +32,7 @@ function outcome(page, kit, environment, registers, input) {
   const before = digest(machine);
   const end = machine.step();
   if (end !== null) return end.reason === "refused" ? end.why : end;
-  const record = machine.history.read(0);
+  const [record] = machine.history.latest(1);
   const seen = [kit.x[A0], machine.terminal.text(99), machine.terminal.taken, kit.last,
     page.effectOf(record, page.NAMES.abi), kit.pc];
   machine.stepBack();

@@ -38,7 +38,7 @@ function values(report, page) {
 function changesThereAndBack(report, page, kit) {
   const words = [w.addi(5, 5, 1), w.sw(5, 0, 8), w.addi(6, 5, 0), w.ecall];
   const machine = machineWith(page, kit, words);
-  kit.x[8] = machine.xBefore[8] = 0x2000;
+  kit.x[8] = 0x2000;
   const states = [digest(machine)];
   machine.step();
   states.push(digest(machine));

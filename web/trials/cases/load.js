@@ -6,7 +6,7 @@ const fs = require("node:fs");
 const path = require("node:path");
 
 const SCRIPTS = [
-  "kit", "terminal", "history", "actions", "machine", "calls", "frames", "convention", "operands",
+  "kit", "terminal", "records", "actions", "machine", "calls", "frames", "convention", "operands",
   "statements", "assembly", "colours", "program", "executable", "lesson", "examples", "wording",
   "session", "views", "editor",
 ];

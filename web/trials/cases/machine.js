@@ -24,12 +24,12 @@ function nonzero(numbers) {
 
 /* All that a step may change, as one text. */
 function digest(machine) {
-  const { kit, xBefore, wordsBefore, executed, kinds, terminal, heap, history } = machine;
+  const { kit, executed, kinds, terminal, heap, history } = machine;
   const { output, printed, lost, input, held, taken, isClosed, port } = terminal;
   return JSON.stringify([
-    [...kit.x], kit.pc, kit.last, nonzero(kit.words), [...xBefore], nonzero(wordsBefore),
-    nonzero(executed), nonzero(kinds), [...output.subarray(0, printed)], lost, input, held, taken,
-    isClosed, port, heap, machine.break, history.steps, history.first, [...history.extras.keys()],
+    [...kit.x], kit.pc, kit.last, nonzero(kit.words), nonzero(executed), nonzero(kinds),
+    [...output.subarray(0, printed)], lost, input, held, taken, isClosed, port, heap,
+    machine.break, history.steps, history.first, [...history.extras.keys()],
   ]);
 }
 
@@ -101,15 +101,15 @@ function recordsOfSteps(report, page, kit) {
     const machine = machineWith(page, kit, [...w.li(8, FIRST), ...w.li(6, value), w.sw(6, 0, 8),
       word]);
     for (let made = 0; made < 6; made++) machine.step();
-    const record = machine.history.read(5);
+    const [record] = machine.history.latest(1);
     const got = Object.fromEntries(Object.keys(wanted).map((name) => [name, record[name]]));
     report.same(`the record of ${word.toString(16)}`, wanted, got);
     report.same("its place and word", [5, 20, word], [record.step, record.pc, record.word]);
     const stored = wanted.writeMask
       ? { address: wanted.address, length: { 15: 4, 3: 2, 1: 1 }[wanted.writeMask] } : null;
-    report.same("what it stored", stored, machine.latestStore());
+    report.same("what it stored", stored, machine.history.latestStore());
   }
-  report.same("a machine with no step", null, machineWith(page, kit, []).latestStore());
+  report.same("a machine with no step", null, machineWith(page, kit, []).history.latestStore());
 }
 
 /* ---- system calls: the registers of a call, and what comes of it */
@@ -119,11 +119,10 @@ function beforeCall(page, kit, [a7, a0, a1, a2], base = 0, typed = "") {
   const machine = machineWith(page, kit, [w.ecall], base);
   const bytes = new TextEncoder().encode("0123456789abcdef");
   kit.bytes.set(bytes, FIRST);
-  machine.wordsBefore.set(kit.words);
   for (const [register, value] of [[A0, a0], [A1, a1], [A2, a2], [A7, a7]]) {
-    kit.x[register] = machine.xBefore[register] = value;
+    kit.x[register] = value;
   }
-  kit.x[5] = machine.xBefore[5] = 55;
+  kit.x[5] = 55;
   kit.last = 5;
   machine.terminal.type(typed);
   return machine;
@@ -187,7 +186,7 @@ function reads(report, page, kit) {
     report.same(`memory after read(${call})`, stored, memory);
     const isStored = answer > 0;
     report.same(`what read(${call}) stored`,
-      isStored ? { address: call[1], length: answer } : null, machine.latestStore());
+      isStored ? { address: call[1], length: answer } : null, machine.history.latestStore());
     report.same(`what read(${call}) took`, [Math.max(answer, 0), 1],
       [machine.terminal.taken, machine.history.extras.size]);
   }
@@ -247,7 +246,7 @@ function ports(report, page, kit) {
     for (let made = 0; made < words.length && end === null; made++) end = machine.step();
     report.same(`the port, ${second.toString(16)}`, wanted,
       [end && end.kind, kit.x[5], machine.terminal.text(9)]);
-    report.same("what the port stored", null, end ? null : machine.latestStore());
+    report.same("what the port stored", null, end ? null : machine.history.latestStore());
     report.same("the way back", ["fault", 0], thereAndBack(machineWith(page, kit, words)));
   }
   const machine = machineWith(page, kit, [...port, w.sb(6, 0, 8), w.lb(5, 0, 8)]);
@@ -256,7 +255,7 @@ function ports(report, page, kit) {
     [rd, rdAfter, address, value, readMask, writeMask, madeBy];
   report.same("the records of the port",
     [[0, 0, at, 0xff, 0, 1, 1], [5, 0xffffffff, at, 0xff, 1, 0, 1]],
-    [3, 4].map((step) => fields(machine.history.read(step))));
+    machine.history.latest(2).reverse().map(fields));
   const covered = machineWith(page, kit, [...port, w.sb(6, 0, 8)], at);
   while (covered.step() === null && covered.steps < 4);
   report.same("a port that memory covers", ["", 0xff],

@@ -2,88 +2,123 @@
 
 // The records of steps, and what the terminal keeps.
 
-const STEPS_OF_A_BLOCK = 65536;
+const { digest, machineWith } = require("./machine.js");
+const w = require("./words.js");
 
-/* Keeps `count` records, whose pc is their number modulo 2^32. */
-function pushMany(history, count) {
-  for (let made = 0; made < count; made++) {
-    const step = history.steps;
-    history.push(step % 2 ** 32, 1, 2, 3, 4, 5, 6, 7);
-  }
-}
+const nowhere = new Uint8Array(0x10000 / 4);
 
-function fieldsOfRecords(report, page) {
-  const { packFlags, History, MADE_BY } = page;
+/* What is kept of steps of the machine, the port and a call: what the library notes, in the order
+ * of rrs.h, then the word that was executed, and the register's new value. */
+function fieldsOfRecords(report, page, kit) {
+  const { MADE_BY } = page;
   report.same("what makes a step", [0, 1, 2], [MADE_BY.MACHINE, MADE_BY.PORT, MADE_BY.CALL]);
-  const all = [[31, 0, 0, 15, 2], [0, 31, 15, 0, 0], [1, 2, 3, 1, 1], [16, 16, 8, 8, 1]];
-  for (const [rd, last, read, write, made] of all) {
-    const flags = packFlags(rd, last, read, write, made);
-    const got = [page.rdIn(flags), page.lastBeforeIn(flags), page.readMaskIn(flags),
-      page.writeMaskIn(flags), page.madeByIn(flags)];
-    report.same("the flags of a record", [rd, last, read, write, made], got);
-  }
-  const history = new History();
-  const extra = { mark: {} };
-  const words = [0xffffffff, 0xfffffffe, packFlags(5, 6, 15, 0, 2), 1, 0xfffffffd, 0xfffffffc, 2,
-    0xfffffffb];
-  history.push(...words, extra);
-  report.same("a record", {
-    step: 0, pc: 0xffffffff, word: 0xfffffffe, rd: 5, rdAfter: 0xfffffffd, address: 0xfffffffc,
-    value: 0xfffffffb, readMask: 15, writeMask: 0, madeBy: 2, extra,
-  }, history.read(0));
-  history.push(...words);
-  report.same("a record with nothing else", undefined, history.read(1).extra);
-  history.pop();
-  report.same("the record that is taken off", [words, undefined, 1],
-    [[...history.block.subarray(history.at, history.at + 8)], history.extra, history.length]);
-  history.pop();
-  report.same("the first record, taken off", [0, extra, 0, 0],
-    [history.at, history.extra, history.extras.size, history.length]);
+  const port = 0x10000000;
+  const words = [w.lui(6, 0x12345000), w.addi(8, 0, 0x700), w.sw(6, 8, 8), w.sh(6, 10, 8),
+    w.lui(9, port), w.lb(7, 0, 9), w.addi(17, 0, 64), w.ecall];
+  const machine = machineWith(page, kit, words);
+  kit.x.set([0xfffffffd, 0x2000, 88, 5], 7);
+  kit.last = 31;
+  kit.words[0x708 / 4] = 0xfffffffe;
+  machine.terminal.port = 0xff;
+  machine.run(words.length, nowhere);
+  const at = kit.records / 4;
+  report.same("the records of steps", [
+    [0, 31, 6, 0, 0, 0, 0, words[0], 0x12345000], [4, 6, 8, 0x2000, 0, 0, 0, words[1], 0x700],
+    [8, 8, 0, 0, 0x708, 4, 0xfffffffe, words[2], 0], [12, 0, 0, 0, 0x70a, 2, 0x1234, words[3], 0],
+    [16, 0, 9, 88, 0, 0, 0, words[4], port], [20, 9, 7, 0xfffffffd, 0, 0, 0, words[5], 0xffffffff],
+    [24, 7, 17, 0, 0, 0, 0, words[6], 64], [28, 17, 10, 5, 0, 0, 0, words[7], 0xfffffff7],
+  ], words.map((_, step) => [...kit.u32.subarray(at + 9 * step, at + 9 * step + 9)]));
+  report.same("what has an extra", [[5, 1], [7, 2]],
+    [...machine.history.extras].map(([step, { madeBy }]) => [step, madeBy]));
+  machine.runBack(4, nowhere);
+  const stored = machine.history.latestStore();
+  machine.history.first = machine.steps;
+  report.same("what the latest step stored, and where none is kept",
+    [{ address: 0x70a, length: 2 }, null], [stored, machine.history.latestStore()]);
 }
 
-/* The oldest block goes when there is no more room, and what else its steps changed with it. */
-function manyRecords(report, page) {
-  const { History, STEPS_KEPT } = page;
-  report.same("how many steps are kept", 2097152, STEPS_KEPT);
-  const history = new History();
-  const most = 33 * STEPS_OF_A_BLOCK;
-  pushMany(history, 9);
-  history.push(9, 0, 0, 0, 0, 0, 0, 0, "of the first block");
-  pushMany(history, STEPS_OF_A_BLOCK - 10);
-  history.push(STEPS_OF_A_BLOCK, 0, 0, 0, 0, 0, 0, 0, "of the second block");
-  pushMany(history, most - STEPS_OF_A_BLOCK - 1);
-  report.same("a full history", [most, 0, most, 2],
-    [history.steps, history.first, history.length, history.extras.size]);
-  report.same("its first record", 0, history.read(0).pc);
-  pushMany(history, 1);
-  report.same("one step more", [most + 1, STEPS_OF_A_BLOCK, 2097153, 1],
-    [history.steps, history.first, history.length, history.extras.size]);
-  report.same("its oldest record", [STEPS_OF_A_BLOCK, "of the second block"],
-    [history.read(history.first).pc, history.read(history.first).extra]);
+/* What is told of steps is what was told of each when it was the latest, and nothing is changed by
+ * it: over a store to its own word, a load to x0, changes by hand, the port, and a call. */
+function tellings(report, page, kit) {
+  const words = [w.auipc(8, 0), w.lw(6, 28, 8), w.sw(6, 8, 8), w.lw(0, 16, 8), w.ebreak,
+    w.lui(9, 0x10000000), w.sb(6, 0, 9), w.addi(5, 5, 1), w.addi(11, 8, 0x600), w.sb(6, 0, 11),
+    w.addi(11, 8, 0x700), w.addi(17, 0, 63), w.addi(12, 0, 9), w.ecall, w.lb(5, 0, 11), w.ebreak];
+  const machine = machineWith(page, kit, words, 0x80000000);
+  machine.terminal.type("abcdefghi");
+  const told = [];
+  const states = [digest(machine)];
   let wrong = 0;
-  while (history.length > 0) {
-    history.pop();
-    if (history.block[history.at] !== history.steps) wrong++;
+  while (machine.step() === null) {
+    if (machine.steps === 4) machine.setMemory(0x80000010, w.addi(5, 5, 7), 4);
+    if (machine.steps === 6) machine.setRegister(6, 0x44);
+    states.push(digest(machine));
+    told.unshift(machine.history.latest(1)[0]);
+    if (digest(machine) !== states.at(-1)) wrong++;
   }
-  report.same("how many records differ on the way back", 0, wrong);
-  pushMany(history, 5);
-  report.same("steps after a way back", [STEPS_OF_A_BLOCK + 5, 5], [history.steps, history.length]);
+  report.same("the steps, and the states that were changed", [15, 0], [told.length, wrong]);
+  report.same("what is told of all", told, machine.history.latest(99));
+  report.same("and of the latest five", told.slice(0, 5), machine.history.latest(5));
+  const fields = ({ word, address, value, readMask, writeMask }) =>
+    [word, address, value, readMask, writeMask];
+  report.same("the accesses of the first", [
+    [words[0], 0, 0, 0, 0], [words[1], 0x8000001c, words[7], 15, 0],
+    [words[2], 0x80000008, words[7], 0, 15], [words[3], 0x80000010, w.ebreak, 15, 0],
+    [w.addi(5, 5, 7), 0, 0, 0, 0],
+  ], told.slice(-5).reverse().map(fields));
+  while (states.length > 0) {
+    if (states.pop() !== digest(machine)) wrong++;
+    machine.stepBack();
+  }
+  report.same("states that differ on the way back", 0, wrong);
+}
+
+/* More steps than are kept: the oldest goes, and its extra, and a step that is not made takes none
+ * of the others. */
+function manyRecords(report, page, kit) {
+  const { STEPS_KEPT } = page;
+  report.same("how many steps are kept", 2097152, STEPS_KEPT);
+  const words = [w.addi(17, 0, 64), w.addi(10, 0, 3), w.ecall, w.sw(5, 0x700, 0), w.ecall,
+    ...w.li(5, STEPS_KEPT / 2 - 2), w.addi(5, 5, -1), w.b(1, 5, 0, -4), w.ecall, w.ebreak];
+  const machine = machineWith(page, kit, words);
+  const { history } = machine;
+  const counts = () => machine.counts().map(({ name, count }) => [name, count]);
+  const state = () => [[...kit.x], kit.pc, kit.last, counts()];
+  machine.run(4, nowhere);
+  const early = state();
+  const seen = () => [history.steps - STEPS_KEPT, history.length, history.first,
+    [...history.extras.keys()]];
+  machine.run(STEPS_KEPT - 4, nowhere);
+  report.same("as many as are kept", [0, STEPS_KEPT, 0, [2, 4]], seen());
+  const end = machine.run(99, nowhere);
+  report.same("some more, and an end", [page.FAULT.EBREAK, 4, STEPS_KEPT, 4, [4, STEPS_KEPT + 3]],
+    [end.kind, ...seen()]);
+  report.same("the way back", ["oldest", 0], [machine.runBack(1e9, nowhere), history.length]);
+  report.same("the oldest state, of no step that is kept", [early, null, []],
+    [state(), history.latestStore(), history.latest(9)]);
+  machine.setRegister(7, 1);
+  report.same("a change there", [4 - STEPS_KEPT, 0, 4, []], seen());
+  machine.run(5, nowhere);
+  report.same("steps after a way back", [9 - STEPS_KEPT, 5, 4, [4]], seen());
   history.clear();
-  report.same("a history that is cleared", [0, 0, 0, 0],
-    [history.steps, history.first, history.length, history.extras.size]);
+  report.same("records that are cleared", [-STEPS_KEPT, 0, 0, []], seen());
 }
 
 /* Steps whose number passes 2^32. */
-function recordsPast32Bits(report, page) {
-  const history = new page.History();
-  history.steps = history.first = 2 ** 32 - STEPS_OF_A_BLOCK;
-  pushMany(history, STEPS_OF_A_BLOCK + 3);
-  report.same("steps past 2^32", [2 ** 32 + 3, STEPS_OF_A_BLOCK + 3],
-    [history.steps, history.length]);
-  report.same("records at 2^32", [0xffffffff, 0, 2],
-    [2 ** 32 - 1, 2 ** 32, 2 ** 32 + 2].map((step) => history.read(step).pc));
-  for (let back = 0; back < 4; back++) history.pop();
-  report.same("and back", [2 ** 32 - 1, 0xffffffff], [history.steps, history.block[history.at]]);
+function recordsPast32Bits(report, page, kit) {
+  const machine = machineWith(page, kit, [w.addi(5, 5, 1), w.jal(0, -4)]);
+  const { history } = machine;
+  history.steps = history.first = 2 ** 32 - 5;
+  const states = [];
+  for (let made = 0; made < 10; made++) {
+    states.push(digest(machine));
+    machine.step();
+  }
+  report.same("steps past 2^32", [2 ** 32 + 5, 10], [history.steps, history.length]);
+  report.same("what is told of them", Array.from({ length: 10 }, (_, at) => 2 ** 32 + 4 - at),
+    history.latest(10).map(({ step }) => step));
+  let wrong = 0;
+  while (machine.stepBack()) if (digest(machine) !== states.pop()) wrong++;
+  report.same("states that differ on the way back", [0, 0], [wrong, states.length]);
 }
 
 /* ---- the terminal */
@@ -161,9 +196,11 @@ function typing(report, page) {
 }
 
 /** Tries the records of steps, and the terminal. */
-function tryRecords(report, page) {
+function tryRecords(report, page, kit) {
   report.begin("records");
-  for (const part of [fieldsOfRecords, manyRecords, recordsPast32Bits]) part(report, page);
+  for (const part of [fieldsOfRecords, tellings, manyRecords, recordsPast32Bits]) {
+    part(report, page, kit);
+  }
   report.begin("terminal");
   for (const part of [printing, letters, typing]) part(report, page);
 }

@@ -81,7 +81,7 @@ function effectOfLast(page, kit, words, steps, typed = "") {
   const machine = machineWith(page, kit, words);
   machine.terminal.type(typed);
   for (let made = 0; made < steps; made++) machine.step();
-  return page.effectOf(machine.history.read(steps - 1), page.NAMES.abi);
+  return page.effectOf(machine.history.latest(1)[0], page.NAMES.abi);
 }
 
 function effects(report, page, kit) {
