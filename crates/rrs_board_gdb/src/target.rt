@@ -9,6 +9,15 @@ use rrs_privileged::instructions::decode_system;
 use rrs_system::system_text;
 use std::alloc::{AllocError, Global};
 
+/// What begins the description of a target.
+const HEAD: &[u8] = b"<?xml version=\"1.0\"?>
+<!DOCTYPE target SYSTEM \"gdb-target.dtd\">
+<target version=\"1.0\">
+<architecture>riscv:rv32</architecture>
+";
+/// That there is no system: on Linux gdb steps by breakpoints of its own, and an interrupt would not
+/// stop at them.
+const NO_SYSTEM: &[u8] = b"<osabi>none</osabi>\n";
 /// What ends the description of a target.
 const END: &[u8] = b"</target>\n";
 
@@ -39,14 +48,17 @@ fn push_csr(alloc: Global, text: &mut Vec<u8>, number: u32) -> Result<(), AllocE
     push_text(text, place.as_bytes())
 }
 
-/// Appends the description of the target: the registers that `rrs_gdb` has, and the CSRs.
+/// Appends the description of the target: that it has no system, the registers that `rrs_gdb` has, and
+/// the CSRs.
 ///
 /// # Errors
 ///
 /// Out of memory.
 pub fn push_target(alloc: Global, text: &mut Vec<u8>) -> Result<(), AllocError> {
-    let registers = TARGET.strip_suffix(END).unwrap_or(TARGET);
-    push_text(text, registers)?;
+    push_text(text, HEAD)?;
+    push_text(text, NO_SYSTEM)?;
+    let registers = TARGET.strip_prefix(HEAD).unwrap_or(TARGET);
+    push_text(text, registers.strip_suffix(END).unwrap_or(registers))?;
     push_text(text, b"<feature name=\"org.gnu.gdb.riscv.csr\">\n")?;
     for number in 0..0x1000 {
         if Csr::at(number).is_some() {
