@@ -11,7 +11,7 @@ use std::io::{BufWriter, Read, Write};
 use std::rt::Files;
 
 /// The bytes of RAM where nothing else is asked for: 128 MiB.
-const RAM_BYTES: u64 = 1 << 27;
+pub(crate) const RAM_BYTES: u64 = 1 << 27;
 /// The most bytes of RAM: those from 0x80000000 to the last address.
 const MOST_BYTES: u64 = 1 << 31;
 /// The status where a `wfi` waits and nothing can wake it.
@@ -41,6 +41,34 @@ fn number_of(word: &str) -> Result<u64, Refusal> {
     }
 }
 
+/// The word behind an option, and what is left behind both, where the words begin with it.
+pub(crate) fn behind_option<'a>(
+    words: &'a [String],
+    option: &str,
+) -> Option<(&'a str, &'a [String])> {
+    match words {
+        [first, word, rest @ ..] if first.as_str() == option => Some((word.as_str(), rest)),
+        _ => None,
+    }
+}
+
+/// The number behind an option, and the words behind it; `otherwise`, and all words, where they do not
+/// begin with it.
+///
+/// # Errors
+///
+/// `Refusal::WrongLimit` where the number is none.
+pub(crate) fn number_behind<'a>(
+    words: &'a [String],
+    option: &str,
+    otherwise: u64,
+) -> Result<(u64, &'a [String]), Refusal> {
+    match behind_option(words, option) {
+        Some((word, rest)) => Ok((number_of(word)?, rest)),
+        None => Ok((otherwise, words)),
+    }
+}
+
 /// The firmware that is to be run: the options `--limit N` and `--memory BYTES`, each once at most
 /// and the first before the second, and then its path.
 ///
@@ -48,29 +76,14 @@ fn number_of(word: &str) -> Result<u64, Refusal> {
 ///
 /// `Refusal::WrongLimit` where a number is none, and for other words `Failure::Usage`.
 fn board_request_of(words: &[String]) -> Result<BoardRequest<'_>, Refusal> {
-    let mut request = BoardRequest {
-        limit: u64::MAX,
-        memory: RAM_BYTES,
-        path: "",
-    };
-    let mut rest = words;
-    if let [option, limit, others @ ..] = rest {
-        if option.as_str() == "--limit" {
-            request.limit = number_of(limit.as_str())?;
-            rest = others;
-        }
-    }
-    if let [option, memory, others @ ..] = rest {
-        if option.as_str() == "--memory" {
-            request.memory = number_of(memory.as_str())?;
-            rest = others;
-        }
-    }
-    match rest {
-        [path] => {
-            request.path = path.as_str();
-            Ok(request)
-        }
+    let (limit, words) = number_behind(words, "--limit", u64::MAX)?;
+    let (memory, words) = number_behind(words, "--memory", RAM_BYTES)?;
+    match words {
+        [path] => Ok(BoardRequest {
+            limit,
+            memory,
+            path: path.as_str(),
+        }),
         _ => Err(Refusal::Failed(Failure::Usage)),
     }
 }
@@ -82,6 +95,21 @@ fn refused(error: BoardError) -> Refusal {
         BoardError::Refused(address) => ImageError::Refused(address),
         BoardError::OutOfMemory => ImageError::OutOfMemory,
     })
+}
+
+/// A board at reset, with firmware in its RAM of so many bytes.
+///
+/// # Errors
+///
+/// Those of `read_program`, and `Refusal::Image` where it is no executable for this board.
+pub(crate) fn board_of<H: Files + AllocGlobal>(
+    rt: &H,
+    path: &str,
+    memory: u64,
+) -> Result<Board, Refusal> {
+    let file = read_program(rt, path)?;
+    let bytes = memory.min(MOST_BYTES);
+    Board::load(rt.alloc(), &file, (bytes / 4) as usize).map_err(refused)
 }
 
 /// How the run ended. A `wfi` that nothing wakes is told on standard error: where it is, and after
@@ -105,9 +133,8 @@ fn ending_of<H: Eprint>(rt: &H, board: &Board, end: BoardEnd) -> Ending {
 ///
 /// # Errors
 ///
-/// Those of `read_program`; `Refusal::WrongLimit` where a number is none, and `Failure::Usage` for
-/// other words; `Refusal::Image` where it is no executable for this board;
-/// `Refusal::UnreadableInput` where a read of the input fails; `RunFault::OutOfMemory`, and
+/// Those of `board_of`; `Refusal::WrongLimit` where a number is none, and `Failure::Usage` for other
+/// words; `Refusal::UnreadableInput` where a read of the input fails; `RunFault::OutOfMemory`, and
 /// `RunFault::Output` where a write fails.
 pub fn run_board<H: Files + Eprint + AllocGlobal, R: Read, W: Write>(
     rt: &H,
@@ -116,9 +143,7 @@ pub fn run_board<H: Files + Eprint + AllocGlobal, R: Read, W: Write>(
     output: &mut W,
 ) -> Result<Ending, Refusal> {
     let request = board_request_of(words)?;
-    let file = read_program(rt, request.path)?;
-    let bytes = request.memory.min(MOST_BYTES);
-    let mut board = Board::load(rt.alloc(), &file, (bytes / 4) as usize).map_err(refused)?;
+    let mut board = board_of(rt, request.path, request.memory)?;
     let mut buffered = match BufWriter::new(rt.alloc(), output) {
         Ok(buffered) => buffered,
         Err(_) => return Err(Refusal::Failed(Failure::Run(RunFault::OutOfMemory))),

@@ -1,5 +1,6 @@
 //! `rrs gdb`: a program under gdb, which speaks by standard input and standard output.
 
+use crate::board_debugging::debug_board;
 use crate::debugging_request::{DebugRequest, debug_request_of};
 use crate::ending::Refusal;
 use crate::executables::read_program;
@@ -30,12 +31,12 @@ const WORDS: usize = 262_144;
 const MEMORY_END: u32 = 0x0010_0000;
 
 /// The refusal for want of memory.
-fn out_of_memory() -> Refusal {
+pub(crate) fn out_of_memory() -> Refusal {
     Refusal::Failed(Failure::Run(RunFault::OutOfMemory))
 }
 
 /// The refusal that an error of the streams is.
-fn refused(error: LinkError) -> Refusal {
+pub(crate) fn refused(error: LinkError) -> Refusal {
     match error {
         LinkError::OutOfMemory => out_of_memory(),
         LinkError::Output => Refusal::Failed(Failure::Run(RunFault::Output)),
@@ -203,7 +204,7 @@ fn debug_program<'a, R: Read, W: Write>(
 }
 
 /// The bytes of a file, or none where there is no path.
-fn input_of<H: Files + AllocGlobal>(rt: &H, path: &str) -> Result<Vec<u8>, Refusal> {
+pub(crate) fn input_of<H: Files + AllocGlobal>(rt: &H, path: &str) -> Result<Vec<u8>, Refusal> {
     if path.is_empty() {
         return Ok(Vec::new(rt.alloc()));
     }
@@ -257,11 +258,12 @@ fn debug_file<R: Read, W: Write>(
     Ok(Ending::Exit(0))
 }
 
-/// Debugs a program as the words say: gdb's packets come from `input`, and go to `output`.
+/// Debugs a program as the words say, or firmware where the first of them is `--board`: gdb's packets
+/// come from `input`, and go to `output`.
 ///
 /// # Errors
 ///
-/// Those of `debug_request_of` and `read_program`; `Refusal::Image` where it is no executable that
+/// Those of `debug_board`, of `debug_request_of` and of `read_program`; `Refusal::Image` where it is no executable that
 /// can be run; `RunFault::OutOfMemory`, and `RunFault::Output` where a write fails.
 pub fn debug<H: Env + Files + AllocGlobal, R: Read, W: Write>(
     rt: &H,
@@ -269,6 +271,11 @@ pub fn debug<H: Env + Files + AllocGlobal, R: Read, W: Write>(
     input: &mut R,
     output: &mut W,
 ) -> Result<Ending, Refusal> {
+    if let [word, words @ ..] = words {
+        if word.as_str() == "--board" {
+            return debug_board(rt, words, input, output);
+        }
+    }
     let request = debug_request_of(words)?;
     let file = read_program(rt, request.path)?;
     let given = input_of(rt, request.input)?;

@@ -8,6 +8,7 @@
 #![tactic(auto)]
 
 pub mod assembly;
+pub mod board_debugging;
 pub mod boards;
 pub mod covering;
 pub mod debugging;

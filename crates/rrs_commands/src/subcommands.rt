@@ -221,13 +221,18 @@ const DEBUG: Subcommand = Subcommand {
     task: Task::Debug,
     command: Command {
         name: "rrs gdb",
-        usage: "rrs gdb [--memory BYTES] [--input FILE] [--raw] PROGRAM [ARGUMENT] ..",
+        usage: "rrs gdb [--memory BYTES] [--input FILE] [--raw] PROGRAM [ARGUMENT] ..
+       rrs gdb --board [--limit STEPS] [--memory BYTES] [--input FILE] PROGRAM",
     },
-    summary: "runs a program under gdb, forward and back",
+    summary: "runs a program, or firmware, under gdb",
     help: "Runs PROGRAM as rrs exec does, under gdb, which speaks by standard input and output:
   gdb-multiarch PROGRAM -ex 'target remote | rrs gdb PROGRAM'
 The program's output goes to gdb; its input is FILE, or empty. It can go back, as by
 reverse-stepi and reverse-continue. monitor help, in gdb, lists what can be set.
+
+With --board PROGRAM is firmware, on the board of rrs board. gdb has its CSRs by their
+names, as in info registers mstatus. FILE is what its UART receives. A continue makes at
+most STEPS steps, or 1000000000.
 
 Status: 0; 1 where PROGRAM can't be run, and where it can't be read; 2 for other
 words.
