@@ -1,5 +1,5 @@
 -- What packets leave as it was, and the calls between the runs of a program that goes on.
-use Rattle.std.proofs.Common.{◌≡◌, ◌≢◌, ◌⊎◌, ℕ, List, [], ◌∷◌, ◌++◌, Bool, true, false, Contains, Option, Some, None, Result, Ok, Err, OnOk, IfNone, MatchOption, ◌≤◌, length, slice_index, refl, sym, subst, ap, ◌∙◌, inl, inr, arith}
+use Rattle.std.proofs.Common.{◌≡◌, ◌≢◌, ◌⊎◌, ℕ, List, [], ◌∷◌, ◌++◌, Bool, true, false, Contains, Option, Some, None, Result, Ok, Err, OnOk, IfNone, MatchOption, ◌<◌, ◌≤◌, length, slice_index, refl, sym, subst, ap, ◌∙◌, inl, inr, arith}
 use Rattle.std.specs.Bool.{OnTrue, OnFalse}
 use Rattle.std.proofs.lemmas.Bool.{OnTrue_from}
 use Rattle.std.proofs.lemmas.List.{append_cancel_left}
@@ -14,9 +14,9 @@ use Rattle.rrs_gdb.specs.declared.forward.ForwardReason.{ForwardReason}
 use Rattle.rrs_gdb.specs.declared.forward.ForwardReason.TheVariants.{Limit, Fault}
 use Rattle.rrs_gdb.specs.declared.session.Going.{Going}
 use Rattle.rrs_gdb.specs.declared.session.Going.TheVariants.{Step, Proceed, Killed}
-use Rattle.rrs_gdb.specs.Sessions.{letter, IsError, OutputTaken, CallMade, CallStops, Behind, GoesOn, Runs, GoesBy, GoesOnOrStays, GoesOnFrom, HasLetter}
+use Rattle.rrs_gdb.specs.Sessions.{letter, IsError, OutputTaken, CallMade, CallStops, Behind, GoesOn, Runs, GoesBy, GoesOnOrStays, GoesOnFrom, GoesOnUnless, HasAction, HasLetter, Resumes, Acts, first_action}
 use Rattle.rrs_gdb.specs.Breaks.{GoesForward}
-use Rattle.rrs_gdb.specs.Packets.{before, behind, address_in, length_in}
+use Rattle.rrs_gdb.specs.Packets.{IsNumber, number, before, behind, address_in, length_in}
 use Rattle.rrs_gdb.specs.Sessions.{SetsBytes, SetsMemory}
 use Rattle.hex.specs.Hex.{decode_of, decode_pairs}
 use Rattle.rrs_gdb.proofs.BreakLemmas.{none_stepped}
@@ -110,62 +110,175 @@ from_there stops watches limit e e' s s' t (inl same) goes =
 from_there stops watches limit e e' s s' t (inr (pc, same)) goes =
     inr (pc, subst (λ (x : State). GoesOnOrStays stops watches limit e x e' t) same goes)
 
+-- a program that has ended stays
+unless : (ended : Bool) (stops : List ℕ) (watches : List Watch) (limit : ℕ) (e e' : Recording) (s t : State)
+    → GoesOnUnless ended stops watches limit e s e' t → GoesOnOrStays stops watches limit e s e' t
+unless true stops watches limit e e' s t goes = inl goes
+unless false stops watches limit e e' s t goes = inr goes
+
 -- `s` and `S` are one step or call
-one_step : (action : List ℕ) (going : Going) (stops : List ℕ) (watches : List Watch) (limit : ℕ) (e e' : Recording)
-    (s t : State) → (letter action ≡ 115) ⊎ (letter action ≡ 83) → HasLetter action going
-    → GoesBy going stops watches limit e s e' t → GoesOnOrStays stops watches 1 e s e' t
-one_step action Step stops watches limit e e' s t is has goes = goes
-one_step action Proceed stops watches limit e e' s t (inl is) (inl has) goes = absurd (omega (arith, is, has))
-one_step action Proceed stops watches limit e e' s t (inl is) (inr has) goes = absurd (omega (arith, is, has))
-one_step action Proceed stops watches limit e e' s t (inr is) (inl has) goes = absurd (omega (arith, is, has))
-one_step action Proceed stops watches limit e e' s t (inr is) (inr has) goes = absurd (omega (arith, is, has))
-one_step action (Killed signal) stops watches limit e e' s t is has goes = inl goes
+one_step : (action : List ℕ) (going : Going) (ended : Bool) (stops : List ℕ) (watches : List Watch) (limit : ℕ)
+    (e e' : Recording) (s t : State) → (letter action ≡ 115) ⊎ (letter action ≡ 83) → HasLetter action going
+    → GoesBy going ended stops watches limit e s e' t → GoesOnOrStays stops watches 1 e s e' t
+one_step action Step ended stops watches limit e e' s t is has goes = unless ended stops watches 1 e e' s t goes
+one_step action Proceed ended stops watches limit e e' s t (inl is) (inl has) goes = absurd (omega (arith, is, has))
+one_step action Proceed ended stops watches limit e e' s t (inl is) (inr has) goes = absurd (omega (arith, is, has))
+one_step action Proceed ended stops watches limit e e' s t (inr is) (inl has) goes = absurd (omega (arith, is, has))
+one_step action Proceed ended stops watches limit e e' s t (inr is) (inr has) goes = absurd (omega (arith, is, has))
+one_step action (Killed signal) ended stops watches limit e e' s t is has goes = inl goes
 
 -- `c` and `C` are as many as the limit
-up_to_limit : (action : List ℕ) (going : Going) (stops : List ℕ) (watches : List Watch) (limit : ℕ)
+up_to_limit : (action : List ℕ) (going : Going) (ended : Bool) (stops : List ℕ) (watches : List Watch) (limit : ℕ)
     (e e' : Recording) (s t : State) → (letter action ≡ 99) ⊎ (letter action ≡ 67) → HasLetter action going
-    → GoesBy going stops watches limit e s e' t → GoesOnOrStays stops watches limit e s e' t
-up_to_limit action Step stops watches limit e e' s t (inl is) (inl has) goes = absurd (omega (arith, is, has))
-up_to_limit action Step stops watches limit e e' s t (inl is) (inr has) goes = absurd (omega (arith, is, has))
-up_to_limit action Step stops watches limit e e' s t (inr is) (inl has) goes = absurd (omega (arith, is, has))
-up_to_limit action Step stops watches limit e e' s t (inr is) (inr has) goes = absurd (omega (arith, is, has))
-up_to_limit action Proceed stops watches limit e e' s t is has goes = goes
-up_to_limit action (Killed signal) stops watches limit e e' s t is has goes = inl goes
+    → GoesBy going ended stops watches limit e s e' t → GoesOnOrStays stops watches limit e s e' t
+up_to_limit action Step ended stops watches limit e e' s t (inl is) (inl has) goes = absurd (omega (arith, is, has))
+up_to_limit action Step ended stops watches limit e e' s t (inl is) (inr has) goes = absurd (omega (arith, is, has))
+up_to_limit action Step ended stops watches limit e e' s t (inr is) (inl has) goes = absurd (omega (arith, is, has))
+up_to_limit action Step ended stops watches limit e e' s t (inr is) (inr has) goes = absurd (omega (arith, is, has))
+up_to_limit action Proceed ended stops watches limit e e' s t is has goes =
+    unless ended stops watches limit e e' s t goes
+up_to_limit action (Killed signal) ended stops watches limit e e' s t is has goes = inl goes
 
-pub goes_same : {A F : Type 0} (r : Result A F) (going : Going) (stops stops' : List ℕ) (watches watches' : List Watch)
-    (limit limit' : ℕ) (e e' : Recording) (s t : State) → stops' ≡ stops → watches' ≡ watches → limit' ≡ limit
-    → OnOk r (GoesBy going stops' watches' limit' e s e' t) → OnOk r (GoesBy going stops watches limit e s e' t)
-goes_same r going stops stops' watches watches' limit limit' e e' s t same same' same'' goes =
-    subst (λ (n : ℕ). OnOk r (GoesBy going stops watches n e s e' t)) same''
-    (subst (λ (ws : List Watch). OnOk r (GoesBy going stops ws limit' e s e' t)) same'
-    (subst (λ (xs : List ℕ). OnOk r (GoesBy going xs watches' limit' e s e' t)) same goes))
+pub goes_same : {A F : Type 0} (r : Result A F) (going : Going) (ended ended' : Bool) (stops stops' : List ℕ)
+    (watches watches' : List Watch) (limit limit' : ℕ) (e e' : Recording) (s t : State) → ended' ≡ ended
+    → stops' ≡ stops → watches' ≡ watches → limit' ≡ limit
+    → OnOk r (GoesBy going ended' stops' watches' limit' e s e' t) → OnOk r (GoesBy going ended stops watches limit e s e' t)
+goes_same r going ended ended' stops stops' watches watches' limit limit' e e' s t same_end same same' same'' goes =
+    subst (λ (n : ℕ). OnOk r (GoesBy going ended stops watches n e s e' t)) same''
+    (subst (λ (ws : List Watch). OnOk r (GoesBy going ended stops ws limit' e s e' t)) same'
+    (subst (λ (xs : List ℕ). OnOk r (GoesBy going ended xs watches' limit' e s e' t)) same
+    (subst (λ (b : Bool). OnOk r (GoesBy going b stops' watches' limit' e s e' t)) same_end goes)))
 
-pub step_from : {A F : Type 0} (r : Result A F) (action : List ℕ) (going : Going) (stops : List ℕ)
+pub step_from : {A F : Type 0} (r : Result A F) (action : List ℕ) (going : Going) (ended : Bool) (stops : List ℕ)
     (watches : List Watch) (limit : ℕ) (e e' : Recording) (s s' t : State)
     → (letter action ≡ 115) ⊎ (letter action ≡ 83) → HasLetter action going → BeginsAt s s'
-    → OnOk r (GoesBy going stops watches limit e s' e' t) → OnOk r (GoesOnFrom stops watches 1 e s e' t)
-step_from (Ok x) action going stops watches limit e e' s s' t is has begins goes =
+    → OnOk r (GoesBy going ended stops watches limit e s' e' t) → OnOk r (GoesOnFrom stops watches 1 e s e' t)
+step_from (Ok x) action going ended stops watches limit e e' s s' t is has begins goes =
     from_there stops watches 1 e e' s s' t begins
-    (one_step action going stops watches limit e e' s' t is has goes)
-step_from (Err f) action going stops watches limit e e' s s' t is has begins goes = tt
+    (one_step action going ended stops watches limit e e' s' t is has goes)
+step_from (Err f) action going ended stops watches limit e e' s s' t is has begins goes = tt
 
-pub go_from : {A F : Type 0} (r : Result A F) (action : List ℕ) (going : Going) (stops : List ℕ)
+pub go_from : {A F : Type 0} (r : Result A F) (action : List ℕ) (going : Going) (ended : Bool) (stops : List ℕ)
     (watches : List Watch) (limit : ℕ) (e e' : Recording) (s s' t : State)
     → (letter action ≡ 99) ⊎ (letter action ≡ 67) → HasLetter action going → BeginsAt s s'
-    → OnOk r (GoesBy going stops watches limit e s' e' t) → OnOk r (GoesOnFrom stops watches limit e s e' t)
-go_from (Ok x) action going stops watches limit e e' s s' t is has begins goes =
+    → OnOk r (GoesBy going ended stops watches limit e s' e' t) → OnOk r (GoesOnFrom stops watches limit e s e' t)
+go_from (Ok x) action going ended stops watches limit e e' s s' t is has begins goes =
     from_there stops watches limit e e' s s' t begins
-    (up_to_limit action going stops watches limit e e' s' t is has goes)
-go_from (Err f) action going stops watches limit e e' s s' t is has begins goes = tt
+    (up_to_limit action going ended stops watches limit e e' s' t is has goes)
+go_from (Err f) action going ended stops watches limit e e' s s' t is has begins goes = tt
 
 -- within some limit
-pub some_limit : {A F : Type 0} (r : Result A F) (going : Going) (stops : List ℕ) (watches : List Watch) (limit : ℕ)
-    (e e' : Recording) (s t : State) → OnOk r (GoesBy going stops watches limit e s e' t)
+pub some_limit : {A F : Type 0} (r : Result A F) (going : Going) (ended : Bool) (stops : List ℕ) (watches : List Watch)
+    (limit : ℕ) (e e' : Recording) (s t : State) → OnOk r (GoesBy going ended stops watches limit e s e' t)
     → OnOk r ((n : ℕ) × GoesOnOrStays stops watches n e s e' t)
-some_limit (Ok x) Step stops watches limit e e' s t goes = (1, goes)
-some_limit (Ok x) Proceed stops watches limit e e' s t goes = (limit, goes)
-some_limit (Ok x) (Killed signal) stops watches limit e e' s t goes = (0, inl goes)
-some_limit (Err f) going stops watches limit e e' s t goes = tt
+some_limit (Ok x) Step ended stops watches limit e e' s t goes = (1, unless ended stops watches 1 e e' s t goes)
+some_limit (Ok x) Proceed ended stops watches limit e e' s t goes = (limit, unless ended stops watches limit e e' s t goes)
+some_limit (Ok x) (Killed signal) ended stops watches limit e e' s t goes = (0, inl goes)
+some_limit (Err f) going ended stops watches limit e e' s t goes = tt
+
+-- what is known of the way to go on
+pub goes_so : {A F : Type 0} (r : Result A F) (going going' : Going) (ended : Bool) (stops : List ℕ)
+    (watches : List Watch) (limit : ℕ) (e e' : Recording) (s t : State) → going ≡ going'
+    → OnOk r (GoesBy going ended stops watches limit e s e' t)
+    → OnOk r (GoesBy going' ended stops watches limit e s e' t)
+goes_so r going going' ended stops watches limit e e' s t is goes =
+    subst (λ (g : Going). OnOk r (GoesBy g ended stops watches limit e s e' t)) is goes
+
+-- behind the letter stands nothing
+pub resumes_here : {A F : Type 0} (r : Result A F) (rest rest' : List ℕ) (ended : Bool) (stops : List ℕ)
+    (watches : List Watch) (limit : ℕ) (e e' : Recording) (s s' t : State) (old new : List ℕ) → rest' ≡ rest
+    → length rest' ≡ 0 → s' ≡ s → OnOk r (GoesOnUnless ended stops watches limit e s' e' t)
+    → OnOk r (Resumes rest ended stops watches limit e s e' t old new)
+resumes_here (Ok x) rest [] ended stops watches limit e e' s s' t old new same empty at goes = record {
+  here = λ is. subst (λ (u : State). GoesOnUnless ended stops watches limit e u e' t) at goes;
+  from_address = λ is.
+      let some : 0 < length {A = ℕ} [] = subst (λ (xs : List ℕ). 0 < length xs) (sym same) is.0.0 in
+      absurd (omega (arith, some));
+  refused = λ some. absurd (some (sym same));
+}
+resumes_here (Ok x) rest (b ∷ bs) ended stops watches limit e e' s s' t old new same empty at goes =
+    absurd (omega (arith, empty))
+resumes_here (Err f) rest rest' ended stops watches limit e e' s s' t old new same empty at goes = tt
+
+-- an address
+pub resumes_there : {A F : Type 0} (r : Result A F) (rest rest' : List ℕ) (address : ℕ) (ended : Bool)
+    (stops : List ℕ) (watches : List Watch) (limit : ℕ) (e e' : Recording) (s s' t : State) (old new : List ℕ)
+    → rest' ≡ rest → IsNumber rest' → address ≡ number rest' → s' ≡ with_pc s address
+    → OnOk r (GoesOnUnless ended stops watches limit e s' e' t)
+    → OnOk r (Resumes rest ended stops watches limit e s e' t old new)
+resumes_there (Ok x) rest rest' address ended stops watches limit e e' s s' t old new same is value at goes =
+    let some : 0 < length rest = subst (λ (xs : List ℕ). 0 < length xs) same is.0.0 in
+    record {
+      here = λ none. absurd (omega (arith, some, ap length none));
+      from_address = λ is'.
+          subst (λ (u : State). GoesOnUnless ended stops watches limit e u e' t)
+          (at ∙ ap (λ (n : ℕ). with_pc s n) (value ∙ ap number same)) goes;
+      refused = λ some none. absurd (none (subst (λ (xs : List ℕ). IsNumber xs) same is));
+    }
+resumes_there (Err f) rest rest' address ended stops watches limit e e' s s' t old new same is value at goes = tt
+
+-- neither
+pub resumes_not : {A F : Type 0} (r : Result A F) (rest rest' : List ℕ) (ended : Bool) (stops : List ℕ)
+    (watches : List Watch) (limit : ℕ) (e e' : Recording) (s t : State) (old new : List ℕ) → rest' ≡ rest
+    → 0 < length rest' → ¬ IsNumber rest' → OnOk r (IsError old new)
+    → OnOk r (Resumes rest ended stops watches limit e s e' t old new)
+resumes_not (Ok x) rest rest' ended stops watches limit e e' s t old new same some other error = record {
+  here = λ none. absurd (omega (arith, some, ap length (same ∙ none)));
+  from_address = λ is. absurd (other (subst (λ (xs : List ℕ). IsNumber xs) (sym same) is));
+  refused = λ some none. error;
+}
+resumes_not (Err f) rest rest' ended stops watches limit e e' s t old new same some other error = tt
+
+-- from the same
+pub resumes_same : {A F : Type 0} (r : Result A F) (rest : List ℕ) (ended ended' : Bool) (stops stops' : List ℕ)
+    (watches watches' : List Watch) (limit limit' : ℕ) (e e' : Recording) (s s' t : State) (old old' new : List ℕ)
+    → ended' ≡ ended → stops' ≡ stops → watches' ≡ watches → limit' ≡ limit → s' ≡ s → old' ≡ old
+    → OnOk r (Resumes rest ended' stops' watches' limit' e s' e' t old' new)
+    → OnOk r (Resumes rest ended stops watches limit e s e' t old new)
+resumes_same r rest ended ended' stops stops' watches watches' limit limit' e e' s s' t old old' new same_end same
+    same' same'' at text resumes =
+    subst (λ (xs : List ℕ). OnOk r (Resumes rest ended stops watches limit e s e' t xs new)) text
+    (subst (λ (u : State). OnOk r (Resumes rest ended stops watches limit e u e' t old' new)) at
+    (subst (λ (n : ℕ). OnOk r (Resumes rest ended stops watches n e s' e' t old' new)) same''
+    (subst (λ (ws : List Watch). OnOk r (Resumes rest ended stops ws limit' e s' e' t old' new)) same'
+    (subst (λ (xs : List ℕ). OnOk r (Resumes rest ended xs watches' limit' e s' e' t old' new)) same
+    (subst (λ (b : Bool). OnOk r (Resumes rest b stops' watches' limit' e s' e' t old' new)) same_end resumes)))))
+
+pub acts_same : {A F : Type 0} (r : Result A F) (actions : List ℕ) (ended ended' : Bool) (stops stops' : List ℕ)
+    (watches watches' : List Watch) (limit limit' : ℕ) (e e' : Recording) (s s' t : State) → ended' ≡ ended
+    → stops' ≡ stops → watches' ≡ watches → limit' ≡ limit → s' ≡ s
+    → OnOk r (Acts actions ended' stops' watches' limit' e s' e' t)
+    → OnOk r (Acts actions ended stops watches limit e s e' t)
+acts_same r actions ended ended' stops stops' watches watches' limit limit' e e' s s' t same_end same same' same''
+    at acts =
+    subst (λ (u : State). OnOk r (Acts actions ended stops watches limit e u e' t)) at
+    (subst (λ (n : ℕ). OnOk r (Acts actions ended stops watches n e s' e' t)) same''
+    (subst (λ (ws : List Watch). OnOk r (Acts actions ended stops ws limit' e s' e' t)) same'
+    (subst (λ (xs : List ℕ). OnOk r (Acts actions ended xs watches' limit' e s' e' t)) same
+    (subst (λ (b : Bool). OnOk r (Acts actions b stops' watches' limit' e s' e' t)) same_end acts))))
+
+-- the first action is a step, or to go on
+acts_so : (action actions : List ℕ) (going : Going) (rest : List ℕ) (ended : Bool) (stops : List ℕ)
+    (watches : List Watch) (limit : ℕ) (e e' : Recording) (s t : State) → action ≡ first_action actions
+    → HasAction action going rest → GoesBy going ended stops watches limit e s e' t
+    → Acts actions ended stops watches limit e s e' t
+acts_so action actions going rest ended stops watches limit e e' s t same has goes = record {
+  step = λ is.
+      let stepped = has.0 (ap (λ (xs : List ℕ). slice_index xs 0) (same ∙ is)) in
+      subst (λ (g : Going). GoesBy g ended stops watches limit e s e' t) stepped.0 goes;
+  goes_on = λ is.
+      let gone_on = has.1 (ap (λ (xs : List ℕ). slice_index xs 0) (same ∙ is)) in
+      subst (λ (g : Going). GoesBy g ended stops watches limit e s e' t) gone_on.0 goes;
+}
+
+pub acts : {A F : Type 0} (r : Result A F) (action actions : List ℕ) (going : Going) (rest : List ℕ) (ended : Bool)
+    (stops : List ℕ) (watches : List Watch) (limit : ℕ) (e e' : Recording) (s t : State)
+    → action ≡ first_action actions → HasAction action going rest
+    → OnOk r (GoesBy going ended stops watches limit e s e' t)
+    → OnOk r (Acts actions ended stops watches limit e s e' t)
+acts (Ok x) action actions going rest ended stops watches limit e e' s t same has goes =
+    acts_so action actions going rest ended stops watches limit e e' s t same has goes
+acts (Err f) action actions going rest ended stops watches limit e e' s t same has goes = tt
 
 -- ---- memory that is changed
 

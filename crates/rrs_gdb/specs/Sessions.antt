@@ -1,7 +1,7 @@
 -- What a packet may change, by its letter (gdb's manual, "Remote Serial Protocol", "Packets"). Most
 -- packets ask, and change nothing of the program.
-use Rattle.std.specs.Prelude.{◌≡◌, ◌≢◌, ◌⊎◌, ℕ, ◌+◌, ◌-◌, ◌^◌, ◌<◌, ◌≤◌, List, [], ◌∷◌, ◌++◌, Contains, Bool, false, length, slice_index, None, Ok, IsOk}
-use Rattle.hex.specs.Hex.{decode_sized}
+use Rattle.std.specs.Prelude.{◌≡◌, ◌≢◌, ◌⊎◌, ℕ, ◌+◌, ◌-◌, ◌*◌, ◌^◌, ◌<◌, ◌≤◌, List, [], ◌∷◌, ◌++◌, Contains, Bool, true, false, drop, length, slice_index, None, Ok, IsOk}
+use Rattle.hex.specs.Hex.{decode_of, decode_sized}
 use Rattle.rrs_lib.specs.Bytes.{ByteMap}
 use Rattle.rrs_lib.specs.Loading.{Loaded}
 use Rattle.rrs_lib.specs.declared.instruction_executor.InstructionException.TheVariants.{EnvironmentCall}
@@ -15,9 +15,12 @@ use Rattle.rrs_gdb.specs.declared.forward.ForwardReason.TheVariants.{Fault}
 use Rattle.rrs_gdb.specs.declared.session.Going.{Going}
 use Rattle.rrs_gdb.specs.declared.session.Going.TheVariants.{Step, Proceed, Killed}
 use Rattle.rrs_gdb.specs.declared.state.SessionState.{SessionState}
+use Rattle.rrs_gdb.specs.declared.state.Stop.{Stop}
+use Rattle.rrs_gdb.specs.declared.state.Stop.TheVariants.{Signal, Touched, AtBegin, Entry, Return, Exited}
+use Rattle.rrs_gdb.specs.declared.state.Stop.TheVariants as stop
 use Rattle.rrs_gdb.specs.Breaks.{GoesForward}
 use Rattle.rrs_gdb.specs.Packets.{IsNumber, number, before, behind, IsPlace, address_in, length_in}
-use Rattle.rrs_gdb.specs.Shown.{register_text, text_of, with_register, word_at, HasBytes}
+use Rattle.rrs_gdb.specs.Shown.{register, register_text, text_of, with_register, word_at, HasBytes}
 
 -- the letter of a packet: the first byte of its payload
 abbrev pub letter : List ℕ → ℕ
@@ -82,6 +85,20 @@ pub record SessionKept (old new : SessionState) : Type 0 where
   pub settings_kept : new.settings ≡ old.settings
   pub history_kept : new.history ≡ old.history
 
+-- a program stopped because it exited, or because a signal killed it
+abbrev pub is_end : Stop → Bool
+is_end (Signal signal) = false
+is_end (Touched watch) = false
+is_end AtBegin = false
+is_end (Entry number) = false
+is_end (Return number) = false
+is_end (Exited status) = true
+is_end (stop.Killed signal) = true
+
+-- the program of a session has ended
+abbrev pub has_ended : SessionState → Bool
+has_ended session = is_end session.stop
+
 -- what was appended is an error: it begins with `E`
 abbrev pub IsError : List ℕ → List ℕ → Type 0
 IsError old new = (rest : List ℕ) × (new ≡ old ++ 69 ∷ rest)
@@ -104,6 +121,17 @@ pub record SetsRegister (text : List ℕ) (s t : State) (old new : List ℕ) : T
       → t ≡ with_register s (number (before 61 text)) (word_at bytes 0)
   pub refused : ¬ (IsChangeable (before 61 text) × IsOk (decode_sized (behind 61 text) 4))
       → IsError old new
+
+-- x1 to x31, and the pc, are the words of these bytes, the lowest byte of each first. The first word
+-- stands for x0, and counts for nothing.
+abbrev pub HasRegisters : List ℕ → State → Type 0
+HasRegisters bytes s = (r : ℕ) → 1 ≤ r → r ≤ 32 → register s r ≡ word_at bytes (4 * r)
+
+-- `G r..`: all registers are changed to these 132 bytes, and nothing else changes.
+pub record SetsRegisters (digits : List ℕ) (s t : State) (old new : List ℕ) : Type 0 where
+  pub set : (bytes : List ℕ) → decode_of digits ≡ Ok bytes → length bytes ≡ 132
+      → HasRegisters bytes t × MemoryKept s t
+  pub refused : ((bytes : List ℕ) → decode_of digits ≡ Ok bytes → length bytes ≢ 132) → IsError old new
 
 -- So many bytes from an address on are shown: up to the first that is not mapped, or as many as an
 -- answer has room for.
@@ -198,13 +226,41 @@ GoesOnFrom stops watches limit e s e' t =
     GoesOnOrStays stops watches limit e s e' t
     ⊎ ((pc : ℕ) × GoesOnOrStays stops watches limit e (with_pc s pc) e' t)
 
+-- A program that is asked to go on does so. One that has ended stays as it is.
+abbrev pub GoesOnUnless : Bool → List ℕ → List Watch → ℕ → Recording → State → Recording → State → Type 0
+GoesOnUnless true stops watches limit e s e' t = (e' ≡ e) × (t ≡ s)
+GoesOnUnless false stops watches limit e s e' t = GoesOn stops watches e' t limit e s
+
+-- `s` and `c`, behind which nothing stands, or the address to go on from
+pub record Resumes (rest : List ℕ) (ended : Bool) (stops : List ℕ) (watches : List Watch) (limit : ℕ)
+    (e : Recording) (s : State) (e' : Recording) (t : State) (old new : List ℕ) : Type 0 where
+  pub here : rest ≡ [] → GoesOnUnless ended stops watches limit e s e' t
+  pub from_address : IsNumber rest → GoesOnUnless ended stops watches limit e (with_pc s (number rest)) e' t
+  pub refused : rest ≢ [] → ¬ IsNumber rest → IsError old new
+
+-- the first action of `vCont`, without the thread that it is for
+abbrev pub first_action : List ℕ → List ℕ
+first_action actions = before 58 (before 59 actions)
+
+-- `vCont;actions`: the first action counts.
+pub record Acts (actions : List ℕ) (ended : Bool) (stops : List ℕ) (watches : List Watch) (limit : ℕ)
+    (e : Recording) (s : State) (e' : Recording) (t : State) : Type 0 where
+  pub step : first_action actions ≡ 115 ∷ [] → GoesOnUnless ended stops watches 1 e s e' t
+  pub goes_on : first_action actions ≡ 99 ∷ [] → GoesOnUnless ended stops watches limit e s e' t
+
 -- ---- of the code
 
 -- What comes of going on so. A program that is killed is left as it is.
-abbrev pub GoesBy : Going → List ℕ → List Watch → ℕ → Recording → State → Recording → State → Type 0
-GoesBy Step stops watches limit e s e' t = GoesOnOrStays stops watches 1 e s e' t
-GoesBy Proceed stops watches limit e s e' t = GoesOnOrStays stops watches limit e s e' t
-GoesBy (Killed signal) stops watches limit e s e' t = (e' ≡ e) × (t ≡ s)
+abbrev pub GoesBy : Going → Bool → List ℕ → List Watch → ℕ → Recording → State → Recording → State → Type 0
+GoesBy Step ended stops watches limit e s e' t = GoesOnUnless ended stops watches 1 e s e' t
+GoesBy Proceed ended stops watches limit e s e' t = GoesOnUnless ended stops watches limit e s e' t
+GoesBy (Killed signal) ended stops watches limit e s e' t = (e' ≡ e) × (t ≡ s)
+
+-- the action is to go on so, and this stands behind its letter
+abbrev pub HasAction : List ℕ → Going → List ℕ → Type 0
+HasAction action going rest =
+    (letter action ≡ 115 → (going ≡ Step) × (rest ≡ drop 1 action))
+    × (letter action ≡ 99 → (going ≡ Proceed) × (rest ≡ drop 1 action))
 
 -- the letter of an action by which the program goes on so
 abbrev pub HasLetter : List ℕ → Going → Type 0

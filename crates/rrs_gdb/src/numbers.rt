@@ -1,6 +1,6 @@
 //! The numbers and the fields of a payload.
 
-ghost use Rattle.std.specs.Prelude.{◌≡◌, ◌<◌, [], length, IfSome, IfNone, MatchOption};
+ghost use Rattle.std.specs.Prelude.{◌≡◌, ◌≢◌, ◌<◌, ◌++◌, ℕ, List, [], length, IfSome, IfNone, MatchOption};
 ghost use Rattle.rrs_gdb.specs.Packets.{IsNumber, number, before, behind, IsPlace, address_in, length_in};
 
 /// The number that one to eight hexadecimal digits are.
@@ -85,6 +85,9 @@ pub fn place_and_bytes(bytes: &[u8]) -> Option<(u32, u32, &[u8])>
 }
 
 /// What is behind a prefix.
-pub fn behind<'a>(bytes: &'a [u8], prefix: &[u8]) -> Option<&'a [u8]> {
+pub fn behind<'a>(bytes: &'a [u8], prefix: &[u8]) -> Option<&'a [u8]>
+    ensures { MatchOption result ((rest : List ℕ) → bytes.now ≢ prefix.now ++ rest)
+        (λ rest. bytes.now ≡ prefix.now ++ rest.now) }
+{
     bytes.strip_prefix(prefix)
 }

@@ -1,15 +1,15 @@
 //! The packets of a session, and their answers.
 
-ghost use Rattle.std.specs.Prelude.{◌≡◌, ◌≢◌, ◌⊎◌, ◌++◌, ℕ, ◌≤◌, Bool, List, Ok, IsOk, IsTrue, IfOk, IfSome, IfNone, MatchOption, OnOk, drop, length, slice_index};
+ghost use Rattle.std.specs.Prelude.{◌≡◌, ◌≢◌, ◌⊎◌, ◌∷◌, ◌++◌, [], ℕ, ◌≤◌, Bool, List, Ok, IsOk, IsTrue, IfOk, IfSome, IfNone, MatchOption, OnOk, drop, length, slice_index};
 ghost use Rattle.std.specs.Bool.{OnTrue, OnFalse};
 ghost use Rattle.hex.specs.Hex.{decode_of, decode_sized};
 ghost use Rattle.rrs_lib.specs.Bytes.{ByteMap};
 ghost use Rattle.rrs_lib.specs.Machine.{state_of};
 ghost use Rattle.rrs_lib.specs.Executor.{state_in};
 ghost use Rattle.rrs_gdb.specs.declared.session.Going.{Going};
-ghost use Rattle.rrs_gdb.specs.Sessions.{letter, BreaksKept, BreaksNone, GoesBy, GoesOnFrom, GoesOnOrStays, HasLetter, ChangesMemory, ChangesNone, ChangesRegister, IsError, MemoryKept, PlacesKept, RegistersKept, RunsNone, SessionKept, SettingsKept, IsChangeable, SetsBytes, SetsMemory, SetsRegister, ShowsBytes, ShowsMemory, ShowsRegister};
+ghost use Rattle.rrs_gdb.specs.Sessions.{letter, Acts, BreaksKept, BreaksNone, GoesBy, GoesOnFrom, GoesOnOrStays, HasAction, HasLetter, HasRegisters, Resumes, SetsRegisters, has_ended, ChangesMemory, ChangesNone, ChangesRegister, IsError, MemoryKept, PlacesKept, RegistersKept, RunsNone, SessionKept, SettingsKept, IsChangeable, SetsBytes, SetsMemory, SetsRegister, ShowsBytes, ShowsMemory, ShowsRegister};
 ghost use Rattle.rrs_gdb.specs.Packets.{IsNumber, number, before, behind};
-ghost use Rattle.rrs_gdb.specs.Shown.{text_of, with_register, word_at};
+ghost use Rattle.rrs_gdb.specs.Shown.{registers_text, text_of, with_register, word_at};
 
 use crate::breaks::{Watch, WatchKind};
 use crate::contents::{read_memory, write_memory};
@@ -83,16 +83,44 @@ fn change_registers<M: Memory>(
     alloc: Global,
     executor: &mut InstructionExecutor<M>,
     digits: &[u8],
-) -> bool
+) -> Result<bool, AllocError>
     ensures kept { MemoryKept (state_in M.bytes M.writable executor.old)
         (state_in M.bytes M.writable executor.new) }
-    ensures none { OnFalse result (state_in M.bytes M.writable executor.new
-        ≡ state_in M.bytes M.writable executor.old) }
+    ensures none { IfOk result (λ changed. OnFalse changed
+        (state_in M.bytes M.writable executor.new ≡ state_in M.bytes M.writable executor.old)) }
+    ensures set { IfOk result (λ changed. OnTrue changed ((bytes : List ℕ)
+        × (decode_of digits.now ≡ Ok bytes) × (length bytes ≡ 132)
+        × HasRegisters bytes (state_in M.bytes M.writable executor.new))) }
+    ensures refused { IfOk result (λ changed. OnFalse changed
+        ((bytes : List ℕ) → decode_of digits.now ≡ Ok bytes → length bytes ≢ 132)) }
 {
     match hex::decode(alloc, digits) {
-        Ok(bytes) => write_registers(executor.hart_state, &bytes),
-        Err(_) => false,
+        Ok(bytes) => Ok(write_registers(executor.hart_state, &bytes)),
+        Err(FromHexError::OutOfMemory) => Err(AllocError),
+        Err(_) => Ok(false),
     }
+}
+
+/// `G`.
+fn set_registers<M: Memory>(
+    alloc: Global,
+    executor: &mut InstructionExecutor<M>,
+    reply: &mut Vec<u8>,
+    digits: &[u8],
+) -> Result<bool, AllocError>
+    ensures kept { MemoryKept (state_in M.bytes M.writable executor.old)
+        (state_in M.bytes M.writable executor.new) }
+    ensures none { IfOk result (λ changed. OnFalse changed
+        (state_in M.bytes M.writable executor.new ≡ state_in M.bytes M.writable executor.old)) }
+    ensures error { IfOk result (λ changed. OnTrue changed
+        (IsError reply.old.items reply.new.items → ⊥)) }
+    ensures set { OnOk result (SetsRegisters digits.now
+        (state_in M.bytes M.writable executor.old) (state_in M.bytes M.writable executor.new)
+        reply.old.items reply.new.items) }
+{
+    let is_changed = change_registers(alloc, executor, digits)?;
+    push_done(reply, is_changed, INVALID)?;
+    Ok(is_changed)
 }
 
 /// Appends that a packet can't be understood.
@@ -338,6 +366,14 @@ fn inspect<M: Memory>(
         ((reply.new.items ≡ reply.old.items)
         × (state_in M.bytes M.writable executor.new ≡ state_in M.bytes M.writable executor.old)
         × SessionKept state.old state.new)) }
+    ensures ended { has_ended state.new ≡ has_ended state.old }
+    ensures runs { IfOk result (λ is_answered. OnTrue is_answered (RunsNone payload.now)) }
+    ensures g { payload.now ≡ 103 ∷ [] → IfOk result (λ is_answered. IsTrue is_answered
+        × (reply.new.items ≡ reply.old.items
+        ++ registers_text (state_in M.bytes M.writable executor.old))) }
+    ensures set_g { letter payload.now ≡ 71 → IfOk result (λ is_answered. IsTrue is_answered
+        × SetsRegisters (drop 1 payload.now) (state_in M.bytes M.writable executor.old)
+        (state_in M.bytes M.writable executor.new) reply.old.items reply.new.items) }
     ensures p { letter payload.now ≡ 112 → IfOk result (λ is_answered. IsTrue is_answered
         × ShowsRegister (drop 1 payload.now) (state_in M.bytes M.writable executor.old)
         reply.old.items reply.new.items) }
@@ -360,10 +396,7 @@ fn inspect<M: Memory>(
     match payload {
         [b'g'] => push_registers(executor.hart_state, reply)?,
         [b'p', digits @ ..] => show_register(executor.hart_state, reply, digits)?,
-        [b'G', digits @ ..] => {
-            is_changed = change_registers(alloc, executor, digits);
-            push_done(reply, is_changed, INVALID)?;
-        }
+        [b'G', digits @ ..] => is_changed = set_registers(alloc, executor, reply, digits)?,
         [b'P', text @ ..] => is_changed = set_register(executor, reply, text)?,
         [b'm', place @ ..] => show_memory(alloc, executor, reply, place)?,
         [b'M', text @ ..] => is_changed = change_by_digits(alloc, executor, reply, text)?,
@@ -432,7 +465,9 @@ fn change_breaks(state: &mut SessionState<'_>, is_set: bool, text: &[u8]) -> &'s
 /// How the program is to go on by an action of `vCont`, or by a packet of its own, with the address
 /// behind it. A signal that is not 0 kills the program.
 fn going_of(action: &[u8]) -> Option<(Going, &[u8])>
-    ensures { IfSome result (λ found. HasLetter action.now found.0) }
+    ensures letter { IfSome result (λ found. HasLetter action.now found.0) }
+    ensures action { IfSome result (λ found. HasAction action.now found.0 found.1.now) }
+    ensures none { IfNone result ((letter action.now ≢ 115) × (letter action.now ≢ 99)) }
 {
     let (going, rest) = match action {
         [b'c', rest @ ..] => (Going::Proceed, rest),
@@ -471,13 +506,13 @@ fn go<M: Memory, G: StopRunner<M>, R: Read, W: Write>(
     going: Going,
 ) -> Result<Next, LinkError>
     ensures places { PlacesKept state.old state.new }
-    ensures goes_on { OnOk result (GoesBy going state.old.breaks.stops.items
+    ensures goes_on { OnOk result (GoesBy going (has_ended state.old) state.old.breaks.stops.items
         state.old.breaks.watches.items state.old.settings.limit
         environment.old (state_in M.bytes M.writable executor.old)
         environment.new (state_in M.bytes M.writable executor.new)) }
     ensures error { OnOk result (IsError reply.old.items reply.new.items → ⊥) }
 {
-    if !matches!(state.stop, Stop::Exited(_) | Stop::Killed(_)) {
+    if !state.has_ended() {
         match going {
             Going::Step => step(runner, state, executor, environment, link)?,
             Going::Proceed => proceed(runner, state, executor, environment, link)?,
@@ -512,6 +547,16 @@ fn go_from<M: Memory, G: StopRunner<M>, R: Read, W: Write>(
         state.old.breaks.watches.items state.old.settings.limit
         environment.old (state_in M.bytes M.writable executor.old)
         environment.new (state_in M.bytes M.writable executor.new)) }
+    ensures steps { letter payload.now ≡ 115 → OnOk result (Resumes (drop 1 payload.now)
+        (has_ended state.old) state.old.breaks.stops.items state.old.breaks.watches.items 1
+        environment.old (state_in M.bytes M.writable executor.old)
+        environment.new (state_in M.bytes M.writable executor.new)
+        reply.old.items reply.new.items) }
+    ensures continues { letter payload.now ≡ 99 → OnOk result (Resumes (drop 1 payload.now)
+        (has_ended state.old) state.old.breaks.stops.items state.old.breaks.watches.items
+        state.old.settings.limit environment.old (state_in M.bytes M.writable executor.old)
+        environment.new (state_in M.bytes M.writable executor.new)
+        reply.old.items reply.new.items) }
 {
     let Some((going, address)) = going_of(payload) else {
         push_text(reply, INVALID)?;
@@ -544,6 +589,10 @@ fn go_on<M: Memory, G: StopRunner<M>, R: Read, W: Write>(
         × (environment.new ≡ environment.old) × SessionKept state.old state.new) }
     ensures goes_on { OnOk result ((limit : ℕ) × GoesOnOrStays state.old.breaks.stops.items
         state.old.breaks.watches.items limit
+        environment.old (state_in M.bytes M.writable executor.old)
+        environment.new (state_in M.bytes M.writable executor.new)) }
+    ensures acts { OnOk result (Acts actions.now (has_ended state.old)
+        state.old.breaks.stops.items state.old.breaks.watches.items state.old.settings.limit
         environment.old (state_in M.bytes M.writable executor.old)
         environment.new (state_in M.bytes M.writable executor.new)) }
 {
@@ -612,6 +661,11 @@ fn multiletter<M: Memory, G: StopRunner<M>, R: Read, W: Write>(
         × (environment.new ≡ environment.old) × SessionKept state.old state.new) }
     ensures goes_on { OnOk result ((limit : ℕ) × GoesOnOrStays state.old.breaks.stops.items
         state.old.breaks.watches.items limit
+        environment.old (state_in M.bytes M.writable executor.old)
+        environment.new (state_in M.bytes M.writable executor.new)) }
+    ensures acts { (actions : List ℕ) → text.now ≡ 67 ∷ 111 ∷ 110 ∷ 116 ∷ 59 ∷ actions
+        → OnOk result (Acts actions (has_ended state.old)
+        state.old.breaks.stops.items state.old.breaks.watches.items state.old.settings.limit
         environment.old (state_in M.bytes M.writable executor.old)
         environment.new (state_in M.bytes M.writable executor.new)) }
 {
@@ -713,8 +767,9 @@ fn manage<R, W>(
 /// (`asks`, `registers`, `memory`), and only one by which the program goes on or back takes it on.
 /// Breakpoints, watchpoints and settings are changed by the packets that are for them alone
 /// (`breaks`, `settings`), and a packet that is answered by an error changes nothing (`error`). What
-/// the text of `p`, `P`, `m`, `M` and `X` means is said by `shows_register`, `sets_register`,
-/// `shows_memory`, `sets_memory` and `sets_bytes`.
+/// the text of a packet means is said by `shows_registers`, `sets_registers`, `shows_register`,
+/// `sets_register`, `shows_memory`, `sets_memory` and `sets_bytes`, and, of those by which the
+/// program goes on, by `steps`, `continues` and `acts`.
 ///
 /// # Errors
 ///
@@ -746,7 +801,18 @@ pub fn answer_to<'a, M: Memory, G: StopRunner<M>, R: Read, W: Write>(
         state.old.breaks.watches.items state.old.settings.limit
         environment.old (state_in M.bytes M.writable executor.old)
         environment.new (state_in M.bytes M.writable executor.new)) }
-    ensures resumes { letter payload.now ≡ 118 → OnOk result ((limit : ℕ) × GoesOnOrStays state.old.breaks.stops.items
+    ensures steps { letter payload.now ≡ 115 → OnOk result (Resumes (drop 1 payload.now)
+        (has_ended state.old) state.old.breaks.stops.items state.old.breaks.watches.items 1
+        environment.old (state_in M.bytes M.writable executor.old)
+        environment.new (state_in M.bytes M.writable executor.new)
+        reply.old.items reply.new.items) }
+    ensures continues { letter payload.now ≡ 99 → OnOk result (Resumes (drop 1 payload.now)
+        (has_ended state.old) state.old.breaks.stops.items state.old.breaks.watches.items
+        state.old.settings.limit environment.old (state_in M.bytes M.writable executor.old)
+        environment.new (state_in M.bytes M.writable executor.new)
+        reply.old.items reply.new.items) }
+    ensures resumes { letter payload.now ≡ 118 → OnOk result ((limit : ℕ)
+        × GoesOnOrStays state.old.breaks.stops.items
         state.old.breaks.watches.items limit
         environment.old (state_in M.bytes M.writable executor.old)
         environment.new (state_in M.bytes M.writable executor.new)) }
@@ -759,6 +825,17 @@ pub fn answer_to<'a, M: Memory, G: StopRunner<M>, R: Read, W: Write>(
         (IsError reply.old.items reply.new.items
         → (state_in M.bytes M.writable executor.new ≡ state_in M.bytes M.writable executor.old)
         × (environment.new ≡ environment.old) × SessionKept state.old state.new) }
+    ensures acts { (actions : List ℕ)
+        → payload.now ≡ 118 ∷ 67 ∷ 111 ∷ 110 ∷ 116 ∷ 59 ∷ actions
+        → OnOk result (Acts actions (has_ended state.old)
+        state.old.breaks.stops.items state.old.breaks.watches.items state.old.settings.limit
+        environment.old (state_in M.bytes M.writable executor.old)
+        environment.new (state_in M.bytes M.writable executor.new)) }
+    ensures shows_registers { payload.now ≡ 103 ∷ [] → OnOk result (reply.new.items
+        ≡ reply.old.items ++ registers_text (state_in M.bytes M.writable executor.old)) }
+    ensures sets_registers { letter payload.now ≡ 71 → OnOk result (SetsRegisters
+        (drop 1 payload.now) (state_in M.bytes M.writable executor.old)
+        (state_in M.bytes M.writable executor.new) reply.old.items reply.new.items) }
     ensures shows_register { letter payload.now ≡ 112 → OnOk result (ShowsRegister
         (drop 1 payload.now) (state_in M.bytes M.writable executor.old)
         reply.old.items reply.new.items) }

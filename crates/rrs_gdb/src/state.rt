@@ -2,7 +2,7 @@
 
 ghost use Rattle.std.specs.Prelude.{◌≡◌, ◌++◌, ◌∷◌, ℕ, [], List, OnErr, OnOk};
 ghost use Rattle.rrs_history.specs.Histories.{changes};
-ghost use Rattle.rrs_gdb.specs.Sessions.{BreaksKept, IsError, PlacesKept};
+ghost use Rattle.rrs_gdb.specs.Sessions.{BreaksKept, IsError, PlacesKept, has_ended};
 
 use crate::breaks::{Breaks, Watch};
 use crate::framing::push_hex;
@@ -156,9 +156,17 @@ impl<'a> SessionState<'a> {
         self.stop = Stop::Signal(5);
     }
 
+    /// Whether the program has ended: it exited, or a signal killed it.
+    pub fn has_ended(&self) -> bool
+        ensures { result ≡ has_ended self.now }
+    {
+        matches!(self.stop, Stop::Exited(_) | Stop::Killed(_))
+    }
+
     /// Forgets the history, as after a change that is not kept.
     pub(crate) fn forget(&mut self)
         ensures kept { PlacesKept self.old self.new }
+        ensures ended { has_ended self.new ≡ has_ended self.old }
         ensures forgotten { changes self.new.history ≡ [] }
     {
         self.history.clear();

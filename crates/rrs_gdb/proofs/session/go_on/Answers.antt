@@ -2,4 +2,4 @@ use Rattle.rrs_gdb.proofs.SessionLemmas.{some_limit}
 use Rattle.rrs_gdb.proofs.session.go_on.Goals as goal
 
 pub returns-in-Some-default-empty-clause-goes_on : goal.returns-in-Some-default-empty-clause-goes_on
-returns-in-Some-default-empty-clause-goes_on g c = some_limit c.go.result _ _ _ _ _ _ _ _ c.go.ensures.goes_on
+returns-in-Some-default-empty-clause-goes_on g c = some_limit c.go.result _ _ _ _ _ _ _ _ _ c.go.ensures.goes_on
