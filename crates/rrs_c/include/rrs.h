@@ -78,7 +78,7 @@ typedef struct rrs_end {
 rrs_fault rrs_step(rrs_hart *hart, uint32_t *words, size_t count, uint32_t base);
 
 /* Makes steps until `limit` were made, or one raises an exception. With a limit of 2,000 or more it
- * makes a table of 20 KiB on the stack, and takes 41 KiB of it. */
+ * makes a table of 20 KiB on the stack, and takes 21 KiB of it. */
 rrs_end rrs_run(rrs_hart *hart, uint32_t *words, size_t count, uint32_t base, uint64_t limit);
 
 /* Makes steps until the pc is one of the `stop_count` addresses at `stops`, `limit` were made, or

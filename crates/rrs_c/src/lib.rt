@@ -12,6 +12,7 @@
 #![tactic(auto)]
 
 mod access;
+mod cached;
 mod causes;
 mod comparison;
 mod completed;
@@ -56,6 +57,7 @@ ghost use Rattle.rrs_c.specs.Undoing.{change_in, IsChange};
 ghost use Rattle.rrs_c.specs.Names.{PutsRowName, PutsName, named, fault_names, register_names, field_names};
 
 use access::{RrsAccess, access_or_fault, given_by};
+use cached::run_over_cache;
 use causes::code_of;
 use comparison::{RrsDifference, first_difference};
 use completed::complete_retired;
@@ -67,8 +69,8 @@ use hart::{
 use instruction::{RrsInstruction, listed, nothing};
 use jumps::jumps_aside;
 use lent::{
-    machine_step_lent, run_lent, run_over_cache, run_until_lent, run_until_over_cache, step_lent,
-    step_noted_lent, step_retired_lent, undo_lent,
+    machine_step_lent, run_lent, run_until_lent, run_until_over_cache, step_lent, step_noted_lent,
+    step_retired_lent, undo_lent,
 };
 use machine::{
     RrsCsr, RrsCsrs, RrsMachineRetired, RrsOutcome, csr_read, csr_write, csrs_of, file_of,
@@ -192,11 +194,11 @@ pub extern "C" fn rrs_run_cached(
     ensures last { hart.new.last < 32 }
     ensures entry_zero { slice_index hart.new.x 0 ≡ slice_index hart.old.x 0 }
 {
-    let mut state = opened(hart);
-    let mut memory = SliceMemory { words, base };
-    let end = run_over_cache(&mut memory, &mut state, cache, limit);
-    close(&state, hart);
-    end_of_run(end)
+    let last = last_of(hart);
+    let ran = run_over_cache(words, base, &mut hart.x, hart.pc, last, cache, limit);
+    hart.pc = ran.pc;
+    hart.last = number_of(ran.last);
+    end_of_run(ran.end)
 }
 
 /// Does what `rrs_run_until` does, over a cache of decoded words that C owns, as `rrs_run_cached`.
