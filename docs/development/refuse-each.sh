@@ -80,13 +80,14 @@ refuse_all() {
     return "$worst"
 }
 
-# Two tests, each of which makes two allocations, with something wrong in the first or in what is said
-# of it: nothing, test, count, tests, preload or name
+# Two tests, each of which makes two allocations, by malloc and by realloc, with something wrong in the
+# first or in what is said of it: nothing, test, count, fewer, tests, preload or name
 wrong() {
     local source=$here/refuse.c name=tests::it count=2 fails=0 tests=2
     case $1 in
     test) fails=1 ;;
     count) count=3 ;;
+    fewer) count=1 ;;
     tests) tests=3 ;;
     preload) source=$room/none.c && echo "int none;" >"$source" ;;
     name) name=tests::another ;;
@@ -101,7 +102,7 @@ int main(int count, char **words) {
     if (count == 2 && strcmp(words[1], "--list") == 0)
         return puts("tests::it: test\ntests::right: test") < 0;
     one = malloc(1);
-    other = malloc(1);
+    other = realloc((void *)one, 2);
     return FAILS && strcmp(words[1], "tests::it") == 0 && (one == NULL || other == NULL);
 }
 C
@@ -114,7 +115,7 @@ C
 # Each wrong subject must be seen, and the right one must pass.
 self_test() {
     local what wanted status failed=0 tried=0
-    for what in nothing:0 test:1 count:1 tests:1 preload:1 name:2; do
+    for what in nothing:0 test:1 count:1 fewer:1 tests:1 preload:1 name:2; do
         wanted=${what#*:}
         status=0
         tried=$((tried + 1))
@@ -132,7 +133,7 @@ self_test() {
     status=0
     CC=false "$here/refuse-each.sh" none tests::it >"$room/seen" 2>&1 || status=$?
     [ "$status" = 2 ] || { echo "no compiler: status $status, and not 2" && failed=1; }
-    [ "$tried" = 6 ] || { echo "$tried wrong subjects, and there must be 6" && failed=1; }
+    [ "$tried" = 7 ] || { echo "$tried wrong subjects, and there must be 7" && failed=1; }
     echo "self-test: status $failed"
     return "$failed"
 }
