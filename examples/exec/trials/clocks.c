@@ -2,6 +2,7 @@
 #include <errno.h>
 #include <stdio.h>
 #include <string.h>
+#include <sys/time.h>
 #include <time.h>
 
 #define CLOCK_GETTIME64 403
@@ -42,6 +43,20 @@ static int goes_on(long clock)
     return 1;
 }
 
+// Whether gettimeofday gives a time between two of the clock, in microseconds.
+static int is_between(void)
+{
+    struct timespec64 before, after;
+    struct timeval now;
+    if (clock_gettime64(0, &before) != 0 || gettimeofday(&now, NULL) != 0 ||
+        clock_gettime64(0, &after) != 0) {
+        return 0;
+    }
+    long long told = now.tv_sec * 1000000LL + now.tv_usec;
+    return now.tv_usec < 1000000 && told >= nanoseconds(&before) / 1000 &&
+        told <= nanoseconds(&after) / 1000;
+}
+
 int main(void)
 {
     struct timespec64 now[2];
@@ -52,6 +67,7 @@ int main(void)
     printf(", %d", now[0].seconds - seconds == 0 || now[0].seconds - seconds == 1);
     printf(", %lld %lld behind it\n", now[1].seconds, now[1].nanoseconds);
     printf("monotonic %d, process %d, thread %d\n", goes_on(1), goes_on(2), goes_on(3));
+    printf("gettimeofday %d\n", is_between());
     printf("no clock %ld, %ld\n", clock_gettime64(1000, now), clock_gettime64(-1000, now));
     printf("no room %ld\n", clock_gettime64(0, (void *)0x7ff00000));
     return 0;
