@@ -3,6 +3,7 @@
 import base64
 import functools
 import hashlib
+import html
 import html.parser
 import http.server
 import json
@@ -176,8 +177,13 @@ def joined_anywhere():
         same("the page", True, page.read_bytes() == Subject.page.read_bytes())
 
 
-def address_of_readme():
-    """the link to the README leads where web/build was told"""
+def leads_to(address):
+    """Compares where the link to the README leads, which is the only one."""
     text = Subject.page.read_text(encoding="utf-8")
-    same("the link", ["../../README.md"], re.findall(r'<a href="([^"]*)">', text))
+    same("the link", [html.escape(address)], re.findall(r'<a href="([^"]*)">', text))
+
+
+def address_of_readme():
+    """the link to the README leads to that of the repository where web/build was told no other"""
+    leads_to("../../README.md")
     same("the file", True, (WEB / "out" / "../../README.md").exists())

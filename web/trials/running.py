@@ -362,6 +362,10 @@ IN_VIEW = """(() => {
 })()"""
 
 
+OFF = """[...document.querySelectorAll('[data-action][aria-disabled="true"]')]
+    .map((button) => button.dataset.action)"""
+
+
 def run_and_pause(machine):
     """Runs on, sees that the page answers meanwhile, and pauses."""
     machine.page.press("r")
@@ -373,8 +377,11 @@ def run_and_pause(machine):
     busy = "document.querySelector('[role=status]').getAttribute('aria-busy')"
     same("whether it runs", [True, "true"],
          [machine.page.ask("rrs.session.isRunning"), machine.page.ask(busy)])
+    same("the buttons that are off in a run", ["runBack", "stepBack", "run", "runToLine"],
+         machine.page.ask(OFF))
     machine.keys("p")
     machine.says("Paused")
+    same("the buttons that are off behind it", ["pause"], machine.page.ask(OFF))
     same("whether it is busy", "false", machine.page.ask(busy))
     return slowest
 

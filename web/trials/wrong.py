@@ -2,12 +2,23 @@
 
 import pathlib
 import shutil
+import subprocess
 import tempfile
 
 import join
 from trials import actions, chromium, generated, looks, policy, teaching
-from trials.report import Report, differing_counts
+from trials.report import Differs, Report, differing_counts
 from trials.view import EXPECTED, WEB, Subject, opened
+
+
+def low_contrast(machine):
+    """Makes the trial of looks, and fails where a text has too little contrast."""
+    try:
+        looks.contrast(machine)
+    except Differs as differs:
+        if str(differs).startswith("what has too little contrast"):
+            raise
+
 
 # a file, what stands in it, and what stands there instead
 IN_NODE = [
@@ -24,6 +35,8 @@ IN_BROWSER = [
     (actions.by_each_way, "page.js", '"click", () => this.act(', '"click", () => void ('),
     (looks.theme, "style.css", "--back: light-dark(#eef1f5,", "--back: light-dark(#eef1f6,"),
     (looks.contrast, "style.css", ".state.wait {", ".state.waits {"),
+    # a contrast of 4.2
+    (low_contrast, "style.css", "--soft: light-dark(#566273,", "--soft: light-dark(#667385,"),
     (looks.focus, "style.css", "outline: 2px solid var(--accent)", "outline: none"),
     (teaching.while_one_types, "editor.js", "column - 1, Math.max(", "column, Math.max("),
     (policy.policy, "index.html", "default-src 'none'", "default-src 'self'"),
@@ -65,9 +78,16 @@ def misses_counts():
                 and not differing_counts(stored, counts))
 
 
+def misses_failure():
+    """Whether the script ends with another status than 1 where comparisons are missing."""
+    run = subprocess.run([WEB / "check", "--wrong"], capture_output=True, text=True, check=False)
+    return run.returncode != 1 or "failed: as many comparisons" not in run.stdout
+
+
 def self_test(path):
     """Tries each wrong page. Answers 0 where each mistake is found."""
-    missed = ["counts"] if misses_counts() else []
+    missed = [f"{what} that are missing" for what, is_missed in (
+        ("counts", misses_counts()), ("comparisons", misses_failure())) if is_missed]
     with tempfile.TemporaryDirectory() as name:
         folder = pathlib.Path(name)
         for number, edit in enumerate(IN_NODE):
@@ -85,7 +105,7 @@ def self_test(path):
                     missed.append(f"{edit[0]}: {edit[1]}")
         finally:
             browser.close()
-    mistakes = 1 + len(IN_NODE) + len(IN_BROWSER)
+    mistakes = 2 + len(IN_NODE) + len(IN_BROWSER)
     print(f"web/check --self-test: {mistakes - len(missed)} of {mistakes} mistakes were found")
     for mistake in missed:
         print(f"not found: {mistake}")

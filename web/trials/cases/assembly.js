@@ -29,6 +29,8 @@ function words(report, page, kit) {
     ["lui a0, %hi(x)\naddi a0, a0, %lo(x)\nx = 0x1800", "3725000013050580"],
     [".byte 1, 'a', -1; .half 258", "0161ff0201"],
     [".word 1\n.align 3\n.word 2", "010000001300000002000000"],
+    [".word 1\n.align 3, , 4\n.word 2", "010000001300000002000000"],
+    [".word 1\n.align 3, , 3\n.word 2", "0100000002000000"],
     ['.ascii "a\\n\\x41\\101"', "610a4141"], ['.asciz "é"', "c3a900"], [".space 3, 7", "070707"],
     [".data\nx: .word 9\n.text\nla a0, x", "170500001305850009000000"],
     ['.data\n.byte 1\n.section own,"aw"\n.byte 2', "0102"],
@@ -158,6 +160,7 @@ function known(report, page, kit) {
     .call({ mistakes: [{ line, column }] }, text, page.lineStartsOf(text))[0]);
   report.cases("the nearest word", [
     ["adi", "addi"], ["loop1", "loop"], ["x", undefined], ["zzzz", undefined],
+    ["lxyp", undefined], ["lxoyp", "loop"],
   ], (word) => page.nearestOf(word, ["addi", "andi", "loop", "y"]));
 }
 

@@ -165,6 +165,11 @@ function frames(report, page, kit) {
     [w.jalr(0, 5, 0), "return"], [w.jalr(0, 6, 0), ""], [w.jalr(1, 1, 0), "call"],
     [w.addi(1, 1, 0), ""], [w.b(0, 1, 1, 8), ""],
   ], page.kindOfJump);
+  const last = machineWith(page, kit, [...Array(16383).fill(w.ebreak), call(-65532)], 0xffff0000);
+  kit.pc = 0xfffffffc;
+  last.step();
+  report.same("a call by the last word", [0xfffffffc, 0], [page.framesOf(last)[0]]
+    .flatMap(({ from, back }) => [from, back]));
   const deep = machineWith(page, kit, [call(0)]);
   for (let made = 0; made < 1500; made++) deep.step();
   report.same("a recursion without end", 1000, page.framesOf(deep).length);

@@ -21,24 +21,25 @@ const HEADERS = 0x74;
 const DATA_AT = HEADERS + 4 * CODE.length;
 const SYMBOLS_AT = DATA_AT + 4;
 const NAMES_AT = SYMBOLS_AT + 16 * SYMBOLS.length;
-const SECTIONS_AT = (NAMES_AT + NAMES.length + 3) & ~3;
 
 /* An executable, lowest byte first: a segment with the headers and the code, one with a word and
- * zeros, and symbols. `changes` has bytes by their offsets. */
-function executable(changes = {}) {
-  const bytes = new Uint8Array(SECTIONS_AT + 3 * 40);
+ * zeros, and symbols. `changes` has bytes by their offsets, and `last` the name of the last symbol. */
+function executable(changes = {}, last = "odd-name") {
+  const names = NAMES.replace("odd-name", last);
+  const sectionsAt = (NAMES_AT + names.length + 3) & ~3;
+  const bytes = new Uint8Array(sectionsAt + 3 * 40);
   const view = new DataView(bytes.buffer);
   const put = (at, ...words) => words.forEach((word, i) => view.setUint32(at + 4 * i, word, true));
-  put(0, 0x464c457f, 0x00010101, 0, 0, 0x00f30002, 1, 0x10074, 52, SECTIONS_AT, 0, 0x00200034,
+  put(0, 0x464c457f, 0x00010101, 0, 0, 0x00f30002, 1, 0x10074, 52, sectionsAt, 0, 0x00200034,
     0x00280002, 3);
   put(52, 1, 0, 0x10000, 0, DATA_AT, DATA_AT, 5, 4096);
   put(84, 1, DATA_AT, 0x11000, 0, 4, 0x100, 6, 4096);
   put(HEADERS, ...CODE, 30);
   SYMBOLS.forEach(([name, value, size, info], i) =>
     put(SYMBOLS_AT + 16 * i, nameAt(name), value, size, info | (i === 0 ? 0 : 0x10000)));
-  bytes.set(new TextEncoder().encode(NAMES), NAMES_AT);
-  put(SECTIONS_AT + 40, 0, 2, 0, 0, SYMBOLS_AT, 16 * SYMBOLS.length, 2, 1, 4, 16);
-  put(SECTIONS_AT + 80, 0, 3, 0, 0, NAMES_AT, NAMES.length, 0, 0, 1, 0);
+  bytes.set(new TextEncoder().encode(names), NAMES_AT);
+  put(sectionsAt + 40, 0, 2, 0, 0, SYMBOLS_AT, 16 * SYMBOLS.length, 2, 1, 4, 16);
+  put(sectionsAt + 80, 0, 3, 0, 0, NAMES_AT, names.length, 0, 0, 1, 0);
   for (const [at, byte] of Object.entries(changes)) bytes[at] = byte;
   return bytes;
 }
@@ -78,6 +79,11 @@ async function programs(report, page, kit) {
   const named = await opened(page, kit, executable({ [NAMES_AT + 1]: 0x61 }));
   report.same("the label of the entry under another name", true,
     named.text.includes("_start:\nastart:\n0x00012503\n"));
+  for (const length of [255, 256]) {
+    const name = "n".repeat(length);
+    const { text: other } = await opened(page, kit, executable({}, name));
+    report.same(`a name of ${length} letters`, length < 256, other.includes(`${name}:\n`));
+  }
 }
 
 async function refused(report, page, kit) {

@@ -130,6 +130,9 @@ function convention(report, page, kit) {
     ["li t1, 1\nli s1, 3\n2: jal 1f\nmv a0, t1\naddi s1, s1, -1\nbnez s1, 2b\nebreak\n1: ret",
       ["t1 is read at 0x0000000c, and the call of 0x0000001c before may have changed it. (3 "
         + "times)"]],
+    ["li t1, 1\nli s1, 2\n2: jal 1f\nmv a0, t1\naddi s1, s1, -1\nbnez s1, 2b\nebreak\n1: ret",
+      ["t1 is read at 0x0000000c, and the call of 0x0000001c before may have changed it. (2 "
+        + "times)"]],
     [f("mv s1, ra; jal 1f; mv ra, s1; ret; 1: ret"), ["f leaves s1 changed: it was 0x00000000, and "
       + "is 0x00000004 at the return."]],
     ["jal 1f\nebreak\n1: jal 2f\nbnez a0, 3f\nli a0, 1\nret\n3: ebreak\n2: ret", ["The return at "
