@@ -82,8 +82,8 @@ def built(room):
 
 # The calls of calls.c, and how many steps each makes. Between two numbers of steps the difference
 # of the counts is taken.
-CALLS = [("step", 1), ("run", LIMIT), ("run", 100), ("run_cached", LIMIT), ("run_cached", 1000),
-         ("run_cached", 100), ("run_cached", 10), ("run_until", LIMIT),
+CALLS = [("step", 1), ("run", LIMIT), ("run", 5000), ("run", 100), ("run_cached", LIMIT),
+         ("run_cached", 1000), ("run_cached", 100), ("run_cached", 10), ("run_until", LIMIT),
          ("run_until_cached", LIMIT), ("run_until_cached", 100)]
 
 
@@ -102,7 +102,7 @@ def calls(files, room):
             taken = [instructions([binary], file, n, call, str(piece)) for n in (300_000, 500_000)]
             (low, few), (high, many) = taken
             row.append(f"{(high - low) / (many - few):.1f}")
-        of = "in one call" if piece == LIMIT else f"in calls of {piece}"
+        of = "in one call" if piece == LIMIT else f"in calls of {piece:,}"
         print(f"| `rrs_{call}` {of} |", " | ".join(row), "|", flush=True)
 
 
