@@ -333,10 +333,17 @@ pub extern "C" fn rrs_undo(hart: &mut RrsHart, words: &mut [u32], base: u32, cha
     ensures last { hart.new.last < 32 }
     ensures entry_zero { slice_index hart.new.x 0 ≡ slice_index hart.old.x 0 }
 {
-    let mut state = opened(hart);
+    let last = last_of(hart);
     let mut memory = SliceMemory { words, base };
-    undo_lent(&mut memory, &mut state, &change_from(change));
-    close(&state, hart);
+    let (pc, before) = undo_lent(
+        &mut memory,
+        &mut hart.x,
+        hart.pc,
+        last,
+        &change_from(change),
+    );
+    hart.pc = pc;
+    hart.last = number_of(before);
 }
 
 /// Makes the CSRs those of a hart at reset.

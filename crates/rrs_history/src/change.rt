@@ -156,6 +156,40 @@ fn put_bytes<M: Memory>(mem: &mut M, change: &Change)
     }
 }
 
+/// Takes a change back in a hart whose registers, pc and last written register are handed in apart,
+/// and tells what its pc and its last written register are then: [undo] for a hart that is kept in
+/// another layout.
+#[inline(always)]
+pub fn undo_parts<M: Memory>(
+    mem: &mut M,
+    registers: &mut [u32; 32],
+    pc: u32,
+    last: Option<usize>,
+    change: &Change,
+) -> (u32, Option<usize>)
+    ensures back { state_of (hart_of registers.new result.0 result.1)
+        (M.bytes mem.new) (M.writable mem.new)
+        ≡ undone change.now
+        (state_of (hart_of registers.old pc last) (M.bytes mem.old) (M.writable mem.old)) }
+    ensures entry_zero { slice_index registers.new 0 ≡ slice_index registers.old 0 }
+    ensures layout_kept { M.layout mem.new ≡ M.layout mem.old }
+    ensures makes { Makes M.reads M.writes (accesses_back change.now
+        (state_of (hart_of registers.old pc last) (M.bytes mem.old) (M.writable mem.old)))
+        mem.old mem.new }
+{
+    put_bytes(mem, change);
+    put_register(registers, change.register, change.value);
+    if !change.starts {
+        return (pc, last);
+    }
+    let last_before = if change.had_last {
+        Some(change.last)
+    } else {
+        None
+    };
+    (change.pc, last_before)
+}
+
 /// Takes a change back.
 ///
 /// The register and the bytes of the change are what they were before it, and where a step begins
@@ -172,15 +206,9 @@ pub fn undo<M: Memory>(executor: &mut InstructionExecutor<M>, change: &Change)
         (accesses_back change.now (state_in M.bytes M.writable executor.old))
         executor.old.mem.now executor.new.mem.now }
 {
-    put_bytes(executor.mem, change);
     let hart = &mut *executor.hart_state;
-    put_register(&mut hart.registers, change.register, change.value);
-    if change.starts {
-        hart.pc = change.pc;
-        hart.last_register_write = if change.had_last {
-            Some(change.last)
-        } else {
-            None
-        };
-    }
+    let last = hart.last_register_write;
+    let (pc, before) = undo_parts(executor.mem, &mut hart.registers, hart.pc, last, change);
+    hart.pc = pc;
+    hart.last_register_write = before;
 }

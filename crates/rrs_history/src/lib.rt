@@ -22,5 +22,5 @@ mod recorder;
 
 pub use ahead::look_ahead;
 pub use calls::{RecordedMemory, step_served};
-pub use change::{Change, step_noted, step_noted_parts, undo};
+pub use change::{Change, step_noted, step_noted_parts, undo, undo_parts};
 pub use history::{History, step_back, step_recorded};

@@ -17,12 +17,12 @@ stays accesses old new made = still_lent (λ others. others ≡ accesses) old ne
 
 pub returns-clause-lent : goal.returns-clause-lent
 returns-clause-lent c =
-    let kept = stays _ _ _ c.undo.ensures.makes in
+    let kept = stays _ _ _ c.undo_parts.ensures.makes in
     search rules
 
 pub returns-clause-last : goal.returns-clause-last
 returns-clause-last c =
-    let same = ap (λ (s : State). s.last) c.undo.ensures.back in
+    let same = ap (λ (s : State). s.last) c.undo_parts.ensures.back in
     let starts = c.requires.starts in
     let last = c.requires.last in
     search rules
