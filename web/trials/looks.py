@@ -278,7 +278,7 @@ WANTED_MARKS = {
     "dot": ["1", "50%", True, True], "noDot": "0", "pc": True, "edge": "4px", "selected": True,
     "last": True, "bold": "700", "changed": True, "target": True,
     "output": ["pre-wrap", "anywhere"], "letters": "pre", "code": True, "disabled": True,
-    "sticky": "sticky",
+    "sticky": "sticky", "instruction": True,
 }
 
 ALL_IN_PLACE = {"cut": [], "controls": [], "overlaps": [], "isWide": False}
@@ -358,16 +358,17 @@ def one_screen(machine):
 
 
 def nothing_moves(machine):
-    """a sentence, however long, moves nothing"""
+    """a sentence, however long, moves nothing, and can be scrolled to its end"""
     page = machine.page
     for width in (1360, 768, 360):
         page.resize(width, 900)
-        tops = set()
+        tops, cut = set(), set()
         for example in ("three", "fetch", "misaligned", "ecall"):
             machine.choose(example)
             machine.run()
             tops.add(page.ask("document.querySelector('main').offsetTop"))
-        same(f"the place of the panels at {width}", 1, len(tops))
+            cut.update(page.ask(f"{SEEN}.cutBelow()"))
+        same(f"the places of the panels, and what is cut off, at {width}", [1, set()], [len(tops), cut])
     page.resize(*SIZE)
 
 

@@ -141,6 +141,7 @@
         of(selector).fontFamily.includes("monospace")),
       disabled: of("[data-action=pause]").opacity < 0.6,
       sticky: of(".controls").position,
+      instruction: box(document.querySelector(".line.pc .instruction")).width > 60,
     };
   }
 
@@ -195,6 +196,14 @@
   function boxes() {
     const isWide = document.documentElement.scrollWidth > innerWidth;
     return { cut: cutTexts(), controls: badControls(), overlaps: overlaps(), isWide };
+  }
+
+  /* What is higher than its box, where nothing scrolls to the rest. */
+  function cutBelow() {
+    return all("body *").filter((element) => element.clientHeight > 1
+      && element.scrollHeight > element.clientHeight + 1
+      && ["hidden", "clip"].includes(style(element).overflowY))
+      .map((element) => element.id || element.className || element.tagName);
   }
 
   /* What of the listing's pc, the registers and the memory at sp does not lie in the window. */
@@ -285,5 +294,5 @@
           .map((name) => `${name}=${field[name]}`)].join(" "))];
   }
 
-  return { boxes, colours, contrasts, fields, looks, marks, notInView, storedMark };
+  return { boxes, colours, contrasts, cutBelow, fields, looks, marks, notInView, storedMark };
 })()

@@ -35,8 +35,8 @@ IN_BROWSER = [
     (actions.by_each_way, "page.js", '"click", () => this.act(', '"click", () => void ('),
     (looks.theme, "style.css", "--back: light-dark(#eef1f5,", "--back: light-dark(#eef1f6,"),
     (looks.contrast, "style.css", ".state.wait {", ".state.waits {"),
-    # a contrast of 4.2
-    (low_contrast, "style.css", "--soft: light-dark(#566273,", "--soft: light-dark(#667385,"),
+    # a contrast of 4.3
+    (low_contrast, "style.css", "--soft: light-dark(#566273,", "--soft: light-dark(#5f6c7d,"),
     (looks.focus, "style.css", "outline: 2px solid var(--accent)", "outline: none"),
     (teaching.while_one_types, "editor.js", "column - 1, Math.max(", "column, Math.max("),
     (policy.policy, "index.html", "default-src 'none'", "default-src 'self'"),
