@@ -1,6 +1,7 @@
 -- The lines of a source, and of which of them each line of a result is.
-use Rattle.std.specs.Prelude.{◌≡◌, ℕ, ◌+◌, ◌-◌, ◌<◌, ◌≤◌, Bool, ◌==◌, List, length, get_or, count_by, All}
+use Rattle.std.specs.Prelude.{◌≡◌, ℕ, ◌+◌, ◌-◌, ◌<◌, ◌≤◌, Bool, ◌==◌, if◌then◌else◌, List, [], ◌∷◌, ◌++◌, length, get_or, count_by, All}
 use Rattle.std.specs.List.{slice_split}
+use Rattle.rrs_macros.specs.Directives.{has_directives}
 use Rattle.rrs_macros.specs.declared.output.Expanded.{Expanded}
 
 abbrev pub is_line_feed : ℕ → Bool
@@ -24,6 +25,22 @@ pub record IsSame (source : List ℕ) (expanded : Expanded) : Type 0 where
   pub text : expanded.text.items ≡ source
   pub count : length expanded.lines.items ≡ length (lines source)
   pub each : (k : ℕ) → k < length (lines source) → get_or expanded.lines.items k 0 ≡ k + 1
+
+-- the lines above the first one with a directive
+abbrev pub lines_above : List (List ℕ) → List (List ℕ)
+lines_above [] = []
+lines_above (line ∷ others) = if has_directives line then [] else line ∷ lines_above others
+
+-- lines, the first of which are these
+abbrev pub BeginWith : List (List ℕ) → List (List ℕ) → Type 0
+BeginWith first all = (others : List (List ℕ)) × (all ≡ first ++ others)
+
+-- The lines above the first one with a directive stand at the head of the result, each as it is, and
+-- of itself.
+pub record KeepsAbove (source : List ℕ) (expanded : Expanded) : Type 0 where
+  pub head : BeginWith (lines_above (lines source)) (lines expanded.text.items)
+  pub numbered : (k : ℕ) → k < length (lines_above (lines source))
+      → get_or expanded.lines.items k 0 ≡ k + 1
 
 -- What is made so far: a line feed stands between two lines, and each is of one of so many lines.
 pub record IsMade (total : ℕ) (expanded : Expanded) : Type 0 where

@@ -3,11 +3,12 @@
 ghost use Rattle.std.specs.Prelude.{◌≡◌, ℕ, ◌≤◌, false, true, length, IfOk, OnOk, IfErr};
 ghost use Rattle.std.specs.List.{list_any};
 ghost use Rattle.rrs_macros.specs.Directives.{begins_one, has_directives};
-ghost use Rattle.rrs_macros.specs.Lines.{IsMade, IsMapped, IsSame, lines};
+ghost use Rattle.rrs_macros.specs.Lines.{IsMade, IsMapped, IsSame, KeepsAbove, lines};
 
 use crate::blocks::height;
 use crate::errors::{Halt, MacroError, MacroErrorKind, MacroFault, Slip};
 use crate::frames::{Frame, Origin};
+use crate::keeping::keeps_above;
 use crate::output::{Expanded, unchanged};
 use crate::performing::{Span, Turn, read_step};
 use crate::scanning::begins_directive;
@@ -158,6 +159,7 @@ pub fn expand(alloc: Global, source: &[u8]) -> Result<Expanded, MacroFault>
     ensures gone { has_directives source.now ≡ true → IfOk result (λ expanded.
         list_any begins_one (lines expanded.text.items) ≡ false) }
     ensures mapped { IfOk result (IsMapped source.now) }
+    ensures above { has_directives source.now ≡ true → IfOk result (KeepsAbove source.now) }
 {
     if has_directives(source) {
         expanded(alloc, source)
@@ -174,6 +176,7 @@ fn expanded(alloc: Global, source: &[u8]) -> Result<Expanded, MacroFault>
     ensures gone { IfOk result (λ expanded.
         list_any begins_one (lines expanded.text.items) ≡ false) }
     ensures mapped { IfOk result (IsMapped source.now) }
+    ensures above { IfOk result (KeepsAbove source.now) }
 {
     let total = height(source);
     let mut out = Expanded::new(alloc);
@@ -200,12 +203,14 @@ fn expanded(alloc: Global, source: &[u8]) -> Result<Expanded, MacroFault>
     }
     match completed(out, total) {
         Ok(whole) if begins_directive(&whole.text) => Err(left_over(alloc)?),
-        Ok(whole) => Ok(whole),
+        Ok(whole) if keeps_above(source, &whole) => Ok(whole),
+        Ok(_) => Err(left_over(alloc)?),
         Err(_) => Err(MacroFault::OutOfMemory),
     }
 }
 
-/// That a directive is left in a result. No source is known of which that is so.
+/// That a directive is left in a result, or that it lacks what stands above the directives. No source is
+/// known of which that is so.
 fn left_over(alloc: Global) -> Result<MacroFault, AllocError> {
     let mut mistakes = Vec::new(alloc);
     mistakes.push(MacroError {

@@ -14,6 +14,7 @@ mod directives;
 mod errors;
 mod expanding;
 mod frames;
+mod keeping;
 mod operators;
 mod output;
 mod performing;
