@@ -1,10 +1,9 @@
 -- Steps of a board under gdb, one after another.
-use Rattle.std.proofs.Common.{◌≡◌, ℕ, zero, suc, ◌+◌, ◌≤◌, List, ◌++◌, Contains, Option, None, refl, sym, subst, ap, ◌∙◌, arith, append-nil, append_assoc, inl}
-use Rattle.rrs_board.specs.declared.board.Board.{Board}
+use Rattle.std.proofs.Common.{◌≡◌, ℕ, zero, suc, ◌+◌, ◌≤◌, List, ◌++◌, Contains, Option, None, refl, sym, subst, ap, ◌∙◌, arith, append-nil, append_assoc}
 use Rattle.rrs_board.specs.declared.effects.BoardEvent.{BoardEvent}
 use Rattle.rrs_board_gdb.specs.declared.going.GoReason.{GoReason}
 use Rattle.rrs_board_gdb.specs.declared.going.GoReason.TheVariants as Reason
-use Rattle.rrs_board_gdb.specs.Going.{Debugged, with_left, printed_by, ending, ServedStep, PassingSteps, EndsBy, GoesTo, GoesOnOrStays}
+use Rattle.rrs_board_gdb.specs.Going.{Debugged, printed_by, ending, ServedStep, PassingSteps, EndsBy, GoesTo}
 
 -- a step that leads to an end, after some that do not
 pub ends_at : (stops : List ℕ) (limit n steps : ℕ) (d m t : Debugged) (before printed : List ℕ)
@@ -176,19 +175,3 @@ pub leg_leads : (stops : List ℕ) (limit a b leg : ℕ) (d m t : Debugged) (fir
     → (r : List ℕ) × GoesTo stops limit d (a + b) reason r t
 leg_leads stops limit a b leg d m t first mid reason other within (p, passed) (q, out, goes) =
     (p ++ q, leg_ends stops limit a b leg d m t p q reason other within passed goes)
-
--- ---- boards that are the same
-
-pub goes_same : (stops : List ℕ) (limit : ℕ) (input : List ℕ) (b b' : Board) (t : Debugged) → b' ≡ b
-    → GoesOnOrStays stops limit (with_left b' input) t → GoesOnOrStays stops limit (with_left b input) t
-goes_same stops limit input b b' t same goes =
-    subst (λ (x : Board). GoesOnOrStays stops limit (with_left x input) t) same goes
-
-pub some_same : (stops : List ℕ) (input : List ℕ) (b b' : Board) (t : Debugged) → b' ≡ b
-    → ((limit : ℕ) × GoesOnOrStays stops limit (with_left b' input) t)
-    → (limit : ℕ) × GoesOnOrStays stops limit (with_left b input) t
-some_same stops input b b' t same (limit, goes) = (limit, goes_same stops limit input b b' t same goes)
-
-pub stays : (stops : List ℕ) (limit : ℕ) (input : List ℕ) (b b' : Board) → b' ≡ b
-    → GoesOnOrStays stops limit (with_left b input) (with_left b' input)
-stays stops limit input b b' same = inl (ap (λ (x : Board). with_left x input) same)

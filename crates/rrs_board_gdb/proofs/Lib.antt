@@ -1,3 +1,4 @@
 -- Lemmas of this crate.
 pub mod GoingLemmas
-pub mod ShownLemmas
+pub mod RamLemmas
+pub mod SessionLemmas

@@ -1,7 +1,7 @@
 -- How a board goes on under gdb (gdb's manual, "Remote Serial Protocol", "Packets": c, s, Z): by the
 -- board's own steps, so that traps and interrupts are taken, up to a breakpoint. What a step tells is
 -- served: what the UART transmits is printed, and what it wants is handed in.
-use Rattle.std.specs.Prelude.{◌≡◌, ◌⊎◌, ℕ, zero, suc, ◌≤◌, List, [], ◌∷◌, ◌++◌, Contains, Option, Some, None}
+use Rattle.std.specs.Prelude.{◌≡◌, ℕ, zero, suc, ◌≤◌, List, [], ◌∷◌, ◌++◌, Contains, Option, Some, None}
 use Rattle.rrs_privileged.specs.declared.machine.MachineAnswer.{MachineAnswer}
 use Rattle.rrs_board.specs.declared.board.Board.{Board}
 use Rattle.rrs_board.specs.declared.effects.BoardEvent.{BoardEvent}
@@ -87,9 +87,3 @@ abbrev pub GoesTo : List ℕ → ℕ → Debugged → ℕ → GoReason → List 
 GoesTo stops limit d steps Reason.Limit printed t =
     (steps ≡ limit) × PassingSteps stops steps d printed t
 GoesTo stops limit d steps reason printed t = EndsAtLast stops limit d steps reason printed t
-
--- A board that is asked to go on does so, or nothing changes, as where its program ended before.
-abbrev pub GoesOnOrStays : List ℕ → ℕ → Debugged → Debugged → Type 0
-GoesOnOrStays stops limit d t =
-    (t ≡ d) ⊎ ((steps : ℕ) × (reason : GoReason) × (printed : List ℕ)
-    × GoesTo stops limit d steps reason printed t)

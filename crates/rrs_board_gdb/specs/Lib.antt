@@ -1,5 +1,6 @@
--- How a board goes on under gdb, and what is shown and changed of it.
+-- How a board goes on under gdb, what is shown and changed of it, and what packets mean for it.
 -- Definitions that contracts here cite are passed on.
 pub use Rattle.rrs_memory.specs.Loading
 pub mod Going
 pub mod Shown
+pub mod Sessions

@@ -1,15 +1,15 @@
 -- How gdb is shown a board (gdb's manual, "RISC-V Features": org.gnu.gdb.riscv.csr, and "Remote Serial
 -- Protocol", "Packets": p, P, m, M, X), and what it can change. The registers are x0 to x31, the pc,
 -- and, from 65 on, the CSRs by their numbers. Of memory RAM is shown, and no device.
-use Rattle.std.specs.Prelude.{◌≡◌, ◌⊎◌, ℕ, ◌-◌, ◌==◌, nat_lt, Bool, if◌then◌else◌, slice_set, Option, Some, None}
+use Rattle.std.specs.Prelude.{◌≡◌, ℕ, ◌-◌, ◌^◌, ◌==◌, ◌&&◌, nat_le, nat_lt, Bool, false, if◌then◌else◌, slice_set, Option, Some, None}
 use Rattle.rrs_lib.specs.declared.HartState.{HartState}
-use Rattle.rrs_lib.specs.Machine.{state_of}
+use Rattle.rrs_lib.specs.Machine.{State, state_of}
 use Rattle.rrs_memory.specs.Bytes.{ByteMap}
 use Rattle.rrs_memory.specs.VecBytes.{vec_bytes, vec_writable}
 use Rattle.rrs_privileged.specs.declared.csrs.Csr.{Csr}
 use Rattle.rrs_privileged.specs.Csrs.{csr_at, is_read_only, csr_value, csr_written}
 use Rattle.rrs_board.specs.declared.board.Board.{Board}
-use Rattle.rrs_board.specs.Registers.{board_bytes, board_writable}
+use Rattle.rrs_board.specs.Registers.{board_bytes, board_writable, ram_start}
 use Rattle.rrs_board.specs.Effects.{inputs_of}
 use Rattle.rrs_gdb.specs.Shown.{register}
 
@@ -46,11 +46,6 @@ with_register b n value =
     else (if nat_lt n 33 then Some (record b { hart = hart_changed b.hart n value })
     else (if nat_lt n 65 then None else csr_changed (n - 65) (csr_at (n - 65)) value b))
 
--- one register is changed, or none is
-abbrev pub RegisterChanged : Board → Board → Type 0
-RegisterChanged old new =
-    (new ≡ old) ⊎ ((number : ℕ) × (value : ℕ) × (with_register old number value ≡ Some new))
-
 -- ---- RAM
 
 -- each byte of RAM by its distance from where RAM begins
@@ -71,3 +66,19 @@ pub record SameButRam (old new : Board) : Type 0 where
 pub record SameBoard (old new : Board) : Type 0 where
   pub rest_kept : SameButRam old new
   pub bytes_kept : ram_bytes new ≡ ram_bytes old
+
+-- ---- RAM by its addresses
+
+-- from where RAM begins up to the last address
+abbrev pub is_place : ℕ → Bool
+is_place a = nat_le ram_start a && nat_lt a (2 ^ 32)
+
+abbrev pub byte_at : Board → ByteMap
+byte_at b a = if is_place a then ram_bytes b (a - ram_start) else None
+
+abbrev pub is_writable_at : Board → ℕ → Bool
+is_writable_at b a = if is_place a then ram_writable b (a - ram_start) else false
+
+-- the hart, with RAM as its memory and nothing else
+abbrev pub ram_state : Board → State
+ram_state b = state_of b.hart (byte_at b) (is_writable_at b)

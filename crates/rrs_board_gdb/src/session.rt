@@ -1,15 +1,20 @@
 //! The packets of a session, and their answers.
 
-ghost use Rattle.std.specs.Prelude.{◌≡◌, ◌≢◌, ◌⊎◌, ℕ, ◌≤◌, true, false, IfOk, IfSome, OnOk, length, slice_index};
+ghost use Rattle.std.specs.Prelude.{◌≡◌, ◌≢◌, ◌⊎◌, ◌++◌, ℕ, ◌≤◌, Bool, true, false, List, Ok, IfSome, MatchOption, OnOk, codes, drop, length, slice_index};
 ghost use Rattle.std.specs.Bool.{OnTrue, OnFalse};
-ghost use Rattle.rrs_gdb.specs.Sessions.{letter, BreaksNone, ChangesMemory, ChangesNone, IsError, RunsNone};
-ghost use Rattle.rrs_board_gdb.specs.Going.{debugged, GoesOnOrStays};
-ghost use Rattle.rrs_board_gdb.specs.Shown.{RegisterChanged, SameBoard, SameButRam};
+ghost use Rattle.hex.specs.Hex.{decode_of};
+ghost use Rattle.rrs_gdb.specs.Packets.{before, behind};
+ghost use Rattle.rrs_gdb.specs.Shown.{text_of};
+ghost use Rattle.rrs_gdb.specs.Sessions.{letter, BreaksNone, ChangesMemory, ChangesNone, IsError, RunsNone, SetsBytes, SetsMemory, ShowsBytes, ShowsMemory};
+ghost use Rattle.rrs_board_gdb.specs.Going.{debugged};
+ghost use Rattle.rrs_board_gdb.specs.Shown.{SameBoard, SameButRam, byte_at, ram_state, with_register};
+ghost use Rattle.rrs_board_gdb.specs.Sessions.{Changes, GoesBy, GoesFrom, IsContinue, IsGoing, IsStep, SetsRegister, ShowsRegister, stop_of, stop_text};
 
 use crate::going::{DebuggedBoard, GoReason};
 use crate::ram::{change_ram, show_ram};
 use crate::registers::{change_register, show_register};
 use crate::target::push_target;
+use hex::FromHexError;
 use rrs_board::Board;
 use rrs_gdb::{
     BAD_ADDRESS, Breaks, INVALID, Link, LinkError, NO_MEMORY, Next, Received, address_and_length,
@@ -68,7 +73,7 @@ impl<'a> BoardSession<'a> {
 
 /// Appends where a program stopped, as gdb is told.
 fn push_stop(reply: &mut Vec<u8>, stop: BoardStop) -> Result<(), AllocError>
-    ensures { OnOk result (IsError reply.old.items reply.new.items → ⊥) }
+    ensures { OnOk result (reply.new.items ≡ reply.old.items ++ stop_text stop) }
 {
     let (letter, code) = match stop {
         BoardStop::Signal(signal) => (b'S', signal),
@@ -78,27 +83,76 @@ fn push_stop(reply: &mut Vec<u8>, stop: BoardStop) -> Result<(), AllocError>
     push_hex(reply, code)
 }
 
-/// `p`: shows a register.
-fn show(board: &Board, reply: &mut Vec<u8>, number: &[u8]) -> Result<(), AllocError> {
-    let is_there = match number_of(number) {
-        Some(number) => show_register(board, number, reply)?,
-        None => false,
-    };
-    if !is_there {
-        push_text(reply, INVALID)?;
-    }
-    Ok(())
+/// Appends that a packet can't be understood, or names nothing that is there.
+fn push_invalid(reply: &mut Vec<u8>) -> Result<(), AllocError>
+    ensures { OnOk result (IsError reply.old.items reply.new.items) }
+{
+    push_text(reply, INVALID)
 }
 
-/// `P`: changes a register.
+/// `p`: shows a register.
+fn show(board: &Board, reply: &mut Vec<u8>, digits: &[u8]) -> Result<(), AllocError>
+    ensures { OnOk result (ShowsRegister digits.now board.now reply.old.items reply.new.items) }
+{
+    let Some(number) = number_of(digits) else {
+        return push_invalid(reply);
+    };
+    if show_register(board, number, reply)? {
+        return Ok(());
+    }
+    push_invalid(reply)
+}
+
+/// `P`: changes a register, and tells whether it is changed.
 fn change(board: &mut Board, text: &[u8]) -> bool
-    ensures changed { RegisterChanged board.old board.new }
-    ensures none { OnFalse result (board.new ≡ board.old) }
+    ensures changed { OnTrue result (Changes text.now board.old board.new) }
+    ensures kept { OnFalse result (board.new ≡ board.old) }
+    ensures refused { OnFalse result ((changed : Board) → ¬ Changes text.now board.old changed) }
 {
     match register_and_value(text) {
         Some((number, value)) => change_register(board, number, value),
         None => false,
     }
+}
+
+/// `P`.
+fn set(board: &mut Board, reply: &mut Vec<u8>, text: &[u8]) -> Result<(), AllocError>
+    ensures set { OnOk result (SetsRegister text.now board.old board.new
+        reply.old.items reply.new.items) }
+    ensures error { OnOk result (IsError reply.old.items reply.new.items
+        → SameBoard board.old board.new) }
+{
+    let is_changed = change(board, text);
+    push_done(reply, is_changed, INVALID)
+}
+
+/// Appends bytes as digits.
+fn push_bytes(reply: &mut Vec<u8>, bytes: &[u8]) -> Result<(), AllocError>
+    ensures { OnOk result (reply.new.items ≡ reply.old.items ++ text_of bytes.now) }
+{
+    for byte in bytes {
+        push_hex(reply, *byte)?;
+    }
+    Ok(())
+}
+
+/// Shows so many bytes of RAM from an address on.
+fn show_bytes(
+    alloc: Global,
+    board: &mut Board,
+    reply: &mut Vec<u8>,
+    address: u32,
+    count: u32,
+) -> Result<(), AllocError>
+    ensures kept { SameBoard board.old board.new }
+    ensures shown { OnOk result (ShowsBytes (byte_at board.old) address count
+        reply.old.items reply.new.items) }
+{
+    let bytes = show_ram(alloc, board, address, count.min(0x1ff0))?;
+    if bytes.is_empty() && count > 0 {
+        return push_text(reply, BAD_ADDRESS);
+    }
+    push_bytes(reply, &bytes)
 }
 
 /// `m`: shows RAM.
@@ -108,19 +162,14 @@ fn show_memory(
     reply: &mut Vec<u8>,
     place: &[u8],
 ) -> Result<(), AllocError>
-    ensures { SameBoard board.old board.new }
+    ensures kept { SameBoard board.old board.new }
+    ensures shown { OnOk result (ShowsMemory place.now (ram_state board.old)
+        reply.old.items reply.new.items) }
 {
-    let Some((address, length)) = address_and_length(place) else {
-        return push_text(reply, INVALID);
-    };
-    let bytes = show_ram(alloc, board, address, length.min(0x1ff0))?;
-    if bytes.is_empty() && length > 0 {
-        return push_text(reply, BAD_ADDRESS);
+    match address_and_length(place) {
+        Some((address, length)) => show_bytes(alloc, board, reply, address, length),
+        None => push_invalid(reply),
     }
-    for byte in &bytes {
-        push_hex(reply, *byte)?;
-    }
-    Ok(())
 }
 
 /// `M`: changes RAM to bytes, of which there are to be so many.
@@ -128,15 +177,18 @@ fn change_memory(
     board: &mut Board,
     reply: &mut Vec<u8>,
     address: u32,
-    length: u32,
+    count: u32,
     bytes: &[u8],
 ) -> Result<(), AllocError>
     ensures rest { SameButRam board.old board.new }
     ensures error { OnOk result (IsError reply.old.items reply.new.items
         → SameBoard board.old board.new) }
+    ensures set { OnOk result (length bytes.now ≡ count → 1 ≤ length bytes.now
+        → SetsBytes address bytes.now (ram_state board.old) (ram_state board.new)
+        reply.old.items reply.new.items) }
 {
-    if bytes.len() != length as usize {
-        return push_text(reply, INVALID);
+    if bytes.len() != count as usize {
+        return push_invalid(reply);
     }
     if bytes.is_empty() {
         return push_text(reply, b"OK");
@@ -155,67 +207,73 @@ fn change_by_digits(
     ensures rest { SameButRam board.old board.new }
     ensures error { OnOk result (IsError reply.old.items reply.new.items
         → SameBoard board.old board.new) }
+    ensures set { OnOk result ((values : List ℕ) → decode_of (behind 58 text.now) ≡ Ok values
+        → SetsMemory values text.now (ram_state board.old) (ram_state board.new)
+        reply.old.items reply.new.items) }
 {
     let Some((address, length, digits)) = place_and_bytes(text) else {
-        return push_text(reply, INVALID);
+        push_invalid(reply)?;
+        return Ok(());
     };
     match hex::decode(alloc, digits) {
         Ok(bytes) => change_memory(board, reply, address, length, &bytes),
-        Err(_) => push_text(reply, INVALID),
+        Err(FromHexError::OutOfMemory) => Err(AllocError),
+        Err(_) => {
+            push_invalid(reply)?;
+            Ok(())
+        }
     }
 }
 
-/// Answers a packet that shows or changes the board, and tells whether it is one.
+/// Answers a packet that shows or changes the board.
 fn inspect(
     alloc: Global,
     board: &mut Board,
     reply: &mut Vec<u8>,
     payload: &[u8],
-) -> Result<bool, AllocError>
+) -> Result<(), AllocError>
     ensures asks { ChangesNone payload.now → SameBoard board.old board.new }
-    ensures register { letter payload.now ≡ 80 → RegisterChanged board.old board.new }
     ensures memory { ChangesMemory payload.now → SameButRam board.old board.new }
-    ensures step { (letter payload.now ≡ 115) ⊎ (letter payload.now ≡ 83)
-        → board.new ≡ board.old }
-    ensures goes_on { (letter payload.now ≡ 99) ⊎ (letter payload.now ≡ 67)
-        → board.new ≡ board.old }
-    ensures resumes { letter payload.now ≡ 118 → board.new ≡ board.old }
     ensures error { OnOk result (IsError reply.old.items reply.new.items
         → SameBoard board.old board.new) }
-    ensures other { IfOk result (λ is_answered. OnFalse is_answered
-        ((reply.new.items ≡ reply.old.items) × (board.new ≡ board.old))) }
+    ensures p { letter payload.now ≡ 112 → OnOk result (ShowsRegister (drop 1 payload.now)
+        board.old reply.old.items reply.new.items) }
+    ensures set_p { letter payload.now ≡ 80 → OnOk result (SetsRegister (drop 1 payload.now)
+        board.old board.new reply.old.items reply.new.items) }
+    ensures m { letter payload.now ≡ 109 → OnOk result (ShowsMemory (drop 1 payload.now)
+        (ram_state board.old) reply.old.items reply.new.items) }
+    ensures set_m { letter payload.now ≡ 77 → OnOk result ((values : List ℕ)
+        → decode_of (behind 58 (drop 1 payload.now)) ≡ Ok values
+        → SetsMemory values (drop 1 payload.now) (ram_state board.old) (ram_state board.new)
+        reply.old.items reply.new.items) }
 {
     match payload {
-        [b'g'] => push_registers(&board.hart, reply)?,
-        [b'p', number @ ..] => show(board, reply, number)?,
-        [b'P', text @ ..] => {
-            let is_changed = change(board, text);
-            push_done(reply, is_changed, INVALID)?;
-        }
-        [b'm', place @ ..] => show_memory(alloc, board, reply, place)?,
-        [b'M', text @ ..] => change_by_digits(alloc, board, reply, text)?,
-        _ => return Ok(false),
+        [b'g'] => push_registers(&board.hart, reply),
+        [b'p', digits @ ..] => show(board, reply, digits),
+        [b'P', text @ ..] => set(board, reply, text),
+        [b'm', place @ ..] => show_memory(alloc, board, reply, place),
+        [b'M', text @ ..] => change_by_digits(alloc, board, reply, text),
+        _ => Ok(()),
     }
-    Ok(true)
 }
 
-/// The most steps by an action of `vCont`, or by a packet of its own: one, or those of a `continue`.
-/// There are no signals on a board, and one that it names is dropped.
-fn limit_of(action: &[u8], limit: u64) -> Option<u64>
-    ensures step { IfSome result (λ most.
-        (letter action.now ≡ 115) ⊎ (letter action.now ≡ 83) → most ≡ 1) }
-    ensures proceed { IfSome result (λ most.
-        (letter action.now ≡ 99) ⊎ (letter action.now ≡ 67) → most ≡ limit) }
+/// The most steps by an action of `vCont`, or by a packet of its own, and whether it is a step.
+fn limit_of(action: &[u8], limit: u64) -> Option<(u64, bool)>
+    ensures { MatchOption result (¬ (IsStep action.now ⊎ IsContinue action.now)) (λ going.
+        (IsStep action.now × (going.0 ≡ 1) × (going.1 ≡ true))
+        ⊎ (IsContinue action.now × (going.0 ≡ limit) × (going.1 ≡ false))) }
 {
     match action {
-        [b'c'] | [b'C', ..] => Some(limit),
-        [b's'] | [b'S', ..] => Some(1),
+        [b'c'] | [b'C', ..] => Some((limit, false)),
+        [b's'] | [b'S', ..] => Some((1, true)),
         _ => None,
     }
 }
 
 /// The stop of a board that went no further.
-fn stop_of(reason: GoReason, is_step: bool) -> BoardStop {
+fn stop_of(reason: GoReason, is_step: bool) -> BoardStop
+    ensures { result ≡ stop_of is_step reason }
+{
     match reason {
         GoReason::AtStop => BoardStop::Signal(TRAPPED),
         GoReason::Limit if is_step => BoardStop::Signal(TRAPPED),
@@ -225,7 +283,7 @@ fn stop_of(reason: GoReason, is_step: bool) -> BoardStop {
     }
 }
 
-/// Has the board go on by so many steps at most.
+/// Has the board go on by so many steps at most, if the program has not ended.
 fn go<R: Read, W: Write>(
     session: &mut BoardSession<'_>,
     link: &mut Link<R, W>,
@@ -234,17 +292,19 @@ fn go<R: Read, W: Write>(
 ) -> Result<(), LinkError>
     ensures breaks { session.new.breaks ≡ session.old.breaks }
     ensures limit { session.new.limit ≡ session.old.limit }
-    ensures goes { OnOk result (GoesOnOrStays session.old.breaks.stops.items limit
-        (debugged session.old.debugged) (debugged session.new.debugged)) }
+    ensures goes { OnOk result (GoesFrom session.old.stop is_step session.old.breaks.stops.items limit
+        (debugged session.old.debugged) (debugged session.new.debugged) session.new.stop) }
 {
-    if matches!(session.stop, BoardStop::Exited(_)) {
-        return Ok(());
+    match session.stop {
+        BoardStop::Exited(_) => Ok(()),
+        BoardStop::Signal(_) => {
+            let end = session
+                .debugged
+                .proceed(link, limit, &session.breaks.stops)?;
+            session.stop = stop_of(end.reason, is_step);
+            Ok(())
+        }
     }
-    let end = session
-        .debugged
-        .proceed(link, limit, &session.breaks.stops)?;
-    session.stop = stop_of(end.reason, is_step);
-    Ok(())
 }
 
 /// Has the board go on by an action, and appends where it stops.
@@ -253,25 +313,50 @@ fn go_on<R: Read, W: Write>(
     link: &mut Link<R, W>,
     reply: &mut Vec<u8>,
     action: &[u8],
-) -> Result<(), LinkError>
+) -> Result<Next, LinkError>
     ensures breaks { session.new.breaks ≡ session.old.breaks }
     ensures limit { session.new.limit ≡ session.old.limit }
-    ensures step { (letter action.now ≡ 115) ⊎ (letter action.now ≡ 83)
-        → OnOk result (GoesOnOrStays session.old.breaks.stops.items 1
-        (debugged session.old.debugged) (debugged session.new.debugged)) }
-    ensures goes_on { (letter action.now ≡ 99) ⊎ (letter action.now ≡ 67)
-        → OnOk result (GoesOnOrStays session.old.breaks.stops.items session.old.limit
-        (debugged session.old.debugged) (debugged session.new.debugged)) }
-    ensures some { OnOk result ((limit : ℕ) × GoesOnOrStays session.old.breaks.stops.items limit
-        (debugged session.old.debugged) (debugged session.new.debugged)) }
+    ensures goes { OnOk result (GoesBy action.now session.old session.new
+        reply.old.items reply.new.items) }
     ensures error { OnOk result (IsError reply.old.items reply.new.items
-        → session.new.debugged ≡ session.old.debugged) }
+        → SameBoard session.old.debugged.board session.new.debugged.board) }
 {
-    let Some(limit) = limit_of(action, session.limit) else {
-        return Ok(push_text(reply, INVALID)?);
+    let Some((limit, is_step)) = limit_of(action, session.limit) else {
+        push_invalid(reply)?;
+        return Ok(Next::Reply);
     };
-    go(session, link, limit, matches!(action, [b's' | b'S', ..]))?;
-    Ok(push_stop(reply, session.stop)?)
+    go(session, link, limit, is_step)?;
+    push_stop(reply, session.stop)?;
+    Ok(Next::Reply)
+}
+
+/// The actions of a `vCont`.
+fn actions_of(payload: &[u8]) -> Option<&[u8]>
+    ensures found { MatchOption result
+        ((actions : List ℕ) → payload.now ≢ codes "vCont;" ++ actions)
+        (λ actions. payload.now ≡ codes "vCont;" ++ actions.now) }
+    ensures letter { IfSome result (λ _. letter payload.now ≡ 118) }
+{
+    payload.strip_prefix(b"vCont;")
+}
+
+/// `vCont`: has the board go on by the first of the actions.
+fn resume<R: Read, W: Write>(
+    session: &mut BoardSession<'_>,
+    link: &mut Link<R, W>,
+    reply: &mut Vec<u8>,
+    actions: &[u8],
+) -> Result<Next, LinkError>
+    ensures breaks { session.new.breaks ≡ session.old.breaks }
+    ensures limit { session.new.limit ≡ session.old.limit }
+    ensures goes { OnOk result (GoesBy (before 58 (before 59 actions.now)) session.old session.new
+        reply.old.items reply.new.items) }
+    ensures error { OnOk result (IsError reply.old.items reply.new.items
+        → SameBoard session.old.debugged.board session.new.debugged.board) }
+{
+    let (action, _others) = cut_or_all(actions, b';');
+    let (action, _thread) = cut_or_all(action, b':');
+    go_on(session, link, reply, action)
 }
 
 /// The kind and the address of a breakpoint: behind `Z` or `z`.
@@ -329,6 +414,7 @@ fn manage<R, W>(
     payload: &[u8],
 ) -> Result<Next, AllocError>
     ensures board { session.new.debugged ≡ session.old.debugged }
+    ensures stop { session.new.stop ≡ session.old.stop }
     ensures limit { session.new.limit ≡ session.old.limit }
     ensures breaks { BreaksNone payload.now
         → session.new.breaks.stops.items ≡ session.old.breaks.stops.items }
@@ -356,10 +442,13 @@ fn manage<R, W>(
 
 /// Answers a packet: the answer is appended to `reply`, and output of the program goes to the link.
 ///
-/// Only `P` changes a register, one and exactly it (`register`), only `M` changes RAM
-/// (`memory`), and only `c`, `C`, `s`, `S` and `vCont` have the board go on, by its own steps up to a
-/// breakpoint (`step`, `goes_on`, `resumes`). Other packets leave the board (`asks`), and one that is
-/// answered by an error does (`error`). Breakpoints are changed by `Z` and `z` alone (`breaks`).
+/// `p` and `m` show the register, or the bytes of RAM, that they name (`shows_register`,
+/// `shows_memory`), and `P` and `M` change exactly these, or are answered by an error
+/// (`sets_register`, `sets_memory`). Only `c`, `C`, `s`, `S` and `vCont` have the board go on, by its
+/// own steps from where it is to the limit, to a breakpoint or to its end, and gdb is told to which
+/// (`goes`, `resumes`); where the program ended before, it stays. Other packets leave the board (`asks`),
+/// what its UART is to receive and where it stopped (`input`, `stop`), and one that is answered by an
+/// error does (`error`). Breakpoints are changed by `Z` and `z` alone (`breaks`).
 ///
 /// # Errors
 ///
@@ -372,36 +461,44 @@ pub fn answer_to<R: Read, W: Write>(
 ) -> Result<Next, LinkError>
     ensures asks { ChangesNone payload.now → RunsNone payload.now
         → SameBoard session.old.debugged.board session.new.debugged.board }
-    ensures register { letter payload.now ≡ 80
-        → RegisterChanged session.old.debugged.board session.new.debugged.board }
     ensures memory { ChangesMemory payload.now
         → SameButRam session.old.debugged.board session.new.debugged.board }
-    ensures step { (letter payload.now ≡ 115) ⊎ (letter payload.now ≡ 83)
-        → OnOk result (GoesOnOrStays session.old.breaks.stops.items 1
-        (debugged session.old.debugged) (debugged session.new.debugged)) }
-    ensures goes_on { (letter payload.now ≡ 99) ⊎ (letter payload.now ≡ 67)
-        → OnOk result (GoesOnOrStays session.old.breaks.stops.items session.old.limit
-        (debugged session.old.debugged) (debugged session.new.debugged)) }
-    ensures resumes { letter payload.now ≡ 118
-        → OnOk result ((limit : ℕ) × GoesOnOrStays session.old.breaks.stops.items limit
-        (debugged session.old.debugged) (debugged session.new.debugged)) }
+    ensures shows_register { letter payload.now ≡ 112 → OnOk result (ShowsRegister
+        (drop 1 payload.now) session.old.debugged.board reply.old.items reply.new.items) }
+    ensures sets_register { letter payload.now ≡ 80 → OnOk result (SetsRegister
+        (drop 1 payload.now) session.old.debugged.board session.new.debugged.board
+        reply.old.items reply.new.items) }
+    ensures shows_memory { letter payload.now ≡ 109 → OnOk result (ShowsMemory
+        (drop 1 payload.now) (ram_state session.old.debugged.board)
+        reply.old.items reply.new.items) }
+    ensures sets_memory { letter payload.now ≡ 77 → OnOk result ((values : List ℕ)
+        → decode_of (behind 58 (drop 1 payload.now)) ≡ Ok values
+        → SetsMemory values (drop 1 payload.now) (ram_state session.old.debugged.board)
+        (ram_state session.new.debugged.board) reply.old.items reply.new.items) }
+    ensures goes { IsGoing payload.now → OnOk result (GoesBy payload.now session.old session.new
+        reply.old.items reply.new.items) }
+    ensures resumes { (actions : List ℕ) → payload.now ≡ codes "vCont;" ++ actions
+        → OnOk result (GoesBy (before 58 (before 59 actions)) session.old session.new
+        reply.old.items reply.new.items) }
+    ensures stays { letter payload.now ≡ 118
+        → ((actions : List ℕ) → payload.now ≢ codes "vCont;" ++ actions)
+        → session.new.debugged ≡ session.old.debugged }
     ensures error { OnOk result (IsError reply.old.items reply.new.items
         → SameBoard session.old.debugged.board session.new.debugged.board) }
+    ensures input { RunsNone payload.now
+        → session.new.debugged.input ≡ session.old.debugged.input }
+    ensures stop { RunsNone payload.now → session.new.stop ≡ session.old.stop }
     ensures limit { session.new.limit ≡ session.old.limit }
     ensures breaks { BreaksNone payload.now
         → session.new.breaks.stops.items ≡ session.old.breaks.stops.items }
 {
-    if inspect(link.alloc, &mut session.debugged.board, reply, payload)? {
-        return Ok(Next::Reply);
+    if let Some(actions) = actions_of(payload) {
+        return resume(session, link, reply, actions);
     }
     match payload {
-        [b'c' | b'C' | b's' | b'S', ..] => {
-            go_on(session, link, reply, payload)?;
-            Ok(Next::Reply)
-        }
-        [b'v', b'C', b'o', b'n', b't', b';', actions @ ..] => {
-            let (action, _others) = cut_or_all(actions, b';');
-            go_on(session, link, reply, cut_or_all(action, b':').0)?;
+        [b'c' | b'C' | b's' | b'S', ..] => go_on(session, link, reply, payload),
+        [b'g' | b'p' | b'P' | b'm' | b'M', ..] => {
+            inspect(link.alloc, &mut session.debugged.board, reply, payload)?;
             Ok(Next::Reply)
         }
         _ => Ok(manage(session, link, reply, payload)?),
