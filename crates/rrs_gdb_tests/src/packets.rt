@@ -107,7 +107,7 @@ fn served<'a>(
 
 /// What is wanted: an acknowledgement, or more, and the packet of a payload, for each of the texts
 /// between bars. A payload that begins with `O` follows the one before without an acknowledgement.
-fn wanted(alloc: Global, payloads: &str) -> Result<Vec<u8>, AllocError> {
+pub(crate) fn wanted(alloc: Global, payloads: &str) -> Result<Vec<u8>, AllocError> {
     let mut output = Vec::new(alloc);
     output.push(b'+')?;
     for payload in payloads.split('|') {

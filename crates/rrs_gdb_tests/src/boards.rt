@@ -1,0 +1,228 @@
+//! Packets for firmware on a board, and what they are answered.
+
+use crate::packets::wanted;
+use rrs_board::Board;
+use rrs_board_gdb::{BoardSession, serve};
+use rrs_gdb::{Link, LinkError, encode};
+use rrs_lib::memories::VecMemory;
+use std::alloc::{AllocError, Global};
+use std::test::Fail;
+
+/// It transmits `A`, makes an `ecall`, echoes a byte, and ends with status 5. The others are for packets
+/// that change the pc.
+const FIRMWARE: [u32; 27] = [
+    0x0000_0297, // 0x80000000: auipc x5, 0
+    0x0402_8293, // 04: addi x5, x5, 0x40
+    0x3052_9073, // 08: csrrw x0, mtvec, x5
+    0x1000_00b7, // 0c: lui x1, 0x10000
+    0x0410_0113, // 10: addi x2, x0, 65
+    0x0020_8023, // 14: sb x2, 0(x1)
+    0x0000_0073, // 18: ecall
+    0x0050_c203, // 1c: lbu x4, 5(x1)
+    0x0012_7213, // 20: andi x4, x4, 1
+    0xfe02_0ce3, // 24: beq x4, x0, 0x1c
+    0x0000_c303, // 28: lbu x6, 0(x1)
+    0x0060_8023, // 2c: sb x6, 0(x1)
+    0x0010_03b7, // 30: lui x7, 0x100
+    0x0005_3437, // 34: lui x8, 0x53
+    0x3334_0413, // 38: addi x8, x8, 0x333
+    0x0083_a023, // 3c: sw x8, 0(x7)
+    0x3410_24f3, // 40: csrrs x9, mepc, x0
+    0x0044_8493, // 44: addi x9, x9, 4
+    0x3414_9073, // 48: csrrw x0, mepc, x9
+    0x3020_0073, // 4c: mret
+    0x4443_4241, // 50
+    0,
+    0x1050_0073, // 58: wfi
+    0,
+    0x0020_8023, // 60: sb x2, 0(x1)
+    0xffdf_f06f, // 64: jal x0, 0x60
+    0x0000_006f, // 68: jal x0, 0x68
+];
+
+/// What the stub sends for packets, whose payloads stand with a bar between, where a `continue` makes so
+/// many steps at most, and how it ends. The UART receives `xyz`.
+fn answers_to(
+    alloc: Global,
+    payloads: &str,
+    limit: u64,
+) -> Result<(Vec<u8>, Result<(), LinkError>), AllocError> {
+    let mut input = Vec::new(alloc);
+    for payload in payloads.split('|') {
+        let frame = encode(alloc, payload.as_bytes())?;
+        input.extend_from_slice(&frame)?;
+    }
+    let board = Board::new(VecMemory::new(FIRMWARE.to_vec(alloc)?), 0x8000_0000);
+    let mut session = BoardSession::new(alloc, board, b"xyz", limit);
+    let mut output = Vec::new(alloc);
+    let end = served(alloc, &mut session, &input, &mut output);
+    Ok((output, end))
+}
+
+/// Serves packets.
+fn served(
+    alloc: Global,
+    session: &mut BoardSession<'_>,
+    packets: &[u8],
+    output: &mut Vec<u8>,
+) -> Result<(), LinkError> {
+    let mut reader = packets;
+    let mut link = Link::new(alloc, &mut reader, output);
+    serve(session, &mut link)
+}
+
+/// The numbers of the registers are gdb's: a CSR has 65 and its own number. mstatus is 0x341, misa
+/// 0x342, mie 0x345, mtvec 0x346, mepc 0x382, mcause 0x383, mip 0x385, cycle 0xc41, mvendorid 0xf52.
+const PACKETS: [(&str, &str); 62] = [
+    ("?", "S05"),
+    (
+        "g",
+        "000000000000000000000000000000000000000000000000000000000000000000000000000000000000000000000000000000000000000000000000000000000000000000000000000000000000000000000000000000000000000000000000000000000000000000000000000000000000000000000000000000000000000000000080",
+    ),
+    ("g0", ""),
+    ("p20", "00000080"),
+    ("p0", "00000000"),
+    ("p341|p342|p346", "00180000|+|00110040|+|00000000"),
+    ("pc41|pf52", "00000000|+|00000000"),
+    (
+        "p21|p40|p41|p1041|p|px",
+        "E16|+|E16|+|E16|+|E16|+|E16|+|E16",
+    ),
+    (
+        "P1=01020304|p1|p2|p0",
+        "OK|+|01020304|+|00000000|+|00000000",
+    ),
+    ("P20=10000080|p20", "OK|+|10000080"),
+    ("P345=ffffffff|p345", "OK|+|88080000"),
+    ("P346=ffffffff|p346", "OK|+|fdffffff"),
+    ("P382=ffffffff|p382", "OK|+|fcffffff"),
+    ("P341=ffffffff|p341", "OK|+|88180000"),
+    ("P385=ffffffff|p385", "OK|+|00000000"),
+    ("P342=00000000|p342", "OK|+|00110040"),
+    (
+        "Pc41=01000000|Pf52=01000000|P0=01000000|P21=01000000",
+        "E16|+|E16|+|E16|+|E16",
+    ),
+    ("P1=0102|P1|Px=01020304|p1", "E16|+|E16|+|E16|+|00000000"),
+    ("G00|X80000050,1:a", "|+|"),
+    ("m80000050,4|m80000051,2|m80000050,0", "41424344|+|4243|+|"),
+    ("m80000068,8|m8000006c,1", "6f000000|+|E0e"),
+    (
+        "m10000005,1|m2000000,4|m0,1|m7fffffff,2|mffffffff,2",
+        "E0e|+|E0e|+|E0e|+|E0e|+|E0e",
+    ),
+    ("m80000050|mx,1|m80000050,fffffffff", "E16|+|E16|+|E16"),
+    (
+        "M80000050,4:00010203|m80000050,4|m80000054,1",
+        "OK|+|00010203|+|00",
+    ),
+    ("M80000050,1:ff|m80000050,4", "OK|+|ff424344"),
+    ("M8000006a,4:00010203|m80000068,4", "E0e|+|6f000000"),
+    (
+        "M10000000,1:41|M2000000,1:01|M7fffffff,2:0102",
+        "E0e|+|E0e|+|E0e",
+    ),
+    (
+        "M80000050,2:00|M80000050,1:zz|M80000050,1|m80000050,1",
+        "E16|+|E16|+|E16|+|41",
+    ),
+    ("M80000050,0:", "OK"),
+    ("s|p20|s|p5", "S05|+|04000080|+|S05|+|40000080"),
+    ("S05|p20", "S05|+|04000080"),
+    ("s80000010|p20", "E16|+|00000080"),
+    ("c|?|c|s|p20", "O4178|W05|+|W05|+|W05|+|W05|+|40000080"),
+    ("C05", "O4178|W05"),
+    ("c80000010|p20", "E16|+|00000080"),
+    ("vCont?", "vCont;c;C;s;S"),
+    ("vCont;c", "O4178|W05"),
+    ("vCont;C05:1;c", "O4178|W05"),
+    ("vCont;s:1;c|p20", "S05|+|04000080"),
+    ("vCont;S05|p20", "S05|+|04000080"),
+    (
+        "vCont;t|vCont;|vCont;c8|vCont|p20",
+        "E16|+|E16|+|E16|+||+|00000080",
+    ),
+    (
+        "Z0,80000040,4|c|p20|p383|p382|p341|z0,80000040,4|c",
+        "OK|+|O41|S05|+|40000080|+|0b000000|+|18000080|+|00180000|+|OK|+|O78|W05",
+    ),
+    (
+        "Z1,80000028,4|vCont;c|p4|z1,80000028,4|c",
+        "OK|+|O41|S05|+|01000000|+|OK|+|O78|W05",
+    ),
+    ("Z0,80000000,4|c|z0,80000004,4", "OK|+|O4178|W05|+|OK"),
+    (
+        "Z2,80000050,4|z2,80000050,4|Z3,80000050,4|Z4,80000050,4",
+        "|+||+||+|",
+    ),
+    ("Z5,80000050,4|Z0,x,4|Z0", "E16|+|E16|+|E16"),
+    ("P20=68000080|c|p20", "OK|+|S02|+|68000080"),
+    ("P20=58000080|c|p20|c", "OK|+|S11|+|5c000080|+|S02"),
+    (
+        "P345=08000000|P341=08000000|P346=44000080|P7=00000002|P8=01000000|P20=3c000080|s|p20|p385",
+        "OK|+|OK|+|OK|+|OK|+|OK|+|OK|+|S05|+|40000080|+|08000000",
+    ),
+    (
+        "P345=08000000|P341=08000000|P346=44000080|P7=00000002|P8=01000000|P20=3c000080|s|s|p20|p383|p382|p341",
+        "OK|+|OK|+|OK|+|OK|+|OK|+|OK|+|S05|+|S05|+|44000080|+|03000080|+|40000080|+|80180000",
+    ),
+    ("Hc-1", "OK"),
+    ("T1", "OK"),
+    ("D;1", "OK"),
+    ("vKill;1", "OK"),
+    (
+        "qSupported:swbreak+",
+        "PacketSize=4000;QStartNoAckMode+;qXfer:features:read+;vContSupported+",
+    ),
+    (
+        "qXfer:features:read:target.xml:0,15",
+        "m<?xml version=\"1.0\"?>",
+    ),
+    ("qAttached", "1"),
+    ("qC", "QC1"),
+    ("qfThreadInfo", "m1"),
+    ("qsThreadInfo", "l"),
+    ("QStartNoAckMode", "OK"),
+    ("vMustReplyEmpty|qTStatus|x40,4|bs|bc|!", "|+||+||+||+||+|"),
+];
+
+#[test]
+fn each_packet_of_a_board_is_answered(rt: HostRuntime) -> Result<(), Fail> {
+    let alloc = rt.alloc();
+    let mut wrong = Vec::new(alloc);
+    for (index, (payloads, answers)) in PACKETS.iter().enumerate() {
+        let (sent, end) = answers_to(alloc, payloads, 100)?;
+        if sent.as_slice() != wanted(alloc, answers)?.as_slice() || end != Ok(()) {
+            wrong.push(index)?;
+        }
+    }
+    assert_eq!(rt; wrong.as_slice(), [].as_slice());
+    Ok(())
+}
+
+/// The payload of so much output: `A` so often.
+fn output_of(alloc: Global, count: usize) -> Result<Vec<u8>, AllocError> {
+    let mut payload = Vec::new(alloc);
+    payload.push(b'O')?;
+    for _ in 0..count {
+        payload.extend_from_slice(b"41")?;
+    }
+    Ok(payload)
+}
+
+#[test]
+fn output_is_sent_in_parts(rt: HostRuntime) -> Result<(), Fail> {
+    let alloc = rt.alloc();
+    let (sent, _end) = answers_to(alloc, "P1=00000010|P2=41000000|P20=60000080|c", 5000)?;
+    let mut wanted = wanted(alloc, "OK|+|OK|+|OK|+")?;
+    for payload in [
+        output_of(alloc, 2048)?.as_slice(),
+        output_of(alloc, 452)?.as_slice(),
+        b"S02",
+    ] {
+        let frame = encode(alloc, payload)?;
+        wanted.extend_from_slice(&frame)?;
+    }
+    assert_eq!(rt; sent.as_slice(), wanted.as_slice());
+    Ok(())
+}
