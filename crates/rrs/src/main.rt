@@ -7,12 +7,24 @@
 
 use rrs_commands::execution::{HEAP_END, HEAP_START};
 use rrs_commands::program::run_rrs;
+use rrs_commands::progress_line::{Erasing, LineTerminal, ProgressLine};
 use rrs_linux::{Heap, Linux, LinuxClocks};
+use std::io::IsTerminal;
 use std::process::ExitCode;
 
 fn main(rt: HostRuntime) -> ExitCode {
     let heap = Heap::new(HEAP_START, HEAP_END);
     let clocks = LinuxClocks::Host(rt);
-    let mut environment = Linux::new(rt.stdin(), rt.stdout(), rt.stderr(), heap, clocks);
-    run_rrs(&rt, &mut environment, &mut rt.stderr())
+    let terminal = LineTerminal::new(rt.stderr());
+    let mut environment = Linux::new(
+        Erasing::new(rt.stdin(), &terminal),
+        Erasing::new(rt.stdout(), &terminal),
+        Erasing::new(rt.stderr(), &terminal),
+        heap,
+        clocks,
+    );
+    let mut errors = Erasing::new(rt.stderr(), &terminal);
+    let line = ProgressLine::new(rt, &terminal);
+    let mut progress = rt.stderr().is_terminal().then_some(line);
+    run_rrs(&rt, &mut environment, &mut errors, &mut progress)
 }

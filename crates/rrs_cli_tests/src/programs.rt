@@ -7,6 +7,7 @@ use rrs_cli::fault::RunFault;
 use rrs_cli::programs::{RRS_REPLAY, RRS_RUN};
 use rrs_commands::execution::{HEAP_END, HEAP_START};
 use rrs_commands::program::run_rrs;
+use rrs_exec::NoProgress;
 use rrs_linux::{Heap, Linux, LinuxClocks, StoppedClocks};
 use std::alloc::Global;
 use std::process::ExitCode;
@@ -43,6 +44,7 @@ fn status_of(
                 machine,
                 &mut Linux::new(b"".as_slice(), output, errors, heap, clocks),
                 report,
+                &mut NoProgress,
             )
         }
     }

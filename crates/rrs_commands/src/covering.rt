@@ -6,6 +6,7 @@ use crate::executables::{read_program, tell};
 use crate::report_files::{buffered, created, unwritten};
 use crate::report_requests::{Report, ReportRequest, report_request_of};
 use rrs_env::Ending;
+use rrs_exec::Progress;
 use rrs_linux::Linux;
 use rrs_reports::{Profile, cover_process, write_annotated, write_callgrind, write_summary};
 use std::alloc::Global;
@@ -51,11 +52,12 @@ fn write_profile<O: Write + Drop>(
 /// created; `Refusal::Image` where it is no executable that can be run, or has a symbol table that
 /// can't be read. No step is made then. `RunFault::OutOfMemory`, and `RunFault::Output` where a write
 /// fails, which is after the run.
-pub fn cover<H: Files + Eprint + AllocGlobal, R: Read, W: Write, E: Write>(
+pub fn cover<H: Files + Eprint + AllocGlobal, R: Read, W: Write, E: Write, P: Progress>(
     rt: &H,
     words: &[String],
     environment: &mut Linux<R, W, E>,
     errors: &mut E,
+    progress: &mut P,
 ) -> Result<Ending, Refusal> {
     let request = report_request_of(Report::Coverage, words)?;
     let file = read_program(rt, request.path())?;
@@ -70,6 +72,7 @@ pub fn cover<H: Files + Eprint + AllocGlobal, R: Read, W: Write, E: Write>(
         request.memory,
         request.limit,
         environment,
+        progress,
     )?;
     match output {
         Some(report) => write_report(rt.alloc(), request, &profile, report)?,

@@ -6,7 +6,7 @@ use rrs_cli::command::{Failure, open_file};
 use rrs_cli::fault::RunFault;
 use rrs_elf::Executable;
 use rrs_env::Ending;
-use rrs_exec::{ProcessEnd, execute_process};
+use rrs_exec::{ProcessEnd, Progress, execute_process};
 use rrs_lib::instruction_executor::InstructionException;
 use rrs_linux::Linux;
 use std::alloc::Global;
@@ -25,11 +25,18 @@ const FILE_BYTES: u64 = 1 << 28;
 /// `Failure::CannotOpen` where the file can't be opened, and `Refusal::UnreadableSource` where it
 /// can't be read; `Refusal::LargeProgram` where it is too large; `Refusal::Image` where it is no
 /// executable that can be run.
-pub fn execute_executable<H: Files + Eprint + AllocGlobal, R: Read, W: Write, E: Write>(
+pub fn execute_executable<
+    H: Files + Eprint + AllocGlobal,
+    R: Read,
+    W: Write,
+    E: Write,
+    P: Progress,
+>(
     rt: &H,
     path: &str,
     request: ProgramRequest<'_>,
     environment: &mut Linux<R, W, E>,
+    progress: &mut P,
 ) -> Result<Ending, Refusal> {
     let file = read_program(rt, path)?;
     let run = execute_process(
@@ -39,6 +46,7 @@ pub fn execute_executable<H: Files + Eprint + AllocGlobal, R: Read, W: Write, E:
         request.memory,
         request.limit,
         environment,
+        progress,
     );
     match run {
         Ok(end) => {

@@ -8,7 +8,7 @@ use rrs_cli::command::{Failure, open_file};
 use rrs_cli::fault::RunFault;
 use rrs_cli::loading::load;
 use rrs_env::{Ending, ServedEnd, run_served};
-use rrs_exec::DECODED_WORDS;
+use rrs_exec::{DECODED_WORDS, InPieces, Progress};
 use rrs_fast::{CachedMemory, OwnCache};
 use rrs_lib::HartState;
 use rrs_lib::instruction_executor::InstructionExecutor;
@@ -27,22 +27,23 @@ pub const HEAP_START: u32 = 0x0008_0000;
 pub const HEAP_END: u32 = 0x000c_0000;
 
 /// Runs a reader's bytes as a program, and serves its system calls, for `limit` steps or until it
-/// ends or raises an exception.
+/// ends or raises an exception. The progress is told of its steps, and of its end.
 ///
 /// # Errors
 ///
 /// `RunFault::OutOfMemory` before anything is read. `RunFault::Reader` and `RunFault::Refused`
 /// where the bytes can't be loaded. No step is made then, and the environment is as it was.
-pub fn execute<P: Read, R: Read, W: Write, E: Write>(
+pub fn execute<F: Read, R: Read, W: Write, E: Write, P: Progress>(
     alloc: Global,
-    program: &mut P,
+    program: &mut F,
     limit: u64,
     environment: &mut Linux<R, W, E>,
+    progress: &mut P,
 ) -> Result<Ending, RunFault>
     ensures executed { IfOk result (ExecutesProgram R.remaining W.contents E.contents limit
-        (P.remaining program.old) (P.remaining program.new) environment.old environment.new) }
+        (F.remaining program.old) (F.remaining program.new) environment.old environment.new) }
     ensures fault { IfErr result
-        (StopsLoadInto 262144 (P.remaining program.old) (P.remaining program.new)) }
+        (StopsLoadInto 262144 (F.remaining program.old) (F.remaining program.new)) }
     ensures kept { OnErr result (environment.new ≡ environment.old) }
 {
     let memory = load(alloc, WORDS, program)?;
@@ -53,8 +54,12 @@ pub fn execute<P: Read, R: Read, W: Write, E: Write>(
         mem: &mut cached,
         hart_state: &mut hart,
     };
-    let runner = &mut OwnCache;
-    let ServedEnd { steps: _, ending } = run_served(runner, &mut executor, environment, limit);
+    let mut runner = InPieces {
+        runner: OwnCache,
+        progress: &mut *progress,
+    };
+    let ServedEnd { steps: _, ending } = run_served(&mut runner, &mut executor, environment, limit);
+    progress.end();
     Ok(ending)
 }
 
@@ -64,12 +69,13 @@ pub fn execute<P: Read, R: Read, W: Write, E: Write>(
 ///
 /// `Failure::CannotOpen` where the file can't be opened, and `Failure::Run` where it can't be
 /// loaded, or out of memory.
-pub fn execute_file<H: Files + AllocGlobal, R: Read, W: Write, E: Write>(
+pub fn execute_file<H: Files + AllocGlobal, R: Read, W: Write, E: Write, P: Progress>(
     rt: &H,
     path: &str,
     limit: u64,
     environment: &mut Linux<R, W, E>,
+    progress: &mut P,
 ) -> Result<Ending, Failure> {
     let mut reader = open_file(rt, path)?;
-    execute(rt.alloc(), &mut reader, limit, environment).map_err(Failure::Run)
+    execute(rt.alloc(), &mut reader, limit, environment, progress).map_err(Failure::Run)
 }

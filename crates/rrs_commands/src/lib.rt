@@ -20,6 +20,7 @@ pub mod executables;
 pub mod execution;
 pub mod image_errors;
 pub mod program;
+pub mod progress_line;
 pub mod quiet;
 pub mod report_files;
 pub mod report_requests;

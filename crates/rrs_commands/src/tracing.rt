@@ -8,7 +8,7 @@ use rrs_cli::command::Failure;
 use rrs_cli::fault::RunFault;
 use rrs_elf::{ElfError, Executable, Symbols};
 use rrs_env::Ending;
-use rrs_exec::ImageError;
+use rrs_exec::{ImageError, Progress};
 use rrs_linux::Linux;
 use rrs_reports::{TraceError, trace_process};
 use std::io::{Read, Write};
@@ -73,13 +73,14 @@ fn start_of(file: &[u8], word: Option<&str>) -> Result<Option<u32>, Refusal> {
 }
 
 /// Runs a file's bytes, and writes the log of the run.
-fn trace_to<H: Eprint + AllocGlobal, R: Read, W: Write, E: Write, O: Write + Drop>(
+fn trace_to<H: Eprint + AllocGlobal, R: Read, W: Write, E: Write, O: Write + Drop, P: Progress>(
     rt: &H,
     file: &[u8],
     request: ReportRequest<'_>,
     from: Option<u32>,
     environment: &mut Linux<R, W, E>,
     out: O,
+    progress: &mut P,
 ) -> Result<Ending, Refusal> {
     let mut out = buffered(rt.alloc(), out)?;
     let run = trace_process(
@@ -91,6 +92,7 @@ fn trace_to<H: Eprint + AllocGlobal, R: Read, W: Write, E: Write, O: Write + Dro
         environment,
         from,
         &mut out,
+        progress,
     );
     match run {
         Ok(end) => {
@@ -113,17 +115,26 @@ fn trace_to<H: Eprint + AllocGlobal, R: Read, W: Write, E: Write, O: Write + Dro
 /// created; `Refusal::Image` where it is no executable that can be run. No step is made then.
 /// `RunFault::OutOfMemory`, and `RunFault::Output` where a write of the log fails, which ends the
 /// run.
-pub fn trace<H: Files + Eprint + AllocGlobal, R: Read, W: Write, E: Write>(
+pub fn trace<H: Files + Eprint + AllocGlobal, R: Read, W: Write, E: Write, P: Progress>(
     rt: &H,
     words: &[String],
     environment: &mut Linux<R, W, E>,
     errors: &mut E,
+    progress: &mut P,
 ) -> Result<Ending, Refusal> {
     let request = report_request_of(Report::Log, words)?;
     let file = read_program(rt, request.path())?;
     let from = start_of(&file, request.from)?;
     match created(rt, request.output)? {
-        Some(log) => trace_to(rt, &file, request, from, environment, log),
-        None => trace_to(rt, &file, request, from, environment, &mut *errors),
+        Some(log) => trace_to(rt, &file, request, from, environment, log, progress),
+        None => trace_to(
+            rt,
+            &file,
+            request,
+            from,
+            environment,
+            &mut *errors,
+            progress,
+        ),
     }
 }

@@ -5,6 +5,7 @@ ghost use Rattle.rrs_lib.specs.Machine.{state_of};
 ghost use Rattle.rrs_exec.specs.Processes.{started, RunsImage, RunsProcess};
 ghost use Rattle.rrs_lib.specs.SliceBytes.{slice_bytes, slice_writable};
 
+use crate::progress::{InPieces, Progress};
 use rrs_elf::Executable;
 use rrs_env::{Ending, ServedEnd, run_served};
 use rrs_fast::{CachedMemory, OwnCache};
@@ -58,19 +59,20 @@ pub fn started(entry: u32, sp: u32) -> HartState
 /// Runs a file's bytes as an executable with these arguments, of which the first is its name, in a
 /// memory of so many bytes or more, and serves its system calls, for `limit` steps or until it ends
 /// or raises an exception. Its break begins behind its segments, and the heap of the environment
-/// is set so.
+/// is set so. The progress is told of its steps, and of its end.
 ///
 /// # Errors
 ///
 /// `ImageError`, where the file is no executable or can't be made a process. No step is made then,
 /// and the environment is as it was.
-pub fn execute_process<R: Read, W: Write, E: Write>(
+pub fn execute_process<R: Read, W: Write, E: Write, P: Progress>(
     alloc: Global,
     file: &[u8],
     arguments: &[String],
     wanted: u64,
     limit: u64,
     environment: &mut Linux<R, W, E>,
+    progress: &mut P,
 ) -> Result<ProcessEnd, ImageError>
     ensures executed { IfOk result (λ end. RunsProcess R.remaining W.contents E.contents
         file.now (map string_bytes arguments.now) wanted limit
@@ -88,15 +90,16 @@ pub fn execute_process<R: Read, W: Write, E: Write>(
         base: image.layout.base,
     };
     fill(&executable, image.stack_pointer, &image.stack, &mut memory)?;
-    Ok(run_image(image, memory, limit, environment))
+    Ok(run_image(image, memory, limit, environment, progress))
 }
 
 /// Runs a process whose memory is filled.
-fn run_image<R: Read, W: Write, E: Write>(
+fn run_image<R: Read, W: Write, E: Write, P: Progress>(
     image: Image,
     memory: SliceMemory<'_>,
     limit: u64,
     environment: &mut Linux<R, W, E>,
+    progress: &mut P,
 ) -> ProcessEnd
     ensures { RunsImage R.remaining W.contents E.contents image
         (slice_bytes memory.entry) (slice_writable memory.entry) limit
@@ -117,7 +120,12 @@ fn run_image<R: Read, W: Write, E: Write>(
         mem: &mut cached,
         hart_state: &mut hart,
     };
-    let ServedEnd { steps, ending } = run_served(&mut OwnCache, &mut executor, environment, limit);
+    let mut runner = InPieces {
+        runner: OwnCache,
+        progress: &mut *progress,
+    };
+    let ServedEnd { steps, ending } = run_served(&mut runner, &mut executor, environment, limit);
+    progress.end();
     let pc = executor.hart_state.pc;
     ProcessEnd { ending, steps, pc }
 }

@@ -8,6 +8,7 @@ ghost use Rattle.rrs_env.specs.Serving.{MakesSome};
 ghost use Rattle.rrs_exec.specs.Watching.{ServesAt, Turn, IsWatched, WatchesImage, WatchesProcess};
 
 use crate::process::{ProcessEnd, started, zeros};
+use crate::progress::Progress;
 use rrs_elf::Executable;
 use rrs_env::{Ending, Environment, ServedEnd};
 use rrs_lib::Memory;
@@ -104,12 +105,14 @@ fn take_turn<M: Memory, E: Environment, V: Watcher>(
 }
 
 /// Makes steps up to `limit`, to an exception, until the environment ends the program, or until the
-/// watcher wants no more, which ends the run as a limit does. Each step is shown.
-fn run_watched<M: Memory, E: Environment, V: Watcher>(
+/// watcher wants no more, which ends the run as a limit does. Each step is shown, and the progress
+/// is told of each that the program goes on after.
+fn run_watched<M: Memory, E: Environment, V: Watcher, P: Progress>(
     executor: &mut InstructionExecutor<M>,
     environment: &mut E,
     watcher: &mut V,
     limit: u64,
+    progress: &mut P,
 ) -> ServedEnd
     ensures watched { MakesSome M.reads M.writes
         (IsWatched E.serves V.sees V.wants limit
@@ -125,7 +128,7 @@ fn run_watched<M: Memory, E: Environment, V: Watcher>(
             return ServedEnd { steps, ending };
         }
         match take_turn(executor, environment, watcher, steps) {
-            Ok(None) => {}
+            Ok(None) => progress.add(1),
             Ok(Some(status)) => {
                 return ServedEnd {
                     steps: steps + 1,
@@ -145,12 +148,13 @@ fn run_watched<M: Memory, E: Environment, V: Watcher>(
 }
 
 /// Runs a process whose memory is filled, and shows each step.
-fn watch_image<R: Read, W: Write, E: Write, V: Watcher>(
+fn watch_image<R: Read, W: Write, E: Write, V: Watcher, P: Progress>(
     image: Image,
     memory: SliceMemory<'_>,
     limit: u64,
     environment: &mut Linux<R, W, E>,
     watcher: &mut V,
+    progress: &mut P,
 ) -> ProcessEnd
     ensures { WatchesImage R.remaining W.contents E.contents V.sees V.wants image
         (slice_bytes memory.entry) (slice_writable memory.entry) limit
@@ -170,7 +174,14 @@ fn watch_image<R: Read, W: Write, E: Write, V: Watcher>(
         mem: &mut protected,
         hart_state: &mut hart,
     };
-    let ServedEnd { steps, ending } = run_watched(&mut executor, environment, watcher, limit);
+    let ServedEnd { steps, ending } = run_watched(
+        &mut executor,
+        environment,
+        watcher,
+        limit,
+        progress,
+    );
+    progress.end();
     let pc = executor.hart_state.pc;
     ProcessEnd { ending, steps, pc }
 }
@@ -185,7 +196,7 @@ fn watch_image<R: Read, W: Write, E: Write, V: Watcher>(
 /// # Errors
 ///
 /// Those of `execute_process`. Nothing is shown then.
-pub fn watch_process<R: Read, W: Write, E: Write, V: Watcher>(
+pub fn watch_process<R: Read, W: Write, E: Write, V: Watcher, P: Progress>(
     alloc: Global,
     file: &[u8],
     arguments: &[String],
@@ -193,6 +204,7 @@ pub fn watch_process<R: Read, W: Write, E: Write, V: Watcher>(
     limit: u64,
     environment: &mut Linux<R, W, E>,
     watcher: &mut V,
+    progress: &mut P,
 ) -> Result<ProcessEnd, ImageError>
     ensures watched { IfOk result (λ end. WatchesProcess R.remaining W.contents E.contents
         V.sees V.wants file.now (map string_bytes arguments.now) wanted limit
@@ -211,5 +223,5 @@ pub fn watch_process<R: Read, W: Write, E: Write, V: Watcher>(
         base: image.layout.base,
     };
     fill(&executable, image.stack_pointer, &image.stack, &mut memory)?;
-    Ok(watch_image(image, memory, limit, environment, watcher))
+    Ok(watch_image(image, memory, limit, environment, watcher, progress))
 }

@@ -6,7 +6,7 @@ ghost use Rattle.rrs_reports.specs.CommitLogs.{committed, written_text, store_di
 
 use arrayvec::ArrayString;
 use itoa::Buffer;
-use rrs_exec::{ImageError, ProcessEnd, Watcher, watch_process};
+use rrs_exec::{ImageError, ProcessEnd, Progress, Watcher, watch_process};
 use rrs_lib::disassembly::hexadecimal_digits;
 use rrs_linux::Linux;
 use rrs_trace::{MemoryAccess, Retired};
@@ -161,7 +161,7 @@ pub enum TraceError {
 /// # Errors
 ///
 /// Those of `execute_process`, and a write that fails.
-pub fn trace_process<R: Read, W: Write, E: Write, O: Write>(
+pub fn trace_process<R: Read, W: Write, E: Write, O: Write, P: Progress>(
     alloc: Global,
     file: &[u8],
     arguments: &[String],
@@ -170,6 +170,7 @@ pub fn trace_process<R: Read, W: Write, E: Write, O: Write>(
     environment: &mut Linux<R, W, E>,
     from: Option<u32>,
     out: &mut O,
+    progress: &mut P,
 ) -> Result<ProcessEnd, TraceError>
     ensures traced { IfOk result (λ end. TracesProcess R.remaining W.contents E.contents
         file.now (map string_bytes arguments.now) wanted limit
@@ -181,7 +182,16 @@ pub fn trace_process<R: Read, W: Write, E: Write, O: Write>(
         from,
         is_broken: false,
     };
-    let run = watch_process(alloc, file, arguments, wanted, limit, environment, &mut log);
+    let run = watch_process(
+        alloc,
+        file,
+        arguments,
+        wanted,
+        limit,
+        environment,
+        &mut log,
+        progress,
+    );
     let is_broken = log.is_broken;
     match run {
         Err(error) => Err(TraceError::Image(error)),

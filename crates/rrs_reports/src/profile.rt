@@ -7,7 +7,7 @@ use crate::calls::Calls;
 use crate::code::Code;
 use crate::commit_log::committed_word;
 use crate::coverage::Coverage;
-use rrs_exec::{ImageError, ProcessEnd, Watcher, watch_process};
+use rrs_exec::{ImageError, ProcessEnd, Progress, Watcher, watch_process};
 use rrs_linux::Linux;
 use rrs_trace::Retired;
 use std::alloc::{AllocError, Global};
@@ -68,7 +68,7 @@ impl Watcher for Profile<'_, '_> {
 /// # Errors
 ///
 /// Those of `execute_process`, and out of memory for the counts.
-pub fn cover_process<'a, 'b, R: Read, W: Write, E: Write>(
+pub fn cover_process<'a, 'b, R: Read, W: Write, E: Write, P: Progress>(
     alloc: Global,
     file: &[u8],
     code: &'b Code<'a>,
@@ -76,6 +76,7 @@ pub fn cover_process<'a, 'b, R: Read, W: Write, E: Write>(
     wanted: u64,
     limit: u64,
     environment: &mut Linux<R, W, E>,
+    progress: &mut P,
 ) -> Result<(ProcessEnd, Profile<'a, 'b>), ImageError>
     ensures covered { IfOk result (λ run. CoversProcess R.remaining W.contents E.contents
         file.now (map string_bytes arguments.now) wanted limit
@@ -93,6 +94,7 @@ pub fn cover_process<'a, 'b, R: Read, W: Write, E: Write>(
         limit,
         environment,
         &mut profile,
+        progress,
     )?;
     profile.calls.finish();
     Ok((end, profile))

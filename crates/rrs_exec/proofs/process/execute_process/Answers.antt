@@ -1,5 +1,5 @@
 -- The segments and the stack are in the words, and the image is run from there.
-use Rattle.std.proofs.Common.{◌≡◌, ℕ, List, length, get_or, replicate, map, ◌-◌, ◌/◌, subst, ap, sym, ◌∙◌, arith, rules}
+use Rattle.std.proofs.Common.{◌≡◌, ℕ, List, length, get_or, replicate, map, ◌-◌, ◌/◌, subst, ap, ◌∙◌, arith, rules}
 use Rattle.std.proofs.lemmas.List.{length-replicate}
 use Rattle.std.specs.String.{string_bytes}
 use Rattle.rrs_lib.specs.SliceBytes.{bytes_from, lies_from}

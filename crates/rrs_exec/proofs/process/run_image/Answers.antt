@@ -1,5 +1,5 @@
 -- The served run begins in the image, with the heap that was set.
-use Rattle.std.proofs.Common.{subst, ℕ}
+use Rattle.std.proofs.Common.{subst}
 use Rattle.rrs_lib.specs.Machine.{State, state_of}
 use Rattle.rrs_lib.specs.Executor.{state_in}
 use Rattle.rrs_lib.specs.SliceBytes.{slice_bytes, slice_writable}
@@ -8,7 +8,7 @@ use Rattle.rrs_process.specs.declared.protected.ProtectedMemory.{ProtectedMemory
 use Rattle.rrs_env.specs.Serving.{Served}
 use Rattle.rrs_linux.specs.declared.Heap.{Heap}
 use Rattle.rrs_linux.specs.SystemCalls.{Serves}
-use Rattle.rrs_exec.specs.Processes.{started, heap_of}
+use Rattle.rrs_exec.specs.Processes.{started}
 use Rattle.rrs_exec.proofs.process.run_image.Goals as goal
 
 pub returns : goal.returns
