@@ -38,7 +38,8 @@ pub fn listing_of(alloc: Global, source: &[u8], program: &Program) -> Result<Vec
     rows.sort_by_key(|row| row.line)?;
     let mut listing = Vec::new(alloc);
     let mut number = 0usize;
-    for line in source.split(|byte| *byte == b'\n') {
+    let lines = source.strip_suffix(b"\n").unwrap_or(source);
+    for line in lines.split(|byte| *byte == b'\n') {
         number = number.saturating_add(1);
         push_line(&mut listing, line, number, &rows)?;
     }

@@ -75,8 +75,12 @@ const PROCESS: &[u8] = b"\x7f\x45\x4c\x46\x01\x01\x01\x00\x00\x00\x00\x00\x00\x0
     \x13\x05\x70\x00\x37\x06\x01\x00\x23\x20\xa6\x00\
     \x83\x25\x06\x00\x93\x08\xd0\x05\x73\x00\x00\x00";
 
-/// Files of a program, of jal x0, 0, which jumps to itself, and of an executable. None can be written.
-const FILES: [Contents<'static>; 3] = [
+/// A source.
+const SOURCE: &[u8] = b"    addi x1, x0, 7\n    .data\n    .byte 5, 6, 7, 8, 9\n";
+
+/// Files of a program, of jal x0, 0, which jumps to itself, of an executable, and of sources. None can
+/// be written.
+const FILES: [Contents<'static>; 5] = [
     Contents {
         name: "program",
         bytes: THREE_WORDS,
@@ -90,6 +94,16 @@ const FILES: [Contents<'static>; 3] = [
     Contents {
         name: "process",
         bytes: PROCESS,
+        fails: false,
+    },
+    Contents {
+        name: "source",
+        bytes: SOURCE,
+        fails: false,
+    },
+    Contents {
+        name: "empty",
+        bytes: b"",
         fails: false,
     },
 ];
@@ -119,11 +133,19 @@ const TRACE_USAGE: &str = "usage: rrs trace [--limit STEPS] [--memory BYTES] \
 const COVER_USAGE: &str = "usage: rrs cover [--limit STEPS] [--memory BYTES] [--annotate] \
     [--callgrind FILE]\n    [--output FILE] PROGRAM [ARGUMENT] ..\n";
 
+/// How `rrs as` is called.
+const ASSEMBLE_USAGE: &str = "usage: rrs as [--gnu | --list] [-o OUTPUT] [--rars] \
+    [-Ttext ADDRESS]\n    [-Tdata ADDRESS] FILE\n";
+
+/// What is said of a word that is no address.
+const NO_ADDRESS: &str = "rrs as: an address has 0x and hexadecimal digits, is below 2^32, \
+    and a multiple of 4\n";
+
 /// A program, words of its command line of which it does not do what they ask, its status, and its
 /// line on standard error.
 type Refused = (Program, &'static [&'static [u8]], u8, &'static str);
 
-static REFUSED: [Refused; 31] = [
+static REFUSED: [Refused; 46] = [
     (Program::Run, &[], 2, RUN_USAGE),
     (Program::Run, &[b"rrs-run"], 2, RUN_USAGE),
     (Program::Run, &[b"rrs-run", b"program"], 2, RUN_USAGE),
@@ -245,6 +267,86 @@ static REFUSED: [Refused; 31] = [
         125,
         "rrs trace: cannot write output\n",
     ),
+    (Program::Rrs, &[b"rrs", b"as"], 2, ASSEMBLE_USAGE),
+    (Program::Rrs, &[b"rrs", b"as", b"--gnu"], 2, ASSEMBLE_USAGE),
+    (
+        Program::Rrs,
+        &[b"rrs", b"as", b"source", b"--lists"],
+        2,
+        ASSEMBLE_USAGE,
+    ),
+    (
+        Program::Rrs,
+        &[b"rrs", b"as", b"source", b"-o"],
+        2,
+        ASSEMBLE_USAGE,
+    ),
+    (
+        Program::Rrs,
+        &[b"rrs", b"as", b"source", b"-Tdata"],
+        2,
+        ASSEMBLE_USAGE,
+    ),
+    (
+        Program::Rrs,
+        &[b"rrs", b"as", b"-Ttext", b"1000", b"source"],
+        2,
+        NO_ADDRESS,
+    ),
+    (
+        Program::Rrs,
+        &[b"rrs", b"as", b"-Ttext", b"0x1002", b"source"],
+        2,
+        NO_ADDRESS,
+    ),
+    (
+        Program::Rrs,
+        &[b"rrs", b"as", b"-Tdata", b"0x100000000", b"source"],
+        2,
+        NO_ADDRESS,
+    ),
+    (
+        Program::Rrs,
+        &[b"rrs", b"as", b"-Tdata", b"0x+8", b"source"],
+        2,
+        NO_ADDRESS,
+    ),
+    (
+        Program::Rrs,
+        &[b"rrs", b"as", b"--lists"],
+        1,
+        "rrs as: cannot open file\n",
+    ),
+    (
+        Program::Rrs,
+        &[b"rrs", b"as", b"--rars", b"source"],
+        1,
+        "rrs as: the program has more than 64 MiB from its first byte to its last\n",
+    ),
+    (
+        Program::Rrs,
+        &[b"rrs", b"as", b"empty", b"-o", b"loop"],
+        1,
+        "rrs as: the program is empty\n",
+    ),
+    (
+        Program::Rrs,
+        &[b"rrs", b"as", b"source", b"-o", b"source"],
+        1,
+        "rrs as: cannot create file\n",
+    ),
+    (
+        Program::Rrs,
+        &[b"rrs", b"as", b"source", b"-o", b"missing"],
+        1,
+        "rrs as: cannot create file\n",
+    ),
+    (
+        Program::Rrs,
+        &[b"rrs", b"as", b"--rars", b"source", b"-o", b"loop"],
+        1,
+        "rrs as: cannot write output\n",
+    ),
 ];
 
 #[test]
@@ -252,6 +354,56 @@ fn refuses_other_words(rt: HostRuntime) {
     for (index, &(program, words, status, line)) in REFUSED.iter().enumerate() {
         let left = run(rt.alloc(), program, words, &FILES, 10_000);
         assert!(rt; says(&left, status, line), "at {index}");
+    }
+}
+
+/// Words of a command line, and what is printed of a source.
+type Assembled = (&'static [&'static [u8]], &'static [u8]);
+
+static ASSEMBLED: [Assembled; 6] = [
+    (
+        &[b"rrs", b"as", b"source"],
+        b"\x93\x00\x70\x00\x05\x06\x07\x08\x09",
+    ),
+    (
+        &[b"rrs", b"as", b"source", b"-Ttext", b"0xfffffff0"],
+        b"\x93\x00\x70\x00\x05\x06\x07\x08\x09",
+    ),
+    (
+        &[
+            b"rrs",
+            b"as",
+            b"-Tdata",
+            b"0x400",
+            b"--rars",
+            b"source",
+            b"-Tdata",
+            b"0x40000c",
+        ],
+        b"\x93\x00\x70\x00\0\0\0\0\0\0\0\0\x05\x06\x07\x08\x09",
+    ),
+    (
+        &[b"rrs", b"as", b"--list", b"--gnu", b"source"],
+        b"    addi x1, x0, 7\n    .word 0x08070605\n    .byte 0x09\n",
+    ),
+    (
+        &[b"rrs", b"as", b"--gnu", b"source", b"--list"],
+        b"00000000  00700093      1      addi x1, x0, 7\n\
+        \x20                       2      .data\n\
+        00000004  08070605      3      .byte 5, 6, 7, 8, 9\n\
+        00000008  09      \n",
+    ),
+    (&[b"rrs", b"as", b"empty"], b""),
+];
+
+#[test]
+fn assembles(rt: HostRuntime) {
+    for &(words, want) in &ASSEMBLED {
+        let (status, said, printed, _report) = run(rt.alloc(), Program::Rrs, words, &FILES, 10_000);
+        assert!(rt;
+            status == ExitCode::SUCCESS && said.is_empty() && printed.as_slice() == want,
+            "{words:?}"
+        );
     }
 }
 

@@ -7,3 +7,4 @@ pub mod Execution
 pub mod Endings
 pub mod Requests
 pub mod Reports
+pub mod Assembly

@@ -1,13 +1,19 @@
-//! What is written of a source of RISC-V.
+//! What is made of a source of RISC-V.
 
-ghost use Rattle.std.specs.Prelude.{◌≡◌, List, false, IfOk};
-ghost use Rattle.rrs_asm.specs.declared.sections.Section.{Section};
+ghost use Rattle.std.specs.Prelude.{◌≡◌, [], None, IsSome, MatchOption, IfOk};
+ghost use Rattle.rrs_asm.specs.declared.sections.Layout.{Layout};
 ghost use Rattle.rrs_asm.specs.Source.{items_of};
-ghost use Rattle.rrs_asm.specs.Sections.{flat, AreSectionsOf, IsImage};
+ghost use Rattle.rrs_asm.specs.Sections.{AreSectionsOf, ArePlaced, IsImage};
+ghost use Rattle.rrs_assembly.specs.Executables.{IsExecutableOf};
+ghost use Rattle.rrs_commands.specs.Assembly.{IsExecutableFrom, IsImageFrom, layout_of, wanted_of};
 
+use crate::assembly_requests::{AssemblyRequest, Form};
 use crate::ending::Refusal;
-use crate::requests::AssemblyRequest;
-use rrs_asm::{Layout, SourceError, SourceFault, assemble_source, gnu_text, image};
+use crate::report_files::created;
+use rrs_asm::{
+    Layout, MOST_BYTES, Program, SourceError, SourceFault, assemble_source, gnu_text, image,
+};
+use rrs_assembly::{executable_of, listing_of};
 use rrs_cli::command::Failure;
 use rrs_cli::fault::RunFault;
 use rrs_cli::report::{flush, write_text};
@@ -19,37 +25,163 @@ use std::{fs, io};
 /// The most bytes of a source, 64 MiB. A device may have bytes without an end.
 const SOURCE_BYTES: u64 = 1 << 26;
 
-/// What is to be written of a source: the bytes of its sections, each at its address, with zeros
-/// between them, or a source for GNU `as`. The sections are made of the items of the source, and lie
-/// one behind the other from address 0 on. Its mistakes are printed on standard error.
-pub fn assembled_text<H: Eprint + AllocGlobal>(
+/// What is made of a source.
+#[derive(Drop)]
+pub struct Products {
+    /// What is printed.
+    pub text: Vec<u8>,
+    /// The executable, where one is asked for.
+    pub executable: Option<Vec<u8>>,
+}
+
+/// What is asked for of a source, all of it made of the same sections: those of the source, each
+/// where the request's layout says. An executable has these sections as its segments. Where none is
+/// asked for, and neither a listing nor a source for GNU `as`, the text is the bytes of all
+/// sections, from the address of the first on. Mistakes are printed on standard error, behind the
+/// path.
+///
+/// # Errors
+///
+/// `Refusal::SourceErrors` where the source has mistakes, which were printed;
+/// `Refusal::NoExecutable` where the program has no executable; `Refusal::LargeImage` where its
+/// bytes are more than 64 MiB; out of memory as a failure.
+pub fn products_of<H: Eprint + AllocGlobal>(
     rt: &H,
+    path: &str,
     source: &[u8],
     request: AssemblyRequest<'_>,
-) -> Result<Vec<u8>, Refusal>
-    ensures bytes { request.entry.is_gnu ≡ false
-        → IfOk result (λ text. (sections : List Section)
-        × AreSectionsOf (flat 0) (items_of source.now) sections
-        × IsImage 0 sections text.items) }
+) -> Result<Products, Refusal>
+    ensures bytes { request.entry.form ≡ Form.Bytes → request.entry.output ≡ None
+        → IfOk result (λ products.
+        IsImageFrom (layout_of (wanted_of request.entry)) source.now products.text.items) }
+    ensures executable { IfOk result (λ products.
+        MatchOption products.executable (request.entry.output ≡ None) (λ file.
+        IsSome request.entry.output
+        × IsExecutableFrom (layout_of (wanted_of request.entry)) source.now file.items)) }
+    ensures nothing { request.entry.form ≡ Form.Bytes → IsSome request.entry.output
+        → IfOk result (λ products. products.text.items ≡ []) }
 {
-    let program = match assemble_source(rt.alloc(), source, Layout::flat(0)) {
-        Ok(program) => program,
-        Err(SourceFault::OutOfMemory) => return Err(failed(RunFault::OutOfMemory)),
+    let layout = request.layout();
+    let program = program_of(rt, path, source, layout)?;
+    let executable = executable_for(rt.alloc(), request, &program)?;
+    let text = text_of(rt.alloc(), request, source, &program, layout.text_start)?;
+    Ok(Products { text, executable })
+}
+
+/// The program of a source, whose sections lie as the layout says. Mistakes are printed.
+///
+/// # Errors
+///
+/// `Refusal::SourceErrors` where the source has mistakes, and out of memory as a failure.
+fn program_of<'a, H: Eprint + AllocGlobal>(
+    rt: &H,
+    path: &str,
+    source: &'a [u8],
+    layout: Layout,
+) -> Result<Program<'a>, Refusal>
+    ensures { IfOk result (λ program.
+        AreSectionsOf layout (items_of source.now) program.sections.items) }
+{
+    match assemble_source(rt.alloc(), source, layout) {
+        Ok(program) => Ok(program),
+        Err(SourceFault::OutOfMemory) => Err(failed(RunFault::OutOfMemory)),
         Err(SourceFault::Errors(errors)) => {
-            print_mistakes(rt, request.path, &errors);
-            return Err(Refusal::SourceErrors);
+            print_mistakes(rt, path, &errors);
+            Err(Refusal::SourceErrors)
         }
-    };
-    let Ok(bytes) = image(rt.alloc(), &program, 0) else {
-        return Err(failed(RunFault::OutOfMemory));
-    };
-    if !request.is_gnu {
-        return Ok(bytes);
     }
-    match gnu_text(rt.alloc(), &bytes) {
-        Ok(text) => Ok(text.into_bytes()),
+}
+
+/// The executable of a program, where one is asked for.
+///
+/// # Errors
+///
+/// `Refusal::NoExecutable`, and why there is none.
+fn executable_for(
+    alloc: Global,
+    request: AssemblyRequest<'_>,
+    program: &Program,
+) -> Result<Option<Vec<u8>>, Refusal>
+    ensures { IfOk result (λ executable.
+        MatchOption executable (request.entry.output ≡ None) (λ file.
+        IsSome request.entry.output × IsExecutableOf program.now.sections.items file.items)) }
+{
+    if request.output.is_none() {
+        return Ok(None);
+    }
+    match executable_of(alloc, program) {
+        Ok(file) => Ok(Some(file)),
+        Err(error) => Err(Refusal::NoExecutable(error)),
+    }
+}
+
+/// What is printed of a program whose first section lies at an address.
+///
+/// # Errors
+///
+/// `Refusal::LargeImage` where its bytes are asked for and are more than 64 MiB, and out of memory
+/// as a failure.
+fn text_of(
+    alloc: Global,
+    request: AssemblyRequest<'_>,
+    source: &[u8],
+    program: &Program,
+    text_start: u32,
+) -> Result<Vec<u8>, Refusal>
+    ensures bytes { request.entry.form ≡ Form.Bytes → request.entry.output ≡ None
+        → (layout : Layout) → layout.text_start ≡ text_start
+        → ArePlaced layout program.now.sections.items
+        → IfOk result (λ text. IsImage text_start program.now.sections.items text.items) }
+    ensures nothing { request.entry.form ≡ Form.Bytes → IsSome request.entry.output
+        → IfOk result (λ text. text.items ≡ []) }
+{
+    match request.form {
+        Form::Bytes if request.output.is_some() => Ok(Vec::new(alloc)),
+        Form::Bytes => bytes_of(alloc, program, text_start),
+        Form::Source => {
+            let bytes = bytes_of(alloc, program, text_start)?;
+            match gnu_text(alloc, &bytes) {
+                Ok(text) => Ok(text.into_bytes()),
+                Err(_) => Err(failed(RunFault::OutOfMemory)),
+            }
+        }
+        Form::Listing => match listing_of(alloc, source, program) {
+            Ok(listing) => Ok(listing),
+            Err(_) => Err(failed(RunFault::OutOfMemory)),
+        },
+    }
+}
+
+/// The bytes of all sections from an address on, with zeros between them.
+///
+/// # Errors
+///
+/// `Refusal::LargeImage` where they are more than 64 MiB, and out of memory as a failure.
+fn bytes_of(alloc: Global, program: &Program, text_start: u32) -> Result<Vec<u8>, Refusal>
+    ensures { (layout : Layout) → layout.text_start ≡ text_start
+        → ArePlaced layout program.now.sections.items
+        → IfOk result (λ bytes. IsImage text_start program.now.sections.items bytes.items) }
+{
+    if size_from(program, text_start) > MOST_BYTES as u64 {
+        return Err(Refusal::LargeImage);
+    }
+    match image(alloc, program, text_start) {
+        Ok(bytes) => Ok(bytes),
         Err(_) => Err(failed(RunFault::OutOfMemory)),
     }
+}
+
+/// How many bytes there are from an address up to the end of the last section that has any.
+fn size_from(program: &Program, start: u32) -> u64 {
+    let mut size = 0u64;
+    for section in &program.sections {
+        let length = section.made.bytes.len() as u64;
+        if length > 0 {
+            let address = u64::from(section.address.saturating_sub(start));
+            size = size.max(address.saturating_add(length));
+        }
+    }
+    size
 }
 
 /// Prints each mistake as a line. Where one can't be printed the others are tried too.
@@ -59,20 +191,31 @@ fn print_mistakes<H: Eprint>(rt: &H, path: &str, errors: &[SourceError]) {
     }
 }
 
-/// Assembles a file, and writes what is asked for to standard output.
+/// Assembles a file, writes the executable that is asked for, and prints what else is.
 ///
 /// # Errors
 ///
-/// `Refusal::SourceErrors` where the source has mistakes, which were printed: nothing is written then.
-/// Those of `read_file`, and `Refusal::Failed` for a write that fails, and out of memory.
+/// `Refusal::CannotCreate` where the executable's file is the source, or can't be created. Those of
+/// `read_file` and of `products_of`: nothing is written then. `Refusal::Failed` for a write that
+/// fails.
 pub fn assemble_file<H: Files + Print + Eprint + AllocGlobal>(
     rt: &H,
+    path: &str,
     request: AssemblyRequest<'_>,
 ) -> Result<(), Refusal> {
-    let source = read_file(rt, request.path)?;
-    let text = assembled_text(rt, &source, request)?;
+    if request.output == Some(path) {
+        return Err(Refusal::CannotCreate);
+    }
+    let source = read_file(rt, path)?;
+    let products = products_of(rt, path, &source, request)?;
+    if let Some(executable) = &products.executable {
+        if let Some(mut file) = created(rt, request.output)? {
+            write_text(&mut file, executable).map_err(failed)?;
+            flush(&mut file).map_err(failed)?;
+        }
+    }
     let mut out = io::writer(rt);
-    write_text(&mut out, &text).map_err(failed)?;
+    write_text(&mut out, &products.text).map_err(failed)?;
     flush(&mut out).map_err(failed)
 }
 

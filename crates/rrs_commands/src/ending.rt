@@ -6,6 +6,7 @@ ghost use Rattle.rrs_commands.specs.Endings.{refused_status, signal_of, status_o
 
 use crate::image_errors::ToldImageError;
 use crate::subcommands::{Subcommand, Task};
+use rrs_assembly::ExecutableError;
 use rrs_cli::command::{Failure, NamedFailure};
 use rrs_env::Ending;
 use rrs_exec::ImageError;
@@ -33,7 +34,13 @@ pub enum Refusal {
     IsElf,
     /// The word for an address is none, and no symbol has this name.
     NoAddress,
-    /// A file that is to be written can't be created.
+    /// The word for where a section lies is no address.
+    WrongAddress,
+    /// The program that was assembled has no executable.
+    NoExecutable(ExecutableError),
+    /// The bytes of the program, with the zeros between its sections, are too many.
+    LargeImage,
+    /// A file that is to be written can't be created, or is the one that is read.
     CannotCreate,
     /// Something else failed.
     Failed(Failure),
@@ -72,7 +79,7 @@ fn refused_status(task: Task, refusal: &Refusal) -> u8
 {
     match (task, refusal) {
         (Task::Execute | Task::Trace | Task::Cover | Task::Board, _) => 125,
-        (_, Refusal::WrongLimit) => 2,
+        (_, Refusal::WrongLimit | Refusal::WrongAddress) => 2,
         (_, Refusal::Failed(failure)) => failure.status(),
         (_, _) => 1,
     }
@@ -128,6 +135,19 @@ pub fn conclude<H: Eprint>(
         Err(Refusal::NoAddress) => {
             eprintln!(rt;
                 "{}: --from: no address, and no symbol of PROGRAM",
+                program.name
+            )
+        }
+        Err(Refusal::WrongAddress) => {
+            eprintln!(rt;
+                "{}: an address has 0x and hexadecimal digits, is below 2^32, and a multiple of 4",
+                program.name
+            )
+        }
+        Err(Refusal::NoExecutable(error)) => eprintln!(rt; "{}: {error}", program.name),
+        Err(Refusal::LargeImage) => {
+            eprintln!(rt;
+                "{}: the program has more than 64 MiB from its first byte to its last",
                 program.name
             )
         }

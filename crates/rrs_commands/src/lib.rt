@@ -8,6 +8,7 @@
 #![tactic(auto)]
 
 pub mod assembly;
+pub mod assembly_requests;
 pub mod board_debugging;
 pub mod boards;
 pub mod covering;

@@ -176,7 +176,7 @@ fn take_option<'a>(
 /// # Errors
 ///
 /// `Failure::Usage` where there is none.
-fn word_before(words: &[String]) -> Result<(&str, &[String]), Refusal>
+pub(crate) fn word_before(words: &[String]) -> Result<(&str, &[String]), Refusal>
     ensures word { IfOk result (λ found.
         map string_bytes words.now ≡ found.0.now ∷ map string_bytes found.1.now) }
     ensures refused { IfErr result (λ refusal. RefusesNoWord (map string_bytes words.now) refusal) }

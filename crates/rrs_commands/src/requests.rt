@@ -205,27 +205,3 @@ fn number_of(word: &str) -> Result<u64, Refusal>
         Err(_) => Err(Refusal::WrongLimit),
     }
 }
-
-/// An assembly that is asked for: a file, and how it is to be written.
-#[derive(Clone, Copy)]
-pub struct AssemblyRequest<'a> {
-    /// The file.
-    pub path: &'a str,
-    /// Whether a source for GNU `as` is wanted, and not the bytes.
-    pub is_gnu: bool,
-}
-
-/// The assembly that is asked for: `FILE`, which is not `--gnu`, or `--gnu FILE`.
-pub fn assembly_request_of(words: &[String]) -> Option<AssemblyRequest<'_>> {
-    match words {
-        [_, path] if path.as_str() != "--gnu" => Some(AssemblyRequest {
-            path: path.as_str(),
-            is_gnu: false,
-        }),
-        [_, option, path] if option.as_str() == "--gnu" => Some(AssemblyRequest {
-            path: path.as_str(),
-            is_gnu: true,
-        }),
-        _ => None,
-    }
-}

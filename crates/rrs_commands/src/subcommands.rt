@@ -148,12 +148,21 @@ const ASSEMBLE: Subcommand = Subcommand {
     task: Task::Assemble,
     command: Command {
         name: "rrs as",
-        usage: "rrs as [--gnu] FILE",
+        usage: "rrs as [--gnu | --list] [-o OUTPUT] [--rars] [-Ttext ADDRESS]
+    [-Tdata ADDRESS] FILE",
     },
     summary: "assembles a source, and writes the bytes of the program",
-    help: "Writes the bytes of the program to standard output, the first for address 0; with
---gnu a source of the same bytes that GNU as takes. Each mistake is a line on
-standard error, FILE:LINE:COLUMN: and what is wrong, and nothing is written then.
+    help: "Writes the bytes of the program to standard output, the first for address 0; or
+with -o an ELF executable to OUTPUT, which rrs exec, rrs gdb and rrs dis take. Its
+sections lie from 0x10000 on, with data that can be written on a page of its own, and
+it begins at _start, else at main, else at its first byte. --list prints the source
+with the address and the word of each line, and --gnu a source of the same bytes that
+GNU as takes. -Ttext says where the first section lies, and -Tdata where the first
+one with data that can be written does, each by 0x and hexadecimal digits; --rars
+says 0x400000 and 0x10010000. Options stand before FILE and behind it.
+
+Each mistake is a line on standard error, FILE:LINE:COLUMN: and what is wrong, and
+nothing is written then.
 
 Status: 0; 1 for mistakes, and where FILE can't be assembled; 2 for other words.
 ",
