@@ -5,10 +5,10 @@
 
 #![tactic(auto)]
 
-use rrs_commands::execution::{HEAP_END, HEAP_START};
 use rrs_commands::program::run_rrs;
-use rrs_commands::progress_line::{Erasing, LineTerminal, ProgressLine};
 use rrs_linux::{Heap, Linux, LinuxClocks};
+use rrs_run_commands::execution::{HEAP_END, HEAP_START};
+use rrs_run_commands::progress_line::{Erasing, LineTerminal, ProgressLine};
 use std::io::IsTerminal;
 use std::process::ExitCode;
 

@@ -6,7 +6,7 @@ use crate::writers::{Failing, FailsOnce, FailsToFlush, TakesFew};
 use rrs_cli::fault::RunFault;
 use rrs_cli::report::write_text;
 use rrs_cli::simulation::simulate;
-use rrs_commands::quiet::simulate_quietly;
+use rrs_run_commands::quiet::simulate_quietly;
 use std::alloc::{AllocError, Global};
 use std::io::{ErrorKind, Read, Write};
 use std::process::Abort;

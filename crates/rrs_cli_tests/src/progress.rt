@@ -1,7 +1,7 @@
 //! The line that shows how far a run is: on a terminal in memory, by a clock that is set.
 
-use rrs_commands::progress_line::{Erasing, LineTerminal, ProgressLine};
 use rrs_exec::{NoProgress, Progress};
+use rrs_run_commands::progress_line::{Erasing, LineTerminal, ProgressLine};
 use std::alloc::Global;
 use std::cell::Cell;
 use std::io;

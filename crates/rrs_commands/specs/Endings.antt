@@ -8,8 +8,8 @@ use Rattle.rrs_lib.specs.declared.instruction_executor.InstructionException.TheV
 use Rattle.rrs_env.specs.declared.Ending.{Ending}
 use Rattle.rrs_env.specs.declared.Ending.TheVariants.{Limit, Fault, Exit}
 use Rattle.rrs_cli.specs.Failures as Failures
-use Rattle.rrs_commands.specs.declared.ending.Refusal.{Refusal}
-use Rattle.rrs_commands.specs.declared.ending.Refusal.TheVariants.{SourceErrors, UnreadableSource, LargeSource, UnreadableInput, LargeProgram, WrongLimit, Image, IsElf, NoAddress, WrongAddress, NoExecutable, LargeImage, CannotCreate, Failed}
+use Rattle.rrs_requests.specs.declared.refusal.Refusal.{Refusal}
+use Rattle.rrs_requests.specs.declared.refusal.Refusal.TheVariants.{SourceErrors, UnreadableSource, LargeSource, UnreadableInput, LargeProgram, WrongLimit, Image, IsElf, NoAddress, WrongAddress, NoExecutable, LargeImage, CannotCreate, Failed}
 use Rattle.rrs_commands.specs.declared.subcommands.Task.{Task}
 use Rattle.rrs_commands.specs.declared.subcommands.Task.TheVariants.{Execute, Trace, Cover, Board}
 

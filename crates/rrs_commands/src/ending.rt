@@ -6,57 +6,11 @@ ghost use Rattle.rrs_commands.specs.Endings.{refused_status, signal_of, status_o
 
 use crate::image_errors::ToldImageError;
 use crate::subcommands::{Subcommand, Task};
-use rrs_assembly::ExecutableError;
-use rrs_cli::command::{Failure, NamedFailure};
+use rrs_cli::command::NamedFailure;
 use rrs_env::Ending;
-use rrs_exec::ImageError;
 use rrs_lib::instruction_executor::InstructionException;
+use rrs_requests::refusal::Refusal;
 use std::process::ExitCode;
-
-/// Why a subcommand did not do what it was asked.
-#[derive(Debug, Drop)]
-pub enum Refusal {
-    /// The source has mistakes, which were printed.
-    SourceErrors,
-    /// The source can't be read to its end.
-    UnreadableSource,
-    /// The source has more bytes than are read.
-    LargeSource,
-    /// The input of a board can't be read.
-    UnreadableInput,
-    /// The program's file has more bytes than are read.
-    LargeProgram,
-    /// The word for a limit, or for a number of bytes, is no number.
-    WrongLimit,
-    /// The file can't be made a process.
-    Image(ImageError),
-    /// The file is an ELF file, and its bytes are not to be run as they stand.
-    IsElf,
-    /// The word for an address is none, and no symbol has this name.
-    NoAddress,
-    /// The word for where a section lies is no address.
-    WrongAddress,
-    /// The program that was assembled has no executable.
-    NoExecutable(ExecutableError),
-    /// The bytes of the program, with the zeros between its sections, are too many.
-    LargeImage,
-    /// A file that is to be written can't be created, or is the one that is read.
-    CannotCreate,
-    /// Something else failed.
-    Failed(Failure),
-}
-
-impl From<Failure> for Refusal {
-    fn from(failure: Failure) -> Refusal {
-        Refusal::Failed(failure)
-    }
-}
-
-impl From<ImageError> for Refusal {
-    fn from(error: ImageError) -> Refusal {
-        Refusal::Image(error)
-    }
-}
 
 /// The signal that a program gets on Linux for an exception.
 fn signal_of(fault: &InstructionException) -> u8

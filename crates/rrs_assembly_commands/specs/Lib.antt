@@ -1,0 +1,2 @@
+-- What rrs as is asked, and what it makes of a source.
+pub mod Assembly

@@ -1,0 +1,247 @@
+//! What is made of a source of RISC-V.
+
+ghost use Rattle.std.specs.Prelude.{◌≡◌, [], None, IsSome, MatchOption, IfOk};
+ghost use Rattle.rrs_asm.specs.declared.sections.Layout.{Layout};
+ghost use Rattle.rrs_asm.specs.Source.{items_of};
+ghost use Rattle.rrs_asm.specs.Sections.{AreSectionsOf, ArePlaced, IsImage};
+ghost use Rattle.rrs_assembly.specs.Executables.{IsExecutableOf};
+ghost use Rattle.rrs_assembly_commands.specs.Assembly.{IsExecutableFrom, IsImageFrom, layout_of, wanted_of};
+
+use crate::assembly_requests::{AssemblyRequest, Form};
+use rrs_asm::{
+    Layout, MOST_BYTES, Program, SourceError, SourceFault, assemble_source, gnu_text, image,
+};
+use rrs_assembly::{executable_of, listing_of};
+use rrs_cli::command::Failure;
+use rrs_cli::report::{flush, write_text};
+use rrs_requests::files::created;
+use rrs_requests::refusal::{Refusal, failed, out_of_memory};
+use std::alloc::Global;
+use std::io::{ErrorKind, Read};
+use std::rt::Files;
+use std::{fs, io};
+
+/// The most bytes of a source, 64 MiB. A device may have bytes without an end.
+const SOURCE_BYTES: u64 = 1 << 26;
+
+/// What is made of a source.
+#[derive(Drop)]
+pub struct Products {
+    /// What is printed.
+    pub text: Vec<u8>,
+    /// The executable, where one is asked for.
+    pub executable: Option<Vec<u8>>,
+}
+
+/// What is asked for of a source, all of it made of the same sections: those of the source, each
+/// where the request's layout says. An executable has these sections as its segments. Where none is
+/// asked for, and neither a listing nor a source for GNU `as`, the text is the bytes of all
+/// sections, from the address of the first on. Mistakes are printed on standard error, behind the
+/// path.
+///
+/// # Errors
+///
+/// `Refusal::SourceErrors` where the source has mistakes, which were printed;
+/// `Refusal::NoExecutable` where the program has no executable; `Refusal::LargeImage` where its
+/// bytes are more than 64 MiB; out of memory as a failure.
+pub fn products_of<H: Eprint + AllocGlobal>(
+    rt: &H,
+    path: &str,
+    source: &[u8],
+    request: AssemblyRequest<'_>,
+) -> Result<Products, Refusal>
+    ensures bytes { request.entry.form ≡ Form.Bytes → request.entry.output ≡ None
+        → IfOk result (λ products.
+        IsImageFrom (layout_of (wanted_of request.entry)) source.now products.text.items) }
+    ensures executable { IfOk result (λ products.
+        MatchOption products.executable (request.entry.output ≡ None) (λ file.
+        IsSome request.entry.output
+        × IsExecutableFrom (layout_of (wanted_of request.entry)) source.now file.items)) }
+    ensures nothing { request.entry.form ≡ Form.Bytes → IsSome request.entry.output
+        → IfOk result (λ products. products.text.items ≡ []) }
+{
+    let layout = request.layout();
+    let program = program_of(rt, path, source, layout)?;
+    let executable = executable_for(rt.alloc(), request, &program)?;
+    let text = text_of(rt.alloc(), request, source, &program, layout.text_start)?;
+    Ok(Products { text, executable })
+}
+
+/// The program of a source, whose sections lie as the layout says. Mistakes are printed.
+///
+/// # Errors
+///
+/// `Refusal::SourceErrors` where the source has mistakes, and out of memory as a failure.
+fn program_of<'a, H: Eprint + AllocGlobal>(
+    rt: &H,
+    path: &str,
+    source: &'a [u8],
+    layout: Layout,
+) -> Result<Program<'a>, Refusal>
+    ensures { IfOk result (λ program.
+        AreSectionsOf layout (items_of source.now) program.sections.items) }
+{
+    match assemble_source(rt.alloc(), source, layout) {
+        Ok(program) => Ok(program),
+        Err(SourceFault::OutOfMemory) => Err(out_of_memory()),
+        Err(SourceFault::Errors(errors)) => {
+            print_mistakes(rt, path, &errors);
+            Err(Refusal::SourceErrors)
+        }
+    }
+}
+
+/// The executable of a program, where one is asked for.
+///
+/// # Errors
+///
+/// `Refusal::NoExecutable`, and why there is none.
+fn executable_for(
+    alloc: Global,
+    request: AssemblyRequest<'_>,
+    program: &Program,
+) -> Result<Option<Vec<u8>>, Refusal>
+    ensures { IfOk result (λ executable.
+        MatchOption executable (request.entry.output ≡ None) (λ file.
+        IsSome request.entry.output × IsExecutableOf program.now.sections.items file.items)) }
+{
+    if request.output.is_none() {
+        return Ok(None);
+    }
+    match executable_of(alloc, program) {
+        Ok(file) => Ok(Some(file)),
+        Err(error) => Err(Refusal::NoExecutable(error)),
+    }
+}
+
+/// What is printed of a program whose first section lies at an address.
+///
+/// # Errors
+///
+/// `Refusal::LargeImage` where its bytes are asked for and are more than 64 MiB, and out of memory
+/// as a failure.
+fn text_of(
+    alloc: Global,
+    request: AssemblyRequest<'_>,
+    source: &[u8],
+    program: &Program,
+    text_start: u32,
+) -> Result<Vec<u8>, Refusal>
+    ensures bytes { request.entry.form ≡ Form.Bytes → request.entry.output ≡ None
+        → (layout : Layout) → layout.text_start ≡ text_start
+        → ArePlaced layout program.now.sections.items
+        → IfOk result (λ text. IsImage text_start program.now.sections.items text.items) }
+    ensures nothing { request.entry.form ≡ Form.Bytes → IsSome request.entry.output
+        → IfOk result (λ text. text.items ≡ []) }
+{
+    match request.form {
+        Form::Bytes if request.output.is_some() => Ok(Vec::new(alloc)),
+        Form::Bytes => bytes_of(alloc, program, text_start),
+        Form::Source => {
+            let bytes = bytes_of(alloc, program, text_start)?;
+            match gnu_text(alloc, &bytes) {
+                Ok(text) => Ok(text.into_bytes()),
+                Err(_) => Err(out_of_memory()),
+            }
+        }
+        Form::Listing => match listing_of(alloc, source, program) {
+            Ok(listing) => Ok(listing),
+            Err(_) => Err(out_of_memory()),
+        },
+    }
+}
+
+/// The bytes of all sections from an address on, with zeros between them.
+///
+/// # Errors
+///
+/// `Refusal::LargeImage` where they are more than 64 MiB, and out of memory as a failure.
+fn bytes_of(alloc: Global, program: &Program, text_start: u32) -> Result<Vec<u8>, Refusal>
+    ensures { (layout : Layout) → layout.text_start ≡ text_start
+        → ArePlaced layout program.now.sections.items
+        → IfOk result (λ bytes. IsImage text_start program.now.sections.items bytes.items) }
+{
+    if size_from(program, text_start) > MOST_BYTES as u64 {
+        return Err(Refusal::LargeImage);
+    }
+    match image(alloc, program, text_start) {
+        Ok(bytes) => Ok(bytes),
+        Err(_) => Err(out_of_memory()),
+    }
+}
+
+/// How many bytes there are from an address up to the end of the last section that has any.
+fn size_from(program: &Program, start: u32) -> u64 {
+    let mut size = 0u64;
+    for section in &program.sections {
+        let length = section.made.bytes.len() as u64;
+        if length > 0 {
+            let address = u64::from(section.address.saturating_sub(start));
+            size = size.max(address.saturating_add(length));
+        }
+    }
+    size
+}
+
+/// Prints each mistake as a line. Where one can't be printed the others are tried too.
+fn print_mistakes<H: Eprint>(rt: &H, path: &str, errors: &[SourceError]) {
+    for error in errors {
+        let _ = eprintln!(rt; "{path}:{error}");
+    }
+}
+
+/// Assembles a file, writes the executable that is asked for, and prints what else is.
+///
+/// # Errors
+///
+/// `Refusal::CannotCreate` where the executable's file is the source, or can't be created. Those of
+/// `read_file` and of `products_of`: nothing is written then. `Refusal::Failed` for a write that
+/// fails.
+pub fn assemble_file<H: Files + Print + Eprint + AllocGlobal>(
+    rt: &H,
+    path: &str,
+    request: AssemblyRequest<'_>,
+) -> Result<(), Refusal> {
+    if request.output == Some(path) {
+        return Err(Refusal::CannotCreate);
+    }
+    let source = read_file(rt, path)?;
+    let products = products_of(rt, path, &source, request)?;
+    if let Some(executable) = &products.executable {
+        if let Some(mut file) = created(rt, request.output)? {
+            write_text(&mut file, executable).map_err(failed)?;
+            flush(&mut file).map_err(failed)?;
+        }
+    }
+    let mut out = io::writer(rt);
+    write_text(&mut out, &products.text).map_err(failed)?;
+    flush(&mut out).map_err(failed)
+}
+
+/// The bytes of a source.
+///
+/// # Errors
+///
+/// `Failure::CannotOpen` where the file can't be opened, and what `read_source` refuses.
+fn read_file<H: Files + AllocGlobal>(rt: &H, path: &str) -> Result<Vec<u8>, Refusal> {
+    match fs::open(rt, path) {
+        Ok(file) => read_source(rt.alloc(), file),
+        Err(_) => Err(Refusal::Failed(Failure::CannotOpen)),
+    }
+}
+
+/// The bytes that a reader has left.
+///
+/// # Errors
+///
+/// `Refusal::LargeSource` where it has more than `SOURCE_BYTES`, `Refusal::UnreadableSource` where
+/// a read fails, and out of memory for the bytes as a failure.
+fn read_source<R: Read + Drop>(alloc: Global, reader: R) -> Result<Vec<u8>, Refusal> {
+    let mut source = Vec::new(alloc);
+    match reader.take(SOURCE_BYTES + 1).read_to_end(&mut source) {
+        Ok(_) if source.len() as u64 > SOURCE_BYTES => Err(Refusal::LargeSource),
+        Ok(_) => Ok(source),
+        Err(error) if error.kind() == ErrorKind::OutOfMemory => Err(out_of_memory()),
+        Err(_) => Err(Refusal::UnreadableSource),
+    }
+}

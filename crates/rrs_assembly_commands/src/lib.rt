@@ -1,0 +1,6 @@
+//! `rrs as`: what its words ask for, and what it makes of a source.
+
+#![tactic(auto)]
+
+pub mod assembly;
+pub mod assembly_requests;

@@ -1,0 +1,81 @@
+//! A program that makes system calls of Linux: the memory that it is loaded into, and its run.
+
+ghost use Rattle.std.specs.Prelude.{◌≡◌, IfOk, IfErr, OnErr};
+ghost use Rattle.rrs_cli.specs.Faults.{StopsLoadInto};
+ghost use Rattle.rrs_run_commands.specs.Execution.{ExecutesProgram};
+
+use rrs_cli::command::{Failure, open_file};
+use rrs_cli::fault::RunFault;
+use rrs_cli::loading::load;
+use rrs_env::{Ending, ServedEnd, run_served};
+use rrs_exec::{DECODED_WORDS, InPieces, Progress};
+use rrs_fast::{CachedMemory, OwnCache};
+use rrs_lib::HartState;
+use rrs_lib::instruction_executor::InstructionExecutor;
+use rrs_linux::Linux;
+use std::alloc::Global;
+use std::io::{Read, Write};
+use std::rt::Files;
+
+/// The number of words of the memory.
+const WORDS: usize = 262_144;
+/// The address behind the memory, where sp starts.
+const MEMORY_END: u32 = 0x0010_0000;
+/// Where a program's break starts.
+pub const HEAP_START: u32 = 0x0008_0000;
+/// The highest break of a program. What lies above is for its stack.
+pub const HEAP_END: u32 = 0x000c_0000;
+
+/// Runs a reader's bytes as a program, and serves its system calls, for `limit` steps or until it
+/// ends or raises an exception. The progress is told of its steps, and of its end.
+///
+/// # Errors
+///
+/// `RunFault::OutOfMemory` before anything is read. `RunFault::Reader` and `RunFault::Refused`
+/// where the bytes can't be loaded. No step is made then, and the environment is as it was.
+pub fn execute<F: Read, R: Read, W: Write, E: Write, P: Progress>(
+    alloc: Global,
+    program: &mut F,
+    limit: u64,
+    environment: &mut Linux<R, W, E>,
+    progress: &mut P,
+) -> Result<Ending, RunFault>
+    ensures executed { IfOk result (ExecutesProgram R.remaining W.contents E.contents limit
+        (F.remaining program.old) (F.remaining program.new) environment.old environment.new) }
+    ensures fault { IfErr result
+        (StopsLoadInto 262144 (F.remaining program.old) (F.remaining program.new)) }
+    ensures kept { OnErr result (environment.new ≡ environment.old) }
+{
+    let memory = load(alloc, WORDS, program)?;
+    let mut cached: CachedMemory<_, DECODED_WORDS> = CachedMemory::new(memory);
+    let mut hart = HartState::new();
+    hart.registers[2] = MEMORY_END;
+    let mut executor = InstructionExecutor {
+        mem: &mut cached,
+        hart_state: &mut hart,
+    };
+    let mut runner = InPieces {
+        runner: OwnCache,
+        progress: &mut *progress,
+    };
+    let ServedEnd { steps: _, ending } = run_served(&mut runner, &mut executor, environment, limit);
+    progress.end();
+    Ok(ending)
+}
+
+/// Runs the bytes of a file as `execute` does.
+///
+/// # Errors
+///
+/// `Failure::CannotOpen` where the file can't be opened, and `Failure::Run` where it can't be
+/// loaded, or out of memory.
+pub fn execute_file<H: Files + AllocGlobal, R: Read, W: Write, E: Write, P: Progress>(
+    rt: &H,
+    path: &str,
+    limit: u64,
+    environment: &mut Linux<R, W, E>,
+    progress: &mut P,
+) -> Result<Ending, Failure> {
+    let mut reader = open_file(rt, path)?;
+    execute(rt.alloc(), &mut reader, limit, environment, progress).map_err(Failure::Run)
+}
