@@ -3,7 +3,7 @@
 ghost use Rattle.std.specs.Prelude.{◌<◌, ◌^◌};
 
 use rrs_extra::PagedMemory;
-use rrs_fast::{CachedMemory, DecodeCache, run_cached};
+use rrs_fast::{CachedMemory, DecodeCache, OwnCache, Runner, WordCache, run_cached};
 use rrs_lib::instruction_executor::{InstructionExecutor, RunEnd};
 use rrs_lib::memories::{BoxedMemory, MemorySpace, VecMemory};
 use rrs_lib::{HartState, MemAccessSize, Memory};
@@ -12,67 +12,146 @@ use std::alloc::{AllocError, Global};
 use std::process::Abort;
 use std::test::Fail;
 
-/// Adds 1 to x5, stores x6 somewhere, exchanges x6, and begins again: so each time it stores the
-/// other of two values.
-const LOOP: [u32; 4] = [
-    0x0012_8293, // addi x5, x5, 1
-    0, // the store
-    0x0073_4333, // xor x6, x6, x7
-    0xff5f_f06f, // jal x0, -12
-];
+/// addi x5, x5, 1
+const ADD: u32 = 0x0012_8293;
 
-/// A store of the loop, and the two values that it stores.
-type Change = (u32, u32, u32);
+/// addi x5, x5, 100
+const ADD_100: u32 = 0x0642_8293;
 
-/// A word of the loop, a half-word, each byte that can be changed and leaves an `addi`, the next
-/// word but one, a word behind the loop, the last word below 2,048, and the one at 4,096, which has
-/// the place of the first one in a table of 1,024.
-const CHANGES: [Change; 9] = [
-    (0x0060_2023, 0x0642_8293, 0x0012_8293), // sw x6, 0(x0): addi by 100 and by 1
-    (0x0060_1123, 0x0642, 0x0012), // sh x6, 2(x0): its upper half
-    (0x0060_0123, 0x72, 0x12), // sb x6, 2(x0): the four low bits of its immediate
-    (0x0060_01a3, 0x06, 0x00), // sb x6, 3(x0): the eight high ones
-    (0x0060_00a3, 0xc2, 0x82), // sb x6, 1(x0): xori x5, x5, 1 and addi x5, x5, 1, by funct3
-    (0x0060_2423, 0x0063_c333, 0x0073_4333), // sw x6, 8(x0): the two orders of xor
-    (0x0060_2823, 1, 2), // sw x6, 16(x0): behind the loop
-    (0x7e60_2e23, 1, 2), // sw x6, 2044(x0): no word of the loop
-    (0x0064_2023, 0x0642_8293, 0x0012_8293), // sw x6, 0(x8)
+/// xor x6, x6, x7: x6 has the other one of two values.
+const EXCHANGE: u32 = 0x0073_4333;
+
+/// jal x0, -12
+const BACK: u32 = 0xff5f_f06f;
+
+/// In the place of the last word of a loop: a jump to two words that are as far behind its first
+/// one as the table is long. They add 16 to x5, and jump back.
+const AWAY: u32 = 0;
+
+/// A table: its length in words and in bytes, and the jumps from a loop to the two words that are
+/// so far behind it, and back.
+struct Table {
+    words: u32,
+    bytes: u32,
+    away: u32,
+    home: u32,
+}
+
+/// The table of a `DecodeCache`.
+const SMALL: Table = Table {
+    words: 1024,
+    bytes: 4096,
+    away: 0x7f50_006f, // jal x0, 4084
+    home: 0xffdf_e06f, // jal x0, -4100
+};
+
+/// The table of `rrs run` and `rrs exec`.
+const LARGE: Table = Table {
+    words: 16384,
+    bytes: 0x1_0000,
+    away: 0x7f50_f06f, // jal x0, 65524
+    home: 0xffde_f06f, // jal x0, -65540
+};
+
+/// A loop that changes itself: how many of its words stand before the table's end, where it does
+/// not begin at 0; the words; and the two values that x6 has in turn. x8 is the length of the table
+/// in bytes.
+type Change = (u32, [u32; 4], u32, u32);
+
+/// A word of the loop, a half-word, each byte that can be changed and leaves an `addi`; the next
+/// word, and a half-word and a byte of it; the store itself; the word that is jumped to next; the
+/// same over the table's end; words behind the loop; and a loop of words that have one place.
+const CHANGES: [Change; 19] = [
+    (0, [ADD, 0x0060_2023, EXCHANGE, BACK], ADD_100, ADD), // sw x6, 0(x0)
+    (0, [ADD, 0x0060_1123, EXCHANGE, BACK], 0x0642, 0x0012), // sh x6, 2(x0): its upper half
+    (0, [ADD, 0x0060_0123, EXCHANGE, BACK], 0x72, 0x12), // sb x6, 2(x0): four bits of its immediate
+    (0, [ADD, 0x0060_01a3, EXCHANGE, BACK], 0x06, 0x00), // sb x6, 3(x0): the eight high ones
+    (0, [ADD, 0x0060_00a3, EXCHANGE, BACK], 0xc2, 0x82), // sb x6, 1(x0): xori, by funct3
+    (0, [0x0060_2223, ADD, EXCHANGE, BACK], ADD_100, ADD), // sw x6, 4(x0)
+    (0, [0x0060_1323, ADD, EXCHANGE, BACK], 0x0642, 0x0012), // sh x6, 6(x0)
+    (0, [0x0060_03a3, ADD, EXCHANGE, BACK], 0x06, 0x00), // sb x6, 7(x0)
+    (0, [ADD, 0x0060_2223, EXCHANGE, BACK], ADD_100, ADD), // sw x6, 4(x0)
+    (0, [ADD, EXCHANGE, 0x0060_2023, BACK], ADD_100, ADD), // sw x6, 0(x0)
+    (0, [ADD, EXCHANGE, 0x0060_01a3, BACK], 0x06, 0x00), // sb x6, 3(x0)
+    (1, [0x0064_2023, ADD, EXCHANGE, BACK], ADD_100, ADD), // sw x6, 0(x8): the next word
+    (2, [ADD, 0xfe64_2c23, EXCHANGE, BACK], ADD_100, ADD), // sw x6, -8(x8): the first word
+    (3, [ADD, EXCHANGE, 0xfe64_2a23, BACK], ADD_100, ADD), // sw x6, -12(x8): the first word
+    (0, [ADD, 0x0060_2823, EXCHANGE, BACK], 1, 2), // sw x6, 16(x0): behind the loop
+    (0, [ADD, 0x0064_2023, EXCHANGE, BACK], ADD_100, ADD), // sw x6, 0(x8): no word of the loop
+    (0, [ADD, 0x0064_2023, EXCHANGE, AWAY], ADD_100, ADD), // sw x6, 0(x8): a word of it
+    (0, [ADD, 0x0060_2023, EXCHANGE, AWAY], ADD_100, ADD), // sw x6, 0(x0): the first word
+    (2, [ADD, 0xfe64_2c23, EXCHANGE, AWAY], ADD_100, ADD), // sw x6, -8(x8): the first word
 ];
 
 /// How many steps are made.
 const LIMIT: u64 = 4001;
 
-/// The first page of words of a loop that makes a change. The second one is of zeros.
-fn words_of(change: &Change) -> [u32; 1024] {
-    let mut words = [0; 1024];
-    words[..4].copy_from_slice(&LOOP);
-    words[1] = change.0;
-    words
+/// The number of a loop's first word.
+fn first_of(change: &Change, table: &Table) -> u32 {
+    match change.0 {
+        0 => 0,
+        before => table.words.saturating_sub(before),
+    }
+}
+
+/// The words of a loop, beside zeros. There are twice as many as the table has.
+fn words_of(alloc: Global, change: &Change, table: &Table) -> Result<Vec<u32>, AllocError> {
+    let first = first_of(change, table);
+    let [one, two, three, last] = change.1;
+    let last = if last == AWAY { table.away } else { last };
+    let mut words = Vec::new(alloc);
+    words.resize(table.words.saturating_mul(2) as usize, 0)?;
+    let loop_words = [one, two, three, last];
+    for (entry, word) in words.iter_mut().skip(first as usize).zip(loop_words) {
+        *entry = word;
+    }
+    let behind = first.saturating_add(table.words);
+    let words_away = [0x0102_8293, table.home]; // addi x5, x5, 16
+    for (entry, word) in words.iter_mut().skip(behind as usize).zip(words_away) {
+        *entry = word;
+    }
+    Ok(words)
 }
 
 /// The hart that makes it.
-fn hart_for(change: &Change) -> HartState {
-    let (_, first, second) = *change;
-    hart_of(0, &[(6, first), (7, first ^ second), (8, 4096)])
+fn hart_for(change: &Change, table: &Table) -> HartState {
+    let (_, _, first, second) = *change;
+    let pc = first_of(change, table).wrapping_mul(4);
+    hart_of(pc, &[(6, first), (7, first ^ second), (8, table.bytes)])
 }
 
 /// How a run ended, and the registers and the pc after it.
 type Seen = (RunEnd, [u32; 32], u32);
 
-/// What a hart has after a run of one call.
-fn run_once<M: Memory>(cache: &mut DecodeCache, mem: &mut M, change: &Change) -> Seen {
-    let mut hart_state = hart_for(change);
+/// What a hart has after runs of so many steps each.
+fn run_in_parts<M: Memory, R: Runner<M>>(
+    runner: &mut R,
+    mem: &mut M,
+    mut hart_state: HartState,
+    part: u64,
+) -> Seen {
     let mut executor = InstructionExecutor {
         mem,
         hart_state: &mut hart_state,
     };
-    let end = cache.run(&mut executor, LIMIT);
+    let mut end = RunEnd {
+        steps: LIMIT,
+        exception: None,
+    };
+    let mut left = LIMIT;
+    for _ in 0..LIMIT {
+        let last = runner.run(&mut executor, part.min(left));
+        if last.exception.is_some() {
+            end = last;
+            break;
+        }
+        left = left.saturating_sub(part);
+    }
     (end, hart_state.registers, hart_state.pc)
 }
 
 /// What it has after as many steps, each made by itself.
-fn step_by_step<M: Memory>(mem: &mut M, change: &Change) -> Seen {
-    let mut hart_state = hart_for(change);
+fn step_by_step<M: Memory>(mem: &mut M, mut hart_state: HartState) -> Seen {
     let mut executor = InstructionExecutor {
         mem,
         hart_state: &mut hart_state,
@@ -93,11 +172,21 @@ fn step_by_step<M: Memory>(mem: &mut M, change: &Change) -> Seen {
     (end, hart_state.registers, hart_state.pc)
 }
 
+/// The half of a loop's words from one on, for the table of 1,024.
+fn half_of(words: &[u32], first: usize) -> [u32; 1024] {
+    let mut half = [0; 1024];
+    for (entry, word) in half.iter_mut().zip(words.iter().skip(first)) {
+        *entry = *word;
+    }
+    half
+}
+
 /// A memory of two pages.
 fn pages_of(alloc: Global, change: &Change) -> Result<PagedMemory, AllocError> {
+    let words = words_of(alloc, change, &SMALL)?;
     let mut pages = PagedMemory::new(alloc);
-    add_page(alloc, &mut pages, 0, &words_of(change))?;
-    add_page(alloc, &mut pages, 1, &[0; 1024])?;
+    add_page(alloc, &mut pages, 0, &half_of(&words, 0))?;
+    add_page(alloc, &mut pages, 1, &half_of(&words, 1024))?;
     Ok(pages)
 }
 
@@ -117,53 +206,28 @@ fn add_page(
     }
 }
 
-/// A space of one region.
+/// A space of two regions.
 fn space_of(alloc: Global, change: &Change) -> Result<MemorySpace<VecMemory>, AllocError> {
+    let words = words_of(alloc, change, &SMALL)?;
     let mut space = MemorySpace::new(alloc);
-    match space.add_memory(0, 8192, words_over(alloc, change)?) {
-        Ok(_) => Ok(space),
-        Err(_) => Err(AllocError),
+    for (base, first) in [(0, 0), (4096, 1024)] {
+        let memory = VecMemory::new(half_of(&words, first).to_vec(alloc)?);
+        if space.add_memory(base, 4096, memory).is_err() {
+            return Err(AllocError);
+        }
     }
+    Ok(space)
 }
 
 /// A memory of words.
 fn words_over(alloc: Global, change: &Change) -> Result<VecMemory, AllocError> {
-    let mut words = words_of(change).to_vec(alloc)?;
-    words.resize(2048, 0)?;
-    Ok(VecMemory::new(words))
+    Ok(VecMemory::new(words_of(alloc, change, &SMALL)?))
 }
 
-/// The run over a memory of words, behind a box.
-fn run_in_box(cache: &mut DecodeCache, alloc: Global, change: &Change) -> Result<Seen, AllocError> {
+/// A memory of words, behind a box.
+fn box_of(alloc: Global, change: &Change) -> Result<BoxedMemory, AllocError> {
     let memory = Box::new(alloc, words_over(alloc, change)?)?;
-    Ok(run_once(cache, &mut BoxedMemory { memory }, change))
-}
-
-/// What a hart has after runs of so many steps each, over a memory with `N` decoded words.
-fn run_in_parts<M: Memory, const N: usize>(
-    cached: &mut CachedMemory<M, N>,
-    change: &Change,
-    part: u64,
-) -> Seen {
-    let mut hart_state = hart_for(change);
-    let mut executor = InstructionExecutor {
-        mem: cached,
-        hart_state: &mut hart_state,
-    };
-    let mut end = RunEnd {
-        steps: LIMIT,
-        exception: None,
-    };
-    let mut left = LIMIT;
-    for _ in 0..LIMIT {
-        let last = run_cached(&mut executor, part.min(left));
-        if last.exception.is_some() {
-            end = last;
-            break;
-        }
-        left = left.saturating_sub(part);
-    }
-    (end, hart_state.registers, hart_state.pc)
+    Ok(BoxedMemory { memory })
 }
 
 /// Asserts that a run leaves what is expected.
@@ -177,14 +241,32 @@ fn each_change_is_seen_by_the_next_fetch(rt: HostRuntime) -> Result<(), Fail> {
     // One cache is lent to all of the runs.
     let mut cache = DecodeCache::new();
     for change in &CHANGES {
-        let expected = step_by_step(&mut words_over(alloc, change)?, change);
-        let over_words = run_once(&mut cache, &mut words_over(alloc, change)?, change);
-        same_seen(&rt, &over_words, &expected);
-        let over_pages = run_once(&mut cache, &mut pages_of(alloc, change)?, change);
-        same_seen(&rt, &over_pages, &expected);
-        let over_space = run_once(&mut cache, &mut space_of(alloc, change)?, change);
-        same_seen(&rt, &over_space, &expected);
-        same_seen(&rt, &run_in_box(&mut cache, alloc, change)?, &expected);
+        let hart = || hart_for(change, &SMALL);
+        let expected = step_by_step(&mut words_over(alloc, change)?, hart());
+        let words = &mut words_over(alloc, change)?;
+        same_seen(
+            &rt,
+            &run_in_parts(&mut cache, words, hart(), LIMIT),
+            &expected,
+        );
+        let pages = &mut pages_of(alloc, change)?;
+        same_seen(
+            &rt,
+            &run_in_parts(&mut cache, pages, hart(), LIMIT),
+            &expected,
+        );
+        let space = &mut space_of(alloc, change)?;
+        same_seen(
+            &rt,
+            &run_in_parts(&mut cache, space, hart(), LIMIT),
+            &expected,
+        );
+        let boxed = &mut box_of(alloc, change)?;
+        same_seen(
+            &rt,
+            &run_in_parts(&mut cache, boxed, hart(), LIMIT),
+            &expected,
+        );
     }
     Ok(())
 }
@@ -192,9 +274,10 @@ fn each_change_is_seen_by_the_next_fetch(rt: HostRuntime) -> Result<(), Fail> {
 #[test]
 fn a_word_that_is_changed_in_each_turn_adds_both_numbers(rt: HostRuntime) -> Result<(), Fail> {
     let alloc = rt.alloc();
-    let mut memory = words_over(alloc, &CHANGES[0])?;
-    let mut cache = DecodeCache::new();
-    let (end, registers, pc) = run_once(&mut cache, &mut memory, &CHANGES[0]);
+    let [change, ..] = &CHANGES;
+    let mut memory = words_over(alloc, change)?;
+    let hart = hart_for(change, &SMALL);
+    let (end, registers, pc) = run_in_parts(&mut DecodeCache::new(), &mut memory, hart, LIMIT);
     // 1,000 turns of four steps, and the first step of the next one
     assert!(rt; (end.steps, end.exception, registers[5], pc) == (LIMIT, None, 50_501, 4));
     Ok(())
@@ -203,15 +286,50 @@ fn a_word_that_is_changed_in_each_turn_adds_both_numbers(rt: HostRuntime) -> Res
 #[test]
 fn each_change_is_seen_by_the_next_run(rt: HostRuntime) -> Result<(), Fail> {
     let alloc = rt.alloc();
+    // A cache of words is lent to runs of all of the loops.
+    let mut cache = WordCache::new();
     for change in &CHANGES {
-        let expected = step_by_step(&mut words_over(alloc, change)?, change);
+        let hart = || hart_for(change, &SMALL);
+        let expected = step_by_step(&mut words_over(alloc, change)?, hart());
         let mut words: CachedMemory<_, 1024> = CachedMemory::new(words_over(alloc, change)?);
-        same_seen(&rt, &run_in_parts(&mut words, change, 7), &expected);
+        same_seen(
+            &rt,
+            &run_in_parts(&mut OwnCache, &mut words, hart(), 7),
+            &expected,
+        );
         // Each even word has the place of each other one.
         let mut pages: CachedMemory<_, 2> = CachedMemory::new(pages_of(alloc, change)?);
-        same_seen(&rt, &run_in_parts(&mut pages, change, 1000), &expected);
+        same_seen(
+            &rt,
+            &run_in_parts(&mut OwnCache, &mut pages, hart(), 1000),
+            &expected,
+        );
         let mut space: CachedMemory<_, 64> = CachedMemory::new(space_of(alloc, change)?);
-        same_seen(&rt, &run_in_parts(&mut space, change, 1000), &expected);
+        same_seen(
+            &rt,
+            &run_in_parts(&mut OwnCache, &mut space, hart(), 1000),
+            &expected,
+        );
+        let lent = &mut words_over(alloc, change)?;
+        same_seen(&rt, &run_in_parts(&mut cache, lent, hart(), 7), &expected);
+    }
+    Ok(())
+}
+
+#[test]
+fn each_change_is_seen_over_the_table_of_programs(rt: HostRuntime) -> Result<(), Fail> {
+    let alloc = rt.alloc();
+    for change in &CHANGES {
+        let hart = || hart_for(change, &LARGE);
+        let words = VecMemory::new(words_of(alloc, change, &LARGE)?);
+        let mut kept: CachedMemory<_, 16384> = CachedMemory::new(words);
+        let mut fetched = VecMemory::new(words_of(alloc, change, &LARGE)?);
+        let expected = step_by_step(&mut fetched, hart());
+        same_seen(
+            &rt,
+            &run_in_parts(&mut OwnCache, &mut kept, hart(), 1000),
+            &expected,
+        );
     }
     Ok(())
 }
