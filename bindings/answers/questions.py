@@ -357,13 +357,46 @@ class Questions:
             state = self.state(0x80000000, 0x80000000, words)
             yield f"cached 9,10,100,100 {writes} at=0x80000000 part=0:1026 {state}"
 
+    @staticmethod
+    def changing():
+        """Loops that store into themselves: the base, the words, the values that x6 has in turn, and
+        what x9 points to. Two of them lie over the end of a cache of 1,024 words, and the last two
+        go between words that have one place there."""
+        add, add_100, exchange, back = 0x00128293, 0x06428293, 0x00734333, 0xFF5FF06F
+        in_turn = (add_100, add)
+        base, at_end = 0x80000000, 0x80000FF8
+        yield base, [add, 0x0064A023, exchange, back], in_turn, 0  # sw x6, 0(x9)
+        yield base, [add, 0x00649123, exchange, back], (0x0642, 0x0012), 0  # sh x6, 2(x9)
+        yield base, [add, 0x006480A3, exchange, back], (0xC2, 0x82), 0  # sb x6, 1(x9): xori
+        yield base, [0x0064A023, add, exchange, back], in_turn, 4  # the next word
+        yield base, [0x00649123, add, exchange, back], (0x0642, 0x0012), 4
+        yield base, [0x006481A3, add, exchange, back], (0x06, 0x00), 4  # sb x6, 3(x9)
+        yield base, [add, 0x0064A023, exchange, back], in_turn, 4  # the store itself
+        yield base, [add, exchange, 0x0064A023, back], in_turn, 0  # the word that is jumped to next
+        yield at_end, [add, 0x0064A023, exchange, back], in_turn, 0
+        yield at_end + 4, [0x0064A023, add, exchange, back], in_turn, 4
+        away, beyond = 0x7F50006F, [0] * 1020 + [0x01028293, 0xFFDFE06F]
+        yield base, [add, 0x0064A023, exchange, away, *beyond], in_turn, 0
+        yield base, [add, 0x0064A023, exchange, away, *beyond], in_turn, 4096
+
+    def cached_changing(self):
+        for base, words, (first, second), place in self.changing():
+            registers = (f"x6={hexed(first)},x7={hexed(first ^ second)},"
+                         f"x9={hexed(base + place)}")
+            state = (f"at={hexed(base)} part=0:{len(words)} pc={hexed(base)} last=- "
+                     f"regs={registers} mem={','.join(map(hexed, words))}")
+            limits = "1,2,3,4,5,6,7,100,1000"
+            yield f"cached {limits} - {state}"
+            yield f"cached_until {limits} {hexed(base + 8)} - {state}"
+            yield f"run 4001 {state}"
+
 
 def main():
     questions = Questions(20261124)
     for kind in (questions.fields, questions.texts, questions.requests, questions.steps,
                  questions.records, questions.jumps, questions.runs, questions.ends_of_addresses,
                  questions.machine_steps, questions.csrs_by_number, questions.changes,
-                 questions.cached):
+                 questions.cached, questions.cached_changing):
         for line in kind():
             print(line)
 
