@@ -10,16 +10,36 @@ use rrs_lib::{HartState, MemAccessSize, Memory};
 use rrs_test_machines::hart_of;
 use rrs_trace::{StopEnd, StopReason, run_until, run_until_cached};
 use std::alloc::{AllocError, Global};
+use std::process::Abort;
 use std::test::Fail;
 
-/// Adds 1 or 100 to x5 in turn, by a store over its first word, and goes round.
-const CHANGING: [u32; 6] = [
-    0x0012_8293, // addi x5, x5, 1
-    0x0060_2023, // sw x6, 0(x0)
-    0x0073_4333, // xor x6, x6, x7
-    0x0000_0013, // addi x0, x0, 0
-    0xff1f_f06f, // jal x0, -16
-    0,
+/// addi x5, x5, 1
+const ADD: u32 = 0x0012_8293;
+
+/// addi x5, x5, 100
+const ADD_100: u32 = 0x0642_8293;
+
+/// xor x6, x6, x7: x6 has the other one of two values.
+const EXCHANGE: u32 = 0x0073_4333;
+
+/// addi x0, x0, 0
+const NOTHING: u32 = 0x0000_0013;
+
+/// jal x0, -16
+const BACK: u32 = 0xff1f_f06f;
+
+/// A loop that changes itself, and the two values that x6 has in turn.
+type Changing = ([u32; 5], u32, u32);
+
+/// A store over the first word, over the next word, over itself, over the word that is jumped to
+/// next, and over a half-word and a byte of the next word.
+const LOOPS: [Changing; 6] = [
+    ([ADD, 0x0060_2023, EXCHANGE, NOTHING, BACK], ADD_100, ADD), // sw x6, 0(x0)
+    ([0x0060_2223, ADD, EXCHANGE, NOTHING, BACK], ADD_100, ADD), // sw x6, 4(x0)
+    ([ADD, 0x0060_2223, EXCHANGE, NOTHING, BACK], ADD_100, ADD), // sw x6, 4(x0)
+    ([ADD, EXCHANGE, NOTHING, 0x0060_2023, BACK], ADD_100, ADD), // sw x6, 0(x0)
+    ([0x0060_1323, ADD, EXCHANGE, NOTHING, BACK], 0x0642, 0x0012), // sh x6, 6(x0)
+    ([0x0060_03a3, ADD, EXCHANGE, NOTHING, BACK], 0x06, 0x00), // sb x6, 7(x0)
 ];
 
 /// The stops of the runs: within the loop, at its first word, behind it, at no multiple of 4, and
@@ -29,14 +49,15 @@ const STOPS: [&[u32]; 6] = [&[12], &[0], &[8, 0, 4, 12], &[20, 400], &[2, 6], &[
 /// What is seen after a run.
 type Seen = (StopEnd, [u32; 32], u32, Option<usize>);
 
-/// The hart that runs the loop.
-fn hart_for() -> HartState {
-    hart_of(0, &[(6, 0x0642_8293), (7, 0x0642_8293 ^ 0x0012_8293)])
+/// The hart that runs a loop.
+fn hart_for(changing: &Changing) -> HartState {
+    let (_, first, second) = *changing;
+    hart_of(0, &[(6, first), (7, first ^ second)])
 }
 
-/// The loop in 16 words.
-fn words_of(alloc: Global) -> Result<VecMemory, AllocError> {
-    let mut words = CHANGING.to_vec(alloc)?;
+/// A loop in 16 words.
+fn words_of(alloc: Global, changing: &Changing) -> Result<VecMemory, AllocError> {
+    let mut words = changing.0.to_vec(alloc)?;
     words.resize(16, 0)?;
     Ok(VecMemory::new(words))
 }
@@ -73,17 +94,16 @@ impl Memory for PartlyPure {
 }
 
 /// A space with these words.
-fn space_of(alloc: Global) -> Result<MemorySpace<VecMemory>, AllocError> {
+fn space_of(alloc: Global, changing: &Changing) -> Result<MemorySpace<VecMemory>, AllocError> {
     let mut space = MemorySpace::new(alloc);
-    match space.add_memory(0, 64, words_of(alloc)?) {
+    match space.add_memory(0, 64, words_of(alloc, changing)?) {
         Ok(_) => Ok(space),
         Err(_) => Err(AllocError),
     }
 }
 
 /// Goes on three times to a stop, over words that are fetched.
-fn stopped<M: Memory>(mem: &mut M, stops: &[u32], limit: u64) -> Seen {
-    let mut hart_state = hart_for();
+fn stopped<M: Memory>(mem: &mut M, mut hart_state: HartState, stops: &[u32], limit: u64) -> Seen {
     let mut executor = InstructionExecutor {
         mem,
         hart_state: &mut hart_state,
@@ -98,10 +118,10 @@ fn stopped<M: Memory>(mem: &mut M, stops: &[u32], limit: u64) -> Seen {
 /// The same over words that are kept.
 fn stopped_cached<M: Memory, const N: usize>(
     mem: &mut CachedMemory<M, N>,
+    mut hart_state: HartState,
     stops: &[u32],
     limit: u64,
 ) -> Seen {
-    let mut hart_state = hart_for();
     let mut executor = InstructionExecutor {
         mem,
         hart_state: &mut hart_state,
@@ -116,23 +136,38 @@ fn stopped_cached<M: Memory, const N: usize>(
 #[test]
 fn kept_words_stop_where_fetched_ones_do(rt: HostRuntime) -> Result<(), Fail> {
     let alloc = rt.alloc();
-    for stops in &STOPS {
-        for limit in [0, 1, 2, 4, 5, 500] {
-            let expected = stopped(&mut words_of(alloc)?, stops, limit);
-            let mut words: CachedMemory<_, 64> = CachedMemory::new(words_of(alloc)?);
-            assert!(rt; stopped_cached(&mut words, stops, limit) == expected);
-            let mut few: CachedMemory<_, 2> = CachedMemory::new(words_of(alloc)?);
-            assert!(rt; stopped_cached(&mut few, stops, limit) == expected);
-            let mut space: CachedMemory<_, 64> = CachedMemory::new(space_of(alloc)?);
-            assert!(rt; stopped_cached(&mut space, stops, limit) == expected);
-            for pure_below in [0, 4, 8, 12] {
-                let mut partly: CachedMemory<_, 64> = CachedMemory::new(PartlyPure {
-                    words: words_of(alloc)?,
-                    pure_below,
-                });
-                assert!(rt; stopped_cached(&mut partly, stops, limit) == expected);
+    for changing in &LOOPS {
+        for stops in &STOPS {
+            for limit in [0, 1, 2, 4, 5, 100] {
+                stops_alike(&rt, alloc, changing, stops, limit)?;
             }
         }
+    }
+    Ok(())
+}
+
+/// Asserts that runs over kept words of several memories end as runs over fetched words.
+fn stops_alike(
+    rt: &impl Abort,
+    alloc: Global,
+    changing: &Changing,
+    stops: &[u32],
+    limit: u64,
+) -> Result<(), AllocError> {
+    let hart = || hart_for(changing);
+    let expected = stopped(&mut words_of(alloc, changing)?, hart(), stops, limit);
+    let mut words: CachedMemory<_, 64> = CachedMemory::new(words_of(alloc, changing)?);
+    assert!(rt; stopped_cached(&mut words, hart(), stops, limit) == expected);
+    let mut few: CachedMemory<_, 2> = CachedMemory::new(words_of(alloc, changing)?);
+    assert!(rt; stopped_cached(&mut few, hart(), stops, limit) == expected);
+    let mut space: CachedMemory<_, 64> = CachedMemory::new(space_of(alloc, changing)?);
+    assert!(rt; stopped_cached(&mut space, hart(), stops, limit) == expected);
+    for pure_below in [0, 4, 8, 12] {
+        let mut partly: CachedMemory<_, 64> = CachedMemory::new(PartlyPure {
+            words: words_of(alloc, changing)?,
+            pure_below,
+        });
+        assert!(rt; stopped_cached(&mut partly, hart(), stops, limit) == expected);
     }
     Ok(())
 }
@@ -140,8 +175,9 @@ fn kept_words_stop_where_fetched_ones_do(rt: HostRuntime) -> Result<(), Fail> {
 // The turns add 1, 100, 1: the first call stops behind four steps, and the others behind five.
 #[test]
 fn a_run_goes_on_from_a_stop(rt: HostRuntime) -> Result<(), Fail> {
-    let mut words: CachedMemory<_, 64> = CachedMemory::new(words_of(rt.alloc())?);
-    let (end, registers, pc, last) = stopped_cached(&mut words, &[12], 100);
+    let [changing, ..] = &LOOPS;
+    let mut words: CachedMemory<_, 64> = CachedMemory::new(words_of(rt.alloc(), changing)?);
+    let (end, registers, pc, last) = stopped_cached(&mut words, hart_for(changing), &[12], 100);
     let expected = StopEnd {
         steps: 5,
         reason: StopReason::AtStop,
@@ -204,8 +240,9 @@ fn a_jump_that_strays_is_not_made(rt: HostRuntime) -> Result<(), Fail> {
 #[test]
 fn a_run_before_a_stop_makes_no_step_there(rt: HostRuntime) -> Result<(), Fail> {
     let alloc = rt.alloc();
-    let mut words: CachedMemory<_, 64> = CachedMemory::new(words_of(alloc)?);
-    let mut hart_state = hart_for();
+    let [changing, ..] = &LOOPS;
+    let mut words: CachedMemory<_, 64> = CachedMemory::new(words_of(alloc, changing)?);
+    let mut hart_state = hart_for(changing);
     let mut executor = InstructionExecutor {
         mem: &mut words,
         hart_state: &mut hart_state,
