@@ -56,6 +56,28 @@ const LOOP: [u32; 17] = [
     0,
 ];
 
+/// A loop that stores over the next word, over a byte and a half-word of the word behind it, over
+/// the store itself, and over the first word, to which it jumps next.
+const CHANGING: [u32; 17] = [
+    0x0012_8293, // addi x5, x5, 1
+    0x0060_2423, // sw x6, 8(x0)
+    0x0012_8293, // addi x5, x5, 1
+    0x0104_8493, // addi x9, x9, 16
+    0x0090_0ba3, // sb x9, 23(x0)
+    0x0012_8293, // addi x5, x5, 1
+    0x0090_1f23, // sh x9, 30(x0)
+    0x0000_8513, // addi x10, x1, 0
+    0xb020_25f3, // csrrs x11, minstret, x0
+    0x0073_4333, // xor x6, x6, x7
+    0x0260_2423, // sw x6, 40(x0)
+    0x0060_2023, // sw x6, 0(x0)
+    0xfd1f_f06f, // jal x0, -48
+    0,
+    0,
+    0,
+    0,
+];
+
 /// Mixes the cause and the value of the trap into x13, and goes on behind its instruction.
 const HANDLER: [u32; 9] = [
     0x3420_2773, // csrrs x14, mcause, x0
@@ -203,7 +225,7 @@ fn machine_with(
 #[test]
 fn kept_words_run_as_fetched_ones(rt: HostRuntime) -> Result<(), Fail> {
     let alloc = rt.alloc();
-    for program in [TRAPS, LOOP] {
+    for program in [TRAPS, LOOP, CHANGING] {
         for step in 0..40 {
             for limit in [1, 2, 3, 17, 61, 400] {
                 let pulse = pulse_at(step, if step % 5 == 4 { limit / 2 } else { u64::MAX });
