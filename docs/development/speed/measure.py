@@ -82,9 +82,9 @@ def built(room):
 
 # The calls of calls.c, and how many steps each makes. Between two numbers of steps the difference
 # of the counts is taken.
-CALLS = [("step", 1), ("run", LIMIT), ("run", 5000), ("run", 100), ("run_cached", LIMIT),
-         ("run_cached", 1000), ("run_cached", 100), ("run_cached", 10), ("run_until", LIMIT),
-         ("run_until_cached", LIMIT), ("run_until_cached", 100)]
+CALLS = [("step", 1), ("run", LIMIT), ("run", 5000), ("run", 2000), ("run", 100),
+         ("run_cached", LIMIT), ("run_cached", 1000), ("run_cached", 100), ("run_cached", 10),
+         ("run_until", LIMIT), ("run_until_cached", LIMIT), ("run_until_cached", 100)]
 
 
 def calls(files, room):
