@@ -55,6 +55,11 @@ STATE = """(() => {
     };
 })()"""
 
+# that no run goes on
+STOPPED = """(async () => {
+    while (rrs.session.isRunning) await new Promise((done) => setTimeout(done, 1));
+})()"""
+
 BASE = {
     "heading": "Breakpoint",
     "sentence": "Stopped before a breakpoint at 0x00000014, after 5 steps more.",
@@ -131,8 +136,7 @@ OTHER_MENUS = {
 
 
 def prepare(page, name=""):
-    page.ask(PREPARE)
-    same("the state before", BASE, page.ask(STATE))
+    same("the state before", BASE, page.ask(f"{PREPARE}.then(() => {STATE})"))
     if name == "pause":
         page.ask(PREPARE_RUN)
         page.wait("rrs.session.machine.steps === 6")
@@ -145,9 +149,7 @@ def has_effect(page, what, name, effect, has_focus=True):
         page.wait("document.querySelector('#shared').open")
     elif name == "open":
         page.wait_event("Page.fileChooserOpened")
-    else:
-        page.wait("!rrs.session.isRunning")
-    got = page.ask(STATE)
+    got = page.ask(f"{STOPPED}.then(() => {STATE})")
     if not has_focus and "focus" not in effect:
         wanted["focus"] = got["focus"]
     same(f"{name} by {what}", wanted, got)

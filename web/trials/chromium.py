@@ -225,6 +225,14 @@ class Page:
             self.send("Input.dispatchKeyEvent", type="rawKeyDown", key="Delete",
                       windowsVirtualKeyCode=46, commands=["deleteForward"])
 
+    def put(self, selector, text):
+        """Puts a text into a field at once, where typing it would be a line at a time."""
+        self.ask(f"""(() => {{
+            const field = document.querySelector({json.dumps(selector)});
+            field.value = {json.dumps(text)};
+            field.dispatchEvent(new InputEvent("input", {{ bubbles: true }}));
+        }})()""")
+
     def choose(self, selector, value):
         """Chooses an option of a menu by the keyboard: its list is outside the page."""
         quoted = json.dumps(selector)
@@ -248,7 +256,8 @@ class Page:
 
     def picture(self, path, whole=True):
         """Writes a picture of the page, the whole of it or what is in view."""
-        taken = self.send("Page.captureScreenshot", format="png", captureBeyondViewport=whole)
+        taken = self.send("Page.captureScreenshot", format="png", captureBeyondViewport=whole,
+                          optimizeForSpeed=True)
         with open(path, "wb") as file:
             file.write(base64.b64decode(taken["data"]))
 

@@ -40,7 +40,7 @@ def node(script, *arguments):
 
 
 def cases():
-    """what shows no view, by tables of cases in node"""
+    """the machine, texts, links, sentences and runs, by tables of cases in node"""
     status, text = node("cases.js")
     if status:
         raise Differs(text.strip())

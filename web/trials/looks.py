@@ -241,33 +241,51 @@ def show_all(machine):
     page.ask("$('refusal').hidden = $('drop').hidden = true")
 
 
-class Looks:
-    """How each kind of element looked in the states of `show_all`, a line for each."""
-
-    lines = []
-
-
-def contrast(machine):
-    """each kind of element looks as is stored, with a contrast of 4.5 (texts) or 3 (marks)"""
+def seen_in(machine, dark):
+    """How each kind of element looks in the states of `show_all`, and the contrast of each text and
+    mark, by its state."""
     page = machine.page
-    looked, found = set(), set()
-    low = {}
-    for dark in (False, True):
-        page.prefer(dark)
-        for state in show_all(machine):
-            found |= {f"{'dark' if dark else 'light'} {look}" for look in page.ask(f"{SEEN}.looks()")}
-            for what, ratio in page.ask(f"{SEEN}.contrasts()").items():
-                looked.add(what)
-                least = MARK_CONTRAST if what.startswith("mark") else TEXT_CONTRAST
-                if ratio < least:
-                    low[f"{what}, {'dark' if dark else 'light'}, {state}"] = round(ratio, 2)
+    looks, contrasts = set(), {}
+    theme_of = "dark" if dark else "light"
+    machine.clean()
+    page.prefer(dark)
+    for state in show_all(machine):
+        found, ratios = page.ask(f"(({{ looks, contrasts }}) => [looks(), contrasts()])({SEEN})")
+        looks.update(f"{theme_of} {look}" for look in found)
+        contrasts[f"{theme_of}, {state}"] = ratios
     page.prefer(False)
-    Looks.lines = sorted(found)
+    return looks, contrasts
+
+
+def looks_and_contrast(machine, dark):
+    looks, contrasts = seen_in(machine, dark)
+    low = {f"{what}, {state}": round(ratio, 2) for state, ratios in contrasts.items()
+           for what, ratio in ratios.items()
+           if ratio < (MARK_CONTRAST if what.startswith("mark") else TEXT_CONTRAST)}
     same("what has too little contrast", {}, low)
-    same("how many texts and marks were looked at", LOOKED_AT, len(looked))
-    stored = set((EXPECTED / "looks.txt").read_text(encoding="utf-8").splitlines())
+    same("how many texts and marks were looked at", LOOKED_AT,
+         len(set().union(*contrasts.values())))
+    lines = (EXPECTED / "looks.txt").read_text(encoding="utf-8").splitlines()
+    stored = {line for line in lines if line.startswith("dark") == dark}
     same("what looked so, and what looks so now", [[], []],
-         [sorted(stored - found)[:5], sorted(found - stored)[:5]])
+         [sorted(stored - looks)[:5], sorted(looks - stored)[:5]])
+
+
+def light(machine):
+    """each kind of element looks as is stored, with a contrast of 4.5 (texts) or 3 (marks)"""
+    looks_and_contrast(machine, False)
+
+
+def dark(machine):
+    """and in the dark"""
+    looks_and_contrast(machine, True)
+
+
+def write(machine):
+    """Writes the trees and the looks of a page anew."""
+    (EXPECTED / "tree.txt").write_text(trees(machine), encoding="utf-8")
+    lines = sorted(seen_in(machine, False)[0] | seen_in(machine, True)[0])
+    (EXPECTED / "looks.txt").write_text("\n".join([*lines, ""]), encoding="utf-8")
 
 
 LOOKED_AT = 110
@@ -360,14 +378,17 @@ def one_screen(machine):
 def nothing_moves(machine):
     """a sentence, however long, moves nothing, and can be scrolled to its end"""
     page = machine.page
+    # in the order of the menu, and back, since each example between two is opened by its keys
+    examples = ["three", "fetch", "misaligned", "ecall"]
     for width in (1360, 768, 360):
         page.resize(width, 900)
         tops, cut = set(), set()
-        for example in ("three", "fetch", "misaligned", "ecall"):
+        for example in examples:
             machine.choose(example)
             machine.run()
             tops.add(page.ask("document.querySelector('main').offsetTop"))
             cut.update(page.ask(f"{SEEN}.cutBelow()"))
+        examples.reverse()
         same(f"the places of the panels, and what is cut off, at {width}", [1, set()], [len(tops), cut])
     page.resize(*SIZE)
 
@@ -429,9 +450,9 @@ def picture(browser, path):
     machine.page.picture(path)
 
 
-def pictures(machine, folder):
+def pictures(machine):
     """pictures in light and dark, wide and narrow"""
-    page = machine.page
+    page, folder = machine.page, Subject.pictures
     show_fibonacci(machine)
     for name, width, height, dark in (
         ("wide-light", 1360, 900, False), ("wide-dark", 1360, 900, True),
@@ -465,5 +486,5 @@ def pictures(machine, folder):
     page.prefer(False)
 
 
-TRIALS = [accessibility_tree, focus, contrast, boxes, boxes_of_a_lesson, one_screen, nothing_moves,
+TRIALS = [accessibility_tree, focus, light, dark, boxes, boxes_of_a_lesson, one_screen, nothing_moves,
           theme]

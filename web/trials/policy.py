@@ -151,20 +151,31 @@ def without_memory64(path):
         browser.close()
 
 
-def quiet(browser):
-    """no script failed, and nothing was asked of a network"""
-    wrong = [event for event in browser.events if event["method"] == "Runtime.exceptionThrown"]
-    same("scripts that failed", [], [json.dumps(event["params"])[:300] for event in wrong])
-    asked = {event["params"]["request"]["url"].split("#")[0] for event in browser.events
+def told(desk):
+    """What the browser of a desk told of its pages: the scripts that failed, what was asked of a
+    network, and what is stored."""
+    if desk.started is None:
+        return None
+    events = desk.started.events
+    wrong = [event for event in events if event["method"] == "Runtime.exceptionThrown"]
+    asked = {event["params"]["request"]["url"].split("#")[0] for event in events
              if event["method"] == "Network.requestWillBeSent"}
-    others = [url for url in asked
+    stored = desk.page_apart().page.ask(
+        "[document.cookie, location.protocol === 'file:' && localStorage.length,"
+        " sessionStorage.length]")
+    return [json.dumps(event["params"])[:300] for event in wrong], asked, stored
+
+
+def quiet(desks):
+    """no script failed, and nothing was asked of a network"""
+    had_browsers = [desk for desk in desks if desk is not None]
+    wrong, asked, stored = zip(*had_browsers)
+    same("scripts that failed", [], sum(wrong, []))
+    others = [url for url in set.union(*asked)
               if not url.startswith(("data:", "about:", "http://127.0.0.1:"))
               and url != Subject.page.as_uri()]
     same("what else was asked for", [], others)
-    stored = opened(browser, Subject.page.as_uri()).page.ask(
-        "[document.cookie, location.protocol === 'file:' && localStorage.length,"
-        " sessionStorage.length]")
-    same("what is stored", ["", 0, 0], stored)
+    same("what is stored", [["", 0, 0]] * len(stored), list(stored))
 
 
 def joined_anywhere():

@@ -1,6 +1,7 @@
 """Comparisons, which are counted, and what comes of the trials that make them."""
 
 import time
+import traceback
 
 from trials import chromium
 
@@ -30,30 +31,44 @@ def subject_of(trial):
 
 
 class Report:
-    """How trials ended, and how many comparisons each made."""
+    """How trials ended, what is said of them, and how many comparisons each made."""
 
-    def __init__(self, is_quiet=False):
-        self.is_quiet = is_quiet
+    def __init__(self):
         self.failed = []
         self.counts = {}
+        self.said = []
 
-    def attempt(self, trial, *arguments):
-        """Makes a trial, and says how it ended and how long it took."""
+    @classmethod
+    def of(cls, trial, give=tuple):
+        """The report of a trial, of which `give` answers the arguments."""
+        report = cls()
         begun, made = time.monotonic(), Count.made
         try:
-            more = trial(*arguments)
+            more = trial(*give())
         except (Differs, chromium.Failed) as wrong:
-            self.failed.append(subject_of(trial))
-            self.say(f"failed: {trial.__doc__}\n  {wrong}")
-            return None
-        self.counts[subject_of(trial)] = Count.made - made
-        took = f"{time.monotonic() - begun:.1f} s"
+            report.fail(trial, wrong)
+            return report
+        except Exception:  # the other trials are told all the same
+            report.fail(trial, traceback.format_exc())
+            return report
+        subject = subject_of(trial)
+        if isinstance(more, dict):
+            report.counts = {f"{subject} of {name}": count for name, count in more.items()}
+            more = f"{sum(more.values()):,} comparisons"
+        report.counts[subject] = Count.made - made
         said = f"{more}; " if isinstance(more, str) else ""
-        self.say(f"passed: {trial.__doc__} ({said}{took})")
-        return more
+        report.said.append(f"passed: {trial.__doc__} ({said}{time.monotonic() - begun:.1f} s)")
+        return report
 
-    def say(self, text):
-        if not self.is_quiet:
+    def fail(self, trial, why):
+        self.failed.append(subject_of(trial))
+        self.said.append(f"failed: {trial.__doc__}\n  {why}")
+
+    def take(self, other):
+        """Takes over what another has, and prints what it says."""
+        self.failed += other.failed
+        self.counts.update(other.counts)
+        for text in other.said:
             print(text, flush=True)
 
 

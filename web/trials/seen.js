@@ -34,14 +34,17 @@
     return (high + 0.05) / (low + 0.05);
   }
 
+  const WHITE = [255, 255, 255, 1];
+  const grounds = new Map();
+
   /* The colour behind an element's text: of it and what it stands in. */
   function ground(element) {
-    const layers = [];
-    for (let at = element; at; at = at.parentElement) {
-      layers.unshift(parse(style(at).backgroundColor));
-      if (at.matches("dialog")) break;
+    if (!grounds.has(element)) {
+      const around = element.matches("dialog") ? null : element.parentElement;
+      const below = around ? ground(around) : WHITE;
+      grounds.set(element, over(parse(style(element).backgroundColor), below));
     }
-    return layers.reduce((below, layer) => over(layer, below), [255, 255, 255, 1]);
+    return grounds.get(element);
   }
 
   const nameOf = (element) => element.id || element.className || element.parentElement?.id
@@ -60,19 +63,18 @@
     }
 
     addTexts(element) {
-      const below = ground(element);
       const hasText = [...element.childNodes].some((node) =>
         node.nodeType === Node.TEXT_NODE && node.data.trim() !== "");
       if (hasText || element.matches("select, textarea, input[type=text]")) {
-        this.add(`text ${nameOf(element)}`, style(element).color, below);
+        this.add(`text ${nameOf(element)}`, style(element).color, ground(element));
       }
       if (element.placeholder && element.value === "") {
         const { color } = style(element, "::placeholder");
-        this.add(`placeholder ${nameOf(element)}`, color, below);
+        this.add(`placeholder ${nameOf(element)}`, color, ground(element));
       }
       for (const pseudo of ["::before", "::after"]) {
         const { content, color } = style(element, pseudo);
-        if (/^".+"$/.test(content)) this.add(`${pseudo} ${nameOf(element)}`, color, below);
+        if (/^".+"$/.test(content)) this.add(`${pseudo} ${nameOf(element)}`, color, ground(element));
       }
     }
 
@@ -272,11 +274,13 @@
       if (!element.checkVisibility() || element.closest("option, svg")) continue;
       const around = style(element.parentElement);
       found.add(`${kindOf(element)}: ${lookOf(style(element), around)}`);
-      for (const pseudo of ["::before", "::placeholder", "::backdrop"]) {
+      const parts = ["::before"];
+      if (element.placeholder) parts.push("::placeholder");
+      if (element.matches("dialog:modal")) parts.push("::backdrop");
+      for (const pseudo of parts) {
         const part = style(element, pseudo);
-        const isThere = pseudo === "::before" ? part.content !== "none"
-          : pseudo === "::placeholder" ? element.placeholder : element.matches("dialog:modal");
-        if (isThere) found.add(`${kindOf(element)}${pseudo}: ${lookOf(part, style(element))}`);
+        if (pseudo === "::before" && part.content === "none") continue;
+        found.add(`${kindOf(element)}${pseudo}: ${lookOf(part, style(element))}`);
       }
     }
     return [...found];

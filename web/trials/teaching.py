@@ -88,14 +88,14 @@ def while_one_types(machine):
                   " [part.textContent, part.className])"))
     same("the text under the colours", True, page.ask(
         "document.getElementById('colours').textContent === $('text').value + '\\n'"))
-    page.replace("#text", "nop\n" * 59 + "foo #" + "-" * 400)
+    page.put("#text", "nop\n" * 59 + "foo #" + "-" * 400)
     page.wait(f"{MISTAKES}.length === 1", 5)
     page.ask("$('text').scrollTop = 300; $('text').scrollLeft = 90;"
              " $('text').dispatchEvent(new Event('scroll')); null")
     same("the numbers and the colours scroll with the text", [300, 300, 300, 90, 90], page.ask(
         "[...['text', 'numbers', 'colours'].map((id) => $(id).scrollTop),"
         " ...['text', 'colours'].map((id) => $(id).scrollLeft)]"))
-    page.replace("#text", "nop\n" * 49 + "foo\n" + "nop\n" * 49)
+    page.put("#text", "nop\n" * 49 + "foo\n" + "nop\n" * 49)
     page.wait(f"{MISTAKES}.length === 1 && $('mistakes').textContent.includes('Line 50')", 5)
     page.ask("$('text').scrollTop = 0; null")
     page.click("#mistakes li button")

@@ -13,11 +13,13 @@ NOTHING = "Nothing was changed by it."
 
 
 class Subject:
-    """What is tried: the page as it was built, the folder of its scripts, and the module in it."""
+    """What is tried: the page as it was built, the folder of its scripts, and the module in it; and
+    where pictures of it are put."""
 
     page = WEB / "out" / "rrs.html"
     scripts = WEB
     module = WEB / "out" / "rrs_c.wasm"
+    pictures = WEB / "out"
 
 
 class Machine:

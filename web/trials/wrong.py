@@ -6,15 +6,16 @@ import subprocess
 import tempfile
 
 import join
-from trials import actions, chromium, generated, looks, policy, teaching
-from trials.report import Differs, Report, differing_counts
-from trials.view import EXPECTED, WEB, Subject, opened
+from trials import actions, generated, looks, policy, teaching
+from trials.report import Differs, Report, differing_counts, same
+from trials.together import Desk, Trial, make_all
+from trials.view import EXPECTED, WEB, Subject
 
 
 def low_contrast(machine):
     """Makes the trial of looks, and fails where a text has too little contrast."""
     try:
-        looks.contrast(machine)
+        looks.light(machine)
     except Differs as differs:
         if str(differs).startswith("what has too little contrast"):
             raise
@@ -34,7 +35,7 @@ IN_NODE = [
 IN_BROWSER = [
     (actions.by_each_way, "page.js", '"click", () => this.act(', '"click", () => void ('),
     (looks.theme, "style.css", "--back: light-dark(#eef1f5,", "--back: light-dark(#eef1f6,"),
-    (looks.contrast, "style.css", ".state.wait {", ".state.waits {"),
+    (looks.light, "style.css", ".state.wait {", ".state.waits {"),
     # a contrast of 4.3
     (low_contrast, "style.css", "--soft: light-dark(#566273,", "--soft: light-dark(#5f6c7d,"),
     (looks.focus, "style.css", "outline: 2px solid var(--accent)", "outline: none"),
@@ -60,53 +61,47 @@ def page_with(folder, name, old, new):
     Subject.page.write_text(text, encoding="utf-8")
 
 
-def is_found(trial, *arguments):
-    report = Report(is_quiet=True)
-    report.attempt(trial, *arguments)
-    return bool(report.failed)
+def search(number, folder, trial, of_desk, edit):
+    """The search for a mistake by a trial, in a page of its own."""
+
+    def finds(desk):
+        page_with(folder / str(number), *edit)
+        [said] = Trial(trial, of_desk).make(desk).said
+        same("whether it is found, and not by a fault of the trial", [True, False],
+             [said.startswith("failed: "), "Traceback" in said])
+
+    finds.__doc__ = f"finds a mistake in {edit[0]}: {edit[1]}"
+    return Trial(finds, lambda desk: desk)
 
 
-def misses_counts():
-    """Whether a trial that is left out, and a comparison too few, are noticed."""
+def counts():
+    """notices a trial that is left out, and a comparison too few"""
     lines = (EXPECTED / "counts.txt").read_text(encoding="utf-8").splitlines()
-    counts = dict(line.rsplit(" ", 1) for line in lines)
-    first = next(iter(counts))
-    one_less = {**counts, first: str(int(counts[first]) - 1)}
-    without = {name: count for name, count in counts.items() if name != first}
+    counted = dict(line.rsplit(" ", 1) for line in lines)
+    first = next(iter(counted))
+    one_less = {**counted, first: str(int(counted[first]) - 1)}
+    without = {name: count for name, count in counted.items() if name != first}
     stored = "\n".join(lines)
-    return not (differing_counts(stored, one_less) and differing_counts(stored, without)
-                and not differing_counts(stored, counts))
+    same("whether it notices", [True, True, False], [
+        bool(differing_counts(stored, got)) for got in (one_less, without, counted)])
 
 
-def misses_failure():
-    """Whether the script ends with another status than 1 where comparisons are missing."""
+def status():
+    """ends with status 1 where comparisons are missing"""
     run = subprocess.run([WEB / "check", "--wrong"], capture_output=True, text=True, check=False)
-    return run.returncode != 1 or "failed: as many comparisons" not in run.stdout
+    same("status", [1, True], [run.returncode, "failed: as many comparisons" in run.stdout])
 
 
 def self_test(path):
     """Tries each wrong page. Answers 0 where each mistake is found."""
-    missed = [f"{what} that are missing" for what, is_missed in (
-        ("counts", misses_counts()), ("comparisons", misses_failure())) if is_missed]
+    report = Report()
     with tempfile.TemporaryDirectory() as name:
-        folder = pathlib.Path(name)
-        for number, edit in enumerate(IN_NODE):
-            page_with(folder / f"node-{number}", *edit)
-            if not is_found(generated.cases):
-                missed.append(edit[0])
-        browser = chromium.Browser(path)
-        try:
-            for number, (trial, *edit) in enumerate(IN_BROWSER):
-                page_with(folder / f"browser-{number}", *edit)
-                subject = browser
-                if trial is not policy.policy:
-                    subject = opened(browser, Subject.page.as_uri())
-                if not is_found(trial, subject):
-                    missed.append(f"{edit[0]}: {edit[1]}")
-        finally:
-            browser.close()
-    mistakes = 2 + len(IN_NODE) + len(IN_BROWSER)
-    print(f"web/check --self-test: {mistakes - len(missed)} of {mistakes} mistakes were found")
-    for mistake in missed:
-        print(f"not found: {mistake}")
-    return 1 if missed else 0
+        edits = [(generated.cases, None, edit) for edit in IN_NODE] + [
+            (trial, Desk.browser if trial is policy.policy else Desk.page_apart, edit)
+            for trial, *edit in IN_BROWSER]
+        trials = [Trial(counts), Trial(status), *(
+            search(number, pathlib.Path(name), *edit) for number, edit in enumerate(edits))]
+        make_all(trials, path, report.take)
+    print(f"web/check --self-test: {len(trials) - len(report.failed)} of {len(trials)} mistakes were "
+          "found")
+    return 1 if report.failed else 0
