@@ -34,7 +34,7 @@ const ACTIONS = {
   lesson: { label: "Go to the exercises of the lesson", key: "j" },
   closeLesson: { label: "Close the lesson", key: "q" },
   theme: { label: "Light or dark", key: "d" },
-  keys: { label: "All keys", key: "?" },
+  keys: { label: "All keys, and the system calls", key: "?" },
 };
 
 /** The name of the action that a pressed key asks for, or undefined. */

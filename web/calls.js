@@ -78,45 +78,86 @@ function readString(machine, extra) {
 }
 
 /* Of each environment: what it is called, the register that has the number of a call, and its
- * calls. Linux's are those of `rrs exec` that the page serves. */
+ * calls, with what each does for the program. Linux's are those of `rrs exec` that the page
+ * serves. */
 const ENVIRONMENTS = {
   linux: {
     name: "Linux", number: REGISTER.A7,
     calls: {
-      63: { name: "read", serve: (machine, extra) => machine.readCall(extra) },
-      64: { name: "write", serve: (machine) => machine.writeCall() },
-      93: { name: "exit", serve: exitWith(REGISTER.A0) },
-      94: { name: "exit_group", serve: exitWith(REGISTER.A0) },
-      214: { name: "brk", serve: (machine) => machine.breakCall() },
+      63: {
+        name: "read", about: "reads x12 bytes at most to address x11, of file 0",
+        serve: (machine, extra) => machine.readCall(extra),
+      },
+      64: {
+        name: "write", about: "writes x12 bytes from address x11 on, to file 1 or 2",
+        serve: (machine) => machine.writeCall(),
+      },
+      93: { name: "exit", about: "ends, with status x10", serve: exitWith(REGISTER.A0) },
+      94: { name: "exit_group", about: "ends, with status x10", serve: exitWith(REGISTER.A0) },
+      214: {
+        name: "brk", about: "moves the end of the heap to x10",
+        serve: (machine) => machine.breakCall(),
+      },
     },
   },
   rars: {
     name: "RARS", number: REGISTER.A7,
     calls: {
-      1: { name: "PrintInt", serve: printed(REGISTER.A0, decimal) },
-      4: { name: "PrintString", serve: printString(REGISTER.A0) },
-      5: { name: "ReadInt", serve: readNumber },
-      8: { name: "ReadString", serve: readString },
-      9: { name: "Sbrk", serve: moreMemory(REGISTER.A0) },
-      10: { name: "Exit", serve: exitWithZero },
-      11: { name: "PrintChar", serve: printByte(REGISTER.A0) },
-      12: { name: "ReadChar", serve: readByte },
-      34: { name: "PrintIntHex", serve: printed(REGISTER.A0, (value) => hex(value)) },
-      35: { name: "PrintIntBinary", serve: printed(REGISTER.A0, binary) },
-      36: { name: "PrintIntUnsigned", serve: printed(REGISTER.A0, String) },
-      93: { name: "Exit2", serve: exitWith(REGISTER.A0) },
+      1: { name: "PrintInt", about: "prints x10 in decimal", serve: printed(REGISTER.A0, decimal) },
+      4: {
+        name: "PrintString", about: "prints the bytes from address x10 on, up to a 0",
+        serve: printString(REGISTER.A0),
+      },
+      5: { name: "ReadInt", about: "reads a number in decimal", serve: readNumber },
+      8: {
+        name: "ReadString",
+        about: "reads a line to address x10, of x11 - 1 bytes at most, and puts a 0 behind it",
+        serve: readString,
+      },
+      9: {
+        name: "Sbrk", about: "gives x10 bytes of memory: their address",
+        serve: moreMemory(REGISTER.A0),
+      },
+      10: { name: "Exit", about: "ends, with status 0", serve: exitWithZero },
+      11: { name: "PrintChar", about: "prints the byte x10", serve: printByte(REGISTER.A0) },
+      12: { name: "ReadChar", about: "reads a byte", serve: readByte },
+      34: {
+        name: "PrintIntHex", about: "prints x10 in hexadecimal",
+        serve: printed(REGISTER.A0, (value) => hex(value)),
+      },
+      35: {
+        name: "PrintIntBinary", about: "prints x10 in binary",
+        serve: printed(REGISTER.A0, binary),
+      },
+      36: {
+        name: "PrintIntUnsigned", about: "prints x10 in decimal, without a sign",
+        serve: printed(REGISTER.A0, String),
+      },
+      93: { name: "Exit2", about: "ends, with status x10", serve: exitWith(REGISTER.A0) },
     },
   },
   venus: {
     name: "Venus", number: REGISTER.A0,
     calls: {
-      1: { name: "print_int", serve: printed(REGISTER.A1, decimal) },
-      4: { name: "print_string", serve: printString(REGISTER.A1) },
-      9: { name: "sbrk", serve: moreMemory(REGISTER.A1) },
-      10: { name: "exit", serve: exitWithZero },
-      11: { name: "print_character", serve: printByte(REGISTER.A1) },
-      17: { name: "exit2", serve: exitWith(REGISTER.A1) },
-      34: { name: "print_hex", serve: printed(REGISTER.A1, upperHex) },
+      1: {
+        name: "print_int", about: "prints x11 in decimal",
+        serve: printed(REGISTER.A1, decimal),
+      },
+      4: {
+        name: "print_string", about: "prints the bytes from address x11 on, up to a 0",
+        serve: printString(REGISTER.A1),
+      },
+      9: {
+        name: "sbrk", about: "gives x11 bytes of memory: their address",
+        serve: moreMemory(REGISTER.A1),
+      },
+      10: { name: "exit", about: "ends, with status 0", serve: exitWithZero },
+      11: { name: "print_character", about: "prints the byte x11", serve: printByte(REGISTER.A1) },
+      17: { name: "exit2", about: "ends, with status x11", serve: exitWith(REGISTER.A1) },
+      34: {
+        name: "print_hex", about: "prints x11 in hexadecimal",
+        serve: printed(REGISTER.A1, upperHex),
+      },
     },
   },
 };

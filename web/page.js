@@ -66,7 +66,7 @@ class Page {
       lesson: () => $("exercises").querySelector("[aria-current]")?.focus(),
       closeLesson: () => this.closeLesson(),
       theme: () => this.changeTheme(),
-      keys: () => $("help").showModal(),
+      keys: () => this.showHelp(),
     };
   }
 
@@ -143,6 +143,18 @@ class Page {
     const isDark = matchMedia("(prefers-color-scheme: dark)").matches;
     const now = root.dataset.theme ?? (isDark ? "dark" : "light");
     root.dataset.theme = now === "dark" ? "light" : "dark";
+  }
+
+  /* The keys, and the calls of the environment that is chosen, by the registers' names. */
+  showHelp() {
+    const { machine: { environment }, names } = this.session;
+    const [number, result] = [names[environment.number], names[REGISTER.A0]];
+    setText($("call-title"), `System calls of ${environment.name}: the number is in ${number}, and `
+      + `what is read or given in ${result}`);
+    const rows = Object.entries(environment.calls).map(([call, { name, about }]) =>
+      makeRow("tr", [call, name, withNames(about, names)].map((text) => make("td", "", text))));
+    $("call-table").tBodies[0].replaceChildren(...rows);
+    $("help").showModal();
   }
 
   /* ---- what the page listens to */

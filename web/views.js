@@ -126,7 +126,8 @@ class ListingView {
       make("span", "executed"),
     ]);
     line.setAttribute("role", "option");
-    const text = line.children[3];
+    const [, address, , text] = line.children;
+    address.append(make("span", "high"), make("span"));
     text.append(make("b", "label"), make("span", "instruction"), make("i", "comment"));
     line.lastChild.append(make("i", "bar"), make("span", "count"));
     return line;
@@ -153,7 +154,9 @@ class ListingView {
     line.className = `line listing-row${isPc ? " pc" : ""}${isStop ? " stop" : ""}`
       + `${isSelected ? " selected" : ""}${text ? "" : " none"}`;
     line.setAttribute("aria-selected", isSelected);
-    setText(addressCell, hexOf(address));
+    const digits = hexOf(address);
+    setText(addressCell.firstChild, digits.slice(0, 4));
+    setText(addressCell.lastChild, digits.slice(4));
     setText(wordCell, hexOf(word));
     setText(textCell.children[0], labels && `${labels}:`);
     setText(textCell.children[1], text || "no instruction");

@@ -2,10 +2,11 @@
 that are kept."""
 
 import pathlib
+import re
 import tempfile
 
 from trials.report import same
-from trials.view import js
+from trials.view import WEB, js
 
 OPEN = "document.querySelector('dialog[open]')?.id ?? null"
 FIELDS = "['place', 'value'].map((id) => document.getElementById(id).value)"
@@ -212,6 +213,43 @@ def calls_of_others(machine):
     machine.choose("three")
 
 
+CALL_TABLE = """["call-title", "call-table"].map((id) => document.getElementById(id)).map(
+    (part) => part.tBodies ? [...part.tBodies[0].rows].map((row) =>
+        [...row.cells].map((cell) => cell.textContent)) : part.textContent)"""
+
+
+def calls_in_the_docs():
+    """The numbers and names of the calls that BROWSER.md has of other simulators."""
+    text = (WEB.parent / "docs" / "BROWSER.md").read_text(encoding="utf-8")
+    rows = re.findall(r"^\| (RARS|Venus) \| (a[07]) \| (.*) \|$", text, re.MULTILINE)
+    return {name: (register, [call.split(" ") for call in calls.split(", ")])
+            for name, register, calls in rows}
+
+
+def calls_shown(machine):
+    """the calls that can be chosen, each environment's in a table, by the registers' names"""
+    page = machine.page
+    machine.choose("three")
+    linux = [["63", "read"], ["64", "write"], ["93", "exit"], ["94", "exit_group"], ["214", "brk"]]
+    environments = {"Linux": ("a7", linux), **calls_in_the_docs()}
+    for name, (register, calls) in environments.items():
+        page.choose("#calls", name.lower())
+        machine.leave_fields()
+        machine.keys("?")
+        title, rows = page.ask(CALL_TABLE)
+        same(f"the calls of {name}", (
+            f"System calls of {name}: the number is in {register}, and what is read or given in a0",
+            calls), (title, [row[:2] for row in rows]))
+        same(f"calls of {name} of which nothing is said", [], [row for row in rows if not row[2]])
+        machine.escape()
+    machine.keys("h?")
+    title, rows = page.ask(CALL_TABLE)
+    same("by numbers", [True, ["1", "print_int", "prints x11 in decimal"]], [
+        "the number is in x10" in title, rows[0]])
+    machine.escape()
+    machine.keys("h")
+
+
 TRIALS = [
-    calls_of_others, changes_by_hand, since_the_last_stop, names, calls_made, kept_breakpoints,
+    calls_of_others, calls_shown, changes_by_hand, since_the_last_stop, names, calls_made, kept_breakpoints,
 ]

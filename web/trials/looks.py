@@ -288,7 +288,7 @@ def write(machine):
     (EXPECTED / "looks.txt").write_text("\n".join([*lines, ""]), encoding="utf-8")
 
 
-LOOKED_AT = 110
+LOOKED_AT = 112
 
 # ---- boxes and marks
 
@@ -358,6 +358,9 @@ def boxes_of_a_lesson(machine):
         page.resize(width, height)
         page.ask("scrollTo(0, 0)")
         same(f"the boxes at {width}", ALL_IN_PLACE, page.ask(f"{SEEN}.boxes()"))
+        same(f"the source beside an instruction at {width}", ["li   a2, count", True], page.ask(
+            "(({ textContent, clientWidth, scrollWidth }) => [textContent, clientWidth > 60 &&"
+            " scrollWidth <= clientWidth])(document.querySelector('#line-2 .source'))"))
     page.resize(*SIZE)
     machine.keys("q")
 
