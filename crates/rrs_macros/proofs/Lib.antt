@@ -1,3 +1,4 @@
 pub mod Cutting
 pub mod Mapping
 pub mod Above
+pub mod Becoming

@@ -1,3 +1,5 @@
--- Which words are directives of macros, and which lines a result has.
+-- Which words are directives of macros, which lines a result has, and what the lines of a source
+-- become.
 pub mod Directives
 pub mod Lines
+pub mod Expansion

@@ -119,7 +119,7 @@ pub fn is_directive(word: &[u8]) -> bool
 }
 
 /// Whether a word stands in a table, in capitals or not.
-fn is_among(table: &[(&[u8], Directive)], word: &[u8]) -> bool
+pub fn is_among(table: &[(&[u8], Directive)], word: &[u8]) -> bool
     ensures { result
         ≡ list_any (λ e. str_eq_ignore_ascii_case word.now e.0.now) table.now }
 {

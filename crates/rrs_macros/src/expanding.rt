@@ -3,10 +3,12 @@
 ghost use Rattle.std.specs.Prelude.{◌≡◌, ℕ, ◌≤◌, false, true, length, IfOk, OnOk, IfErr};
 ghost use Rattle.std.specs.List.{list_any};
 ghost use Rattle.rrs_macros.specs.Directives.{begins_one, has_directives};
+ghost use Rattle.rrs_macros.specs.Expansion.{IsExpansion};
 ghost use Rattle.rrs_macros.specs.Lines.{IsMade, IsMapped, IsSame, KeepsAbove, lines};
 
 use crate::blocks::height;
 use crate::errors::{Halt, MacroError, MacroErrorKind, MacroFault, Slip};
+use crate::following::is_expansion;
 use crate::frames::{Frame, Origin};
 use crate::keeping::keeps_above;
 use crate::output::{Expanded, unchanged};
@@ -160,6 +162,8 @@ pub fn expand(alloc: Global, source: &[u8]) -> Result<Expanded, MacroFault>
         list_any begins_one (lines expanded.text.items) ≡ false) }
     ensures mapped { IfOk result (IsMapped source.now) }
     ensures above { has_directives source.now ≡ true → IfOk result (KeepsAbove source.now) }
+    ensures becomes { has_directives source.now ≡ true
+        → IfOk result (λ expanded. IsExpansion source.now expanded.text.items) }
 {
     if has_directives(source) {
         expanded(alloc, source)
@@ -177,6 +181,7 @@ fn expanded(alloc: Global, source: &[u8]) -> Result<Expanded, MacroFault>
         list_any begins_one (lines expanded.text.items) ≡ false) }
     ensures mapped { IfOk result (IsMapped source.now) }
     ensures above { IfOk result (KeepsAbove source.now) }
+    ensures becomes { IfOk result (λ expanded. IsExpansion source.now expanded.text.items) }
 {
     let total = height(source);
     let mut out = Expanded::new(alloc);
@@ -202,14 +207,30 @@ fn expanded(alloc: Global, source: &[u8]) -> Result<Expanded, MacroFault>
         return Err(MacroFault::Mistakes(mistakes));
     }
     match completed(out, total) {
-        Ok(whole) if begins_directive(&whole.text) => Err(left_over(alloc)?),
-        Ok(whole) if keeps_above(source, &whole) => Ok(whole),
-        Ok(_) => Err(left_over(alloc)?),
+        Ok(whole) => settled(alloc, source, whole),
         Err(_) => Err(MacroFault::OutOfMemory),
     }
 }
 
-/// That a directive is left in a result, or that it lacks what stands above the directives. No source is
+/// A result, if it is one of this source.
+fn settled(alloc: Global, source: &[u8], whole: Expanded) -> Result<Expanded, MacroFault>
+    ensures gone { IfOk result (λ expanded.
+        list_any begins_one (lines expanded.text.items) ≡ false) }
+    ensures mapped { IsMapped source.now whole → IfOk result (IsMapped source.now) }
+    ensures above { IfOk result (KeepsAbove source.now) }
+    ensures becomes { IfOk result (λ expanded. IsExpansion source.now expanded.text.items) }
+{
+    if begins_directive(&whole.text) || !keeps_above(source, &whole) {
+        return Err(left_over(alloc)?);
+    }
+    if is_expansion(alloc, source, &whole.text)? {
+        Ok(whole)
+    } else {
+        Err(left_over(alloc)?)
+    }
+}
+
+/// That a directive is left in a result, or that it is another than the source becomes. No source is
 /// known of which that is so.
 fn left_over(alloc: Global) -> Result<MacroFault, AllocError> {
     let mut mistakes = Vec::new(alloc);

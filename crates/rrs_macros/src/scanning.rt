@@ -4,6 +4,7 @@ ghost use Rattle.std.specs.Prelude.{◌≡◌, ◌<◌, [], ◌∷◌, IfSome, c
 ghost use Rattle.std.specs.List.{list_any};
 ghost use Rattle.std.specs.Option.{option_map_or};
 ghost use Rattle.rrs_macros.specs.Directives.{begins_one, behind_blanks, is_blank, is_in_name, word};
+ghost use Rattle.rrs_macros.specs.Expansion.{behind_word};
 ghost use Rattle.rrs_macros.specs.Lines.{is_line_feed, lines};
 
 use crate::directives::{Directive, directive_named, is_directive};
@@ -146,7 +147,8 @@ pub fn behind_blanks(text: &[u8]) -> &[u8]
 
 /// The word that a text begins with, behind blanks, and what follows it.
 pub fn split_word(text: &[u8]) -> (&[u8], &[u8])
-    ensures { result.0.now ≡ word text.now }
+    ensures word { result.0.now ≡ word text.now }
+    ensures rest { result.1.now ≡ behind_word text.now }
 {
     let words = behind_blanks(text);
     for (index, byte) in words.iter().enumerate() {

@@ -18,8 +18,8 @@ loop-preserved c =
       | in-Err+in_ok-stumble-in-Err w ↦ subst P (sym w.out-is) c.loop.invariant
     ]
 
-pub returns-in-Ok-2-clause-mapped : goal.returns-in-Ok-2-clause-mapped
-returns-in-Ok-2-clause-mapped c =
+pub returns-in-Ok-clause-mapped : goal.returns-in-Ok-clause-mapped
+returns-in-Ok-clause-mapped c =
     let one : 1 ≤ c.height-total.result = rw c.height-total.ensures (one_line c.args.source.now) in
     let whole = c.in-Ok.ensures one c.loop.invariant in
-    mapped c.args.source.now c.height-total.result c.in-Ok.whole c.height-total.ensures whole.0 whole.1
+    c.settled.ensures.mapped (mapped c.args.source.now c.height-total.result c.in-Ok.whole c.height-total.ensures whole.0 whole.1)
