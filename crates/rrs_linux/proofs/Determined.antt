@@ -18,7 +18,7 @@ use Rattle.rrs_linux.specs.declared.clocks.TimeForm.TheVariants.{Timespec, Timev
 use Rattle.rrs_linux.specs.declared.recorder.Known.{Known}
 use Rattle.rrs_linux.specs.declared.requests.Request.{Request}
 use Rattle.rrs_linux.specs.declared.statuses.Lookup.{Lookup}
-use Rattle.rrs_linux.specs.declared.requests.Request.TheVariants.{Exit, Answer, Status, NamedStatus, ExtendedStatus, Time, SetBreak, Read, WriteOutput, WriteErrors, WriteOutputPieces, WriteErrorPieces}
+use Rattle.rrs_linux.specs.declared.requests.Request.TheVariants.{Exit, Answer, NoCall, Status, NamedStatus, ExtendedStatus, Time, SetBreak, Read, WriteOutput, WriteErrors, WriteOutputPieces, WriteErrorPieces}
 use Rattle.rrs_linux.specs.Requests.{Asks, AsksBy, error, ToExit, ToRead, ToWriteOutput, ToWriteErrors, ToSetBreak, ToClose, ToControl, ToSeek, ToGetStatus, ToGetNamed, ToGetExtended, ToWriteOutputPieces, ToWriteErrorPieces, ToGetTime, ToGetTimeOfDay, ToGetNumber, OfNoFile, OfNoFlags, OfNoClock, OfNoCall, are_flags, are_statx_flags}
 use Rattle.rrs_linux.specs.Clocks
 use Rattle.rrs_linux.specs.Clocks.{PutsTime, IsTold, form_of, stopped_at}
@@ -27,7 +27,7 @@ use Rattle.rrs_linux.specs.Statuses.{PutsBytes, PutsNamed, IsPut, IsNamed, faile
 use Rattle.rrs_linux.specs.Transfers.{Stands, byte_reads, most_bytes}
 use Rattle.rrs_linux.specs.Vectors
 use Rattle.rrs_linux.specs.Vectors.{WritesPieces, WritesVector, IsWritten, IsNegative, IsTooLong, together}
-use Rattle.rrs_linux.specs.SystemCalls.{Does, answered, moved, ended_by}
+use Rattle.rrs_linux.specs.SystemCalls.{Does, answered, moved, noted, ended_by}
 use Rattle.rrs_linux.specs.Recording.{TakingEnds, GivingEnds, GivesText, TakesText, GivesInput, TakesOutput, TellsKnown, Recording, Records, AlikeInputs, AlikeRecords, AlikeRecordings}
 use Rattle.rrs_linux.specs.Recording
 
@@ -88,7 +88,7 @@ asked_for call a0 a1 a2 a3 a4 =
     else (if call == 57 then if_open a0 (Answer 0)
     else (if call == 29 then if_open a0 (Answer (error 25))
     else (if call == 62 then if_open a0 (Answer (error 29))
-    else (if call == 80 then if_open a0 (Status a1) else Answer (error 38))))))))))))))
+    else (if call == 80 then if_open a0 (Status a1) else NoCall call)))))))))))))
 
 asks_for : {call a0 a1 a2 a3 a4 : ℕ} {r : Request} → AsksBy call a0 a1 a2 a3 a4 r → r ≡ asked_for call a0 a1 a2 a3 a4
 unfolding asked_for
@@ -626,6 +626,19 @@ does_one (Answer answer) s alike did did' = record {
   accesses = did.3 ∙ sym did'.3;
   ends = did.0 ∙ sym did'.0;
 }
+does_one (NoCall call) s alike did did' = record {
+  environments = alike_after did.1 did'.1 record {
+    inputs = alike.inputs;
+    outputs = alike.outputs;
+    error_outputs = alike.error_outputs;
+    heap = alike.heap;
+    unserved = λ i. record { items = noted (alike.unserved i).items call };
+    held = alike.held;
+  };
+  states = did.2 ∙ sym did'.2;
+  accesses = did.3 ∙ sym did'.3;
+  ends = did.0 ∙ sym did'.0;
+}
 does_one (Status a) s alike did did' =
     let same = same_put did.4 did'.4 in
     let bytes : did.2 ≡ did'.2 = λ i x. same.memories x i in
@@ -671,6 +684,7 @@ does_one (SetBreak a) s alike did did' =
         outputs = alike.outputs;
         error_outputs = alike.error_outputs;
         heap = heap;
+        unserved = alike.unserved;
         held = alike.held;
       };
       states = did.2 ∙ ap (λ h. answered s h.top) heap ∙ sym did'.2;
@@ -686,6 +700,7 @@ does_one (Read a count) s alike did did' =
         outputs = alike.outputs;
         error_outputs = alike.error_outputs;
         heap = alike.heap;
+        unserved = alike.unserved;
         held = did.5.1 ∙ alike.held ∙ sym did'.5.1;
       };
       states = did.7 ∙ (λ i. answered (record s { bytes = bytes i }) (same.answers i)) ∙ sym did'.7;
@@ -700,6 +715,7 @@ does_one (WriteOutput a count) s {e = e} {e' = e'} alike did did' =
         outputs = same.records;
         error_outputs = alike.error_outputs;
         heap = alike.heap;
+        unserved = alike.unserved;
         held = alike.held;
       };
       states = did.4 ∙ ap (answered s) same.answers ∙ sym did'.4;
@@ -714,6 +730,7 @@ does_one (WriteErrors a count) s {e = e} {e' = e'} alike did did' =
         outputs = alike.outputs;
         error_outputs = same.records;
         heap = alike.heap;
+        unserved = alike.unserved;
         held = alike.held;
       };
       states = did.4 ∙ ap (answered s) same.answers ∙ sym did'.4;
@@ -728,6 +745,7 @@ does_one (WriteOutputPieces a count) s {e = e} {e' = e'} alike did did' =
         outputs = same.records;
         error_outputs = alike.error_outputs;
         heap = alike.heap;
+        unserved = alike.unserved;
         held = alike.held;
       };
       states = did.4 ∙ ap (answered s) same.answers ∙ sym did'.4;
@@ -742,6 +760,7 @@ does_one (WriteErrorPieces a count) s {e = e} {e' = e'} alike did did' =
         outputs = alike.outputs;
         error_outputs = same.records;
         heap = alike.heap;
+        unserved = alike.unserved;
         held = alike.held;
       };
       states = did.4 ∙ ap (answered s) same.answers ∙ sym did'.4;
@@ -752,7 +771,7 @@ does_one (WriteErrorPieces a count) s {e = e} {e' = e'} alike did did' =
 -- the calls of environments over known bytes are determined
 pub determined : IsDeterminedBy Records AlikeRecordings
 determined = record {
-  reflexive = λ e. record { inputs = refl; outputs = (refl, refl); error_outputs = (refl, refl); heap = refl; held = refl };
+  reflexive = λ e. record { inputs = refl; outputs = (refl, refl); error_outputs = (refl, refl); heap = refl; unserved = refl; held = refl };
   determined = λ e e' d d' s t t' xs xs' end end' alike served served'.
       let asked = asks_one s served.asks served'.asks in
       let does = subst (λ r. Does GivesInput TakesOutput TakesOutput TellsKnown r e s d t xs end) asked served.does in

@@ -121,6 +121,7 @@ AlikeInputs a b = a.now ≡ b.now
 abbrev pub AlikeRecords : Vec ℕ Global → Vec ℕ Global → Type 0
 AlikeRecords a b = (a.items ≡ b.items) × (vec_capacity a ≡ vec_capacity b)
 
--- environments with such an input and such records, and with one heap
+-- environments with such an input and such records, with one heap, and with the same numbers of
+-- calls that there are not
 abbrev pub AlikeRecordings : Recording → Recording → Type 0
 AlikeRecordings = AreAlike AlikeInputs AlikeRecords AlikeRecords

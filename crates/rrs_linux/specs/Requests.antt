@@ -11,7 +11,7 @@
 use Rattle.std.specs.Prelude.{◌≡◌, ◌≢◌, ◌⊎◌, ℕ, ◌-◌, ◌%◌, ◌^◌, ◌<◌, ◌≤◌, ◌==◌, ◌&&◌, nat_lt, not, bit_and, Bool, true, false}
 use Rattle.rrs_linux.specs.declared.clocks.TimeForm.TheVariants.{Timespec, Timeval}
 use Rattle.rrs_linux.specs.declared.requests.Request.{Request}
-use Rattle.rrs_linux.specs.declared.requests.Request.TheVariants.{Exit, Answer, Status, NamedStatus, ExtendedStatus, Time, SetBreak, Read, WriteOutput, WriteErrors, WriteOutputPieces, WriteErrorPieces}
+use Rattle.rrs_linux.specs.declared.requests.Request.TheVariants.{Exit, Answer, NoCall, Status, NamedStatus, ExtendedStatus, Time, SetBreak, Read, WriteOutput, WriteErrors, WriteOutputPieces, WriteErrorPieces}
 use Rattle.rrs_lib.specs.Machine.{State, reg}
 
 -- the word that answers error n: -n
@@ -111,8 +111,7 @@ pub data AsksBy (call a0 a1 a2 a3 a4 : ℕ) (request : Request) : Type 0 where
       HasBadFlags call a2 a3 → request ≡ Answer (error 22) → AsksBy call a0 a1 a2 a3 a4 request
   OfNoClock :
       call ≡ 403 → 3 < a0 → request ≡ Answer (error 22) → AsksBy call a0 a1 a2 a3 a4 request
-  -- ENOSYS is 38
-  OfNoCall : IsNoCall call → request ≡ Answer (error 38) → AsksBy call a0 a1 a2 a3 a4 request
+  OfNoCall : IsNoCall call → request ≡ NoCall call → AsksBy call a0 a1 a2 a3 a4 request
 
 -- what the call of a machine at an ecall asks for
 abbrev pub Asks : State → Request → Type 0

@@ -1,5 +1,6 @@
 -- What a system call does to the environment and to the machine, and whether it ends the program.
-use Rattle.std.specs.Prelude.{◌≡◌, ℕ, ◌==◌, ◌&&◌, nat_le, if◌then◌else◌, List, [], Option, Some, None, pos}
+use Rattle.std.specs.Prelude.{◌≡◌, ℕ, ◌==◌, ◌&&◌, ◌||◌, nat_le, if◌then◌else◌, List, [], ◌∷◌, ◌++◌, length, Option, Some, None, pos}
+use Rattle.std.specs.List.{list_any}
 use Rattle.std.specs.declared.time.Duration.{Duration}
 use Rattle.rrs_lib.specs.Bytes.{ByteMap}
 use Rattle.rrs_lib.specs.AccessLists.{Access}
@@ -9,7 +10,7 @@ use Rattle.rrs_linux.specs.declared.Process.{Process}
 use Rattle.rrs_linux.specs.declared.host_writer.HostWriter.{HostWriter}
 use Rattle.rrs_linux.specs.declared.host_side.HostSide.{HostSide}
 use Rattle.rrs_linux.specs.declared.requests.Request.{Request}
-use Rattle.rrs_linux.specs.declared.requests.Request.TheVariants.{Exit, Answer, Status, NamedStatus, ExtendedStatus, Time, SetBreak, Read, WriteOutput, WriteErrors, WriteOutputPieces, WriteErrorPieces}
+use Rattle.rrs_linux.specs.declared.requests.Request.TheVariants.{Exit, Answer, NoCall, Status, NamedStatus, ExtendedStatus, Time, SetBreak, Read, WriteOutput, WriteErrors, WriteOutputPieces, WriteErrorPieces}
 use Rattle.rrs_linux.specs.Requests.{Asks, error}
 use Rattle.rrs_linux.specs.BufferedBytes.{buffered_bytes}
 use Rattle.rrs_linux.specs.Clocks.{Tells, TellsTime, PutsTime, form_of}
@@ -33,14 +34,22 @@ answered s answer = put s 10 (pos answer)
 abbrev pub ended_by : ℕ → Option ℕ
 ended_by answer = if answer == error 32 then Some 141 else None
 
--- By which streams are alike: environments are alike that have such streams, one heap, and the same
--- kept of the input.
+-- the numbers of the calls that were made and that there are not, each once, and 16 at most, when
+-- such a call was made
+abbrev pub noted : List ℕ → ℕ → List ℕ
+noted numbers call =
+    if list_any (λ number. number == call) numbers || length numbers == 16 then numbers
+    else numbers ++ call ∷ []
+
+-- By which streams are alike: environments are alike that have such streams, one heap, the same
+-- numbers of calls that there are not, and the same kept of the input.
 pub record AreAlike {R W E K : Type 0} (input : R → R → Type 0) (output : W → W → Type 0)
     (errors : E → E → Type 0) (d e : Process R W E K) : Type 0 where
   pub inputs : input d.input e.input
   pub outputs : output d.output e.output
   pub error_outputs : errors d.errors e.errors
   pub heap : d.heap ≡ e.heap
+  pub unserved : d.unserved ≡ e.unserved
   pub held : d.held ≡ e.held
 
 -- By what the streams do with the bytes of a buffer, and by what the clocks tell:
@@ -53,6 +62,11 @@ module _ {R W E K : Type 0} (gives : Gives R K) (takes : Takes W) (takes_errors 
       (end ≡ Some status) × (new ≡ old) × (t ≡ s) × (accesses ≡ [])
   Does (Answer word) old s new t accesses end =
       (end ≡ None) × (new ≡ old) × (t ≡ answered s word) × (accesses ≡ [])
+  -- ENOSYS is 38
+  Does (NoCall call) old s new t accesses end =
+      (end ≡ None)
+      × (new ≡ record old { unserved = record { items = noted old.unserved.items call } })
+      × (t ≡ answered s (error 38)) × (accesses ≡ [])
   Does (Status a) old s new t accesses end =
       (end ≡ None) × (new ≡ old) × (bytes : ByteMap) × (answer : ℕ)
       × PutsBytes s.writable s.bytes bytes a stream_status accesses answer

@@ -20,6 +20,7 @@ mod recorder;
 mod requests;
 mod statuses;
 mod streams;
+mod unserved;
 
 ghost use Rattle.std.specs.Prelude.{◌≡◌, ℕ, Bool, Option, None, slice_index, []};
 ghost use Rattle.rrs_lib.specs.Machine.{state_of};
@@ -29,8 +30,10 @@ ghost use Rattle.rrs_linux.specs.SystemCalls.{ServesBy, AreAlike, moved, answere
 use crate::clocks::put_time;
 use crate::host::NOBODY_READS;
 use crate::pieces::write_pieces;
-use crate::requests::system_call_of;
+use crate::requests::{NO_SUCH_CALL, system_call_of};
 use crate::statuses::{put_extended_status, put_named_status, put_status};
+use crate::unserved::keep_number;
+use arrayvec::ArrayVec;
 pub use clocks::{Clocks, LinuxClocks, StoppedClocks, TimeForm};
 pub use host_side::HostSide;
 pub use host_writer::HostWriter;
@@ -42,6 +45,7 @@ use rrs_lib::instruction_executor::InstructionExecutor;
 use rrs_lib::{HartState, Memory};
 pub use statuses::Lookup;
 pub use streams::{Input, Output};
+pub use unserved::MOST_UNSERVED;
 
 /// The status of a program that writes what nobody reads: 128 and the number of `SIGPIPE`.
 const ENDED_BY_SIGPIPE: u32 = 141;
@@ -92,6 +96,9 @@ pub struct Process<R, W, E, K> {
     pub errors: E,
     /// The program's heap.
     pub heap: Heap,
+    /// The numbers of the calls that it made and that are not served: each once, in the order in which
+    /// they were first made, and 16 at most.
+    pub unserved: ArrayVec<u32, MOST_UNSERVED>,
     /// What is kept between two calls, which says of what kind the environment is: of a [Linux] what
     /// was read of its input and not given to the program yet, and its clocks.
     pub held: K,
@@ -103,12 +110,13 @@ pub type Linux<R, W, E> = Process<R, HostWriter<W>, HostWriter<E>, HostSide>;
 
 impl<R, W, E> Process<R, HostWriter<W>, HostWriter<E>, HostSide> {
     /// An environment with these streams, this heap and these clocks, which holds nothing of the
-    /// input yet.
+    /// input yet, and of which each call was served so far.
     pub fn new(input: R, output: W, errors: E, heap: Heap, clocks: LinuxClocks) -> Self
         ensures input { result.input ≡ input }
         ensures output { result.output.stream ≡ output }
         ensures errors { result.errors.stream ≡ errors }
         ensures heap { result.heap ≡ heap }
+        ensures unserved { result.unserved.items ≡ [] }
         ensures held { buffered_bytes result.held.buffer ≡ [] }
         ensures clocks { result.held.clocks ≡ clocks }
     {
@@ -117,6 +125,7 @@ impl<R, W, E> Process<R, HostWriter<W>, HostWriter<E>, HostSide> {
             output: HostWriter::new(output),
             errors: HostWriter::new(errors),
             heap,
+            unserved: ArrayVec::new(),
             held: HostSide {
                 buffer: InputBuffer::new(),
                 clocks,
@@ -137,6 +146,10 @@ impl<R: Input<K>, W: Output, E: Output, K: Clocks> Environment for Process<R, W,
         match system_call_of(hart) {
             Request::Exit(status) => Some(status),
             Request::Answer(answer) => go_on(hart, answer),
+            Request::NoCall(number) => {
+                keep_number(&mut self.unserved, number);
+                go_on(hart, NO_SUCH_CALL)
+            }
             Request::Status(address) => go_on(hart, put_status(mem, address)),
             Request::NamedStatus(lookup, address) => {
                 go_on(hart, put_named_status(mem, lookup, address))

@@ -8,6 +8,7 @@ use crate::buffers::{BAD_ADDRESS, answer_of, give_bytes, most_of};
 use crate::clocks::{Clocks, StoppedClocks};
 use crate::streams::{Input, Output};
 use crate::{Heap, Process};
+use arrayvec::ArrayVec;
 use rrs_lib::{MemAccessSize, Memory};
 use std::alloc::{AllocError, Global};
 use std::time::Duration;
@@ -42,7 +43,8 @@ pub type OutputRecorder<'a> = Process<&'a [u8], Vec<u8>, Vec<u8>, Known>;
 
 impl<'a> Process<&'a [u8], Vec<u8>, Vec<u8>, Known> {
     /// An environment with this input, with room for so many bytes of the output and of the errors
-    /// each, with this heap, and with clocks that stand at 0. Nothing is written yet.
+    /// each, with this heap, and with clocks that stand at 0. Nothing is written yet, and each call was
+    /// served so far.
     ///
     /// # Errors
     ///
@@ -59,6 +61,7 @@ impl<'a> Process<&'a [u8], Vec<u8>, Vec<u8>, Known> {
         ensures room { IfOk result (λ made.
             (vec_capacity made.output ≡ room) × (vec_capacity made.errors ≡ room)) }
         ensures heap { IfOk result (λ made. made.heap ≡ heap) }
+        ensures unserved { IfOk result (λ made. made.unserved.items ≡ []) }
         ensures clocks { IfOk result (λ made. made.held.clocks ≡ StoppedClocks.ZERO) }
     {
         Ok(Process {
@@ -66,6 +69,7 @@ impl<'a> Process<&'a [u8], Vec<u8>, Vec<u8>, Known> {
             output: Vec::with_capacity(alloc, room)?,
             errors: Vec::with_capacity(alloc, room)?,
             heap,
+            unserved: ArrayVec::new(),
             held: Known {
                 clocks: StoppedClocks::ZERO,
             },
@@ -77,7 +81,7 @@ impl<'a> Process<&'a [u8], Vec<u8>, Vec<u8>, Known> {
 /// make the same accesses, leave one state, give one answer, and are alike again.
 ///
 /// They are alike if they have the same input left, the same output and errors, room for as many
-/// bytes, and one heap. So each run over them is the only one (`only_alike` of `run_served`).
+/// bytes, one heap, and the same numbers of calls that are not served. So each run over them is the only one (`only_alike` of `run_served`).
 pub fn records_determined()
     ensures { IsDeterminedBy Records AlikeRecordings }
 {}

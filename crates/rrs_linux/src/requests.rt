@@ -50,7 +50,7 @@ const NO_POSITION: u32 = 0xffff_ffe3;
 /// The answer where a descriptor is not open for this: -9, `EBADF`.
 const BAD_DESCRIPTOR: u32 = 0xffff_fff7;
 /// The answer to a call that there is not: -38, `ENOSYS`.
-const NO_SUCH_CALL: u32 = 0xffff_ffda;
+pub const NO_SUCH_CALL: u32 = 0xffff_ffda;
 
 /// The flags that there are not for a path: all but `AT_SYMLINK_NOFOLLOW`, `AT_NO_AUTOMOUNT`,
 /// `AT_EMPTY_PATH` and the two of `AT_STATX_SYNC_TYPE`.
@@ -65,6 +65,8 @@ pub enum Request {
     Exit(u32),
     /// Nothing but this answer.
     Answer(u32),
+    /// What there is no call for: the call of this number is not served.
+    NoCall(u32),
     /// To put the status of an open stream at an address.
     Status(u32),
     /// To put the status of what a path names at an address.
@@ -128,7 +130,7 @@ fn request_by(call: u32, first: u32, second: u32, third: u32, fourth: u32, fifth
         CLOCK_GETTIME64 if first <= 3 => Request::Time(first, TimeForm::Timespec, second),
         GETTIMEOFDAY => Request::Time(REALTIME, TimeForm::Timeval, first),
         NEWFSTATAT | STATX | CLOCK_GETTIME64 => Request::Answer(BAD_ARGUMENT),
-        _ => Request::Answer(NO_SUCH_CALL),
+        _ => Request::NoCall(call),
     }
 }
 

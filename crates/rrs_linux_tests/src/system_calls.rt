@@ -463,6 +463,41 @@ fn calls_answer(rt: HostRuntime) -> Result<(), Fail> {
     Ok(())
 }
 
+/// Numbers of calls, of which two are served.
+static NUMBERS: [u32; 9] = [404, BRK, 404, u32::MAX, 0, 404, GETPID, 0, 1];
+
+/// Those that are not served, each once and in order, up to the sixteenth.
+static UNSERVED: [u32; 16] = [
+    404,
+    u32::MAX,
+    0,
+    1,
+    1000,
+    1001,
+    1002,
+    1003,
+    1004,
+    1005,
+    1006,
+    1007,
+    1008,
+    1009,
+    1010,
+    1011,
+];
+
+// The numbers of the calls that are not served are kept.
+#[test]
+fn calls_that_are_not_served_are_kept(rt: HostRuntime) -> Result<(), Fail> {
+    let mut memory = numbered(rt.alloc())?;
+    let mut linux = environment(rt.alloc(), &[], &[]);
+    for number in NUMBERS.into_iter().chain(1000..1020) {
+        call(&mut linux, &mut memory, (number, 0, 0, 0));
+    }
+    assert_eq!(rt; linux.unserved.as_slice(), UNSERVED.as_slice());
+    Ok(())
+}
+
 /// Calls of a recorder, each with how it ends, its answer, and what is left of the input and held
 /// of the output and of the errors after it.
 static RECORDED: [(Request, Option<u32>, u32, (usize, usize, usize)); 25] = [

@@ -7,10 +7,10 @@ use Rattle.rrs_env.specs.Serving.{MakesSome}
 use Rattle.rrs_lib.specs.declared.HartState.{HartState}
 use Rattle.rrs_linux.specs.declared.Process.{Process}
 use Rattle.rrs_linux.specs.declared.requests.Request.{Request}
-use Rattle.rrs_linux.specs.declared.requests.Request.TheVariants.{Exit, Answer, Status, NamedStatus, ExtendedStatus, Time, SetBreak, Read, WriteOutput, WriteErrors, WriteOutputPieces, WriteErrorPieces}
+use Rattle.rrs_linux.specs.declared.requests.Request.TheVariants.{Exit, Answer, NoCall, Status, NamedStatus, ExtendedStatus, Time, SetBreak, Read, WriteOutput, WriteErrors, WriteOutputPieces, WriteErrorPieces}
 use Rattle.rrs_linux.specs.Clocks.{Tells}
 use Rattle.rrs_linux.specs.Requests.{Asks}
-use Rattle.rrs_linux.specs.SystemCalls.{Does, ServesBy, answered}
+use Rattle.rrs_linux.specs.SystemCalls.{Does, ServesBy, answered, noted}
 use Rattle.rrs_linux.specs.Transfers.{Gives, Takes}
 use Rattle.rrs_linux.proofs.ProcessEnvironment.serve.Goals as goal
 
@@ -38,6 +38,14 @@ pub returns-in-Answer-clause-served : goal.returns-in-Answer-clause-served
 returns-in-Answer-clause-served g c =
     let went = c.go_on.ensures in
     served [] (Answer c.in-Answer.answer) c.in-Answer.ensures (went.goes_on, refl, went.answered _ _, refl) refl
+
+pub returns-in-NoCall-clause-served : goal.returns-in-NoCall-clause-served
+returns-in-NoCall-clause-served g c =
+    let went = c.go_on-in-NoCall.ensures in
+    let kept = c.keep_number.ensures in
+    let process = c.args.self.now in
+    served [] (NoCall c.in-NoCall.number) c.in-NoCall.ensures
+    (went.goes_on, (λ i. record process { unserved = record { items = kept i } }), went.answered _ _, refl) refl
 
 pub returns-in-SetBreak-clause-served : goal.returns-in-SetBreak-clause-served
 returns-in-SetBreak-clause-served g c =
