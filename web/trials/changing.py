@@ -70,6 +70,10 @@ SINCE_MEMORY = ("[...document.querySelectorAll('#memory .since')].map((cell) =>"
                 " [cell.textContent, cell.title])")
 
 
+MARKS = """Object.fromEntries([...document.querySelectorAll("#memory td[title]:not([title=''])")]
+    .map(({ className, title }) => [className.split(" ")[0], title]))"""
+
+
 def since_the_last_stop(machine):
     """what changed since the machine stood last is marked, of registers and of memory"""
     page = machine.page
@@ -96,6 +100,12 @@ def since_the_last_stop(machine):
     same("of memory", [], page.ask(SINCE_MEMORY))
     machine.keys("x")
     same("after a reset", [], page.ask(SINCE))
+    said = {}
+    for _ in range(3):
+        machine.run()
+        said.update(page.ask(MARKS))
+    same("what the marks of memory say", ["changed since the start", changed],
+         [said.get("changed"), said.get("since")])
 
 
 def names(machine):
@@ -145,6 +155,10 @@ def calls_made(machine):
     machine.leave_fields()
     machine.run("B")
     same("back at the start", [], machine.rows("frames"))
+    machine.edit(f"13\n008000ef # jal ra, there\n13\n{80 * 'y'}: 00100073", base="80000000")
+    machine.run()
+    same("in a memory that begins elsewhere, with a long label",
+         [[f"{60 * 'y'}…", "0x80000004", "00000000"]], machine.rows("frames"))
     machine.edit("loop:\n000000ef # jal ra, loop")
     machine.page.press("r")
     page.wait("rrs.session.machine.steps > 2000")

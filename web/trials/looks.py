@@ -303,6 +303,15 @@ ALL_IN_PLACE = {"cut": [], "controls": [], "overlaps": [], "isWide": False}
 WIDTHS = ((1360, 900), (1080, 800), (900, 900), (768, 1024), (560, 900), (430, 900),
           (360, 740))
 
+# how many words, and how many bytes, a row of memory has at these widths; and whether rows fit
+IN_A_ROW = {1360: [4, 16], 1080: [4, 8], 900: [2, 8], 768: [2, 8], 560: [4, 8], 430: [2, 8],
+            360: [2, 8]}
+ROWS = """[1, 4].map(() => {
+    rrs.act("unit");
+    const { parentElement: { scrollWidth, clientWidth }, rows } = $("memory");
+    return [rows[0].cells.length - 2, scrollWidth <= clientWidth];
+}).reverse()"""
+
 
 def show_fibonacci(machine):
     """Runs an example to a breakpoint twice, and makes a few steps more."""
@@ -312,6 +321,12 @@ def show_fibonacci(machine):
     machine.run()
     machine.run()
     machine.keys("ssss")
+
+
+def show_source(machine):
+    """Opens a program of assembly, and makes a step."""
+    machine.give(WEB.parent / "examples" / "assembly" / "hello.s")
+    machine.keys("s")
 
 
 def boxes(machine):
@@ -330,6 +345,8 @@ def boxes(machine):
         for _ in range(4):
             same(f"the boxes at {width}", ALL_IN_PLACE, page.ask(f"{SEEN}.boxes()"))
             machine.keys("n")
+        same(f"rows of memory at {width}", [[count, True] for count in IN_A_ROW[width]],
+             page.ask(ROWS))
         page.ask("scrollTo(0, 400)")
         same(f"the buttons at {width}, scrolled down", 0, page.ask(
             "document.querySelector('.controls').getBoundingClientRect().top"))
@@ -368,13 +385,14 @@ def boxes_of_a_lesson(machine):
 def one_screen(machine):
     """at 1366 x 768 registers, memory around sp and the listing are on one screen"""
     page = machine.page
-    show_fibonacci(machine)
     page.resize(1366, 768)
-    page.ask("scrollTo(0, 0)")
-    same("what is not on the screen", [], page.ask(f"{SEEN}.notInView()"))
-    same("what scrolls sideways", [], page.ask(
-        "[...document.querySelectorAll('.scroll, #listing')].filter((panel) =>"
-        " panel.scrollWidth > panel.clientWidth).map((panel) => panel.firstElementChild.id)"))
+    for what, show in (("words", show_fibonacci), ("a source", show_source)):
+        show(machine)
+        page.ask("scrollTo(0, 0)")
+        same(f"what is not on the screen of {what}", [], page.ask(f"{SEEN}.notInView()"))
+        same(f"what scrolls sideways of {what}", [], page.ask(
+            "[...document.querySelectorAll('.scroll, #listing')].filter((panel) =>"
+            " panel.scrollWidth > panel.clientWidth).map((panel) => panel.firstElementChild.id)"))
     page.resize(*SIZE)
 
 

@@ -189,10 +189,11 @@ def editor(machine):
     same("the label", "go:", page.text("#line-0 .label"))
     same("the pc", "0x80000000", machine.register("pc"))
     machine.keys("e")
-    same("what stands in the editor",
-         ["go: 1234b137, f387e1b7 ; both", "0x80000000", "65536", False],
+    same("what stands in the editor, and where the cursor is",
+         ["go: 1234b137, f387e1b7 ; both", "0x80000000", "65536", False, "text", 0],
          page.ask("['text', 'base', 'size'].map((id) => document.getElementById(id).value)"
-                  ".concat(document.getElementById('stack').checked)"))
+                  ".concat(document.getElementById('stack').checked, document.activeElement.id,"
+                  " document.getElementById('text').selectionStart)"))
     page.click("#editor [data-close]")
     same("whether the editor is closed", False, page.ask(EDITOR_OPEN))
 
@@ -230,6 +231,13 @@ def editor_by_keys(machine):
     page.click("#stack")
     page.click("#take")
     same("the stack at the end of memory", "0x00041000", machine.register("x2"))
+    machine.keys("e")
+    page.replace("#base", "0")
+    page.choose("#size", "1048576")
+    page.click("#stack")
+    page.click("#take")
+    same("1 MiB where sp is 0, which is none of the menu", ["0x00000000", ""],
+         [machine.register("x2"), page.ask("document.querySelector('#preset').value")])
 
 
 def in_time(what, action, *arguments):
@@ -298,6 +306,12 @@ def links(machine):
     page.click("#copy")
     page.wait("document.querySelector('#shared-note').textContent.endsWith('clipboard.')")
     same("what is on the clipboard", link, page.ask("navigator.clipboard.readText()"))
+    page.ask("navigator.clipboard.writeText = () => Promise.reject(); null")
+    page.click("#copy")
+    page.wait("!document.querySelector('#shared-note').textContent.endsWith('clipboard.')")
+    same("where the browser refuses", ["The browser keeps the clipboard to itself: press Ctrl+C.",
+                                       link], [page.text("#shared-note"), page.ask(
+                                           "getSelection().toString()")])
     page.click("#shared [data-close]")
     words = [f"{0x9E3779B1 * number % 2**32:08x}" for number in range(1500)]
     follow(machine, link_to("\n".join(words)))

@@ -1,5 +1,6 @@
 """Programs that run in the page: steps there and back, the console, breakpoints, and the memory."""
 
+import math
 import pathlib
 import tempfile
 import time
@@ -97,6 +98,14 @@ def radixes_and_counts(machine):
     same("bars by their counts", [round(100 * count / counts[0]) for count in counts],
          [round(100 * width / widths[0]) for width in widths])
     same("the rows of the log", 21, len(machine.rows("log")))
+    lines = machine.page.ask("[...document.querySelectorAll('.line .executed')].map((cell) => ["
+                             "Number(cell.lastChild.textContent), Math.round(100 * cell.firstChild"
+                             ".getBoundingClientRect().width / cell.clientWidth)])")
+    most = max(count for count, _ in lines)
+    same("bars of the lines, by the logarithms of their counts",
+         [[count, round(100 * math.log1p(count) / math.log1p(most))] for count, _ in lines], lines)
+    same("targets in the log", ["bne a1, zero, divide", "jal ra, gcd", "jal zero, gcd"], sorted({
+        row[2] for row in machine.rows("log") if row[2].split(" ")[0] in ("bne", "jal")}))
 
 
 def million_steps(machine):
@@ -456,6 +465,12 @@ def memory(machine):
     machine.choose("three")
     same("the last store is not that of the program before", "1234b137", page.ask(target))
     machine.leave_fields()
+    machine.choose("fibonacci")
+    page.choose("#around", "label fib")
+    machine.leave_fields()
+    machine.choose("three")
+    same("where there is no such label", ["sp", "1234b137"], [
+        page.ask("document.querySelector('#around').value"), page.ask(target)])
 
 
 def addresses(machine):

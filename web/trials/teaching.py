@@ -4,6 +4,7 @@ the calling convention."""
 import pathlib
 import tempfile
 
+from trials.opening import executable
 from trials.report import same
 from trials.view import WEB, js
 
@@ -62,6 +63,8 @@ def while_one_types(machine):
         "register.",
         "Line 3: 5000 is out of range: from -2048 to 2047 is wanted here. li loads any number into "
         "a register.", "Line 4: There is no symbol nowhere."], page.ask(MISTAKES))
+    same("the numbers of the lines", "1\n2\n3\n4\n5\n", page.ask(
+        "document.getElementById('numbers').textContent"))
     same("the lines that are marked", ["2", "3", "4"], page.ask(
         "[...document.querySelectorAll('#numbers b')].map((number) => number.textContent)"))
     same("the places that are marked", ["5", "5000", "nowhere"], page.ask(
@@ -80,6 +83,14 @@ def while_one_types(machine):
     page.wait(f"{MISTAKES}.length === 1", 5)
     same("as words", ['Line 1: "nop" is no word of 1 to 8 hexadecimal digits'], page.ask(MISTAKES))
     page.choose("#language", "assembly")
+    page.replace("#text", "j 0x10")
+    page.wait(f"{MISTAKES}.length === 0", 5)
+    page.replace("#base", "80000000")
+    page.press("Tab")
+    page.wait(f"{MISTAKES}.length === 1", 5)
+    same("where it is to lie", True, page.ask(f"{MISTAKES}[0].startsWith('Line 1: ')"))
+    page.replace("#base", "0")
+    page.press("Tab")
     page.replace("#text", "loop: li a0, 5 # so\n.word 'a'")
     same("the colours", [["loop:", "is-label"], ["li", "is-name"], ["a0", "is-register"],
                          ["5", "is-number"], ["# so", "is-comment"], [".word", "is-directive"],
@@ -185,12 +196,24 @@ def lesson(machine):
     machine.run()
     same("solved", ["check done", "Solved.", "1 of 3 solved"],
          [page.ask(CHECK), page.text("#exercise-check"), page.text("#lesson-solved")])
+    same("what is said of the exercises", ["solved", "not solved yet", "not solved yet"], page.ask(
+        "[...document.querySelectorAll('#exercises a')].map((link) => link.ariaDescription)"))
     page.click("#exercises li:nth-child(2) a")
     page.wait(f"{CURRENT} === 'Count down'")
     same("the calls of the exercise", "rars", page.ask("rrs.session.calls"))
     machine.run()
     same("the output", 'The output is "5\\n", and "5\\n4\\n3\\n2\\n1\\n" is expected.',
          page.text("#exercise-check"))
+    machine.keys("e")
+    page.choose("#language", "words")
+    page.replace("#text", "13")
+    page.click("#take")
+    machine.wait_closed()
+    for number, title in ((1, "The sum of a list"), (2, "Count down")):
+        page.click(f"#exercises li:nth-child({number}) a")
+        page.wait(f"{CURRENT} === '{title}'")
+    same("what was tried as words", ["words", "13"],
+         page.ask("[rrs.session.language, rrs.session.text]"))
     page.click("#exercises li:nth-child(1) a")
     page.wait(f"{CURRENT} === 'The sum of a list'")
     same("what was tried", True, page.ask("rrs.session.text.includes('bnez a2, 1b')"))
@@ -216,6 +239,19 @@ def lesson(machine):
         machine.give(path)
         machine.says("Not opened", 'wrong.txt was not opened. Line 3: the output stands in '
                      'quotation marks, as "31\\n"')
+        path.write_text('lesson:\nexercise:\noutput: "a"\nprogram:\n  nop\n')
+        machine.give(path)
+        page.wait("!document.getElementById('lesson').hidden")
+        same("where there are no titles", ["Lesson", "Exercise 1", "Exercise"], [
+            page.text("#lesson-title"), page.ask(CURRENT), page.text("#program-title")])
+        for name, what in (("words.hex", b"13"), ("executable", executable())):
+            machine.give(LESSON)
+            page.wait("!document.getElementById('lesson').hidden")
+            path = path.with_name(name)
+            path.write_bytes(what)
+            machine.give(path)
+            same(f"whether {name} closes it", True, page.ask(
+                "document.getElementById('lesson').hidden"))
 
 
 REMARKS = "[...document.querySelectorAll('#remarks li')].map((item) => item.textContent)"
