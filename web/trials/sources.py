@@ -1,5 +1,6 @@
 """Sources of assembly, which the page reads as `rrs as` reads them."""
 
+import json
 import pathlib
 import re
 import subprocess
@@ -62,6 +63,30 @@ def sources():
         same("lines that rrs as takes, and the page refuses", set(), here - wrong)
         same("whether the page refuses most of the others", True, len(here) > 0.98 * len(wrong))
     return f"{len(paths)} sources, {len(wrong):,} lines that are wrong"
+
+
+# what some of the programs ask for, and the page does not lay out
+NOT_HERE = re.compile(r"^\s*\.l?comm\s", re.MULTILINE)
+
+
+def classroom():
+    """programs as classes have them print and end in the page as they do under rrs exec"""
+    paths = [path for path in sorted((ASSEMBLY / "programs").glob("*.s"))
+             if not path.with_suffix(".in").exists()]
+    status, said = node("classroom.js", *paths)
+    if status:
+        raise Differs(said)
+    came = list(map(json.loads, said.splitlines()))
+    same("how many programs were tried", len(paths), len(came))
+    refused_here = 0
+    for path, end in zip(paths, came):
+        if "mistakes" in end and NOT_HERE.search(path.read_text(encoding="utf-8")):
+            same(f"why {path.name} is refused", True, bool(end["mistakes"][0]))
+            refused_here += 1
+            continue
+        wanted = path.with_suffix(".out").read_text(encoding="latin1")
+        same(f"what {path.name} prints, and its status", wanted, end["told"])
+    return f"{len(paths)} programs, of which {refused_here} are refused for .comm"
 
 
 def accepted(lines, path):
