@@ -11,7 +11,7 @@ use Rattle.rrs_trace.specs.declared.stops.StopReason.TheVariants as Stop
 use Rattle.rrs_trace.specs.Stops.{RunsToStop, PassesNone}
 use Rattle.rrs_gdb.specs.declared.forward.ForwardReason.{ForwardReason}
 use Rattle.rrs_gdb.specs.declared.breaks.Watch.{Watch}
-use Rattle.rrs_gdb.specs.Breaks.{IsTrail, KeepsSteps, ComesTo, IsPassed, GoesForward, reason_of}
+use Rattle.rrs_gdb.specs.Breaks.{IsTrail, KeepsSteps, ComesTo, IsPassed, GoesForward, back_over, reason_of}
 use Rattle.rrs_gdb.proofs.WatchLemmas.{none_touched}
 
 -- a run with stops alone
@@ -83,33 +83,41 @@ kept_fault steps old mid new s m t so_far fault same = record {
 
 -- ---- back
 
--- the states that were passed
-pub record PassedSoFar (stops : List ℕ) (watches : List Watch) (count : ℕ) (before after : List State) : Type 0 where
+-- the last of them is where the machine is
+back_over_push : (ms : List State) (m s : State) → back_over (ms ++ m ∷ []) s ≡ m
+back_over_push [] m s = refl
+back_over_push (x ∷ xs) m s = back_over_push xs m x
+
+-- the states that were passed from s, from which the machine came to t
+pub record PassedSoFar (stops : List ℕ) (watches : List Watch) (count : ℕ) (s : State) (before : List State) (t : State)
+    (after : List State) : Type 0 where
   pub passed : List State
   pub leads : before ≡ passed ++ after
   pub are_passed : All (IsPassed stops watches) passed
   pub as_many : length passed ≡ count
+  pub there : t ≡ back_over passed s
 
-pub none_passed : (stops : List ℕ) (watches : List Watch) (before : List State)
-    → PassedSoFar stops watches 0 before before
-none_passed stops watches before =
-    record { passed = []; leads = refl; are_passed = All-nil (IsPassed stops watches); as_many = refl }
+pub none_passed : (stops : List ℕ) (watches : List Watch) (s : State) (before : List State)
+    → PassedSoFar stops watches 0 s before s before
+none_passed stops watches s before =
+    record { passed = []; leads = refl; are_passed = All-nil (IsPassed stops watches); as_many = refl; there = refl }
 
-pub one_passed : (stops : List ℕ) (watches : List Watch) (count : ℕ) (before after others : List State) (m : State)
-    → PassedSoFar stops watches count before after → after ≡ m ∷ others → IsPassed stops watches m
-    → PassedSoFar stops watches (count + 1) before others
-one_passed stops watches count before after others m so_far next is_passed = record {
+pub one_passed : (stops : List ℕ) (watches : List Watch) (count : ℕ) (s t m : State) (before after others : List State)
+    → PassedSoFar stops watches count s before t after → after ≡ m ∷ others → IsPassed stops watches m
+    → PassedSoFar stops watches (count + 1) s before m others
+one_passed stops watches count s t m before after others so_far next is_passed = record {
   passed = so_far.passed ++ m ∷ [];
   leads = so_far.leads ∙ ap (λ (xs : List State). so_far.passed ++ xs) next
       ∙ sym (append_assoc so_far.passed (m ∷ []) others);
   are_passed = All-push (IsPassed stops watches) so_far.passed m so_far.are_passed is_passed;
   as_many = length_push so_far.passed m ∙ ap (λ (n : ℕ). n + 1) so_far.as_many;
+  there = sym (back_over_push so_far.passed m s);
 }
 
-pub comes_to : (stops : List ℕ) (watches : List Watch) (count limit : ℕ) (before after others : List State) (m : State)
-    → PassedSoFar stops watches count before after → after ≡ m ∷ others → count < limit
-    → ComesTo stops watches limit before m others
-comes_to stops watches count limit before after others m so_far next less = record {
+pub comes_to : (stops : List ℕ) (watches : List Watch) (count limit : ℕ) (s t m : State)
+    (before after others : List State) → PassedSoFar stops watches count s before t after → after ≡ m ∷ others
+    → count < limit → ComesTo stops watches limit before m others
+comes_to stops watches count limit s t m before after others so_far next less = record {
   passed = so_far.passed;
   leads = so_far.leads ∙ ap (λ (xs : List State). so_far.passed ++ xs) next;
   are_passed = so_far.are_passed;
@@ -117,12 +125,24 @@ comes_to stops watches count limit before after others m so_far next less = reco
 }
 
 -- none is left
-pub all_passed : (stops : List ℕ) (watches : List Watch) (count : ℕ) (before after : List State)
-    → PassedSoFar stops watches count before after → after ≡ [] → All (IsPassed stops watches) before
-all_passed stops watches count before after so_far none =
-    subst (All (IsPassed stops watches))
-    (sym (so_far.leads ∙ ap (λ (xs : List State). so_far.passed ++ xs) none ∙ append-nil so_far.passed))
-    so_far.are_passed
+pub all_passed : (stops : List ℕ) (watches : List Watch) (count limit : ℕ) (s t : State) (before after : List State)
+    → PassedSoFar stops watches count s before t after → after ≡ [] → count < limit
+    → All (IsPassed stops watches) before × (length before < limit) × (t ≡ back_over before s)
+all_passed stops watches count limit s t before after so_far none less =
+    let all : so_far.passed ≡ before =
+    sym (so_far.leads ∙ ap (λ (xs : List State). so_far.passed ++ xs) none ∙ append-nil so_far.passed) in (
+      subst (All (IsPassed stops watches)) all so_far.are_passed,
+      subst (λ (xs : List State). length xs < limit) all (omega (arith, less, so_far.as_many)),
+      subst (λ (xs : List State). t ≡ back_over xs s) all so_far.there,
+    )
+
+-- as many as the limit
+pub limit_passed : (stops : List ℕ) (watches : List Watch) (count limit : ℕ) (s t : State) (before after : List State)
+    → PassedSoFar stops watches count s before t after → count ≡ limit
+    → (passed : List State) × (before ≡ passed ++ after) × All (IsPassed stops watches) passed
+    × (length passed ≡ limit) × (t ≡ back_over passed s)
+limit_passed stops watches count limit s t before after so_far same =
+    (so_far.passed, so_far.leads, so_far.are_passed, so_far.as_many ∙ same, so_far.there)
 
 -- no step was made
 pub none_stepped : (stops : List ℕ) (s : State) → PassesNone stops 1 s

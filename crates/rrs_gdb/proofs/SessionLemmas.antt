@@ -1,8 +1,8 @@
 -- What packets leave as it was, and the calls between the runs of a program that goes on.
-use Rattle.std.proofs.Common.{◌≡◌, ◌≢◌, ◌⊎◌, ℕ, List, [], ◌∷◌, ◌++◌, Bool, true, false, Contains, Option, Some, None, Result, Ok, Err, OnOk, IfNone, MatchOption, ◌<◌, ◌≤◌, length, slice_index, refl, sym, subst, ap, ◌∙◌, inl, inr, arith}
+use Rattle.std.proofs.Common.{◌≡◌, ◌≢◌, ◌⊎◌, ℕ, zero, suc, List, [], ◌∷◌, ◌++◌, Bool, true, false, Contains, Option, Some, None, Result, Ok, Err, OnOk, IfNone, MatchOption, ◌-◌, ◌<◌, ◌≤◌, drop, length, take, take_all, slice_index, refl, sym, subst, ap, ◌∙◌, inl, inr, arith}
 use Rattle.std.specs.Bool.{OnTrue, OnFalse}
 use Rattle.std.proofs.lemmas.Bool.{OnTrue_from}
-use Rattle.std.proofs.lemmas.List.{append_cancel_left}
+use Rattle.std.proofs.lemmas.List.{append_cancel_left, length-drop}
 use Rattle.rrs_lib.specs.declared.instruction_executor.InstructionException.{InstructionException}
 use Rattle.rrs_lib.specs.declared.instruction_executor.InstructionException.TheVariants.{EnvironmentCall}
 use Rattle.rrs_lib.specs.Accesses.{Access}
@@ -15,7 +15,15 @@ use Rattle.rrs_gdb.specs.declared.forward.ForwardReason.TheVariants.{Limit, Faul
 use Rattle.rrs_gdb.specs.declared.session.Going.{Going}
 use Rattle.rrs_gdb.specs.declared.session.Going.TheVariants.{Step, Proceed, Killed}
 use Rattle.rrs_gdb.specs.Sessions.{letter, IsError, OutputTaken, CallMade, CallStops, Behind, GoesOn, Runs, GoesBy, GoesOnOrStays, GoesOnFrom, GoesOnUnless, HasAction, HasLetter, Resumes, Acts, first_action}
-use Rattle.rrs_gdb.specs.Breaks.{GoesForward}
+use Rattle.std.proofs.lemmas.List.Elements.{All-nil}
+use Rattle.rrs_gdb.specs.declared.back.BackEnd.{BackEnd}
+use Rattle.rrs_gdb.specs.declared.back.BackEnd.TheVariants as Back
+use Rattle.rrs_gdb.specs.Breaks.{GoesForward, GoesBack, IsPassed}
+use Rattle.rrs_gdb.specs.declared.state.Stop.{Stop}
+use Rattle.rrs_history.specs.declared.history.History.{History}
+use Rattle.rrs_history.specs.Histories.{changes, past}
+use Rattle.rrs_gdb.specs.declared.state.SessionState.{SessionState}
+use Rattle.rrs_gdb.specs.Sessions.{GoesOnBack, SessionGoesBack, RunsBack, Signals, BySignal, EndsBy, HasNoSignal, IsSignal, signalled}
 use Rattle.rrs_gdb.specs.Packets.{IsNumber, number, before, behind, address_in, length_in}
 use Rattle.rrs_gdb.specs.Sessions.{SetsBytes, SetsMemory}
 use Rattle.hex.specs.Hex.{decode_of, decode_pairs}
@@ -229,6 +237,118 @@ resumes_not (Ok x) rest rest' ended stops watches limit e e' s t old new same so
 }
 resumes_not (Err f) rest rest' ended stops watches limit e e' s t old new same some other error = tt
 
+-- ---- a program that goes on by a signal
+
+-- by signal 0 it goes on as by none, and by another one it is killed
+pub killed_by : (by : Going) (n : ℕ) → 1 ≤ n → signalled by n ≡ Killed n
+killed_by by zero some = absurd (omega (arith, some))
+killed_by by (suc n) some = refl
+
+pub by_none : (text digits rest : List ℕ) (by : Going) (n : ℕ) → IsNumber digits → n ≡ number digits → n ≡ 0
+    → digits ≡ before 59 text → rest ≡ behind 59 text → BySignal text by by rest
+by_none text digits rest by n is value nought same behind' =
+    let is' : IsNumber (before 59 text) = subst (λ (xs : List ℕ). IsNumber xs) same is in
+    let value' : number (before 59 text) ≡ 0 = ap (λ (xs : List ℕ). number xs) (sym same) ∙ sym value ∙ nought in
+    ((is', omega (arith, value')), behind', ap (λ (k : ℕ). signalled by k) (sym value'))
+
+pub by_some : (text digits rest : List ℕ) (by : Going) (n : ℕ) → IsNumber digits → n ≡ number digits → n ≢ 0 → n ≤ 255
+    → digits ≡ before 59 text → rest ≡ behind 59 text → BySignal text by (Killed n) rest
+by_some text digits rest by n is value some small same behind' =
+    let is' : IsNumber (before 59 text) = subst (λ (xs : List ℕ). IsNumber xs) same is in
+    let value' : n ≡ number (before 59 text) = value ∙ ap (λ (xs : List ℕ). number xs) same in (
+      (is', omega (arith, value', small)),
+      behind',
+      ap Killed value' ∙ sym (killed_by by (number (before 59 text)) (omega (arith, value', some))),
+    )
+
+-- the text behind the letter
+pub rest_whole : (payload : List ℕ) → take (length payload - 1) (drop 1 payload) ≡ drop 1 payload
+rest_whole payload = take_all (length payload - 1) (drop 1 payload) (omega (arith, length-drop 1 payload))
+
+pub no_signal : {A : Type 0} (found : Option A) (action text : List ℕ) → text ≡ drop 1 action
+    → IfNone found (¬ IsSignal (before 59 text)) → IfNone found (HasNoSignal action)
+no_signal None action text same none =
+    let not : ¬ IsSignal (before 59 (drop 1 action)) = subst (λ (xs : List ℕ). ¬ IsSignal (before 59 xs)) same none in
+    (λ is. not, λ is. not)
+no_signal (Some x) action text same none = tt
+
+-- there is no signal
+pub signals_not : {A F : Type 0} (r : Result A F) (text : List ℕ) (ended : Bool) (stops : List ℕ)
+    (watches : List Watch) (limit : ℕ) (e e' : Recording) (s t : State) (old new : List ℕ) (at : Stop)
+    → ¬ IsSignal (before 59 text) → OnOk r (IsError old new)
+    → OnOk r (Signals text ended stops watches limit e s e' t old new at)
+signals_not (Ok x) text ended stops watches limit e e' s t old new at not error = record {
+  none = λ is_number nought. absurd (not (is_number, omega (arith, nought)));
+  kills = λ is some nothing runs. absurd (not is);
+  refused = λ none. error;
+}
+signals_not (Err f) text ended stops watches limit e e' s t old new at not error = tt
+
+-- behind the signal stands something that is no address
+pub signals_nowhere : {A F : Type 0} (r : Result A F) (text rest : List ℕ) (by going : Going) (ended : Bool)
+    (stops : List ℕ) (watches : List Watch) (limit : ℕ) (e e' : Recording) (s t : State) (old new : List ℕ) (at : Stop)
+    → BySignal text by going rest → 0 < length rest → ¬ IsNumber rest → OnOk r (IsError old new)
+    → OnOk r (Signals text ended stops watches limit e s e' t old new at)
+signals_nowhere {F = F} (Ok x) text rest by going ended stops watches limit e e' s t old new at is some other error = record {
+  none = λ is_number nought.
+      resumes_not {F = F} (Ok x) (behind 59 text) rest ended stops watches limit e e' s t old new is.1 some other error;
+  kills = λ signal one nothing runs. absurd (omega (arith, some, ap length (is.1 ∙ nothing)));
+  refused = λ not. absurd (not is.0);
+}
+signals_nowhere (Err f) text rest by going ended stops watches limit e e' s t old new at is some other error = tt
+
+-- nothing stands behind it
+pub signals_here : {A F : Type 0} (r : Result A F) (text rest : List ℕ) (by going : Going) (ended : Bool)
+    (stops : List ℕ) (watches : List Watch) (limit most : ℕ) (e e' : Recording) (s s' t : State) (old new : List ℕ)
+    (at : Stop) → ((u : State) → GoesBy by ended stops watches most e u e' t → GoesOnUnless ended stops watches limit e u e' t)
+    → BySignal text by going rest → length rest ≡ 0 → s' ≡ s → OnOk r (GoesBy going ended stops watches most e s' e' t)
+    → OnOk r (EndsBy going ended at) → OnOk r (Signals text ended stops watches limit e s e' t old new at)
+signals_here {F = F} (Ok x) text rest by going ended stops watches limit most e e' s s' t old new at same is empty begins goes ends = record {
+  none = λ is_number nought.
+      let so : going ≡ by = is.2 ∙ ap (λ (n : ℕ). signalled by n) nought in
+      resumes_here {F = F} (Ok x) (behind 59 text) rest ended stops watches limit e e' s s' t old new is.1 empty begins
+      (same s' (subst (λ (g : Going). GoesBy g ended stops watches most e s' e' t) so goes));
+  kills = λ signal one nothing runs.
+      let so = is.2 ∙ killed_by by (number (before 59 text)) one in
+      let stays = subst (λ (g : Going). GoesBy g ended stops watches most e s' e' t) so goes in
+      let end = subst (λ (g : Going). EndsBy g ended at) so ends in
+      (stays.0, stays.1 ∙ begins, subst (λ (b : Bool). EndsBy (Killed (number (before 59 text))) b at) runs end);
+  refused = λ not. absurd (not is.0);
+}
+signals_here (Err f) text rest by going ended stops watches limit most e e' s s' t old new at same is empty begins goes ends = tt
+
+-- an address stands behind it
+pub signals_there : {A F : Type 0} (r : Result A F) (text rest : List ℕ) (address : ℕ) (by going : Going) (ended : Bool)
+    (stops : List ℕ) (watches : List Watch) (limit most : ℕ) (e e' : Recording) (s s' t : State) (old new : List ℕ)
+    (at : Stop) → ((u : State) → GoesBy by ended stops watches most e u e' t → GoesOnUnless ended stops watches limit e u e' t)
+    → BySignal text by going rest → IsNumber rest → address ≡ number rest → s' ≡ with_pc s address
+    → OnOk r (GoesBy going ended stops watches most e s' e' t)
+    → OnOk r (Signals text ended stops watches limit e s e' t old new at)
+signals_there {F = F} (Ok x) text rest address by going ended stops watches limit most e e' s s' t old new at same is there value begins goes = record {
+  none = λ is_number nought.
+      let so : going ≡ by = is.2 ∙ ap (λ (n : ℕ). signalled by n) nought in
+      resumes_there {F = F} (Ok x) (behind 59 text) rest address ended stops watches limit e e' s s' t old new is.1 there value begins
+      (same s' (subst (λ (g : Going). GoesBy g ended stops watches most e s' e' t) so goes));
+  kills = λ signal one nothing runs. absurd (omega (arith, there.0.0, ap length (is.1 ∙ nothing)));
+  refused = λ not. absurd (not is.0);
+}
+signals_there (Err f) text rest address by going ended stops watches limit most e e' s s' t old new at same is there value begins goes = tt
+
+-- from the same
+pub signals_same : {A F : Type 0} (r : Result A F) (text : List ℕ) (ended ended' : Bool) (stops stops' : List ℕ)
+    (watches watches' : List Watch) (limit limit' : ℕ) (e e' : Recording) (s s' t : State) (old old' new : List ℕ)
+    (at : Stop) → ended' ≡ ended → stops' ≡ stops → watches' ≡ watches → limit' ≡ limit → s' ≡ s → old' ≡ old
+    → OnOk r (Signals text ended' stops' watches' limit' e s' e' t old' new at)
+    → OnOk r (Signals text ended stops watches limit e s e' t old new at)
+signals_same r text ended ended' stops stops' watches watches' limit limit' e e' s s' t old old' new at same_end same
+    same' same'' begins added signals =
+    subst (λ (xs : List ℕ). OnOk r (Signals text ended stops watches limit e s e' t xs new at)) added
+    (subst (λ (u : State). OnOk r (Signals text ended stops watches limit e u e' t old' new at)) begins
+    (subst (λ (n : ℕ). OnOk r (Signals text ended stops watches n e s' e' t old' new at)) same''
+    (subst (λ (ws : List Watch). OnOk r (Signals text ended stops ws limit' e s' e' t old' new at)) same'
+    (subst (λ (xs : List ℕ). OnOk r (Signals text ended xs watches' limit' e s' e' t old' new at)) same
+    (subst (λ (b : Bool). OnOk r (Signals text b stops' watches' limit' e s' e' t old' new at)) same_end signals)))))
+
 -- from the same
 pub resumes_same : {A F : Type 0} (r : Result A F) (rest : List ℕ) (ended ended' : Bool) (stops stops' : List ℕ)
     (watches watches' : List Watch) (limit limit' : ℕ) (e e' : Recording) (s s' t : State) (old old' new : List ℕ)
@@ -279,6 +399,44 @@ pub acts : {A F : Type 0} (r : Result A F) (action actions : List ℕ) (going : 
 acts (Ok x) action actions going rest ended stops watches limit e e' s t same has goes =
     acts_so action actions going rest ended stops watches limit e e' s t same has goes
 acts (Err f) action actions going rest ended stops watches limit e e' s t same has goes = tt
+
+-- ---- a program that goes back
+
+-- nothing is left of a limit
+pub nothing_back : (stops : List ℕ) (watches : List Watch) (limit : ℕ) (e : Recording) (s : State) (before : List State)
+    → limit ≡ 0 → GoesOnBack stops watches e s before limit e s before
+nothing_back stops watches limit e s before none =
+    RunsBack limit e s before Back.Limit ([], refl, All-nil (IsPassed stops watches), sym none, refl) (λ same. absurd (cc)) refl
+
+-- the same breakpoints and watchpoints
+pub same_back : (stops stops' : List ℕ) (watches watches' : List Watch) (limit : ℕ) (s : State) (before after : List State)
+    (t : State) (end : BackEnd) → stops' ≡ stops → watches' ≡ watches
+    → GoesBack stops' watches' limit s before after t end → GoesBack stops watches limit s before after t end
+same_back stops stops' watches watches' limit s before after t end same same' goes =
+    subst (λ (ws : List Watch). GoesBack stops ws limit s before after t end) same'
+    (subst (λ (xs : List ℕ). GoesBack xs watches' limit s before after t end) same goes)
+
+-- a run back over a call
+pub back_to_call : (stops stops' : List ℕ) (watches watches' : List Watch) (limit : ℕ) (s : State)
+    (before after : List State) (t : State) (end : BackEnd) → stops' ≡ stops → watches' ≡ watches → end ≡ Back.Call
+    → GoesBack stops' watches' limit s before after t end → GoesBack stops watches limit s before after t Back.Call
+back_to_call stops stops' watches watches' limit s before after t end same same' call goes =
+    subst (λ (x : BackEnd). GoesBack stops watches limit s before after t x) call
+    (same_back stops stops' watches watches' limit s before after t end same same' goes)
+
+-- from the same
+pub back_same : (limit : ℕ) (old mid new : SessionState) (e e' : Recording) (s s' t : State)
+    → mid.breaks.stops.items ≡ old.breaks.stops.items → mid.breaks.watches.items ≡ old.breaks.watches.items
+    → mid.history ≡ old.history → s' ≡ s → SessionGoesBack limit mid e s' new e' t → SessionGoesBack limit old e s new e' t
+back_same limit old mid new e e' s s' t same same' history begins goes =
+    subst (λ (u : State). GoesOnBack old.breaks.stops.items old.breaks.watches.items e' t (past (changes new.history) t)
+    limit e u (past (changes old.history) u)) begins
+    (subst (λ (h : History). GoesOnBack old.breaks.stops.items old.breaks.watches.items e' t (past (changes new.history) t)
+    limit e s' (past (changes h) s')) history
+    (subst (λ (ws : List Watch). GoesOnBack old.breaks.stops.items ws e' t (past (changes new.history) t)
+    limit e s' (past (changes mid.history) s')) same'
+    (subst (λ (xs : List ℕ). GoesOnBack xs mid.breaks.watches.items e' t (past (changes new.history) t)
+    limit e s' (past (changes mid.history) s')) same goes)))
 
 -- ---- memory that is changed
 

@@ -108,25 +108,32 @@ pub record ComesTo (stops : List ℕ) (watches : List Watch) (limit : ℕ) (befo
   pub are_passed : All (IsPassed stops watches) passed
   pub within : length passed < limit
 
--- From a state with the states before it the machine goes back to t, with those before that.
-abbrev pub GoesBack : List ℕ → List Watch → ℕ → List State → List State → State → BackEnd → Type 0
+-- where the machine is that went from s back over these states, newest first
+abbrev pub back_over : List State → State → State
+back_over [] s = s
+back_over (m ∷ ms) s = back_over ms m
+
+-- From s, with the states before it, the machine goes back to t, with those before that.
+abbrev pub GoesBack : List ℕ → List Watch → ℕ → State → List State → List State → State → BackEnd
+    → Type 0
 -- to the first stop; the step from there touches no watchpoint
-GoesBack stops watches limit before after t Back.AtStop =
+GoesBack stops watches limit s before after t Back.AtStop =
     ComesTo stops watches limit before t after × Contains stops t.pc × TouchesNone watches t
 -- to the first state from which the step touches a watchpoint; that step is made again
-GoesBack stops watches limit before after t (Back.Touched watch) =
+GoesBack stops watches limit s before after t (Back.Touched watch) =
     (m : State) × (others : List State) × (answer : StepAnswer)
     × ComesTo stops watches limit before m others × TouchesOne watches m watch × Step m t answer
 -- to the first call
-GoesBack stops watches limit before after t Back.Call =
+GoesBack stops watches limit s before after t Back.Call =
     ComesTo stops watches limit before t after
--- to the begin: all are passed
-GoesBack stops watches limit before after t Back.AtBegin =
-    (after ≡ []) × All (IsPassed stops watches) before
+-- to the begin: all are passed, and they are fewer than the limit
+GoesBack stops watches limit s before after t Back.AtBegin =
+    (after ≡ []) × All (IsPassed stops watches) before × (length before < limit)
+    × (t ≡ back_over before s)
 -- as many as the limit are passed
-GoesBack stops watches limit before after t Back.Limit =
+GoesBack stops watches limit s before after t Back.Limit =
     (passed : List State) × (before ≡ passed ++ after)
-    × All (IsPassed stops watches) passed × (length passed ≡ limit)
+    × All (IsPassed stops watches) passed × (length passed ≡ limit) × (t ≡ back_over passed s)
 
 -- ---- of the code
 

@@ -1,6 +1,6 @@
 -- What a packet may change, by its letter (gdb's manual, "Remote Serial Protocol", "Packets"). Most
 -- packets ask, and change nothing of the program.
-use Rattle.std.specs.Prelude.{◌≡◌, ◌≢◌, ◌⊎◌, ℕ, ◌+◌, ◌-◌, ◌*◌, ◌^◌, ◌<◌, ◌≤◌, List, [], ◌∷◌, ◌++◌, Contains, Bool, true, false, drop, length, slice_index, None, Ok, IsOk}
+use Rattle.std.specs.Prelude.{◌≡◌, ◌≢◌, ◌⊎◌, ℕ, zero, suc, ◌+◌, ◌-◌, ◌*◌, ◌^◌, ◌<◌, ◌≤◌, List, [], ◌∷◌, ◌++◌, Contains, Bool, true, false, drop, length, slice_index, None, Ok, IsOk}
 use Rattle.hex.specs.Hex.{decode_of, decode_sized}
 use Rattle.rrs_lib.specs.Bytes.{ByteMap}
 use Rattle.rrs_lib.specs.Loading.{Loaded}
@@ -18,7 +18,10 @@ use Rattle.rrs_gdb.specs.declared.state.SessionState.{SessionState}
 use Rattle.rrs_gdb.specs.declared.state.Stop.{Stop}
 use Rattle.rrs_gdb.specs.declared.state.Stop.TheVariants.{Signal, Touched, AtBegin, Entry, Return, Exited}
 use Rattle.rrs_gdb.specs.declared.state.Stop.TheVariants as stop
-use Rattle.rrs_gdb.specs.Breaks.{GoesForward}
+use Rattle.rrs_history.specs.Histories.{changes, past}
+use Rattle.rrs_gdb.specs.declared.back.BackEnd.{BackEnd}
+use Rattle.rrs_gdb.specs.declared.back.BackEnd.TheVariants as Back
+use Rattle.rrs_gdb.specs.Breaks.{GoesForward, GoesBack}
 use Rattle.rrs_gdb.specs.Packets.{IsNumber, number, before, behind, IsPlace, address_in, length_in}
 use Rattle.rrs_gdb.specs.Shown.{register, register_text, text_of, with_register, word_at, HasBytes}
 
@@ -238,6 +241,21 @@ pub record Resumes (rest : List ℕ) (ended : Bool) (stops : List ℕ) (watches 
   pub from_address : IsNumber rest → GoesOnUnless ended stops watches limit e (with_pc s (number rest)) e' t
   pub refused : rest ≢ [] → ¬ IsNumber rest → IsError old new
 
+-- the number of a signal
+abbrev pub IsSignal : List ℕ → Type 0
+IsSignal digits = IsNumber digits × (number digits ≤ 255)
+
+-- `S` and `C`: a signal, behind which nothing stands, or a semicolon and the address to go on from.
+-- Signal 0 is none. By another one the program ends, where it is.
+pub record Signals (text : List ℕ) (ended : Bool) (stops : List ℕ) (watches : List Watch) (limit : ℕ)
+    (e : Recording) (s : State) (e' : Recording) (t : State) (old new : List ℕ) (at : Stop)
+    : Type 0 where
+  pub none : IsNumber (before 59 text) → number (before 59 text) ≡ 0
+      → Resumes (behind 59 text) ended stops watches limit e s e' t old new
+  pub kills : IsSignal (before 59 text) → 1 ≤ number (before 59 text) → behind 59 text ≡ []
+      → ended ≡ false → (e' ≡ e) × (t ≡ s) × (at ≡ stop.Killed (number (before 59 text)))
+  pub refused : ¬ IsSignal (before 59 text) → IsError old new
+
 -- the first action of `vCont`, without the thread that it is for
 abbrev pub first_action : List ℕ → List ℕ
 first_action actions = before 58 (before 59 actions)
@@ -247,6 +265,42 @@ pub record Acts (actions : List ℕ) (ended : Bool) (stops : List ℕ) (watches 
     (e : Recording) (s : State) (e' : Recording) (t : State) : Type 0 where
   pub step : first_action actions ≡ 115 ∷ [] → GoesOnUnless ended stops watches 1 e s e' t
   pub goes_on : first_action actions ≡ 99 ∷ [] → GoesOnUnless ended stops watches limit e s e' t
+
+-- ---- the program goes back
+
+-- A call is taken back: of the environment the input and the heap may change, and nothing else.
+pub record CallTakenBack (e e' : Recording) : Type 0 where
+  pub output_kept : e'.output ≡ e.output
+  pub errors_kept : e'.errors ≡ e.errors
+  pub held_kept : e'.held ≡ e.held
+
+-- From e and s, with the states before it, the program goes back to e' and t, with those before that,
+-- within a limit: by runs back up to stops and watchpoints, and over the calls between them.
+pub data GoesOnBack (stops : List ℕ) (watches : List Watch) (e' : Recording) (t : State)
+    (after : List State) : ℕ → Recording → State → List State → Type 0 where
+  -- a run back, to no call
+  RunsBack : (limit : ℕ) (e : Recording) (s : State) (before : List State) (end : BackEnd)
+      → GoesBack stops watches limit s before after t end → end ≢ Back.Call → e' ≡ e
+      → GoesOnBack stops watches e' t after limit e s before
+  -- a run back over a call, to a stop
+  StopsBack : (limit : ℕ) (e : Recording) (s : State) (before : List State)
+      → GoesBack stops watches limit s before after t Back.Call → CallTakenBack e e'
+      → Contains stops t.pc
+      → GoesOnBack stops watches e' t after limit e s before
+  -- a run back over a call, and what follows within what is left of the limit
+  CallsBack : (limit : ℕ) (e : Recording) (s : State) (before : List State)
+      (d : Recording) (u : State) (between : List State)
+      → GoesBack stops watches limit s before between u Back.Call → CallTakenBack e d
+      → ¬ Contains stops u.pc
+      → GoesOnBack stops watches e' t after (limit - 1) d u between
+      → GoesOnBack stops watches e' t after limit e s before
+
+-- A session goes back so: from where its history leads back to, with its breakpoints.
+abbrev pub SessionGoesBack : ℕ → SessionState → Recording → State → SessionState → Recording → State
+    → Type 0
+SessionGoesBack limit old e s new e' t =
+    GoesOnBack old.breaks.stops.items old.breaks.watches.items e' t (past (changes new.history) t)
+    limit e s (past (changes old.history) s)
 
 -- ---- of the code
 
@@ -267,3 +321,33 @@ abbrev pub HasLetter : List ℕ → Going → Type 0
 HasLetter action Step = (letter action ≡ 115) ⊎ (letter action ≡ 83)
 HasLetter action Proceed = (letter action ≡ 99) ⊎ (letter action ≡ 67)
 HasLetter action (Killed signal) = (letter action ≡ 67) ⊎ (letter action ≡ 83)
+
+-- how the program goes on by a signal: as it would by none, or it is killed
+abbrev pub signalled : Going → ℕ → Going
+signalled by zero = by
+signalled by (suc n) = Killed (suc n)
+
+-- the signal is one, the program goes on by it, and this stands behind it
+abbrev pub BySignal : List ℕ → Going → Going → List ℕ → Type 0
+BySignal text by going rest =
+    IsSignal (before 59 text) × (rest ≡ behind 59 text)
+    × (going ≡ signalled by (number (before 59 text)))
+
+-- the action is to go on by a signal
+abbrev pub HasSignal : List ℕ → Going → List ℕ → Type 0
+HasSignal action going rest =
+    (letter action ≡ 83 → BySignal (drop 1 action) Step going rest)
+    × (letter action ≡ 67 → BySignal (drop 1 action) Proceed going rest)
+
+-- the action is not to go on by a signal
+abbrev pub HasNoSignal : List ℕ → Type 0
+HasNoSignal action =
+    (letter action ≡ 83 → ¬ IsSignal (before 59 (drop 1 action)))
+    × (letter action ≡ 67 → ¬ IsSignal (before 59 (drop 1 action)))
+
+-- a program that had not ended ends by the signal that kills it
+abbrev pub EndsBy : Going → Bool → Stop → Type 0
+EndsBy Step ended at = Unit {0}
+EndsBy Proceed ended at = Unit {0}
+EndsBy (Killed signal) true at = Unit {0}
+EndsBy (Killed signal) false at = at ≡ stop.Killed signal

@@ -29,8 +29,9 @@ pub enum BackEnd {
 /// a call, as many as `limit` were taken back, or there are no more.
 ///
 /// The states to which it went are those that the history leads back to, in order, and the first of
-/// them that is at a stop, or from which the step touches a watchpoint, is the last (`back`). Whether
-/// a step touches a watchpoint shows where it was taken back: it is made again then.
+/// them that is at a stop, or from which the step touches a watchpoint, is the last; at the begin and
+/// at the limit the machine is in the last of them (`back`). Whether a step touches a watchpoint
+/// shows where it was taken back: it is made again then.
 pub fn go_back<M: Memory>(
     executor: &mut InstructionExecutor<M>,
     history: &mut History,
@@ -38,6 +39,7 @@ pub fn go_back<M: Memory>(
     breaks: &Breaks,
 ) -> BackEnd
     ensures back { GoesBack breaks.now.stops.items breaks.now.watches.items limit
+        (state_in M.bytes M.writable executor.old)
         (past (changes history.old) (state_in M.bytes M.writable executor.old))
         (past (changes history.new) (state_in M.bytes M.writable executor.new))
         (state_in M.bytes M.writable executor.new) result }

@@ -1,11 +1,13 @@
 //! The program goes on, forward and back.
 
-ghost use Rattle.std.specs.Prelude.{Contains, IfNone, IfOk, MatchOption, OnOk};
+ghost use Rattle.std.specs.Prelude.{◌≡◌, ◌≢◌, ◌-◌, ◌^◌, Contains, IfNone, IfOk, MatchOption, OnOk};
+ghost use Rattle.std.specs.Bool.{OnTrue, OnFalse};
+ghost use Rattle.rrs_gdb.specs.declared.back.BackEnd.{BackEnd};
 ghost use Rattle.rrs_lib.specs.Executor.{state_in};
-ghost use Rattle.rrs_gdb.specs.Sessions.{CallMade, CallStops, GoesOn, OutputTaken, PlacesKept};
+ghost use Rattle.rrs_gdb.specs.Sessions.{CallMade, CallStops, CallTakenBack, GoesOn, OutputTaken, PlacesKept, SessionGoesBack};
 
 use crate::back::{BackEnd, go_back};
-use crate::forward::{ForwardEnd, ForwardReason, go_forward};
+use crate::forward::{ForwardEnd, ForwardReason, go_forward, is_stop};
 use crate::framing::push_hex;
 use crate::link::{Link, LinkError};
 use crate::runner::StopRunner;
@@ -259,7 +261,9 @@ pub(crate) fn proceed<M: Memory, G: StopRunner<M>, R: Read, W: Write>(
 
 /// Gives the environment what it had before the call that was taken back.
 fn take_call_back<'a>(state: &mut SessionState<'a>, environment: &mut OutputRecorder<'a>)
-    ensures { PlacesKept state.old state.new }
+    ensures places { PlacesKept state.old state.new }
+    ensures history { state.new.history ≡ state.old.history }
+    ensures taken { CallTakenBack environment.old environment.new }
 {
     if let Some(mark) = state.calls.pop_front() {
         let input = state.input;
@@ -270,27 +274,48 @@ fn take_call_back<'a>(state: &mut SessionState<'a>, environment: &mut OutputReco
     }
 }
 
-/// Goes back, to a stop or for `limit` steps.
+/// Whether steps back ended behind a call.
+fn is_call(end: &BackEnd) -> bool
+    ensures yes { OnTrue result (end.now ≡ BackEnd.Call) }
+    ensures no { OnFalse result (end.now ≢ BackEnd.Call) }
+{
+    match end {
+        BackEnd::Call => true,
+        BackEnd::AtBegin | BackEnd::AtStop | BackEnd::Touched(_) | BackEnd::Limit => false,
+    }
+}
+
+/// The stop of steps back that ended, but for a call.
+fn stop_back(end: &BackEnd) -> Stop {
+    match end {
+        BackEnd::AtBegin => Stop::AtBegin,
+        BackEnd::Touched(watch) => Stop::Touched(*watch),
+        BackEnd::AtStop | BackEnd::Limit | BackEnd::Call => Stop::Signal(TRAPPED),
+    }
+}
+
+/// Goes back, to a stop or for `limit` steps, each call being one.
 fn backward<'a, M: Memory>(
     state: &mut SessionState<'a>,
     executor: &mut InstructionExecutor<M>,
     environment: &mut OutputRecorder<'a>,
     limit: u64,
 ) -> Stop
-    ensures { PlacesKept state.old state.new }
+    ensures places { PlacesKept state.old state.new }
+    ensures back { SessionGoesBack limit
+        state.old environment.old (state_in M.bytes M.writable executor.old)
+        state.new environment.new (state_in M.bytes M.writable executor.new) }
 {
     state.has_entered = false;
     state.has_told_exit = false;
     let mut left = limit;
     'legs: while left > 0 {
         let end = go_back(executor, &mut state.history, left, &state.breaks);
-        match end {
-            BackEnd::AtBegin => return Stop::AtBegin,
-            BackEnd::Touched(watch) => return Stop::Touched(watch),
-            BackEnd::AtStop | BackEnd::Limit => return Stop::Signal(TRAPPED),
-            BackEnd::Call => take_call_back(state, environment),
+        if !is_call(&end) {
+            return stop_back(&end);
         }
-        if state.breaks.stops.contains(&executor.hart_state.pc) {
+        take_call_back(state, environment);
+        if is_stop(&state.breaks.stops, executor.hart_state.pc) {
             return Stop::Signal(TRAPPED);
         }
         left -= 1;
@@ -304,7 +329,10 @@ pub(crate) fn step_backward<'a, M: Memory>(
     executor: &mut InstructionExecutor<M>,
     environment: &mut OutputRecorder<'a>,
 )
-    ensures { PlacesKept state.old state.new }
+    ensures places { PlacesKept state.old state.new }
+    ensures back { SessionGoesBack 1
+        state.old environment.old (state_in M.bytes M.writable executor.old)
+        state.new environment.new (state_in M.bytes M.writable executor.new) }
 {
     let stop = backward(state, executor, environment, 1);
     state.stop = stop;
@@ -316,7 +344,10 @@ pub(crate) fn go_backward<'a, M: Memory>(
     executor: &mut InstructionExecutor<M>,
     environment: &mut OutputRecorder<'a>,
 )
-    ensures { PlacesKept state.old state.new }
+    ensures places { PlacesKept state.old state.new }
+    ensures back { SessionGoesBack (2 ^ 64 - 1)
+        state.old environment.old (state_in M.bytes M.writable executor.old)
+        state.new environment.new (state_in M.bytes M.writable executor.new) }
 {
     let stop = backward(state, executor, environment, u64::MAX);
     state.stop = stop;

@@ -1,13 +1,13 @@
 //! The packets of a session, and their answers.
 
-ghost use Rattle.std.specs.Prelude.{◌≡◌, ◌≢◌, ◌⊎◌, ◌∷◌, ◌++◌, [], ℕ, ◌≤◌, Bool, List, Ok, IsOk, IsTrue, IfOk, IfSome, IfNone, MatchOption, OnOk, drop, length, slice_index};
+ghost use Rattle.std.specs.Prelude.{◌≡◌, ◌≢◌, ◌⊎◌, ◌∷◌, ◌++◌, [], ℕ, ◌≤◌, ◌-◌, ◌^◌, Bool, List, Ok, IsOk, IsTrue, IfOk, IfSome, IfNone, MatchOption, OnOk, drop, length, slice_index};
 ghost use Rattle.std.specs.Bool.{OnTrue, OnFalse};
 ghost use Rattle.hex.specs.Hex.{decode_of, decode_sized};
 ghost use Rattle.rrs_lib.specs.Bytes.{ByteMap};
 ghost use Rattle.rrs_lib.specs.Machine.{state_of};
 ghost use Rattle.rrs_lib.specs.Executor.{state_in};
 ghost use Rattle.rrs_gdb.specs.declared.session.Going.{Going};
-ghost use Rattle.rrs_gdb.specs.Sessions.{letter, Acts, BreaksKept, BreaksNone, GoesBy, GoesOnFrom, GoesOnOrStays, HasAction, HasLetter, HasRegisters, Resumes, SetsRegisters, has_ended, ChangesMemory, ChangesNone, ChangesRegister, IsError, MemoryKept, PlacesKept, RegistersKept, RunsNone, SessionKept, SettingsKept, IsChangeable, SetsBytes, SetsMemory, SetsRegister, ShowsBytes, ShowsMemory, ShowsRegister};
+ghost use Rattle.rrs_gdb.specs.Sessions.{letter, Acts, BreaksKept, BySignal, EndsBy, HasNoSignal, HasSignal, IsSignal, Signals, BreaksNone, GoesBy, GoesOnFrom, GoesOnOrStays, HasAction, HasLetter, HasRegisters, Resumes, SetsRegisters, has_ended, ChangesMemory, ChangesNone, ChangesRegister, IsError, MemoryKept, PlacesKept, RegistersKept, RunsNone, SessionGoesBack, SessionKept, SettingsKept, IsChangeable, SetsBytes, SetsMemory, SetsRegister, ShowsBytes, ShowsMemory, ShowsRegister};
 ghost use Rattle.rrs_gdb.specs.Packets.{IsNumber, number, before, behind};
 ghost use Rattle.rrs_gdb.specs.Shown.{registers_text, text_of, with_register, word_at};
 
@@ -467,6 +467,8 @@ fn change_breaks(state: &mut SessionState<'_>, is_set: bool, text: &[u8]) -> &'s
 fn going_of(action: &[u8]) -> Option<(Going, &[u8])>
     ensures letter { IfSome result (λ found. HasLetter action.now found.0) }
     ensures action { IfSome result (λ found. HasAction action.now found.0 found.1.now) }
+    ensures signal { IfSome result (λ found. HasSignal action.now found.0 found.1.now) }
+    ensures no_signal { IfNone result (HasNoSignal action.now) }
     ensures none { IfNone result ((letter action.now ≢ 115) × (letter action.now ≢ 99)) }
 {
     let (going, rest) = match action {
@@ -481,8 +483,10 @@ fn going_of(action: &[u8]) -> Option<(Going, &[u8])>
 
 /// The same behind the letter of a packet with a signal.
 fn signal_and_rest(text: &[u8], going: Going) -> Option<(Going, &[u8])>
-    ensures { IfSome result (λ found.
+    ensures going { IfSome result (λ found.
         (found.0 ≡ going) ⊎ ((signal : ℕ) × (found.0 ≡ Going.Killed signal))) }
+    ensures signal { IfSome result (λ found. BySignal text.now going found.0 found.1.now) }
+    ensures none { IfNone result (¬ IsSignal (before 59 text.now)) }
 {
     let (signal, rest) = cut_or_all(text, b';');
     let signal = number_of(signal)?;
@@ -510,6 +514,7 @@ fn go<M: Memory, G: StopRunner<M>, R: Read, W: Write>(
         state.old.breaks.watches.items state.old.settings.limit
         environment.old (state_in M.bytes M.writable executor.old)
         environment.new (state_in M.bytes M.writable executor.new)) }
+    ensures killed { OnOk result (EndsBy going (has_ended state.old) state.new.stop) }
     ensures error { OnOk result (IsError reply.old.items reply.new.items → ⊥) }
 {
     if !state.has_ended() {
@@ -557,14 +562,24 @@ fn go_from<M: Memory, G: StopRunner<M>, R: Read, W: Write>(
         state.old.settings.limit environment.old (state_in M.bytes M.writable executor.old)
         environment.new (state_in M.bytes M.writable executor.new)
         reply.old.items reply.new.items) }
+    ensures step_signal { letter payload.now ≡ 83 → OnOk result (Signals (drop 1 payload.now)
+        (has_ended state.old) state.old.breaks.stops.items state.old.breaks.watches.items 1
+        environment.old (state_in M.bytes M.writable executor.old)
+        environment.new (state_in M.bytes M.writable executor.new)
+        reply.old.items reply.new.items state.new.stop) }
+    ensures signal { letter payload.now ≡ 67 → OnOk result (Signals (drop 1 payload.now)
+        (has_ended state.old) state.old.breaks.stops.items state.old.breaks.watches.items
+        state.old.settings.limit environment.old (state_in M.bytes M.writable executor.old)
+        environment.new (state_in M.bytes M.writable executor.new)
+        reply.old.items reply.new.items state.new.stop) }
 {
     let Some((going, address)) = going_of(payload) else {
-        push_text(reply, INVALID)?;
+        push_invalid(reply)?;
         return Ok(Next::Reply);
     };
     if !address.is_empty() {
         let Some(address) = number_of(address) else {
-            push_text(reply, INVALID)?;
+            push_invalid(reply)?;
             return Ok(Next::Reply);
         };
         executor.hart_state.pc = address;
@@ -718,6 +733,12 @@ fn reverse<'a, M: Memory>(
 ) -> Result<(), AllocError>
     ensures places { PlacesKept state.old state.new }
     ensures error { OnOk result (IsError reply.old.items reply.new.items → ⊥) }
+    ensures step { text.now ≡ 115 ∷ [] → SessionGoesBack 1
+        state.old environment.old (state_in M.bytes M.writable executor.old)
+        state.new environment.new (state_in M.bytes M.writable executor.new) }
+    ensures goes_back { text.now ≡ 99 ∷ [] → SessionGoesBack (2 ^ 64 - 1)
+        state.old environment.old (state_in M.bytes M.writable executor.old)
+        state.new environment.new (state_in M.bytes M.writable executor.new) }
 {
     match text {
         b"s" => step_backward(state, executor, environment),
@@ -811,6 +832,16 @@ pub fn answer_to<'a, M: Memory, G: StopRunner<M>, R: Read, W: Write>(
         state.old.settings.limit environment.old (state_in M.bytes M.writable executor.old)
         environment.new (state_in M.bytes M.writable executor.new)
         reply.old.items reply.new.items) }
+    ensures step_signal { letter payload.now ≡ 83 → OnOk result (Signals (drop 1 payload.now)
+        (has_ended state.old) state.old.breaks.stops.items state.old.breaks.watches.items 1
+        environment.old (state_in M.bytes M.writable executor.old)
+        environment.new (state_in M.bytes M.writable executor.new)
+        reply.old.items reply.new.items state.new.stop) }
+    ensures signal { letter payload.now ≡ 67 → OnOk result (Signals (drop 1 payload.now)
+        (has_ended state.old) state.old.breaks.stops.items state.old.breaks.watches.items
+        state.old.settings.limit environment.old (state_in M.bytes M.writable executor.old)
+        environment.new (state_in M.bytes M.writable executor.new)
+        reply.old.items reply.new.items state.new.stop) }
     ensures resumes { letter payload.now ≡ 118 → OnOk result ((limit : ℕ)
         × GoesOnOrStays state.old.breaks.stops.items
         state.old.breaks.watches.items limit
@@ -831,6 +862,12 @@ pub fn answer_to<'a, M: Memory, G: StopRunner<M>, R: Read, W: Write>(
         state.old.breaks.stops.items state.old.breaks.watches.items state.old.settings.limit
         environment.old (state_in M.bytes M.writable executor.old)
         environment.new (state_in M.bytes M.writable executor.new)) }
+    ensures steps_back { payload.now ≡ 98 ∷ 115 ∷ [] → OnOk result (SessionGoesBack 1
+        state.old environment.old (state_in M.bytes M.writable executor.old)
+        state.new environment.new (state_in M.bytes M.writable executor.new)) }
+    ensures goes_back { payload.now ≡ 98 ∷ 99 ∷ [] → OnOk result (SessionGoesBack (2 ^ 64 - 1)
+        state.old environment.old (state_in M.bytes M.writable executor.old)
+        state.new environment.new (state_in M.bytes M.writable executor.new)) }
     ensures shows_registers { payload.now ≡ 103 ∷ [] → OnOk result (reply.new.items
         ≡ reply.old.items ++ registers_text (state_in M.bytes M.writable executor.old)) }
     ensures sets_registers { letter payload.now ≡ 71 → OnOk result (SetsRegisters

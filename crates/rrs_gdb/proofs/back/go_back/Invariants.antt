@@ -11,7 +11,8 @@ invariant-steps g l =
     let state = state_in memory.bytes memory.writable in
     record {
       passed : PassedSoFar l.breaks.stops.items l.breaks.watches.items (l.fn.limit - l.left)
-          (past (changes l.fn.history) (state l.fn.executor)) (past (changes l.history) (state l.executor));
+          (state l.fn.executor) (past (changes l.fn.history) (state l.fn.executor))
+          (state l.executor) (past (changes l.history) (state l.executor));
       within : l.left ≤ l.fn.limit;
       rest : KeepsTheRest memory.layout l.fn.executor l.executor;
     }
