@@ -83,7 +83,7 @@ static TOLD: [(&str, &str); 19] = [
 fn told(alloc: Global, source: &str) -> Result<String, AllocError> {
     let (_, errors) = assembled(alloc, source.as_bytes(), 0)?;
     let mut text = String::new(alloc);
-    for mistake in mistakes_of(alloc, source.as_bytes(), &errors)? {
+    for mistake in mistakes_of(alloc, source.as_bytes(), &[], &errors)? {
         let (line, column, own) = (mistake.line, mistake.column, mistake.text.as_str());
         writeln!(&mut text, "{line}:{column}: {own}")?;
     }

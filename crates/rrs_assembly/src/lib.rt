@@ -17,4 +17,4 @@ mod words;
 
 pub use executable::{ExecutableError, executable_of};
 pub use listing::listing_of;
-pub use mistakes::{MOST_MISTAKES, Mistake, mistakes_of};
+pub use mistakes::{MOST_MISTAKES, Mistake, mistakes_of, number_of};

@@ -2,6 +2,7 @@
 
 ghost use Rattle.std.specs.Prelude.{◌<◌};
 
+use crate::mistakes::number_of;
 use rrs_asm::{Placed, Program, Section};
 use std::alloc::{AllocError, Global};
 
@@ -27,8 +28,14 @@ struct Row {
 /// The source with the addresses and the words of what stands in each line. A row is an address, 4
 /// bytes from there on as a word, the number of the line, and its text. A line without bytes is a row
 /// without the first two, and a line with more than 4 bytes has further rows without a text: of
-/// each statement 4 rows at most.
-pub fn listing_of(alloc: Global, source: &[u8], program: &Program) -> Result<Vec<u8>, AllocError> {
+/// each statement 4 rows at most. Of a source whose lines were made of others, `numbers` has the number
+/// of each.
+pub fn listing_of(
+    alloc: Global,
+    source: &[u8],
+    numbers: &[usize],
+    program: &Program,
+) -> Result<Vec<u8>, AllocError> {
     let mut rows = Vec::new(alloc);
     for section in &program.sections {
         for placed in &section.made.placed {
@@ -41,7 +48,8 @@ pub fn listing_of(alloc: Global, source: &[u8], program: &Program) -> Result<Vec
     let lines = source.strip_suffix(b"\n").unwrap_or(source);
     for line in lines.split(|byte| *byte == b'\n') {
         number = number.saturating_add(1);
-        push_line(&mut listing, line, number, &rows)?;
+        let rows = rows_of(&rows, number);
+        push_line(&mut listing, line, number_of(numbers, number), rows)?;
     }
     Ok(listing)
 }
@@ -89,7 +97,7 @@ fn push_line(
     number: usize,
     rows: &[Row],
 ) -> Result<(), AllocError> {
-    let Some((first, others)) = rows_of(rows, number).split_first() else {
+    let Some((first, others)) = rows.split_first() else {
         push_blanks(listing, 18)?;
         return push_text(listing, line, number);
     };

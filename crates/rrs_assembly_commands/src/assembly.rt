@@ -5,15 +5,16 @@ ghost use Rattle.rrs_asm.specs.declared.sections.Layout.{Layout};
 ghost use Rattle.rrs_asm.specs.Source.{items_of};
 ghost use Rattle.rrs_asm.specs.Sections.{AreSectionsOf, ArePlaced, IsImage};
 ghost use Rattle.rrs_assembly.specs.Executables.{IsExecutableOf};
-ghost use Rattle.rrs_assembly_commands.specs.Assembly.{IsExecutableFrom, IsImageFrom, layout_of, wanted_of};
+ghost use Rattle.rrs_assembly_commands.specs.Assembly.{Becomes, IsExecutableFrom, IsImageFrom, layout_of, wanted_of};
 
 use crate::assembly_requests::{AssemblyRequest, Form};
 use rrs_asm::{
     Layout, MOST_BYTES, Program, SourceError, SourceFault, assemble_source, gnu_text, image,
 };
-use rrs_assembly::{executable_of, listing_of};
+use rrs_assembly::{executable_of, listing_of, mistakes_of, number_of};
 use rrs_cli::command::Failure;
 use rrs_cli::report::{flush, write_text};
+use rrs_macros::{Expanded, MacroFault, expand};
 use rrs_requests::files::created;
 use rrs_requests::refusal::{Refusal, failed, out_of_memory};
 use std::alloc::Global;
@@ -33,11 +34,11 @@ pub struct Products {
     pub executable: Option<Vec<u8>>,
 }
 
-/// What is asked for of a source, all of it made of the same sections: those of the source, each
-/// where the request's layout says. An executable has these sections as its segments. Where none is
-/// asked for, and neither a listing nor a source for GNU `as`, the text is the bytes of all
-/// sections, from the address of the first on. Mistakes are printed on standard error, behind the
-/// path.
+/// What is asked for of a source, all of it made of the same sections: those of the text that the
+/// source becomes without its macros, conditions and repetitions, each where the request's layout
+/// says. An executable has these sections as its segments. Where none is asked for, and neither a
+/// listing nor a source for GNU `as`, the text is the bytes of all sections, from the address of the
+/// first on. Mistakes are printed on standard error, behind the path.
 ///
 /// # Errors
 ///
@@ -61,31 +62,61 @@ pub fn products_of<H: Eprint + AllocGlobal>(
         → IfOk result (λ products. products.text.items ≡ []) }
 {
     let layout = request.layout();
-    let program = program_of(rt, path, source, layout)?;
+    let expanded = expanded_of(rt, path, source)?;
+    let program = program_of(rt, path, request, &expanded, layout)?;
     let executable = executable_for(rt.alloc(), request, &program)?;
-    let text = text_of(rt.alloc(), request, source, &program, layout.text_start)?;
+    let text = text_of(rt.alloc(), request, &expanded, &program, layout.text_start)?;
     Ok(Products { text, executable })
 }
 
-/// The program of a source, whose sections lie as the layout says. Mistakes are printed.
+/// The text that a source becomes without its macros, conditions and repetitions. Mistakes in these
+/// are printed.
 ///
 /// # Errors
 ///
-/// `Refusal::SourceErrors` where the source has mistakes, and out of memory as a failure.
+/// `Refusal::SourceErrors` where there are mistakes, and out of memory as a failure.
+fn expanded_of<H: Eprint + AllocGlobal>(
+    rt: &H,
+    path: &str,
+    source: &[u8],
+) -> Result<Expanded, Refusal>
+    ensures { IfOk result (λ expanded. Becomes source.now expanded.text.items) }
+{
+    match expand(rt.alloc(), source) {
+        Ok(expanded) => Ok(expanded),
+        Err(MacroFault::OutOfMemory) => Err(out_of_memory()),
+        Err(MacroFault::Mistakes(mistakes)) => {
+            for mistake in &mistakes {
+                let _ = eprintln!(rt; "{path}:{mistake}");
+            }
+            Err(Refusal::SourceErrors)
+        }
+    }
+}
+
+/// The program of a text, whose sections lie as the layout says. Mistakes are printed.
+///
+/// # Errors
+///
+/// `Refusal::SourceErrors` where the text has mistakes, and out of memory as a failure.
 fn program_of<'a, H: Eprint + AllocGlobal>(
     rt: &H,
     path: &str,
-    source: &'a [u8],
+    request: AssemblyRequest<'_>,
+    expanded: &'a Expanded,
     layout: Layout,
 ) -> Result<Program<'a>, Refusal>
     ensures { IfOk result (λ program.
-        AreSectionsOf layout (items_of source.now) program.sections.items) }
+        AreSectionsOf layout (items_of expanded.now.text.items) program.sections.items) }
 {
-    match assemble_source(rt.alloc(), source, layout) {
+    match assemble_source(rt.alloc(), &expanded.text, layout) {
         Ok(program) => Ok(program),
         Err(SourceFault::OutOfMemory) => Err(out_of_memory()),
         Err(SourceFault::Errors(errors)) => {
-            print_mistakes(rt, path, &errors);
+            match request.form {
+                Form::Source => print_all(rt, path, expanded, &errors),
+                _ => print_mistakes(rt, path, expanded, &errors)?,
+            }
             Err(Refusal::SourceErrors)
         }
     }
@@ -123,7 +154,7 @@ fn executable_for(
 fn text_of(
     alloc: Global,
     request: AssemblyRequest<'_>,
-    source: &[u8],
+    expanded: &Expanded,
     program: &Program,
     text_start: u32,
 ) -> Result<Vec<u8>, Refusal>
@@ -144,7 +175,7 @@ fn text_of(
                 Err(_) => Err(out_of_memory()),
             }
         }
-        Form::Listing => match listing_of(alloc, source, program) {
+        Form::Listing => match listing_of(alloc, &expanded.text, &expanded.lines, program) {
             Ok(listing) => Ok(listing),
             Err(_) => Err(out_of_memory()),
         },
@@ -183,10 +214,36 @@ fn size_from(program: &Program, start: u32) -> u64 {
     size
 }
 
-/// Prints each mistake as a line. Where one can't be printed the others are tried too.
-fn print_mistakes<H: Eprint>(rt: &H, path: &str, errors: &[SourceError]) {
+/// Prints the first mistakes, with what was wanted and what was probably meant, each as a line. Where
+/// one can't be printed the others are tried too.
+///
+/// # Errors
+///
+/// Out of memory as a failure.
+fn print_mistakes<H: Eprint + AllocGlobal>(
+    rt: &H,
+    path: &str,
+    expanded: &Expanded,
+    errors: &[SourceError],
+) -> Result<(), Refusal> {
+    match mistakes_of(rt.alloc(), &expanded.text, &expanded.lines, errors) {
+        Ok(mistakes) => {
+            for mistake in &mistakes {
+                let (line, column, text) = (mistake.line, mistake.column, mistake.text.as_str());
+                let _ = eprintln!(rt; "{path}:{line}:{column}: {text}");
+            }
+            Ok(())
+        }
+        Err(_) => Err(out_of_memory()),
+    }
+}
+
+/// Prints each mistake as a line, and no more than what is wrong there.
+fn print_all<H: Eprint>(rt: &H, path: &str, expanded: &Expanded, errors: &[SourceError]) {
     for error in errors {
-        let _ = eprintln!(rt; "{path}:{error}");
+        let line = number_of(&expanded.lines, error.line);
+        let (column, kind) = (error.column, error.kind);
+        let _ = eprintln!(rt; "{path}:{line}:{column}: {kind}");
     }
 }
 
