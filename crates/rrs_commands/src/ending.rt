@@ -110,3 +110,12 @@ pub fn conclude<H: Eprint>(
     };
     ExitCode::from(status)
 }
+
+/// Tells on standard error which system calls a program made that are not served: a line for each
+/// number. Where that can't be printed nothing is told.
+pub fn tell_unserved<H: Eprint>(rt: &H, subcommand: &Subcommand, numbers: &[u32]) {
+    let program = subcommand.command;
+    for number in numbers {
+        let _ = eprintln!(rt; "{}: the system call {number} is not served", program.name);
+    }
+}
