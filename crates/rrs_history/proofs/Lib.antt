@@ -1,7 +1,6 @@
 -- Lemmas of what a step changed.
 mod PutBack
 mod NotedAccesses
-mod LastWritten
 mod Undoing
 -- Lemmas of histories.
 mod Remembering

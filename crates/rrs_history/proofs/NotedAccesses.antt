@@ -2,19 +2,17 @@
 -- the same accesses, with a read before the store.
 use Rattle.std.proofs.Common.{◌≡◌, ℕ, ◌%◌, ◌==◌, List, [], ◌∷◌, Bool, true, false, Option, None, if◌then◌else◌, refl, sym, subst, ap, ◌∙◌}
 use Rattle.rrs_lib.specs.declared.MemAccessSize.{MemAccessSize}
-use Rattle.rrs_lib.specs.declared.MemAccessSize.TheVariants.{Word}
 use Rattle.rrs_lib.specs.Bytes.{ByteMap, width, little_endian}
 use Rattle.rrs_lib.specs.Encodings.{Fields, I, S}
 use Rattle.rrs_lib.specs.Table.{Row, table, Action, Load, Store}
 use Rattle.rrs_lib.specs.Machine.{State}
-use Rattle.rrs_lib.specs.Accesses.{Access, Read, Write, Makes, AccessesOf, MakesExactly, accesses_by, accesses_of_row, fetch, read_if_aligned}
-use Rattle.rrs_lib.proofs.Making.{AccessesOf-unique, Makes-append}
+use Rattle.rrs_lib.specs.Accesses.{Access, Read, Write, Makes, AccessesOf, OfNone, OfFetch, OfRow, MakesExactly, accesses_by}
+use Rattle.rrs_lib.proofs.Making.{AccessesOf-unique}
 use Rattle.rrs_lib.proofs.Rows.{one_row_at_most}
 use Rattle.rrs_history.specs.declared.noting.NotingMemory.{NotingMemory}
 use Rattle.rrs_history.specs.declared.noting.Replaced.{Replaced}
 use Rattle.rrs_history.specs.Changes.{stored_back, with_reads, NotedAccessesOf}
 use Rattle.rrs_history.specs.Noting.{AreReplaced, noting_reads, noting_writes}
-use Rattle.rrs_history.specs.Recording.{MakesAfterFetch}
 
 -- reads, and then one write at most
 abbrev IsShort : List Access → Type 0
@@ -37,6 +35,11 @@ short_row : (action : Action) (f : Fields) (s : State) → IsShort (accesses_by 
 short_row (Load n extended) (I f) s = short_reads _ _ _ _
 short_row (Store n) (S f) s = short_writes _ _ _ _ _
 short_row _ _ s = tt
+
+short_step : (s : State) (xs : List Access) → AccessesOf s xs → IsShort xs
+short_step s xs (OfNone odd is) = subst IsShort (sym is) tt
+short_step s xs (OfFetch aligned none is) = subst IsShort (sym is) tt
+short_step s xs (OfRow w row f aligned found decodes is) = subst IsShort (sym is) (short_row (table row).action f s)
 
 -- where nothing is replaced the map is as it was
 pub none_replaced : (r : Replaced) (writable : ℕ → Bool) (old new : ByteMap) → r.size ≡ None → new ≡ old
@@ -101,59 +104,23 @@ module _ {M : Type 0} (bytes : M → ByteMap) (writable : M → ℕ → Bool)
       (written s a size v granted old mid same none did)
   noted s (Write a size v granted ∷ x ∷ xs) old new short same none made = absurd short
 
-  module _ (row : Row) (f : Fields) (s : State) (old new : NotingMemory M)
-      (same : s.bytes ≡ bytes old.memory.now) (none : old.replaced.size ≡ None)
-      (made : Makes (noting_reads bytes writable reads) (noting_writes bytes writable reads writes) (accesses_of_row row f s) old new) where
-    all_noted : Noted s (accesses_of_row row f s) old new
-    all_noted = noted s _ old new (short_row (table row).action f s) same none made
+  module _ (s : State) (old new : NotingMemory M) (same : s.bytes ≡ bytes old.memory.now) (none : old.replaced.size ≡ None)
+      (made : MakesExactly (noting_reads bytes writable reads) (noting_writes bytes writable reads writes) (AccessesOf s) old new) where
+    all_noted : Noted s made.accesses old new
+    all_noted = noted s _ old new (short_step s _ made.these) same none made.made
 
-    pub row_replaced : AreReplaced new.replaced (writable new.memory.now) (bytes old.memory.now) (bytes new.memory.now)
-    row_replaced = all_noted.replaced
+    pub step_replaced : AreReplaced new.replaced (writable new.memory.now) (bytes old.memory.now) (bytes new.memory.now)
+    step_replaced = all_noted.replaced
 
     pub still_lent : new.memory.ghost_name ≡ old.memory.ghost_name
     still_lent = all_noted.same_memory
 
-    -- the memory that is lent makes the accesses of the row with the read before its store
-    pub inner_made : Makes reads writes (with_reads s (accesses_of_row row f s)) old.memory.now new.memory.now
-    inner_made = all_noted.inner
-
--- the reads before stores are those of the bytes
-pub with_reads-alike : (s t : State) (xs : List Access) → t.bytes ≡ s.bytes → with_reads t xs ≡ with_reads s xs
-with_reads-alike s t [] same = refl
-with_reads-alike s t (Read a size answer ∷ xs) same = ap (λ ys. Read a size answer ∷ ys) (with_reads-alike s t xs same)
-with_reads-alike s t (Write a size value granted ∷ xs) same = λ i.
-    Read a size (little_endian (same i) a (width size)) ∷ Write a size value granted ∷ with_reads-alike s t xs same i
-
--- the fetch has no store
-reads_alone : (aligned : Bool) (s : State) (a : ℕ) (size : MemAccessSize) (answer : Option ℕ)
-    → with_reads s (if aligned then Read a size answer ∷ [] else []) ≡ (if aligned then Read a size answer ∷ [] else [])
-reads_alone true s a size answer = refl
-reads_alone false s a size answer = refl
-
-module _ {M : Type 0} (reads : M → ℕ → MemAccessSize → M → Option ℕ → Type 0)
-    (writes : M → ℕ → MemAccessSize → ℕ → M → Bool → Type 0) where
-  -- the accesses of a step, with the read before its store
-  exactly_noted : (s : State) (of_step : List Access) (a b : M) → AccessesOf s of_step
-      → Makes reads writes (with_reads s of_step) a b → MakesExactly reads writes (NotedAccessesOf s) a b
-  exactly_noted s of_step a b are made = record {
-    accesses = with_reads s of_step;
-    these = record { of_step = of_step; are_its = are; with_read = refl };
-    only = λ others of. of.with_read
-        ∙ ap (with_reads s) (AccessesOf-unique one_row_at_most s of.of_step of_step of.are_its are);
-    made = made;
-  }
-
-  -- a step that ended with its fetch
-  pub noted-fetch : (s : State) (a b : M) → AccessesOf s (read_if_aligned s s.pc Word)
-      → Makes reads writes (read_if_aligned s s.pc Word) a b → MakesExactly reads writes (NotedAccessesOf s) a b
-  noted-fetch s a b are made =
-      exactly_noted s _ a b are (subst (λ xs. Makes reads writes xs a b) (sym (reads_alone (s.pc % width Word == 0) s _ _ _)) made)
-
-  -- a step that went on
-  pub noted-step : (s : State) (a b c : M) → s.pc % 4 ≡ 0 → Makes reads writes (read_if_aligned s s.pc Word) a b
-      → MakesAfterFetch reads writes s b c → MakesExactly reads writes (NotedAccessesOf s) a c
-  noted-step s a b c aligned fetched after =
-      let even : (s.pc % 4 == 0) ≡ true = rw aligned refl in
-      let first : Makes reads writes (fetch s ∷ []) a b = rw even at fetched in
-      exactly_noted s (fetch s ∷ after.later) a c after.are_its
-      (Makes-append reads writes (fetch s ∷ []) (with_reads s after.later) a b c first after.made)
+    -- the memory that is lent makes the accesses of the step with the read before its store
+    pub step_made : MakesExactly reads writes (NotedAccessesOf s) old.memory.now new.memory.now
+    step_made = record {
+      accesses = with_reads s made.accesses;
+      these = record { of_step = made.accesses; are_its = made.these; with_read = refl };
+      only = λ others of. of.with_read
+          ∙ ap (with_reads s) (AccessesOf-unique one_row_at_most s of.of_step made.accesses of.are_its made.these);
+      made = all_noted.inner;
+    }

@@ -10,5 +10,4 @@ pub mod Histories
 pub mod Calls
 -- The code as seen by these.
 pub mod Noting
-pub mod Recording
 pub mod Returns
