@@ -30,9 +30,11 @@ def lines(*arguments):
 
 
 def as_proved(path):
-    """The bytes that rrs as makes of a source, and the lines that it refuses."""
-    run = subprocess.run([RRS / "out" / "rrs", "as", path], capture_output=True, check=False)
-    return run.stdout, refused(run.stderr.decode("latin1"))
+    """The bytes that rrs as makes of a source, and the lines that it refuses, which it tells all
+    with --gnu, and else twenty of them."""
+    made, told = (subprocess.run([RRS / "out" / "rrs", "as", *words, path], capture_output=True,
+                                 check=False) for words in ([], ["--gnu"]))
+    return made.stdout, refused(told.stderr.decode("latin1"))
 
 
 def refused(text):
