@@ -1,12 +1,14 @@
 //! Why a file is refused.
 
+ghost use Rattle.std.specs.Prelude.{◌<◌};
+
 use std::error::Error;
 use std::fmt;
 
 /// Why a file is no executable for this machine, or why its symbol table can't be read: the first
 /// refusal, in the order of this list. Those of segments come in the order of the segments, each
 /// with all of its own.
-#[derive(Debug, PartialEq, Clone, Copy)]
+#[derive(PartialEq, Clone, Copy)]
 pub enum ElfError {
     /// The file does not begin with the four bytes of an ELF file.
     NotElf,
@@ -73,78 +75,193 @@ pub enum ElfError {
     NameOutside(u32),
 }
 
+/// The name of each refusal, in the order of [ElfError], with its text: what comes before its
+/// numbers, and what comes behind them.
+static TEXTS: [(&str, &str, &str); 30] = [
+    ("NotElf", "not an ELF file", ""),
+    ("HeaderCutShort", "the file ends within the ELF header", ""),
+    ("Class", "e_ident[EI_CLASS] is ", ", not 1 (32 bits)"),
+    (
+        "ByteOrder",
+        "e_ident[EI_DATA] is ",
+        ", not 1 (lowest byte first)",
+    ),
+    ("IdentVersion", "e_ident[EI_VERSION] is ", ", not 1"),
+    (
+        "PositionIndependent",
+        "e_type is 3: a shared object or a position-independent executable",
+        "",
+    ),
+    ("NotExecutable", "e_type is ", ", not 2 (an executable)"),
+    ("Machine", "e_machine is ", ", not 243 (RISC-V)"),
+    ("Version", "e_version is ", ", not 1"),
+    ("CompressedCode", "e_flags: compressed code", ""),
+    ("FloatingPoint", "e_flags: a floating-point ABI", ""),
+    ("Embedded", "e_flags: RVE, 16 registers", ""),
+    ("ProgramHeaderSize", "e_phentsize is ", ", not 32"),
+    (
+        "TooManyProgramHeaders",
+        "e_phnum is 65535: too many program headers",
+        "",
+    ),
+    (
+        "ProgramHeadersCutShort",
+        "e_phoff, e_phnum: the file ends within the program headers",
+        "",
+    ),
+    ("Interpreter", "segment ", ": it names a dynamic linker"),
+    ("SegmentCutShort", "segment ", ": the file ends within it"),
+    ("SegmentSizes", "segment ", ": p_filesz is above p_memsz"),
+    (
+        "SegmentPastLastAddress",
+        "segment ",
+        ": it ends past the last address",
+    ),
+    ("SegmentsOverlap", "segments ", ": they overlap"),
+    ("EntryMisaligned", "e_entry is ", ", no multiple of 4"),
+    ("EntryOutside", "e_entry is ", ", in no loaded segment"),
+    ("SectionHeaderSize", "e_shentsize is ", ", not 40"),
+    (
+        "SectionHeadersCutShort",
+        "e_shoff, e_shnum: the file ends within the section headers",
+        "",
+    ),
+    (
+        "SymbolSize",
+        "sh_entsize of the symbol table is ",
+        ", not 16",
+    ),
+    (
+        "SymbolTableCutShort",
+        "the file ends within the symbol table",
+        "",
+    ),
+    (
+        "NoStringTable",
+        "sh_link of the symbol table is ",
+        ", no string table",
+    ),
+    (
+        "StringTableCutShort",
+        "the file ends within the string table",
+        "",
+    ),
+    (
+        "StringTableNotEnded",
+        "the last byte of the string table is not 0",
+        "",
+    ),
+    ("NameOutside", "symbol ", ": its name is in no string"),
+];
+
+/// The numbers of a refusal.
+enum Numbers {
+    /// It has none.
+    Nothing,
+    /// A number.
+    One(u32),
+    /// An address.
+    Address(u32),
+    /// The numbers of two segments.
+    Two(u16, u16),
+}
+
 impl ElfError {
-    /// The text of a refusal that has no number.
-    fn text(&self) -> &'static str {
+    /// Which of [TEXTS] is the refusal's.
+    fn number(&self) -> usize
+        ensures { result < 30 }
+    {
         match self {
-            ElfError::NotElf => "not an ELF file",
-            ElfError::HeaderCutShort => "the file ends within the ELF header",
-            ElfError::PositionIndependent => {
-                "e_type is 3: a shared object or a position-independent executable"
-            }
-            ElfError::CompressedCode => "e_flags: compressed code",
-            ElfError::FloatingPoint => "e_flags: a floating-point ABI",
-            ElfError::Embedded => "e_flags: RVE, 16 registers",
-            ElfError::TooManyProgramHeaders => "e_phnum is 65535: too many program headers",
-            ElfError::ProgramHeadersCutShort => {
-                "e_phoff, e_phnum: the file ends within the program headers"
-            }
-            ElfError::SectionHeadersCutShort => {
-                "e_shoff, e_shnum: the file ends within the section headers"
-            }
-            ElfError::SymbolTableCutShort => "the file ends within the symbol table",
-            ElfError::StringTableCutShort => "the file ends within the string table",
-            ElfError::StringTableNotEnded => "the last byte of the string table is not 0",
-            _ => "refused",
+            ElfError::NotElf => 0,
+            ElfError::HeaderCutShort => 1,
+            ElfError::Class(_) => 2,
+            ElfError::ByteOrder(_) => 3,
+            ElfError::IdentVersion(_) => 4,
+            ElfError::PositionIndependent => 5,
+            ElfError::NotExecutable(_) => 6,
+            ElfError::Machine(_) => 7,
+            ElfError::Version(_) => 8,
+            ElfError::CompressedCode => 9,
+            ElfError::FloatingPoint => 10,
+            ElfError::Embedded => 11,
+            ElfError::ProgramHeaderSize(_) => 12,
+            ElfError::TooManyProgramHeaders => 13,
+            ElfError::ProgramHeadersCutShort => 14,
+            ElfError::Interpreter(_) => 15,
+            ElfError::SegmentCutShort(_) => 16,
+            ElfError::SegmentSizes(_) => 17,
+            ElfError::SegmentPastLastAddress(_) => 18,
+            ElfError::SegmentsOverlap(_, _) => 19,
+            ElfError::EntryMisaligned(_) => 20,
+            ElfError::EntryOutside(_) => 21,
+            ElfError::SectionHeaderSize(_) => 22,
+            ElfError::SectionHeadersCutShort => 23,
+            ElfError::SymbolSize(_) => 24,
+            ElfError::SymbolTableCutShort => 25,
+            ElfError::NoStringTable(_) => 26,
+            ElfError::StringTableCutShort => 27,
+            ElfError::StringTableNotEnded => 28,
+            ElfError::NameOutside(_) => 29,
         }
     }
 
-    /// Writes a refusal for a number in the header, or gives `false`.
-    fn write_header<W: fmt::Write>(&self, f: &mut fmt::Formatter<W>) -> Result<bool, fmt::Error> {
-        match self {
-            ElfError::Class(n) => write!(f, "e_ident[EI_CLASS] is {n}, not 1 (32 bits)")?,
-            ElfError::ByteOrder(n) => {
-                write!(f, "e_ident[EI_DATA] is {n}, not 1 (lowest byte first)")?;
-            }
-            ElfError::IdentVersion(n) => write!(f, "e_ident[EI_VERSION] is {n}, not 1")?,
-            ElfError::NotExecutable(n) => write!(f, "e_type is {n}, not 2 (an executable)")?,
-            ElfError::Machine(n) => write!(f, "e_machine is {n}, not 243 (RISC-V)")?,
-            ElfError::Version(n) => write!(f, "e_version is {n}, not 1")?,
-            ElfError::ProgramHeaderSize(n) => write!(f, "e_phentsize is {n}, not 32")?,
-            ElfError::EntryMisaligned(a) => write!(f, "e_entry is 0x{a:08x}, no multiple of 4")?,
-            ElfError::EntryOutside(a) => write!(f, "e_entry is 0x{a:08x}, in no loaded segment")?,
-            ElfError::SectionHeaderSize(n) => write!(f, "e_shentsize is {n}, not 40")?,
-            _ => return Ok(false),
+    /// The numbers of the refusal.
+    fn numbers(&self) -> Numbers {
+        match *self {
+            ElfError::Class(number)
+            | ElfError::ByteOrder(number)
+            | ElfError::IdentVersion(number) => Numbers::One(u32::from(number)),
+            ElfError::NotExecutable(number)
+            | ElfError::Machine(number)
+            | ElfError::ProgramHeaderSize(number)
+            | ElfError::Interpreter(number)
+            | ElfError::SegmentCutShort(number)
+            | ElfError::SegmentSizes(number)
+            | ElfError::SegmentPastLastAddress(number)
+            | ElfError::SectionHeaderSize(number) => Numbers::One(u32::from(number)),
+            ElfError::Version(number)
+            | ElfError::SymbolSize(number)
+            | ElfError::NoStringTable(number)
+            | ElfError::NameOutside(number) => Numbers::One(number),
+            ElfError::EntryMisaligned(entry) | ElfError::EntryOutside(entry) => Numbers::Address(
+                entry,
+            ),
+            ElfError::SegmentsOverlap(one, other) => Numbers::Two(one, other),
+            _ => Numbers::Nothing,
         }
-        Ok(true)
     }
 
-    /// Writes a refusal for a segment or a symbol.
-    fn write_part<W: fmt::Write>(&self, f: &mut fmt::Formatter<W>) -> fmt::Result {
-        match self {
-            ElfError::Interpreter(i) => write!(f, "segment {i}: it names a dynamic linker"),
-            ElfError::SegmentCutShort(i) => write!(f, "segment {i}: the file ends within it"),
-            ElfError::SegmentSizes(i) => write!(f, "segment {i}: p_filesz is above p_memsz"),
-            ElfError::SegmentPastLastAddress(i) => {
-                write!(f, "segment {i}: it ends past the last address")
-            }
-            ElfError::SegmentsOverlap(i, j) => write!(f, "segments {i} and {j}: they overlap"),
-            ElfError::SymbolSize(n) => write!(f, "sh_entsize of the symbol table is {n}, not 16"),
-            ElfError::NoStringTable(n) => {
-                write!(f, "sh_link of the symbol table is {n}, no string table")
-            }
-            ElfError::NameOutside(n) => write!(f, "symbol {n}: its name is in no string"),
-            _ => write!(f, "{}", self.text()),
+    /// Writes the numbers of the refusal.
+    fn write_numbers<W: fmt::Write>(&self, f: &mut fmt::Formatter<W>) -> fmt::Result {
+        match self.numbers() {
+            Numbers::Nothing => Ok(()),
+            Numbers::One(number) => write!(f, "{number}"),
+            Numbers::Address(address) => write!(f, "0x{address:08x}"),
+            Numbers::Two(one, other) => write!(f, "{one} and {other}"),
         }
     }
 }
 
 impl fmt::Display for ElfError {
     fn fmt<W: fmt::Write>(&self, f: &mut fmt::Formatter<W>) -> fmt::Result {
-        if self.write_header(f)? {
-            return Ok(());
+        let (_, before, behind) = TEXTS[self.number()];
+        f.write_str(before)?;
+        self.write_numbers(f)?;
+        f.write_str(behind)
+    }
+}
+
+/// The text for programmers, `{:?}`, as a derive would write it.
+impl fmt::Debug for ElfError {
+    fn fmt<W: fmt::Write>(&self, f: &mut fmt::Formatter<W>) -> fmt::Result {
+        let name = TEXTS[self.number()].0;
+        match self.numbers() {
+            Numbers::Nothing => f.write_str(name),
+            Numbers::One(number) | Numbers::Address(number) => {
+                f.debug_tuple(name).field(&number).finish()
+            }
+            Numbers::Two(one, other) => f.debug_tuple(name).field(&one).field(&other).finish(),
         }
-        self.write_part(f)
     }
 }
 
