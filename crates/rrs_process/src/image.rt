@@ -6,7 +6,7 @@ ghost use Rattle.rrs_elf.specs.Loading.{loaded_size};
 ghost use Rattle.rrs_elf.specs.ProgramHeaders.{IsProgramHeader};
 ghost use Rattle.rrs_process.specs.InitialStack.{stack_bytes, stack_pointer, stack_block};
 ghost use Rattle.rrs_process.specs.Layouts.{IsLayout};
-ghost use Rattle.rrs_process.specs.Images.{AllWithin, IsImage, Filled, headers_in, headers_at, headers_of, range_of, segment_range, segment_ranges, writable_range, ranges_of};
+ghost use Rattle.rrs_process.specs.Images.{AllWithin, IsImage, Filled, headers_in, headers_at, headers_of, protection_by, range_of, segment_range, segment_ranges, writable_range, ranges_of};
 
 use crate::layout::{Layout, layout_of};
 use crate::marks::{PAGE_BYTES, PageRange, Protection, marks_of};
@@ -87,22 +87,28 @@ fn bounds_of(executable: &Executable<'_>) -> (u32, u64)
     bounds
 }
 
-/// The addresses of a segment, and what may be done there.
-fn range_of(segment: &ProgramHeader) -> PageRange
-    ensures { (file : List ℕ) (i : ℕ) → IsProgramHeader file i segment.now
-        → result ≡ range_of file i }
+/// What may be done in a segment.
+fn protection_of(segment: &ProgramHeader) -> Protection
+    ensures { result ≡ protection_by segment.now.flags }
 {
-    let protection = if segment.is_writable() {
+    if segment.is_writable() {
         Protection::Writable
     } else if segment.is_readable() || segment.is_executable() {
         Protection::ReadOnly
     } else {
         Protection::Unmapped
-    };
+    }
+}
+
+/// The addresses of a segment, and what may be done there.
+fn range_of(segment: &ProgramHeader) -> PageRange
+    ensures { (file : List ℕ) (i : ℕ) → IsProgramHeader file i segment.now
+        → result ≡ range_of file i }
+{
     PageRange {
         start: u64::from(segment.address),
         end: segment.end(),
-        protection,
+        protection: protection_of(segment),
     }
 }
 
