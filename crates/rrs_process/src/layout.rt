@@ -5,6 +5,8 @@ ghost use Rattle.rrs_process.specs.Layouts.{IsLayout};
 
 use crate::marks::PAGE_BYTES;
 
+/// The number of bytes of a page.
+const PAGE: u64 = PAGE_BYTES as u64;
 /// How many bytes of memory a process has at least behind its program: 1 MiB.
 const LEAST_BYTES: u64 = 1 << 20;
 /// How many bytes its stack has at most: 8 MiB, as on Linux.
@@ -37,16 +39,15 @@ pub fn layout_of(start: u32, end: u64, wanted: u64) -> Option<Layout>
     requires { end ≤ 2 ^ 32 }
     ensures { IfSome result (IsLayout start end wanted) }
 {
-    let page = u64::from(PAGE_BYTES);
     let base = start - start % PAGE_BYTES;
-    let heap_start = (end + page - 1) / page * page;
-    let most = (1 << 32) - page;
+    let heap_start = (end + PAGE - 1) / PAGE * PAGE;
+    let most = (1 << 32) - PAGE;
     let room = (u64::from(base) + wanted.min(most)).max(heap_start + LEAST_BYTES);
-    let memory_end = room.min(most) / page * page;
+    let memory_end = room.min(most) / PAGE * PAGE;
     if memory_end < heap_start + LEAST_BYTES {
         return None;
     }
-    let stack = ((memory_end - heap_start) / 2).min(MOST_STACK_BYTES) / page * page;
+    let stack = ((memory_end - heap_start) / 2).min(MOST_STACK_BYTES) / PAGE * PAGE;
     let stack_start = memory_end - stack;
     Some(Layout {
         base,
