@@ -1,7 +1,9 @@
-//! The tests of `rrs_lib`, which call what it offers to every crate.
+//! The tests of the kit, which are those of `rrs_lib` and of the two crates below it, and of small
+//! crates over it: `rrs_text`, `rrs_encode` and `rrs_elf`. `surface` calls each public name of the
+//! port.
 //!
-//! They are in a crate of their own so that a check of `rrs_lib` proves its calls and a check of
-//! this crate its tests: one at a time is quicker to wait for, and `rt ci` does both side by side.
+//! They are in a crate of their own so that a check of a library proves its calls and a check of
+//! this crate its tests, and in one crate, since each crate of tests costs the gate a start.
 //!
 //! What the tests share is in `machines`: a call that is generic over a memory, and a comparison,
 //! are proved once there, and each test is a table of cases.
@@ -9,9 +11,15 @@
 #![tactic(auto)]
 
 #[cfg(test)]
+mod assembling;
+#[cfg(test)]
 mod debug_texts;
 #[cfg(test)]
 mod edges;
+#[cfg(test)]
+mod elf;
+#[cfg(test)]
+mod encoding;
 #[cfg(test)]
 mod executor;
 #[cfg(test)]
@@ -22,5 +30,7 @@ mod loading;
 mod machines;
 #[cfg(test)]
 mod spaces;
+#[cfg(test)]
+mod surface;
 #[cfg(test)]
 mod texts;

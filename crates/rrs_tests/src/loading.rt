@@ -189,9 +189,12 @@ fn is_not_asked_after_the_end(rt: HostRuntime) -> Result<(), Fail> {
     let mut memory = memory_of(rt.alloc(), &[0])?;
     let mut reader = Resuming { calls: 0 };
     let answer = read_to_memory(&mut reader, &mut memory, 0);
-    assert_eq!(rt;
-        (answer.is_ok(), reader.calls, memory.mem.as_slice()),
-        (true, 2, [0x01].as_slice())
+    let text = text_of(rt.alloc(), answer)?;
+    let seen = (
+        text.as_str(),
+        usize::from(reader.calls),
+        memory.mem.as_slice(),
     );
+    same_load(&rt, 1, seen, (LOADED, 2, &[0x01]));
     Ok(())
 }

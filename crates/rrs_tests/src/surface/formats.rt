@@ -1,6 +1,6 @@
 //! The opcodes, and the fields that each format reads from a word.
 
-use crate::is_shown_and_compared;
+use crate::surface::is_shown_and_compared;
 use rrs_lib::instruction_formats::{
     BType, IType, ITypeShamt, JType, OPCODE_AUIPC, OPCODE_BRANCH, OPCODE_JAL, OPCODE_JALR,
     OPCODE_LOAD, OPCODE_LUI, OPCODE_MISC_MEM, OPCODE_OP, OPCODE_OP_IMM, OPCODE_STORE,

@@ -6,6 +6,7 @@
 //!   `main` of 8 bytes at 0x10004, and the absolute `end`
 //! - their names at offset 248, and four section headers at offset 268
 
+use rrs_elf::{ElfError, Executable, Symbols};
 use std::alloc::{AllocError, Global};
 
 /// Its bytes.
@@ -47,14 +48,17 @@ pub(crate) fn changed(
     bytes: usize,
     value: u32,
 ) -> Result<Vec<u8>, AllocError> {
-    let mut file = Vec::new(alloc);
-    let replacing = value.to_le_bytes();
-    for (index, byte) in FILE.iter().take(length).enumerate() {
-        if index >= at && index - at < bytes && index - at < replacing.len() {
-            file.push(replacing[index - at])?;
-        } else {
-            file.push(*byte)?;
+    let mut file = FILE.to_vec(alloc)?;
+    file.truncate(length);
+    for (index, byte) in value.to_le_bytes().iter().take(bytes).enumerate() {
+        if let Some(place) = file.get_mut(at.saturating_add(index)) {
+            *place = *byte;
         }
     }
     Ok(file)
+}
+
+/// The symbols of a file, if it has a symbol table.
+pub(crate) fn symbols_of(file: &[u8]) -> Result<Option<Symbols<'_>>, ElfError> {
+    Executable::parse(file)?.symbols()
 }

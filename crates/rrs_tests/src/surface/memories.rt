@@ -2,8 +2,9 @@
 
 ghost use Rattle.std.specs.Prelude.{◌≡◌, IfOk, vec_len};
 
-use crate::executor::steps_and_run;
-use crate::{is_cloned_and_copied, is_shown_and_compared};
+use crate::machines::memory_of;
+use crate::surface::executor::steps_and_run;
+use crate::surface::{is_cloned_and_copied, is_shown_and_compared};
 use rrs_extra::{PageError, PagedMemory};
 use rrs_lib::instruction_executor::InstructionException;
 use rrs_lib::memories::{BoxedMemory, LoadFault, VecMemory, read_to_memory};
@@ -11,11 +12,6 @@ use rrs_lib::{MemAccessSize, Memory};
 use std::alloc::{AllocError, Global};
 use std::io::{self, Read};
 use std::test::Fail;
-
-/// A memory of words.
-pub(crate) fn memory_of(alloc: Global, words: &[u32]) -> Result<VecMemory, AllocError> {
-    Ok(VecMemory::new(words.to_vec(alloc)?))
-}
 
 /// The number of bytes of a size.
 fn bytes_of(size: MemAccessSize) -> u32 {

@@ -1,7 +1,7 @@
 //! A file for each refusal, and what it says.
 
-use crate::file::changed;
-use rrs_elf::{ElfError, Executable};
+use crate::elf::file::{changed, symbols_of};
+use rrs_elf::ElfError;
 use std::alloc::{AllocError, Global};
 use std::test::Fail;
 
@@ -165,12 +165,11 @@ static REFUSED: [(Change, ElfError, &str); 32] = [
 ];
 
 /// Why a file or its symbol table is refused, if it is.
-fn refusal_of(file: &[u8]) -> Option<ElfError> {
-    let made = match Executable::parse(file) {
-        Ok(made) => made,
-        Err(error) => return Some(error),
-    };
-    made.symbols().err()
+fn refusal_at(file: &[u8]) -> Option<ElfError> {
+    match symbols_of(file) {
+        Ok(_symbols) => None,
+        Err(error) => Some(error),
+    }
 }
 
 /// The refusal of a changed file, and its text.
@@ -179,7 +178,7 @@ fn refusal_and_text(
     change: Change,
 ) -> Result<(Option<ElfError>, String), AllocError> {
     let file = changed(alloc, change.0, change.1, change.2, change.3)?;
-    let refusal = refusal_of(&file);
+    let refusal = refusal_at(&file);
     let text = match refusal {
         Some(error) => format!(in alloc; "{error}")?,
         None => String::new(alloc),
@@ -191,10 +190,7 @@ fn refusal_and_text(
 fn each_refusal_has_a_file(rt: HostRuntime) -> Result<(), Fail> {
     for (change, wanted, wanted_text) in REFUSED.iter() {
         let (refusal, text) = refusal_and_text(rt.alloc(), *change)?;
-        assert!(rt;
-            refusal == Some(*wanted) && text.as_str() == *wanted_text,
-            "{wanted_text}: {refusal:?} {text}"
-        );
+        assert_eq!(rt; (refusal, text.as_str()), (Some(*wanted), *wanted_text));
     }
     Ok(())
 }

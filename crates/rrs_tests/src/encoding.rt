@@ -9,11 +9,9 @@ use std::test::Fail;
 
 /// Asserts what the laws answer to a word and its instruction.
 fn same_again(rt: &impl Abort, word: u32, instruction: Instruction) {
-    assert_eq!(rt; encode_of_decode(word), Some((instruction, Some(word))));
-    assert_eq!(rt;
-        decode_of_encode(&instruction),
-        Some((word, Some(instruction)))
-    );
+    let is_encoded = encode_of_decode(word) == Some((instruction, Some(word)));
+    let is_decoded = decode_of_encode(&instruction) == Some((word, Some(instruction)));
+    assert_eq!(rt; (word, is_encoded, is_decoded), (word, true, true));
 }
 
 /// The word of each row is decoded and encoded again, and its instruction encoded and decoded.
@@ -57,8 +55,9 @@ static NO_WORDS: [Instruction; 4] = [
 
 #[test]
 fn what_has_no_word_is_not_encoded(rt: HostRuntime) {
-    for instruction in &NO_WORDS {
-        assert!(rt; decode_of_encode(instruction).is_none(), "{instruction:?}");
+    for (index, instruction) in NO_WORDS.iter().enumerate() {
+        let is_encoded = decode_of_encode(instruction).is_some();
+        assert_eq!(rt; (index, is_encoded), (index, false));
     }
     assert!(rt; encode_of_decode(0).is_none() && encode_of_decode(0xffff_ffff).is_none());
 }

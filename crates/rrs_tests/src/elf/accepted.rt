@@ -1,6 +1,6 @@
 //! Files that are accepted: their segments, what a load leaves, and their symbols.
 
-use crate::file::{FILE, changed};
+use crate::elf::file::{FILE, changed, symbols_of};
 use rrs_elf::{Executable, Refused, Symbols};
 use rrs_memory::memories::SliceMemory;
 use std::alloc::{AllocError, Global};
@@ -28,7 +28,7 @@ static JUST_ACCEPTED: [(usize, u32); 6] = [
 fn limits_are_accepted(rt: HostRuntime) -> Result<(), Fail> {
     for (at, value) in JUST_ACCEPTED.iter() {
         let accepted = is_accepted(rt.alloc(), *at, 4, *value)?;
-        assert!(rt; accepted, "{at}: {value}");
+        assert_eq!(rt; (*at, *value, accepted), (*at, *value, true));
     }
     Ok(())
 }
@@ -112,7 +112,7 @@ fn has_places(symbols: &Symbols<'_>) -> bool {
 
 /// Whether a file has the names and the places, and of how many symbols.
 fn known(file: &[u8]) -> Option<(bool, bool, u32)> {
-    let symbols = Executable::parse(file).ok()?.symbols().ok()??;
+    let symbols = symbols_of(file).ok()??;
     Some((has_names(&symbols), has_places(&symbols), symbols.count()))
 }
 

@@ -1,6 +1,6 @@
 //! A processor with a function of its own for each row, and the calls of the kit's processors.
 
-use crate::memories::memory_of;
+use crate::machines::memory_of;
 use rrs_lib::instruction_executor::{InstructionException, InstructionExecutor};
 use rrs_lib::instruction_formats::{BType, IType, ITypeShamt, JType, RType, SType, UType};
 use rrs_lib::instruction_string_outputter::InstructionStringOutputter;

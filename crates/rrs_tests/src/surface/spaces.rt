@@ -1,20 +1,11 @@
 //! Spaces of regions.
 
-use crate::is_shown_and_compared;
-use crate::memories::{ANSWERS, accessed, memory_of};
+use crate::machines::{add_region, memory_of};
+use crate::surface::is_shown_and_compared;
+use crate::surface::memories::{ANSWERS, accessed};
 use rrs_lib::Memory;
 use rrs_lib::memories::{MemorySpace, MemorySpaceError, VecMemory};
 use std::test::Fail;
-
-/// Adds a region.
-fn add<M: Memory + Drop>(
-    space: &mut MemorySpace<M>,
-    base: u32,
-    size: u32,
-    memory: M,
-) -> Result<usize, MemorySpaceError> {
-    space.add_memory(base, size, memory)
-}
 
 /// Whether a region was added with an index, and why not else.
 fn index_of(answer: Result<usize, MemorySpaceError>) -> Result<usize, u32> {
@@ -30,13 +21,17 @@ fn index_of(answer: Result<usize, MemorySpaceError>) -> Result<usize, u32> {
 fn regions_are_added_and_accessed(rt: HostRuntime) -> Result<(), Fail> {
     is_shown_and_compared::<MemorySpaceError>();
     let mut space: MemorySpace<VecMemory> = MemorySpace::new(rt.alloc());
+    let (word, none) = (
+        memory_of(rt.alloc(), &[0x4433_2211])?,
+        memory_of(rt.alloc(), &[])?,
+    );
     let added = [
-        index_of(add(&mut space, 0, 4, memory_of(rt.alloc(), &[0x4433_2211])?)),
-        index_of(add(&mut space, 2, 4, memory_of(rt.alloc(), &[])?)),
+        index_of(add_region(&mut space, 0, 4, word)),
+        index_of(add_region(&mut space, 2, 4, none)),
     ];
     let looked_at: u64 = space.regions_looked_at();
-    assert!(rt; added == [Ok(0), Err(2)] && looked_at == 0);
-    assert!(rt; accessed(&mut space) == ANSWERS);
+    let seen = accessed(&mut space);
+    assert!(rt; added == [Ok(0), Err(2)] && looked_at == 0 && seen == ANSWERS);
     Ok(())
 }
 

@@ -1,6 +1,6 @@
 //! The hart, the calls of the executor, and their exceptions.
 
-use crate::is_shown_and_compared;
+use crate::surface::is_shown_and_compared;
 use rrs_lib::instruction_executor::{InstructionException, InstructionExecutor, RunEnd};
 use rrs_lib::memories::VecMemory;
 use rrs_lib::{HartState, Memory};

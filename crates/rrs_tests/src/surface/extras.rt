@@ -113,7 +113,7 @@ x1 0x05bc9000
 x2 0x1234b000
 x3 0xf387e000
 ";
-    assert!(rt; answer.is_ok() && out.as_slice().starts_with(beginning));
-    assert!(rt; out.as_slice().ends_with(b"\npc 0x0000000c\n"));
+    let ends = out.as_slice().ends_with(b"\npc 0x0000000c\n");
+    assert!(rt; answer.is_ok() && out.as_slice().starts_with(beginning) && ends);
     Ok(())
 }
