@@ -4,3 +4,4 @@ pub mod ShownLemmas
 pub mod WatchLemmas
 pub mod SessionLemmas
 pub mod FieldLemmas
+pub mod AnswerLemmas

@@ -20,10 +20,7 @@ use Rattle.rrs_gdb.specs.declared.back.BackEnd.{BackEnd}
 use Rattle.rrs_gdb.specs.declared.back.BackEnd.TheVariants as Back
 use Rattle.rrs_gdb.specs.Breaks.{GoesForward, GoesBack, IsPassed}
 use Rattle.rrs_gdb.specs.declared.state.Stop.{Stop}
-use Rattle.rrs_history.specs.declared.history.History.{History}
-use Rattle.rrs_history.specs.Histories.{changes, past}
-use Rattle.rrs_gdb.specs.declared.state.SessionState.{SessionState}
-use Rattle.rrs_gdb.specs.Sessions.{GoesOnBack, SessionGoesBack, RunsBack, Signals, BySignal, EndsBy, HasNoSignal, IsSignal, signalled}
+use Rattle.rrs_gdb.specs.Sessions.{GoesOnBack, RunsBack, Signals, BySignal, EndsBy, HasNoSignal, IsSignal, signalled}
 use Rattle.rrs_gdb.specs.Packets.{IsNumber, number, before, behind, address_in, length_in}
 use Rattle.rrs_gdb.specs.Sessions.{SetsBytes, SetsMemory}
 use Rattle.hex.specs.Hex.{decode_of, decode_pairs}
@@ -147,33 +144,31 @@ up_to_limit action Proceed ended stops watches limit e e' s t is has goes =
     unless ended stops watches limit e e' s t goes
 up_to_limit action (Killed signal) ended stops watches limit e e' s t is has goes = inl goes
 
-pub goes_same : {A F : Type 0} (r : Result A F) (going : Going) (ended ended' : Bool) (stops stops' : List ℕ)
+pub goes_same : (going : Going) (ended ended' : Bool) (stops stops' : List ℕ)
     (watches watches' : List Watch) (limit limit' : ℕ) (e e' : Recording) (s t : State) → ended' ≡ ended
     → stops' ≡ stops → watches' ≡ watches → limit' ≡ limit
-    → OnOk r (GoesBy going ended' stops' watches' limit' e s e' t) → OnOk r (GoesBy going ended stops watches limit e s e' t)
-goes_same r going ended ended' stops stops' watches watches' limit limit' e e' s t same_end same same' same'' goes =
-    subst (λ (n : ℕ). OnOk r (GoesBy going ended stops watches n e s e' t)) same''
-    (subst (λ (ws : List Watch). OnOk r (GoesBy going ended stops ws limit' e s e' t)) same'
-    (subst (λ (xs : List ℕ). OnOk r (GoesBy going ended xs watches' limit' e s e' t)) same
-    (subst (λ (b : Bool). OnOk r (GoesBy going b stops' watches' limit' e s e' t)) same_end goes)))
+    → GoesBy going ended' stops' watches' limit' e s e' t → GoesBy going ended stops watches limit e s e' t
+goes_same going ended ended' stops stops' watches watches' limit limit' e e' s t same_end same same' same'' goes =
+    subst (λ (n : ℕ). GoesBy going ended stops watches n e s e' t) same''
+    (subst (λ (ws : List Watch). GoesBy going ended stops ws limit' e s e' t) same'
+    (subst (λ (xs : List ℕ). GoesBy going ended xs watches' limit' e s e' t) same
+    (subst (λ (b : Bool). GoesBy going b stops' watches' limit' e s e' t) same_end goes)))
 
-pub step_from : {A F : Type 0} (r : Result A F) (action : List ℕ) (going : Going) (ended : Bool) (stops : List ℕ)
+pub step_from : (action : List ℕ) (going : Going) (ended : Bool) (stops : List ℕ)
     (watches : List Watch) (limit : ℕ) (e e' : Recording) (s s' t : State)
     → (letter action ≡ 115) ⊎ (letter action ≡ 83) → HasLetter action going → BeginsAt s s'
-    → OnOk r (GoesBy going ended stops watches limit e s' e' t) → OnOk r (GoesOnFrom stops watches 1 e s e' t)
-step_from (Ok x) action going ended stops watches limit e e' s s' t is has begins goes =
+    → GoesBy going ended stops watches limit e s' e' t → GoesOnFrom stops watches 1 e s e' t
+step_from action going ended stops watches limit e e' s s' t is has begins goes =
     from_there stops watches 1 e e' s s' t begins
     (one_step action going ended stops watches limit e e' s' t is has goes)
-step_from (Err f) action going ended stops watches limit e e' s s' t is has begins goes = tt
 
-pub go_from : {A F : Type 0} (r : Result A F) (action : List ℕ) (going : Going) (ended : Bool) (stops : List ℕ)
+pub go_from : (action : List ℕ) (going : Going) (ended : Bool) (stops : List ℕ)
     (watches : List Watch) (limit : ℕ) (e e' : Recording) (s s' t : State)
     → (letter action ≡ 99) ⊎ (letter action ≡ 67) → HasLetter action going → BeginsAt s s'
-    → OnOk r (GoesBy going ended stops watches limit e s' e' t) → OnOk r (GoesOnFrom stops watches limit e s e' t)
-go_from (Ok x) action going ended stops watches limit e e' s s' t is has begins goes =
+    → GoesBy going ended stops watches limit e s' e' t → GoesOnFrom stops watches limit e s e' t
+go_from action going ended stops watches limit e e' s s' t is has begins goes =
     from_there stops watches limit e e' s s' t begins
     (up_to_limit action going ended stops watches limit e e' s' t is has goes)
-go_from (Err f) action going ended stops watches limit e e' s s' t is has begins goes = tt
 
 -- within some limit
 pub some_limit : {A F : Type 0} (r : Result A F) (going : Going) (ended : Bool) (stops : List ℕ) (watches : List Watch)
@@ -184,37 +179,28 @@ some_limit (Ok x) Proceed ended stops watches limit e e' s t goes = (limit, unle
 some_limit (Ok x) (Killed signal) ended stops watches limit e e' s t goes = (0, inl goes)
 some_limit (Err f) going ended stops watches limit e e' s t goes = tt
 
--- what is known of the way to go on
-pub goes_so : {A F : Type 0} (r : Result A F) (going going' : Going) (ended : Bool) (stops : List ℕ)
-    (watches : List Watch) (limit : ℕ) (e e' : Recording) (s t : State) → going ≡ going'
-    → OnOk r (GoesBy going ended stops watches limit e s e' t)
-    → OnOk r (GoesBy going' ended stops watches limit e s e' t)
-goes_so r going going' ended stops watches limit e e' s t is goes =
-    subst (λ (g : Going). OnOk r (GoesBy g ended stops watches limit e s e' t)) is goes
-
 -- behind the letter stands nothing
-pub resumes_here : {A F : Type 0} (r : Result A F) (rest rest' : List ℕ) (ended : Bool) (stops : List ℕ)
+pub resumes_here : (rest rest' : List ℕ) (ended : Bool) (stops : List ℕ)
     (watches : List Watch) (limit : ℕ) (e e' : Recording) (s s' t : State) (old new : List ℕ) → rest' ≡ rest
-    → length rest' ≡ 0 → s' ≡ s → OnOk r (GoesOnUnless ended stops watches limit e s' e' t)
-    → OnOk r (Resumes rest ended stops watches limit e s e' t old new)
-resumes_here (Ok x) rest [] ended stops watches limit e e' s s' t old new same empty at goes = record {
+    → length rest' ≡ 0 → s' ≡ s → GoesOnUnless ended stops watches limit e s' e' t
+    → Resumes rest ended stops watches limit e s e' t old new
+resumes_here rest [] ended stops watches limit e e' s s' t old new same empty at goes = record {
   here = λ is. subst (λ (u : State). GoesOnUnless ended stops watches limit e u e' t) at goes;
   from_address = λ is.
       let some : 0 < length {A = ℕ} [] = subst (λ (xs : List ℕ). 0 < length xs) (sym same) is.0.0 in
       absurd (omega (arith, some));
   refused = λ some. absurd (some (sym same));
 }
-resumes_here (Ok x) rest (b ∷ bs) ended stops watches limit e e' s s' t old new same empty at goes =
+resumes_here rest (b ∷ bs) ended stops watches limit e e' s s' t old new same empty at goes =
     absurd (omega (arith, empty))
-resumes_here (Err f) rest rest' ended stops watches limit e e' s s' t old new same empty at goes = tt
 
 -- an address
-pub resumes_there : {A F : Type 0} (r : Result A F) (rest rest' : List ℕ) (address : ℕ) (ended : Bool)
+pub resumes_there : (rest rest' : List ℕ) (address : ℕ) (ended : Bool)
     (stops : List ℕ) (watches : List Watch) (limit : ℕ) (e e' : Recording) (s s' t : State) (old new : List ℕ)
     → rest' ≡ rest → IsNumber rest' → address ≡ number rest' → s' ≡ with_pc s address
-    → OnOk r (GoesOnUnless ended stops watches limit e s' e' t)
-    → OnOk r (Resumes rest ended stops watches limit e s e' t old new)
-resumes_there (Ok x) rest rest' address ended stops watches limit e e' s s' t old new same is value at goes =
+    → GoesOnUnless ended stops watches limit e s' e' t
+    → Resumes rest ended stops watches limit e s e' t old new
+resumes_there rest rest' address ended stops watches limit e e' s s' t old new same is value at goes =
     let some : 0 < length rest = subst (λ (xs : List ℕ). 0 < length xs) same is.0.0 in
     record {
       here = λ none. absurd (omega (arith, some, ap length none));
@@ -223,19 +209,17 @@ resumes_there (Ok x) rest rest' address ended stops watches limit e e' s s' t ol
           (at ∙ ap (λ (n : ℕ). with_pc s n) (value ∙ ap number same)) goes;
       refused = λ some none. absurd (none (subst (λ (xs : List ℕ). IsNumber xs) same is));
     }
-resumes_there (Err f) rest rest' address ended stops watches limit e e' s s' t old new same is value at goes = tt
 
 -- neither
-pub resumes_not : {A F : Type 0} (r : Result A F) (rest rest' : List ℕ) (ended : Bool) (stops : List ℕ)
+pub resumes_not : (rest rest' : List ℕ) (ended : Bool) (stops : List ℕ)
     (watches : List Watch) (limit : ℕ) (e e' : Recording) (s t : State) (old new : List ℕ) → rest' ≡ rest
-    → 0 < length rest' → ¬ IsNumber rest' → OnOk r (IsError old new)
-    → OnOk r (Resumes rest ended stops watches limit e s e' t old new)
-resumes_not (Ok x) rest rest' ended stops watches limit e e' s t old new same some other error = record {
+    → 0 < length rest' → ¬ IsNumber rest' → IsError old new
+    → Resumes rest ended stops watches limit e s e' t old new
+resumes_not rest rest' ended stops watches limit e e' s t old new same some other error = record {
   here = λ none. absurd (omega (arith, some, ap length (same ∙ none)));
   from_address = λ is. absurd (other (subst (λ (xs : List ℕ). IsNumber xs) (sym same) is));
   refused = λ some none. error;
 }
-resumes_not (Err f) rest rest' ended stops watches limit e e' s t old new same some other error = tt
 
 -- ---- a program that goes on by a signal
 
@@ -243,23 +227,6 @@ resumes_not (Err f) rest rest' ended stops watches limit e e' s t old new same s
 pub killed_by : (by : Going) (n : ℕ) → 1 ≤ n → signalled by n ≡ Killed n
 killed_by by zero some = absurd (omega (arith, some))
 killed_by by (suc n) some = refl
-
-pub by_none : (text digits rest : List ℕ) (by : Going) (n : ℕ) → IsNumber digits → n ≡ number digits → n ≡ 0
-    → digits ≡ before 59 text → rest ≡ behind 59 text → BySignal text by by rest
-by_none text digits rest by n is value nought same behind' =
-    let is' : IsNumber (before 59 text) = subst (λ (xs : List ℕ). IsNumber xs) same is in
-    let value' : number (before 59 text) ≡ 0 = ap (λ (xs : List ℕ). number xs) (sym same) ∙ sym value ∙ nought in
-    ((is', omega (arith, value')), behind', ap (λ (k : ℕ). signalled by k) (sym value'))
-
-pub by_some : (text digits rest : List ℕ) (by : Going) (n : ℕ) → IsNumber digits → n ≡ number digits → n ≢ 0 → n ≤ 255
-    → digits ≡ before 59 text → rest ≡ behind 59 text → BySignal text by (Killed n) rest
-by_some text digits rest by n is value some small same behind' =
-    let is' : IsNumber (before 59 text) = subst (λ (xs : List ℕ). IsNumber xs) same is in
-    let value' : n ≡ number (before 59 text) = value ∙ ap (λ (xs : List ℕ). number xs) same in (
-      (is', omega (arith, value', small)),
-      behind',
-      ap Killed value' ∙ sym (killed_by by (number (before 59 text)) (omega (arith, value', some))),
-    )
 
 -- the text behind the letter
 pub rest_whole : (payload : List ℕ) → take (length payload - 1) (drop 1 payload) ≡ drop 1 payload
@@ -273,40 +240,38 @@ no_signal None action text same none =
 no_signal (Some x) action text same none = tt
 
 -- there is no signal
-pub signals_not : {A F : Type 0} (r : Result A F) (text : List ℕ) (ended : Bool) (stops : List ℕ)
+pub signals_not : (text : List ℕ) (ended : Bool) (stops : List ℕ)
     (watches : List Watch) (limit : ℕ) (e e' : Recording) (s t : State) (old new : List ℕ) (at : Stop)
-    → ¬ IsSignal (before 59 text) → OnOk r (IsError old new)
-    → OnOk r (Signals text ended stops watches limit e s e' t old new at)
-signals_not (Ok x) text ended stops watches limit e e' s t old new at not error = record {
+    → ¬ IsSignal (before 59 text) → IsError old new
+    → Signals text ended stops watches limit e s e' t old new at
+signals_not text ended stops watches limit e e' s t old new at not error = record {
   none = λ is_number nought. absurd (not (is_number, omega (arith, nought)));
   kills = λ is some nothing runs. absurd (not is);
   refused = λ none. error;
 }
-signals_not (Err f) text ended stops watches limit e e' s t old new at not error = tt
 
 -- behind the signal stands something that is no address
-pub signals_nowhere : {A F : Type 0} (r : Result A F) (text rest : List ℕ) (by going : Going) (ended : Bool)
+pub signals_nowhere : (text rest : List ℕ) (by going : Going) (ended : Bool)
     (stops : List ℕ) (watches : List Watch) (limit : ℕ) (e e' : Recording) (s t : State) (old new : List ℕ) (at : Stop)
-    → BySignal text by going rest → 0 < length rest → ¬ IsNumber rest → OnOk r (IsError old new)
-    → OnOk r (Signals text ended stops watches limit e s e' t old new at)
-signals_nowhere {F = F} (Ok x) text rest by going ended stops watches limit e e' s t old new at is some other error = record {
+    → BySignal text by going rest → 0 < length rest → ¬ IsNumber rest → IsError old new
+    → Signals text ended stops watches limit e s e' t old new at
+signals_nowhere text rest by going ended stops watches limit e e' s t old new at is some other error = record {
   none = λ is_number nought.
-      resumes_not {F = F} (Ok x) (behind 59 text) rest ended stops watches limit e e' s t old new is.1 some other error;
+      resumes_not (behind 59 text) rest ended stops watches limit e e' s t old new is.1 some other error;
   kills = λ signal one nothing runs. absurd (omega (arith, some, ap length (is.1 ∙ nothing)));
   refused = λ not. absurd (not is.0);
 }
-signals_nowhere (Err f) text rest by going ended stops watches limit e e' s t old new at is some other error = tt
 
 -- nothing stands behind it
-pub signals_here : {A F : Type 0} (r : Result A F) (text rest : List ℕ) (by going : Going) (ended : Bool)
+pub signals_here : (text rest : List ℕ) (by going : Going) (ended : Bool)
     (stops : List ℕ) (watches : List Watch) (limit most : ℕ) (e e' : Recording) (s s' t : State) (old new : List ℕ)
     (at : Stop) → ((u : State) → GoesBy by ended stops watches most e u e' t → GoesOnUnless ended stops watches limit e u e' t)
-    → BySignal text by going rest → length rest ≡ 0 → s' ≡ s → OnOk r (GoesBy going ended stops watches most e s' e' t)
-    → OnOk r (EndsBy going ended at) → OnOk r (Signals text ended stops watches limit e s e' t old new at)
-signals_here {F = F} (Ok x) text rest by going ended stops watches limit most e e' s s' t old new at same is empty begins goes ends = record {
+    → BySignal text by going rest → length rest ≡ 0 → s' ≡ s → GoesBy going ended stops watches most e s' e' t
+    → EndsBy going ended at → Signals text ended stops watches limit e s e' t old new at
+signals_here text rest by going ended stops watches limit most e e' s s' t old new at same is empty begins goes ends = record {
   none = λ is_number nought.
       let so : going ≡ by = is.2 ∙ ap (λ (n : ℕ). signalled by n) nought in
-      resumes_here {F = F} (Ok x) (behind 59 text) rest ended stops watches limit e e' s s' t old new is.1 empty begins
+      resumes_here (behind 59 text) rest ended stops watches limit e e' s s' t old new is.1 empty begins
       (same s' (subst (λ (g : Going). GoesBy g ended stops watches most e s' e' t) so goes));
   kills = λ signal one nothing runs.
       let so = is.2 ∙ killed_by by (number (before 59 text)) one in
@@ -315,67 +280,22 @@ signals_here {F = F} (Ok x) text rest by going ended stops watches limit most e 
       (stays.0, stays.1 ∙ begins, subst (λ (b : Bool). EndsBy (Killed (number (before 59 text))) b at) runs end);
   refused = λ not. absurd (not is.0);
 }
-signals_here (Err f) text rest by going ended stops watches limit most e e' s s' t old new at same is empty begins goes ends = tt
 
 -- an address stands behind it
-pub signals_there : {A F : Type 0} (r : Result A F) (text rest : List ℕ) (address : ℕ) (by going : Going) (ended : Bool)
+pub signals_there : (text rest : List ℕ) (address : ℕ) (by going : Going) (ended : Bool)
     (stops : List ℕ) (watches : List Watch) (limit most : ℕ) (e e' : Recording) (s s' t : State) (old new : List ℕ)
     (at : Stop) → ((u : State) → GoesBy by ended stops watches most e u e' t → GoesOnUnless ended stops watches limit e u e' t)
     → BySignal text by going rest → IsNumber rest → address ≡ number rest → s' ≡ with_pc s address
-    → OnOk r (GoesBy going ended stops watches most e s' e' t)
-    → OnOk r (Signals text ended stops watches limit e s e' t old new at)
-signals_there {F = F} (Ok x) text rest address by going ended stops watches limit most e e' s s' t old new at same is there value begins goes = record {
+    → GoesBy going ended stops watches most e s' e' t
+    → Signals text ended stops watches limit e s e' t old new at
+signals_there text rest address by going ended stops watches limit most e e' s s' t old new at same is there value begins goes = record {
   none = λ is_number nought.
       let so : going ≡ by = is.2 ∙ ap (λ (n : ℕ). signalled by n) nought in
-      resumes_there {F = F} (Ok x) (behind 59 text) rest address ended stops watches limit e e' s s' t old new is.1 there value begins
+      resumes_there (behind 59 text) rest address ended stops watches limit e e' s s' t old new is.1 there value begins
       (same s' (subst (λ (g : Going). GoesBy g ended stops watches most e s' e' t) so goes));
   kills = λ signal one nothing runs. absurd (omega (arith, there.0.0, ap length (is.1 ∙ nothing)));
   refused = λ not. absurd (not is.0);
 }
-signals_there (Err f) text rest address by going ended stops watches limit most e e' s s' t old new at same is there value begins goes = tt
-
--- from the same
-pub signals_same : {A F : Type 0} (r : Result A F) (text : List ℕ) (ended ended' : Bool) (stops stops' : List ℕ)
-    (watches watches' : List Watch) (limit limit' : ℕ) (e e' : Recording) (s s' t : State) (old old' new : List ℕ)
-    (at : Stop) → ended' ≡ ended → stops' ≡ stops → watches' ≡ watches → limit' ≡ limit → s' ≡ s → old' ≡ old
-    → OnOk r (Signals text ended' stops' watches' limit' e s' e' t old' new at)
-    → OnOk r (Signals text ended stops watches limit e s e' t old new at)
-signals_same r text ended ended' stops stops' watches watches' limit limit' e e' s s' t old old' new at same_end same
-    same' same'' begins added signals =
-    subst (λ (xs : List ℕ). OnOk r (Signals text ended stops watches limit e s e' t xs new at)) added
-    (subst (λ (u : State). OnOk r (Signals text ended stops watches limit e u e' t old' new at)) begins
-    (subst (λ (n : ℕ). OnOk r (Signals text ended stops watches n e s' e' t old' new at)) same''
-    (subst (λ (ws : List Watch). OnOk r (Signals text ended stops ws limit' e s' e' t old' new at)) same'
-    (subst (λ (xs : List ℕ). OnOk r (Signals text ended xs watches' limit' e s' e' t old' new at)) same
-    (subst (λ (b : Bool). OnOk r (Signals text b stops' watches' limit' e s' e' t old' new at)) same_end signals)))))
-
--- from the same
-pub resumes_same : {A F : Type 0} (r : Result A F) (rest : List ℕ) (ended ended' : Bool) (stops stops' : List ℕ)
-    (watches watches' : List Watch) (limit limit' : ℕ) (e e' : Recording) (s s' t : State) (old old' new : List ℕ)
-    → ended' ≡ ended → stops' ≡ stops → watches' ≡ watches → limit' ≡ limit → s' ≡ s → old' ≡ old
-    → OnOk r (Resumes rest ended' stops' watches' limit' e s' e' t old' new)
-    → OnOk r (Resumes rest ended stops watches limit e s e' t old new)
-resumes_same r rest ended ended' stops stops' watches watches' limit limit' e e' s s' t old old' new same_end same
-    same' same'' at text resumes =
-    subst (λ (xs : List ℕ). OnOk r (Resumes rest ended stops watches limit e s e' t xs new)) text
-    (subst (λ (u : State). OnOk r (Resumes rest ended stops watches limit e u e' t old' new)) at
-    (subst (λ (n : ℕ). OnOk r (Resumes rest ended stops watches n e s' e' t old' new)) same''
-    (subst (λ (ws : List Watch). OnOk r (Resumes rest ended stops ws limit' e s' e' t old' new)) same'
-    (subst (λ (xs : List ℕ). OnOk r (Resumes rest ended xs watches' limit' e s' e' t old' new)) same
-    (subst (λ (b : Bool). OnOk r (Resumes rest b stops' watches' limit' e s' e' t old' new)) same_end resumes)))))
-
-pub acts_same : {A F : Type 0} (r : Result A F) (actions : List ℕ) (ended ended' : Bool) (stops stops' : List ℕ)
-    (watches watches' : List Watch) (limit limit' : ℕ) (e e' : Recording) (s s' t : State) → ended' ≡ ended
-    → stops' ≡ stops → watches' ≡ watches → limit' ≡ limit → s' ≡ s
-    → OnOk r (Acts actions ended' stops' watches' limit' e s' e' t)
-    → OnOk r (Acts actions ended stops watches limit e s e' t)
-acts_same r actions ended ended' stops stops' watches watches' limit limit' e e' s s' t same_end same same' same''
-    at acts =
-    subst (λ (u : State). OnOk r (Acts actions ended stops watches limit e u e' t)) at
-    (subst (λ (n : ℕ). OnOk r (Acts actions ended stops watches n e s' e' t)) same''
-    (subst (λ (ws : List Watch). OnOk r (Acts actions ended stops ws limit' e s' e' t)) same'
-    (subst (λ (xs : List ℕ). OnOk r (Acts actions ended xs watches' limit' e s' e' t)) same
-    (subst (λ (b : Bool). OnOk r (Acts actions b stops' watches' limit' e s' e' t)) same_end acts))))
 
 -- the first action is a step, or to go on
 acts_so : (action actions : List ℕ) (going : Going) (rest : List ℕ) (ended : Bool) (stops : List ℕ)
@@ -424,20 +344,6 @@ back_to_call stops stops' watches watches' limit s before after t end same same'
     subst (λ (x : BackEnd). GoesBack stops watches limit s before after t x) call
     (same_back stops stops' watches watches' limit s before after t end same same' goes)
 
--- from the same
-pub back_same : (limit : ℕ) (old mid new : SessionState) (e e' : Recording) (s s' t : State)
-    → mid.breaks.stops.items ≡ old.breaks.stops.items → mid.breaks.watches.items ≡ old.breaks.watches.items
-    → mid.history ≡ old.history → s' ≡ s → SessionGoesBack limit mid e s' new e' t → SessionGoesBack limit old e s new e' t
-back_same limit old mid new e e' s s' t same same' history begins goes =
-    subst (λ (u : State). GoesOnBack old.breaks.stops.items old.breaks.watches.items e' t (past (changes new.history) t)
-    limit e u (past (changes old.history) u)) begins
-    (subst (λ (h : History). GoesOnBack old.breaks.stops.items old.breaks.watches.items e' t (past (changes new.history) t)
-    limit e s' (past (changes h) s')) history
-    (subst (λ (ws : List Watch). GoesOnBack old.breaks.stops.items ws e' t (past (changes new.history) t)
-    limit e s' (past (changes mid.history) s')) same'
-    (subst (λ (xs : List ℕ). GoesOnBack xs mid.breaks.watches.items e' t (past (changes new.history) t)
-    limit e s' (past (changes mid.history) s')) same goes)))
-
 -- ---- memory that is changed
 
 -- no digits are no bytes
@@ -464,17 +370,3 @@ sets_by_digits (Ok x) text digits bytes address count s t old new at many same d
           (sets (ap length equal ∙ long ∙ sym many) (subst (λ (xs : List ℕ). 1 ≤ length xs) (sym equal) one)));
     }
 sets_by_digits (Err e) text digits bytes address count s t old new at many same decoded sets = tt
-
--- what is said of what is Ok
-pub when_ok : {A F : Type 0} (P : Type 0) (r : Result A F) (x : A) → r ≡ Ok x → OnOk r P → P
-when_ok P r x ok holds = subst (λ o. OnOk o P) ok holds
-
-pub set_there : {A F : Type 0} (r : Result A F) (x : A) (text text' : List ℕ) (s t t' : State) (old new new' : List ℕ)
-    → r ≡ Ok x → text ≡ text' → t' ≡ t → new' ≡ new
-    → OnOk r ((values : List ℕ) → decode_of (behind 58 text) ≡ Ok values → SetsMemory values text s t old new)
-    → (values : List ℕ) → decode_of (behind 58 text') ≡ Ok values → SetsMemory values text' s t' old new'
-set_there r x text text' s t t' old new new' ok same moved added holds = λ values is.
-    let there = when_ok _ r x ok holds values (ap (λ (ys : List ℕ). decode_of (behind 58 ys)) same ∙ is) in
-    subst (λ (ys : List ℕ). SetsMemory values ys s t' old new') same
-    (subst (λ (u : State). SetsMemory values text s u old new') (sym moved)
-    (subst (λ (ns : List ℕ). SetsMemory values text s t old ns) (sym added) there))

@@ -11,3 +11,4 @@ pub mod Packets
 pub mod Shown
 pub mod Breaks
 pub mod Sessions
+pub mod Answers

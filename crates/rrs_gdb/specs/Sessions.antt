@@ -120,13 +120,14 @@ IsChangeable digits = IsNumber digits × (1 ≤ number digits) × (number digits
 -- `P n=r`: the register of this number is changed to the word that has these four bytes, the lowest
 -- first.
 pub record SetsRegister (text : List ℕ) (s t : State) (old new : List ℕ) : Type 0 where
-  pub set : (bytes : List ℕ) → IsChangeable (before 61 text) → decode_sized (behind 61 text) 4 ≡ Ok bytes
+  pub set : (bytes : List ℕ) → IsChangeable (before 61 text)
+      → decode_sized (behind 61 text) 4 ≡ Ok bytes
       → t ≡ with_register s (number (before 61 text)) (word_at bytes 0)
   pub refused : ¬ (IsChangeable (before 61 text) × IsOk (decode_sized (behind 61 text) 4))
       → IsError old new
 
--- x1 to x31, and the pc, are the words of these bytes, the lowest byte of each first. The first word
--- stands for x0, and counts for nothing.
+-- x1 to x31, and the pc, are the words of these bytes, the lowest byte of each first. The first
+-- word stands for x0, and counts for nothing.
 abbrev pub HasRegisters : List ℕ → State → Type 0
 HasRegisters bytes s = (r : ℕ) → 1 ≤ r → r ≤ 32 → register s r ≡ word_at bytes (4 * r)
 
@@ -134,7 +135,8 @@ HasRegisters bytes s = (r : ℕ) → 1 ≤ r → r ≤ 32 → register s r ≡ w
 pub record SetsRegisters (digits : List ℕ) (s t : State) (old new : List ℕ) : Type 0 where
   pub set : (bytes : List ℕ) → decode_of digits ≡ Ok bytes → length bytes ≡ 132
       → HasRegisters bytes t × MemoryKept s t
-  pub refused : ((bytes : List ℕ) → decode_of digits ≡ Ok bytes → length bytes ≢ 132) → IsError old new
+  pub refused : ((bytes : List ℕ) → decode_of digits ≡ Ok bytes → length bytes ≢ 132)
+      → IsError old new
 
 -- So many bytes from an address on are shown: up to the first that is not mapped, or as many as an
 -- answer has room for.
@@ -163,9 +165,10 @@ pub data SetsBytes (address : ℕ) (values : List ℕ) (s t : State) (old new : 
 
 -- `M addr,length:digits`, and `X addr,length:bytes`: as many values as the length says are to stand
 -- behind the colon, and one at least.
-pub record SetsMemory (values : List ℕ) (text : List ℕ) (s t : State) (old new : List ℕ) : Type 0 where
-  pub set : IsPlace (before 58 text) → length values ≡ length_in (before 58 text) → 1 ≤ length values
-      → SetsBytes (address_in (before 58 text)) values s t old new
+pub record SetsMemory (values : List ℕ) (text : List ℕ) (s t : State) (old new : List ℕ)
+    : Type 0 where
+  pub set : IsPlace (before 58 text) → length values ≡ length_in (before 58 text)
+      → 1 ≤ length values → SetsBytes (address_in (before 58 text)) values s t old new
 
 -- ---- the program goes on
 
@@ -211,7 +214,8 @@ pub data GoesOn (stops : List ℕ) (watches : List Watch) (e' : Recording) (t : 
       → CallStops e m e' t
       → GoesOn stops watches e' t limit e s
   -- a run to a call, the call, and what follows within what is left of the limit
-  Calls : (limit : ℕ) (e : Recording) (s : State) (steps pc : ℕ) (m : State) (d : Recording) (u : State)
+  Calls : (limit : ℕ) (e : Recording) (s : State) (steps pc : ℕ) (m : State)
+      (d : Recording) (u : State)
       → GoesForward stops watches limit s steps (Fault (EnvironmentCall pc)) m
       → CallMade stops e m d u
       → GoesOn stops watches e' t (limit - steps - 1) d u
@@ -230,15 +234,18 @@ GoesOnFrom stops watches limit e s e' t =
     ⊎ ((pc : ℕ) × GoesOnOrStays stops watches limit e (with_pc s pc) e' t)
 
 -- A program that is asked to go on does so. One that has ended stays as it is.
-abbrev pub GoesOnUnless : Bool → List ℕ → List Watch → ℕ → Recording → State → Recording → State → Type 0
+abbrev pub GoesOnUnless : Bool → List ℕ → List Watch → ℕ → Recording → State → Recording → State
+    → Type 0
 GoesOnUnless true stops watches limit e s e' t = (e' ≡ e) × (t ≡ s)
 GoesOnUnless false stops watches limit e s e' t = GoesOn stops watches e' t limit e s
 
 -- `s` and `c`, behind which nothing stands, or the address to go on from
-pub record Resumes (rest : List ℕ) (ended : Bool) (stops : List ℕ) (watches : List Watch) (limit : ℕ)
-    (e : Recording) (s : State) (e' : Recording) (t : State) (old new : List ℕ) : Type 0 where
+pub record Resumes (rest : List ℕ) (ended : Bool) (stops : List ℕ) (watches : List Watch)
+    (limit : ℕ) (e : Recording) (s : State) (e' : Recording) (t : State) (old new : List ℕ)
+    : Type 0 where
   pub here : rest ≡ [] → GoesOnUnless ended stops watches limit e s e' t
-  pub from_address : IsNumber rest → GoesOnUnless ended stops watches limit e (with_pc s (number rest)) e' t
+  pub from_address : IsNumber rest
+      → GoesOnUnless ended stops watches limit e (with_pc s (number rest)) e' t
   pub refused : rest ≢ [] → ¬ IsNumber rest → IsError old new
 
 -- the number of a signal
@@ -247,9 +254,9 @@ IsSignal digits = IsNumber digits × (number digits ≤ 255)
 
 -- `S` and `C`: a signal, behind which nothing stands, or a semicolon and the address to go on from.
 -- Signal 0 is none. By another one the program ends, where it is.
-pub record Signals (text : List ℕ) (ended : Bool) (stops : List ℕ) (watches : List Watch) (limit : ℕ)
-    (e : Recording) (s : State) (e' : Recording) (t : State) (old new : List ℕ) (at : Stop)
-    : Type 0 where
+pub record Signals (text : List ℕ) (ended : Bool) (stops : List ℕ) (watches : List Watch)
+    (limit : ℕ) (e : Recording) (s : State) (e' : Recording) (t : State) (old new : List ℕ)
+    (at : Stop) : Type 0 where
   pub none : IsNumber (before 59 text) → number (before 59 text) ≡ 0
       → Resumes (behind 59 text) ended stops watches limit e s e' t old new
   pub kills : IsSignal (before 59 text) → 1 ≤ number (before 59 text) → behind 59 text ≡ []
@@ -261,8 +268,8 @@ abbrev pub first_action : List ℕ → List ℕ
 first_action actions = before 58 (before 59 actions)
 
 -- `vCont;actions`: the first action counts.
-pub record Acts (actions : List ℕ) (ended : Bool) (stops : List ℕ) (watches : List Watch) (limit : ℕ)
-    (e : Recording) (s : State) (e' : Recording) (t : State) : Type 0 where
+pub record Acts (actions : List ℕ) (ended : Bool) (stops : List ℕ) (watches : List Watch)
+    (limit : ℕ) (e : Recording) (s : State) (e' : Recording) (t : State) : Type 0 where
   pub step : first_action actions ≡ 115 ∷ [] → GoesOnUnless ended stops watches 1 e s e' t
   pub goes_on : first_action actions ≡ 99 ∷ [] → GoesOnUnless ended stops watches limit e s e' t
 
@@ -274,8 +281,8 @@ pub record CallTakenBack (e e' : Recording) : Type 0 where
   pub errors_kept : e'.errors ≡ e.errors
   pub held_kept : e'.held ≡ e.held
 
--- From e and s, with the states before it, the program goes back to e' and t, with those before that,
--- within a limit: by runs back up to stops and watchpoints, and over the calls between them.
+-- From e and s, with the states before it, the program goes back to e' and t, with those before
+-- that, within a limit: by runs back up to stops and watchpoints, and over the calls between them.
 pub data GoesOnBack (stops : List ℕ) (watches : List Watch) (e' : Recording) (t : State)
     (after : List State) : ℕ → Recording → State → List State → Type 0 where
   -- a run back, to no call
@@ -305,7 +312,8 @@ SessionGoesBack limit old e s new e' t =
 -- ---- of the code
 
 -- What comes of going on so. A program that is killed is left as it is.
-abbrev pub GoesBy : Going → Bool → List ℕ → List Watch → ℕ → Recording → State → Recording → State → Type 0
+abbrev pub GoesBy : Going → Bool → List ℕ → List Watch → ℕ → Recording → State → Recording → State
+    → Type 0
 GoesBy Step ended stops watches limit e s e' t = GoesOnUnless ended stops watches 1 e s e' t
 GoesBy Proceed ended stops watches limit e s e' t = GoesOnUnless ended stops watches limit e s e' t
 GoesBy (Killed signal) ended stops watches limit e s e' t = (e' ≡ e) × (t ≡ s)

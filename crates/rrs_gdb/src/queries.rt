@@ -178,22 +178,22 @@ pub(crate) fn query(
     alloc: Global,
     state: &mut SessionState<'_>,
     reply: &mut Vec<u8>,
-    asked: &[u8],
+    payload: &[u8],
 ) -> Result<(), AllocError>
     ensures { BreaksKept state.old state.new }
 {
-    if let Some(asked) = behind(asked, b"Xfer:") {
+    if let Some(asked) = behind(payload, b"qXfer:") {
         return transfer(state, reply, asked);
     }
-    if let Some(digits) = behind(asked, b"Rcmd,") {
+    if let Some(digits) = behind(payload, b"qRcmd,") {
         return command(alloc, state, reply, digits);
     }
-    match cut_or_all(asked, b':').0 {
-        b"Supported" => push_text(reply, SUPPORTED),
-        b"Attached" => push_text(reply, if state.is_extended { b"0" } else { b"1" }),
-        b"C" => push_text(reply, b"QC1"),
-        b"fThreadInfo" => push_text(reply, b"m1"),
-        b"sThreadInfo" => push_text(reply, b"l"),
+    match cut_or_all(payload, b':').0 {
+        b"qSupported" => push_text(reply, SUPPORTED),
+        b"qAttached" => push_text(reply, if state.is_extended { b"0" } else { b"1" }),
+        b"qC" => push_text(reply, b"QC1"),
+        b"qfThreadInfo" => push_text(reply, b"m1"),
+        b"qsThreadInfo" => push_text(reply, b"l"),
         _ => Ok(()),
     }
 }

@@ -1,12 +1,13 @@
 //! The packets of a session, and their answers.
 
-ghost use Rattle.std.specs.Prelude.{◌≡◌, ◌≢◌, ◌⊎◌, ◌∷◌, ◌++◌, [], ℕ, ◌≤◌, ◌-◌, ◌^◌, Bool, List, Ok, IsOk, IsTrue, IfOk, IfSome, IfNone, MatchOption, OnOk, drop, length, slice_index};
+ghost use Rattle.std.specs.Prelude.{◌≡◌, ◌≢◌, ◌⊎◌, ◌∷◌, ◌++◌, [], ℕ, ◌<◌, ◌≤◌, ◌-◌, ◌^◌, Bool, List, Ok, IsOk, IsTrue, IfOk, IfSome, IfNone, MatchOption, OnOk, drop, length, slice_index};
 ghost use Rattle.std.specs.Bool.{OnTrue, OnFalse};
 ghost use Rattle.hex.specs.Hex.{decode_of, decode_sized};
 ghost use Rattle.rrs_lib.specs.Bytes.{ByteMap};
 ghost use Rattle.rrs_lib.specs.Machine.{state_of};
 ghost use Rattle.rrs_lib.specs.Executor.{state_in};
 ghost use Rattle.rrs_gdb.specs.declared.session.Going.{Going};
+ghost use Rattle.rrs_gdb.specs.Answers.{BeginsBy, Goes, HasSubject, IsDone, Leaves, Means, Sets, Shows, moment};
 ghost use Rattle.rrs_gdb.specs.Sessions.{letter, Acts, BreaksKept, BySignal, EndsBy, HasNoSignal, HasSignal, IsSignal, Signals, BreaksNone, GoesBy, GoesOnFrom, GoesOnOrStays, HasAction, HasLetter, HasRegisters, Resumes, SetsRegisters, has_ended, ChangesMemory, ChangesNone, ChangesRegister, IsError, MemoryKept, PlacesKept, RegistersKept, RunsNone, SessionGoesBack, SessionKept, SettingsKept, IsChangeable, SetsBytes, SetsMemory, SetsRegister, ShowsBytes, ShowsMemory, ShowsRegister};
 ghost use Rattle.rrs_gdb.specs.Packets.{IsNumber, number, before, behind};
 ghost use Rattle.rrs_gdb.specs.Shown.{registers_text, text_of, with_register, word_at};
@@ -60,6 +61,27 @@ enum Going {
     Proceed,
     /// It gets this signal.
     Killed(u8),
+}
+
+/// What a packet is about, by its letter.
+#[derive(Clone, Copy)]
+enum Subject {
+    /// `g`, `p` and `m`: the machine is shown.
+    Shown,
+    /// `G`, `P`, `M` and `X`: the machine is changed.
+    Changed,
+    /// `c`, `C`, `s` and `S`: the program goes on.
+    Run,
+    /// `v`: what its name says.
+    Named,
+    /// `b`: the program goes back.
+    Back,
+    /// `Z` and `z`: breakpoints and watchpoints.
+    Breaks,
+    /// `q`: questions, and settings.
+    Query,
+    /// Another letter: the session.
+    Session,
 }
 
 /// Appends the answer of a change that is done, or can't be.
@@ -341,81 +363,91 @@ fn change_by_bytes<M: Memory>(
     change_memory(executor, reply, address, length, bytes)
 }
 
-/// Answers a packet that shows or changes the machine, and tells whether it is one.
-fn inspect<M: Memory>(
+/// `g`, `p` and `m`: shows the machine.
+fn show<M: Memory>(
     alloc: Global,
-    state: &mut SessionState<'_>,
+    executor: &mut InstructionExecutor<M>,
+    reply: &mut Vec<u8>,
+    payload: &[u8],
+) -> Result<(), AllocError>
+    ensures kept { state_in M.bytes M.writable executor.new
+        ≡ state_in M.bytes M.writable executor.old }
+    ensures shown { OnOk result (Shows payload.now (state_in M.bytes M.writable executor.old)
+        reply.old.items reply.new.items) }
+{
+    match payload {
+        [b'g'] => push_registers(executor.hart_state, reply),
+        [b'p', digits @ ..] => show_register(executor.hart_state, reply, digits),
+        [b'm', place @ ..] => show_memory(alloc, executor, reply, place),
+        _ => Ok(()),
+    }
+}
+
+/// `G`, `P`, `M` and `X`: changes the machine, and tells whether it is changed.
+fn change<M: Memory>(
+    alloc: Global,
     executor: &mut InstructionExecutor<M>,
     reply: &mut Vec<u8>,
     payload: &[u8],
 ) -> Result<bool, AllocError>
-    ensures places { PlacesKept state.old state.new }
-    ensures asks { ChangesNone payload.now
-        → (state_in M.bytes M.writable executor.new ≡ state_in M.bytes M.writable executor.old)
-        × SessionKept state.old state.new }
     ensures registers { ChangesRegister payload.now
         → MemoryKept (state_in M.bytes M.writable executor.old)
         (state_in M.bytes M.writable executor.new) }
     ensures memory { ChangesMemory payload.now
         → RegistersKept (state_in M.bytes M.writable executor.old)
         (state_in M.bytes M.writable executor.new) }
-    ensures error { OnOk result (IsError reply.old.items reply.new.items
-        → (state_in M.bytes M.writable executor.new ≡ state_in M.bytes M.writable executor.old)
-        × SessionKept state.old state.new) }
-    ensures other { IfOk result (λ is_answered. OnFalse is_answered
-        ((reply.new.items ≡ reply.old.items)
-        × (state_in M.bytes M.writable executor.new ≡ state_in M.bytes M.writable executor.old)
-        × SessionKept state.old state.new)) }
-    ensures ended { has_ended state.new ≡ has_ended state.old }
-    ensures runs { IfOk result (λ is_answered. OnTrue is_answered (RunsNone payload.now)) }
-    ensures g { payload.now ≡ 103 ∷ [] → IfOk result (λ is_answered. IsTrue is_answered
-        × (reply.new.items ≡ reply.old.items
-        ++ registers_text (state_in M.bytes M.writable executor.old))) }
-    ensures set_g { letter payload.now ≡ 71 → IfOk result (λ is_answered. IsTrue is_answered
-        × SetsRegisters (drop 1 payload.now) (state_in M.bytes M.writable executor.old)
-        (state_in M.bytes M.writable executor.new) reply.old.items reply.new.items) }
-    ensures p { letter payload.now ≡ 112 → IfOk result (λ is_answered. IsTrue is_answered
-        × ShowsRegister (drop 1 payload.now) (state_in M.bytes M.writable executor.old)
+    ensures done { IfOk result (λ changed. IsDone changed
+        (state_in M.bytes M.writable executor.old) (state_in M.bytes M.writable executor.new)
         reply.old.items reply.new.items) }
-    ensures set_p { letter payload.now ≡ 80 → IfOk result (λ is_answered. IsTrue is_answered
-        × SetsRegister (drop 1 payload.now) (state_in M.bytes M.writable executor.old)
-        (state_in M.bytes M.writable executor.new) reply.old.items reply.new.items) }
-    ensures m { letter payload.now ≡ 109 → IfOk result (λ is_answered. IsTrue is_answered
-        × ShowsMemory (drop 1 payload.now) (state_in M.bytes M.writable executor.old)
-        reply.old.items reply.new.items) }
-    ensures set_m { letter payload.now ≡ 77 → IfOk result (λ is_answered. IsTrue is_answered
-        × ((values : List ℕ) → decode_of (behind 58 (drop 1 payload.now)) ≡ Ok values
-        → SetsMemory values (drop 1 payload.now) (state_in M.bytes M.writable executor.old)
-        (state_in M.bytes M.writable executor.new) reply.old.items reply.new.items)) }
-    ensures set_x { letter payload.now ≡ 88 → IfOk result (λ is_answered. IsTrue is_answered
-        × SetsMemory (behind 58 (drop 1 payload.now)) (drop 1 payload.now)
+    ensures sets { OnOk result (Sets payload.now
         (state_in M.bytes M.writable executor.old) (state_in M.bytes M.writable executor.new)
         reply.old.items reply.new.items) }
 {
-    let mut is_changed = false;
     match payload {
-        [b'g'] => push_registers(executor.hart_state, reply)?,
-        [b'p', digits @ ..] => show_register(executor.hart_state, reply, digits)?,
-        [b'G', digits @ ..] => is_changed = set_registers(alloc, executor, reply, digits)?,
-        [b'P', text @ ..] => is_changed = set_register(executor, reply, text)?,
-        [b'm', place @ ..] => show_memory(alloc, executor, reply, place)?,
-        [b'M', text @ ..] => is_changed = change_by_digits(alloc, executor, reply, text)?,
-        [b'X', text @ ..] => is_changed = change_by_bytes(executor, reply, text)?,
-        _ => return Ok(false),
+        [b'G', digits @ ..] => set_registers(alloc, executor, reply, digits),
+        [b'P', text @ ..] => set_register(executor, reply, text),
+        [b'M', text @ ..] => change_by_digits(alloc, executor, reply, text),
+        [b'X', text @ ..] => change_by_bytes(executor, reply, text),
+        _ => Ok(false),
     }
-    if is_changed {
-        state.forget();
-    }
-    Ok(true)
 }
 
-/// The kind, the address and the length of a breakpoint or a watchpoint: behind `Z` or `z`.
-fn break_of(text: &[u8]) -> Option<(u8, u32, u32)> {
-    let (kind, place) = cut(text, b',')?;
+/// The same, and behind a change the history is forgotten.
+fn alter<M: Memory>(
+    alloc: Global,
+    state: &mut SessionState<'_>,
+    executor: &mut InstructionExecutor<M>,
+    reply: &mut Vec<u8>,
+    payload: &[u8],
+) -> Result<(), AllocError>
+    ensures places { PlacesKept state.old state.new }
+    ensures registers { ChangesRegister payload.now
+        → MemoryKept (state_in M.bytes M.writable executor.old)
+        (state_in M.bytes M.writable executor.new) }
+    ensures memory { ChangesMemory payload.now
+        → RegistersKept (state_in M.bytes M.writable executor.old)
+        (state_in M.bytes M.writable executor.new) }
+    ensures sets { OnOk result (Sets payload.now
+        (state_in M.bytes M.writable executor.old) (state_in M.bytes M.writable executor.new)
+        reply.old.items reply.new.items) }
+    ensures error { OnOk result (IsError reply.old.items reply.new.items
+        → (state_in M.bytes M.writable executor.new ≡ state_in M.bytes M.writable executor.old)
+        × SessionKept state.old state.new) }
+{
+    if !change(alloc, executor, reply, payload)? {
+        return Ok(());
+    }
+    state.forget();
+    Ok(())
+}
+
+/// Whether a breakpoint or a watchpoint is set, its kind, its address and its length.
+fn break_of(payload: &[u8]) -> Option<(bool, u8, u32, u32)> {
+    let (kind, place) = cut(payload, b',')?;
     let (place, _conditions) = cut_or_all(place, b';');
     let (address, length) = address_and_length(place)?;
     match kind {
-        [kind @ b'0'..=b'4'] => Some((*kind, address, length)),
+        [letter, kind @ b'0'..=b'4'] => Some((*letter == b'Z', *kind, address, length)),
         _ => None,
     }
 }
@@ -435,12 +467,12 @@ fn watch_of(kind: u8, address: u32, length: u32) -> Watch {
 }
 
 /// `Z` and `z`: sets or removes a breakpoint or a watchpoint.
-fn change_breaks(state: &mut SessionState<'_>, is_set: bool, text: &[u8]) -> &'static [u8]
+fn change_breaks(state: &mut SessionState<'_>, payload: &[u8]) -> &'static [u8]
     ensures settings { SettingsKept state.old state.new }
     ensures error { slice_index result.now 0 ≡ 69 → BreaksKept state.old state.new }
     ensures reply { 1 ≤ length result.now }
 {
-    let Some((kind, address, length)) = break_of(text) else {
+    let Some((is_set, kind, address, length)) = break_of(payload) else {
         return INVALID;
     };
     let breaks = &mut state.breaks;
@@ -528,6 +560,41 @@ fn go<M: Memory, G: StopRunner<M>, R: Read, W: Write>(
     Ok(Next::Reply)
 }
 
+/// Answers that a packet can't be understood.
+fn refuse(reply: &mut Vec<u8>) -> Result<Next, LinkError>
+    ensures { OnOk result (IsError reply.old.items reply.new.items) }
+{
+    push_invalid(reply)?;
+    Ok(Next::Reply)
+}
+
+/// Sets the pc to the address to go on from, if something stands there, and tells whether that is an
+/// address.
+fn begin_at<M: Memory>(
+    state: &mut SessionState<'_>,
+    executor: &mut InstructionExecutor<M>,
+    address: &[u8],
+) -> bool
+    ensures places { PlacesKept state.old state.new }
+    ensures ended { has_ended state.new ≡ has_ended state.old }
+    ensures begins { OnTrue result (BeginsBy address.now
+        (state_in M.bytes M.writable executor.old) (state_in M.bytes M.writable executor.new)) }
+    ensures none { OnFalse result ((0 < length address.now) × ¬ IsNumber address.now) }
+    ensures kept { OnFalse result
+        ((state_in M.bytes M.writable executor.new ≡ state_in M.bytes M.writable executor.old)
+        × SessionKept state.old state.new) }
+{
+    if address.is_empty() {
+        return true;
+    }
+    let Some(address) = number_of(address) else {
+        return false;
+    };
+    executor.hart_state.pc = address;
+    state.forget();
+    true
+}
+
 /// `c`, `C`, `s` and `S`: has the program go on, from an address if there is one.
 fn go_from<M: Memory, G: StopRunner<M>, R: Read, W: Write>(
     runner: &mut G,
@@ -542,48 +609,17 @@ fn go_from<M: Memory, G: StopRunner<M>, R: Read, W: Write>(
     ensures error { OnOk result (IsError reply.old.items reply.new.items
         → (state_in M.bytes M.writable executor.new ≡ state_in M.bytes M.writable executor.old)
         × (environment.new ≡ environment.old) × SessionKept state.old state.new) }
-    ensures step { (letter payload.now ≡ 115) ⊎ (letter payload.now ≡ 83)
-        → OnOk result (GoesOnFrom state.old.breaks.stops.items
-        state.old.breaks.watches.items 1
-        environment.old (state_in M.bytes M.writable executor.old)
-        environment.new (state_in M.bytes M.writable executor.new)) }
-    ensures goes_on { (letter payload.now ≡ 99) ⊎ (letter payload.now ≡ 67)
-        → OnOk result (GoesOnFrom state.old.breaks.stops.items
-        state.old.breaks.watches.items state.old.settings.limit
-        environment.old (state_in M.bytes M.writable executor.old)
-        environment.new (state_in M.bytes M.writable executor.new)) }
-    ensures steps { letter payload.now ≡ 115 → OnOk result (Resumes (drop 1 payload.now)
-        (has_ended state.old) state.old.breaks.stops.items state.old.breaks.watches.items 1
-        environment.old (state_in M.bytes M.writable executor.old)
-        environment.new (state_in M.bytes M.writable executor.new)
-        reply.old.items reply.new.items) }
-    ensures continues { letter payload.now ≡ 99 → OnOk result (Resumes (drop 1 payload.now)
-        (has_ended state.old) state.old.breaks.stops.items state.old.breaks.watches.items
-        state.old.settings.limit environment.old (state_in M.bytes M.writable executor.old)
-        environment.new (state_in M.bytes M.writable executor.new)
-        reply.old.items reply.new.items) }
-    ensures step_signal { letter payload.now ≡ 83 → OnOk result (Signals (drop 1 payload.now)
-        (has_ended state.old) state.old.breaks.stops.items state.old.breaks.watches.items 1
-        environment.old (state_in M.bytes M.writable executor.old)
-        environment.new (state_in M.bytes M.writable executor.new)
-        reply.old.items reply.new.items state.new.stop) }
-    ensures signal { letter payload.now ≡ 67 → OnOk result (Signals (drop 1 payload.now)
-        (has_ended state.old) state.old.breaks.stops.items state.old.breaks.watches.items
-        state.old.settings.limit environment.old (state_in M.bytes M.writable executor.old)
-        environment.new (state_in M.bytes M.writable executor.new)
-        reply.old.items reply.new.items state.new.stop) }
+    ensures goes { OnOk result (Goes payload.now
+        (moment state.old environment.old (state_in M.bytes M.writable executor.old)
+        reply.old.items)
+        (moment state.new environment.new (state_in M.bytes M.writable executor.new)
+        reply.new.items)) }
 {
     let Some((going, address)) = going_of(payload) else {
-        push_invalid(reply)?;
-        return Ok(Next::Reply);
+        return refuse(reply);
     };
-    if !address.is_empty() {
-        let Some(address) = number_of(address) else {
-            push_invalid(reply)?;
-            return Ok(Next::Reply);
-        };
-        executor.hart_state.pc = address;
-        state.forget();
+    if !begin_at(state, executor, address) {
+        return refuse(reply);
     }
     go(runner, state, executor, environment, link, reply, going)
 }
@@ -615,10 +651,7 @@ fn go_on<M: Memory, G: StopRunner<M>, R: Read, W: Write>(
     let (action, _thread) = cut_or_all(action, b':');
     match going_of(action) {
         Some((going, [])) => go(runner, state, executor, environment, link, reply, going),
-        _ => {
-            push_text(reply, INVALID)?;
-            Ok(Next::Reply)
-        }
+        _ => refuse(reply),
     }
 }
 
@@ -660,15 +693,39 @@ fn run_again(
     Ok(Next::Restart)
 }
 
+/// `vRun`, `vCont?` and `vKill`.
+fn ask(
+    alloc: Global,
+    state: &mut SessionState<'_>,
+    reply: &mut Vec<u8>,
+    payload: &[u8],
+) -> Result<Next, AllocError>
+    ensures { SessionKept state.old state.new }
+{
+    if let Some(words) = behind(payload, b"vRun;") {
+        return run_again(alloc, state, reply, words);
+    }
+    if payload == b"vCont?".as_slice() {
+        push_text(reply, b"vCont;c;C;s;S")?;
+    }
+    if behind(payload, b"vKill").is_some() {
+        push_text(reply, b"OK")?;
+        if !state.is_extended {
+            return Ok(Next::ReplyAndEnd);
+        }
+    }
+    Ok(Next::Reply)
+}
+
 /// Answers a packet that begins with `v`.
-fn multiletter<M: Memory, G: StopRunner<M>, R: Read, W: Write>(
+fn act<M: Memory, G: StopRunner<M>, R: Read, W: Write>(
     runner: &mut G,
     state: &mut SessionState<'_>,
     executor: &mut InstructionExecutor<M>,
     environment: &mut OutputRecorder<'_>,
     link: &mut Link<R, W>,
     reply: &mut Vec<u8>,
-    text: &[u8],
+    payload: &[u8],
 ) -> Result<Next, LinkError>
     ensures places { PlacesKept state.old state.new }
     ensures error { OnOk result (IsError reply.old.items reply.new.items
@@ -678,28 +735,16 @@ fn multiletter<M: Memory, G: StopRunner<M>, R: Read, W: Write>(
         state.old.breaks.watches.items limit
         environment.old (state_in M.bytes M.writable executor.old)
         environment.new (state_in M.bytes M.writable executor.new)) }
-    ensures acts { (actions : List ℕ) → text.now ≡ 67 ∷ 111 ∷ 110 ∷ 116 ∷ 59 ∷ actions
+    ensures acts { (actions : List ℕ) → payload.now ≡ 118 ∷ 67 ∷ 111 ∷ 110 ∷ 116 ∷ 59 ∷ actions
         → OnOk result (Acts actions (has_ended state.old)
         state.old.breaks.stops.items state.old.breaks.watches.items state.old.settings.limit
         environment.old (state_in M.bytes M.writable executor.old)
         environment.new (state_in M.bytes M.writable executor.new)) }
 {
-    if let Some(actions) = behind(text, b"Cont;") {
+    if let Some(actions) = behind(payload, b"vCont;") {
         return go_on(runner, state, executor, environment, link, reply, actions);
     }
-    if let Some(words) = behind(text, b"Run;") {
-        return Ok(run_again(link.alloc, state, reply, words)?);
-    }
-    if text == b"Cont?".as_slice() {
-        push_text(reply, b"vCont;c;C;s;S")?;
-    }
-    if behind(text, b"Kill").is_some() {
-        push_text(reply, b"OK")?;
-        if !state.is_extended {
-            return Ok(Next::ReplyAndEnd);
-        }
-    }
-    Ok(Next::Reply)
+    Ok(ask(link.alloc, state, reply, payload)?)
 }
 
 /// Answers a packet that begins with `Q`.
@@ -729,20 +774,20 @@ fn reverse<'a, M: Memory>(
     executor: &mut InstructionExecutor<M>,
     environment: &mut OutputRecorder<'a>,
     reply: &mut Vec<u8>,
-    text: &[u8],
+    payload: &[u8],
 ) -> Result<(), AllocError>
     ensures places { PlacesKept state.old state.new }
     ensures error { OnOk result (IsError reply.old.items reply.new.items → ⊥) }
-    ensures step { text.now ≡ 115 ∷ [] → SessionGoesBack 1
+    ensures step { payload.now ≡ 98 ∷ 115 ∷ [] → SessionGoesBack 1
         state.old environment.old (state_in M.bytes M.writable executor.old)
         state.new environment.new (state_in M.bytes M.writable executor.new) }
-    ensures goes_back { text.now ≡ 99 ∷ [] → SessionGoesBack (2 ^ 64 - 1)
+    ensures goes_back { payload.now ≡ 98 ∷ 99 ∷ [] → SessionGoesBack (2 ^ 64 - 1)
         state.old environment.old (state_in M.bytes M.writable executor.old)
         state.new environment.new (state_in M.bytes M.writable executor.new) }
 {
-    match text {
-        b"s" => step_backward(state, executor, environment),
-        b"c" => go_backward(state, executor, environment),
+    match payload {
+        b"bs" => step_backward(state, executor, environment),
+        b"bc" => go_backward(state, executor, environment),
         _ => return Ok(()),
     }
     push_stop(alloc, reply, state.stop)
@@ -755,10 +800,7 @@ fn manage<R, W>(
     reply: &mut Vec<u8>,
     payload: &[u8],
 ) -> Result<Next, AllocError>
-    ensures breaks { BreaksNone payload.now → BreaksKept state.old state.new }
-    ensures settings { letter payload.now ≢ 113 → SettingsKept state.old state.new }
-    ensures error { letter payload.now ≢ 113 → OnOk result
-        (IsError reply.old.items reply.new.items → SessionKept state.old state.new) }
+    ensures { SessionKept state.old state.new }
 {
     match payload {
         [b'?'] => push_stop(link.alloc, reply, state.stop)?,
@@ -767,9 +809,6 @@ fn manage<R, W>(
             push_text(reply, b"OK")?;
         }
         [b'H' | b'T', ..] => push_text(reply, b"OK")?,
-        [b'Z', text @ ..] => push_text(reply, change_breaks(state, true, text))?,
-        [b'z', text @ ..] => push_text(reply, change_breaks(state, false, text))?,
-        [b'q', text @ ..] => query(link.alloc, state, reply, text)?,
         [b'Q', text @ ..] => set(state, link, reply, text)?,
         [b'D', ..] => {
             push_text(reply, b"OK")?;
@@ -780,6 +819,66 @@ fn manage<R, W>(
         _ => {}
     }
     Ok(Next::Reply)
+}
+
+/// What a packet is about.
+fn subject_of(payload: &[u8]) -> Subject
+    ensures { HasSubject payload.now result }
+{
+    match payload {
+        [b'g' | b'p' | b'm', ..] => Subject::Shown,
+        [b'G' | b'P' | b'M' | b'X', ..] => Subject::Changed,
+        [b'c' | b'C' | b's' | b'S', ..] => Subject::Run,
+        [b'v', ..] => Subject::Named,
+        [b'b', ..] => Subject::Back,
+        [b'Z' | b'z', ..] => Subject::Breaks,
+        [b'q', ..] => Subject::Query,
+        _ => Subject::Session,
+    }
+}
+
+/// What follows an answer that is whole.
+fn reply_behind(answered: Result<(), AllocError>) -> Result<Next, LinkError>
+    ensures { OnOk result (IsOk answered) }
+{
+    answered?;
+    Ok(Next::Reply)
+}
+
+/// Answers a packet by its subject.
+fn answer_by_subject<'a, M: Memory, G: StopRunner<M>, R: Read, W: Write>(
+    runner: &mut G,
+    state: &mut SessionState<'a>,
+    executor: &mut InstructionExecutor<M>,
+    environment: &mut OutputRecorder<'a>,
+    link: &mut Link<R, W>,
+    reply: &mut Vec<u8>,
+    payload: &[u8],
+) -> Result<Next, LinkError>
+    ensures leaves { Leaves payload.now
+        (moment state.old environment.old (state_in M.bytes M.writable executor.old)
+        reply.old.items)
+        (moment state.new environment.new (state_in M.bytes M.writable executor.new)
+        reply.new.items) }
+    ensures means { OnOk result (Means payload.now
+        (moment state.old environment.old (state_in M.bytes M.writable executor.old)
+        reply.old.items)
+        (moment state.new environment.new (state_in M.bytes M.writable executor.new)
+        reply.new.items)) }
+{
+    let alloc = link.alloc;
+    match subject_of(payload) {
+        Subject::Shown => reply_behind(show(alloc, executor, reply, payload)),
+        Subject::Changed => reply_behind(alter(alloc, state, executor, reply, payload)),
+        Subject::Run => go_from(runner, state, executor, environment, link, reply, payload),
+        Subject::Named => act(runner, state, executor, environment, link, reply, payload),
+        Subject::Back => {
+            reply_behind(reverse(alloc, state, executor, environment, reply, payload))
+        }
+        Subject::Breaks => reply_behind(push_text(reply, change_breaks(state, payload))),
+        Subject::Query => reply_behind(query(alloc, state, reply, payload)),
+        Subject::Session => Ok(manage(state, link, reply, payload)?),
+    }
 }
 
 /// Answers a packet: the answer is appended to `reply`, and output of the program goes to the link.
@@ -891,20 +990,7 @@ pub fn answer_to<'a, M: Memory, G: StopRunner<M>, R: Read, W: Write>(
         (state_in M.bytes M.writable executor.old) (state_in M.bytes M.writable executor.new)
         reply.old.items reply.new.items) }
 {
-    if inspect(link.alloc, state, executor, reply, payload)? {
-        return Ok(Next::Reply);
-    }
-    match payload {
-        [b'c' | b'C' | b's' | b'S', ..] => {
-            go_from(runner, state, executor, environment, link, reply, payload)
-        }
-        [b'v', text @ ..] => multiletter(runner, state, executor, environment, link, reply, text),
-        [b'b', text @ ..] => {
-            reverse(link.alloc, state, executor, environment, reply, text)?;
-            Ok(Next::Reply)
-        }
-        _ => Ok(manage(state, link, reply, payload)?),
-    }
+    answer_by_subject(runner, state, executor, environment, link, reply, payload)
 }
 
 /// Answers a packet, and tells how the session ends, if it does.

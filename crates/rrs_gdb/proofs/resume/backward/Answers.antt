@@ -1,4 +1,4 @@
-use Rattle.std.proofs.Common.{◌≡◌, ℕ, List, Contains, refl, sym, subst, ◌∙◌, arith}
+use Rattle.std.proofs.Common.{ℕ, List, Contains, refl, sym, subst, ◌∙◌, arith}
 use Rattle.rrs_lib.specs.Executor.{state_in}
 use Rattle.rrs_history.specs.declared.history.History.{History}
 use Rattle.rrs_history.specs.Histories.{changes, past}

@@ -1,58 +1,80 @@
--- The packets by which the program goes on.
-use Rattle.std.proofs.Common.{◌≡◌, ◌-◌, List, ℕ, length, take, drop, refl, ap, ◌∙◌, arith, take_all}
-use Rattle.std.proofs.lemmas.List.{length-drop}
-use Rattle.rrs_gdb.specs.declared.state.Settings.{Settings}
-use Rattle.rrs_gdb.proofs.SessionLemmas.{resumes_same, acts_same, signals_same, back_same}
+-- Each clause is a part of what is said of the answer by its subject.
+use Rattle.rrs_gdb.proofs.AnswerLemmas.{on_means}
 use Rattle.rrs_gdb.proofs.session.answer_to.Goals as goal
 
--- the text behind the letter
-behind_letter : (payload : List ℕ) → take (length payload - 1) (drop 1 payload) ≡ drop 1 payload
-behind_letter payload = take_all (length payload - 1) (drop 1 payload) (omega (arith, length-drop 1 payload))
+pub returns-clause-asks : goal.returns-clause-asks
+returns-clause-asks g c = c.answer_by_subject.ensures.leaves.asks
 
-pub returns-in-99-clause-steps : goal.returns-in-99-clause-steps
-returns-in-99-clause-steps g c = λ is.
-    let other = rw c.if-branch.false at c.in_ok-inspect.ensures.other in
-    resumes_same c.go_from.result _ _ _ _ _ _ _ _ _ _ _ _ _ _ _ _ _ c.inspect.ensures.ended other.2.stops_kept
-    other.2.watches_kept refl other.1 other.0 (c.go_from.ensures.steps is)
+pub returns-clause-registers : goal.returns-clause-registers
+returns-clause-registers g c = c.answer_by_subject.ensures.leaves.registers
 
-pub returns-in-99-clause-continues : goal.returns-in-99-clause-continues
-returns-in-99-clause-continues g c = λ is.
-    let other = rw c.if-branch.false at c.in_ok-inspect.ensures.other in
-    resumes_same c.go_from.result _ _ _ _ _ _ _ _ _ _ _ _ _ _ _ _ _ c.inspect.ensures.ended other.2.stops_kept
-    other.2.watches_kept (ap (λ (x : Settings). x.limit) other.2.settings_kept) other.1 other.0
-    (c.go_from.ensures.continues is)
+pub returns-clause-memory : goal.returns-clause-memory
+returns-clause-memory g c = c.answer_by_subject.ensures.leaves.memory
 
-pub returns-in-118-clause-acts : goal.returns-in-118-clause-acts
-returns-in-118-clause-acts g c = λ actions is.
-    let other = rw c.if-branch.false at c.in_ok-inspect.ensures.other in
-    let text = behind_letter c.args.payload.now ∙ ap (λ (xs : List ℕ). drop 1 xs) is in
-    acts_same c.multiletter.result actions _ _ _ _ _ _ _ _ _ _ _ _ _ c.inspect.ensures.ended other.2.stops_kept
-    other.2.watches_kept (ap (λ (x : Settings). x.limit) other.2.settings_kept) other.1
-    (c.multiletter.ensures.acts actions text)
+pub returns-clause-environment : goal.returns-clause-environment
+returns-clause-environment g c = c.answer_by_subject.ensures.leaves.environment
 
-pub returns-in-99-clause-step_signal : goal.returns-in-99-clause-step_signal
-returns-in-99-clause-step_signal g c = λ is.
-    let other = rw c.if-branch.false at c.in_ok-inspect.ensures.other in
-    signals_same c.go_from.result _ _ _ _ _ _ _ _ _ _ _ _ _ _ _ _ _ _ c.inspect.ensures.ended other.2.stops_kept
-    other.2.watches_kept refl other.1 other.0 (c.go_from.ensures.step_signal is)
+pub returns-clause-breaks : goal.returns-clause-breaks
+returns-clause-breaks g c = c.answer_by_subject.ensures.leaves.breaks
 
-pub returns-in-99-clause-signal : goal.returns-in-99-clause-signal
-returns-in-99-clause-signal g c = λ is.
-    let other = rw c.if-branch.false at c.in_ok-inspect.ensures.other in
-    signals_same c.go_from.result _ _ _ _ _ _ _ _ _ _ _ _ _ _ _ _ _ _ c.inspect.ensures.ended other.2.stops_kept
-    other.2.watches_kept (ap (λ (x : Settings). x.limit) other.2.settings_kept) other.1 other.0
-    (c.go_from.ensures.signal is)
+pub returns-clause-settings : goal.returns-clause-settings
+returns-clause-settings g c = c.answer_by_subject.ensures.leaves.settings
 
-pub returns-in_ok-reverse-in-98-clause-steps_back : goal.returns-in_ok-reverse-in-98-clause-steps_back
-returns-in_ok-reverse-in-98-clause-steps_back g c = λ is.
-    let other = rw c.if-branch.false at c.in_ok-inspect.ensures.other in
-    let text = behind_letter c.args.payload.now ∙ ap (λ (xs : List ℕ). drop 1 xs) is in
-    back_same _ c.args.state.now c.inspect.new.state c.reverse.new.state _ _ _ _ _ other.2.stops_kept other.2.watches_kept other.2.history_kept other.1
-    (c.reverse.ensures.step text)
+pub returns-clause-history : goal.returns-clause-history
+returns-clause-history g c = c.answer_by_subject.ensures.leaves.history
 
-pub returns-in_ok-reverse-in-98-clause-goes_back : goal.returns-in_ok-reverse-in-98-clause-goes_back
-returns-in_ok-reverse-in-98-clause-goes_back g c = λ is.
-    let other = rw c.if-branch.false at c.in_ok-inspect.ensures.other in
-    let text = behind_letter c.args.payload.now ∙ ap (λ (xs : List ℕ). drop 1 xs) is in
-    back_same _ c.args.state.now c.inspect.new.state c.reverse.new.state _ _ _ _ _ other.2.stops_kept other.2.watches_kept other.2.history_kept other.1
-    (c.reverse.ensures.goes_back text)
+pub returns-clause-step : goal.returns-clause-step
+returns-clause-step g c = λ is. on_means _ _ _ _ c.answer_by_subject.ensures.means (λ m. m.goes.step is)
+
+pub returns-clause-goes_on : goal.returns-clause-goes_on
+returns-clause-goes_on g c = λ is. on_means _ _ _ _ c.answer_by_subject.ensures.means (λ m. m.goes.goes_on is)
+
+pub returns-clause-steps : goal.returns-clause-steps
+returns-clause-steps g c = λ is. on_means _ _ _ _ c.answer_by_subject.ensures.means (λ m. m.goes.steps is)
+
+pub returns-clause-continues : goal.returns-clause-continues
+returns-clause-continues g c = λ is. on_means _ _ _ _ c.answer_by_subject.ensures.means (λ m. m.goes.continues is)
+
+pub returns-clause-step_signal : goal.returns-clause-step_signal
+returns-clause-step_signal g c = λ is. on_means _ _ _ _ c.answer_by_subject.ensures.means (λ m. m.goes.step_signal is)
+
+pub returns-clause-signal : goal.returns-clause-signal
+returns-clause-signal g c = λ is. on_means _ _ _ _ c.answer_by_subject.ensures.means (λ m. m.goes.signal is)
+
+pub returns-clause-resumes : goal.returns-clause-resumes
+returns-clause-resumes g c = λ is. on_means _ _ _ _ c.answer_by_subject.ensures.means (λ m. m.acts.goes_on is)
+
+pub returns-clause-steps_back : goal.returns-clause-steps_back
+returns-clause-steps_back g c = λ is. on_means _ _ _ _ c.answer_by_subject.ensures.means (λ m. m.returns.step is)
+
+pub returns-clause-goes_back : goal.returns-clause-goes_back
+returns-clause-goes_back g c = λ is. on_means _ _ _ _ c.answer_by_subject.ensures.means (λ m. m.returns.goes_back is)
+
+pub returns-clause-shows_registers : goal.returns-clause-shows_registers
+returns-clause-shows_registers g c = λ is. on_means _ _ _ _ c.answer_by_subject.ensures.means (λ m. m.shows.registers is)
+
+pub returns-clause-sets_registers : goal.returns-clause-sets_registers
+returns-clause-sets_registers g c = λ is. on_means _ _ _ _ c.answer_by_subject.ensures.means (λ m. m.sets.registers is)
+
+pub returns-clause-shows_register : goal.returns-clause-shows_register
+returns-clause-shows_register g c = λ is. on_means _ _ _ _ c.answer_by_subject.ensures.means (λ m. m.shows.register is)
+
+pub returns-clause-sets_register : goal.returns-clause-sets_register
+returns-clause-sets_register g c = λ is. on_means _ _ _ _ c.answer_by_subject.ensures.means (λ m. m.sets.register is)
+
+pub returns-clause-shows_memory : goal.returns-clause-shows_memory
+returns-clause-shows_memory g c = λ is. on_means _ _ _ _ c.answer_by_subject.ensures.means (λ m. m.shows.memory is)
+
+pub returns-clause-sets_memory : goal.returns-clause-sets_memory
+returns-clause-sets_memory g c = λ is. on_means _ _ _ _ c.answer_by_subject.ensures.means (λ m. m.sets.memory is)
+
+pub returns-clause-sets_bytes : goal.returns-clause-sets_bytes
+returns-clause-sets_bytes g c = λ is. on_means _ _ _ _ c.answer_by_subject.ensures.means (λ m. m.sets.bytes is)
+
+pub returns-clause-acts : goal.returns-clause-acts
+returns-clause-acts g c = λ actions is. on_means _ _ _ _ c.answer_by_subject.ensures.means (λ m. m.acts.acts actions is)
+
+pub returns-clause-error : goal.returns-clause-error
+returns-clause-error g c = λ other. on_means _ _ _ _ c.answer_by_subject.ensures.means (λ m error.
+    let stays = m.error other error in
+    (stays.state_kept, stays.environment_kept, stays.session_kept))

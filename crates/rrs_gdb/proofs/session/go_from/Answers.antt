@@ -1,56 +1,30 @@
-use Rattle.std.proofs.Common.{ap, inl, inr, ◌∙◌}
+use Rattle.std.proofs.Common.{refl}
+use Rattle.std.proofs.lemmas.Bool.{OnFalse_at}
 use Rattle.rrs_lib.specs.Executor.{state_in}
-use Rattle.rrs_gdb.specs.declared.state.SessionState.{SessionState}
-use Rattle.rrs_gdb.specs.declared.state.Settings.{Settings}
-use Rattle.rrs_gdb.specs.Sessions.{has_ended}
-use Rattle.rrs_gdb.proofs.SessionLemmas.{step_from, go_from, goes_same}
+use Rattle.rrs_gdb.proofs.AnswerLemmas.{goes_begun, goes_nowhere, goes_refused}
 use Rattle.rrs_gdb.proofs.session.go_from.Goals as goal
-use Rattle.rrs_gdb.proofs.session.go_from.Goals.{then-not-is_empty+in-Some-number_of, else-not-is_empty}
 
-pub returns-clause-step : goal.returns-clause-step
-returns-clause-step g c = λ is.
-    let state = state_in g.M.Memory.bytes g.M.Memory.writable in
-    elim c.if-not-is_empty.branch [
-      | then-not-is_empty+in-Some-number_of w ↦
-          step_from c.go.result c.args.payload.now c.in-Some.going (has_ended c.args.state.now) _ _ c.args.state.now.settings.limit _ _ _ _ _ is c.in-Some.ensures.letter
-          (inr (w.in-Some-number_of.address, ap state w.executor-is))
-          (goes_same c.go.result c.in-Some.going _ _ _ _ _ _ _ _ _ _ _ _
-          (ap has_ended w.state-is ∙ w.forget.ensures.ended)
-          (ap (λ (x : SessionState). x.breaks.stops.items) w.state-is ∙ w.forget.ensures.kept.stops_kept)
-          (ap (λ (x : SessionState). x.breaks.watches.items) w.state-is ∙ w.forget.ensures.kept.watches_kept)
-          (ap (λ (x : SessionState). x.settings.limit) w.state-is ∙ ap (λ (x : Settings). x.limit) w.forget.ensures.kept.settings_kept)
-          c.go.ensures.goes_on)
-      | else-not-is_empty w ↦
-          step_from c.go.result c.args.payload.now c.in-Some.going (has_ended c.args.state.now) _ _ c.args.state.now.settings.limit _ _ _ _ _ is c.in-Some.ensures.letter
-          (inl (ap state w.executor-is))
-          (goes_same c.go.result c.in-Some.going _ _ _ _ _ _ _ _ _ _ _ _
-          (ap has_ended w.state-is)
-          (ap (λ (x : SessionState). x.breaks.stops.items) w.state-is)
-          (ap (λ (x : SessionState). x.breaks.watches.items) w.state-is)
-          (ap (λ (x : SessionState). x.settings.limit) w.state-is)
-          c.go.ensures.goes_on)
-    ]
+pub returns-clause-goes : goal.returns-clause-goes
+returns-clause-goes g c =
+    let begun = c.begin_at.new in
+    let found = c.in-Some.ensures in
+    goes_begun c.go.result c.args.payload.now c.in-Some.address.now c.in-Some.going _ _ begun.state
+    (state_in g.M.Memory.bytes g.M.Memory.writable begun.executor) c.begin_at.result found.letter found.action
+    found.signal c.begin_at.ensures.places c.begin_at.ensures.ended c.if-not-begin_at.false c.begin_at.ensures.begins
+    c.go.ensures.goes_on c.go.ensures.killed
 
-pub returns-clause-goes_on : goal.returns-clause-goes_on
-returns-clause-goes_on g c = λ is.
-    let state = state_in g.M.Memory.bytes g.M.Memory.writable in
-    elim c.if-not-is_empty.branch [
-      | then-not-is_empty+in-Some-number_of w ↦
-          go_from c.go.result c.args.payload.now c.in-Some.going (has_ended c.args.state.now) _ _ c.args.state.now.settings.limit _ _ _ _ _ is c.in-Some.ensures.letter
-          (inr (w.in-Some-number_of.address, ap state w.executor-is))
-          (goes_same c.go.result c.in-Some.going _ _ _ _ _ _ _ _ _ _ _ _
-          (ap has_ended w.state-is ∙ w.forget.ensures.ended)
-          (ap (λ (x : SessionState). x.breaks.stops.items) w.state-is ∙ w.forget.ensures.kept.stops_kept)
-          (ap (λ (x : SessionState). x.breaks.watches.items) w.state-is ∙ w.forget.ensures.kept.watches_kept)
-          (ap (λ (x : SessionState). x.settings.limit) w.state-is ∙ ap (λ (x : Settings). x.limit) w.forget.ensures.kept.settings_kept)
-          c.go.ensures.goes_on)
-      | else-not-is_empty w ↦
-          go_from c.go.result c.args.payload.now c.in-Some.going (has_ended c.args.state.now) _ _ c.args.state.now.settings.limit _ _ _ _ _ is c.in-Some.ensures.letter
-          (inl (ap state w.executor-is))
-          (goes_same c.go.result c.in-Some.going _ _ _ _ _ _ _ _ _ _ _ _
-          (ap has_ended w.state-is)
-          (ap (λ (x : SessionState). x.breaks.stops.items) w.state-is)
-          (ap (λ (x : SessionState). x.breaks.watches.items) w.state-is)
-          (ap (λ (x : SessionState). x.settings.limit) w.state-is)
-          c.go.ensures.goes_on)
-    ]
+-- it is no action
+pub returns-in_default-clause-goes : goal.returns-in_default-clause-goes
+returns-in_default-clause-goes g c =
+    let found = c.in_default.ensures in
+    goes_refused c.refuse.result _ _ _ found.no_signal found.none.0 found.none.1 refl refl c.refuse.ensures
+
+-- what stands behind its letter is no address
+pub returns-then-not-begin_at-clause-goes : goal.returns-then-not-begin_at-clause-goes
+returns-then-not-begin_at-clause-goes g c =
+    let fails = c.if-not-begin_at.true in
+    let none = OnFalse_at fails c.begin_at.ensures.none in
+    let kept = OnFalse_at fails c.begin_at.ensures.kept in
+    let found = c.in-Some.ensures in
+    goes_nowhere c.refuse-then-not-begin_at.result c.args.payload.now c.in-Some.address.now c.in-Some.going _ _
+    found.action found.signal none.0 none.1 kept.0 refl c.refuse-then-not-begin_at.ensures

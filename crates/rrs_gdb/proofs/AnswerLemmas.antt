@@ -1,0 +1,574 @@
+-- What an answer leaves and means, by the subject of the packet.
+use Rattle.std.proofs.Common.{◌≡◌, ◌≢◌, ◌⊎◌, ◌==◌, ◌||◌, if◌then◌else◌, ℕ, List, ◌∷◌, ◌++◌, drop, Bool, true, Result, Ok, Err, IfOk, OnOk, IsOk, ◌<◌, length, slice_index, refl, sym, subst, ap, ◌∙◌, inl, inr, arith}
+use Rattle.std.specs.Bool.{OnTrue, OnFalse}
+use Rattle.std.proofs.lemmas.Bool.{OnTrue_at}
+use Rattle.rrs_lib.specs.Machine.{State}
+use Rattle.rrs_linux.specs.Recording.{Recording}
+use Rattle.rrs_gdb.specs.declared.breaks.Watch.{Watch}
+use Rattle.rrs_gdb.specs.declared.session.Going.{Going}
+use Rattle.rrs_gdb.specs.declared.session.Going.TheVariants.{Step, Proceed}
+use Rattle.rrs_gdb.specs.declared.session.Subject.{Subject}
+use Rattle.rrs_gdb.specs.declared.session.Subject.TheVariants.{Shown, Changed, Run, Named, Back, Breaks, Query, Session}
+use Rattle.rrs_gdb.specs.declared.state.SessionState.{SessionState}
+use Rattle.rrs_gdb.specs.declared.state.Settings.{Settings}
+use Rattle.rrs_gdb.specs.declared.state.Stop.{Stop}
+use Rattle.rrs_gdb.specs.Packets.{IsNumber, number}
+use Rattle.rrs_gdb.specs.Sessions.{letter, ChangesNone, RunsNone, ChangesRegister, ChangesMemory, MemoryKept, RegistersKept, BreaksKept, SettingsKept, PlacesKept, SessionKept, has_ended, IsError, ShowsRegister, GoesBy, EndsBy, HasAction, HasLetter, HasSignal, HasNoSignal, BySignal, Resumes, Signals, GoesOnUnless, Acts, GoesOnOrStays}
+use Rattle.rrs_gdb.specs.Answers.{Moment, ShowsNone, HasSubject, Shows, Sets, IsDone, BeginsBy, Here, There, Goes, ActsBy, Returns, Stays, Leaves, Means}
+use Rattle.rrs_gdb.specs.Shown.{registers_text}
+use Rattle.rrs_gdb.proofs.SessionLemmas.{BeginsAt, error_letter, goes_same, step_from, go_from, resumes_here, resumes_there, resumes_not, signals_here, signals_there, signals_nowhere, signals_not}
+
+-- ---- the subject of a letter
+
+abbrev subject_at : ℕ → Subject
+subject_at l =
+    if l == 103 || l == 112 || l == 109 then Shown
+    else if l == 71 || l == 80 || l == 77 || l == 88 then Changed
+    else if l == 99 || l == 67 || l == 115 || l == 83 then Run
+    else if l == 118 then Named
+    else if l == 98 then Back
+    else if l == 90 || l == 122 then Breaks
+    else if l == 113 then Query
+    else Session
+
+shown_at : (payload : List ℕ) → HasSubject payload Shown → subject_at (letter payload) ≡ Shown
+shown_at payload (inl is) = ap subject_at is
+shown_at payload (inr (inl is)) = ap subject_at is
+shown_at payload (inr (inr is)) = ap subject_at is
+
+changed_at : (payload : List ℕ) → HasSubject payload Changed → subject_at (letter payload) ≡ Changed
+changed_at payload (inl is) = ap subject_at is
+changed_at payload (inr (inl is)) = ap subject_at is
+changed_at payload (inr (inr (inl is))) = ap subject_at is
+changed_at payload (inr (inr (inr is))) = ap subject_at is
+
+run_at : (payload : List ℕ) → HasSubject payload Run → subject_at (letter payload) ≡ Run
+run_at payload (inl is) = ap subject_at is
+run_at payload (inr (inl is)) = ap subject_at is
+run_at payload (inr (inr (inl is))) = ap subject_at is
+run_at payload (inr (inr (inr is))) = ap subject_at is
+
+breaks_at : (payload : List ℕ) → HasSubject payload Breaks → subject_at (letter payload) ≡ Breaks
+breaks_at payload (inl is) = ap subject_at is
+breaks_at payload (inr is) = ap subject_at is
+
+-- letters of another subject
+changes_none : (payload : List ℕ) (subject : Subject) → subject_at (letter payload) ≡ subject → subject ≢ Changed
+    → ChangesNone payload
+changes_none payload subject has other = (
+  λ is. other (sym has ∙ ap subject_at is),
+  λ is. other (sym has ∙ ap subject_at is),
+  λ is. other (sym has ∙ ap subject_at is),
+  λ is. other (sym has ∙ ap subject_at is),
+)
+
+shows_none : (payload : List ℕ) (subject : Subject) → subject_at (letter payload) ≡ subject → subject ≢ Shown
+    → ShowsNone payload
+shows_none payload subject has other = (
+  λ is. other (sym has ∙ ap subject_at is),
+  λ is. other (sym has ∙ ap subject_at is),
+  λ is. other (sym has ∙ ap subject_at is),
+)
+
+-- none of `s`, `c`, `S` and `C`
+abbrev GoesNone : List ℕ → Type 0
+GoesNone payload =
+    (letter payload ≢ 99) × (letter payload ≢ 67) × (letter payload ≢ 115) × (letter payload ≢ 83)
+
+goes_none : (payload : List ℕ) (subject : Subject) → subject_at (letter payload) ≡ subject → subject ≢ Run
+    → GoesNone payload
+goes_none payload subject has other = (
+  λ is. other (sym has ∙ ap subject_at is),
+  λ is. other (sym has ∙ ap subject_at is),
+  λ is. other (sym has ∙ ap subject_at is),
+  λ is. other (sym has ∙ ap subject_at is),
+)
+
+not_named : (payload : List ℕ) (subject : Subject) → subject_at (letter payload) ≡ subject → subject ≢ Named
+    → letter payload ≢ 118
+not_named payload subject has other = λ is. other (sym has ∙ ap subject_at is)
+
+not_back : (payload : List ℕ) (subject : Subject) → subject_at (letter payload) ≡ subject → subject ≢ Back
+    → letter payload ≢ 98
+not_back payload subject has other = λ is. other (sym has ∙ ap subject_at is)
+
+either : {A B C : Type 0} → A ⊎ B → (A → ⊥) → (B → ⊥) → C
+either (inl a) no_a no_b = absurd (no_a a)
+either (inr b) no_a no_b = absurd (no_b b)
+
+-- ---- what is said of no packet of another subject
+
+no_shows : (payload : List ℕ) (s : State) (old new : List ℕ) → ShowsNone payload → Shows payload s old new
+no_shows payload s old new none = record {
+  registers = λ is. absurd (none.0 (ap (λ (xs : List ℕ). slice_index xs 0) is));
+  register = λ is. absurd (none.1 is);
+  memory = λ is. absurd (none.2 is);
+}
+
+no_sets : (payload : List ℕ) (s t : State) (old new : List ℕ) → ChangesNone payload → Sets payload s t old new
+no_sets payload s t old new none = record {
+  registers = λ is. absurd (none.0 is);
+  register = λ is. absurd (none.1 is);
+  memory = λ is. absurd (none.2 is);
+  bytes = λ is. absurd (none.3 is);
+}
+
+no_goes : (payload : List ℕ) (m n : Moment) → GoesNone payload → Goes payload m n
+no_goes payload m n none = record {
+  step = λ is. either is none.2 none.3;
+  goes_on = λ is. either is none.0 none.1;
+  steps = λ is. absurd (none.2 is);
+  continues = λ is. absurd (none.0 is);
+  step_signal = λ is. absurd (none.3 is);
+  signal = λ is. absurd (none.1 is);
+}
+
+no_acts : (payload : List ℕ) (m n : Moment) → letter payload ≢ 118 → ActsBy payload m n
+no_acts payload m n none = record {
+  goes_on = λ is. absurd (none is);
+  acts = λ actions is. absurd (none (ap (λ (xs : List ℕ). slice_index xs 0) is));
+}
+
+no_returns : (payload : List ℕ) (m n : Moment) → letter payload ≢ 98 → Returns payload m n
+no_returns payload m n none = record {
+  step = λ is. absurd (none (ap (λ (xs : List ℕ). slice_index xs 0) is));
+  goes_back = λ is. absurd (none (ap (λ (xs : List ℕ). slice_index xs 0) is));
+}
+
+-- ---- what an answer leaves
+
+memory_same : (s t : State) → t ≡ s → MemoryKept s t
+memory_same s t same = record {
+  last_kept = ap (λ (x : State). x.last) same;
+  bytes_kept = ap (λ (x : State). x.bytes) same;
+  writable_kept = ap (λ (x : State). x.writable) same;
+}
+
+registers_same : (s t : State) → t ≡ s → RegistersKept s t
+registers_same s t same = record {
+  registers_kept = ap (λ (x : State). x.registers) same;
+  pc_kept = ap (λ (x : State). x.pc) same;
+  last_kept = ap (λ (x : State). x.last) same;
+  writable_kept = ap (λ (x : State). x.writable) same;
+}
+
+-- nothing changes
+pub leaves_all : (payload : List ℕ) (m n : Moment) → n.state ≡ m.state → n.environment ≡ m.environment
+    → SessionKept m.session n.session → Leaves payload m n
+leaves_all payload m n same same' kept = record {
+  asks = λ _ _. same;
+  registers = λ _. memory_same m.state n.state same;
+  memory = λ _. registers_same m.state n.state same;
+  environment = λ _. same';
+  breaks = λ _. record { stops_kept = kept.stops_kept; watches_kept = kept.watches_kept };
+  settings = λ _. kept.settings_kept;
+  history = λ _ _ _. kept.history_kept;
+}
+
+pub leaves_breaks : (payload : List ℕ) (m n : Moment) → HasSubject payload Breaks → n.state ≡ m.state
+    → n.environment ≡ m.environment → SettingsKept m.session n.session → Leaves payload m n
+leaves_breaks payload m n is same same' kept = record {
+  asks = λ _ _. same;
+  registers = λ _. memory_same m.state n.state same;
+  memory = λ _. registers_same m.state n.state same;
+  environment = λ _. same';
+  breaks = λ none. either is none.0 none.1;
+  settings = λ _. kept.settings_kept;
+  history = λ _ _ _. kept.history_kept;
+}
+
+pub leaves_query : (payload : List ℕ) (m n : Moment) → HasSubject payload Query → n.state ≡ m.state
+    → n.environment ≡ m.environment → BreaksKept m.session n.session → Leaves payload m n
+leaves_query payload m n is same same' kept = record {
+  asks = λ _ _. same;
+  registers = λ _. memory_same m.state n.state same;
+  memory = λ _. registers_same m.state n.state same;
+  environment = λ _. same';
+  breaks = λ _. kept;
+  settings = λ other. absurd (other is);
+  history = λ _ _ other. absurd (other is);
+}
+
+changes_some : (payload : List ℕ) → HasSubject payload Changed → ChangesNone payload → ⊥
+changes_some payload (inl is) none = none.0 is
+changes_some payload (inr (inl is)) none = none.1 is
+changes_some payload (inr (inr (inl is))) none = none.2 is
+changes_some payload (inr (inr (inr is))) none = none.3 is
+
+pub leaves_changed : (payload : List ℕ) (m n : Moment) → HasSubject payload Changed → PlacesKept m.session n.session
+    → n.environment ≡ m.environment → (ChangesRegister payload → MemoryKept m.state n.state)
+    → (ChangesMemory payload → RegistersKept m.state n.state) → Leaves payload m n
+leaves_changed payload m n is kept same registers memory = record {
+  asks = λ none _. absurd (changes_some payload is none);
+  registers = registers;
+  memory = memory;
+  environment = λ _. same;
+  breaks = λ _. record { stops_kept = kept.stops_kept; watches_kept = kept.watches_kept };
+  settings = λ _. kept.settings_kept;
+  history = λ none _ _. absurd (changes_some payload is none);
+}
+
+-- the program may go on or back
+leaves_going : (payload : List ℕ) (m n : Moment) → (RunsNone payload → ⊥) → ChangesNone payload
+    → PlacesKept m.session n.session → Leaves payload m n
+leaves_going payload m n runs none kept = record {
+  asks = λ _ still. absurd (runs still);
+  registers = λ is. either is none.0 none.1;
+  memory = λ is. either is none.2 none.3;
+  environment = λ still. absurd (runs still);
+  breaks = λ _. record { stops_kept = kept.stops_kept; watches_kept = kept.watches_kept };
+  settings = λ _. kept.settings_kept;
+  history = λ _ still _. absurd (runs still);
+}
+
+runs_some : (payload : List ℕ) → HasSubject payload Run → RunsNone payload → ⊥
+runs_some payload (inl is) none = none.0 is
+runs_some payload (inr (inl is)) none = none.1 is
+runs_some payload (inr (inr (inl is))) none = none.2 is
+runs_some payload (inr (inr (inr is))) none = none.3 is
+
+pub leaves_run : (payload : List ℕ) (m n : Moment) → HasSubject payload Run → PlacesKept m.session n.session
+    → Leaves payload m n
+leaves_run payload m n is kept =
+    leaves_going payload m n (runs_some payload is) (changes_none payload Run (run_at payload is) (λ same. cc)) kept
+
+pub leaves_named : (payload : List ℕ) (m n : Moment) → HasSubject payload Named → PlacesKept m.session n.session
+    → Leaves payload m n
+leaves_named payload m n is kept =
+    leaves_going payload m n (λ none. none.4 is) (changes_none payload Named (ap subject_at is) (λ same. cc)) kept
+
+pub leaves_back : (payload : List ℕ) (m n : Moment) → HasSubject payload Back → PlacesKept m.session n.session
+    → Leaves payload m n
+leaves_back payload m n is kept =
+    leaves_going payload m n (λ none. none.5 is) (changes_none payload Back (ap subject_at is) (λ same. cc)) kept
+
+-- ---- what a packet means
+
+-- of the subjects of which nothing is said
+means_none : (payload : List ℕ) (m n : Moment) → ShowsNone payload → ChangesNone payload → GoesNone payload
+    → letter payload ≢ 118 → letter payload ≢ 98
+    → (letter payload ≢ 113 → IsError m.reply n.reply → Stays m n) → Means payload m n
+means_none payload m n shows changes goes named back error = record {
+  shows = no_shows payload m.state m.reply n.reply shows;
+  sets = no_sets payload m.state n.state m.reply n.reply changes;
+  goes = no_goes payload m n goes;
+  acts = no_acts payload m n named;
+  returns = no_returns payload m n back;
+  error = error;
+}
+
+pub means_session : (payload : List ℕ) (m n : Moment) → HasSubject payload Session → n.state ≡ m.state
+    → n.environment ≡ m.environment → SessionKept m.session n.session → Means payload m n
+means_session payload m n is same same' kept =
+    let runs = is.1 in
+    means_none payload m n is.2 is.0 (runs.0, runs.1, runs.2, runs.3) runs.4 runs.5
+    (λ _ _. record { state_kept = same; environment_kept = same'; session_kept = kept })
+
+means_breaks : (payload : List ℕ) (m n : Moment) → HasSubject payload Breaks → n.state ≡ m.state
+    → n.environment ≡ m.environment → (IsError m.reply n.reply → SessionKept m.session n.session)
+    → Means payload m n
+means_breaks payload m n is same same' kept =
+    let at = breaks_at payload is in
+    means_none payload m n (shows_none payload Breaks at (λ e. cc)) (changes_none payload Breaks at (λ e. cc))
+    (goes_none payload Breaks at (λ e. cc)) (not_named payload Breaks at (λ e. cc)) (not_back payload Breaks at (λ e. cc))
+    (λ _ error. record { state_kept = same; environment_kept = same'; session_kept = kept error })
+
+pub means_query : (payload : List ℕ) (m n : Moment) → HasSubject payload Query → Means payload m n
+means_query payload m n is =
+    let at : subject_at (letter payload) ≡ Query = ap subject_at is in
+    means_none payload m n (shows_none payload Query at (λ e. cc)) (changes_none payload Query at (λ e. cc))
+    (goes_none payload Query at (λ e. cc)) (not_named payload Query at (λ e. cc)) (not_back payload Query at (λ e. cc))
+    (λ other _. absurd (other is))
+
+means_shown : (payload : List ℕ) (m n : Moment) → HasSubject payload Shown → n.state ≡ m.state
+    → n.environment ≡ m.environment → SessionKept m.session n.session → Shows payload m.state m.reply n.reply
+    → Means payload m n
+means_shown payload m n is same same' kept shows =
+    let at = shown_at payload is in
+    record {
+      shows = shows;
+      sets = no_sets payload m.state n.state m.reply n.reply (changes_none payload Shown at (λ e. cc));
+      goes = no_goes payload m n (goes_none payload Shown at (λ e. cc));
+      acts = no_acts payload m n (not_named payload Shown at (λ e. cc));
+      returns = no_returns payload m n (not_back payload Shown at (λ e. cc));
+      error = λ _ _. record { state_kept = same; environment_kept = same'; session_kept = kept };
+    }
+
+means_changed : (payload : List ℕ) (m n : Moment) → HasSubject payload Changed → n.environment ≡ m.environment
+    → Sets payload m.state n.state m.reply n.reply
+    → (IsError m.reply n.reply → (n.state ≡ m.state) × SessionKept m.session n.session) → Means payload m n
+means_changed payload m n is same sets error =
+    let at = changed_at payload is in
+    record {
+      shows = no_shows payload m.state m.reply n.reply (shows_none payload Changed at (λ e. cc));
+      sets = sets;
+      goes = no_goes payload m n (goes_none payload Changed at (λ e. cc));
+      acts = no_acts payload m n (not_named payload Changed at (λ e. cc));
+      returns = no_returns payload m n (not_back payload Changed at (λ e. cc));
+      error = λ _ is. record { state_kept = (error is).0; environment_kept = same; session_kept = (error is).1 };
+    }
+
+means_run : (payload : List ℕ) (m n : Moment) → HasSubject payload Run → Goes payload m n
+    → (IsError m.reply n.reply → (n.state ≡ m.state) × (n.environment ≡ m.environment) × SessionKept m.session n.session)
+    → Means payload m n
+means_run payload m n is goes error =
+    let at = run_at payload is in
+    record {
+      shows = no_shows payload m.state m.reply n.reply (shows_none payload Run at (λ e. cc));
+      sets = no_sets payload m.state n.state m.reply n.reply (changes_none payload Run at (λ e. cc));
+      goes = goes;
+      acts = no_acts payload m n (not_named payload Run at (λ e. cc));
+      returns = no_returns payload m n (not_back payload Run at (λ e. cc));
+      error = λ _ is.
+          record { state_kept = (error is).0; environment_kept = (error is).1; session_kept = (error is).2 };
+    }
+
+means_named : (payload : List ℕ) (m n : Moment) → HasSubject payload Named
+    → ((limit : ℕ) × GoesOnOrStays m.session.breaks.stops.items m.session.breaks.watches.items limit
+    m.environment m.state n.environment n.state)
+    → ((actions : List ℕ) → payload ≡ 118 ∷ 67 ∷ 111 ∷ 110 ∷ 116 ∷ 59 ∷ actions → Acts actions (has_ended m.session)
+    m.session.breaks.stops.items m.session.breaks.watches.items m.session.settings.limit
+    m.environment m.state n.environment n.state)
+    → (IsError m.reply n.reply → (n.state ≡ m.state) × (n.environment ≡ m.environment) × SessionKept m.session n.session)
+    → Means payload m n
+means_named payload m n is goes_on acts error =
+    let at : subject_at (letter payload) ≡ Named = ap subject_at is in
+    record {
+      shows = no_shows payload m.state m.reply n.reply (shows_none payload Named at (λ e. cc));
+      sets = no_sets payload m.state n.state m.reply n.reply (changes_none payload Named at (λ e. cc));
+      goes = no_goes payload m n (goes_none payload Named at (λ e. cc));
+      acts = record { goes_on = λ _. goes_on; acts = acts };
+      returns = no_returns payload m n (not_back payload Named at (λ e. cc));
+      error = λ _ is.
+          record { state_kept = (error is).0; environment_kept = (error is).1; session_kept = (error is).2 };
+    }
+
+means_back : (payload : List ℕ) (m n : Moment) → HasSubject payload Back
+    → Returns payload m n → (IsError m.reply n.reply → ⊥) → Means payload m n
+means_back payload m n is returns no_error =
+    let at : subject_at (letter payload) ≡ Back = ap subject_at is in
+    record {
+      shows = no_shows payload m.state m.reply n.reply (shows_none payload Back at (λ e. cc));
+      sets = no_sets payload m.state n.state m.reply n.reply (changes_none payload Back at (λ e. cc));
+      goes = no_goes payload m n (goes_none payload Back at (λ e. cc));
+      acts = no_acts payload m n (not_named payload Back at (λ e. cc));
+      returns = returns;
+      error = λ _ is. absurd (no_error is);
+    }
+
+-- ---- `s`, `c`, `S` and `C`
+
+begins_at : (rest : List ℕ) (s s' : State) → BeginsBy rest s s' → BeginsAt s s'
+begins_at rest s s' (Here empty same) = inl same
+begins_at rest s s' (There is same) = inr (number rest, same)
+
+resumes_by : (text rest : List ℕ) (ended : Bool) (stops : List ℕ) (watches : List Watch) (limit : ℕ) (e e' : Recording)
+    (s s' t : State) (old new : List ℕ) → rest ≡ text → BeginsBy rest s s'
+    → GoesOnUnless ended stops watches limit e s' e' t → Resumes text ended stops watches limit e s e' t old new
+resumes_by text rest ended stops watches limit e e' s s' t old new same (Here empty at) goes =
+    resumes_here text rest ended stops watches limit e e' s s' t old new same (ap length empty) at goes
+resumes_by text rest ended stops watches limit e e' s s' t old new same (There is at) goes =
+    resumes_there text rest (number rest) ended stops watches limit e e' s s' t old new same is refl at goes
+
+signals_by : (text rest : List ℕ) (by going : Going) (ended : Bool) (stops : List ℕ) (watches : List Watch) (limit most : ℕ)
+    (e e' : Recording) (s s' t : State) (old new : List ℕ) (at : Stop)
+    → ((u : State) → GoesBy by ended stops watches most e u e' t → GoesOnUnless ended stops watches limit e u e' t)
+    → BySignal text by going rest → BeginsBy rest s s' → GoesBy going ended stops watches most e s' e' t
+    → EndsBy going ended at → Signals text ended stops watches limit e s e' t old new at
+signals_by text rest by going ended stops watches limit most e e' s s' t old new at same is (Here empty begins) goes ends =
+    signals_here text rest by going ended stops watches limit most e e' s s' t old new at same is (ap length empty) begins
+    goes ends
+signals_by text rest by going ended stops watches limit most e e' s s' t old new at same is (There is' begins) goes ends =
+    signals_there text rest (number rest) by going ended stops watches limit most e e' s s' t old new at same is is' refl
+    begins goes
+
+-- the program goes on, from the address if there is one
+goes_at : (payload rest : List ℕ) (going : Going) (m n : Moment) (s' : State) → HasLetter payload going
+    → HasAction payload going rest → HasSignal payload going rest → BeginsBy rest m.state s'
+    → GoesBy going (has_ended m.session) m.session.breaks.stops.items m.session.breaks.watches.items
+    m.session.settings.limit m.environment s' n.environment n.state
+    → EndsBy going (has_ended m.session) n.session.stop → Goes payload m n
+goes_at payload rest going m n s' has action signal begins goes ends =
+    let ended = has_ended m.session in
+    let stops = m.session.breaks.stops.items in
+    let watches = m.session.breaks.watches.items in
+    let limit = m.session.settings.limit in
+    let e = m.environment in
+    let e' = n.environment in
+    record {
+      step = λ is.
+          step_from payload going ended stops watches limit e e' m.state s' n.state is has
+          (begins_at rest m.state s' begins) goes;
+      goes_on = λ is.
+          go_from payload going ended stops watches limit e e' m.state s' n.state is has
+          (begins_at rest m.state s' begins) goes;
+      steps = λ is.
+          let so = action.0 is in
+          resumes_by _ rest ended stops watches 1 e e' m.state s' n.state m.reply n.reply so.1 begins
+          (subst (λ (g : Going). GoesBy g ended stops watches limit e s' e' n.state) so.0 goes);
+      continues = λ is.
+          let so = action.1 is in
+          resumes_by _ rest ended stops watches limit e e' m.state s' n.state m.reply n.reply so.1 begins
+          (subst (λ (g : Going). GoesBy g ended stops watches limit e s' e' n.state) so.0 goes);
+      step_signal = λ is.
+          signals_by _ rest Step going ended stops watches 1 limit e e' m.state s' n.state m.reply n.reply
+          n.session.stop (λ u by. by) (signal.0 is) begins goes ends;
+      signal = λ is.
+          signals_by _ rest Proceed going ended stops watches limit limit e e' m.state s' n.state m.reply n.reply
+          n.session.stop (λ u by. by) (signal.1 is) begins goes ends;
+    }
+
+-- with what is kept before it goes on
+goes_kept : (payload rest : List ℕ) (going : Going) (m n : Moment) (mid : SessionState) (s' : State)
+    → HasLetter payload going → HasAction payload going rest → HasSignal payload going rest
+    → PlacesKept m.session mid → has_ended mid ≡ has_ended m.session → BeginsBy rest m.state s'
+    → GoesBy going (has_ended mid) mid.breaks.stops.items mid.breaks.watches.items mid.settings.limit
+    m.environment s' n.environment n.state
+    → EndsBy going (has_ended mid) n.session.stop → Goes payload m n
+goes_kept payload rest going m n mid s' has action signal kept same begins goes ends =
+    goes_at payload rest going m n s' has action signal begins
+    (goes_same going _ _ _ _ _ _ _ _ m.environment n.environment s' n.state same kept.stops_kept kept.watches_kept
+    (ap (λ (x : Settings). x.limit) kept.settings_kept) goes)
+    (subst (λ (b : Bool). EndsBy going b n.session.stop) same ends)
+
+pub goes_begun : {A F : Type 0} (r : Result A F) (payload rest : List ℕ) (going : Going) (m n : Moment)
+    (mid : SessionState) (s' : State) (begun : Bool) → HasLetter payload going → HasAction payload going rest
+    → HasSignal payload going rest → PlacesKept m.session mid → has_ended mid ≡ has_ended m.session
+    → begun ≡ true → OnTrue begun (BeginsBy rest m.state s')
+    → OnOk r (GoesBy going (has_ended mid) mid.breaks.stops.items mid.breaks.watches.items mid.settings.limit
+    m.environment s' n.environment n.state)
+    → OnOk r (EndsBy going (has_ended mid) n.session.stop) → OnOk r (Goes payload m n)
+goes_begun (Ok x) payload rest going m n mid s' begun has action signal kept same is begins goes ends =
+    goes_kept payload rest going m n mid s' has action signal kept same (OnTrue_at is begins) goes ends
+goes_begun (Err f) payload rest going m n mid s' begun has action signal kept same is begins goes ends = tt
+
+-- what stands behind the letter is no address
+pub goes_nowhere : {A F : Type 0} (r : Result A F) (payload rest : List ℕ) (going : Going) (m n : Moment)
+    → HasAction payload going rest → HasSignal payload going rest → 0 < length rest → ¬ IsNumber rest
+    → n.state ≡ m.state → n.environment ≡ m.environment → OnOk r (IsError m.reply n.reply)
+    → OnOk r (Goes payload m n)
+goes_nowhere (Ok x) payload rest going m n action signal some not same same' error = record {
+  step = λ _. inl (inl (same', same));
+  goes_on = λ _. inl (inl (same', same));
+  steps = λ is. resumes_not _ rest _ _ _ _ _ _ _ _ _ _ (action.0 is).1 some not error;
+  continues = λ is. resumes_not _ rest _ _ _ _ _ _ _ _ _ _ (action.1 is).1 some not error;
+  step_signal = λ is. signals_nowhere _ rest Step going _ _ _ _ _ _ _ _ _ _ _ (signal.0 is) some not error;
+  signal = λ is. signals_nowhere _ rest Proceed going _ _ _ _ _ _ _ _ _ _ _ (signal.1 is) some not error;
+}
+goes_nowhere (Err f) payload rest going m n action signal some not same same' error = tt
+
+-- there is no such action, as behind no signal
+pub goes_refused : {A F : Type 0} (r : Result A F) (payload : List ℕ) (m n : Moment) → HasNoSignal payload
+    → letter payload ≢ 115 → letter payload ≢ 99 → n.state ≡ m.state → n.environment ≡ m.environment
+    → OnOk r (IsError m.reply n.reply) → OnOk r (Goes payload m n)
+goes_refused (Ok x) payload m n signal no_step no_continue same same' error = record {
+  step = λ _. inl (inl (same', same));
+  goes_on = λ _. inl (inl (same', same));
+  steps = λ is. absurd (no_step is);
+  continues = λ is. absurd (no_continue is);
+  step_signal = λ is. signals_not _ _ _ _ _ _ _ _ _ _ _ _ (signal.0 is) error;
+  signal = λ is. signals_not _ _ _ _ _ _ _ _ _ _ _ _ (signal.1 is) error;
+}
+goes_refused (Err f) payload m n signal no_step no_continue same same' error = tt
+
+-- ---- what a result says
+
+-- an answer that is whole
+pub behind_answer : {A B E F : Type 0} (P : Type 0) (r : Result A E) (answered : Result B F) → OnOk r (IsOk answered)
+    → OnOk answered P → OnOk r P
+behind_answer P (Ok x) (Ok y) is holds = holds
+behind_answer P (Ok x) (Err f) is holds = absurd (cc)
+behind_answer P (Err e) answered is holds = tt
+
+pub always : {A E : Type 0} (P : Type 0) (r : Result A E) → P → OnOk r P
+always P (Ok x) holds = holds
+always P (Err e) holds = tt
+
+pub is_done : {F : Type 0} (r : Result Bool F) (s t : State) (old new : List ℕ)
+    → IfOk r (λ changed. OnTrue changed (IsError old new → ⊥)) → IfOk r (λ changed. OnFalse changed (t ≡ s))
+    → IfOk r (λ changed. IsDone changed s t old new)
+is_done (Ok changed) s t old new error none = record { no_error = error; none = none }
+is_done (Err f) s t old new error none = tt
+
+-- what is meant of an answer that is whole
+pub on_means : {A F Q : Type 0} (r : Result A F) (payload : List ℕ) (m n : Moment) → OnOk r (Means payload m n)
+    → (Means payload m n → Q) → OnOk r Q
+on_means (Ok x) payload m n means part = part means
+on_means (Err f) payload m n means part = tt
+
+-- ---- the same of a result
+
+pub shows_g : {A F : Type 0} (r : Result A F) (payload : List ℕ) (s : State) (old new : List ℕ)
+    → letter payload ≡ 103 → OnOk r (new ≡ old ++ registers_text s) → OnOk r (Shows payload s old new)
+shows_g (Ok x) payload s old new is shown = record {
+  registers = λ _. shown;
+  register = λ is'. absurd (omega (arith, is, is'));
+  memory = λ is'. absurd (omega (arith, is, is'));
+}
+shows_g (Err f) payload s old new is shown = tt
+
+pub shows_p : {A F : Type 0} (r : Result A F) (payload text : List ℕ) (s : State) (old new : List ℕ)
+    → letter payload ≡ 112 → text ≡ drop 1 payload → OnOk r (ShowsRegister text s old new)
+    → OnOk r (Shows payload s old new)
+shows_p (Ok x) payload text s old new is same shown = record {
+  registers = λ is'. absurd (omega (arith, is, ap (λ (xs : List ℕ). slice_index xs 0) is'));
+  register = λ _. subst (λ (xs : List ℕ). ShowsRegister xs s old new) same shown;
+  memory = λ is'. absurd (omega (arith, is, is'));
+}
+shows_p (Err f) payload text s old new is same shown = tt
+
+pub means_shown_ok : {A F : Type 0} (r : Result A F) (payload : List ℕ) (m n : Moment) → HasSubject payload Shown
+    → n.state ≡ m.state → n.environment ≡ m.environment → SessionKept m.session n.session
+    → OnOk r (Shows payload m.state m.reply n.reply) → OnOk r (Means payload m n)
+means_shown_ok (Ok x) payload m n is same same' kept shows = means_shown payload m n is same same' kept shows
+means_shown_ok (Err f) payload m n is same same' kept shows = tt
+
+pub means_changed_ok : {A F : Type 0} (r : Result A F) (payload : List ℕ) (m n : Moment) → HasSubject payload Changed
+    → n.environment ≡ m.environment → OnOk r (Sets payload m.state n.state m.reply n.reply)
+    → OnOk r (IsError m.reply n.reply → (n.state ≡ m.state) × SessionKept m.session n.session)
+    → OnOk r (Means payload m n)
+means_changed_ok (Ok x) payload m n is same sets error = means_changed payload m n is same sets error
+means_changed_ok (Err f) payload m n is same sets error = tt
+
+pub means_run_ok : {A F : Type 0} (r : Result A F) (payload : List ℕ) (m n : Moment) → HasSubject payload Run
+    → OnOk r (Goes payload m n)
+    → OnOk r (IsError m.reply n.reply
+    → (n.state ≡ m.state) × (n.environment ≡ m.environment) × SessionKept m.session n.session)
+    → OnOk r (Means payload m n)
+means_run_ok (Ok x) payload m n is goes error = means_run payload m n is goes error
+means_run_ok (Err f) payload m n is goes error = tt
+
+pub means_named_ok : {A F : Type 0} (r : Result A F) (payload : List ℕ) (m n : Moment) → HasSubject payload Named
+    → OnOk r ((limit : ℕ) × GoesOnOrStays m.session.breaks.stops.items m.session.breaks.watches.items limit
+    m.environment m.state n.environment n.state)
+    → ((actions : List ℕ) → payload ≡ 118 ∷ 67 ∷ 111 ∷ 110 ∷ 116 ∷ 59 ∷ actions
+    → OnOk r (Acts actions (has_ended m.session) m.session.breaks.stops.items m.session.breaks.watches.items
+    m.session.settings.limit m.environment m.state n.environment n.state))
+    → OnOk r (IsError m.reply n.reply
+    → (n.state ≡ m.state) × (n.environment ≡ m.environment) × SessionKept m.session n.session)
+    → OnOk r (Means payload m n)
+means_named_ok (Ok x) payload m n is goes_on acts error = means_named payload m n is goes_on acts error
+means_named_ok (Err f) payload m n is goes_on acts error = tt
+
+pub means_back_ok : {A F : Type 0} (r : Result A F) (payload : List ℕ) (m n : Moment) → HasSubject payload Back
+    → Returns payload m n → OnOk r (IsError m.reply n.reply → ⊥) → OnOk r (Means payload m n)
+means_back_ok (Ok x) payload m n is returns no_error = means_back payload m n is returns no_error
+means_back_ok (Err f) payload m n is returns no_error = tt
+
+-- an error is told where a breakpoint or a watchpoint could not be set
+kept_both : (old new : SessionState) → SettingsKept old new → BreaksKept old new → SessionKept old new
+kept_both old new settings breaks = record {
+  stops_kept = breaks.stops_kept;
+  watches_kept = breaks.watches_kept;
+  settings_kept = settings.settings_kept;
+  history_kept = settings.history_kept;
+}
+
+pub means_breaks_ok : {A F : Type 0} (r : Result A F) (payload text : List ℕ) (m n : Moment) → HasSubject payload Breaks
+    → n.state ≡ m.state → n.environment ≡ m.environment → SettingsKept m.session n.session
+    → (slice_index text 0 ≡ 69 → BreaksKept m.session n.session) → OnOk r (n.reply ≡ m.reply ++ text)
+    → OnOk r (Means payload m n)
+means_breaks_ok (Ok x) payload text m n is same same' settings breaks told =
+    means_breaks payload m n is same same' (λ error.
+    kept_both m.session n.session settings (breaks (error_letter m.reply n.reply text told error)))
+means_breaks_ok (Err f) payload text m n is same same' settings breaks told = tt

@@ -1,0 +1,74 @@
+-- What is said of an answer, by the subject of the packet.
+use Rattle.std.proofs.Common.{refl}
+use Rattle.rrs_gdb.proofs.AnswerLemmas.{always, behind_answer, leaves_all, leaves_back, leaves_breaks, leaves_changed, leaves_named, leaves_query, leaves_run, means_back_ok, means_breaks_ok, means_changed_ok, means_named_ok, means_query, means_run_ok, means_session, means_shown_ok}
+use Rattle.rrs_gdb.proofs.session.answer_by_subject.Goals as goal
+
+pub returns-in-Shown-clause-leaves : goal.returns-in-Shown-clause-leaves
+returns-in-Shown-clause-leaves g c =
+    leaves_all _ _ _ c.show.ensures.kept refl
+    (record { stops_kept = refl; watches_kept = refl; settings_kept = refl; history_kept = refl })
+
+pub returns-in-Shown-clause-means : goal.returns-in-Shown-clause-means
+returns-in-Shown-clause-means g c =
+    behind_answer _ c.reply_behind.result c.show.result c.reply_behind.ensures
+    (means_shown_ok c.show.result _ _ _ c.in-Shown.ensures c.show.ensures.kept refl
+    (record { stops_kept = refl; watches_kept = refl; settings_kept = refl; history_kept = refl }) c.show.ensures.shown)
+
+pub returns-in-Changed-clause-leaves : goal.returns-in-Changed-clause-leaves
+returns-in-Changed-clause-leaves g c =
+    leaves_changed _ _ _ c.in-Changed.ensures c.alter.ensures.places refl c.alter.ensures.registers c.alter.ensures.memory
+
+pub returns-in-Changed-clause-means : goal.returns-in-Changed-clause-means
+returns-in-Changed-clause-means g c =
+    behind_answer _ c.reply_behind-in-Changed.result c.alter.result c.reply_behind-in-Changed.ensures
+    (means_changed_ok c.alter.result _ _ _ c.in-Changed.ensures refl c.alter.ensures.sets c.alter.ensures.error)
+
+pub returns-in-Run-clause-leaves : goal.returns-in-Run-clause-leaves
+returns-in-Run-clause-leaves g c = leaves_run _ _ _ c.in-Run.ensures c.go_from.ensures.places
+
+pub returns-in-Run-clause-means : goal.returns-in-Run-clause-means
+returns-in-Run-clause-means g c =
+    means_run_ok c.go_from.result _ _ _ c.in-Run.ensures c.go_from.ensures.goes c.go_from.ensures.error
+
+pub returns-in-Named-clause-leaves : goal.returns-in-Named-clause-leaves
+returns-in-Named-clause-leaves g c = leaves_named _ _ _ c.in-Named.ensures c.act.ensures.places
+
+pub returns-in-Named-clause-means : goal.returns-in-Named-clause-means
+returns-in-Named-clause-means g c =
+    means_named_ok c.act.result _ _ _ c.in-Named.ensures c.act.ensures.goes_on c.act.ensures.acts c.act.ensures.error
+
+pub returns-in-Back-clause-leaves : goal.returns-in-Back-clause-leaves
+returns-in-Back-clause-leaves g c = leaves_back _ _ _ c.in-Back.ensures c.reverse.ensures.places
+
+pub returns-in-Back-clause-means : goal.returns-in-Back-clause-means
+returns-in-Back-clause-means g c =
+    behind_answer _ c.reply_behind-in-Back.result c.reverse.result c.reply_behind-in-Back.ensures
+    (means_back_ok c.reverse.result _ _ _ c.in-Back.ensures
+    (record { step = c.reverse.ensures.step; goes_back = c.reverse.ensures.goes_back }) c.reverse.ensures.error)
+
+pub returns-in-Breaks-clause-leaves : goal.returns-in-Breaks-clause-leaves
+returns-in-Breaks-clause-leaves g c =
+    leaves_breaks _ _ _ c.in-Breaks.ensures refl refl c.change_breaks.ensures.settings
+
+pub returns-in-Breaks-clause-means : goal.returns-in-Breaks-clause-means
+returns-in-Breaks-clause-means g c =
+    behind_answer _ c.reply_behind-in-Breaks.result c.push_text.result c.reply_behind-in-Breaks.ensures
+    (means_breaks_ok c.push_text.result _ _ _ _ c.in-Breaks.ensures refl refl c.change_breaks.ensures.settings
+    c.change_breaks.ensures.error c.push_text.ensures)
+
+pub returns-in-Query-clause-leaves : goal.returns-in-Query-clause-leaves
+returns-in-Query-clause-leaves g c = leaves_query _ _ _ c.in-Query.ensures refl refl c.query.ensures
+
+pub returns-in-Query-clause-means : goal.returns-in-Query-clause-means
+returns-in-Query-clause-means g c =
+    always _ c.reply_behind-in-Query.result (means_query _ _ _ c.in-Query.ensures)
+
+pub returns-in_err-manage-in-Session-clause-leaves : goal.returns-in_err-manage-in-Session-clause-leaves
+returns-in_err-manage-in-Session-clause-leaves g c = leaves_all _ _ _ refl refl c.manage.ensures
+
+pub returns-in_ok-manage-in-Session-clause-leaves : goal.returns-in_ok-manage-in-Session-clause-leaves
+returns-in_ok-manage-in-Session-clause-leaves g c = leaves_all _ _ _ refl refl c.manage.ensures
+
+pub returns-in_ok-manage-in-Session-clause-means : goal.returns-in_ok-manage-in-Session-clause-means
+returns-in_ok-manage-in-Session-clause-means g c =
+    means_session _ _ _ c.in-Session.ensures refl refl c.manage.ensures

@@ -1,0 +1,137 @@
+-- What is said of the functions that answer packets: what an answer leaves as it was, and what it
+-- means, by the letter of the packet. No public contract cites this.
+use Rattle.std.specs.Prelude.{◌≡◌, ◌≢◌, ◌⊎◌, ℕ, ◌-◌, ◌^◌, Bool, List, [], ◌∷◌, ◌++◌, drop, Ok}
+use Rattle.std.specs.Bool.{OnTrue, OnFalse}
+use Rattle.hex.specs.Hex.{decode_of}
+use Rattle.rrs_lib.specs.Machine.{State, with_pc}
+use Rattle.rrs_linux.specs.Recording.{Recording}
+use Rattle.rrs_gdb.specs.declared.session.Subject.{Subject}
+use Rattle.rrs_gdb.specs.declared.session.Subject.TheVariants.{Shown, Changed, Run, Named, Back, Breaks, Query, Session}
+use Rattle.rrs_gdb.specs.declared.state.SessionState.{SessionState}
+use Rattle.rrs_gdb.specs.Packets.{IsNumber, number, behind}
+use Rattle.rrs_gdb.specs.Shown.{registers_text}
+use Rattle.rrs_gdb.specs.Sessions.{letter, ChangesNone, RunsNone, ChangesRegister, ChangesMemory, BreaksNone, MemoryKept, RegistersKept, BreaksKept, SessionKept, has_ended, IsError, ShowsRegister, SetsRegister, SetsRegisters, ShowsMemory, SetsMemory, GoesOnOrStays, GoesOnFrom, Resumes, Signals, Acts, SessionGoesBack}
+
+-- a session, the environment and the state of its program, and what is answered so far
+pub record Moment : Type 0 where
+  pub session : SessionState
+  pub environment : Recording
+  pub state : State
+  pub reply : List ℕ
+
+abbrev pub moment : SessionState → Recording → State → List ℕ → Moment
+moment session environment state reply =
+    record { session = session; environment = environment; state = state; reply = reply }
+
+-- none of `g`, `p` and `m`, which show the machine
+abbrev pub ShowsNone : List ℕ → Type 0
+ShowsNone payload = (letter payload ≢ 103) × (letter payload ≢ 112) × (letter payload ≢ 109)
+
+-- what a packet is about
+abbrev pub HasSubject : List ℕ → Subject → Type 0
+HasSubject payload Shown = (letter payload ≡ 103) ⊎ (letter payload ≡ 112) ⊎ (letter payload ≡ 109)
+HasSubject payload Changed =
+    (letter payload ≡ 71) ⊎ (letter payload ≡ 80) ⊎ (letter payload ≡ 77) ⊎ (letter payload ≡ 88)
+HasSubject payload Run =
+    (letter payload ≡ 99) ⊎ (letter payload ≡ 67) ⊎ (letter payload ≡ 115) ⊎ (letter payload ≡ 83)
+HasSubject payload Named = letter payload ≡ 118
+HasSubject payload Back = letter payload ≡ 98
+HasSubject payload Breaks = (letter payload ≡ 90) ⊎ (letter payload ≡ 122)
+HasSubject payload Query = letter payload ≡ 113
+HasSubject payload Session =
+    ChangesNone payload × RunsNone payload × ShowsNone payload × (letter payload ≢ 113)
+
+-- ---- the machine is shown and changed
+
+-- `g`, `p` and `m`
+pub record Shows (payload : List ℕ) (s : State) (old new : List ℕ) : Type 0 where
+  pub registers : payload ≡ 103 ∷ [] → new ≡ old ++ registers_text s
+  pub register : letter payload ≡ 112 → ShowsRegister (drop 1 payload) s old new
+  pub memory : letter payload ≡ 109 → ShowsMemory (drop 1 payload) s old new
+
+-- `G`, `P`, `M` and `X`
+pub record Sets (payload : List ℕ) (s t : State) (old new : List ℕ) : Type 0 where
+  pub registers : letter payload ≡ 71 → SetsRegisters (drop 1 payload) s t old new
+  pub register : letter payload ≡ 80 → SetsRegister (drop 1 payload) s t old new
+  pub memory : letter payload ≡ 77 → (values : List ℕ)
+      → decode_of (behind 58 (drop 1 payload)) ≡ Ok values
+      → SetsMemory values (drop 1 payload) s t old new
+  pub bytes : letter payload ≡ 88
+      → SetsMemory (behind 58 (drop 1 payload)) (drop 1 payload) s t old new
+
+-- a change that is done is no error, and one that is not done changes nothing
+pub record IsDone (is_changed : Bool) (s t : State) (old new : List ℕ) : Type 0 where
+  pub no_error : OnTrue is_changed (IsError old new → ⊥)
+  pub none : OnFalse is_changed (t ≡ s)
+
+-- ---- the program goes on and back
+
+-- the address to go on from stands behind the letter, or nothing does
+pub data BeginsBy (rest : List ℕ) (s s' : State) : Type 0 where
+  Here : rest ≡ [] → s' ≡ s → BeginsBy rest s s'
+  There : IsNumber rest → s' ≡ with_pc s (number rest) → BeginsBy rest s s'
+
+-- `s`, `c`, `S` and `C`
+pub record Goes (payload : List ℕ) (m n : Moment) : Type 0 where
+  pub step : (letter payload ≡ 115) ⊎ (letter payload ≡ 83)
+      → GoesOnFrom m.session.breaks.stops.items m.session.breaks.watches.items 1
+      m.environment m.state n.environment n.state
+  pub goes_on : (letter payload ≡ 99) ⊎ (letter payload ≡ 67)
+      → GoesOnFrom m.session.breaks.stops.items m.session.breaks.watches.items
+      m.session.settings.limit m.environment m.state n.environment n.state
+  pub steps : letter payload ≡ 115 → Resumes (drop 1 payload) (has_ended m.session)
+      m.session.breaks.stops.items m.session.breaks.watches.items 1
+      m.environment m.state n.environment n.state m.reply n.reply
+  pub continues : letter payload ≡ 99 → Resumes (drop 1 payload) (has_ended m.session)
+      m.session.breaks.stops.items m.session.breaks.watches.items m.session.settings.limit
+      m.environment m.state n.environment n.state m.reply n.reply
+  pub step_signal : letter payload ≡ 83 → Signals (drop 1 payload) (has_ended m.session)
+      m.session.breaks.stops.items m.session.breaks.watches.items 1
+      m.environment m.state n.environment n.state m.reply n.reply n.session.stop
+  pub signal : letter payload ≡ 67 → Signals (drop 1 payload) (has_ended m.session)
+      m.session.breaks.stops.items m.session.breaks.watches.items m.session.settings.limit
+      m.environment m.state n.environment n.state m.reply n.reply n.session.stop
+
+-- `v`
+pub record ActsBy (payload : List ℕ) (m n : Moment) : Type 0 where
+  pub goes_on : letter payload ≡ 118 → (limit : ℕ) × GoesOnOrStays m.session.breaks.stops.items
+      m.session.breaks.watches.items limit m.environment m.state n.environment n.state
+  pub acts : (actions : List ℕ) → payload ≡ 118 ∷ 67 ∷ 111 ∷ 110 ∷ 116 ∷ 59 ∷ actions
+      → Acts actions (has_ended m.session) m.session.breaks.stops.items
+      m.session.breaks.watches.items m.session.settings.limit
+      m.environment m.state n.environment n.state
+
+-- `bs` and `bc`
+pub record Returns (payload : List ℕ) (m n : Moment) : Type 0 where
+  pub step : payload ≡ 98 ∷ 115 ∷ [] → SessionGoesBack 1
+      m.session m.environment m.state n.session n.environment n.state
+  pub goes_back : payload ≡ 98 ∷ 99 ∷ [] → SessionGoesBack (2 ^ 64 - 1)
+      m.session m.environment m.state n.session n.environment n.state
+
+-- ---- an answer
+
+-- nothing changes but what is answered
+pub record Stays (m n : Moment) : Type 0 where
+  pub state_kept : n.state ≡ m.state
+  pub environment_kept : n.environment ≡ m.environment
+  pub session_kept : SessionKept m.session n.session
+
+-- what an answer leaves as it was, whether it is whole or not
+pub record Leaves (payload : List ℕ) (m n : Moment) : Type 0 where
+  pub asks : ChangesNone payload → RunsNone payload → n.state ≡ m.state
+  pub registers : ChangesRegister payload → MemoryKept m.state n.state
+  pub memory : ChangesMemory payload → RegistersKept m.state n.state
+  pub environment : RunsNone payload → n.environment ≡ m.environment
+  pub breaks : BreaksNone payload → BreaksKept m.session n.session
+  pub settings : letter payload ≢ 113 → n.session.settings ≡ m.session.settings
+  pub history : ChangesNone payload → RunsNone payload → letter payload ≢ 113
+      → n.session.history ≡ m.session.history
+
+-- what a packet means that is answered
+pub record Means (payload : List ℕ) (m n : Moment) : Type 0 where
+  pub shows : Shows payload m.state m.reply n.reply
+  pub sets : Sets payload m.state n.state m.reply n.reply
+  pub goes : Goes payload m n
+  pub acts : ActsBy payload m n
+  pub returns : Returns payload m n
+  pub error : letter payload ≢ 113 → IsError m.reply n.reply → Stays m n
