@@ -2,3 +2,4 @@
 pub mod GoingLemmas
 pub mod RamLemmas
 pub mod SessionLemmas
+pub mod AnswerLemmas

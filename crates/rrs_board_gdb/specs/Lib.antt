@@ -4,3 +4,4 @@ pub use Rattle.rrs_memory.specs.Loading
 pub mod Going
 pub mod Shown
 pub mod Sessions
+pub mod Answers

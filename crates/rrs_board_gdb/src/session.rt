@@ -8,6 +8,7 @@ ghost use Rattle.rrs_gdb.specs.Shown.{text_of};
 ghost use Rattle.rrs_gdb.specs.Sessions.{letter, BreaksNone, ChangesMemory, ChangesNone, IsError, RunsNone, SetsBytes, SetsMemory, ShowsBytes, ShowsMemory};
 ghost use Rattle.rrs_board_gdb.specs.Going.{debugged};
 ghost use Rattle.rrs_board_gdb.specs.Shown.{SameBoard, SameButRam, byte_at, ram_state, with_register};
+ghost use Rattle.rrs_board_gdb.specs.Answers.{HasSubject, Inspects, Leaves, Means};
 ghost use Rattle.rrs_board_gdb.specs.Sessions.{Changes, GoesBy, GoesFrom, IsContinue, IsGoing, IsStep, SetsRegister, ShowsRegister, stop_of, stop_text};
 
 use crate::going::{DebuggedBoard, GoReason};
@@ -40,6 +41,17 @@ pub enum BoardStop {
     Signal(u8),
     /// It ended with this status.
     Exited(u8),
+}
+
+/// What a packet is about, by its letter.
+#[derive(Clone, Copy)]
+enum Subject {
+    /// `c`, `C`, `s` and `S`: the board goes on.
+    Run,
+    /// `g`, `p`, `P`, `m` and `M`: the board is shown or changed.
+    Inspected,
+    /// Another letter: the session.
+    Session,
 }
 
 /// A board under gdb, and where it stops.
@@ -236,15 +248,7 @@ fn inspect(
     ensures memory { ChangesMemory payload.now → SameButRam board.old board.new }
     ensures error { OnOk result (IsError reply.old.items reply.new.items
         → SameBoard board.old board.new) }
-    ensures p { letter payload.now ≡ 112 → OnOk result (ShowsRegister (drop 1 payload.now)
-        board.old reply.old.items reply.new.items) }
-    ensures set_p { letter payload.now ≡ 80 → OnOk result (SetsRegister (drop 1 payload.now)
-        board.old board.new reply.old.items reply.new.items) }
-    ensures m { letter payload.now ≡ 109 → OnOk result (ShowsMemory (drop 1 payload.now)
-        (ram_state board.old) reply.old.items reply.new.items) }
-    ensures set_m { letter payload.now ≡ 77 → OnOk result ((values : List ℕ)
-        → decode_of (behind 58 (drop 1 payload.now)) ≡ Ok values
-        → SetsMemory values (drop 1 payload.now) (ram_state board.old) (ram_state board.new)
+    ensures inspects { OnOk result (Inspects payload.now board.old board.new
         reply.old.items reply.new.items) }
 {
     match payload {
@@ -440,6 +444,41 @@ fn manage<R, W>(
     Ok(Next::Reply)
 }
 
+/// What a packet is about.
+fn subject_of(payload: &[u8]) -> Subject
+    ensures { HasSubject payload.now result }
+{
+    match payload {
+        [b'c' | b'C' | b's' | b'S', ..] => Subject::Run,
+        [b'g' | b'p' | b'P' | b'm' | b'M', ..] => Subject::Inspected,
+        _ => Subject::Session,
+    }
+}
+
+/// Answers a packet by its subject.
+fn answer_by_subject<R: Read, W: Write>(
+    session: &mut BoardSession<'_>,
+    link: &mut Link<R, W>,
+    reply: &mut Vec<u8>,
+    payload: &[u8],
+) -> Result<Next, LinkError>
+    ensures leaves { Leaves payload.now session.old session.new }
+    ensures means { OnOk result (Means payload.now session.old session.new
+        reply.old.items reply.new.items) }
+{
+    if let Some(actions) = actions_of(payload) {
+        return resume(session, link, reply, actions);
+    }
+    match subject_of(payload) {
+        Subject::Run => go_on(session, link, reply, payload),
+        Subject::Inspected => {
+            inspect(link.alloc, &mut session.debugged.board, reply, payload)?;
+            Ok(Next::Reply)
+        }
+        Subject::Session => Ok(manage(session, link, reply, payload)?),
+    }
+}
+
 /// Answers a packet: the answer is appended to `reply`, and output of the program goes to the link.
 ///
 /// `p` and `m` show the register, or the bytes of RAM, that they name (`shows_register`,
@@ -492,17 +531,7 @@ pub fn answer_to<R: Read, W: Write>(
     ensures breaks { BreaksNone payload.now
         → session.new.breaks.stops.items ≡ session.old.breaks.stops.items }
 {
-    if let Some(actions) = actions_of(payload) {
-        return resume(session, link, reply, actions);
-    }
-    match payload {
-        [b'c' | b'C' | b's' | b'S', ..] => go_on(session, link, reply, payload),
-        [b'g' | b'p' | b'P' | b'm' | b'M', ..] => {
-            inspect(link.alloc, &mut session.debugged.board, reply, payload)?;
-            Ok(Next::Reply)
-        }
-        _ => Ok(manage(session, link, reply, payload)?),
-    }
+    answer_by_subject(session, link, reply, payload)
 }
 
 /// Answers the packets that gdb sends, until it ends the session.

@@ -1,0 +1,269 @@
+-- What an answer leaves and means, by the subject of the packet.
+use Rattle.std.proofs.Common.{◌≡◌, ◌≢◌, ◌⊎◌, ℕ, List, ◌++◌, Result, Ok, Err, OnOk, drop, slice_index, sym, subst, ap, ◌∙◌, inl, inr, arith}
+use Rattle.std.specs.Prelude.{codes}
+use Rattle.std.proofs.lemmas.List.{append_cancel_left}
+use Rattle.hex.specs.Hex.{decode_of}
+use Rattle.rrs_board.specs.declared.board.Board.{Board}
+use Rattle.rrs_gdb.specs.Packets.{before, behind}
+use Rattle.rrs_gdb.specs.Sessions.{letter, BreaksNone, ChangesMemory, ChangesNone, IsError, RunsNone, SetsMemory, ShowsMemory}
+use Rattle.rrs_board_gdb.specs.declared.session.BoardSession.{BoardSession}
+use Rattle.rrs_board_gdb.specs.declared.session.Subject.TheVariants.{Inspected, Session}
+use Rattle.rrs_board_gdb.specs.Shown.{SameBoard, SameButRam, ram_bytes, ram_writable, ram_state}
+use Rattle.rrs_board_gdb.specs.Sessions.{GoesBy, IsGoing, SetsRegister, ShowsRegister}
+use Rattle.rrs_board_gdb.specs.Answers.{InspectsNone, HasSubject, Inspects, Leaves, Means}
+
+-- ---- the same board
+
+same_board : (b c : Board) → c ≡ b → SameBoard b c
+same_board b c same = record {
+  rest_kept = record {
+    hart_kept = ap (λ (x : Board). x.hart) same;
+    csrs_kept = ap (λ (x : Board). x.csrs) same;
+    devices_kept = ap (λ (x : Board). x.memory.devices) same;
+    writable_kept = ap ram_writable same;
+  };
+  bytes_kept = ap ram_bytes same;
+}
+
+-- ---- letters
+
+-- no two of these letters are one
+apart : {P : Type 0} (payload : List ℕ) (j k : ℕ) → letter payload ≡ j → letter payload ≡ k → j ≢ k → P
+apart payload j k is is' other = absurd (other (sym is ∙ is'))
+
+either : {A B C : Type 0} → A ⊎ B → (A → ⊥) → (B → ⊥) → C
+either (inl a) no_a no_b = absurd (no_a a)
+either (inr b) no_a no_b = absurd (no_b b)
+
+-- `c`, `C`, `s` and `S` have the board go on
+runs_some : (payload : List ℕ) → IsGoing payload → RunsNone payload → ⊥
+runs_some payload (inl is) none = none.0 is
+runs_some payload (inr (inl is)) none = none.1 is
+runs_some payload (inr (inr (inl is))) none = none.2 is
+runs_some payload (inr (inr (inr is))) none = none.3 is
+
+not_going : (payload : List ℕ) (k : ℕ) → letter payload ≡ k → k ≢ 99 → k ≢ 67 → k ≢ 115 → k ≢ 83 → ¬ IsGoing payload
+not_going payload k is c C s S (inl is') = c (sym is ∙ is')
+not_going payload k is c C s S (inr (inl is')) = C (sym is ∙ is')
+not_going payload k is c C s S (inr (inr (inl is'))) = s (sym is ∙ is')
+not_going payload k is c C s S (inr (inr (inr is'))) = S (sym is ∙ is')
+
+inspects_none : (payload : List ℕ) (k : ℕ) → letter payload ≡ k → k ≢ 112 → k ≢ 80 → k ≢ 109 → k ≢ 77 → InspectsNone payload
+inspects_none payload k is p P m M =
+    (λ is'. p (sym is ∙ is'), λ is'. P (sym is ∙ is'), λ is'. m (sym is ∙ is'), λ is'. M (sym is ∙ is'))
+
+run_inspects_none : (payload : List ℕ) → IsGoing payload → InspectsNone payload
+run_inspects_none payload (inl is) = inspects_none payload 99 is (omega arith) (omega arith) (omega arith) (omega arith)
+run_inspects_none payload (inr (inl is)) =
+    inspects_none payload 67 is (omega arith) (omega arith) (omega arith) (omega arith)
+run_inspects_none payload (inr (inr (inl is))) =
+    inspects_none payload 115 is (omega arith) (omega arith) (omega arith) (omega arith)
+run_inspects_none payload (inr (inr (inr is))) =
+    inspects_none payload 83 is (omega arith) (omega arith) (omega arith) (omega arith)
+
+inspected_not_going : (payload : List ℕ) → HasSubject payload Inspected → ¬ IsGoing payload
+inspected_not_going payload (inl is) = not_going payload 103 is (omega arith) (omega arith) (omega arith) (omega arith)
+inspected_not_going payload (inr (inl is)) =
+    not_going payload 112 is (omega arith) (omega arith) (omega arith) (omega arith)
+inspected_not_going payload (inr (inr (inl is))) =
+    not_going payload 80 is (omega arith) (omega arith) (omega arith) (omega arith)
+inspected_not_going payload (inr (inr (inr (inl is)))) =
+    not_going payload 109 is (omega arith) (omega arith) (omega arith) (omega arith)
+inspected_not_going payload (inr (inr (inr (inr is)))) =
+    not_going payload 77 is (omega arith) (omega arith) (omega arith) (omega arith)
+
+-- `vCont` is of no such subject
+named : (payload actions : List ℕ) → payload ≡ codes "vCont;" ++ actions → letter payload ≡ 118
+named payload actions is = ap (λ (xs : List ℕ). slice_index xs 0) is
+
+inspected_not_named : (payload : List ℕ) → HasSubject payload Inspected → letter payload ≢ 118
+inspected_not_named payload (inl is) = λ is'. apart payload 103 118 is is' (omega arith)
+inspected_not_named payload (inr (inl is)) = λ is'. apart payload 112 118 is is' (omega arith)
+inspected_not_named payload (inr (inr (inl is))) = λ is'. apart payload 80 118 is is' (omega arith)
+inspected_not_named payload (inr (inr (inr (inl is)))) = λ is'. apart payload 109 118 is is' (omega arith)
+inspected_not_named payload (inr (inr (inr (inr is)))) = λ is'. apart payload 77 118 is is' (omega arith)
+
+-- ---- registers and RAM
+
+no_inspects : (payload : List ℕ) (b b' : Board) (old new : List ℕ) → InspectsNone payload → Inspects payload b b' old new
+no_inspects payload b b' old new none = record {
+  shows_register = λ is. absurd (none.0 is);
+  sets_register = λ is. absurd (none.1 is);
+  shows_memory = λ is. absurd (none.2 is);
+  sets_memory = λ is. absurd (none.3 is);
+}
+
+pub inspects_p : {A F : Type 0} (r : Result A F) (payload text : List ℕ) (b b' : Board) (old new : List ℕ)
+    → letter payload ≡ 112 → text ≡ drop 1 payload → OnOk r (ShowsRegister text b old new)
+    → OnOk r (Inspects payload b b' old new)
+inspects_p (Ok x) payload text b b' old new is same shows = record {
+  shows_register = λ _. subst (λ (xs : List ℕ). ShowsRegister xs b old new) same shows;
+  sets_register = λ is'. apart payload 112 80 is is' (omega arith);
+  shows_memory = λ is'. apart payload 112 109 is is' (omega arith);
+  sets_memory = λ is'. apart payload 112 77 is is' (omega arith);
+}
+inspects_p (Err f) payload text b b' old new is same shows = tt
+
+pub inspects_P : {A F : Type 0} (r : Result A F) (payload text : List ℕ) (b b' : Board) (old new : List ℕ)
+    → letter payload ≡ 80 → text ≡ drop 1 payload → OnOk r (SetsRegister text b b' old new)
+    → OnOk r (Inspects payload b b' old new)
+inspects_P (Ok x) payload text b b' old new is same sets = record {
+  shows_register = λ is'. apart payload 80 112 is is' (omega arith);
+  sets_register = λ _. subst (λ (xs : List ℕ). SetsRegister xs b b' old new) same sets;
+  shows_memory = λ is'. apart payload 80 109 is is' (omega arith);
+  sets_memory = λ is'. apart payload 80 77 is is' (omega arith);
+}
+inspects_P (Err f) payload text b b' old new is same sets = tt
+
+pub inspects_m : {A F : Type 0} (r : Result A F) (payload text : List ℕ) (b b' : Board) (old new : List ℕ)
+    → letter payload ≡ 109 → text ≡ drop 1 payload → OnOk r (ShowsMemory text (ram_state b) old new)
+    → OnOk r (Inspects payload b b' old new)
+inspects_m (Ok x) payload text b b' old new is same shows = record {
+  shows_register = λ is'. apart payload 109 112 is is' (omega arith);
+  sets_register = λ is'. apart payload 109 80 is is' (omega arith);
+  shows_memory = λ _. subst (λ (xs : List ℕ). ShowsMemory xs (ram_state b) old new) same shows;
+  sets_memory = λ is'. apart payload 109 77 is is' (omega arith);
+}
+inspects_m (Err f) payload text b b' old new is same shows = tt
+
+pub inspects_M : {A F : Type 0} (r : Result A F) (payload text : List ℕ) (b b' : Board) (old new : List ℕ)
+    → letter payload ≡ 77 → text ≡ drop 1 payload
+    → OnOk r ((values : List ℕ) → decode_of (behind 58 text) ≡ Ok values
+    → SetsMemory values text (ram_state b) (ram_state b') old new)
+    → OnOk r (Inspects payload b b' old new)
+inspects_M (Ok x) payload text b b' old new is same sets = record {
+  shows_register = λ is'. apart payload 77 112 is is' (omega arith);
+  sets_register = λ is'. apart payload 77 80 is is' (omega arith);
+  shows_memory = λ is'. apart payload 77 109 is is' (omega arith);
+  sets_memory = λ _. subst (λ (xs : List ℕ). (values : List ℕ) → decode_of (behind 58 xs) ≡ Ok values
+      → SetsMemory values xs (ram_state b) (ram_state b') old new) same sets;
+}
+inspects_M (Err f) payload text b b' old new is same sets = tt
+
+-- ---- what an answer leaves
+
+changes_not_named : {P : Type 0} (payload : List ℕ) → letter payload ≡ 118 → ChangesMemory payload → P
+changes_not_named payload is (inl is') = apart payload 118 77 is is' (omega arith)
+changes_not_named payload is (inr is') = apart payload 118 88 is is' (omega arith)
+
+pub leaves_named : (payload actions : List ℕ) (s t : BoardSession) → payload ≡ codes "vCont;" ++ actions
+    → t.breaks ≡ s.breaks → t.limit ≡ s.limit → Leaves payload s t
+leaves_named payload actions s t is kept same =
+    let at = named payload actions is in
+    record {
+      asks = λ _ none. absurd (none.4 at);
+      memory = changes_not_named payload at;
+      stays = λ _ other. absurd (other actions is);
+      input = λ none. absurd (none.4 at);
+      stop = λ none. absurd (none.4 at);
+      limit = same;
+      breaks = λ _. ap (λ x. x.stops.items) kept;
+    }
+
+run_changes_none : {P : Type 0} (payload : List ℕ) → IsGoing payload → ChangesMemory payload → P
+run_changes_none payload is (inl is') =
+    absurd (not_going payload 77 is' (omega arith) (omega arith) (omega arith) (omega arith) is)
+run_changes_none payload is (inr is') =
+    absurd (not_going payload 88 is' (omega arith) (omega arith) (omega arith) (omega arith) is)
+
+pub leaves_run : (payload : List ℕ) (s t : BoardSession) → IsGoing payload → t.breaks ≡ s.breaks → t.limit ≡ s.limit
+    → Leaves payload s t
+leaves_run payload s t is kept same = record {
+  asks = λ _ none. absurd (runs_some payload is none);
+  memory = run_changes_none payload is;
+  stays = λ is' _. absurd (not_going payload 118 is' (omega arith) (omega arith) (omega arith) (omega arith) is);
+  input = λ none. absurd (runs_some payload is none);
+  stop = λ none. absurd (runs_some payload is none);
+  limit = same;
+  breaks = λ _. ap (λ x. x.stops.items) kept;
+}
+
+pub leaves_inspected : (payload : List ℕ) (s t : BoardSession) → HasSubject payload Inspected
+    → (ChangesNone payload → SameBoard s.debugged.board t.debugged.board)
+    → (ChangesMemory payload → SameButRam s.debugged.board t.debugged.board)
+    → t.debugged.input ≡ s.debugged.input → t.stop ≡ s.stop → t.limit ≡ s.limit
+    → t.breaks.stops.items ≡ s.breaks.stops.items → Leaves payload s t
+leaves_inspected payload s t is asks memory input stop limit breaks = record {
+  asks = λ none _. asks none;
+  memory = memory;
+  stays = λ is' _. absurd (inspected_not_named payload is is');
+  input = λ _. input;
+  stop = λ _. stop;
+  limit = limit;
+  breaks = λ _. breaks;
+}
+
+pub leaves_session : (payload : List ℕ) (s t : BoardSession) → t.debugged ≡ s.debugged → t.stop ≡ s.stop
+    → t.limit ≡ s.limit → (BreaksNone payload → t.breaks.stops.items ≡ s.breaks.stops.items) → Leaves payload s t
+leaves_session payload s t kept stop limit breaks =
+    let same = same_board s.debugged.board t.debugged.board (ap (λ x. x.board) kept) in
+    record {
+      asks = λ _ _. same;
+      memory = λ _. same.rest_kept;
+      stays = λ _ _. kept;
+      input = λ _. ap (λ x. x.input) kept;
+      stop = λ _. stop;
+      limit = limit;
+      breaks = breaks;
+    }
+
+-- ---- what a packet means
+
+means_named : (payload actions : List ℕ) (s t : BoardSession) (old new : List ℕ)
+    → payload ≡ codes "vCont;" ++ actions → GoesBy (before 58 (before 59 actions)) s t old new
+    → (IsError old new → SameBoard s.debugged.board t.debugged.board) → Means payload s t old new
+means_named payload actions s t old new is goes error =
+    let at = named payload actions is in
+    record {
+      inspects = no_inspects payload s.debugged.board t.debugged.board old new
+          (inspects_none payload 118 at (omega arith) (omega arith) (omega arith) (omega arith));
+      goes = λ is'. absurd (not_going payload 118 at (omega arith) (omega arith) (omega arith) (omega arith) is');
+      resumes = λ others is'.
+          let same : actions ≡ others = append_cancel_left (codes "vCont;") _ _ (sym is ∙ is') in
+          subst (λ (xs : List ℕ). GoesBy (before 58 (before 59 xs)) s t old new) same goes;
+      error = error;
+    }
+
+pub means_named_ok : {A F : Type 0} (r : Result A F) (payload actions : List ℕ) (s t : BoardSession) (old new : List ℕ)
+    → payload ≡ codes "vCont;" ++ actions → OnOk r (GoesBy (before 58 (before 59 actions)) s t old new)
+    → OnOk r (IsError old new → SameBoard s.debugged.board t.debugged.board) → OnOk r (Means payload s t old new)
+means_named_ok (Ok x) payload actions s t old new is goes error = means_named payload actions s t old new is goes error
+means_named_ok (Err f) payload actions s t old new is goes error = tt
+
+pub means_run : {A F : Type 0} (r : Result A F) (payload : List ℕ) (s t : BoardSession) (old new : List ℕ)
+    → IsGoing payload → OnOk r (GoesBy payload s t old new)
+    → OnOk r (IsError old new → SameBoard s.debugged.board t.debugged.board) → OnOk r (Means payload s t old new)
+means_run (Ok x) payload s t old new is goes error = record {
+  inspects = no_inspects payload s.debugged.board t.debugged.board old new (run_inspects_none payload is);
+  goes = λ _. goes;
+  resumes = λ actions is'. absurd (not_going payload 118 (named payload actions is') (omega arith) (omega arith)
+      (omega arith) (omega arith) is);
+  error = error;
+}
+means_run (Err f) payload s t old new is goes error = tt
+
+pub means_inspected : (payload : List ℕ) (s t : BoardSession) (old new : List ℕ) → HasSubject payload Inspected
+    → Inspects payload s.debugged.board t.debugged.board old new
+    → (IsError old new → SameBoard s.debugged.board t.debugged.board) → Means payload s t old new
+means_inspected payload s t old new is inspects error = record {
+  inspects = inspects;
+  goes = λ is'. absurd (inspected_not_going payload is is');
+  resumes = λ actions is'. absurd (inspected_not_named payload is (named payload actions is'));
+  error = error;
+}
+
+pub means_session : (payload : List ℕ) (s t : BoardSession) (old new : List ℕ) → HasSubject payload Session
+    → t.debugged ≡ s.debugged → ((actions : List ℕ) → payload ≢ codes "vCont;" ++ actions)
+    → Means payload s t old new
+means_session payload s t old new is kept other = record {
+  inspects = no_inspects payload s.debugged.board t.debugged.board old new is.1;
+  goes = λ is'. absurd (is.0 is');
+  resumes = λ actions is'. absurd (other actions is');
+  error = λ _. same_board s.debugged.board t.debugged.board (ap (λ x. x.board) kept);
+}
+
+-- what is meant of an answer that is whole
+pub on_means : {A F Q : Type 0} (r : Result A F) (payload : List ℕ) (s t : BoardSession) (old new : List ℕ)
+    → OnOk r (Means payload s t old new) → (Means payload s t old new → Q) → OnOk r Q
+on_means (Ok x) payload s t old new means part = part means
+on_means (Err f) payload s t old new means part = tt
