@@ -8,7 +8,7 @@ ghost use Rattle.rrs_elf.specs.Executables.{IsExecutable};
 ghost use Rattle.rrs_elf.specs.Loading.{Stands};
 ghost use Rattle.rrs_elf.specs.Refusals.{first_refusal, checks};
 ghost use Rattle.rrs_elf.specs.declared.errors.ElfError.{ElfError};
-ghost use Rattle.rrs_c.specs.Elf.{accepted_elf, refused_elf, SegmentIn, LoadsElf, StopsIn, FindsNone, Locates, FindsFunction, location_of, no_segment};
+ghost use Rattle.rrs_c.specs.Elf.{accepted_elf, told, refused_elf, SegmentIn, LoadsElf, StopsIn, FindsNone, Locates, FindsFunction, location_of, no_segment};
 
 use crate::text::put_text;
 use rrs_elf::{ElfError, Executable, Location, Refused};
@@ -73,22 +73,41 @@ pub struct RrsLocation {
 /// The refusal where an address is not in the words.
 const NOT_IN_WORDS: u32 = 31;
 
-/// A refusal that tells these numbers.
-fn told(refusal: u32, number: u32, other: u32) -> RrsElf
-    ensures { result ≡ record {
-      refusal = refusal;
-      number = number;
-      other = other;
-      entry = 0;
-      segments = 0;
-    } }
+/// The number of a refusal, and the numbers that it tells.
+fn numbers_of(error: ElfError) -> (u32, u32, u32)
+    ensures { told result.0 result.1 result.2 ≡ refused_elf error }
 {
-    RrsElf {
-        refusal,
-        number,
-        other,
-        entry: 0,
-        segments: 0,
+    match error {
+        ElfError::NotElf => (1, 0, 0),
+        ElfError::HeaderCutShort => (2, 0, 0),
+        ElfError::Class(class) => (3, u32::from(class), 0),
+        ElfError::ByteOrder(order) => (4, u32::from(order), 0),
+        ElfError::IdentVersion(version) => (5, u32::from(version), 0),
+        ElfError::PositionIndependent => (6, 0, 0),
+        ElfError::NotExecutable(kind) => (7, u32::from(kind), 0),
+        ElfError::Machine(machine) => (8, u32::from(machine), 0),
+        ElfError::Version(version) => (9, version, 0),
+        ElfError::CompressedCode => (10, 0, 0),
+        ElfError::FloatingPoint => (11, 0, 0),
+        ElfError::Embedded => (12, 0, 0),
+        ElfError::ProgramHeaderSize(size) => (13, u32::from(size), 0),
+        ElfError::TooManyProgramHeaders => (14, 0, 0),
+        ElfError::ProgramHeadersCutShort => (15, 0, 0),
+        ElfError::Interpreter(index) => (16, u32::from(index), 0),
+        ElfError::SegmentCutShort(index) => (17, u32::from(index), 0),
+        ElfError::SegmentSizes(index) => (18, u32::from(index), 0),
+        ElfError::SegmentPastLastAddress(index) => (19, u32::from(index), 0),
+        ElfError::SegmentsOverlap(one, other) => (20, u32::from(one), u32::from(other)),
+        ElfError::EntryMisaligned(entry) => (21, entry, 0),
+        ElfError::EntryOutside(entry) => (22, entry, 0),
+        ElfError::SectionHeaderSize(size) => (23, u32::from(size), 0),
+        ElfError::SectionHeadersCutShort => (24, 0, 0),
+        ElfError::SymbolSize(size) => (25, size, 0),
+        ElfError::SymbolTableCutShort => (26, 0, 0),
+        ElfError::NoStringTable(link) => (27, link, 0),
+        ElfError::StringTableCutShort => (28, 0, 0),
+        ElfError::StringTableNotEnded => (29, 0, 0),
+        ElfError::NameOutside(index) => (30, index, 0),
     }
 }
 
@@ -96,37 +115,13 @@ fn told(refusal: u32, number: u32, other: u32) -> RrsElf
 fn refusal_of(error: ElfError) -> RrsElf
     ensures { result ≡ refused_elf error }
 {
-    match error {
-        ElfError::NotElf => told(1, 0, 0),
-        ElfError::HeaderCutShort => told(2, 0, 0),
-        ElfError::Class(class) => told(3, u32::from(class), 0),
-        ElfError::ByteOrder(order) => told(4, u32::from(order), 0),
-        ElfError::IdentVersion(version) => told(5, u32::from(version), 0),
-        ElfError::PositionIndependent => told(6, 0, 0),
-        ElfError::NotExecutable(kind) => told(7, u32::from(kind), 0),
-        ElfError::Machine(machine) => told(8, u32::from(machine), 0),
-        ElfError::Version(version) => told(9, version, 0),
-        ElfError::CompressedCode => told(10, 0, 0),
-        ElfError::FloatingPoint => told(11, 0, 0),
-        ElfError::Embedded => told(12, 0, 0),
-        ElfError::ProgramHeaderSize(size) => told(13, u32::from(size), 0),
-        ElfError::TooManyProgramHeaders => told(14, 0, 0),
-        ElfError::ProgramHeadersCutShort => told(15, 0, 0),
-        ElfError::Interpreter(index) => told(16, u32::from(index), 0),
-        ElfError::SegmentCutShort(index) => told(17, u32::from(index), 0),
-        ElfError::SegmentSizes(index) => told(18, u32::from(index), 0),
-        ElfError::SegmentPastLastAddress(index) => told(19, u32::from(index), 0),
-        ElfError::SegmentsOverlap(one, other) => told(20, u32::from(one), u32::from(other)),
-        ElfError::EntryMisaligned(entry) => told(21, entry, 0),
-        ElfError::EntryOutside(entry) => told(22, entry, 0),
-        ElfError::SectionHeaderSize(size) => told(23, u32::from(size), 0),
-        ElfError::SectionHeadersCutShort => told(24, 0, 0),
-        ElfError::SymbolSize(size) => told(25, size, 0),
-        ElfError::SymbolTableCutShort => told(26, 0, 0),
-        ElfError::NoStringTable(link) => told(27, link, 0),
-        ElfError::StringTableCutShort => told(28, 0, 0),
-        ElfError::StringTableNotEnded => told(29, 0, 0),
-        ElfError::NameOutside(index) => told(30, index, 0),
+    let (refusal, number, other) = numbers_of(error);
+    RrsElf {
+        refusal,
+        number,
+        other,
+        entry: 0,
+        segments: 0,
     }
 }
 
