@@ -4,16 +4,16 @@
 --   rrs as [--gnu | --list] [-o OUTPUT] [--rars] [-Ttext ADDRESS] [-Tdata ADDRESS] FILE
 --
 -- Options stand before FILE and behind it.
-use Rattle.std.specs.Prelude.{ℕ, ◌%◌, ◌≡◌, ◌⊎◌, true, false, List, [], ◌∷◌, take, drop, Option, Some, None, IsSome, Result, Ok, Err, option_map, codes}
+use Rattle.std.specs.Prelude.{ℕ, ◌%◌, ◌≡◌, ◌≤◌, ◌⊎◌, true, false, List, [], ◌∷◌, length, take, drop, Option, Some, None, IsSome, Result, Ok, Err, option_map, codes}
 use Rattle.std.specs.List.{list_any}
 use Rattle.std.specs.Option.{option_map_or}
+use Rattle.std.specs.Str.Parse.{IsNumeral, digits_value}
 use Rattle.rrs_asm.specs.declared.sections.Layout.{Layout}
 use Rattle.rrs_asm.specs.declared.sections.Section.{Section}
 use Rattle.rrs_asm.specs.Source.{items_of}
 use Rattle.rrs_asm.specs.Sections.{flat, AreSectionsOf, IsImage}
 use Rattle.rrs_assembly.specs.Executables.{IsExecutableOf}
 use Rattle.rrs_cli.specs.declared.command.Failure.TheVariants.{Usage}
-use Rattle.rrs_gdb.specs.Packets.{IsNumber, number}
 use Rattle.rrs_macros.specs.Directives.{begins_one, has_directives}
 use Rattle.rrs_macros.specs.Expansion.{IsExpansion}
 use Rattle.rrs_macros.specs.Lines.{lines}
@@ -70,8 +70,9 @@ IsNoOption word = (option : AssemblyOption) → word ≡ word_of option → ⊥
 -- ADDRESS is `0x` and one to eight hexadecimal digits, and a multiple of 4.
 pub record IsAddress (word : List ℕ) (address : ℕ) : Type 0 where
   pub prefix : take 2 word ≡ codes "0x"
-  pub digits : IsNumber (drop 2 word)
-  pub value : address ≡ number (drop 2 word)
+  pub digits : IsNumeral 16 (drop 2 word)
+  pub eight : length (drop 2 word) ≤ 8
+  pub value : address ≡ digits_value 16 (drop 2 word)
   pub aligned : address % 4 ≡ 0
 
 -- the first word is this address, and these are behind it

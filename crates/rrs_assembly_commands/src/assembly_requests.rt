@@ -5,9 +5,8 @@ ghost use Rattle.rrs_assembly_commands.specs.Assembly.{AsksFor, BeginsWithAddres
 
 use rrs_asm::Layout;
 use rrs_cli::command::Failure;
-use rrs_gdb::number_of;
 use rrs_requests::refusal::Refusal;
-use rrs_requests::words::word_before;
+use rrs_requests::words::{hexadecimal_of, word_before};
 
 /// What is printed of a program.
 #[derive(Clone, Copy, Debug, PartialEq)]
@@ -236,15 +235,19 @@ fn address_before(words: &[String]) -> Result<(u32, &[String]), Refusal>
 /// # Errors
 ///
 /// `Refusal::WrongAddress` for any other word.
+#[tactic(auto, using(rrs_requests::proofs::WordLemmas::short_fits))]
 fn address_of(word: &str) -> Result<u32, Refusal>
     ensures address { IfOk result (λ address. IsAddress word.now address) }
     ensures refused { IfErr result (λ refusal.
         ((address : ℕ) → IsAddress word.now address → ⊥) × (refusal ≡ Refusal.WrongAddress)) }
 {
-    let Some(digits) = word.as_bytes().strip_prefix(b"0x") else {
+    let Some(digits) = word.strip_prefix("0x") else {
         return Err(Refusal::WrongAddress);
     };
-    match number_of(digits) {
+    if digits.len() > 8 {
+        return Err(Refusal::WrongAddress);
+    }
+    match hexadecimal_of(digits) {
         Some(address) if address % 4 == 0 => Ok(address),
         _ => Err(Refusal::WrongAddress),
     }

@@ -1,8 +1,17 @@
 -- The bytes of words, and what words ask for, from what those behind the first ask for.
-use Rattle.std.proofs.Common.{◌≡◌, ℕ, List, ◌∷◌, Result, Err, map, string_bytes, String, Global, ap, subst, sym, ◌∙◌}
+use Rattle.std.proofs.Common.{◌≡◌, ℕ, ◌^◌, ◌<◌, ◌≤◌, List, ◌∷◌, Result, Err, map, length, string_bytes, String, Global, ap, subst, sym, ◌∙◌, arith}
+use Rattle.std.proofs.Math.Nat.{pow-le-pow_right}
+use Rattle.std.proofs.lemmas.Int.Digits.{digits_value-lt}
+use Rattle.std.specs.Str.Parse.{AllDigits, digits_value}
 use Rattle.std.specs.List.{IsFirstAndRest}
 use Rattle.rrs_requests.specs.declared.refusal.Refusal.{Refusal}
 use Rattle.rrs_requests.specs.Words.{Asks, Taken, Wrong}
+
+-- the number that at most eight hexadecimal digits are
+pub short_fits : (digits : List ℕ) → AllDigits 16 digits → length digits ≤ 8 → digits_value 16 digits < 2 ^ 32
+short_fits digits all short =
+    let most : 16 ^ length digits ≤ 16 ^ 8 = pow-le-pow_right (omega arith) short in
+    omega (arith, digits_value-lt 16 digits all, most)
 
 -- the bytes of the first word, and of those behind it
 pub first_bytes : (words : List (String Global)) (word : String Global) (others : List (String Global)) (bytes : List ℕ)

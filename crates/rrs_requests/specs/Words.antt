@@ -2,7 +2,7 @@
 -- other.
 use Rattle.std.specs.Prelude.{ℕ, ◌^◌, ◌<◌, ◌≡◌, List, [], ◌∷◌, length, true, Result, Err}
 use Rattle.std.specs.Str.{all_ascii_digits}
-use Rattle.std.specs.Str.Parse.{digits_value}
+use Rattle.std.specs.Str.Parse.{IsNumeral, digits_value}
 use Rattle.rrs_cli.specs.declared.command.Failure.TheVariants.{Usage}
 use Rattle.rrs_requests.specs.declared.refusal.Refusal.{Refusal}
 use Rattle.rrs_requests.specs.declared.refusal.Refusal.TheVariants.{WrongLimit, Failed}
@@ -11,6 +11,10 @@ use Rattle.rrs_requests.specs.declared.refusal.Refusal.TheVariants.{WrongLimit, 
 abbrev pub IsNumber : List ℕ → Type 0
 IsNumber word =
     (all_ascii_digits word ≡ true) × (0 < length word) × (digits_value 10 word < 2 ^ 64)
+
+-- A hexadecimal number is hexadecimal digits, one at least, and below 2^32.
+abbrev pub IsHexadecimal : List ℕ → Type 0
+IsHexadecimal word = IsNumeral 16 word × (digits_value 16 word < 2 ^ 32)
 
 -- the first word is this number, and these are behind it
 abbrev pub BeginsWithNumber : List (List ℕ) → ℕ → List (List ℕ) → Type 0

@@ -4,7 +4,7 @@ use rrs_assembly::ExecutableError;
 use rrs_cli::command::Failure;
 use rrs_cli::fault::RunFault;
 use rrs_elf::ElfError;
-use rrs_exec::ImageError;
+use rrs_process::ImageError;
 
 /// Why a subcommand did not do what it was asked.
 #[derive(Debug, Drop)]

@@ -1,9 +1,9 @@
 //! The words of a command line, one after the other.
 
-ghost use Rattle.std.specs.Prelude.{◌≡◌, ◌∷◌, IfOk, IfErr, map, string_bytes};
+ghost use Rattle.std.specs.Prelude.{◌≡◌, ◌↔◌, ◌∷◌, IsTrue, IfOk, IfErr, MatchOption, map, slice_index, string_bytes};
 ghost use Rattle.std.specs.Result.{OkIff};
 ghost use Rattle.std.specs.Str.Parse.{digits_value};
-ghost use Rattle.rrs_requests.specs.Words.{IsNumber, BeginsWithNumber, RefusesNumber, RefusesNoWord};
+ghost use Rattle.rrs_requests.specs.Words.{IsNumber, IsHexadecimal, BeginsWithNumber, RefusesNumber, RefusesNoWord};
 
 use crate::refusal::Refusal;
 use rrs_cli::command::Failure;
@@ -50,12 +50,33 @@ pub fn number_of(word: &str) -> Result<u64, Refusal>
     ensures number { OkIff result (IsNumber word.now) (digits_value 10 word.now) }
     ensures refused { IfErr result (λ refusal. refusal ≡ Refusal.WrongLimit) }
 {
-    let bytes = word.as_bytes();
-    if !bytes.is_empty() && bytes[0] == b'+' {
+    if begins_with_plus(word) {
         return Err(Refusal::WrongLimit);
     }
     match word.parse() {
         Ok(number) => Ok(number),
         Err(_) => Err(Refusal::WrongLimit),
     }
+}
+
+/// The number that hexadecimal digits are. `None` where the word has no digits or others, and where
+/// it is 2^32 or more.
+pub fn hexadecimal_of(word: &str) -> Option<u32>
+    ensures { MatchOption result (¬ IsHexadecimal word.now)
+        (λ number. IsHexadecimal word.now × (number ≡ digits_value 16 word.now)) }
+{
+    if begins_with_plus(word) {
+        return None;
+    }
+    match u32::from_str_radix(word, 16) {
+        Ok(number) => Some(number),
+        Err(_) => None,
+    }
+}
+
+/// Whether the first byte of a word is a plus, which std takes before the digits of a number.
+fn begins_with_plus(word: &str) -> bool
+    ensures { IsTrue result ↔ (slice_index word.now 0 ≡ 43) }
+{
+    matches!(word.as_bytes(), [b'+', ..])
 }
