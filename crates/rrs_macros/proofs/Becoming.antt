@@ -1,137 +1,127 @@
 -- Lines that become others, the first of them at a time.
-use Rattle.std.proofs.Common.{◌≡◌, ℕ, suc, ◌+◌, ◌-◌, ◌<◌, ◌≤◌, true, false, List, [], ◌∷◌, ◌++◌, length, get_or, take, drop, None, Some, Bor, sym, ap, ◌∙◌, subst, inl, inr, add-one, drop-cons, append_assoc, arith}
+use Rattle.std.proofs.Common.{◌≡◌, ℕ, zero, suc, ◌+◌, ◌<◌, ◌≤◌, false, List, [], ◌∷◌, ◌++◌, length, get_or, take, drop, Some, Bor, refl, sym, ap, ◌∙◌, subst, add-one, drop-cons, append_assoc, arith}
 use Rattle.std.proofs.lemmas.Grind.{common_steps}
-use Rattle.std.proofs.lemmas.List.{append-nil, take-append-le, drop-append-le, take-map, drop-map, drop-take, length-map}
-use Rattle.std.proofs.Math.Seq.{drop-length}
+use Rattle.std.proofs.lemmas.List.{append-nil, map-append, take-append-drop, take-map}
+use Rattle.std.proofs.Math.Seq.{take-add}
 use Rattle.rrs_macros.specs.Directives.{has_directives}
-use Rattle.rrs_macros.specs.Expansion.{between, count, end_at, copied, texts, Expands}
-use Rattle.rrs_macros.specs.Expansion.Expands.{Over, Keeps, Repeats, Other}
+use Rattle.rrs_macros.specs.Expansion.{count, copied, IsOther, Expands, ExpandsFirst}
+use Rattle.rrs_macros.specs.Expansion.Expands.{Over, Keeps, Repeats}
+use Rattle.rrs_macros.specs.Expansion.ExpandsFirst.{All, Before, Within}
+use Rattle.rrs_macros.specs.Forms.{texts, EndsAt}
+
+-- the same lines
+same-as : (a b c d : List (List ℕ)) → a ≡ c → b ≡ d → Expands a b → Expands c d
+same-as a b c d e f all =
+    let P : List (List ℕ) → Type 0 = λ own. Expands own b in
+    let Q : List (List ℕ) → Type 0 = λ own. Expands c own in
+    subst Q f (subst P e all)
+
+first-as : (a b c d : List (List ℕ)) → a ≡ c → b ≡ d → ExpandsFirst a b → ExpandsFirst c d
+first-as a b c d e f all =
+    let P : List (List ℕ) → Type 0 = λ own. ExpandsFirst own b in
+    let Q : List (List ℕ) → Type 0 = λ own. ExpandsFirst c own in
+    subst Q f (subst P e all)
+
+-- lines, and others behind them
+joined : {a b : List (List ℕ)} (c d : List (List ℕ)) → Expands a b → Expands c d → Expands (a ++ c) (b ++ d)
+joined c d Over behind = behind
+joined c d (Keeps none rest) behind = Keeps none (joined c d rest behind)
+joined c d (Repeats line end inside once others made copies counted ended one rest) behind =
+    same-as (line ∷ (inside ++ (end ∷ (others ++ c)))) (copied copies once ++ (made ++ d)) _ _
+    (ap (λ own. line ∷ own) (sym (append_assoc inside (end ∷ others) c))) (sym (append_assoc (copied copies once) made d))
+    (Repeats line end inside once (others ++ c) (made ++ d) copies counted ended one (joined c d rest behind))
 
 -- rows before others
-pub row-at : (rows : List (Bor (List ℕ))) (from : ℕ) (d : Bor (List ℕ)) → from < length rows → texts (drop from rows) ≡ (get_or rows from d).now ∷ texts (drop (from + 1) rows)
-row-at rows from d lt =
-    let cut : drop from rows ≡ get_or rows from d ∷ drop (from + 1) rows = rw add-one (drop-cons rows from d lt) in
-    ap texts cut
+row-at : (rows : List (Bor (List ℕ))) (from : ℕ) (d : Bor (List ℕ)) → from < length rows → drop from rows ≡ get_or rows from d ∷ drop (from + 1) rows
+row-at rows from d lt = rw add-one (drop-cons rows from d lt)
+
+cut : (rows : List (Bor (List ℕ))) (row more : ℕ) → texts (take (row + more) rows) ≡ texts (take row rows) ++ texts (take more (drop row rows))
+cut rows row more = ap texts (take-add row more rows) ∙ map-append (λ (own : Bor (List ℕ)). own.now) (take row rows) (take more (drop row rows))
+
+split : (rows : List (Bor (List ℕ))) (row : ℕ) → texts (take row rows) ++ texts (drop row rows) ≡ texts rows
+split rows row = sym (map-append (λ (own : Bor (List ℕ)). own.now) (take row rows) (drop row rows)) ∙ ap texts (take-append-drop row rows)
+
+around : (rows : List (Bor (List ℕ))) (row : ℕ) (d : Bor (List ℕ)) → row < length rows → texts (take row rows) ++ ((get_or rows row d).now ∷ texts (drop (row + 1) rows)) ≡ texts rows
+around rows row d lt = ap (λ own. texts (take row rows) ++ texts own) (sym (row-at rows row d lt)) ∙ split rows row
+
+one-more : (rows : List (Bor (List ℕ))) (row : ℕ) (d : Bor (List ℕ)) → row < length rows → texts (take row rows) ++ ((get_or rows row d).now ∷ []) ≡ texts (take (row + 1) rows)
+one-more rows row d lt = ap (λ own. texts (take row rows) ++ texts (take 1 own)) (sym (row-at rows row d lt)) ∙ sym (cut rows row 1)
 
 -- a line without directives
-pub stands : (line : List ℕ) (others : List (List ℕ)) (made : List (Bor (List ℕ))) (from : ℕ) (d : Bor (List ℕ)) → has_directives line ≡ false → from < length made → (get_or made from d).now ≡ line → Expands others (texts (drop (from + 1) made)) → Expands (line ∷ others) (texts (drop from made))
-stands line others made from d none lt same rest =
-    let is : texts (drop from made) ≡ line ∷ texts (drop (from + 1) made) =
-    row-at made from d lt ∙ ap (λ own. own ∷ texts (drop (from + 1) made)) same in
-    let P : List (List ℕ) → Type 0 = λ rows. Expands (line ∷ others) rows in
-    subst P (sym is) (Keeps none rest)
+pub keeps : (rows made : List (Bor (List ℕ))) (row at : ℕ) (d e : Bor (List ℕ)) → row < length rows → at < length made
+    → has_directives (get_or rows row d).now ≡ false → (get_or made at e).now ≡ (get_or rows row d).now
+    → Expands (texts (take row rows)) (texts (take at made)) → Expands (texts (take (row + 1) rows)) (texts (take (at + 1) made))
+keeps rows made row at d e lt within none same before =
+    let line : List ℕ = (get_or rows row d).now in
+    let one : Expands (line ∷ []) (line ∷ []) = Keeps none Over in
+    same-as (texts (take row rows) ++ (line ∷ [])) (texts (take at made) ++ (line ∷ [])) _ _
+    (one-more rows row d lt) (ap (λ own. texts (take at made) ++ (own ∷ [])) (sym same) ∙ one-more made at e within)
+    (joined (line ∷ []) (line ∷ []) before one)
 
--- what a repetition leaves, of its lines and of those behind
-pub inside-is : (others : List (Bor (List ℕ))) (behind : List (List ℕ)) (end : ℕ) → end < length others → take end (texts others ++ behind) ≡ texts (take end others)
-inside-is others behind end lt =
-    let long : length (texts others) ≡ length others = length-map others (λ (row : Bor (List ℕ)). row.now) in
-    take-append-le end (texts others) behind (omega (arith, long)) ∙ take-map (λ (row : Bor (List ℕ)). row.now) end others
+-- a repetition, with its end
+pub repeats : (rows made : List (Bor (List ℕ))) (row at inside size total copies : ℕ) (d : Bor (List ℕ)) → row < length rows
+    → count (get_or rows row d).now ≡ Some copies → EndsAt (drop (row + 1) rows) inside
+    → Expands (texts (take inside (drop (row + 1) rows))) (texts (take size (drop at made)))
+    → texts (take total (drop at made)) ≡ copied copies (texts (take size (drop at made)))
+    → Expands (texts (take row rows)) (texts (take at made))
+    → Expands (texts (take (row + (inside + 2)) rows)) (texts (take (at + total) made))
+repeats rows made row at inside size total copies d lt counted end one same before =
+    let line : Bor (List ℕ) = get_or rows row d in
+    let behind : List (Bor (List ℕ)) = drop (row + 1) rows in
+    let own : List (List ℕ) = line.now ∷ (texts (take inside behind) ++ (end.0 ∷ [])) in
+    let once : List (List ℕ) = copied copies (texts (take size (drop at made))) ++ [] in
+    let last : texts (take 1 (drop inside behind)) ≡ end.0 ∷ [] =
+    sym (take-map (λ (row : Bor (List ℕ)). row.now) 1 (drop inside behind)) ∙ ap (λ rest. take 1 rest) end.2 in
+    let two : inside + 2 ≡ suc (inside + 1) = omega arith in
+    let left : texts (take (inside + 2) (drop row rows)) ≡ own =
+    ap (λ rest. texts (take (inside + 2) rest)) (row-at rows row d lt)
+    ∙ (ap (λ n. texts (take n (line ∷ behind))) two
+    ∙ ap (λ rest. line.now ∷ rest) (cut behind inside 1 ∙ ap (λ rest. texts (take inside behind) ++ rest) last)) in
+    same-as (texts (take row rows) ++ own) (texts (take at made) ++ once) _ _
+    (ap (λ rest. texts (take row rows) ++ rest) (sym left) ∙ sym (cut rows row (inside + 2)))
+    (ap (λ rest. texts (take at made) ++ rest) (append-nil _ ∙ sym same) ∙ sym (cut made at total))
+    (joined own once before (Repeats line.now end.0 (texts (take inside behind)) (texts (take size (drop at made))) [] [] copies counted end.1 one Over))
 
-pub behind-is : (others : List (Bor (List ℕ))) (behind : List (List ℕ)) (end : ℕ) → end < length others → drop (end + 1) (texts others ++ behind) ≡ texts (drop (end + 1) others) ++ behind
-behind-is others behind end lt =
-    let long : length (texts others) ≡ length others = length-map others (λ (row : Bor (List ℕ)). row.now) in
-    drop-append-le (end + 1) (texts others) behind (omega (arith, long)) ∙ ap (λ rows. rows ++ behind) (drop-map (λ (row : Bor (List ℕ)). row.now) (end + 1) others)
+-- another directive, or one in a repetition
+pub before-other : (rows made : List (Bor (List ℕ))) (row at : ℕ) (d : Bor (List ℕ)) → row < length rows → IsOther (get_or rows row d).now
+    → Expands (texts (take row rows)) (texts (take at made)) → ExpandsFirst (texts rows) (texts made)
+before-other rows made row at d lt other before = first-as _ _ _ _ (around rows row d lt) (split made at)
+    (Before (get_or rows row d).now (texts (take row rows)) (texts (take at made)) (texts (drop (row + 1) rows)) (texts (drop at made)) before other)
 
-pub repeats : (line : List ℕ) (others : List (Bor (List ℕ))) (behind left : List (List ℕ)) (copies end : ℕ)
-    → has_directives line ≡ true → count line ≡ Some copies → end < length others → end_at 0 0 (texts others ++ behind) ≡ Some end
-    → Expands (copied copies (texts (take end others)) ++ (texts (drop (end + 1) others) ++ behind)) left
-    → Expands (line ∷ (texts others ++ behind)) left
-repeats line others behind left copies end has counted lt ended rest =
-    let same : copied copies (take end (texts others ++ behind)) ++ drop (end + 1) (texts others ++ behind)
-    ≡ copied copies (texts (take end others)) ++ (texts (drop (end + 1) others) ++ behind) =
-    ap (λ rows. copied copies rows ++ drop (end + 1) (texts others ++ behind)) (inside-is others behind end lt)
-    ∙ ap (λ rows. copied copies (texts (take end others)) ++ rows) (behind-is others behind end lt) in
-    let P : List (List ℕ) → Type 0 = λ rows. Expands rows left in
-    Repeats has counted ended (subst P (sym same) rest)
+pub within-one : (rows made : List (Bor (List ℕ))) (row at copies : ℕ) (d : Bor (List ℕ)) → row < length rows → count (get_or rows row d).now ≡ Some copies
+    → ExpandsFirst (texts (drop (row + 1) rows)) (texts (drop at made))
+    → Expands (texts (take row rows)) (texts (take at made)) → ExpandsFirst (texts rows) (texts made)
+within-one rows made row at copies d lt counted inner before = first-as _ _ _ _ (around rows row d lt) (split made at)
+    (Within (get_or rows row d).now (texts (take row rows)) (texts (take at made)) (texts (drop (row + 1) rows)) (texts (drop at made)) copies before counted inner)
 
-pub not-counted : (line : List ℕ) (others left : List (List ℕ)) → has_directives line ≡ true → count line ≡ None → Expands (line ∷ others) left
-not-counted line others left has none = Other has (inl none)
+-- copies of lines, one more of them, and none of any
+copied-last : (n : ℕ) (rows : List (List ℕ)) → copied n rows ++ rows ≡ copied (suc n) rows
+copied-last zero rows = sym (append-nil rows)
+copied-last (suc n) rows = append_assoc rows (copied n rows) rows ∙ ap (λ own. rows ++ own) (copied-last n rows)
 
-pub not-ended : (line : List ℕ) (others left : List (List ℕ)) → has_directives line ≡ true → end_at 0 0 others ≡ None → Expands (line ∷ others) left
-not-ended line others left has none = Other has (inr none)
+pub copied-none : (n : ℕ) → copied n [] ≡ []
+copied-none zero = refl
+copied-none (suc n) = copied-none n
 
--- the first of the copies that are left
-pub one-more : (copies copy : ℕ) (inside behind left : List (List ℕ)) → copy < copies
-    → Expands (inside ++ (copied (copies - (copy + 1)) inside ++ behind)) left
-    → Expands (copied (copies - copy) inside ++ behind) left
-one-more copies copy inside behind left lt rest =
-    let more : copies - copy ≡ suc (copies - (copy + 1)) = omega arith in
-    let same : copied (copies - copy) inside ++ behind ≡ inside ++ (copied (copies - (copy + 1)) inside ++ behind) =
-    ap (λ n. copied n inside ++ behind) more ∙ append_assoc inside (copied (copies - (copy + 1)) inside) behind in
-    let P : List (List ℕ) → Type 0 = λ rows. Expands rows left in
-    subst P (sym same) rest
+pub copies-more : (made : List (Bor (List ℕ))) (total size copy : ℕ) → texts (take total made) ≡ copied copy (texts (take size made))
+    → texts (take size (drop total made)) ≡ texts (take size made) → texts (take (total + size) made) ≡ copied (copy + 1) (texts (take size made))
+copies-more made total size copy before one =
+    let more : copy + 1 ≡ suc copy = omega arith in
+    cut made total size ∙ (ap (λ own. own ++ texts (take size (drop total made))) before
+    ∙ (ap (λ own. copied copy (texts (take size made)) ++ own) one
+    ∙ (copied-last copy (texts (take size made)) ∙ ap (λ n. copied n (texts (take size made))) (sym more))))
 
-pub all-copies : (copies : ℕ) (inside behind left : List (List ℕ)) → Expands (copied (copies - 0) inside ++ behind) left → Expands (copied copies inside ++ behind) left
-all-copies copies inside behind left rest =
-    let same : copies - 0 ≡ copies = omega arith in
-    let P : ℕ → Type 0 = λ n. Expands (copied n inside ++ behind) left in
-    subst P same rest
+-- one more line, the same in both
+pub begins-more : (rows first : List (Bor (List ℕ))) (index : ℕ) (d e : Bor (List ℕ)) → index < length first → length first ≤ length rows
+    → texts (take index rows) ≡ texts (take index first) → (get_or rows index d).now ≡ (get_or first index e).now
+    → texts (take (index + 1) rows) ≡ texts (take (index + 1) first)
+begins-more rows first index d e lt le before same =
+    sym (one-more rows index d (omega arith)) ∙ (ap (λ own. own ++ ((get_or rows index d).now ∷ [])) before
+    ∙ (ap (λ line. texts (take index first) ++ (line ∷ [])) same ∙ one-more first index e lt))
 
-pub no-copies : (copies copy : ℕ) (inside behind left : List (List ℕ)) → copies ≤ copy → Expands behind left → Expands (copied (copies - copy) inside ++ behind) left
-no-copies copies copy inside behind left over rest =
-    let none : copies - copy ≡ 0 = omega arith in
-    let P : ℕ → Type 0 = λ n. Expands (copied n inside ++ behind) left in
-    subst P (sym none) rest
+-- all lines, and all that they become
+all-taken : (made : List (Bor (List ℕ))) (at : ℕ) → at ≡ length made → take at made ≡ made
+all-taken made at is = grind (arith, common_steps)
 
-pub all-read : (made : List (Bor (List ℕ))) (end : ℕ) → end ≡ length made → Expands [] (texts (drop end made))
-all-read made end is =
-    let over : texts (drop end made) ≡ [] = ap (λ n. texts (drop n made)) is ∙ ap texts (drop-length made) in
-    let P : List (List ℕ) → Type 0 = λ own. Expands [] own in
-    subst P (sym over) Over
-
--- lines among lines
-pub inner-is : (rows : List (Bor (List ℕ))) (a b e : ℕ) → a + e ≤ b → take e (between a b rows) ≡ between a (a + e) rows
-inner-is rows a b e le = grind (arith, common_steps)
-
-pub outer-is : (rows : List (Bor (List ℕ))) (a b k : ℕ) → a + k ≤ b → drop k (between a b rows) ≡ between (a + k) b rows
-outer-is rows a b k le =
-    let long : b - a ≡ k + (b - (a + k)) = omega arith in
-    let drops : drop k (drop a rows) ≡ drop (a + k) rows = grind (arith, common_steps) in
-    ap (λ n. drop k (take n (drop a rows))) long ∙ drop-take k (b - (a + k)) (drop a rows) ∙ ap (λ own. take (b - (a + k)) own) drops
-
-pub line-is : (rows : List (Bor (List ℕ))) (row end : ℕ) (d : Bor (List ℕ)) → row < end → end ≤ length rows → texts (between row end rows) ≡ (get_or rows row d).now ∷ texts (between (row + 1) end rows)
-line-is rows row end d lt le =
-    let cut : drop row rows ≡ get_or rows row d ∷ drop (row + 1) rows = rw add-one (drop-cons rows row d (omega arith)) in
-    let more : end - row ≡ suc (end - (row + 1)) = omega arith in
-    ap (λ n. texts (take n (drop row rows))) more ∙ ap (λ own. texts (take (suc (end - (row + 1))) own)) cut
-
--- a line, and those behind it, up to another
-pub from-line : (rows : List (Bor (List ℕ))) (row end : ℕ) (d : Bor (List ℕ)) (behind made : List (List ℕ)) → row < end → end ≤ length rows
-    → Expands ((get_or rows row d).now ∷ (texts (between (row + 1) end rows) ++ behind)) made → Expands (texts (between row end rows) ++ behind) made
-from-line rows row end d behind made lt le all =
-    let P : List (List ℕ) → Type 0 = λ own. Expands (own ++ behind) made in
-    subst P (sym (line-is rows row end d lt le)) all
-
-pub from-copies : (rows : List (Bor (List ℕ))) (row end last copies : ℕ) (behind made : List (List ℕ)) → row + 1 + last < end
-    → Expands (copied copies (texts (between (row + 1) (row + 1 + last) rows)) ++ (texts (between (row + 1 + last + 1) end rows) ++ behind)) made
-    → Expands (copied copies (texts (take last (between (row + 1) end rows))) ++ (texts (drop (last + 1) (between (row + 1) end rows)) ++ behind)) made
-from-copies rows row end last copies behind made lt all =
-    let inner = inner-is rows (row + 1) end last (omega arith) in
-    let outer : drop (last + 1) (between (row + 1) end rows) ≡ between (row + 1 + (last + 1)) end rows = outer-is rows (row + 1) end (last + 1) (omega arith) in
-    let at : row + 1 + (last + 1) ≡ row + 1 + last + 1 = omega arith in
-    let same : copied copies (texts (take last (between (row + 1) end rows))) ++ (texts (drop (last + 1) (between (row + 1) end rows)) ++ behind)
-    ≡ copied copies (texts (between (row + 1) (row + 1 + last) rows)) ++ (texts (between (row + 1 + last + 1) end rows) ++ behind) =
-    ap (λ own. copied copies (texts own) ++ (texts (drop (last + 1) (between (row + 1) end rows)) ++ behind)) inner
-    ∙ ap (λ own. copied copies (texts (between (row + 1) (row + 1 + last) rows)) ++ (texts own ++ behind)) (outer ∙ ap (λ n. between n end rows) at) in
-    let P : List (List ℕ) → Type 0 = λ own. Expands own made in
-    subst P (sym same) all
-
-pub length-between : (rows : List (Bor (List ℕ))) (a b : ℕ) → a ≤ b → b ≤ length rows → length (between a b rows) ≡ b - a
-length-between rows a b le within = grind (arith, common_steps)
-
-pub all-between : (rows : List (Bor (List ℕ))) → between 0 (length rows) rows ≡ rows
-all-between rows = grind (arith, common_steps)
-
-pub nothing-between : (rows : List (Bor (List ℕ))) (row end : ℕ) → end ≤ row → between row end rows ≡ []
-nothing-between rows row end le =
-    let none : end - row ≡ 0 = omega arith in
-    ap (λ n. take n (drop row rows)) none
-
-pub never : (rows : List (List ℕ)) → false ≡ true → rows ≡ []
-never rows differ = cc
-
--- all lines, behind which nothing stands
-pub alone : (rows : List (Bor (List ℕ))) (made : List (List ℕ)) → Expands (texts (between 0 (length rows) rows) ++ []) made → Expands (texts rows) made
-alone rows made all =
-    let P : List (List ℕ) → Type 0 = λ own. Expands own made in
-    subst P (append-nil (texts (between 0 (length rows) rows)) ∙ ap texts (all-between rows)) all
+pub whole : (rows made : List (Bor (List ℕ))) (at : ℕ) → at ≡ length made → Expands (texts rows) (texts (take at made)) → ExpandsFirst (texts rows) (texts made)
+whole rows made at is all = All (same-as (texts rows) (texts (take at made)) (texts rows) (texts made) refl (ap texts (all-taken made at is)) all)

@@ -3,3 +3,4 @@
 pub mod Directives
 pub mod Lines
 pub mod Expansion
+pub mod Forms

@@ -1,35 +1,24 @@
 //! Whether a text is what the lines of a source become.
 
-ghost use Rattle.std.specs.Prelude.{◌≡◌, ◌<◌, ◌≤◌, true, IfOk, length};
-ghost use Rattle.rrs_macros.specs.Expansion.{Expands, Follows, Goes, GoesAt, IsExpansion, between, texts};
+ghost use Rattle.std.specs.Prelude.{◌≡◌, ◌≤◌, true, IfOk, IfSome, length, take};
+ghost use Rattle.rrs_macros.specs.Expansion.{ExpandsFirst, IsExpansion};
+ghost use Rattle.rrs_macros.specs.Forms.{AreCopies, Reaches, texts};
 ghost use Rattle.rrs_macros.specs.Lines.{lines};
 
-use crate::repeating::{Closing, count, find_end};
+use crate::repeating::{LineKind, kind_of};
 use crate::scanning::first_line;
-use crate::words::has_directives;
 use std::alloc::{AllocError, Global};
 
-/// What a line makes, of lines that may be made of it.
+/// How far lines become others.
 #[derive(Clone, Copy)]
-enum Next {
-    /// It is the next of them.
-    Stands,
-    /// So many copies of the lines behind it, up to the one with this index.
-    Copies(u64, usize),
-    /// A directive stands there of which nothing is said.
-    Any,
-    /// The next of them is another.
-    Wrong,
-}
-
-/// How far lines are what others become.
-#[derive(Clone, Copy)]
-enum Following {
-    /// Up to the one with this index.
-    To(usize),
+enum Reach {
+    /// All become so many of them.
+    All(usize),
+    /// Those before the end of a repetition, which has this index, become so many of them.
+    Up(usize, usize),
     /// A directive stands there of which nothing is said.
     Unsaid,
-    /// They are others.
+    /// They become others.
     Different,
 }
 
@@ -58,91 +47,78 @@ fn rows_of(alloc: Global, text: &[u8]) -> Result<Vec<&[u8]>, AllocError>
 
 /// Whether lines become these.
 fn is_followed(rows: &[&[u8]], made: &[&[u8]]) -> bool
-    ensures { result ≡ true → Expands (texts rows.now) (texts made.now) }
+    ensures { result ≡ true → ExpandsFirst (texts rows.now) (texts made.now) }
 {
-    match follow(rows, 0, rows.len(), made, 0, true) {
-        Following::To(end) => end == made.len(),
-        Following::Unsaid => true,
-        Following::Different => false,
+    match follow(rows, made) {
+        Reach::All(at) => at == made.len(),
+        Reach::Unsaid => true,
+        _ => false,
     }
 }
 
-/// What a line makes that stands before others, where lines from one on may be made of it.
-fn next_of(line: &[u8], others: &[&[u8]], made: &[&[u8]], from: usize, is_all: bool) -> Next
-    ensures { Goes line.now others.now made.now from is_all result }
+/// How far lines become others.
+fn follow(rows: &[&[u8]], made: &[&[u8]]) -> Reach
+    ensures { Reaches rows.now made.now result }
 {
-    if !has_directives(line) {
-        return if from < made.len() && made[from] == line {
-            Next::Stands
-        } else {
-            Next::Wrong
-        };
-    }
-    let Some(copies) = count(line) else {
-        return Next::Any;
-    };
-    match find_end(others) {
-        Closing::At(end) => Next::Copies(copies, end),
-        Closing::Unclear => Next::Any,
-        Closing::Beyond if is_all => Next::Any,
-        Closing::Beyond => Next::Wrong,
-    }
-}
-
-/// What the first of the lines from one on makes, up to another.
-fn next_at(
-    rows: &[&[u8]],
-    row: usize,
-    end: usize,
-    made: &[&[u8]],
-    from: usize,
-    is_all: bool,
-) -> Next
-    requires { (row < end) × (end ≤ length rows.now) }
-    ensures { GoesAt rows.now row end made.now from is_all result }
-{
-    match next_of(rows[row], &rows[row + 1..end], made, from, is_all) {
-        Next::Stands => Next::Stands,
-        Next::Copies(copies, behind) => Next::Copies(copies, row + 1 + behind),
-        Next::Any => Next::Any,
-        Next::Wrong => Next::Wrong,
-    }
-}
-
-/// How far the lines from one on are what the lines become from one on, up to another. Behind these
-/// stands nothing where they are all.
-fn follow(
-    rows: &[&[u8]],
-    start: usize,
-    end: usize,
-    made: &[&[u8]],
-    from: usize,
-    is_all: bool,
-) -> Following
-    requires { (start ≤ end) × (end ≤ length rows.now) × (from ≤ length made.now) }
-    ensures { Follows (texts (between start end rows.now)) made.now from is_all result }
-{
-    let mut row = start;
-    let mut at = from;
-    'line: while row < end {
-        match next_at(rows, row, end, made, at, is_all) {
-            Next::Stands => {
-                at += 1;
-                row += 1;
-            }
-            Next::Copies(copies, last) => {
-                'copy: for copy in 0..copies {
-                    match follow(rows, row + 1, last, made, at, false) {
-                        Following::To(to) => at = to,
-                        Following::Unsaid => return Following::Unsaid,
-                        Following::Different => return Following::Different,
-                    }
+    let mut row = 0usize;
+    let mut at = 0usize;
+    'line: while row < rows.len() {
+        match kind_of(rows[row]) {
+            LineKind::Plain => {
+                if at >= made.len() || made[at] != rows[row] {
+                    return Reach::Different;
                 }
-                row = last + 1;
+                row += 1;
+                at += 1;
             }
-            Next::Any => return Following::Unsaid,
-            Next::Wrong => return Following::Different,
+            LineKind::Repeat(copies) => match follow(&rows[row + 1..], &made[at..]) {
+                Reach::Up(inside, size) => match length_of(&made[at..], size, copies) {
+                    Some(total) => {
+                        row += inside + 2;
+                        at += total;
+                    }
+                    None => return Reach::Different,
+                },
+                Reach::Unsaid => return Reach::Unsaid,
+                _ => return Reach::Different,
+            },
+            LineKind::End => return Reach::Up(row, at),
+            LineKind::Other => return Reach::Unsaid,
         }
     }
-    Following::To(at)
+    Reach::All(at)
+}
+
+/// How many lines so many copies of the first of them are, if they stand there.
+fn length_of(made: &[&[u8]], size: usize, copies: u64) -> Option<usize>
+    requires { size ≤ length made.now }
+    ensures { IfSome result (AreCopies made.now size copies) }
+{
+    if size == 0 {
+        return Some(0);
+    }
+    let mut total = 0usize;
+    for copy in 0..copies {
+        if !begins_with(&made[total..], &made[..size]) {
+            return None;
+        }
+        total += size;
+    }
+    Some(total)
+}
+
+/// Whether lines begin with these.
+fn begins_with(rows: &[&[u8]], first: &[&[u8]]) -> bool
+    ensures { result ≡ true → (length first.now ≤ length rows.now)
+        × (texts (take (length first.now) rows.now) ≡ texts first.now) }
+{
+    if rows.len() < first.len() {
+        return false;
+    }
+    for index in 0..first.len() {
+        if rows[index] != first[index] {
+            return false;
+        }
+    }
+    true
 }

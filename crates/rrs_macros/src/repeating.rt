@@ -1,9 +1,10 @@
-//! Repetitions whose count is a number, line by line.
+//! What a line is where repetitions have a number.
 
 ghost use Rattle.std.specs.Prelude.{◌≡◌};
-ghost use Rattle.rrs_macros.specs.Expansion.{ClosesAt, begins, count, decimal, ends, is_clear, number, says_no_more};
+ghost use Rattle.rrs_macros.specs.Expansion.{count, decimal, is_end, number, says_no_more};
+ghost use Rattle.rrs_macros.specs.Forms.{IsKind};
 
-use crate::directives::{Directive, is_among, is_directive};
+use crate::directives::{Directive, is_among};
 use crate::scanning::{behind_blanks, split_word};
 use crate::words::has_directives;
 
@@ -11,14 +12,6 @@ use crate::words::has_directives;
 const COUNTED: [(&[u8], Directive); 2] = [
     (b".rept", Directive::Repeat),
     (b".rep", Directive::Repeat),
-];
-
-/// The directives that begin a repetition.
-const BEGINNINGS: [(&[u8], Directive); 4] = [
-    (b".rept", Directive::Repeat),
-    (b".rep", Directive::Repeat),
-    (b".irp", Directive::RepeatEach),
-    (b".irpc", Directive::RepeatCharacters),
 ];
 
 /// The directive that ends one.
@@ -59,7 +52,7 @@ fn number(word: &[u8]) -> Option<u64>
 }
 
 /// How often a line that begins a repetition has it made, where it is a number.
-pub fn count(line: &[u8]) -> Option<u64>
+fn count(line: &[u8]) -> Option<u64>
     ensures { result ≡ count line.now }
 {
     let (word, operands) = split_word(line);
@@ -71,65 +64,40 @@ pub fn count(line: &[u8]) -> Option<u64>
     }
 }
 
-/// Whether a line begins a repetition.
-fn begins(line: &[u8]) -> bool
-    ensures { result ≡ begins line.now }
-{
-    let (word, _) = split_word(line);
-    is_among(&BEGINNINGS, word)
-}
-
-/// Whether a line ends one.
-fn ends(line: &[u8]) -> bool
-    ensures { result ≡ ends line.now }
-{
-    let (word, _) = split_word(line);
-    is_among(&ENDS, word)
-}
-
-/// Whether a directive stands at the beginning of a line, alone, or nowhere in it.
-fn is_clear(line: &[u8]) -> bool
-    ensures { result ≡ is_clear line.now }
+/// Whether a line ends a repetition.
+fn is_end(line: &[u8]) -> bool
+    ensures { result ≡ is_end line.now }
 {
     let (word, operands) = split_word(line);
-    !has_directives(line)
-        || is_directive(word)
-            && !has_directives(operands)
-            && (!ends(line) || says_no_more(operands))
+    is_among(&ENDS, word) && says_no_more(operands)
 }
 
-/// Where a repetition ends.
+/// What a line is.
 #[derive(Clone, Copy)]
-pub enum Closing {
-    /// At the line with this index.
-    At(usize),
-    /// Before it a line has more than a directive, or one in its middle.
-    Unclear,
-    /// Behind these lines, if anywhere.
-    Beyond,
+pub enum LineKind {
+    /// No directive stands in it.
+    Plain,
+    /// It begins a repetition that is made so often.
+    Repeat(u64),
+    /// It ends one.
+    End,
+    /// Another directive stands in it.
+    Other,
 }
 
-/// Where the repetition ends whose lines these are, and others behind them.
-pub fn find_end(rows: &[&[u8]]) -> Closing
-    ensures { ClosesAt rows.now result }
+/// What a line is.
+pub fn kind_of(line: &[u8]) -> LineKind
+    ensures { IsKind line.now result }
 {
-    let mut left = rows;
-    let mut index = 0usize;
-    let mut depth = 0usize;
-    while let [line, others @ ..] = left {
-        if !is_clear(line) {
-            return Closing::Unclear;
-        }
-        if ends(line) {
-            if depth == 0 {
-                return Closing::At(index);
-            }
-            depth -= 1;
-        } else if begins(line) {
-            depth += 1;
-        }
-        index += 1;
-        left = others;
+    if !has_directives(line) {
+        return LineKind::Plain;
     }
-    Closing::Beyond
+    if let Some(copies) = count(line) {
+        return LineKind::Repeat(copies);
+    }
+    if is_end(line) {
+        LineKind::End
+    } else {
+        LineKind::Other
+    }
 }

@@ -1,27 +1,18 @@
-use Rattle.std.proofs.Common.{◌≡◌, ℕ, ◌+◌, ◌-◌, ◌≤◌, true, List, [], ◌++◌, length, drop}
-use Rattle.rrs_macros.specs.Expansion.{Expands, between, copied, texts}
+use Rattle.std.proofs.Common.{◌-◌, ◌≤◌, length, take}
+use Rattle.rrs_macros.specs.Expansion.{Expands}
+use Rattle.rrs_macros.specs.Forms.{texts}
 use Rattle.rrs_macros.proofs.following.+follow.Given as goal
 
 abbrev pub decreases-follow : goal.decreases-follow
-decreases-follow l = l.end - l.start
+decreases-follow l = length l.rows.now
 
--- if the lines that are left become those that are left, all become all
+-- the lines before became the lines before
 abbrev pub invariant-line : goal.invariant-line
 invariant-line l = record {
-  follows : (behind : List (List ℕ)) → (l.is_all ≡ true → behind ≡ []) → Expands (texts (between l.row l.end l.rows) ++ behind) (texts (drop l.at l.made)) → Expands (texts (between l.start l.end l.rows) ++ behind) (texts (drop l.from l.made));
-  passed : l.start ≤ l.row;
-  before : l.row ≤ l.end;
+  before : l.row ≤ length l.rows;
   within : l.at ≤ length l.made;
+  become : Expands (texts (take l.row l.rows)) (texts (take l.at l.made));
 }
 
 abbrev pub decreases-line : goal.decreases-line
-decreases-line l = l.end - l.row
-
--- if the copies that are left, and what is behind, become the lines that are left, all become all
-abbrev pub invariant-copy : goal.invariant-copy
-invariant-copy l = record {
-  follows : (behind : List (List ℕ)) → (l.is_all ≡ true → behind ≡ []) →
-      Expands (copied (l.copies - l.copy) (texts (between (l.row + 1) l.last l.rows)) ++ (texts (between (l.last + 1) l.end l.rows) ++ behind)) (texts (drop l.at l.made))
-      → Expands (texts (between l.start l.end l.rows) ++ behind) (texts (drop l.from l.made));
-  within : l.at ≤ length l.made;
-}
+decreases-line l = length l.rows - l.row

@@ -1,6 +1,6 @@
 use Rattle.std.proofs.Common.{◌≡◌, ◌+◌, ◌++◌, [], length}
 use Rattle.std.specs.Option.{option_map_or}
-use Rattle.rrs_macros.specs.Expansion.{texts}
+use Rattle.rrs_macros.specs.Forms.{texts}
 use Rattle.rrs_macros.specs.Lines.{lines}
 use Rattle.rrs_macros.proofs.following.rows_of.Given as goal
 
