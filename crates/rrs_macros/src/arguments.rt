@@ -36,22 +36,26 @@ pub fn take_parameters(alloc: Global, cursor: &mut Cursor) -> Result<Vec<Paramet
         }
         let slip = cursor.slip(MacroErrorKind::DuplicateParameter);
         let parameter = take_parameter(alloc, cursor)?;
-        let kind = if index_of(&parameters, &parameter.name).is_some() {
-            Some(MacroErrorKind::DuplicateParameter)
-        } else if parameters.len() >= MOST_PARAMETERS {
-            Some(MacroErrorKind::Parameters)
-        } else if takes_rest(&parameters) {
-            Some(MacroErrorKind::BehindRest)
-        } else {
-            None
-        };
-        if let Some(kind) = kind {
-            return Err(Halt::Slip(Slip { kind, ..slip }));
+        if let Some(kind) = mistake_behind(&parameters, &parameter.name) {
+            return Err(Halt::Slip(slip.with_kind(kind)));
         }
         parameters.push(parameter)?;
         cursor.skip_comma();
     }
     Ok(parameters)
+}
+
+/// What is wrong with a parameter of this name behind others, if something is.
+fn mistake_behind(parameters: &[Parameter], name: &[u8]) -> Option<MacroErrorKind> {
+    if index_of(parameters, name).is_some() {
+        Some(MacroErrorKind::DuplicateParameter)
+    } else if parameters.len() >= MOST_PARAMETERS {
+        Some(MacroErrorKind::Parameters)
+    } else if takes_rest(parameters) {
+        Some(MacroErrorKind::BehindRest)
+    } else {
+        None
+    }
 }
 
 /// Whether the last parameter takes all that is left.
@@ -64,25 +68,30 @@ fn takes_rest(parameters: &[Parameter]) -> bool {
 
 /// Takes a parameter: its name, what it takes, and its default.
 fn take_parameter(alloc: Global, cursor: &mut Cursor) -> Result<Parameter, Halt> {
-    let name = Vec::from_slice(alloc, cursor.name()?)?;
-    let mut kind = Kind::Optional;
-    if cursor.take_if(b':') {
-        let slip = cursor.slip(MacroErrorKind::Qualifier);
-        kind = match cursor.word() {
-            b"req" => Kind::Required,
-            b"vararg" => Kind::Rest,
-            _ => return Err(Halt::Slip(slip)),
-        };
-    }
-    let mut default = Vec::new(alloc);
-    if cursor.take_if(b'=') {
-        take_argument(cursor, &mut default)?;
-    }
-    Ok(Parameter {
-        name,
-        default,
+    let name = cursor.name()?;
+    let kind = take_kind(cursor)?;
+    let mut parameter = Parameter {
+        name: Vec::from_slice(alloc, name)?,
+        default: Vec::new(alloc),
         kind,
-    })
+    };
+    if cursor.take_if(b'=') {
+        take_argument(cursor, &mut parameter.default)?;
+    }
+    Ok(parameter)
+}
+
+/// Takes what a parameter takes, if it is said.
+fn take_kind(cursor: &mut Cursor) -> Result<Kind, Slip> {
+    if !cursor.take_if(b':') {
+        return Ok(Kind::Optional);
+    }
+    let slip = cursor.slip(MacroErrorKind::Qualifier);
+    match cursor.word() {
+        b"req" => Ok(Kind::Required),
+        b"vararg" => Ok(Kind::Rest),
+        _ => Err(slip),
+    }
 }
 
 /// Which parameter has a name.
@@ -183,17 +192,22 @@ fn give_defaults(
     call: Slip,
 ) -> Result<(), Halt> {
     for (index, parameter) in parameters.iter().enumerate() {
-        let Some(value) = values.get_mut(index) else {
-            break;
-        };
-        if value.is_empty() {
-            if parameter.kind == Kind::Required {
-                return Err(Halt::Slip(call));
-            }
-            value.extend_from_slice(&parameter.default)?;
+        if let Some(value) = values.get_mut(index) {
+            give_default(parameter, value, call)?;
         }
     }
     Ok(())
+}
+
+/// Gives a parameter its default, if it has no value.
+fn give_default(parameter: &Parameter, value: &mut Vec<u8>, call: Slip) -> Result<(), Halt> {
+    if !value.is_empty() {
+        return Ok(());
+    }
+    if parameter.kind == Kind::Required {
+        return Err(Halt::Slip(call));
+    }
+    Ok(value.extend_from_slice(&parameter.default)?)
 }
 
 /// Takes an argument: a string without its quotation marks, or what stands before a comma or a
@@ -223,13 +237,21 @@ pub fn take_all(
     end: Option<u8>,
 ) -> Result<(), AllocError> {
     for _ in 0..u64::MAX {
-        let next = cursor.peek();
-        if next.is_none() || next == end {
+        if is_end(cursor.peek(), end) {
             break;
         }
         take_piece(cursor, value)?;
     }
     Ok(())
+}
+
+/// Whether nothing is next, or what ends a text.
+fn is_end(next: Option<u8>, end: Option<u8>) -> bool {
+    match (next, end) {
+        (Some(next), Some(end)) => next == end,
+        (Some(_), None) => false,
+        (None, _) => true,
+    }
 }
 
 /// Takes a byte, a string as it stands, or a character constant as its number.

@@ -7,6 +7,7 @@ use crate::errors::{Halt, MacroError, MacroErrorKind};
 use crate::frames::{Condition, Reader};
 use crate::tables::Tables;
 use crate::values::value;
+use std::alloc::AllocError;
 
 /// Begins a condition. With a mistake in it nothing of it is read.
 pub fn begin(
@@ -78,27 +79,45 @@ fn holds(tables: &Tables, test: Test, cursor: &mut Cursor) -> Result<bool, Halt>
             Ok(tables.symbols.is_defined(name) == wanted)
         }
         Test::Blank(wanted) => Ok(cursor.is_over() == wanted),
-        Test::SameText(wanted) => {
-            let slip = cursor.slip(MacroErrorKind::Strings);
-            let mut one = Vec::new(tables.alloc);
-            take_all(cursor, &mut one, Some(b','))?;
-            if !cursor.take_if(b',') {
-                return Err(Halt::Slip(slip));
-            }
-            let mut other = Vec::new(tables.alloc);
-            take_all(cursor, &mut other, None)?;
-            Ok((one.as_slice() == other.as_slice()) == wanted)
-        }
-        Test::SameString(wanted) => {
-            let one = string(tables, cursor)?;
-            if !cursor.take_if(b',') {
-                return Err(Halt::Slip(cursor.slip(MacroErrorKind::Strings)));
-            }
-            let other = string(tables, cursor)?;
-            cursor.end()?;
-            Ok((one.as_slice() == other.as_slice()) == wanted)
-        }
+        Test::SameText(wanted) => Ok(are_same_texts(tables, cursor)? == wanted),
+        Test::SameString(wanted) => Ok(are_same_strings(tables, cursor)? == wanted),
     }
+}
+
+/// Takes two texts with a comma between them, and tells whether they are the same.
+fn are_same_texts(tables: &Tables, cursor: &mut Cursor) -> Result<bool, Halt> {
+    let slip = cursor.slip(MacroErrorKind::Strings);
+    let mut one = Vec::new(tables.alloc);
+    take_all(cursor, &mut one, Some(b','))?;
+    if cursor.take_if(b',') {
+        Ok(is_rest(tables, cursor, &one)?)
+    } else {
+        Err(Halt::Slip(slip))
+    }
+}
+
+/// Takes all that is left, and tells whether it is this text.
+fn is_rest(tables: &Tables, cursor: &mut Cursor, text: &[u8]) -> Result<bool, AllocError> {
+    let mut rest = Vec::new(tables.alloc);
+    take_all(cursor, &mut rest, None)?;
+    Ok(rest.as_slice() == text)
+}
+
+/// Takes two strings with a comma between them, and tells whether they are the same.
+fn are_same_strings(tables: &Tables, cursor: &mut Cursor) -> Result<bool, Halt> {
+    let one = string(tables, cursor)?;
+    if cursor.take_if(b',') {
+        is_string(tables, cursor, &one)
+    } else {
+        Err(Halt::Slip(cursor.slip(MacroErrorKind::Strings)))
+    }
+}
+
+/// Takes a string that is the last, and tells whether it is this text.
+fn is_string(tables: &Tables, cursor: &mut Cursor, text: &[u8]) -> Result<bool, Halt> {
+    let other = string(tables, cursor)?;
+    cursor.end()?;
+    Ok(other.as_slice() == text)
 }
 
 /// Takes a string.

@@ -22,6 +22,14 @@ fn keeps_blank(before: u8, after: u8) -> bool {
         && (is_in_name(after) || matches!(after, b'"' | b'\'' | b'\\'))
 }
 
+/// Whether a word is a name, which does not begin with a digit.
+fn is_name(word: &[u8]) -> bool {
+    match word {
+        [] => false,
+        [byte, ..] => !byte.is_ascii_digit(),
+    }
+}
+
 impl<'a> Cursor<'a> {
     /// The operands of a statement, with so many bytes of the text behind it.
     pub fn new(operands: &'a [u8], behind: usize) -> Self {
@@ -128,10 +136,7 @@ impl<'a> Cursor<'a> {
     pub fn name(&mut self) -> Result<&'a [u8], Slip> {
         let slip = self.slip(MacroErrorKind::Name);
         let word = self.word();
-        match word {
-            [] | [b'0'..=b'9', ..] => Err(slip),
-            _ => Ok(word),
-        }
+        if is_name(word) { Ok(word) } else { Err(slip) }
     }
 
     /// That nothing is left.

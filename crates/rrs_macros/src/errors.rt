@@ -173,6 +173,13 @@ pub struct Slip {
     pub left: usize,
 }
 
+impl Slip {
+    /// Another mistake at this place.
+    pub fn with_kind(self, kind: MacroErrorKind) -> Self {
+        Slip { kind, ..self }
+    }
+}
+
 /// Why a statement is not performed.
 #[derive(Clone, Copy)]
 pub enum Halt {

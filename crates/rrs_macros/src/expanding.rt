@@ -191,16 +191,7 @@ fn expanded(alloc: Global, source: &[u8]) -> Result<Expanded, MacroFault>
         let Some(frame) = expansion.next() else {
             break;
         };
-        let mut frame = frame;
-        let origin = frame.reader.origin();
-        match read_step(&mut tables, &frame.text, &mut frame.reader) {
-            Ok(Some(step)) => {
-                put_span(&mut out, &frame.text, step.line, total)?;
-                expansion.turn(frame, step.turn, origin, out.text.len())?;
-            }
-            Ok(None) => expansion.finish(frame)?,
-            Err(halt) => expansion.stumble(frame, halt, origin)?,
-        }
+        advance(&mut tables, &mut expansion, frame, &mut out, total)?;
     }
     let mistakes = expansion.mistakes()?;
     if !mistakes.is_empty() {
@@ -210,6 +201,29 @@ fn expanded(alloc: Global, source: &[u8]) -> Result<Expanded, MacroFault>
         Ok(whole) => settled(alloc, source, whole),
         Err(_) => Err(MacroFault::OutOfMemory),
     }
+}
+
+/// Reads a line or a statement of a text, and puts what comes of it.
+fn advance(
+    tables: &mut Tables,
+    expansion: &mut Expansion,
+    frame: Frame,
+    out: &mut Expanded,
+    total: usize,
+) -> Result<(), AllocError>
+    ensures { 1 ≤ total → IsMade total out.old → OnOk result (IsMade total out.new) }
+{
+    let mut frame = frame;
+    let origin = frame.reader.origin();
+    match read_step(tables, &frame.text, &mut frame.reader) {
+        Ok(Some(step)) => {
+            put_span(out, &frame.text, step.line, total)?;
+            expansion.turn(frame, step.turn, origin, out.text.len())?;
+        }
+        Ok(None) => expansion.finish(frame)?,
+        Err(halt) => expansion.stumble(frame, halt, origin)?,
+    }
+    Ok(())
 }
 
 /// A result, if it is one of this source.

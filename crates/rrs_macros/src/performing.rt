@@ -157,32 +157,41 @@ fn perform(
         .get(..code.len().saturating_sub(behind.len()))
         .unwrap_or(code);
     let number = site.origin.number;
-    let (put, turn) = match directive_of(code) {
-        Some((directive, operands)) => {
-            tables.symbols.note(labels)?;
-            (
-                labels,
-                direct(tables, directive, site, behind, operands, reader)?,
-            )
-        }
-        None => match tables.call_in(code)? {
-            Some((name, operands)) => {
-                tables.symbols.note(labels)?;
-                (labels, call(tables, &name, site, operands)?)
-            }
-            None => {
-                tables.symbols.note(code)?;
-                (code, Turn::Stay)
-            }
-        },
+    let Some((directive, operands)) = directive_of(code) else {
+        return call_or_put(tables, site, code, labels, start);
     };
-    let end = start.saturating_add(put.len());
-    let line = if behind_blanks(put).is_empty() {
-        None
-    } else {
-        Some(Span { start, end, number })
-    };
+    tables.symbols.note(labels)?;
+    let turn = direct(tables, directive, site, behind, operands, reader)?;
+    let line = span_of(labels, start, number);
     Ok(Step { line, turn })
+}
+
+/// Performs a statement that is no directive of macros, with these labels.
+fn call_or_put(
+    tables: &mut Tables,
+    site: Site,
+    code: &[u8],
+    labels: &[u8],
+    start: usize,
+) -> Result<Step, Halt> {
+    let number = site.origin.number;
+    let Some((name, operands)) = tables.call_in(code)? else {
+        tables.symbols.note(code)?;
+        return Ok(stay(span_of(code, start, number)));
+    };
+    tables.symbols.note(labels)?;
+    let turn = call(tables, &name, site, operands)?;
+    let line = span_of(labels, start, number);
+    Ok(Step { line, turn })
+}
+
+/// The part of a text that begins at a place and has these bytes, if they are not blank.
+fn span_of(put: &[u8], start: usize, number: usize) -> Option<Span> {
+    if behind_blanks(put).is_empty() {
+        return None;
+    }
+    let end = start.saturating_add(put.len());
+    Some(Span { start, end, number })
 }
 
 /// Calls a macro.

@@ -38,12 +38,11 @@ impl Repeated {
 
     /// Appends the lines with a value.
     fn append(&mut self, tables: &Tables, value: Vec<u8>) -> Result<(), AllocError> {
+        let values = [value];
         if self.is_begun {
             self.text.push(b'\n')?;
         }
         self.is_begun = true;
-        let mut values = Vec::new(tables.alloc);
-        values.push(value)?;
         let call = tables.calls;
         let Repeated {
             parameters,
@@ -53,6 +52,42 @@ impl Repeated {
         } = self;
         substitute(tables.alloc, lines, parameters, &values, call, text)
     }
+
+    /// Appends the lines with the argument that is next.
+    fn append_argument(&mut self, tables: &Tables, cursor: &mut Cursor) -> Result<(), AllocError> {
+        let mut value = Vec::new(tables.alloc);
+        take_argument(cursor, &mut value)?;
+        cursor.skip_comma();
+        self.append(tables, value)
+    }
+
+    /// Appends the lines with each of the characters that stand there, or once with none.
+    fn append_characters(
+        &mut self,
+        tables: &Tables,
+        cursor: &mut Cursor,
+    ) -> Result<(), AllocError> {
+        let mut characters = Vec::new(tables.alloc);
+        take_characters(cursor, &mut characters)?;
+        for byte in &characters {
+            self.append(tables, Vec::from_slice(tables.alloc, &[*byte])?)?;
+        }
+        if self.is_begun {
+            Ok(())
+        } else {
+            self.append(tables, Vec::new(tables.alloc))
+        }
+    }
+}
+
+/// Takes a string, or all that is left but for blanks.
+fn take_characters(cursor: &mut Cursor, characters: &mut Vec<u8>) -> Result<(), AllocError> {
+    if cursor.take_if(b'"') {
+        return take_string(cursor, characters);
+    }
+    take_all(cursor, characters, None)?;
+    characters.retain(|byte| *byte != b' ');
+    Ok(())
 }
 
 /// Lines with each of the values that are listed, or once with none.
@@ -62,10 +97,7 @@ pub fn each_value(tables: &Tables, lines: &[u8], cursor: &mut Cursor) -> Result<
         if repeated.is_begun && cursor.is_over() {
             break;
         }
-        let mut value = Vec::new(tables.alloc);
-        take_argument(cursor, &mut value)?;
-        repeated.append(tables, value)?;
-        cursor.skip_comma();
+        repeated.append_argument(tables, cursor)?;
     }
     Ok(repeated.text)
 }
@@ -73,20 +105,6 @@ pub fn each_value(tables: &Tables, lines: &[u8], cursor: &mut Cursor) -> Result<
 /// Lines with each of the characters that stand there, or once with none.
 pub fn each_character(tables: &Tables, lines: &[u8], cursor: &mut Cursor) -> Result<Vec<u8>, Halt> {
     let mut repeated = Repeated::new(tables, lines, cursor)?;
-    let mut characters = Vec::new(tables.alloc);
-    if cursor.take_if(b'"') {
-        take_string(cursor, &mut characters)?;
-    } else {
-        take_all(cursor, &mut characters, None)?;
-        characters.retain(|byte| *byte != b' ');
-    }
-    for byte in &characters {
-        let mut value = Vec::new(tables.alloc);
-        value.push(*byte)?;
-        repeated.append(tables, value)?;
-    }
-    if !repeated.is_begun {
-        repeated.append(tables, Vec::new(tables.alloc))?;
-    }
+    repeated.append_characters(tables, cursor)?;
     Ok(repeated.text)
 }

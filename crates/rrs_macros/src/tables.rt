@@ -121,29 +121,41 @@ impl Tables {
     /// Defines a macro with a name, parameters and a body.
     pub fn define(&mut self, cursor: &mut Cursor, body: Option<Lines>) -> Result<(), Halt> {
         let slip = cursor.slip(MacroErrorKind::Duplicate);
-        let name = cursor.name()?.to_ascii_lowercase(self.alloc)?;
+        let name = cursor.name()?;
         cursor.skip_comma();
         let parameters = take_parameters(self.alloc, cursor)?;
+        self.add(name, Macro { parameters, body }, slip)
+    }
+
+    /// Adds a macro, if there is none of its name.
+    fn add(&mut self, name: &[u8], definition: Macro, slip: Slip) -> Result<(), Halt> {
+        let name = name.to_ascii_lowercase(self.alloc)?;
         if self.macros.get(name.as_slice()).is_some() {
             return Err(Halt::Slip(slip));
         }
-        let _ = self.macros.insert(name, Macro { parameters, body })?;
+        let _ = self.macros.insert(name, definition)?;
         Ok(())
     }
 
     /// Removes the macros that are named.
     pub fn purge(&mut self, cursor: &mut Cursor) -> Result<(), Halt> {
         for _ in 0..u64::MAX {
-            let slip = cursor.slip(MacroErrorKind::NoMacro);
-            let name = cursor.name()?.to_ascii_lowercase(self.alloc)?;
-            if self.macros.remove(name.as_slice()).is_none() {
-                return Err(Halt::Slip(slip));
-            }
+            self.purge_one(cursor)?;
             if !cursor.take_if(b',') {
                 break;
             }
         }
         Ok(cursor.end()?)
+    }
+
+    /// Removes the macro that is named.
+    fn purge_one(&mut self, cursor: &mut Cursor) -> Result<(), Halt> {
+        let slip = cursor.slip(MacroErrorKind::NoMacro);
+        let name = cursor.name()?.to_ascii_lowercase(self.alloc)?;
+        match self.macros.remove(name.as_slice()) {
+            Some(_) => Ok(()),
+            None => Err(Halt::Slip(slip)),
+        }
     }
 
     /// The lines that a call of a macro stands for, if there are any.
@@ -157,14 +169,26 @@ impl Tables {
         let Some(body) = &definition.body else {
             return Ok(None);
         };
-        let mut text = Vec::new(self.alloc);
         let parameters = &definition.parameters;
-        substitute(self.alloc, &body.text, parameters, &values, call, &mut text)?;
-        let lines = Lines {
+        Ok(Some(body.substituted(self.alloc, parameters, &values, call)?))
+    }
+}
+
+impl Lines {
+    /// The lines with these values in the places of the parameters, in a call with this number.
+    fn substituted(
+        &self,
+        alloc: Global,
+        parameters: &[Parameter],
+        values: &[Vec<u8>],
+        call: u64,
+    ) -> Result<Lines, AllocError> {
+        let mut text = Vec::new(alloc);
+        substitute(alloc, &self.text, parameters, values, call, &mut text)?;
+        Ok(Lines {
             text,
-            first: body.first,
-            height: body.height,
-        };
-        Ok(Some(lines))
+            first: self.first,
+            height: self.height,
+        })
     }
 }

@@ -17,6 +17,29 @@ enum Entry {
     Between(u64, Infix),
 }
 
+impl Entry {
+    /// How strongly it binds. An opening parenthesis binds nothing.
+    fn rank(self) -> u8 {
+        match self {
+            Entry::Open => 0,
+            Entry::Between(_, infix) => infix.rank(),
+            Entry::Before(_) => 7,
+        }
+    }
+
+    /// What it makes of a value behind it, before a place.
+    fn applied(self, value: u64, slip: Slip) -> Result<u64, Slip> {
+        match self {
+            Entry::Open => Ok(value),
+            Entry::Before(prefix) => Ok(prefix.apply(value)),
+            Entry::Between(left, infix) => match infix.apply(left, value) {
+                Ok(value) => Ok(value),
+                Err(kind) => Err(slip.with_kind(kind)),
+            },
+        }
+    }
+}
+
 /// What waits, the innermost last.
 #[derive(Clone, Copy)]
 struct Waiting {
@@ -33,11 +56,11 @@ impl Waiting {
         }
     }
 
-    /// One more.
-    fn push(&mut self, entry: Entry) -> Result<(), MacroErrorKind> {
+    /// One more, which stands at a place.
+    fn push(&mut self, entry: Entry, slip: Slip) -> Result<(), Slip> {
         match self.entries.get_mut(self.count) {
             Some(place) => *place = entry,
-            None => return Err(MacroErrorKind::Operators),
+            None => return Err(slip.with_kind(MacroErrorKind::Operators)),
         }
         self.count = self.count.saturating_add(1);
         Ok(())
@@ -48,15 +71,12 @@ impl Waiting {
         self.entries.get(self.count.checked_sub(1)?).copied()
     }
 
-    /// What those that bind so strongly make of a value behind them.
-    fn applied(&mut self, rank: u8, value: u64) -> Result<u64, MacroErrorKind> {
+    /// What those that bind so strongly make of a value behind them, before a place.
+    fn applied(&mut self, rank: u8, value: u64, slip: Slip) -> Result<u64, Slip> {
         let mut value = value;
         for _ in 0..MOST_WAITING {
             match self.last() {
-                Some(Entry::Before(prefix)) => value = prefix.apply(value),
-                Some(Entry::Between(left, infix)) if infix.rank() >= rank => {
-                    value = infix.apply(left, value)?;
-                }
+                Some(entry) if entry.rank() >= rank => value = entry.applied(value, slip)?,
                 _ => break,
             }
             self.count = self.count.saturating_sub(1);
@@ -85,19 +105,15 @@ pub fn value(cursor: &mut Cursor, symbols: &Symbols) -> Result<u64, Slip> {
         let value = closed(cursor, &mut waiting, term)?;
         let slip = cursor.slip(MacroErrorKind::Parenthesis);
         let Some(infix) = infix(cursor) else {
-            let value = waiting
-                .applied(0, value)
-                .map_err(|kind| Slip { kind, ..slip })?;
+            let value = waiting.applied(1, value, slip)?;
             return if waiting.count == 0 {
                 Ok(value)
             } else {
                 Err(slip)
             };
         };
-        let applied = waiting.applied(infix.rank(), value);
-        let left = applied.map_err(|kind| Slip { kind, ..slip })?;
-        let pushed = waiting.push(Entry::Between(left, infix));
-        pushed.map_err(|kind| Slip { kind, ..slip })?;
+        let left = waiting.applied(infix.rank(), value, slip)?;
+        waiting.push(Entry::Between(left, infix), slip)?;
     }
     Err(cursor.slip(MacroErrorKind::Value))
 }
@@ -119,7 +135,7 @@ fn prefixes(cursor: &mut Cursor, waiting: &mut Waiting) -> Result<(), Slip> {
         } else {
             break;
         };
-        waiting.push(entry).map_err(|kind| Slip { kind, ..slip })?;
+        waiting.push(entry, slip)?;
     }
     Ok(())
 }
@@ -132,9 +148,7 @@ fn closed(cursor: &mut Cursor, waiting: &mut Waiting, term: u64) -> Result<u64, 
         if !cursor.take_if(b')') {
             break;
         }
-        value = waiting
-            .applied(0, value)
-            .map_err(|kind| Slip { kind, ..slip })?;
+        value = waiting.applied(1, value, slip)?;
         if !waiting.close() {
             return Err(slip);
         }
@@ -163,18 +177,11 @@ fn term(cursor: &mut Cursor, symbols: &Symbols) -> Result<u64, Slip> {
     let word = cursor.word();
     match word {
         [] => Err(slip),
-        [b'0'..=b'9', b'b' | b'f'] => Err(Slip {
-            kind: MacroErrorKind::NotConstant,
-            ..slip
-        }),
-        [b'0'..=b'9', ..] => number(word).ok_or(Slip {
-            kind: MacroErrorKind::Number,
-            ..slip
-        }),
-        _ => symbols.value_of(word).ok_or(Slip {
-            kind: MacroErrorKind::NotConstant,
-            ..slip
-        }),
+        [b'0'..=b'9', b'b' | b'f'] => Err(slip.with_kind(MacroErrorKind::NotConstant)),
+        [b'0'..=b'9', ..] => number(word).ok_or(slip.with_kind(MacroErrorKind::Number)),
+        _ => symbols
+            .value_of(word)
+            .ok_or(slip.with_kind(MacroErrorKind::NotConstant)),
     }
 }
 
