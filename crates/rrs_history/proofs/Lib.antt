@@ -2,6 +2,7 @@
 mod PutBack
 mod NotedAccesses
 mod Undoing
+mod Written
 -- Lemmas of histories.
 mod Remembering
 mod Carrying

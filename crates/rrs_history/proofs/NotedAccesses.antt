@@ -1,10 +1,10 @@
 -- What a memory that notes has after the accesses of a step: what takes the store back. The memory that is lent made
 -- the same accesses, with a read before the store.
-use Rattle.std.proofs.Common.{◌≡◌, ℕ, ◌%◌, ◌==◌, List, [], ◌∷◌, Bool, true, false, Option, None, if◌then◌else◌, refl, sym, subst, ap, ◌∙◌}
+use Rattle.std.proofs.Common.{◌≡◌, ℕ, List, [], ◌∷◌, Bool, true, false, Option, None, if◌then◌else◌, refl, sym, subst, ap, ◌∙◌}
 use Rattle.rrs_lib.specs.declared.MemAccessSize.{MemAccessSize}
 use Rattle.rrs_lib.specs.Bytes.{ByteMap, width, little_endian}
 use Rattle.rrs_lib.specs.Encodings.{Fields, I, S}
-use Rattle.rrs_lib.specs.Table.{Row, table, Action, Load, Store}
+use Rattle.rrs_lib.specs.Table.{table, Action, Load, Store}
 use Rattle.rrs_lib.specs.Machine.{State}
 use Rattle.rrs_lib.specs.Accesses.{Access, Read, Write, Makes, AccessesOf, OfNone, OfFetch, OfRow, MakesExactly, accesses_by}
 use Rattle.rrs_lib.proofs.Making.{AccessesOf-unique}

@@ -7,7 +7,9 @@ use Rattle.rrs_lib.specs.Machine.{State}
 use Rattle.rrs_lib.specs.Steps.{Step, StepAnswer, ChangesLittle, LastIsRegister}
 use Rattle.rrs_lib.proofs.Keeping.{Step-little, Step-last}
 use Rattle.rrs_history.specs.declared.change.Change.{Change}
+use Rattle.rrs_history.specs.declared.recorder.Recorded.{Recorded}
 use Rattle.rrs_history.specs.Changes.{put_back, stored_back, last_before, undone, number_in, value_in}
+use Rattle.rrs_history.specs.Noting.{AreReplaced}
 
 -- the entries after the first one
 pub dropped : (xs : List ℕ) (r : ℕ) → slice_index (drop 1 xs) r ≡ slice_index xs (suc r)
@@ -67,3 +69,18 @@ step_undone s t answer c before step registers whole long starts pc last registe
       bytes = bytes i;
       writable = little.writable_kept i;
     }
+
+-- a change that holds what was recorded of the step
+pub change_undone : (s t : State) (answer : StepAnswer) (c : Change) (recorded : Recorded) (before : List ℕ)
+    → Step s t answer → s.registers ≡ drop 1 before → length before ≡ 32 → length t.registers ≡ 31
+    → c.starts ≡ true → c.pc ≡ s.pc → last_before c ≡ s.last
+    → c.register ≡ recorded.register → c.value ≡ recorded.value
+    → c.stored ≡ recorded.replaced.size → c.address ≡ recorded.replaced.address
+    → c.bytes ≡ recorded.replaced.bytes
+    → recorded.register ≡ number_in t.last → recorded.value ≡ value_in before recorded.register
+    → AreReplaced recorded.replaced t.writable s.bytes t.bytes → undone c t ≡ s
+change_undone s t answer c recorded before step registers whole long starts pc last register value size address bytes
+    number was replaced =
+    step_undone s t answer c before step registers whole long starts pc last (register ∙ number)
+    (value ∙ was ∙ ap (value_in before) (sym register))
+    ((λ i. stored_back (size i) (address i) (bytes i) t.writable t.bytes) ∙ replaced)

@@ -5,9 +5,9 @@ ghost use Rattle.rrs_lib.specs.Machine.{State, state_of, hart_of};
 ghost use Rattle.rrs_lib.specs.Executor.{state_in, KeepsTheRest};
 ghost use Rattle.rrs_lib.specs.Accesses.{Makes, MakesExactly};
 ghost use Rattle.rrs_lib.specs.Steps.{Step, IsOnlyStep, LastIsRegister, cleared};
-ghost use Rattle.rrs_history.specs.Changes.{undone, put_back, stored_back, accesses_back, NotedAccessesOf};
+ghost use Rattle.rrs_history.specs.Changes.{undone, last_before, put_back, stored_back, accesses_back, NotedAccessesOf};
 
-use crate::recorder::record_step;
+use crate::recorder::{Recorded, record_step};
 use rrs_lib::instruction_executor::{InstructionException, InstructionExecutor, StepEnd};
 use rrs_lib::{MemAccessSize, Memory};
 
@@ -39,6 +39,33 @@ pub struct Change {
 }
 
 const _: () = prove!(size_of::<Change>() == 32);
+
+/// The change that takes a step back, which was made from this pc, with this last written register.
+#[inline(always)]
+fn change_of(recorded: Recorded, pc: u32, last: Option<usize>) -> Change
+    ensures last { last_before result ≡ last }
+    ensures pc { result.pc ≡ pc }
+    ensures register { result.register ≡ recorded.register }
+    ensures value { result.value ≡ recorded.value }
+    ensures stored { result.stored ≡ recorded.replaced.size }
+    ensures address { result.address ≡ recorded.replaced.address }
+    ensures bytes { result.bytes ≡ recorded.replaced.bytes }
+    ensures starts { IsTrue result.starts }
+    ensures of_step { result.of_call ≡ false }
+{
+    Change {
+        last: last.unwrap_or(0),
+        pc,
+        value: recorded.value,
+        address: recorded.replaced.address,
+        bytes: recorded.replaced.bytes,
+        stored: recorded.replaced.size,
+        register: recorded.register,
+        had_last: last.is_some(),
+        starts: true,
+        of_call: false,
+    }
+}
 
 /// Makes a step of a hart whose registers, pc and last written register are handed in apart, as
 /// `step_parts`, and tells the change that takes it back: [step_noted] for a hart that is kept in
@@ -73,19 +100,7 @@ pub fn step_noted_parts<M: Memory>(
         mem.old mem.new }
 {
     let recorded = record_step(mem, registers, pc);
-    let change = Change {
-        last: last.unwrap_or(0),
-        pc,
-        value: recorded.value,
-        address: recorded.replaced.address,
-        bytes: recorded.replaced.bytes,
-        stored: recorded.replaced.size,
-        register: recorded.register,
-        had_last: last.is_some(),
-        starts: true,
-        of_call: false,
-    };
-    (recorded.end, change)
+    (recorded.end, change_of(recorded, pc, last))
 }
 
 /// Makes a step, and tells the change that takes it back.
@@ -120,11 +135,12 @@ pub fn step_noted<M: Memory>(
         executor.old.mem.now executor.new.mem.now }
 {
     let hart = &mut *executor.hart_state;
-    let last = hart.last_register_write;
-    let (end, change) = step_noted_parts(executor.mem, &mut hart.registers, hart.pc, last);
-    hart.pc = end.pc;
-    hart.last_register_write = end.last_register_write;
-    (end.answer, change)
+    let pc = hart.pc;
+    let recorded = record_step(executor.mem, &mut hart.registers, pc);
+    let change = change_of(recorded, pc, hart.last_register_write);
+    hart.pc = recorded.end.pc;
+    hart.last_register_write = recorded.end.last_register_write;
+    (recorded.end.answer, change)
 }
 
 /// Puts a register back. x0, and what is no register, stays.

@@ -10,18 +10,18 @@ returns-clause-replaced g c =
     let s = noting_state g.M.Memory.bytes g.M.Memory.writable (hart_of c.args.registers.now c.args.pc None)
     c.args.noting.now in
     step_replaced g.M.Memory.bytes g.M.Memory.writable g.M.Memory.reads g.M.Memory.writes s _ _
-    refl c.requires.nothing (c.step_parts.ensures.accesses None)
+    refl c.requires.nothing (c.step_telling.ensures.accesses None)
 
 pub returns-clause-same_memory : goal.returns-clause-same_memory
 returns-clause-same_memory g c =
     let s = noting_state g.M.Memory.bytes g.M.Memory.writable (hart_of c.args.registers.now c.args.pc None)
     c.args.noting.now in
     still_lent g.M.Memory.bytes g.M.Memory.writable g.M.Memory.reads g.M.Memory.writes s _ _
-    refl c.requires.nothing (c.step_parts.ensures.accesses None)
+    refl c.requires.nothing (c.step_telling.ensures.accesses None)
 
 pub returns-clause-accesses : goal.returns-clause-accesses
 returns-clause-accesses g c = λ last.
     let s = noting_state g.M.Memory.bytes g.M.Memory.writable (hart_of c.args.registers.now c.args.pc last)
     c.args.noting.now in
     step_made g.M.Memory.bytes g.M.Memory.writable g.M.Memory.reads g.M.Memory.writes s _ _
-    refl c.requires.nothing (c.step_parts.ensures.accesses last)
+    refl c.requires.nothing (c.step_telling.ensures.accesses last)
