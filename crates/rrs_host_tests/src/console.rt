@@ -1,7 +1,7 @@
 //! An environment as a user might write it: a console that takes a byte a call.
 
 ghost use Rattle.std.specs.Prelude.{◌≡◌};
-ghost use Rattle.rrs_linux_tests.specs.Consoles.{Serves};
+ghost use Rattle.rrs_host_tests.specs.Consoles.{Serves};
 
 use rrs_env::{Ending, Environment, ServedEnd, run_served};
 use rrs_fast::DecodeCache;

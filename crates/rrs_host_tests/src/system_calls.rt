@@ -2,13 +2,14 @@
 //! go on.
 
 use rrs_env::Environment;
+use rrs_lib::HartState;
 use rrs_lib::instruction_executor::InstructionExecutor;
 use rrs_lib::memories::VecMemory;
-use rrs_lib::{HartState, MemAccessSize, Memory};
 use rrs_linux::{Heap, Linux, LinuxClocks, OutputRecorder, StoppedClocks, records_determined};
 use std::alloc::{AllocError, Global};
 use std::io;
 use std::io::{ErrorKind, Read, Write};
+use std::process::Abort;
 use std::test::Fail;
 use std::time::Duration;
 
@@ -138,27 +139,16 @@ fn numbered(alloc: Global) -> Result<VecMemory, AllocError> {
     Ok(VecMemory::new(words))
 }
 
-/// Serves a call with its number and three arguments: how it ended, and what it answered.
-fn call<E: Environment>(
-    environment: &mut E,
-    mem: &mut VecMemory,
-    request: Request,
-) -> (Option<u32>, u32) {
-    call_of_five(
-        environment,
-        mem,
-        request.0,
-        [request.1, request.2, request.3, 0, 0],
-    )
-}
+/// How a call ended, and what it answered.
+type Answered = (Option<u32>, u32);
 
-/// Serves a call with its number and five arguments: how it ended, and what it answered.
+/// Serves a call with its number and five arguments.
 fn call_of_five<E: Environment>(
     environment: &mut E,
     mem: &mut VecMemory,
     number: u32,
     arguments: [u32; 5],
-) -> (Option<u32>, u32) {
+) -> Answered {
     let mut hart = HartState::new();
     hart.registers[17] = number;
     for (index, argument) in arguments.iter().enumerate() {
@@ -170,6 +160,53 @@ fn call_of_five<E: Environment>(
     };
     let end = environment.serve(&mut executor);
     (end, hart.registers[10])
+}
+
+/// Serves a call of a recorder, with three arguments.
+fn call_recorder(recorder: &mut OutputRecorder, mem: &mut VecMemory, request: Request) -> Answered {
+    let (number, first, second, third) = request;
+    call_of_five(recorder, mem, number, [first, second, third, 0, 0])
+}
+
+/// Streams on all sides.
+type Streams<'a> = Linux<Stream<'a>, Stream<'a>, Stream<'a>>;
+
+/// Serves a call over streams, with its number and five arguments.
+fn call_streams(
+    linux: &mut Streams<'_>,
+    mem: &mut VecMemory,
+    number: u32,
+    arguments: [u32; 5],
+) -> Answered {
+    call_of_five(linux, mem, number, arguments)
+}
+
+/// Serves a call over streams, with three arguments.
+fn call(linux: &mut Streams<'_>, mem: &mut VecMemory, request: Request) -> Answered {
+    let (number, first, second, third) = request;
+    call_streams(linux, mem, number, [first, second, third, 0, 0])
+}
+
+/// How much standard output and standard error hold.
+fn held(linux: &Streams<'_>) -> (usize, usize) {
+    (
+        linux.output.stream.written.len(),
+        linux.errors.stream.written.len(),
+    )
+}
+
+/// Asserts what a call in this row of a table answers, and whether the rest is right.
+fn same_answer(rt: &impl Abort, row: usize, seen: (Answered, bool), answered: Answered) {
+    assert_eq!(rt; (row, seen), (row, (answered, true)));
+}
+
+/// Puts words at 200 and behind it.
+fn put_words(memory: &mut VecMemory, words: &[u32]) {
+    for (index, word) in words.iter().enumerate() {
+        if let Some(place) = memory.mem.get_mut(index.saturating_add(50)) {
+            *place = *word;
+        }
+    }
 }
 
 /// Whether bytes are numbers that follow one another, from this one on, modulo 256.
@@ -194,11 +231,7 @@ fn clocks() -> StoppedClocks {
 }
 
 /// Streams with these turns of the input and of the output, a heap, and clocks that stand still.
-fn environment<'a>(
-    alloc: Global,
-    reads: &'a [Turn],
-    writes: &'a [Turn],
-) -> Linux<Stream<'a>, Stream<'a>, Stream<'a>> {
+fn environment<'a>(alloc: Global, reads: &'a [Turn], writes: &'a [Turn]) -> Streams<'a> {
     let input = Stream::new(alloc, reads);
     let output = Stream::new(alloc, writes);
     let errors = Stream::new(alloc, &[]);
@@ -206,50 +239,45 @@ fn environment<'a>(
     Linux::new(input, output, errors, Heap::new(64, 96), clocks)
 }
 
-// The status of standard output, 104 bytes: st_mode at 16 is a pipe with 0600, st_nlink at 20 is 1,
-// st_blksize at 56 is 4096, all other bytes are 0, and what is behind them stays.
+/// The status of standard output from 4 on, 104 bytes, in words of ones: st_mode at 16 is a pipe with
+/// 0600, st_nlink at 20 is 1, st_blksize at 56 is 4096, and all other bytes are 0.
+static STATUS: [u32; 30] = [
+    0xffffffff, 0, 0, 0, 0, 0o010600, 1, 0, 0, 0, 0, 0, 0, 0, 0, 4096, 0, 0, 0, 0, 0, 0, 0, 0, 0,
+    0, 0, 0xffffffff, 0xffffffff, 0xffffffff,
+];
+
+// What is behind the status stays.
 #[test]
 fn a_stream_has_the_status_of_a_pipe(rt: HostRuntime) -> Result<(), Fail> {
     let mut memory = VecMemory::new(vec![in rt.alloc(); 0xffff_ffff; 30]?);
     let mut linux = environment(rt.alloc(), &[], &[]);
     let seen = call(&mut linux, &mut memory, (FSTAT, 1, 4, 0));
-    assert!(rt; seen == (None, 0));
-    for index in 0..30u32 {
-        let word = memory.read_mem(4 * index, MemAccessSize::Word);
-        let expected = match index {
-            0 | 27..=29 => 0xffff_ffff,
-            5 => 0o010_600,
-            6 => 1,
-            15 => 4096,
-            _ => 0,
-        };
-        assert!(rt; word == Some(expected), "{index}");
-    }
+    assert_eq!(rt;
+        (seen, memory.mem.as_slice()),
+        ((None, 0), STATUS.as_slice())
+    );
     Ok(())
 }
 
-// The status of standard output as `statx` has it, 256 bytes: stx_mask is 0x7ff, stx_blksize at 4 is
-// 4096, stx_nlink at 16 is 1, stx_mode at 28 is a pipe with 0600, all other bytes are 0, and what is
-// behind them stays.
+/// The status of standard output as `statx` has it from 4 on, 256 bytes: stx_mask is 0x7ff,
+/// stx_blksize at 4 is 4096, stx_nlink at 16 is 1, stx_mode at 28 is a pipe with 0600, and all other
+/// bytes are 0.
+static EXTENDED: [u32; 67] = [
+    0xffffff00, 0x7ff, 4096, 0, 0, 1, 0, 0, 0o010600, 0, 0, 0, 0, 0, 0, 0, 0, 0, 0, 0, 0, 0, 0, 0,
+    0, 0, 0, 0, 0, 0, 0, 0, 0, 0, 0, 0, 0, 0, 0, 0, 0, 0, 0, 0, 0, 0, 0, 0, 0, 0, 0, 0, 0, 0, 0, 0,
+    0, 0, 0, 0, 0, 0, 0, 0, 0, 0xffffff00, 0xffffff00,
+];
+
+// What is behind the status stays.
 #[test]
 fn a_stream_has_the_extended_status_of_a_pipe(rt: HostRuntime) -> Result<(), Fail> {
     let mut memory = VecMemory::new(vec![in rt.alloc(); 0xffff_ff00; 67]?);
     let mut linux = environment(rt.alloc(), &[], &[]);
-    let arguments = [1, 0, 0x1000, 0x7ff, 4];
-    let seen = call_of_five(&mut linux, &mut memory, STATX, arguments);
-    assert!(rt; seen == (None, 0));
-    for index in 0..67u32 {
-        let word = memory.read_mem(4 * index, MemAccessSize::Word);
-        let expected = match index {
-            0 | 65..=66 => 0xffff_ff00,
-            1 => 0x7ff,
-            2 => 4096,
-            5 => 1,
-            8 => 0o010_600,
-            _ => 0,
-        };
-        assert!(rt; word == Some(expected), "{index}");
-    }
+    let seen = call_streams(&mut linux, &mut memory, STATX, [1, 0, 0x1000, 0x7ff, 4]);
+    assert_eq!(rt;
+        (seen, memory.mem.as_slice()),
+        ((None, 0), EXTENDED.as_slice())
+    );
     Ok(())
 }
 
@@ -286,10 +314,10 @@ static NAMED: [(u32, [u32; 5], u32); 24] = [
 #[test]
 fn paths_name_the_streams_alone(rt: HostRuntime) -> Result<(), Fail> {
     let mut linux = environment(rt.alloc(), &[], &[]);
-    for &(number, arguments, answer) in &NAMED {
+    for (row, &(number, arguments, answer)) in NAMED.iter().enumerate() {
         let mut memory = numbered(rt.alloc())?;
-        let seen = call_of_five(&mut linux, &mut memory, number, arguments);
-        assert!(rt; seen == (None, answer), "{number} {arguments:?}");
+        let seen = call_streams(&mut linux, &mut memory, number, arguments);
+        same_answer(&rt, row, (seen, true), (None, answer));
     }
     Ok(())
 }
@@ -316,16 +344,11 @@ static TIMES: [(u32, [u32; 2], u32, [u32; 4]); 10] = [
 #[test]
 fn clocks_tell_times(rt: HostRuntime) -> Result<(), Fail> {
     let mut linux = environment(rt.alloc(), &[], &[]);
-    for &(number, [first, second], answer, expected) in &TIMES {
+    for (row, (number, [first, second], answer, expected)) in TIMES.iter().enumerate() {
         let mut memory = numbered(rt.alloc())?;
-        let seen = call(&mut linux, &mut memory, (number, first, second, 0));
-        let mut words = [0; 4];
-        for (index, word) in words.iter_mut().enumerate() {
-            let read = memory.read_mem(100 + 4 * index as u32, MemAccessSize::Word);
-            *word = read.unwrap_or(0);
-        }
-        let is_right = seen == (None, answer) && words == expected;
-        assert!(rt; is_right, "{number} {first} {second}");
+        let seen = call(&mut linux, &mut memory, (*number, *first, *second, 0));
+        let is_told = memory.mem.get(25..29) == Some(expected.as_slice());
+        same_answer(&rt, row, (seen, is_told), (None, *answer));
     }
     Ok(())
 }
@@ -339,15 +362,17 @@ fn clocks_of_the_host_tell_times(rt: HostRuntime) -> Result<(), Fail> {
     let errors = Vec::new(alloc);
     let clocks = LinuxClocks::Host(rt);
     let mut linux = Linux::new(b"".as_slice(), Vec::new(alloc), errors, heap, clocks);
-    for clock in 0..4 {
+    for clock in 0..4_usize {
         let mut memory = numbered(alloc)?;
-        let seen = call(&mut linux, &mut memory, (CLOCK_GETTIME64, clock, 100, 0));
-        let seconds = memory.read_mem(100, MemAccessSize::Word).unwrap_or(0);
-        let nanos = memory
-            .read_mem(108, MemAccessSize::Word)
-            .unwrap_or(u32::MAX);
-        let is_time = (clock > 0 || seconds > 1_577_836_800) && nanos < 1_000_000_000;
-        assert!(rt; seen == (None, 0) && is_time, "{clock}");
+        let arguments = [clock as u32, 100, 0, 0, 0];
+        let seen = call_of_five(&mut linux, &mut memory, CLOCK_GETTIME64, arguments);
+        let is_told = match memory.mem.get(25..28) {
+            Some([seconds, _, nanos]) => {
+                (clock > 0 || *seconds > 1_577_836_800) && *nanos < 1_000_000_000
+            }
+            _ => false,
+        };
+        same_answer(&rt, clock, (seen, is_told), (None, 0));
     }
     Ok(())
 }
@@ -384,21 +409,11 @@ static PIECES: [([u32; 3], [u32; 6], u32, (usize, usize)); 17] = [
 #[test]
 fn pieces_are_written_in_order(rt: HostRuntime) -> Result<(), Fail> {
     let mut linux = environment(rt.alloc(), &[], &[]);
-    for &(arguments, words, answer, written) in &PIECES {
+    for (row, &([fd, address, count], words, answer, written)) in PIECES.iter().enumerate() {
         let mut memory = numbered(rt.alloc())?;
-        for (index, word) in words.iter().enumerate() {
-            memory.write_mem(200 + 4 * index as u32, MemAccessSize::Word, *word);
-        }
-        let [fd, address, count] = arguments;
+        put_words(&mut memory, &words);
         let seen = call(&mut linux, &mut memory, (WRITEV, fd, address, count));
-        let lengths = (
-            linux.output.stream.written.len(),
-            linux.errors.stream.written.len(),
-        );
-        assert!(rt;
-            seen == (None, answer) && lengths == written,
-            "{arguments:?} {words:?}"
-        );
+        same_answer(&rt, row, (seen, held(&linux) == written), (None, answer));
     }
     let errors = [30, 31, 32, 33, 34, 35, 36, 43].as_slice();
     let is_right = linux.errors.stream.written.as_slice() == errors;
@@ -448,13 +463,9 @@ static CALLS: [(Request, Option<u32>, u32, (usize, usize)); 29] = [
 fn calls_answer(rt: HostRuntime) -> Result<(), Fail> {
     let mut memory = numbered(rt.alloc())?;
     let mut linux = environment(rt.alloc(), &[], &[]);
-    for &(request, end, answer, written) in &CALLS {
+    for (row, &(request, end, answer, written)) in CALLS.iter().enumerate() {
         let seen = call(&mut linux, &mut memory, request);
-        let lengths = (
-            linux.output.stream.written.len(),
-            linux.errors.stream.written.len(),
-        );
-        assert!(rt; seen == (end, answer) && lengths == written, "{request:?}");
+        same_answer(&rt, row, (seen, held(&linux) == written), (end, answer));
     }
     assert!(rt;
         counts_from(&linux.output.stream.written, 0)
@@ -534,15 +545,22 @@ static RECORDED: [(Request, Option<u32>, u32, (usize, usize, usize)); 25] = [
 fn a_recorder_answers(rt: HostRuntime) -> Result<(), Fail> {
     let mut memory = numbered(rt.alloc())?;
     let mut recorder = OutputRecorder::new(rt.alloc(), &[0, 1, 2], 10, Heap::new(64, 96))?;
-    for &(request, end, answer, after) in &RECORDED {
-        let seen = call(&mut recorder, &mut memory, request);
-        let held = (recorder.output.len(), recorder.errors.len());
-        let is_right = (recorder.input.len(), held.0, held.1) == after;
-        assert!(rt; seen == (end, answer) && is_right, "{request:?}");
+    for (row, &(request, end, answer, after)) in RECORDED.iter().enumerate() {
+        let seen = call_recorder(&mut recorder, &mut memory, request);
+        let left = recorder.input.len();
+        let is_held = (left, recorder.output.len(), recorder.errors.len()) == after;
+        same_answer(&rt, row, (seen, is_held), (end, answer));
     }
     let errors = recorder.errors.as_slice() == [42, 43, 0, 1, 2].as_slice();
     assert!(rt; counts_from(&recorder.output, 0) && errors);
     Ok(())
+}
+
+/// Whether two recorders hold the same, and are as far in their inputs.
+fn are_alike(first: &OutputRecorder<'_>, second: &OutputRecorder<'_>) -> bool {
+    let outputs = first.output.as_slice() == second.output.as_slice();
+    let errors = first.errors.as_slice() == second.errors.as_slice();
+    outputs && errors && first.input == second.input && first.heap == second.heap
 }
 
 // Two recorders that are alike answer each call alike, and hold the same afterwards.
@@ -553,16 +571,10 @@ fn alike_recorders_answer_alike(rt: HostRuntime) -> Result<(), Fail> {
     let heap = Heap::new(64, 96);
     let mut first = OutputRecorder::new(rt.alloc(), &[0, 1, 2], 10, heap)?;
     let mut second = OutputRecorder::new(rt.alloc(), &[0, 1, 2], 10, heap)?;
-    for &(request, _, _, _) in &RECORDED {
-        let answer = call(&mut first, &mut memories.0, request);
-        assert!(rt;
-            answer == call(&mut second, &mut memories.1, request),
-            "{request:?}"
-        );
-        let outputs = first.output.as_slice() == second.output.as_slice();
-        let errors = first.errors.as_slice() == second.errors.as_slice();
-        let rest = first.input == second.input && first.heap == second.heap;
-        assert!(rt; outputs && errors && rest, "{request:?}");
+    for (row, &(request, _, _, _)) in RECORDED.iter().enumerate() {
+        let answer = call_recorder(&mut first, &mut memories.0, request);
+        let other = call_recorder(&mut second, &mut memories.1, request);
+        same_answer(&rt, row, (other, are_alike(&first, &second)), answer);
     }
     Ok(())
 }
@@ -593,8 +605,8 @@ fn writes_that_are_short_or_fail(rt: HostRuntime) -> Result<(), Fail> {
         for answer in answers {
             let done = linux.output.stream.written.len().min(300) as u32;
             let seen = call(&mut linux, &mut memory, (WRITE, 1, done, 300 - done));
-            let is_right = seen == (None, *answer) && counts_from(&linux.output.stream.written, 0);
-            assert!(rt; is_right, "at {index}");
+            let is_written = counts_from(&linux.output.stream.written, 0);
+            same_answer(&rt, index, (seen, is_written), (None, *answer));
         }
     }
     Ok(())
@@ -617,12 +629,10 @@ fn a_program_ends_where_nobody_reads(rt: HostRuntime) -> Result<(), Fail> {
     let mut memory = numbered(rt.alloc())?;
     let turns = [Turn::Takes(256), BREAKS, BREAKS];
     let mut linux = environment(rt.alloc(), &[], &turns);
-    for &(count, end, answer, short) in &UNREAD_WRITES {
+    for (row, &(count, end, answer, short)) in UNREAD_WRITES.iter().enumerate() {
         let seen = call(&mut linux, &mut memory, (WRITE, 1, 0, count));
-        assert!(rt;
-            (seen, linux.output.short_writes()) == ((end, answer), short),
-            "{count} bytes"
-        );
+        let is_short = linux.output.short_writes() == short;
+        same_answer(&rt, row, (seen, is_short), (end, answer));
     }
     assert!(rt; linux.output.is_broken() && linux.output.stream.written.len() == 260);
     Ok(())
@@ -644,17 +654,15 @@ static UNREAD_PIECES: [(Option<u32>, u32); 4] = [
 fn pieces_that_are_short_or_fail(rt: HostRuntime) -> Result<(), Fail> {
     let turns = [Turn::Takes(9), FAILS, BREAKS, Turn::Takes(9), BREAKS];
     let mut linux = environment(rt.alloc(), &[], &turns);
-    for &expected in &UNREAD_PIECES {
+    for (row, &expected) in UNREAD_PIECES.iter().enumerate() {
         let mut memory = numbered(rt.alloc())?;
         let done = linux.output.stream.written.len().min(10) as u32;
-        for (index, word) in [done, 2, done + 2, 4].iter().enumerate() {
-            memory.write_mem(200 + 4 * index as u32, MemAccessSize::Word, *word);
-        }
+        put_words(&mut memory, &[done, 2, done + 2, 4]);
         let seen = call(&mut linux, &mut memory, (WRITEV, 1, 200, 2));
-        assert!(rt; seen == expected, "after {done} bytes");
+        same_answer(&rt, row, (seen, true), expected);
     }
-    assert!(rt; linux.output.stream.written.len() == 10);
-    assert!(rt; counts_from(&linux.output.stream.written, 0));
+    let written = linux.output.stream.written.as_slice();
+    assert!(rt; written.len() == 10 && counts_from(written, 0));
     Ok(())
 }
 
@@ -684,9 +692,9 @@ static READS: [(u32, u32, u32); 12] = [
 fn no_byte_of_the_input_is_lost(rt: HostRuntime) -> Result<(), Fail> {
     let mut memory = numbered(rt.alloc())?;
     let mut linux = environment(rt.alloc(), &SHORT_READS, &[]);
-    for &(address, count, answer) in &READS {
+    for (row, &(address, count, answer)) in READS.iter().enumerate() {
         let seen = call(&mut linux, &mut memory, (READ, 0, address, count));
-        assert!(rt; seen == (None, answer), "{count} bytes at {address}");
+        same_answer(&rt, row, (seen, true), (None, answer));
     }
     let first = call(&mut linux, &mut memory, (WRITE, 1, 0, 5));
     let later = call(&mut linux, &mut memory, (WRITE, 2, 5, 79));

@@ -4,8 +4,8 @@ use Rattle.rrs_lib.specs.declared.MemAccessSize.TheVariants.{Byte}
 use Rattle.rrs_lib.specs.Accesses.{Read}
 use Rattle.rrs_lib.specs.Bytes.{little_endian}
 use Rattle.rrs_lib.specs.Machine.{state_of, put}
-use Rattle.rrs_linux_tests.specs.Consoles.{Exits, Puts, HasBadAddress, IsUnknown}
-use Rattle.rrs_linux_tests.proofs.console.ConsoleEnvironment.serve.Goals as goal
+use Rattle.rrs_host_tests.specs.Consoles.{Exits, Puts, HasBadAddress, IsUnknown}
+use Rattle.rrs_host_tests.proofs.console.ConsoleEnvironment.serve.Goals as goal
 
 pub returns-then-call-eq93-clause-served : goal.returns-then-call-eq93-clause-served
 returns-then-call-eq93-clause-served g c =

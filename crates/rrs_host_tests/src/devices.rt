@@ -156,7 +156,7 @@ static COMPLETED: [(u32, Option<u32>, Completed); 10] = [
 #[test]
 fn an_instruction_is_completed(rt: HostRuntime) -> Result<(), Fail> {
     for &(word, given, expected) in &COMPLETED {
-        assert!(rt; completed(word, given) == expected, "0x{word:08x}");
+        assert_eq!(rt; (word, completed(word, given)), (word, expected));
     }
     Ok(())
 }
@@ -184,7 +184,7 @@ static ASKED: [(u32, Result<Option<DataRequest>, InstructionException>); 5] = [
 fn an_instruction_asks(rt: HostRuntime) -> Result<(), Fail> {
     let hart = hart_of(8, &[(2, 0x103), (3, 0x1234_5678)]);
     for &(word, expected) in &ASKED {
-        assert!(rt; request(&hart, word) == expected, "0x{word:08x}");
+        assert_eq!(rt; (word, request(&hart, word)), (word, expected));
     }
     Ok(())
 }

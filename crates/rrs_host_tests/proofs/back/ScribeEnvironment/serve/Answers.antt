@@ -1,7 +1,7 @@
 -- Two writes.
 use Rattle.std.proofs.Common.{refl, [], ◌∷◌}
 use Rattle.rrs_lib.specs.Accesses.{Write}
-use Rattle.rrs_trace_tests.proofs.back.ScribeEnvironment.serve.Goals as goal
+use Rattle.rrs_host_tests.proofs.back.ScribeEnvironment.serve.Goals as goal
 
 pub returns-clause-served : goal.returns-clause-served
 returns-clause-served g c = record {

@@ -154,22 +154,29 @@ fn stops_alike(
     stops: &[u32],
     limit: u64,
 ) -> Result<(), AllocError> {
-    let hart = || hart_for(changing);
-    let expected = stopped(&mut words_of(alloc, changing)?, hart(), stops, limit);
+    let mut fetched = words_of(alloc, changing)?;
+    let expected = stopped(&mut fetched, hart_for(changing), stops, limit);
     let mut words: CachedMemory<_, 64> = CachedMemory::new(words_of(alloc, changing)?);
-    assert!(rt; stopped_cached(&mut words, hart(), stops, limit) == expected);
+    let seen = stopped_cached(&mut words, hart_for(changing), stops, limit);
+    same_seen(rt, 0, &seen, &expected);
     let mut few: CachedMemory<_, 2> = CachedMemory::new(words_of(alloc, changing)?);
-    assert!(rt; stopped_cached(&mut few, hart(), stops, limit) == expected);
+    let seen = stopped_cached(&mut few, hart_for(changing), stops, limit);
+    same_seen(rt, 1, &seen, &expected);
     let mut space: CachedMemory<_, 64> = CachedMemory::new(space_of(alloc, changing)?);
-    assert!(rt; stopped_cached(&mut space, hart(), stops, limit) == expected);
+    let seen = stopped_cached(&mut space, hart_for(changing), stops, limit);
+    same_seen(rt, 2, &seen, &expected);
     for pure_below in [0, 4, 8, 12] {
-        let mut partly: CachedMemory<_, 64> = CachedMemory::new(PartlyPure {
-            words: words_of(alloc, changing)?,
-            pure_below,
-        });
-        assert!(rt; stopped_cached(&mut partly, hart(), stops, limit) == expected);
+        let words = words_of(alloc, changing)?;
+        let mut partly: CachedMemory<_, 64> = CachedMemory::new(PartlyPure { words, pure_below });
+        let seen = stopped_cached(&mut partly, hart_for(changing), stops, limit);
+        same_seen(rt, pure_below + 3, &seen, &expected);
     }
     Ok(())
+}
+
+/// Asserts that a run over the memory of this number leaves what is expected.
+fn same_seen(rt: &impl Abort, memory: u32, seen: &Seen, expected: &Seen) {
+    assert_eq!(rt; (memory, seen == expected), (memory, true));
 }
 
 // The turns add 1, 100, 1: the first call stops behind four steps, and the others behind five.
@@ -217,24 +224,26 @@ fn aligned_end(alloc: Global, word: u32, x8: u32) -> Result<(HaltEnd, HartState)
 fn a_jump_that_strays_is_not_made(rt: HostRuntime) -> Result<(), Fail> {
     for (word, x8, target) in STRAYING {
         let (end, hart) = aligned_end(rt.alloc(), word, x8)?;
-        match target {
-            Some(target) => {
-                let strays = HaltEnd {
-                    steps: 0,
-                    halt: Some(Halt::Stray(target)),
-                };
-                let kept = hart.registers[1] == 77 && hart.last_register_write == None;
-                assert!(rt; end == strays && hart.pc == 0 && kept);
-            }
-            None => assert!(rt;
-                end == HaltEnd {
-                    steps: 1,
-                    halt: None
-                } && hart.pc % 4 == 0
-            ),
-        }
+        assert_eq!(rt; (word, x8, is_right(&end, &hart, target)), (word, x8, true));
     }
     Ok(())
+}
+
+/// Whether a run of one step strays to a target and leaves its hart as it was, or ends aligned.
+fn is_right(end: &HaltEnd, hart: &HartState, target: Option<u32>) -> bool {
+    let is_kept = hart.pc == 0 && hart.registers[1] == 77 && hart.last_register_write.is_none();
+    match target {
+        Some(target) => *end == halted(0, Halt::Stray(target)) && is_kept,
+        None => end.steps == 1 && end.halt.is_none() && hart.pc % 4 == 0,
+    }
+}
+
+/// So many steps, and what ended them.
+fn halted(steps: u64, halt: Halt) -> HaltEnd {
+    HaltEnd {
+        steps,
+        halt: Some(halt),
+    }
 }
 
 #[test]
@@ -251,27 +260,14 @@ fn a_run_before_a_stop_makes_no_step_there(rt: HostRuntime) -> Result<(), Fail> 
     let behind = run_before::<_, _, false>(&mut executor, 10, &[4]);
     executor.hart_state.pc = 20;
     let illegal = run_before::<_, _, false>(&mut executor, 10, &[4]);
-    assert!(rt;
-        at_once
-            == HaltEnd {
-                steps: 0,
-                halt: Some(Halt::Stop)
-            }
-    );
-    assert!(rt;
-        behind
-            == HaltEnd {
-                steps: 1,
-                halt: Some(Halt::Stop)
-            }
-    );
     let fault = InstructionException::IllegalInstruction(20, 0);
-    assert!(rt;
-        illegal
-            == HaltEnd {
-                steps: 0,
-                halt: Some(Halt::Fault(fault))
-            }
+    assert_eq!(rt;
+        [at_once, behind, illegal],
+        [
+            halted(0, Halt::Stop),
+            halted(1, Halt::Stop),
+            halted(0, Halt::Fault(fault))
+        ]
     );
     Ok(())
 }
