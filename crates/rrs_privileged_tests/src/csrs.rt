@@ -30,7 +30,7 @@ const TOLD: Inputs = Inputs {
 
 /// The CSRs with a name of their own: number, value before, and the bits that a write changes.
 /// Those whose number has two ones as its highest bits are read only.
-const NAMED: [(u32, u32, u32); 26] = [
+static NAMED: [(u32, u32, u32); 26] = [
     (0x300, 0x1880, 0x88), // mstatus: MPP is 3, MIE and MPIE are written
     (0x301, 0x4000_1100, 0), // misa: RV32IM
     (0x304, 0x800, 0x888), // mie
@@ -61,17 +61,17 @@ const NAMED: [(u32, u32, u32); 26] = [
 
 /// `mhpmevent3`, `mhpmcounter3` and `mhpmcounter3h`: of each there are 29, up to 31, which read 0
 /// whatever is written.
-const MONITORS: [u32; 3] = [0x323, 0xb03, 0xb83];
+static MONITORS: [u32; 3] = [0x323, 0xb03, 0xb83];
 
 /// The value before, and the bits that a write changes, where a number is that of a CSR.
 fn row_of(number: u32) -> Option<(u32, u32)> {
-    for (named, value, mask) in NAMED {
+    for &(named, value, mask) in &NAMED {
         if named == number {
             return Some((value, mask));
         }
     }
-    for first in MONITORS {
-        if first <= number && number < first.wrapping_add(29) {
+    for first in &MONITORS {
+        if number.wrapping_sub(*first) < 29 {
             return Some((0, 0));
         }
     }

@@ -97,6 +97,11 @@ fn csr_word(a: u32, rs1: u32, c: u32, rd: u32) -> u32 {
 fn word_of(numbers: &mut Numbers) -> u32 {
     let kind = numbers.next() % 16;
     let (a, b, c) = (numbers.next(), numbers.next(), numbers.next());
+    word_by(kind, a, b, c)
+}
+
+/// An instruction of this kind, by three numbers.
+fn word_by(kind: u32, a: u32, b: u32, c: u32) -> u32 {
     let (rd, rs1) = (a % 8, b % 8);
     match kind {
         0..=4 => csr_word(a, rs1, c, rd),
@@ -189,6 +194,15 @@ fn with_csrs(checksum: u32, csrs: &CsrFile) -> u32 {
     checksum
 }
 
+/// A checksum with these values.
+fn with_values(checksum: u32, values: &[u32]) -> u32 {
+    let mut checksum = checksum;
+    for value in values {
+        checksum = mixed(checksum, *value);
+    }
+    checksum
+}
+
 /// Runs a program, and goes on with a checksum of what it left.
 fn run_program(alloc: Global, numbers: &mut Numbers, checksum: u32) -> Result<u32, AllocError> {
     let mut memory = memory_of(alloc, numbers)?;
@@ -198,15 +212,9 @@ fn run_program(alloc: Global, numbers: &mut Numbers, checksum: u32) -> Result<u3
         let inputs = inputs_of(numbers, step);
         step_over(&mut memory, &mut hart, &mut csrs, &inputs);
     }
-    let mut checksum = checksum;
-    for register in 1..32 {
-        checksum = mixed(checksum, hart.registers[register]);
-    }
-    checksum = with_csrs(mixed(checksum, hart.pc), &csrs);
-    for word in &memory.mem {
-        checksum = mixed(checksum, *word);
-    }
-    Ok(checksum)
+    let of_registers = with_values(checksum, &hart.registers[1..]);
+    let of_hart = with_csrs(mixed(of_registers, hart.pc), &csrs);
+    Ok(with_values(of_hart, &memory.mem))
 }
 
 #[test]

@@ -222,25 +222,32 @@ fn machine_with(
     })
 }
 
+/// Whether a program runs alike over words that are fetched and kept: 64 of them, and 4.
+fn program_alike(
+    alloc: Global,
+    program: &[u32; 17],
+    pulse: Pulse,
+    limit: u64,
+) -> Result<(bool, bool), AllocError> {
+    let mut fetched = machine_with(alloc, program, pulse)?;
+    let mut kept = machine_with(alloc, program, pulse)?.keeping::<64>();
+    let of_many = run_alike(&mut fetched, &mut kept, limit);
+    let mut fetched = machine_with(alloc, program, pulse)?;
+    let mut few = machine_with(alloc, program, pulse)?.keeping::<4>();
+    Ok((of_many, run_alike(&mut fetched, &mut few, limit)))
+}
+
+/// The programs.
+static PROGRAMS: [[u32; 17]; 3] = [TRAPS, LOOP, CHANGING];
+
 #[test]
 fn kept_words_run_as_fetched_ones(rt: HostRuntime) -> Result<(), Fail> {
-    let alloc = rt.alloc();
-    for program in [TRAPS, LOOP, CHANGING] {
+    for program in &PROGRAMS {
         for step in 0..40 {
             for limit in [1, 2, 3, 17, 61, 400] {
                 let pulse = pulse_at(step, if step % 5 == 4 { limit / 2 } else { u64::MAX });
-                let mut fetched = machine_with(alloc, &program, pulse)?;
-                let mut kept = machine_with(alloc, &program, pulse)?.keeping::<64>();
-                assert!(rt;
-                    run_alike(&mut fetched, &mut kept, limit),
-                    "step {step}, limit {limit}"
-                );
-                let mut fetched = machine_with(alloc, &program, pulse)?;
-                let mut few = machine_with(alloc, &program, pulse)?.keeping::<4>();
-                assert!(rt;
-                    run_alike(&mut fetched, &mut few, limit),
-                    "step {step}, limit {limit}"
-                );
+                let alike = program_alike(rt.alloc(), program, pulse, limit)?;
+                assert_eq!(rt; (step, limit, alike), (step, limit, (true, true)));
             }
         }
     }
@@ -281,23 +288,31 @@ fn generated(alloc: Global, seed: u32, pulse: Pulse) -> Result<Machine<VecMemory
     })
 }
 
+/// Whether a generated program runs alike over words that are fetched and kept: of a memory of words,
+/// and of a space.
+fn generated_alike(
+    alloc: Global,
+    seed: u32,
+    pulse: Pulse,
+    limit: u64,
+) -> Result<(bool, bool), AllocError> {
+    let mut fetched = generated(alloc, seed, pulse)?;
+    let mut kept = generated(alloc, seed, pulse)?.keeping::<16>();
+    let of_words = run_alike(&mut fetched, &mut kept, limit);
+    let mut fetched = generated(alloc, seed, pulse)?;
+    let space = in_space(alloc, generated(alloc, seed, pulse)?)?;
+    let mut kept_in_space = space.keeping::<16>();
+    let of_space = run_alike(&mut fetched, &mut kept_in_space, limit);
+    Ok((of_words, of_space))
+}
+
 #[test]
 fn generated_programs_run_alike(rt: HostRuntime) -> Result<(), Fail> {
-    let alloc = rt.alloc();
     for seed in 0..1000 {
-        let step = u64::from(seed % 32);
-        let pulse = pulse_at(step, u64::MAX);
+        let pulse = pulse_at(u64::from(seed % 32), u64::MAX);
         let limit = u64::from(seed % 7 + 1);
-        let mut fetched = generated(alloc, seed, pulse)?;
-        let mut kept = generated(alloc, seed, pulse)?.keeping::<16>();
-        assert!(rt; run_alike(&mut fetched, &mut kept, limit), "seed {seed}");
-        let mut fetched = generated(alloc, seed, pulse)?;
-        let space = in_space(alloc, generated(alloc, seed, pulse)?)?;
-        let mut kept_in_space = space.keeping::<16>();
-        assert!(rt;
-            run_alike(&mut fetched, &mut kept_in_space, limit),
-            "seed {seed}"
-        );
+        let alike = generated_alike(rt.alloc(), seed, pulse, limit)?;
+        assert_eq!(rt; (seed, alike), (seed, (true, true)));
     }
     Ok(())
 }
@@ -309,18 +324,12 @@ fn a_run_over_kept_words_ends_at_its_wfi(rt: HostRuntime) -> Result<(), Fail> {
     let mut machine = machine_with(rt.alloc(), &LOOP, pulse)?.keeping::<64>();
     let first = run_kept(&mut machine, 100);
     let second = run_kept(&mut machine, 1000);
+    let ends = (first.steps, first.waiting, second.steps, second.waiting);
+    let (pc, left) = (machine.hart.pc, machine.pulse.left);
+    let counted = (machine.csrs.minstret, machine.csrs.mcycle);
     assert_eq!(rt;
-        (first.steps, first.waiting, second.steps, second.waiting),
-        (100, false, 141, true)
-    );
-    assert_eq!(rt;
-        (
-            machine.hart.pc,
-            machine.csrs.minstret,
-            machine.csrs.mcycle,
-            machine.pulse.left
-        ),
-        (0x20, 242, 242, START - 242)
+        (ends, pc, left, counted),
+        ((100, false, 141, true), 0x20, START - 242, (242, 242))
     );
     Ok(())
 }

@@ -52,7 +52,7 @@ fn record_of(
 }
 
 /// Words, the cause of their trap or 0, rs1, rd and what it gets, and their CSR.
-const RECORDS: [(u32, u32, usize, usize, u32, Access); 9] = [
+static RECORDS: [(u32, u32, usize, usize, u32, Access); 9] = [
     // csrrw x5, mscratch, x6
     (
         0x3403_12f3,
@@ -101,30 +101,40 @@ const RECORDS: [(u32, u32, usize, usize, u32, Access); 9] = [
     (0x3020_0073, 0, 0, 0, 0, NO_CSR),
 ];
 
+/// What is seen of a step in its record: the instruction's number and word, the pc and the mode;
+/// whether it is valid, and the first of a handler; rs1, rd, what it gets, and the CSR; and whether
+/// the step trapped, with which cause, and whether it retired.
+type Seen = (
+    (u64, Option<u32>, u32, u8),
+    (bool, bool),
+    (usize, usize, u32, Access),
+    (bool, Option<u32>, bool),
+);
+
+/// What is seen of a step in its record.
+fn seen_of(answer: MachineAnswer, record: &MachineRetired) -> Seen {
+    let retired = &record.retired;
+    let csr = access_of(record.csr);
+    (
+        (retired.order, retired.insn, retired.pc_rdata, record.mode),
+        (record.valid, record.intr),
+        (retired.rs1_addr, retired.rd_addr, retired.rd_wdata, csr),
+        (retired.trap, record.cause, answer == MachineAnswer::Retired),
+    )
+}
+
 #[test]
 fn each_record(rt: HostRuntime) -> Result<(), Fail> {
-    for (word, cause, rs1, rd, value, csr) in RECORDS {
+    for &(word, cause, rs1, rd, value, csr) in &RECORDS {
         let (answer, record) = record_of(rt.alloc(), word, 0x80, &QUIET)?;
-        let retired = record.retired;
-        assert_eq!(rt;
-            (retired.order, retired.insn, retired.pc_rdata, record.mode),
-            (7, Some(word), START, 3)
+        let cause = if cause == 0 { None } else { Some(cause) };
+        let wanted = (
+            (7, Some(word), START, 3),
+            (true, true),
+            (rs1, rd, value, csr),
+            (cause.is_some(), cause, cause.is_none()),
         );
-        assert_eq!(rt; (record.valid, record.intr), (true, true));
-        assert_eq!(rt;
-            (
-                retired.rs1_addr,
-                retired.rd_addr,
-                retired.rd_wdata,
-                access_of(record.csr)
-            ),
-            (rs1, rd, value, csr)
-        );
-        let wanted = if cause == 0 { None } else { Some(cause) };
-        assert_eq!(rt;
-            (retired.trap, record.cause, answer == MachineAnswer::Retired),
-            (cause != 0, wanted, cause == 0)
-        );
+        assert_eq!(rt; seen_of(answer, &record), wanted);
     }
     Ok(())
 }
@@ -137,16 +147,19 @@ fn an_interrupt_is_no_instruction(rt: HostRuntime) -> Result<(), Fail> {
     };
     let (_answer, record) = record_of(rt.alloc(), 0x3403_12f3, 8, &told)?;
     let retired = record.retired;
-    assert_eq!(rt;
+    let seen = (
         (record.valid, record.intr, retired.trap),
-        (false, false, false)
-    );
-    assert_eq!(rt; (record.cause, retired.insn), (Some(0x8000_0007), None));
-    assert_eq!(rt; (retired.pc_rdata, retired.pc_wdata), (START, 0x40));
-    assert_eq!(rt;
+        (record.cause, retired.insn),
+        (retired.pc_rdata, retired.pc_wdata),
         (retired.rs1_addr, retired.rd_addr, access_of(record.csr)),
-        (0, 0, NO_CSR)
     );
+    let wanted = (
+        (false, false, false),
+        (Some(0x8000_0007), None),
+        (START, 0x40),
+        (0, 0, NO_CSR),
+    );
+    assert_eq!(rt; seen, wanted);
     Ok(())
 }
 
@@ -155,10 +168,10 @@ fn a_load_is_recorded(rt: HostRuntime) -> Result<(), Fail> {
     // lw x5, 256(x0): the word itself
     let (_answer, record) = record_of(rt.alloc(), 0x1000_2283, 0, &QUIET)?;
     let mem = record.retired.mem;
-    assert_eq!(rt; (mem.addr, mem.rmask, mem.rdata), (START, 0xf, 0x1000_2283));
+    let left = (record.retired.rd_wdata, access_of(record.csr));
     assert_eq!(rt;
-        (record.retired.rd_wdata, access_of(record.csr)),
-        (0x1000_2283, NO_CSR)
+        ((mem.addr, mem.rmask, mem.rdata), left),
+        ((START, 0xf, 0x1000_2283), (0x1000_2283, NO_CSR))
     );
     Ok(())
 }

@@ -3,11 +3,12 @@
 use crate::steps::{QUIET, START, step_word};
 use rrs_lib::HartState;
 use rrs_privileged::{CsrFile, Inputs, Interrupt, MachineAnswer};
+use std::alloc::{AllocError, Global};
 use std::test::Fail;
 
 /// A word, the value of x6, and the cause, value and pc that its exception leaves in `mcause`,
 /// `mtval` and `mepc`. The word stands at [START].
-const EXCEPTIONS: [(u32, u32, u32, u32); 28] = [
+static EXCEPTIONS: [(u32, u32, u32, u32); 28] = [
     (0x0020_02ef, 0, 0, START + 2), // jal x5, 2
     (0x0003_02e7, 0x202, 0, 0x202), // jalr x5, 0(x6)
     (0x0000_0363, 0, 0, START + 6), // beq x0, x0, 6
@@ -38,36 +39,61 @@ const EXCEPTIONS: [(u32, u32, u32, u32); 28] = [
     (0x0000_0073, 0, 11, 0), // ecall
 ];
 
+/// A hart at a pc, with x5 and x6.
+fn hart_at(pc: u32, x5: u32, x6: u32) -> HartState {
+    let mut hart = HartState::new();
+    hart.pc = pc;
+    hart.registers[5] = x5;
+    hart.registers[6] = x6;
+    hart
+}
+
+/// CSRs as at reset, but for these.
+fn csrs_with(mstatus: u32, mie: u32, mtvec: u32, mepc: u32) -> CsrFile {
+    let mut csrs = CsrFile::new();
+    csrs.mstatus = mstatus;
+    csrs.mie = mie;
+    csrs.mtvec = mtvec;
+    csrs.mepc = mepc;
+    csrs
+}
+
+/// What a step leaves: its answer, the pc and x5; `mcause`, `mtval`, `mepc` and `mstatus`; and
+/// `mcycle` and `minstret`.
+type Left = ((MachineAnswer, u32, u32), (u32, u32, u32, u32), (u64, u64));
+
+/// What a step of a word at [START] leaves.
+fn left_by(
+    alloc: Global,
+    word: u32,
+    mut hart: HartState,
+    mut csrs: CsrFile,
+    told: &Inputs,
+) -> Result<Left, AllocError> {
+    let answer = step_word(alloc, word, &mut hart, &mut csrs, told)?;
+    Ok((
+        (answer, hart.pc, hart.registers[5]),
+        (csrs.mcause, csrs.mtval, csrs.mepc, csrs.mstatus),
+        (csrs.mcycle, csrs.minstret),
+    ))
+}
+
 #[test]
 fn each_exception(rt: HostRuntime) -> Result<(), Fail> {
-    for (word, x6, cause, value) in EXCEPTIONS {
-        let mut hart = HartState::new();
-        let mut csrs = CsrFile::new();
-        hart.pc = START;
-        hart.registers[5] = 7;
-        hart.registers[6] = x6;
-        csrs.mtvec = 0x41;
-        csrs.mstatus = 8;
-        step_word(rt.alloc(), word, &mut hart, &mut csrs, &QUIET)?;
-        let counted = (csrs.mcycle, csrs.minstret);
+    for &(word, x6, cause, value) in &EXCEPTIONS {
+        let hart = hart_at(START, 7, x6);
+        let left = left_by(rt.alloc(), word, hart, csrs_with(8, 0, 0x41, 0), &QUIET)?;
+        let ((_answer, pc, x5), trap, counted) = left;
         assert_eq!(rt;
-            (
-                csrs.mcause,
-                csrs.mtval,
-                csrs.mepc,
-                csrs.mstatus,
-                hart.pc,
-                hart.registers[5],
-                counted
-            ),
-            (cause, value, START, 0x80, 0x40, 7, (1, 0))
+            (word, pc, x5, trap, counted),
+            (word, 0x40, 7, (cause, value, START, 0x80), (1, 0))
         );
     }
     Ok(())
 }
 
 /// A pc, and the cause, value and `mepc` of its exception.
-const FETCHES: [(u32, u32, u32, u32); 3] = [
+static FETCHES: [(u32, u32, u32, u32); 3] = [
     (START + 2, 0, START + 2, START),
     (0x200, 1, 0x200, 0x200),
     (0xffff_fffc, 1, 0xffff_fffc, 0xffff_fffc),
@@ -75,21 +101,17 @@ const FETCHES: [(u32, u32, u32, u32); 3] = [
 
 #[test]
 fn each_fetch(rt: HostRuntime) -> Result<(), Fail> {
-    for (pc, cause, value, mepc) in FETCHES {
-        let mut hart = HartState::new();
-        let mut csrs = CsrFile::new();
-        hart.pc = pc;
-        step_word(rt.alloc(), 0, &mut hart, &mut csrs, &QUIET)?;
-        assert_eq!(rt;
-            (csrs.mcause, csrs.mtval, csrs.mepc, hart.pc),
-            (cause, value, mepc, 0)
-        );
+    for &(pc, cause, value, mepc) in &FETCHES {
+        let hart = hart_at(pc, 0, 0);
+        let left = left_by(rt.alloc(), 0, hart, csrs_with(0, 0, 0, 0), &QUIET)?;
+        let ((_answer, handler, _x5), trap, _counted) = left;
+        assert_eq!(rt; (pc, handler, trap), (pc, 0, (cause, value, mepc, 0)));
     }
     Ok(())
 }
 
 /// `mstatus`, `mie`, what is pending as in `mip`, and the code of the interrupt that is taken, or 0.
-const INTERRUPTS: [(u32, u32, u32, u32); 12] = [
+static INTERRUPTS: [(u32, u32, u32, u32); 12] = [
     (8, 0x888, 0x888, 11),
     (8, 0x888, 0x088, 3),
     (8, 0x888, 0x080, 7),
@@ -132,49 +154,49 @@ fn handler_of(mtvec: u32, code: u32) -> u32 {
     }
 }
 
+/// What a `wfi` leaves with the handlers at this `mtvec`: its answer and the pc, and `mcause`, `mepc`
+/// and `mstatus`.
+fn wanted(interrupt: (u32, u32, u32, u32), mtvec: u32) -> (MachineAnswer, u32, [u32; 3]) {
+    let (mstatus, mie, bits, code) = interrupt;
+    if code != 0 {
+        let taken = MachineAnswer::Interrupted(interrupt_of(code));
+        let trap = [code | 0x8000_0000, START, 0x80];
+        (taken, handler_of(mtvec, code), trap)
+    } else if mie & bits != 0 {
+        (MachineAnswer::Retired, START + 4, [0, 0, mstatus])
+    } else {
+        (MachineAnswer::Waiting, START + 4, [0, 0, mstatus])
+    }
+}
+
 #[test]
 fn each_interrupt(rt: HostRuntime) -> Result<(), Fail> {
-    for (mstatus, mie, bits, code) in INTERRUPTS {
+    for &interrupt in &INTERRUPTS {
+        let (mstatus, mie, bits, _code) = interrupt;
         for mtvec in [0x40, 0x41] {
-            let mut hart = HartState::new();
-            let mut csrs = CsrFile::new();
-            hart.pc = START;
-            csrs.mstatus = mstatus;
-            csrs.mie = mie;
-            csrs.mtvec = mtvec;
-            // wfi
-            let told = pending(bits);
-            let answer = step_word(rt.alloc(), 0x1050_0073, &mut hart, &mut csrs, &told)?;
-            let wanted = if code != 0 {
-                let taken = MachineAnswer::Interrupted(interrupt_of(code));
-                let handler = handler_of(mtvec, code);
-                (taken, handler, code | 0x8000_0000, START, 0x80)
-            } else if mie & bits != 0 {
-                (MachineAnswer::Retired, START + 4, 0, 0, mstatus)
-            } else {
-                (MachineAnswer::Waiting, START + 4, 0, 0, mstatus)
-            };
-            assert_eq!(rt;
-                (answer, hart.pc, csrs.mcause, csrs.mepc, csrs.mstatus),
-                wanted
-            );
+            let (hart, csrs) = (hart_at(START, 0, 0), csrs_with(mstatus, mie, mtvec, 0));
+            let left = left_by(rt.alloc(), 0x1050_0073, hart, csrs, &pending(bits))?;
+            let ((answer, pc, _x5), (mcause, _mtval, mepc, mstatus), _counted) = left;
+            let seen = (answer, pc, [mcause, mepc, mstatus]);
+            let wanted = wanted(interrupt, mtvec);
+            assert_eq!(rt; (interrupt, seen), (interrupt, wanted));
         }
     }
     Ok(())
 }
 
+/// `mstatus` before an `mret`, and after it.
+static RETURNS: [(u32, u32); 4] = [(0x80, 0x88), (0x88, 0x88), (8, 0x80), (0, 0x80)];
+
 #[test]
 fn mret_goes_back(rt: HostRuntime) -> Result<(), Fail> {
-    for (mstatus, after) in [(0x80, 0x88), (0x88, 0x88), (8, 0x80), (0, 0x80)] {
-        let mut hart = HartState::new();
-        let mut csrs = CsrFile::new();
-        hart.pc = START;
-        csrs.mstatus = mstatus;
-        csrs.mepc = 0x1237;
-        let answer = step_word(rt.alloc(), 0x3020_0073, &mut hart, &mut csrs, &QUIET)?;
+    for &(mstatus, after) in &RETURNS {
+        let (hart, csrs) = (hart_at(START, 0, 0), csrs_with(mstatus, 0, 0, 0x1237));
+        let left = left_by(rt.alloc(), 0x3020_0073, hart, csrs, &QUIET)?;
+        let ((answer, pc, _x5), (_mcause, _mtval, _mepc, status), counted) = left;
         assert_eq!(rt;
-            (answer, hart.pc, csrs.mstatus, csrs.mcycle, csrs.minstret),
-            (MachineAnswer::Retired, 0x1234, after, 1, 1)
+            (mstatus, answer, pc, status, counted),
+            (mstatus, MachineAnswer::Retired, 0x1234, after, (1, 1))
         );
     }
     Ok(())

@@ -6,12 +6,11 @@ use rrs_privileged::instructions::decode_system;
 use rrs_privileged::{SystemInstruction, SystemRow};
 use rrs_system::laws::{decode_of_encode, encode_of_decode};
 use rrs_system::{encode_system, system_text};
-use std::test::Fail;
 
 /// Words, and their texts as `objdump` writes them with `-M numeric,no-aliases`: each CSR of the
 /// tables, the counters of the performance monitor at both ends, numbers that have no name, and
 /// each of the nine instructions. `examples/board/check` compares them with `objdump`.
-const TEXTS: [(u32, &str); 56] = [
+static TEXTS: [(u32, &str); 56] = [
     (0x3001_10f3, "csrrw x1, mstatus, x2"),
     (0x3014_a373, "csrrs x6, misa, x9"),
     (0x3048_35f3, "csrrc x11, mie, x16"),
@@ -70,33 +69,32 @@ const TEXTS: [(u32, &str); 56] = [
     (0x0000_100f, "fence.i"),
 ];
 
-#[test]
-fn each_text(rt: HostRuntime) -> Result<(), Fail> {
-    for (word, text) in TEXTS {
-        let mut is_same = false;
-        if let Some(instruction) = decode_system(word) {
-            is_same = system_text(&instruction).as_str() == text;
-        }
-        assert_eq!(rt; (word, is_same), (word, true));
+/// Whether a word has this text.
+fn has_text(word: u32, text: &str) -> bool {
+    match decode_system(word) {
+        Some(instruction) => system_text(&instruction).as_str() == text,
+        None => false,
     }
-    Ok(())
+}
+
+/// Whether a word is encoded again to itself, its instruction is decoded again, and the word is none
+/// of the 48 rows.
+fn goes_there_and_back(word: u32) -> bool {
+    match encode_of_decode(word) {
+        Some((instruction, again)) => {
+            let back = decode_of_encode(&instruction) == Some((word, Some(instruction)));
+            again == Some(word) && back && decode(word).is_none()
+        }
+        None => false,
+    }
 }
 
 #[test]
-fn there_and_back(rt: HostRuntime) -> Result<(), Fail> {
-    for (word, _text) in TEXTS {
-        let mut again = None;
-        let mut back = None;
-        if let Some((instruction, encoded)) = encode_of_decode(word) {
-            again = encoded;
-            if let Some((encoded, decoded)) = decode_of_encode(&instruction) {
-                back = Some((encoded, decoded == Some(instruction)));
-            }
-        }
-        assert_eq!(rt; (again, back), (Some(word), Some((word, true))));
-        assert_eq!(rt; decode(word), None);
+fn each_text_there_and_back(rt: HostRuntime) {
+    for &(word, text) in &TEXTS {
+        let seen = (has_text(word, text), goes_there_and_back(word));
+        assert_eq!(rt; (word, seen), (word, (true, true)));
     }
-    Ok(())
 }
 
 /// An instruction with these fields.
@@ -110,41 +108,25 @@ fn made(row: SystemRow, imm: i32, rs1: usize, funct3: u32, rd: usize) -> SystemI
     SystemInstruction { row, fields }
 }
 
+/// Instructions by their row, immediate, rs1, funct3 and rd, each with its word, if it has one.
+static MADE: [(SystemRow, i32, usize, u32, usize, Option<u32>); 9] = [
+    (SystemRow::Csrrw, 0x300, 32, 1, 0, None),
+    (SystemRow::Csrrw, 0x300, 0, 1, 32, None),
+    (SystemRow::Csrrw, 0x300, 0, 2, 0, None),
+    (SystemRow::Csrrw, 0x800, 0, 1, 0, None),
+    (SystemRow::Csrrw, -1, 0, 1, 0, Some(0xfff0_1073)),
+    (SystemRow::Mret, 0x302, 1, 0, 0, None),
+    (SystemRow::Mret, 0x105, 0, 0, 0, None),
+    (SystemRow::Wfi, 0x105, 0, 0, 0, Some(0x1050_0073)),
+    (SystemRow::FenceI, 5, 3, 1, 2, Some(0x0051_910f)),
+];
+
 #[test]
-fn no_word_is_these(rt: HostRuntime) -> Result<(), Fail> {
-    assert_eq!(rt;
-        encode_system(&made(SystemRow::Csrrw, 0x300, 32, 1, 0)),
-        None
-    );
-    assert_eq!(rt;
-        encode_system(&made(SystemRow::Csrrw, 0x300, 0, 1, 32)),
-        None
-    );
-    assert_eq!(rt;
-        encode_system(&made(SystemRow::Csrrw, 0x300, 0, 2, 0)),
-        None
-    );
-    assert_eq!(rt;
-        encode_system(&made(SystemRow::Csrrw, 0x800, 0, 1, 0)),
-        None
-    );
-    assert_eq!(rt;
-        encode_system(&made(SystemRow::Csrrw, -1, 0, 1, 0)),
-        Some(0xfff0_1073)
-    );
-    assert_eq!(rt; encode_system(&made(SystemRow::Mret, 0x302, 1, 0, 0)), None);
-    assert_eq!(rt; encode_system(&made(SystemRow::Mret, 0x105, 0, 0, 0)), None);
-    assert_eq!(rt;
-        encode_system(&made(SystemRow::Wfi, 0x105, 0, 0, 0)),
-        Some(0x1050_0073)
-    );
-    assert_eq!(rt;
-        encode_system(&made(SystemRow::FenceI, 5, 3, 1, 2)),
-        Some(0x0051_910f)
-    );
-    assert_eq!(rt;
-        system_text(&made(SystemRow::FenceI, 5, 3, 1, 2)).as_str(),
-        "fence.i"
-    );
-    Ok(())
+fn no_word_is_these(rt: HostRuntime) {
+    for (index, &(row, imm, rs1, funct3, rd, word)) in MADE.iter().enumerate() {
+        let encoded = encode_system(&made(row, imm, rs1, funct3, rd));
+        assert_eq!(rt; (index, encoded), (index, word));
+    }
+    let text = system_text(&made(SystemRow::FenceI, 5, 3, 1, 2));
+    assert!(rt; text.as_str() == "fence.i");
 }
