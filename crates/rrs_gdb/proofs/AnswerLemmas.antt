@@ -12,8 +12,9 @@ use Rattle.rrs_gdb.specs.declared.session.Subject.TheVariants.{Shown, Changed, R
 use Rattle.rrs_gdb.specs.declared.state.SessionState.{SessionState}
 use Rattle.rrs_gdb.specs.declared.state.Settings.{Settings}
 use Rattle.rrs_gdb.specs.declared.state.Stop.{Stop}
-use Rattle.rrs_gdb.specs.Packets.{IsNumber, number}
-use Rattle.rrs_gdb.specs.Sessions.{letter, ChangesNone, RunsNone, ChangesRegister, ChangesMemory, MemoryKept, RegistersKept, BreaksKept, SettingsKept, PlacesKept, SessionKept, has_ended, IsError, ShowsRegister, GoesBy, EndsBy, HasAction, HasLetter, HasSignal, HasNoSignal, BySignal, Resumes, Signals, GoesOnUnless, Acts, GoesOnOrStays}
+use Rattle.hex.specs.Hex.{decode_of}
+use Rattle.rrs_gdb.specs.Packets.{IsNumber, number, behind}
+use Rattle.rrs_gdb.specs.Sessions.{letter, ChangesNone, RunsNone, ChangesRegister, ChangesMemory, MemoryKept, RegistersKept, BreaksKept, SettingsKept, PlacesKept, SessionKept, has_ended, IsError, ShowsRegister, SetsRegister, SetsRegisters, SetsMemory, GoesBy, EndsBy, HasAction, HasLetter, HasSignal, HasNoSignal, BySignal, Resumes, Signals, GoesOnUnless, Acts, GoesOnOrStays}
 use Rattle.rrs_gdb.specs.Answers.{Moment, ShowsNone, HasSubject, Shows, Sets, IsDone, BeginsBy, Here, There, Goes, ActsBy, Returns, Stays, Leaves, Means}
 use Rattle.rrs_gdb.specs.Shown.{registers_text}
 use Rattle.rrs_gdb.proofs.SessionLemmas.{BeginsAt, error_letter, goes_same, step_from, go_from, resumes_here, resumes_there, resumes_not, signals_here, signals_there, signals_nowhere, signals_not}
@@ -572,3 +573,50 @@ means_breaks_ok (Ok x) payload text m n is same same' settings breaks told =
     means_breaks payload m n is same same' (λ error.
     kept_both m.session n.session settings (breaks (error_letter m.reply n.reply text told error)))
 means_breaks_ok (Err f) payload text m n is same same' settings breaks told = tt
+
+-- what a packet changes, by its letter
+pub sets_G : {A F : Type 0} (r : Result A F) (payload text : List ℕ) (s t : State) (old new : List ℕ)
+    → letter payload ≡ 71 → text ≡ drop 1 payload → OnOk r (SetsRegisters text s t old new)
+    → OnOk r (Sets payload s t old new)
+sets_G (Ok x) payload text s t old new is same sets = record {
+  registers = λ _. subst (λ (xs : List ℕ). SetsRegisters xs s t old new) same sets;
+  register = λ is'. absurd (omega (arith, is, is'));
+  memory = λ is'. absurd (omega (arith, is, is'));
+  bytes = λ is'. absurd (omega (arith, is, is'));
+}
+sets_G (Err f) payload text s t old new is same sets = tt
+
+pub sets_P : {A F : Type 0} (r : Result A F) (payload text : List ℕ) (s t : State) (old new : List ℕ)
+    → letter payload ≡ 80 → text ≡ drop 1 payload → OnOk r (SetsRegister text s t old new)
+    → OnOk r (Sets payload s t old new)
+sets_P (Ok x) payload text s t old new is same sets = record {
+  registers = λ is'. absurd (omega (arith, is, is'));
+  register = λ _. subst (λ (xs : List ℕ). SetsRegister xs s t old new) same sets;
+  memory = λ is'. absurd (omega (arith, is, is'));
+  bytes = λ is'. absurd (omega (arith, is, is'));
+}
+sets_P (Err f) payload text s t old new is same sets = tt
+
+pub sets_M : {A F : Type 0} (r : Result A F) (payload text : List ℕ) (s t : State) (old new : List ℕ)
+    → letter payload ≡ 77 → text ≡ drop 1 payload
+    → OnOk r ((values : List ℕ) → decode_of (behind 58 text) ≡ Ok values → SetsMemory values text s t old new)
+    → OnOk r (Sets payload s t old new)
+sets_M (Ok x) payload text s t old new is same sets = record {
+  registers = λ is'. absurd (omega (arith, is, is'));
+  register = λ is'. absurd (omega (arith, is, is'));
+  memory = λ _. subst (λ (xs : List ℕ). (values : List ℕ) → decode_of (behind 58 xs) ≡ Ok values
+      → SetsMemory values xs s t old new) same sets;
+  bytes = λ is'. absurd (omega (arith, is, is'));
+}
+sets_M (Err f) payload text s t old new is same sets = tt
+
+pub sets_X : {A F : Type 0} (r : Result A F) (payload text : List ℕ) (s t : State) (old new : List ℕ)
+    → letter payload ≡ 88 → text ≡ drop 1 payload → OnOk r (SetsMemory (behind 58 text) text s t old new)
+    → OnOk r (Sets payload s t old new)
+sets_X (Ok x) payload text s t old new is same sets = record {
+  registers = λ is'. absurd (omega (arith, is, is'));
+  register = λ is'. absurd (omega (arith, is, is'));
+  memory = λ is'. absurd (omega (arith, is, is'));
+  bytes = λ _. subst (λ (xs : List ℕ). SetsMemory (behind 58 xs) xs s t old new) same sets;
+}
+sets_X (Err f) payload text s t old new is same sets = tt

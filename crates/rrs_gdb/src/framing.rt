@@ -25,7 +25,7 @@ const DIGITS: &[u8; 16] = b"0123456789abcdef";
 fn is_special(byte: u8) -> bool
     ensures { result ≡ is_special byte }
 {
-    byte == b'#' || byte == b'$' || byte == b'*' || byte == b'}'
+    matches!(byte, b'#' | b'$' | b'*' | b'}')
 }
 
 /// The digit of a number below 16.
