@@ -10,25 +10,19 @@ use rrs_linux::Linux;
 use rrs_reports::{TraceError, trace_process};
 use rrs_requests::files::{buffered, created, read_program, unwritten};
 use rrs_requests::refusal::{Refusal, failed, no_executable};
+use rrs_requests::words::{hexadecimal_of, number_of};
 use std::io::{Read, Write};
 use std::rt::Files;
 
 /// The address that a word is: `0x` and hexadecimal digits, or decimal digits.
 fn address_of(word: &str) -> Option<u32> {
-    let number = match word.strip_prefix("0x") {
-        Some(digits) if !begins_with_sign(digits) => u32::from_str_radix(digits, 16),
-        None if !begins_with_sign(word) => u32::from_str_radix(word, 10),
-        _ => return None,
-    };
-    match number {
-        Ok(address) => Some(address),
+    if let Some(digits) = word.strip_prefix("0x") {
+        return hexadecimal_of(digits);
+    }
+    match number_of(word) {
+        Ok(address) => u32::try_from(address).ok(),
         Err(_) => None,
     }
-}
-
-/// Whether the first byte of a word is a plus, which a number may have before its digits.
-fn begins_with_sign(word: &str) -> bool {
-    word.as_bytes().first().copied() == Some(b'+')
 }
 
 /// The value of the first symbol of a name, if there is one in a section.
