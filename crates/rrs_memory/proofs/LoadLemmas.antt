@@ -1,13 +1,17 @@
 -- How a load goes on by one byte.
-use Rattle.std.proofs.Common.{◌≡◌, ◌≢◌, ◌⊎◌, ℕ, ◌+◌, ◌^◌, ◌<◌, ◌≤◌, Bool, true, List, [], ◌∷◌, ◌++◌, length, slice_index, Option, Some, is_some, nat_lt, if◌then◌else◌, refl, sym, subst, ap, ◌∙◌, arith, inl, inr, below_more}
+use Rattle.std.proofs.Common.{◌≡◌, ◌≢◌, ◌⊎◌, ℕ, ◌+◌, ◌^◌, ◌<◌, ◌≤◌, Bool, true, false, List, [], ◌∷◌, ◌++◌, length, slice_index, Option, Some, is_some, Err, nat_lt, if◌then◌else◌, refl, sym, subst, ap, ◌∙◌, arith, inl, inr, below_more}
 use Rattle.std.proofs.lemmas.List.{get_or_append_left, get_or_push, length_push}
+use Rattle.std.specs.Io.KnownBytes.{Consumes}
+use Rattle.std.proofs.KnownBytes.{Consumes-trans}
 use Rattle.std.proofs.lemmas.Bool.{lt-ltb}
 use Rattle.std.proofs.lemmas.Bool.Decides.{nat_tests}
 use Rattle.rrs_memory.specs.declared.MemAccessSize.{MemAccessSize}
 use Rattle.rrs_memory.specs.declared.MemAccessSize.TheVariants.{Byte}
 use Rattle.rrs_memory.specs.Bytes.{ByteMap, store, IsLawful}
-use Rattle.rrs_memory.specs.AccessLists.{Access, Write, Makes}
-use Rattle.rrs_memory.specs.Loading.{Loaded, byte_writes}
+use Rattle.rrs_memory.specs.AccessLists.{Write, Makes}
+use Rattle.rrs_memory.specs.declared.memories.load.LoadFault.{LoadFault}
+use Rattle.rrs_memory.specs.declared.memories.load.LoadFault.TheVariants.{Refused}
+use Rattle.rrs_memory.specs.Loading.{Loaded, Loads, byte_writes}
 
 -- a byte store, at its place and elsewhere
 store-here : (bytes : ByteMap) (a v : ℕ) → v < 256 → store bytes a 1 v a ≡ Some v
@@ -41,6 +45,17 @@ Loaded-next old mid new writable writable' start byte value addr input so_far pl
       mapped = λ a. ap is_some (at a) ∙ store-mapped mid (start + length input) byte a there ∙ so_far.mapped a;
       in_range = omega (arith, within, placed, more);
     }
+
+-- a byte that the memory refused: it is read, and the load ends there
+pub Loads-refused : (before between after : Option (List ℕ)) (old mid new : ByteMap) (writable writable' : ℕ → Bool) (start byte addr : ℕ) (input : List ℕ) (fault : LoadFault) → Loaded old mid writable start input → start + length input ≡ addr → Consumes before between input → Consumes between after (byte ∷ []) → writable' ≡ writable → false ≡ writable' (addr + 0) → new ≡ mid → fault ≡ Refused addr → Loads before after old new writable start (Err fault)
+Loads-refused before between after old mid new writable writable' start byte addr input fault so_far placed consumed more kept answer same is =
+    let zero_more : addr + 0 ≡ addr = omega arith in
+    let shut : writable addr ≡ false = ap writable (sym zero_more) ∙ sym (ap (λ w. w (addr + 0)) kept) ∙ sym answer in
+    rw (is, same) (record {
+      input = input;
+      loaded = so_far;
+      answered = (sym placed, shut, (byte, Consumes-trans _ _ _ _ _ consumed more));
+    })
 
 -- ---- the writes of a load
 

@@ -1,7 +1,8 @@
 //! Loading a reader's bytes into a memory.
 
-ghost use Rattle.std.specs.Prelude.{◌≡◌, ◌<◌, ◌^◌, [], ◌∷◌, Some, MatchResult, MatchOption};
+ghost use Rattle.std.specs.Prelude.{◌≡◌, ◌<◌, ◌^◌, [], ◌∷◌, Some, MatchResult, MatchOption, IfErr, is_ok};
 ghost use Rattle.std.specs.Io.KnownBytes.{Consumes, IsAtEnd};
+ghost use Rattle.rrs_memory.specs.Bytes.{Writes};
 ghost use Rattle.rrs_memory.specs.Loading.{Loads, WritesEachByte};
 
 use crate::{MemAccessSize, Memory};
@@ -50,6 +51,20 @@ fn next_byte<R: Read>(reader: &mut R) -> io::Result<Option<u8>>
     Ok((count != 0).then_some(buffer[0]))
 }
 
+/// Writes a byte to its address, or says that the memory refused it.
+fn write_byte<M: Memory>(memory: &mut M, addr: u32, byte: u8) -> Result<(), LoadFault>
+    ensures laws { Writes M.bytes M.writable M.layout
+        memory.old memory.new addr 1 byte (is_ok result) }
+    ensures did { M.writes memory.old addr MemAccessSize.Byte byte memory.new (is_ok result) }
+    ensures refused { IfErr result (λ fault. fault ≡ LoadFault.Refused addr) }
+{
+    if memory.write_mem(addr, MemAccessSize::Byte, u32::from(byte)) {
+        Ok(())
+    } else {
+        Err(LoadFault::Refused(addr))
+    }
+}
+
 /// Reads a reader to its end, byte by byte, and writes each byte into a memory, from `start_addr`
 /// on.
 ///
@@ -93,8 +108,8 @@ pub fn read_to_memory<R: Read, M: Memory>(
         let addr = addr as u32;
         match next_byte(reader) {
             Ok(Some(byte)) => {
-                if !memory.write_mem(addr, MemAccessSize::Byte, u32::from(byte)) {
-                    return Err(LoadFault::Refused(addr));
+                if let Err(refused) = write_byte(memory, addr, byte) {
+                    return Err(refused);
                 }
             }
             Ok(None) => return Ok(()),
