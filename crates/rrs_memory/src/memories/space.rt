@@ -2,7 +2,7 @@
 
 ghost use Rattle.std.specs.Prelude.{◌≡◌, ◌↔◌, ℕ, ◌+◌, ◌-◌, ◌%◌, ◌^◌, ◌<◌, ◌≤◌, false};
 ghost use Rattle.std.specs.Prelude.{[], ◌∷◌, ◌++◌, length, slice_index, map, All, Any, IsTrue, Err, IfOk, OnOk, OnErr};
-ghost use Rattle.std.specs.Prelude.{◌*◌, None, MatchOption, option_copied};
+ghost use Rattle.std.specs.Prelude.{◌*◌, None, MatchOption, option_copied, nat_lt, vec_len, vec_capacity};
 ghost use Rattle.std.specs.Option.{option_copied_mut};
 ghost use Rattle.std.specs.Bool.{OnTrue};
 ghost use Rattle.std.specs.Borrow.{sem};
@@ -76,6 +76,13 @@ impl<M> Model for MemorySpace<M> {
 
 impl<M: Memory> MemoryRegion<M> {
     ghost use Rattle.rrs_memory.specs.SpaceLends.{lends_inner};
+
+    /// A region of this base and size over a memory.
+    fn new(base: u32, size: u32, memory: M) -> Self
+        ensures { result ≡ record { base = base; size = size; memory = memory } }
+    {
+        MemoryRegion { base, size, memory }
+    }
 
     /// Whether a region of this base and size would overlap it. The sums are exact.
     #[inline]
@@ -194,6 +201,14 @@ fn find<M: Memory>(
     (None, compared)
 }
 
+/// Appends a region to a list that has room for it.
+fn push_reserved<M: Drop>(regions: &mut Vec<MemoryRegion<M>>, region: MemoryRegion<M>)
+    requires { vec_len regions.old < vec_capacity regions.old }
+    ensures { regions.new.items ≡ regions.old.items ++ region ∷ [] }
+{
+    regions.push(region).unwrap();
+}
+
 /// Where in the order a region of this base goes.
 fn place_of<M>(regions: &[MemoryRegion<M>], by_base: &[usize], base: u32) -> usize
     requires { IsSearchOrder (map bounds (map region_of regions.now)) by_base.now }
@@ -289,7 +304,7 @@ impl<M: Memory> MemorySpace<M> {
         if self.overlaps(base, size) {
             return Err(MemorySpaceError::RegionOverlap);
         }
-        match self.append(MemoryRegion { base, size, memory }) {
+        match self.append(MemoryRegion::new(base, size, memory)) {
             Ok(()) => Ok(index),
             Err(_) => Err(MemorySpaceError::OutOfMemory),
         }
@@ -320,7 +335,7 @@ impl<M: Memory> MemorySpace<M> {
             let place = place_of(&self.regions, &self.by_base, region.base);
             self.by_base.insert(place, self.regions.len())?;
         }
-        self.regions.push(region).unwrap();
+        push_reserved(&mut self.regions, region);
         Ok(())
     }
 
@@ -409,11 +424,18 @@ impl<M: Memory> MemorySpace<M> {
         ensures* writes_back { sem 𝓛 (lends_memory_if M.row self.entry index result) }
         ensures value { option_copied_mut result ≡ memory_at self.old.regions index }
     {
-        if index < self.regions.len() {
+        if self.has_region(index) {
             Some(self.memory_mut(index))
         } else {
             None
         }
+    }
+
+    /// Whether there is a region of this index.
+    fn has_region(&self, index: usize) -> bool
+        ensures { result ≡ nat_lt index (length self.now.regions) }
+    {
+        index < self.regions.len()
     }
 
     fn memory_mut(&mut self, index: usize) -> &mut M

@@ -8,12 +8,11 @@ use Rattle.rrs_memory.proofs.memories.space.MemorySpace.append.Goals as goal
 use Rattle.rrs_memory.proofs.memories.space.MemorySpace.append.Goals.{then-region-gt0+in_ok-insert, else-region-gt0}
 
 -- the list of the code after the push
-pushed : (g : given.Over) (c : goal.After-unwrap g) → c.push.new.self.items ≡ c.self.inside.regions.items ++ c.args.region ∷ []
+pushed : (g : given.Over) (c : goal.After-push_reserved g) → c.push_reserved.new.regions.items ≡ c.self.inside.regions.items ++ c.args.region ∷ []
 pushed g c =
-    let all : c.push.new.self.items ≡ c.if-region-gt0.self-inside.regions.items ++ c.args.region ∷ [] = rw c.unwrap.ensures at c.push.ensures.items in
     elim c.if-region-gt0.branch [
-      | then-region-gt0+in_ok-insert w ↦ all ∙ ap (λ s. s.regions.items ++ c.args.region ∷ []) w.self-inside-is ∙ ap (λ xs. xs ++ c.args.region ∷ []) c.reserve.ensures.items
-      | else-region-gt0 w ↦ all ∙ ap (λ s. s.regions.items ++ c.args.region ∷ []) w.self-inside-is ∙ ap (λ xs. xs ++ c.args.region ∷ []) c.reserve.ensures.items
+      | then-region-gt0+in_ok-insert w ↦ c.push_reserved.ensures ∙ ap (λ s. s.regions.items ++ c.args.region ∷ []) w.self-inside-is ∙ ap (λ xs. xs ++ c.args.region ∷ []) c.reserve.ensures.items
+      | else-region-gt0 w ↦ c.push_reserved.ensures ∙ ap (λ s. s.regions.items ++ c.args.region ∷ []) w.self-inside-is ∙ ap (λ xs. xs ++ c.args.region ∷ []) c.reserve.ensures.items
     ]
 
 pub returns-clause-ok : goal.returns-clause-ok
@@ -23,7 +22,7 @@ returns-clause-ok g c =
 
 pub returns-clause-space : goal.returns-clause-space
 returns-clause-space g c =
-    IsSpace-after_push c.self.inside.regions.items c.push.new.self.items c.args.self.now.regions c.args.region (ap (λ s. s.regions) c.self.view_is) c.self.invariant.0 c.requires.word c.requires.apart (pushed g c)
+    IsSpace-after_push c.self.inside.regions.items c.push_reserved.new.regions.items c.args.self.now.regions c.args.region (ap (λ s. s.regions) c.self.view_is) c.self.invariant.0 c.requires.word c.requires.apart (pushed g c)
 
 pub invariant_of-self-2 : goal.invariant_of-self-2
 invariant_of-self-2 g c =
