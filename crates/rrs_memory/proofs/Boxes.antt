@@ -1,5 +1,5 @@
 -- A value behind a box: after a call that kept its type, and after any accesses of a memory.
-use Rattle.std.proofs.Common.{◌≡◌, ℕ, ◌%◌, List, [], ◌∷◌, Option, Bool, refl, sym, subst, ap}
+use Rattle.std.proofs.Common.{◌≡◌, ℕ, List, [], ◌∷◌, Option, Bool, refl, sym, subst, ap}
 use Rattle.std.specs.declared.dyn_box.DynBox.{DynBox}
 use Rattle.rrs_memory.specs.declared.MemAccessSize.{MemAccessSize}
 use Rattle.rrs_memory.specs.Bytes.{ByteMap, width, little_endian, ReadsArePure}

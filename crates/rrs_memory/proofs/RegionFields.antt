@@ -1,12 +1,12 @@
 -- The regions of the code, and the list that contracts see of them.
-use Rattle.std.proofs.Common.{◌≡◌, ◌↔◌, ℕ, zero, suc, ◌<◌, List, [], ◌∷◌, ◌++◌, length, map, get_or, set, Some, option_map, Result, Ok, Err, OnOk, Bool, true, false, IsTrue, Any, MatchBool, inl, inr, refl, sym, subst, ap, ◌∙◌, arith}
+use Rattle.std.proofs.Common.{◌≡◌, ◌↔◌, ℕ, zero, suc, ◌<◌, List, [], ◌∷◌, ◌++◌, length, map, get_or, set, Some, Result, Ok, Err, OnOk, Bool, true, false, IsTrue, Any, MatchBool, inl, inr, refl, sym, subst, ap, ◌∙◌, arith}
 use Rattle.std.specs.List.{slice_get, HoldsAt, AllWithin}
 use Rattle.std.proofs.lemmas.Bool.{false≢true}
 use Rattle.std.proofs.lemmas.List.{map_push, length-map}
 use Rattle.std.proofs.lemmas.Option.{none-some, same_Some, slice_get-map, slice_get_read, slice_get_within, slice_get_cases, get_or_from_slice_get}
 use Rattle.rrs_memory.specs.declared.memories.space.MemoryRegion.{MemoryRegion}
 use Rattle.rrs_memory.specs.SpaceFields.{region_of, with_inner}
-use Rattle.rrs_memory.specs.Spaces.{Region, Space, with_region_memory, serves, Overlaps, IsWordRegion, IsSpace, with_memory, memory_at, IsServedAt}
+use Rattle.rrs_memory.specs.Spaces.{Region, Space, with_region_memory, serves, Overlaps, IsWordRegion, IsSpace, with_memory, IsServedAt}
 use Rattle.rrs_memory.proofs.Regions.{IsSpace-push}
 
 -- a fact that a test says does not hold

@@ -1,17 +1,16 @@
 -- A memory of words as a map of bytes: what a read of one word gives, and what a write of one word leaves.
-use Rattle.std.proofs.Common.{◌≡◌, ◌≢◌, ℕ, zero, suc, ◌+◌, ◌-◌, ◌*◌, ◌/◌, ◌%◌, ◌^◌, ◌<◌, ◌≤◌, List, length, slice_index, slice_set, Some, None, true, false, ◌&&◌, nat_lt, if◌then◌else◌, sym, ap, ◌∙◌, arith}
+use Rattle.std.proofs.Common.{◌≡◌, ℕ, zero, suc, ◌+◌, ◌-◌, ◌*◌, ◌/◌, ◌%◌, ◌^◌, ◌<◌, ◌≤◌, List, length, slice_index, slice_set, Some, None, sym, ap, ◌∙◌, arith}
 use Rattle.std.specs.Int.Bits.{bit_and, bit_or, or_zero_r}
 use Rattle.std.proofs.Math.Nat.{pow-succ', div-div-eq-div-mul, add-mul, mul_assoc, add-mul-div_right, add-mul-mod_self_right, mod-one}
 use Rattle.std.proofs.lemmas.Nat.{pow-add, and_mask, and-not, or_shifted, or_block, and_comm, pow_pos, shr-shr, shr_split, mod_below, shl_whole, div-mul-add, div-add-mod'}
 use Rattle.std.proofs.lemmas.Nat.Bits.{and_high}
 use Rattle.std.proofs.Math.Pow.{pow_mono}
-use Rattle.std.proofs.lemmas.Bool.{lt-ltb, le-ltb, and_from, and_left, cond-true, cond-false}
 use Rattle.std.proofs.lemmas.Bool.Decides.{nat_tests}
 use Rattle.std.proofs.lemmas.List.{length-set, get_or-set_same, get_or-set_other}
 use Rattle.rrs_memory.specs.declared.MemAccessSize.{MemAccessSize}
 use Rattle.rrs_memory.specs.declared.MemAccessSize.TheVariants.{Byte}
 use Rattle.rrs_memory.specs.Bytes.{width, little_endian, store, sum_if_both, at_place}
-use Rattle.rrs_memory.specs.VecBytes.{bytes_of_words, lies_in_words}
+use Rattle.rrs_memory.specs.VecBytes.{bytes_of_words}
 use Rattle.rrs_memory.proofs.ByteLemmas.{pow-256, pow-256_pos, one_more_byte, store_by}
 
 -- a mask of the lowest n bytes

@@ -1,5 +1,5 @@
 -- The write is one of the words at its distance from the base.
-use Rattle.std.proofs.Common.{◌≡◌, ◌-◌, ◌≤◌, sym, ap, ◌∙◌, rules, arith}
+use Rattle.std.proofs.Common.{◌-◌, ◌≤◌, sym, ap, ◌∙◌, rules, arith}
 use Rattle.std.proofs.lemmas.Bool.{OnTrue_at, OnTrue_from, OnFalse_at, OnFalse_from}
 use Rattle.rrs_memory.specs.Bytes.{width, store, all_writable}
 use Rattle.rrs_memory.specs.VecBytes.{bytes_of_words, lies_in_words}

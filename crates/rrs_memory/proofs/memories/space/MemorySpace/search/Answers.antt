@@ -1,5 +1,4 @@
-use Rattle.std.proofs.Common.{◌≡◌, map, ap, arith}
-use Rattle.rrs_memory.specs.SpaceFields.{region_of}
+use Rattle.std.proofs.Common.{ap, arith}
 use Rattle.rrs_memory.proofs.SearchOrder.{counts_search, compares_search}
 use Rattle.rrs_memory.proofs.memories.space.MemorySpace.search.Goals as goal
 

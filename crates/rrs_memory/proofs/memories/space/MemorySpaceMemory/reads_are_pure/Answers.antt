@@ -1,7 +1,6 @@
 -- The memory of the region that serves the address calls its reads pure.
-use Rattle.std.proofs.Common.{◌≡◌, ◌≤◌, ◌-◌, ◌^◌, Some, map, ap, sym, subst, ◌∙◌, arith}
+use Rattle.std.proofs.Common.{◌≡◌, ◌≤◌, ◌-◌, ◌^◌, map, ap, arith}
 use Rattle.std.proofs.lemmas.Bool.{OnTrue_from, OnTrue_at}
-use Rattle.rrs_memory.specs.Spaces.{IsSpace, IsServedAt}
 use Rattle.rrs_memory.specs.SpaceFields.{region_of}
 use Rattle.rrs_memory.proofs.RegionFields.{served_field}
 use Rattle.rrs_memory.proofs.PureReads.{pure_there}
