@@ -96,6 +96,15 @@ pub fn process_instruction<T: InstructionProcessor>(
 {
     hand_opcode(processor, insn_bits)
 }
+
+/// The opcode of a word: its low seven bits.
+#[inline(always)]
+fn opcode_of(word: u32) -> u32
+    ensures { result ≡ word % 128 }
+{
+    word & 0x7f
+}
+
 /// Hands a word to the function of its row, by its opcode.
 #[inline(always)]
 fn hand_opcode<T: InstructionProcessor>(
@@ -104,7 +113,7 @@ fn hand_opcode<T: InstructionProcessor>(
 ) -> Option<T::InstructionResult>
     ensures { IsHanded T.did word processor.old processor.new result }
 {
-    match word & 0x7f {
+    match opcode_of(word) {
         OPCODE_OP => hand_op(processor, word),
         OPCODE_OP_IMM => hand_op_imm(processor, word),
         OPCODE_LUI => Some(processor.process_lui(UType::new(word))),
