@@ -10,6 +10,9 @@ these_if : {A : Type 0} (P : Row → Fields → A → Type 0) (w : ℕ) (o : Opt
 these_if P w None h = tt
 these_if P w (Some a) h = λ row f is. these (λ row f. P row f a) w row f h is
 
+pub returns-clause-decoded : goal.returns-clause-decoded
+returns-clause-decoded g c = c.hand_opcode.ensures.decoded
+
 pub returns-clause-these : goal.returns-clause-these
 returns-clause-these g c =
     these_if (λ row f a. g.T.InstructionProcessor.did row f c.args.processor.now c.hand_opcode.new.processor a) c.args.insn_bits c.hand_opcode.result c.hand_opcode.ensures.decoded

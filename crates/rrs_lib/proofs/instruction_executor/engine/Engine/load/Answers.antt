@@ -1,4 +1,4 @@
-use Rattle.std.proofs.Common.{rules}
+use Rattle.std.proofs.Common.{refl, rules}
 use Rattle.rrs_lib.specs.Engines.{gone_on}
 use Rattle.rrs_lib.proofs.instruction_executor.engine.Engine.load.Goals as goal
 
@@ -9,3 +9,7 @@ returns-then-not-is_aligned-clause-fault g c = search rules
 pub returns-in-None-clause-fault : goal.returns-in-None-clause-fault
 unfolding gone_on
 returns-in-None-clause-fault g c = search rules
+
+pub returns-in-None-clause-kept : goal.returns-in-None-clause-kept
+returns-in-None-clause-kept g c =
+    rw (c.read_mem.ensures.laws.bytes_kept, c.read_mem.ensures.laws.writable_kept) refl
