@@ -1,7 +1,7 @@
 //! An executable in the ELF format, as C has it: bytes of the caller's, which each function reads
 //! anew.
 
-ghost use Rattle.std.specs.Prelude.{◌≡◌, ◌↔◌, Err, OnOk, IfErr, MatchOption};
+ghost use Rattle.std.specs.Prelude.{◌≡◌, ◌↔◌, ◌≤◌, Err, OnOk, IfErr, MatchOption};
 ghost use Rattle.rrs_lib.specs.SliceBytes.{StaysLent, slice_bytes, slice_writable};
 ghost use Rattle.rrs_elf.specs.Headers.{e_phnum};
 ghost use Rattle.rrs_elf.specs.Executables.{IsExecutable};
@@ -75,7 +75,8 @@ const NOT_IN_WORDS: u32 = 31;
 
 /// The number of a refusal, and the numbers that it tells.
 fn numbers_of(error: ElfError) -> (u32, u32, u32)
-    ensures { told result.0 result.1 result.2 ≡ refused_elf error }
+    ensures same { told result.0 result.1 result.2 ≡ refused_elf error }
+    ensures some { 1 ≤ result.0 }
 {
     match error {
         ElfError::NotElf => (1, 0, 0),
@@ -113,7 +114,8 @@ fn numbers_of(error: ElfError) -> (u32, u32, u32)
 
 /// What C is told of a refusal.
 fn refusal_of(error: ElfError) -> RrsElf
-    ensures { result ≡ refused_elf error }
+    ensures same { result ≡ refused_elf error }
+    ensures some { 1 ≤ result.refusal }
 {
     let (refusal, number, other) = numbers_of(error);
     RrsElf {
