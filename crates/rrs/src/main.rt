@@ -6,6 +6,7 @@
 #![tactic(auto)]
 
 use rrs_commands::program::run_rrs;
+use rrs_debug_commands::debugging::Gdb;
 use rrs_linux::{Heap, Linux, LinuxClocks};
 use rrs_run_commands::execution::{HEAP_END, HEAP_START};
 use rrs_run_commands::progress_line::{Erasing, LineTerminal, ProgressLine};
@@ -26,5 +27,5 @@ fn main(rt: HostRuntime) -> ExitCode {
     let mut errors = Erasing::new(rt.stderr(), &terminal);
     let line = ProgressLine::new(rt, &terminal);
     let mut progress = rt.stderr().is_terminal().then_some(line);
-    run_rrs(&rt, &mut environment, &mut errors, &mut progress)
+    run_rrs(&rt, &mut environment, &mut errors, &mut progress, &Gdb)
 }

@@ -9,7 +9,6 @@ use rrs_cli::simulation::simulate;
 use rrs_run_commands::quiet::simulate_quietly;
 use std::alloc::{AllocError, Global};
 use std::io::{ErrorKind, Read, Write};
-use std::process::Abort;
 use std::test::Fail;
 
 /// The account of these three words, with the line of each.
@@ -248,8 +247,9 @@ fn case_begins(alloc: Global, case: &Case) -> Result<bool, Fail> {
 
 #[test]
 fn prints_the_lines_of_the_steps_or_none(rt: HostRuntime) -> Result<(), Fail> {
-    for case in &CASES {
-        assert!(rt; case_begins(rt.alloc(), case)?, "{}", case.3);
+    for (index, case) in CASES.iter().enumerate() {
+        let begins_so = case_begins(rt.alloc(), case)?;
+        assert!(rt; begins_so, "at {index}");
     }
     Ok(())
 }
@@ -280,7 +280,8 @@ fn refuses_a_byte_past_the_addresses(rt: HostRuntime) -> Result<(), Fail> {
     let mut bytes = bytes_of_all_addresses(rt.alloc())?;
     let lines = "0x00000000: jal x0, 0x0000fffc\n0x0000fffc: addi x0, x0, 0\n";
     let ending = "end: FetchError pc=0x00010000, steps 2\n";
-    assert!(rt; begins(rt.alloc(), &bytes, 9, lines, ending)?);
+    let begins_so = begins(rt.alloc(), &bytes, 9, lines, ending)?;
+    assert!(rt; begins_so);
     bytes.extend_from_slice(&[0, 0])?;
     let left = run_of_too_many(rt.alloc(), &bytes);
     assert_eq!(rt; left, (Err(RunFault::Refused(0x10000)), 1, 0));
@@ -318,21 +319,20 @@ static KINDS: [ErrorKind; 3] = [
 /// How many bytes are read before a failure.
 static FAILS_AT: [usize; 11] = [0, 1, 2, 3, 4, 5, 6, 7, 8, 65535, 65536];
 
-/// Asserts that a failure of this kind is told wherever it comes.
-fn is_told(rt: &impl Abort, alloc: Global, shown: Shown, kind: ErrorKind) {
-    for &fails_at in &FAILS_AT {
-        let left = run_where_a_read_fails(alloc, shown, fails_at, kind);
-        let want = (Err(RunFault::Reader), fails_at, 0);
-        assert_eq!(rt; left, want, "after {fails_at} bytes");
-    }
+/// Whether a failure of this kind is told. No byte is taken after it, and nothing is written.
+fn is_told(alloc: Global, shown: Shown, fails_at: usize, kind: ErrorKind) -> bool {
+    let (result, given, taken) = run_where_a_read_fails(alloc, shown, fails_at, kind);
+    result == Err(RunFault::Reader) && given == fails_at && taken == 0
 }
 
-/// No byte is taken after the failure, and nothing is written.
 #[test]
 fn tells_a_reader_that_fails(rt: HostRuntime) {
     for &kind in &KINDS {
-        is_told(&rt, rt.alloc(), Shown::Instructions, kind);
-        is_told(&rt, rt.alloc(), Shown::Nothing, kind);
+        for &fails_at in &FAILS_AT {
+            let is_told_twice = is_told(rt.alloc(), Shown::Instructions, fails_at, kind)
+                && is_told(rt.alloc(), Shown::Nothing, fails_at, kind);
+            assert!(rt; is_told_twice, "after {fails_at} bytes");
+        }
     }
 }
 
@@ -371,11 +371,9 @@ fn tells_a_writer_that_fails(rt: HostRuntime) {
     for fails_at in 0..account.len() {
         let (alloc, beginning) = (rt.alloc(), &account[..fails_at]);
         let failed = Err(RunFault::Output);
-        let are_written = [
-            writes(alloc, fails_at, ErrorKind::StorageFull, failed, beginning),
-            writes(alloc, fails_at, ErrorKind::Interrupted, Ok(()), account),
-        ];
-        assert_eq!(rt; are_written, [true; 2], "at {fails_at}");
+        let are_written = writes(alloc, fails_at, ErrorKind::StorageFull, failed, beginning)
+            && writes(alloc, fails_at, ErrorKind::Interrupted, Ok(()), account);
+        assert!(rt; are_written, "at {fails_at}");
     }
 }
 
@@ -407,5 +405,5 @@ fn out_of_memory_leaves_no_part_of_the_steps(rt: HostRuntime) {
     } else {
         Ok(())
     };
-    assert_eq!(rt; (result, are_whole), (want, true), "{written} bytes");
+    assert!(rt; result == want && are_whole, "{written} bytes");
 }

@@ -6,11 +6,16 @@ use rrs_cli::command::{Command, Failure, conclude, run_program, take_no_argument
 use rrs_cli::fault::RunFault;
 use rrs_cli::programs::{RRS_REPLAY, RRS_RUN};
 use rrs_commands::program::run_rrs;
+use rrs_env::Ending;
 use rrs_exec::NoProgress;
 use rrs_linux::{Heap, Linux, LinuxClocks, StoppedClocks};
+use rrs_requests::refusal::Refusal;
+use rrs_run_commands::debugger::Debugger;
 use rrs_run_commands::execution::{HEAP_END, HEAP_START};
 use std::alloc::Global;
+use std::io::{Read, Write};
 use std::process::ExitCode;
+use std::rt::{Env, Files};
 use std::test::Fail;
 
 /// What is left of a program: its status, what it says on standard error, what it printed, and the
@@ -24,6 +29,21 @@ enum Program {
     Run,
     /// `rrs`.
     Rrs,
+}
+
+/// A debugger that runs nothing, and ends with the number of its words.
+struct CountsWords;
+
+impl Debugger for CountsWords {
+    fn debug<H: Env + Files + AllocGlobal, R: Read, W: Write>(
+        &self,
+        _rt: &H,
+        words: &[String],
+        _input: &mut R,
+        _output: &mut W,
+    ) -> Result<Ending, Refusal> {
+        Ok(Ending::Exit(words.len() as u32))
+    }
 }
 
 /// Ends a program, and gives its status. What it simulates reads nothing, and prints nothing. The
@@ -45,6 +65,7 @@ fn status_of(
                 &mut Linux::new(b"".as_slice(), output, errors, heap, clocks),
                 report,
                 &mut NoProgress,
+                &CountsWords,
             )
         }
     }
@@ -398,11 +419,11 @@ static ASSEMBLED: [Assembled; 6] = [
 
 #[test]
 fn assembles(rt: HostRuntime) {
-    for &(words, want) in &ASSEMBLED {
+    for (index, &(words, want)) in ASSEMBLED.iter().enumerate() {
         let (status, said, printed, _report) = run(rt.alloc(), Program::Rrs, words, &FILES, 10_000);
         assert!(rt;
             status == ExitCode::SUCCESS && said.is_empty() && printed.as_slice() == want,
-            "{words:?}"
+            "at {index}"
         );
     }
 }
@@ -541,9 +562,9 @@ static CASES: [Case; 9] = [
 
 #[test]
 fn runs_the_file_that_is_named_up_to_the_limit_that_is_named(rt: HostRuntime) -> Result<(), Fail> {
-    for &(program, words, want) in &CASES {
+    for (index, &(program, words, want)) in CASES.iter().enumerate() {
         let printed = whole_account(rt.alloc(), program, words)?;
-        assert!(rt; is_account(&printed, want.as_bytes()), "{want}");
+        assert!(rt; is_account(&printed, want.as_bytes()), "at {index}");
     }
     Ok(())
 }
@@ -567,7 +588,8 @@ type Reported = (
     &'static str,
 );
 
-static REPORTED: [Reported; 5] = [
+static REPORTED: [Reported; 6] = [
+    (&[b"rrs", b"gdb", b"--raw", b"process"], 2, "", "", ""),
     (
         &[b"rrs", b"trace", b"process", b"argument"],
         7,
@@ -624,14 +646,14 @@ fn is_report(report: &[u8], beginning: &str, end: &str) -> bool {
 
 #[test]
 fn reports_a_run(rt: HostRuntime) {
-    for &(words, status, line, beginning, end) in &REPORTED {
+    for (index, &(words, status, line, beginning, end)) in REPORTED.iter().enumerate() {
         let (ended, said, printed, report) = run(rt.alloc(), Program::Rrs, words, &FILES, 10_000);
         assert!(rt;
             ended == ExitCode::from(status)
                 && said.as_slice() == line.as_bytes()
                 && printed.is_empty()
                 && is_report(&report, beginning, end),
-            "{words:?}"
+            "at {index}"
         );
     }
 }
@@ -742,7 +764,7 @@ static ARGUMENTS: [(&[&[u8]], bool); 4] = [
 
 #[test]
 fn refuses_an_argument(rt: HostRuntime) {
-    for &(words, want) in &ARGUMENTS {
-        assert_eq!(rt; is_refused(rt.alloc(), words), want, "{words:?}");
+    for (index, &(words, want)) in ARGUMENTS.iter().enumerate() {
+        assert!(rt; is_refused(rt.alloc(), words) == want, "at {index}");
     }
 }

@@ -6,10 +6,11 @@ ghost use Rattle.rrs_commands.specs.Endings.{refused_status, signal_of, status_o
 
 use crate::image_errors::ToldImageError;
 use crate::subcommands::{Subcommand, Task};
-use rrs_cli::command::NamedFailure;
+use rrs_cli::command::{Command, NamedFailure};
 use rrs_env::Ending;
 use rrs_lib::instruction_executor::InstructionException;
 use rrs_requests::refusal::Refusal;
+use std::io;
 use std::process::ExitCode;
 
 /// The signal that a program gets on Linux for an exception.
@@ -65,50 +66,56 @@ pub fn conclude<H: Eprint>(
     let program = subcommand.command;
     let status = status_of(subcommand.task, &outcome);
     let _ = match outcome {
-        Ok(Ending::Exit(_)) | Err(Refusal::SourceErrors) => Ok(()),
-        Ok(Ending::Limit) => eprintln!(rt; "{}: limit", program.name),
-        Ok(Ending::Fault(fault)) => eprintln!(rt; "{}: {fault}", program.name),
-        Err(Refusal::UnreadableSource) => eprintln!(rt; "{}: cannot read file", program.name),
-        Err(Refusal::UnreadableInput) => eprintln!(rt; "{}: cannot read input", program.name),
-        Err(Refusal::LargeSource) => {
-            eprintln!(rt; "{}: a source has at most 64 MiB", program.name)
-        }
-        Err(Refusal::WrongLimit) => {
-            eprintln!(rt;
-                "{}: a limit, or a number of bytes, has decimal digits and is below 2^64",
-                program.name
-            )
-        }
-        Err(Refusal::LargeProgram) => {
-            eprintln!(rt; "{}: a program has at most 256 MiB", program.name)
-        }
-        Err(Refusal::Image(error)) => {
-            eprintln!(rt; "{}: {}", program.name, ToldImageError(error))
-        }
-        Err(Refusal::IsElf) => { eprintln!(rt; "{}: an ELF file: rrs exec runs it", program.name) }
-        Err(Refusal::NoAddress) => {
-            eprintln!(rt;
-                "{}: --from: no address, and no symbol of PROGRAM",
-                program.name
-            )
-        }
-        Err(Refusal::WrongAddress) => {
-            eprintln!(rt;
-                "{}: an address has 0x and hexadecimal digits, is below 2^32, and a multiple of 4",
-                program.name
-            )
-        }
-        Err(Refusal::NoExecutable(error)) => eprintln!(rt; "{}: {error}", program.name),
-        Err(Refusal::LargeImage) => {
-            eprintln!(rt;
-                "{}: the program has more than 64 MiB from its first byte to its last",
-                program.name
-            )
-        }
-        Err(Refusal::CannotCreate) => eprintln!(rt; "{}: cannot create file", program.name),
-        Err(Refusal::Failed(failure)) => rt.eprintln(NamedFailure { program, failure }),
+        Ok(ending) => tell_ending(rt, program, &ending),
+        Err(refusal) => tell_refusal(rt, program, refusal),
     };
     ExitCode::from(status)
+}
+
+/// Prints how a program ended that did not end itself.
+fn tell_ending<H: Eprint>(rt: &H, program: Command, ending: &Ending) -> io::Result<()> {
+    match ending {
+        Ending::Exit(_) => Ok(()),
+        Ending::Limit => eprintln!(rt; "{}: limit", program.name),
+        Ending::Fault(fault) => eprintln!(rt; "{}: {fault}", program.name),
+    }
+}
+
+/// Prints why a subcommand did not do what it was asked. The mistakes of a source were printed.
+fn tell_refusal<H: Eprint>(rt: &H, program: Command, refusal: Refusal) -> io::Result<()> {
+    if let Some(text) = text_of(&refusal) {
+        return eprintln!(rt; "{}: {text}", program.name);
+    }
+    match refusal {
+        Refusal::Image(error) => eprintln!(rt; "{}: {}", program.name, ToldImageError(error)),
+        Refusal::NoExecutable(error) => eprintln!(rt; "{}: {error}", program.name),
+        Refusal::Failed(failure) => rt.eprintln(NamedFailure { program, failure }),
+        _ => Ok(()),
+    }
+}
+
+/// What is said of a refusal, where that is always the same.
+fn text_of(refusal: &Refusal) -> Option<&'static str> {
+    match refusal {
+        Refusal::UnreadableSource => Some("cannot read file"),
+        Refusal::UnreadableInput => Some("cannot read input"),
+        Refusal::LargeSource => Some("a source has at most 64 MiB"),
+        Refusal::WrongLimit => {
+            Some("a limit, or a number of bytes, has decimal digits and is below 2^64")
+        }
+        Refusal::LargeProgram => Some("a program has at most 256 MiB"),
+        Refusal::IsElf => Some("an ELF file: rrs exec runs it"),
+        Refusal::NoAddress => Some("--from: no address, and no symbol of PROGRAM"),
+        Refusal::WrongAddress => {
+            Some("an address has 0x and hexadecimal digits, is below 2^32, and a multiple of 4")
+        }
+        Refusal::LargeImage => {
+            Some("the program has more than 64 MiB from its first byte to its last")
+        }
+        Refusal::CannotCreate => Some("cannot create file"),
+        Refusal::SourceErrors | Refusal::Image(_) | Refusal::NoExecutable(_) | Refusal::Failed(_) =>
+            None,
+    }
 }
 
 /// Tells on standard error which system calls a program made that are not served: a line for each

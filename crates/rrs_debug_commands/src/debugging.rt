@@ -16,6 +16,7 @@ use rrs_linux::{Heap, OutputRecorder};
 use rrs_process::{Image, ProtectedMemory, fill, image_of};
 use rrs_requests::files::read_program;
 use rrs_requests::refusal::{Refusal, failed, no_executable, out_of_memory};
+use rrs_run_commands::debugger::Debugger;
 use rrs_run_commands::execution::{HEAP_END, HEAP_START};
 use std::alloc::Global;
 use std::env;
@@ -250,6 +251,22 @@ fn debug_file<R: Read, W: Write>(
     let mut link = Link::new(alloc, &mut buffered, &mut *output);
     debug_program(alloc, &program, &mut state, &mut link)?;
     Ok(Ending::Exit(0))
+}
+
+/// `rrs gdb`, by `debug`.
+#[derive(Clone, Copy, Debug)]
+pub struct Gdb;
+
+impl Debugger for Gdb {
+    fn debug<H: Env + Files + AllocGlobal, R: Read, W: Write>(
+        &self,
+        rt: &H,
+        words: &[String],
+        input: &mut R,
+        output: &mut W,
+    ) -> Result<Ending, Refusal> {
+        debug(rt, words, input, output)
+    }
 }
 
 /// Debugs a program as the words say, or firmware where the first of them is `--board`: gdb's

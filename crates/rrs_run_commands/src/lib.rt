@@ -6,6 +6,7 @@
 
 pub mod boards;
 pub mod covering;
+pub mod debugger;
 pub mod disassembling;
 pub mod elf_listing;
 pub mod executables;
