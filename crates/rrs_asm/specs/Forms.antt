@@ -8,9 +8,11 @@ use Rattle.rrs_asm.specs.declared.names.PseudoForm.{PseudoForm}
 use Rattle.rrs_asm.specs.declared.names.PlacedForm.{PlacedForm}
 use Rattle.rrs_asm.specs.declared.names.DirectiveForm.{DirectiveForm}
 use Rattle.rrs_asm.specs.declared.directives.Read.{Read}
+use Rattle.rrs_asm.specs.declared.instructions.RowForm.{RowForm}
 use Rattle.rrs_asm.specs.declared.sections.Section.{Section}
 use Rattle.rrs_asm.specs.declared.assembling.Reading.{Reading}
 use Rattle.rrs_asm.specs.Source.{Part, Item, lines, parts, items_of_parts, items_from}
+use Rattle.rrs_asm.specs.Names.{load_name, store_name}
 use Rattle.rrs_asm.specs.Names.{unary_name, zero_branch_name, swapped_name, comparison_name, is_one_of, data_names, fill_names, is_silent_name, is_section_name, is_common_name, IsNamed}
 use Rattle.rrs_asm.specs.Statements.{IsMade}
 use Rattle.rrs_asm.specs.Sections.{names_of, open_behind, in_section, first_open, AllFound}
@@ -79,6 +81,15 @@ IsForm name DirectiveForm.Common =
 IsForm name DirectiveForm.Section =
     (is_silent_name name ≡ false) × (is_section_name name ≡ true)
 IsForm name _ = is_silent_name name ≡ true
+
+-- how a row of this name is written
+abbrev pub IsRowForm : List ℕ → RowForm → Type 0
+IsRowForm name RowForm.Fence = name ≡ codes "fence"
+IsRowForm name RowForm.Jal = name ≡ codes "jal"
+IsRowForm name RowForm.Jalr = name ≡ codes "jalr"
+IsRowForm name (RowForm.Load load) = load_name load ≡ name
+IsRowForm name (RowForm.Store store) = store_name store ≡ name
+IsRowForm name _ = Unit {0}
 
 -- ---- what was read of a part
 

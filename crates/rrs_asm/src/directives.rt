@@ -8,7 +8,7 @@ ghost use Rattle.rrs_asm.specs.Forms.{fits_placed, items_of_read, HasItsName};
 use crate::errors::{Halt, LineError, SourceErrorKind};
 use crate::lexing::split_word;
 use crate::literals::escaped;
-use crate::names::{DirectiveForm, PlacedForm, directive_named};
+use crate::names::{DataForm, DirectiveForm, PlacedForm, directive_named};
 use crate::output::MOST_BYTES;
 use crate::reading::{Line, Notes};
 use crate::sections::{SectionKind, is_laid_out, kind_of_name};
@@ -218,16 +218,23 @@ fn read_placed(
     ensures { IfOk result (IsNamed name.now) }
 {
     match form {
-        PlacedForm::Data(bits) => Ok(Statement::Data(read_data(alloc, line, bits)?)),
-        PlacedForm::Strings(is_ended) => Ok(Statement::Data(read_strings(alloc, line, is_ended)?)),
-        PlacedForm::Pattern => Ok(Statement::Data(read_pattern(alloc, line)?)),
-        PlacedForm::Power => Ok(Statement::Data(read_power(alloc, line)?)),
-        PlacedForm::Alignment => Ok(Statement::Data(read_alignment(alloc, line)?)),
+        PlacedForm::Data(form) => Ok(Statement::Data(read_bytes(alloc, line, form)?)),
         PlacedForm::Space => {
             let (count, byte) = read_space(line)?;
             Ok(Statement::Fill(count, byte))
         }
         PlacedForm::Origin => Ok(Statement::Fill(read_origin(line)?, 0)),
+    }
+}
+
+/// Reads the operands of a directive that puts bytes at its address.
+fn read_bytes(alloc: Global, line: &mut Line, form: DataForm) -> Result<Vec<u8>, Halt> {
+    match form {
+        DataForm::Numbers(bits) => read_data(alloc, line, bits),
+        DataForm::Strings(is_ended) => read_strings(alloc, line, is_ended),
+        DataForm::Pattern => read_pattern(alloc, line),
+        DataForm::Power => read_power(alloc, line),
+        DataForm::Alignment => read_alignment(alloc, line),
     }
 }
 
@@ -262,18 +269,25 @@ fn read_data(alloc: Global, line: &mut Line, bits: u32) -> Result<Vec<u8>, Halt>
 
 /// Reads a number of so many bits, and appends it, its lowest byte first.
 fn push_datum(bytes: &mut Vec<u8>, line: &mut Line, bits: u32) -> Result<(), Halt> {
-    if bits == 64 {
-        bytes.extend_from_slice(&line.wide_value()?.to_le_bytes())?;
-        return Ok(());
-    }
-    let value = line.datum(bits)?;
-    let [first, second, ..] = value.to_le_bytes();
+    let value = if bits == 64 {
+        line.wide_value()?
+    } else {
+        u64::from(line.datum(bits)?)
+    };
+    let own = value.to_le_bytes();
+    Ok(bytes.extend_from_slice(&own[..bytes_in(bits)])?)
+}
+
+/// How many bytes a number of so many bits is.
+fn bytes_in(bits: u32) -> usize
+    ensures { result ≤ 8 }
+{
     match bits {
-        8 => bytes.push(first)?,
-        16 => bytes.extend_from_slice(&[first, second])?,
-        _ => bytes.extend_from_slice(&value.to_le_bytes())?,
+        8 => 1,
+        16 => 2,
+        32 => 4,
+        _ => 8,
     }
-    Ok(())
 }
 
 /// Reads how often a number stands, how many bytes it has, and the number.

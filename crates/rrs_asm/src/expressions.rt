@@ -1,7 +1,7 @@
 //! Operators of values, with the ranks that they have in GNU `as`, and what they make of numbers of
 //! 64 bits.
 
-use crate::errors::SourceErrorKind;
+use crate::errors::{LineError, SourceErrorKind};
 
 /// The most operators and parentheses that wait for what is behind them.
 const MOST_WAITING: usize = 64;
@@ -156,6 +156,16 @@ struct Entry {
     left: u64,
 }
 
+impl Entry {
+    /// What it makes of a value behind it. A mistake is told as this one, by its kind.
+    fn applied(self, value: u64, error: LineError) -> Result<u64, LineError> {
+        match self.operator.apply(self.left, value) {
+            Ok(value) => Ok(value),
+            Err(kind) => Err(error.with_kind(kind)),
+        }
+    }
+}
+
 /// The operators that wait, the innermost last.
 #[derive(Clone, Copy)]
 pub struct Waiting {
@@ -199,10 +209,15 @@ impl Waiting {
     }
 
     /// One more, behind a value.
-    pub fn push(&mut self, operator: Operator, left: u64) -> Result<(), SourceErrorKind> {
+    pub fn push(
+        &mut self,
+        operator: Operator,
+        left: u64,
+        error: LineError,
+    ) -> Result<(), LineError> {
         match self.entries.get_mut(self.count) {
             Some(entry) => *entry = Entry { operator, left },
-            None => return Err(SourceErrorKind::Deep),
+            None => return Err(error.with_kind(SourceErrorKind::Deep)),
         }
         self.count = self.count.saturating_add(1);
         if operator == Operator::Open {
@@ -212,18 +227,23 @@ impl Waiting {
     }
 
     /// An operator behind a value: those that bind as strongly are applied before it.
-    pub fn push_between(&mut self, operator: Operator, value: u64) -> Result<(), SourceErrorKind> {
-        let left = self.applied(operator.rank(), value)?;
-        self.push(operator, left)
+    pub fn push_between(
+        &mut self,
+        operator: Operator,
+        value: u64,
+        error: LineError,
+    ) -> Result<(), LineError> {
+        let left = self.applied(operator.rank(), value, error)?;
+        self.push(operator, left, error)
     }
 
     /// What those that bind so strongly make of a value behind them.
-    fn applied(&mut self, rank: u8, value: u64) -> Result<u64, SourceErrorKind> {
+    fn applied(&mut self, rank: u8, value: u64, error: LineError) -> Result<u64, LineError> {
         let mut value = value;
         for _ in 0..MOST_WAITING {
             match self.last() {
                 Some(entry) if entry.operator.rank() >= rank => {
-                    value = entry.operator.apply(entry.left, value)?;
+                    value = entry.applied(value, error)?;
                     self.count = self.count.saturating_sub(1);
                 }
                 _ => break,
@@ -233,13 +253,13 @@ impl Waiting {
     }
 
     /// What all make of a value behind them, up to the innermost parenthesis.
-    pub fn all_applied(&mut self, value: u64) -> Result<u64, SourceErrorKind> {
-        self.applied(1, value)
+    pub fn all_applied(&mut self, value: u64, error: LineError) -> Result<u64, LineError> {
+        self.applied(1, value, error)
     }
 
     /// The value of what stands in the innermost parenthesis, which is closed.
-    pub fn closed(&mut self, value: u64) -> Result<u64, SourceErrorKind> {
-        let value = self.applied(1, value)?;
+    pub fn closed(&mut self, value: u64, error: LineError) -> Result<u64, LineError> {
+        let value = self.applied(1, value, error)?;
         self.count = self.count.saturating_sub(1);
         self.open = self.open.saturating_sub(1);
         Ok(value)

@@ -4,7 +4,7 @@ ghost use Rattle.std.specs.Prelude.{◌≡◌, ◌<◌, IfOk, IfSome, codes};
 ghost use Rattle.rrs_instruction.specs.Table.{table};
 ghost use Rattle.rrs_instruction.specs.Instructions.{row_of};
 ghost use Rattle.rrs_asm.specs.Names.{IsNamed, pseudo_name, unary_name, zero_branch_name, swapped_name, comparison_name, load_name, store_name};
-ghost use Rattle.rrs_asm.specs.Forms.{form_name};
+ghost use Rattle.rrs_asm.specs.Forms.{form_name, IsRowForm};
 
 use crate::errors::{LineError, SourceErrorKind};
 use crate::names::{PseudoForm, pseudo_named};
@@ -54,45 +54,52 @@ pub fn read_instruction(
 fn read_row(line: &mut Line, template: Instruction) -> Result<Statement, LineError>
     ensures { IfOk result (IsNamed (table (row_of template)).name) }
 {
-    let operands = match template {
-        Instruction::Ecall(_) | Instruction::Ebreak(_) => return Ok(Statement::Instruction(
-            template,
-        )),
-        Instruction::Fence(_) => return read_fence(line, template),
-        Instruction::Jal(_) => return read_jal(line, template),
-        Instruction::Jalr(_) => return read_jalr(line, template),
-        _ => match (load_of(template), store_of(template)) {
-            (Some(load), _) => return read_load(line, template, load),
-            (None, Some(store)) => return read_store(line, template, store),
-            (None, None) => format_operands(line, template.fields())?,
-        },
-    };
-    statement_of(template, operands)
-}
-
-/// The load that a row is.
-fn load_of(template: Instruction) -> Option<Load>
-    ensures { IfSome result (λ load. load_name load ≡ (table (row_of template)).name) }
-{
-    match template {
-        Instruction::Lb(_) => Some(Load::Lb),
-        Instruction::Lbu(_) => Some(Load::Lbu),
-        Instruction::Lh(_) => Some(Load::Lh),
-        Instruction::Lhu(_) => Some(Load::Lhu),
-        Instruction::Lw(_) => Some(Load::Lw),
-        _ => None,
+    match row_form(template) {
+        RowForm::Alone => Ok(Statement::Instruction(template)),
+        RowForm::Fence => read_fence(line, template),
+        RowForm::Jal => read_jal(line, template),
+        RowForm::Jalr => read_jalr(line, template),
+        RowForm::Load(load) => read_load(line, template, load),
+        RowForm::Store(store) => read_store(line, template, store),
+        RowForm::Format => {
+            let operands = format_operands(line, template.fields())?;
+            statement_of(template, operands)
+        }
     }
 }
 
-/// The store that a row is.
-fn store_of(template: Instruction) -> Option<Store>
-    ensures { IfSome result (λ store. store_name store ≡ (table (row_of template)).name) }
+/// How the operands of a row are written.
+#[derive(Clone, Copy)]
+pub enum RowForm {
+    /// It has none.
+    Alone,
+    Fence,
+    Jal,
+    Jalr,
+    Load(Load),
+    Store(Store),
+    /// As those of others of its format.
+    Format,
+}
+
+/// How the operands of a row are written.
+fn row_form(template: Instruction) -> RowForm
+    ensures { IsRowForm (table (row_of template)).name result }
 {
     match template {
-        Instruction::Sb(_) => Some(Store::Sb),
-        Instruction::Sh(_) => Some(Store::Sh),
-        Instruction::Sw(_) => Some(Store::Sw),
-        _ => None,
+        Instruction::Ecall(_) | Instruction::Ebreak(_) => RowForm::Alone,
+        Instruction::Fence(_) => RowForm::Fence,
+        Instruction::Jal(_) => RowForm::Jal,
+        Instruction::Jalr(_) => RowForm::Jalr,
+        Instruction::Lb(_) => RowForm::Load(Load::Lb),
+        Instruction::Lbu(_) => RowForm::Load(Load::Lbu),
+        Instruction::Lh(_) => RowForm::Load(Load::Lh),
+        Instruction::Lhu(_) => RowForm::Load(Load::Lhu),
+        Instruction::Lw(_) => RowForm::Load(Load::Lw),
+        Instruction::Sb(_) => RowForm::Store(Store::Sb),
+        Instruction::Sh(_) => RowForm::Store(Store::Sh),
+        Instruction::Sw(_) => RowForm::Store(Store::Sw),
+        _ => RowForm::Format,
     }
 }
 

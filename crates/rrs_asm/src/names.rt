@@ -3,6 +3,8 @@
 ghost use Rattle.std.specs.Prelude.{◌≡◌, ℕ, Bool, true, List, IfSome};
 ghost use Rattle.std.specs.List.{list_all};
 ghost use Rattle.rrs_asm.specs.Forms.{form_name, IsForm};
+ghost use Rattle.rrs_asm.specs.declared.names.DirectiveForm.{DirectiveForm};
+ghost use Rattle.rrs_asm.specs.declared.names.PseudoForm.{PseudoForm};
 
 use crate::pseudo::{SwappedBranch, SwappedComparison, Unary, ZeroBranch};
 
@@ -75,14 +77,28 @@ const FORMS: [(&[u8], PseudoForm); 30] = [
 pub fn pseudo_named(name: &[u8]) -> Option<PseudoForm>
     ensures { IfSome result (λ form. form_name form ≡ name.now) }
 {
-    value_named(&FORMS, name)
+    pseudo_in(&FORMS, name)
 }
 
-/// A directive that puts something at its address, by how its operands are written.
+/// What stands beside a name in a table. A test that all entries pass, it passes with the name.
+fn pseudo_in(table: &[(&[u8], PseudoForm)], name: &[u8]) -> Option<PseudoForm>
+    ensures { (fits : List ℕ → PseudoForm → Bool)
+        → list_all (λ e. fits e.0.now e.1) table.now ≡ true
+        → IfSome result (λ form. fits name.now form ≡ true) }
+{
+    for (own, form) in table {
+        if *own == name {
+            return Some(*form);
+        }
+    }
+    None
+}
+
+/// A directive that puts bytes at its address, by how its operands are written.
 #[derive(Clone, Copy)]
-pub enum PlacedForm {
+pub enum DataForm {
     /// Numbers of so many bits each.
-    Data(u32),
+    Numbers(u32),
     /// Strings, with a zero byte behind each or not.
     Strings(bool),
     /// A number, so often as is said.
@@ -91,6 +107,13 @@ pub enum PlacedForm {
     Power,
     /// An alignment in bytes.
     Alignment,
+}
+
+/// A directive that puts something at its address, by how its operands are written.
+#[derive(Clone, Copy)]
+pub enum PlacedForm {
+    /// Bytes.
+    Data(DataForm),
     /// A number of bytes, and which byte.
     Space,
     /// The address of what follows.
@@ -118,25 +141,82 @@ pub enum DirectiveForm {
 
 /// The directives, which begin with a dot.
 const DIRECTIVES: [(&[u8], DirectiveForm); 152] = [
-    (b".word", DirectiveForm::Place(PlacedForm::Data(32))),
-    (b".long", DirectiveForm::Place(PlacedForm::Data(32))),
-    (b".4byte", DirectiveForm::Place(PlacedForm::Data(32))),
-    (b".int", DirectiveForm::Place(PlacedForm::Data(32))),
-    (b".half", DirectiveForm::Place(PlacedForm::Data(16))),
-    (b".short", DirectiveForm::Place(PlacedForm::Data(16))),
-    (b".2byte", DirectiveForm::Place(PlacedForm::Data(16))),
-    (b".hword", DirectiveForm::Place(PlacedForm::Data(16))),
-    (b".byte", DirectiveForm::Place(PlacedForm::Data(8))),
-    (b".dword", DirectiveForm::Place(PlacedForm::Data(64))),
-    (b".quad", DirectiveForm::Place(PlacedForm::Data(64))),
-    (b".8byte", DirectiveForm::Place(PlacedForm::Data(64))),
-    (b".ascii", DirectiveForm::Place(PlacedForm::Strings(false))),
-    (b".asciz", DirectiveForm::Place(PlacedForm::Strings(true))),
-    (b".string", DirectiveForm::Place(PlacedForm::Strings(true))),
-    (b".fill", DirectiveForm::Place(PlacedForm::Pattern)),
-    (b".align", DirectiveForm::Place(PlacedForm::Power)),
-    (b".p2align", DirectiveForm::Place(PlacedForm::Power)),
-    (b".balign", DirectiveForm::Place(PlacedForm::Alignment)),
+    (
+        b".word",
+        DirectiveForm::Place(PlacedForm::Data(DataForm::Numbers(32))),
+    ),
+    (
+        b".long",
+        DirectiveForm::Place(PlacedForm::Data(DataForm::Numbers(32))),
+    ),
+    (
+        b".4byte",
+        DirectiveForm::Place(PlacedForm::Data(DataForm::Numbers(32))),
+    ),
+    (
+        b".int",
+        DirectiveForm::Place(PlacedForm::Data(DataForm::Numbers(32))),
+    ),
+    (
+        b".half",
+        DirectiveForm::Place(PlacedForm::Data(DataForm::Numbers(16))),
+    ),
+    (
+        b".short",
+        DirectiveForm::Place(PlacedForm::Data(DataForm::Numbers(16))),
+    ),
+    (
+        b".2byte",
+        DirectiveForm::Place(PlacedForm::Data(DataForm::Numbers(16))),
+    ),
+    (
+        b".hword",
+        DirectiveForm::Place(PlacedForm::Data(DataForm::Numbers(16))),
+    ),
+    (
+        b".byte",
+        DirectiveForm::Place(PlacedForm::Data(DataForm::Numbers(8))),
+    ),
+    (
+        b".dword",
+        DirectiveForm::Place(PlacedForm::Data(DataForm::Numbers(64))),
+    ),
+    (
+        b".quad",
+        DirectiveForm::Place(PlacedForm::Data(DataForm::Numbers(64))),
+    ),
+    (
+        b".8byte",
+        DirectiveForm::Place(PlacedForm::Data(DataForm::Numbers(64))),
+    ),
+    (
+        b".ascii",
+        DirectiveForm::Place(PlacedForm::Data(DataForm::Strings(false))),
+    ),
+    (
+        b".asciz",
+        DirectiveForm::Place(PlacedForm::Data(DataForm::Strings(true))),
+    ),
+    (
+        b".string",
+        DirectiveForm::Place(PlacedForm::Data(DataForm::Strings(true))),
+    ),
+    (
+        b".fill",
+        DirectiveForm::Place(PlacedForm::Data(DataForm::Pattern)),
+    ),
+    (
+        b".align",
+        DirectiveForm::Place(PlacedForm::Data(DataForm::Power)),
+    ),
+    (
+        b".p2align",
+        DirectiveForm::Place(PlacedForm::Data(DataForm::Power)),
+    ),
+    (
+        b".balign",
+        DirectiveForm::Place(PlacedForm::Data(DataForm::Alignment)),
+    ),
     (b".space", DirectiveForm::Place(PlacedForm::Space)),
     (b".zero", DirectiveForm::Place(PlacedForm::Space)),
     (b".skip", DirectiveForm::Place(PlacedForm::Space)),
@@ -276,17 +356,18 @@ const DIRECTIVES: [(&[u8], DirectiveForm); 152] = [
 pub fn directive_named(name: &[u8]) -> Option<DirectiveForm>
     ensures { IfSome result (IsForm name.now) }
 {
-    value_named(&DIRECTIVES, name)
+    directive_in(&DIRECTIVES, name)
 }
 
 /// What stands beside a name in a table. A test that all entries pass, it passes with the name.
-fn value_named<T: Copy>(table: &[(&[u8], T)], name: &[u8]) -> Option<T>
-    ensures { (fits : List ℕ → T → Bool) → list_all (λ e. fits e.0.now e.1) table.now ≡ true
-        → IfSome result (λ value. fits name.now value ≡ true) }
+fn directive_in(table: &[(&[u8], DirectiveForm)], name: &[u8]) -> Option<DirectiveForm>
+    ensures { (fits : List ℕ → DirectiveForm → Bool)
+        → list_all (λ e. fits e.0.now e.1) table.now ≡ true
+        → IfSome result (λ form. fits name.now form ≡ true) }
 {
-    for (own, value) in table {
+    for (own, form) in table {
         if *own == name {
-            return Some(*value);
+            return Some(*form);
         }
     }
     None

@@ -247,17 +247,11 @@ impl<'a, 's> Line<'a, 's> {
             let value = self.parentheses_behind(term, &mut waiting)?;
             let error = self.error(SourceErrorKind::Deep);
             match self.operator() {
-                Some(operator) => waiting
-                    .push_between(operator, value)
-                    .map_err(|kind| error.with_kind(kind))?,
+                Some(operator) => waiting.push_between(operator, value, error)?,
                 None if waiting.is_open() => {
                     return Err(error.with_kind(SourceErrorKind::Parenthesis));
                 }
-                None => {
-                    return waiting
-                        .all_applied(value)
-                        .map_err(|kind| error.with_kind(kind));
-                }
+                None => return waiting.all_applied(value, error),
             }
         }
         Err(self.error(SourceErrorKind::Value))
@@ -280,9 +274,7 @@ impl<'a, 's> Line<'a, 's> {
                 break;
             };
             let error = self.error(SourceErrorKind::Deep);
-            waiting
-                .push(operator, 0)
-                .map_err(|kind| error.with_kind(kind))?;
+            waiting.push(operator, 0, error)?;
         }
         Ok(())
     }
@@ -295,7 +287,7 @@ impl<'a, 's> Line<'a, 's> {
                 break;
             }
             let error = self.error(SourceErrorKind::Deep);
-            value = waiting.closed(value).map_err(|kind| error.with_kind(kind))?;
+            value = waiting.closed(value, error)?;
         }
         Ok(value)
     }

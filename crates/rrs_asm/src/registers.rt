@@ -12,8 +12,18 @@ pub fn register_number(name: &[u8]) -> Option<usize> {
     match name {
         [b'x', digits @ ..] => number_below_32(digits),
         b"fp" => Some(8),
-        _ => NAMES.iter().position(|own| *own == name),
+        _ => place_of(name),
     }
+}
+
+/// Where a name stands in the table.
+fn place_of(name: &[u8]) -> Option<usize> {
+    for (number, own) in NAMES.iter().enumerate() {
+        if *own == name {
+            return Some(number);
+        }
+    }
+    None
 }
 
 /// The number below 32 that decimal digits are, with no zero in front.
