@@ -1,7 +1,8 @@
 -- A step writes one register at the most: the one that bits 11 to 7 of its word name.
-use Rattle.std.proofs.Common.{◌≡◌, ℕ, zero, suc, ◌+◌, ◌/◌, ◌%◌, ◌^◌, ◌==◌, ◌<◌, ℤ, pos, Bool, true, false, if◌then◌else◌, Option, Some, None, Ok, IfSome, IfNone, List, drop, slice_index, refl, sym, subst, ap, ◌∙◌, arith}
+use Rattle.std.proofs.Common.{◌≡◌, ℕ, zero, suc, ◌+◌, ◌*◌, ◌/◌, ◌%◌, ◌^◌, ◌==◌, ◌<◌, ℤ, pos, Bool, true, false, if◌then◌else◌, Option, Some, None, Ok, IfSome, IfNone, List, drop, slice_index, refl, sym, subst, ap, ◌∙◌, arith}
 use Rattle.std.proofs.lemmas.Option.{same_Some}
-use Rattle.rrs_lib.specs.Encodings.{Fields, R, I, IShamt, S, B, U, J, IsInRange, encode}
+use Rattle.rrs_lib.specs.Encodings.{Fields, R, I, IShamt, S, B, U, J, IsInRange, encode, immediate_bits}
+use Rattle.rrs_lib.specs.Words.{floor_mod}
 use Rattle.rrs_lib.specs.Table.{Row, table, Action, OnRegisters, OnImmediate, OnShamt, LoadUpper, AddUpperToPc, BranchIf, BranchUnless, Load, Store, JumpAndLink, JumpAndLinkRegister, NoEffect, CallEnvironment, Break}
 use Rattle.rrs_lib.specs.Bytes.{little_endian, all_writable, store}
 use Rattle.rrs_lib.specs.Machine.{State, put, Answer, Outcome, outcome, result_outcome, branch_outcome, jump_outcome, read_outcome, load_outcome, store_outcome, outcome_by, execute}
@@ -102,17 +103,27 @@ advanced_writes : (rd : ℕ) (u : State) (a : Answer) → IsOrNone rd u.last →
 advanced_writes rd u (Ok true) before = before
 advanced_writes rd u _ before = before
 
+-- the five bits from bit 7 of a word on
+five_bits : (w op rd above : ℕ) → op < 128 → rd < 32 → w ≡ op + rd * 128 + above * 4096 → rd ≡ w / 2 ^ 7 % 2 ^ 5
+five_bits w op rd above small low e = omega (arith, small, low, e)
+
 -- the place of that register in a word
 place : (w op : ℕ) (f : Fields) (last : Option ℕ) → op < 128 → IsInRange f → w ≡ encode op f
     → LastIsRegister last → IsOrNone (written f) last → IsOrNone (w / 2 ^ 7 % 2 ^ 5) last
 place w op f None small r e within is = tt
-place w op (R f) (Some x) small r e within is = omega arith
-place w op (I f) (Some x) small r e within is = omega arith
-place w op (IShamt f) (Some x) small r e within is = omega arith
-place w op (U f) (Some x) small r e within is = omega arith
-place w op (J f) (Some x) small r e within is = omega arith
-place w op (S f) (Some x) small r e within is = absurd (omega (arith, within.0))
-place w op (B f) (Some x) small r e within is = absurd (omega (arith, within.0))
+place w op (R f) (Some x) small r e within is =
+    is ∙ five_bits w op f.rd (f.funct3 + f.rs1 * 8 + f.rs2 * 256 + f.funct7 * 8192) small r.0 (omega (arith, e))
+place w op (I f) (Some x) small r e within is =
+    is ∙ five_bits w op f.rd (f.funct3 + f.rs1 * 8 + floor_mod f.imm (2 ^ 12) * 256) small r.0 (omega (arith, e))
+place w op (IShamt f) (Some x) small r e within is =
+    is ∙ five_bits w op f.rd (f.funct3 + f.rs1 * 8 + f.shamt * 256 + f.funct7 * 8192) small r.0 (omega (arith, e))
+place w op (U f) (Some x) small r e within is =
+    is ∙ five_bits w op f.rd (immediate_bits f.imm 12 20) small r.0 e
+place w op (J f) (Some x) small r e within is =
+    is ∙ five_bits w op f.rd (immediate_bits f.imm 12 8 + immediate_bits f.imm 11 1 * 256
+    + immediate_bits f.imm 1 10 * 512 + immediate_bits f.imm 20 1 * 524288) small r.0 (omega (arith, e))
+place w op (S f) (Some x) small r e within is = absurd (omega (arith, within.0, is))
+place w op (B f) (Some x) small r e within is = absurd (omega (arith, within.0, is))
 
 -- an exception before the instruction
 cleared_writes : (w : ℕ) (s t : State) → t ≡ cleared s → IsOrNone (w / 2 ^ 7 % 2 ^ 5) t.last

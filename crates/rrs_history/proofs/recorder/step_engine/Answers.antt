@@ -2,11 +2,11 @@
 -- written is the one that the word names.
 use Rattle.std.proofs.Common.{◌≡◌, ℕ, [], Option, IfSome, slice_index, refl, sym, subst, ap, ◌∙◌}
 use Rattle.rrs_lib.specs.declared.instruction_executor.engine.Engine.{Engine}
-use Rattle.rrs_lib.specs.Engines.{engine_state}
+use Rattle.rrs_lib.specs.Engines.{engine_state, EngineKeeps}
 use Rattle.rrs_lib.specs.Machine.{State}
 use Rattle.rrs_lib.proofs.Making.{accesses_of_illegal, accesses_of_legal, exactly-fetch, exactly-step}
 use Rattle.rrs_lib.proofs.Rows.{one_row_at_most}
-use Rattle.rrs_lib.proofs.Engines.{gone_on_step}
+use Rattle.rrs_lib.proofs.Engines.{gone_on_step, EngineKeeps-trans}
 use Rattle.rrs_lib.proofs.Keeping.{Step-last}
 use Rattle.rrs_lib.proofs.Stepping.{illegal_step}
 use Rattle.rrs_history.proofs.Written.{step_writes, value_named, value_moved}
@@ -64,3 +64,16 @@ returns-in-None-clause-accesses g c =
     exactly-step _ _ one_row_at_most _ [] _ _ _ fetched.word.0 c.fetch.ensures.makes
     (accesses_of_illegal _ _ fetched.word.0 fetched.word.1 c.in-None.ensures.outside)
     (ap (λ (e : Engine g.row.M.Denot). e.mem.now) c.in-None.ensures.unchanged)
+
+pub returns-in-Err-clause-rest : goal.returns-in-Err-clause-rest
+returns-in-Err-clause-rest g c = c.fetch.ensures.rest
+
+pub returns-in-Some-clause-rest : goal.returns-in-Some-clause-rest
+returns-in-Some-clause-rest g c =
+    EngineKeeps-trans _ _ _ _ c.fetch.ensures.rest c.in-Some.ensures.decoded.holds.rest
+
+pub returns-in-None-clause-rest : goal.returns-in-None-clause-rest
+returns-in-None-clause-rest g c =
+    let layout = g.M.Memory.layout in
+    subst (λ (e : Engine g.row.M.Denot). EngineKeeps layout c.args.engine.now e) (sym c.in-None.ensures.unchanged)
+    c.fetch.ensures.rest
