@@ -42,7 +42,8 @@ impl Debugger for CountsWords {
         _input: &mut R,
         _output: &mut W,
     ) -> Result<Ending, Refusal> {
-        Ok(Ending::Exit(words.len() as u32))
+        let status = u32::try_from(words.len()).unwrap_or(u32::MAX);
+        Ok(Ending::Exit(status))
     }
 }
 
