@@ -7,15 +7,15 @@ use Rattle.rrs_asm.specs.Source.{is_empty}
 use Rattle.rrs_asm.specs.Sections.{end_of, AreBehind, ArePlaced, flat_behind, laid_flat, with_bytes, AreBytesFrom, IsImage}
 
 -- what sections add behind bytes, and where
-abbrev Rest : ℕ → List ℕ → List Section → Type 0
+abbrev Rest : {A : Type 0} → ℕ → List ℕ → List (Section A) → Type 0
 Rest base before others =
     (rest : List ℕ) × AreBytesFrom (base + length before) (with_bytes others) rest × (flat_behind base before others ≡ before ++ rest)
 
 -- bytes behind zeros up to an address
-abbrev padded : ℕ → List ℕ → Section → List ℕ
+abbrev padded : {A : Type 0} → ℕ → List ℕ → Section A → List ℕ
 padded base before s = before ++ (replicate (s.address - base - length before) 0 ++ s.made.bytes.items)
 
-padded-end : (base : ℕ) (before : List ℕ) (s : Section) → base + length before ≤ s.address → base + length (padded base before s) ≡ end_of s
+padded-end : {A : Type 0} (base : ℕ) (before : List ℕ) (s : Section A) → base + length before ≤ s.address → base + length (padded base before s) ≡ end_of s
 padded-end base before s fits =
     let gap : ℕ = s.address - base - length before in
     let own : List ℕ = s.made.bytes.items in
@@ -24,10 +24,10 @@ padded-end base before s fits =
     length-append before (replicate gap 0 ++ own) ∙ ap (λ n. length before + n) behind in
     omega (arith, fits, whole)
 
-skipped : (base : ℕ) (before : List ℕ) (s : Section) (others : List Section) → is_empty s.made.bytes.items ≡ true → Rest base before others → Rest base before (s ∷ others)
+skipped : {A : Type 0} (base : ℕ) (before : List ℕ) (s : Section A) (others : List (Section A)) → is_empty s.made.bytes.items ≡ true → Rest base before others → Rest base before (s ∷ others)
 skipped base before s others none (rest, are, same) = (rest, rw none are, rw none same)
 
-taken : (base : ℕ) (before : List ℕ) (s : Section) (others : List Section) → is_empty s.made.bytes.items ≡ false → base + length before ≤ s.address
+taken : {A : Type 0} (base : ℕ) (before : List ℕ) (s : Section A) (others : List (Section A)) → is_empty s.made.bytes.items ≡ false → base + length before ≤ s.address
     → Rest base (padded base before s) others → Rest base before (s ∷ others)
 taken base before s others some fits (rest, are, same) =
     let gap : ℕ = s.address - base - length before in
@@ -38,26 +38,26 @@ taken base before s others some fits (rest, are, same) =
       rw some (same ∙ append_assoc before (replicate gap 0 ++ own) rest ∙ ap (λ xs. before ++ xs) (append_assoc (replicate gap 0) own rest)),
     )
 
-choose : (base : ℕ) (before : List ℕ) (s : Section) (others : List Section) (t : Bool) → is_empty s.made.bytes.items ≡ t → base + length before ≤ s.address
+choose : {A : Type 0} (base : ℕ) (before : List ℕ) (s : Section A) (others : List (Section A)) (t : Bool) → is_empty s.made.bytes.items ≡ t → base + length before ≤ s.address
     → ((bytes : List ℕ) → base + length bytes ≤ end_of s → Rest base bytes others) → Rest base before (s ∷ others)
 choose base before s others true none fits next = skipped base before s others none (next before (omega (arith, fits)))
 choose base before s others false some fits next =
     taken base before s others some fits (next (padded base before s) (omega (arith, padded-end base before s fits)))
 
-rest-of : (base : ℕ) (layout : Layout) (p : Section) (before : List ℕ) (others : List Section) → base + length before ≤ end_of p → AreBehind layout p others → Rest base before others
+rest-of : {A : Type 0} (base : ℕ) (layout : Layout) (p : Section A) (before : List ℕ) (others : List (Section A)) → base + length before ≤ end_of p → AreBehind layout p others → Rest base before others
 rest-of base layout p before [] fits behind = ([], refl, sym (append-nil before))
 rest-of base layout p before (s ∷ others) fits (is, more) =
     let above : end_of p ≤ s.address = is.behind in
     choose base before s others (is_empty s.made.bytes.items) refl (omega (arith, fits, above)) (λ bytes ends. rest-of base layout s bytes others ends more)
 
-image-of-rest : (base : ℕ) (sections : List Section) → Rest base [] sections → IsImage base sections (laid_flat base sections)
+image-of-rest : {A : Type 0} (base : ℕ) (sections : List (Section A)) → Rest base [] sections → IsImage base sections (laid_flat base sections)
 image-of-rest base sections (rest, are, same) =
     let P : List ℕ → Type 0 = λ bytes. AreBytesFrom base (with_bytes sections) bytes in
     let Q : ℕ → Type 0 = λ n. AreBytesFrom n (with_bytes sections) rest in
     subst P (sym same) (subst Q (omega arith) are)
 
 -- their bytes one behind the other are those of each at its address
-pub is-image : (layout : Layout) (base : ℕ) (sections : List Section) → layout.text_start ≡ base → ArePlaced layout sections → IsImage base sections (laid_flat base sections)
+pub is-image : {A : Type 0} (layout : Layout) (base : ℕ) (sections : List (Section A)) → layout.text_start ≡ base → ArePlaced layout sections → IsImage base sections (laid_flat base sections)
 is-image layout base [] text placed = refl
 is-image layout base (s ∷ others) text (first, more) =
     image-of-rest base (s ∷ others)

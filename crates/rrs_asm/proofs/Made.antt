@@ -25,10 +25,10 @@ use Rattle.rrs_asm.specs.Forms.{skipped, IsNoSection, IsNew, IsSectionRead, Grow
 label-at : (a b line : ℕ) (name : List ℕ) (l : Label) → a ≡ b → IsLabelAt a line name l → IsLabelAt b line name l
 label-at a b line name l same at = let P : ℕ → Type 0 = λ n. IsLabelAt n line name l in subst P same at
 
-placed-at : (a b line : ℕ) (name : List ℕ) (p : Placed) (own : List ℕ) → a ≡ b → IsPlacedAt a line name p own → IsPlacedAt b line name p own
+placed-at : {A : Type 0} (a b line : ℕ) (name : List ℕ) (p : Placed A) (own : List ℕ) → a ≡ b → IsPlacedAt a line name p own → IsPlacedAt b line name p own
 placed-at a b line name p own same at = let P : ℕ → Type 0 = λ n. IsPlacedAt n line name p own in subst P same at
 
-pub IsMade-label : (base : ℕ) (items : List Item) (labels : List Label) (placed : List Placed) (bytes : List ℕ) (line : ℕ) (name : List ℕ) (l : Label)
+pub IsMade-label : {A : Type 0} (base : ℕ) (items : List Item) (labels : List Label) (placed : List (Placed A)) (bytes : List ℕ) (line : ℕ) (name : List ℕ) (l : Label)
     → IsMade base items labels placed bytes → IsLabelAt (base + length bytes) line name l
     → IsMade base (items ++ Item.Label line name ∷ []) (labels ++ l ∷ []) placed bytes
 IsMade-label base [] labels placed bytes line name l (none, nothing, empty) label =
@@ -42,7 +42,7 @@ IsMade-label base (Item.Common own_line directive symbol ∷ items) labels place
 IsMade-label base (Item.Laid own_line own_name ∷ items) labels placed bytes line name l (p, others, own, rest, at, made, all, whole) label =
     (p, others, own, rest, at, IsMade-label (base + length own) items labels others rest line name l made (label-at _ _ line name l (grind (arith, common_steps)) label), all, whole)
 
-pub IsMade-laid : (base : ℕ) (items : List Item) (labels : List Label) (placed : List Placed) (bytes : List ℕ) (line : ℕ) (name : List ℕ) (p : Placed) (own : List ℕ)
+pub IsMade-laid : {A : Type 0} (base : ℕ) (items : List Item) (labels : List Label) (placed : List (Placed A)) (bytes : List ℕ) (line : ℕ) (name : List ℕ) (p : Placed A) (own : List ℕ)
     → IsMade base items labels placed bytes → IsPlacedAt (base + length bytes) line name p own
     → IsMade base (items ++ Item.Laid line name ∷ []) labels (placed ++ p ∷ []) (bytes ++ own)
 IsMade-laid base [] labels placed bytes line name p own (none, nothing, empty) at =
@@ -65,7 +65,7 @@ IsMade-laid base (Item.Laid own_line own_name ∷ items) labels placed bytes lin
 )
 
 -- what is made stands one behind the other
-pub laid-out : (base : ℕ) (items : List Item) (labels : List Label) (placed : List Placed) (bytes : List ℕ) → IsMade base items labels placed bytes → LaysOut base placed bytes
+pub laid-out : {A : Type 0} (base : ℕ) (items : List Item) (labels : List Label) (placed : List (Placed A)) (bytes : List ℕ) → IsMade base items labels placed bytes → LaysOut base placed bytes
 laid-out base [] labels placed bytes (none, nothing, empty) = rw nothing empty
 laid-out base (Item.Label line name ∷ items) labels placed bytes (first, others, label, made, all) = laid-out base items others placed bytes made
 laid-out base (Item.Section name ∷ items) labels placed bytes made = laid-out base items labels placed bytes made
@@ -76,7 +76,7 @@ laid-out base (Item.Laid line name ∷ items) labels placed bytes (p, others, ow
 -- ---- sections
 
 -- a label
-pub Grows-label : (line : ℕ) (name : List ℕ) (l : Label) (old new : Section)
+pub Grows-label : {A : Type 0} (line : ℕ) (name : List ℕ) (l : Label) (old new : Section A)
     → new.name ≡ old.name → new.address ≡ old.address → new.size ≡ old.size
     → new.made.labels.items ≡ old.made.labels.items ++ l ∷ []
     → new.made.placed.items ≡ old.made.placed.items → new.made.bytes.items ≡ old.made.bytes.items
@@ -92,7 +92,7 @@ Grows-label line name l old new named start size labels placed bytes at_line own
 }
 
 -- a statement, of so many bytes
-pub Grows-laid : (line count : ℕ) (name : List ℕ) (statement : Statement) (old new : Section)
+pub Grows-laid : {A : Type 0} (line count : ℕ) (name : List ℕ) (statement : Statement A) (old new : Section A)
     → IsNamed name statement → ((own : List ℕ) → AreBytes statement own → count ≡ length own)
     → new.name ≡ old.name → new.address ≡ old.address
     → AddsPlaced old.address line statement old.made.placed.items new.made.placed.items old.made.bytes.items new.made.bytes.items
@@ -101,7 +101,7 @@ pub Grows-laid : (line count : ℕ) (name : List ℕ) (statement : Statement) (o
 Grows-laid line count name statement old new named counts same start adds labels size = record {
   name = same;
   reads = λ items read.
-      let Bytes : Statement → Type 0 = λ s. AreBytes s adds.own in
+      let Bytes : Statement _ → Type 0 = λ s. AreBytes s adds.own in
       let length_own : count ≡ length adds.own = counts adds.own adds.bytes in
       let same_size : old.size ≡ length old.made.bytes.items = read.size in
       let behind : new.made.bytes.items ≡ old.made.bytes.items ++ adds.own = adds.bytes_behind in
@@ -113,7 +113,7 @@ Grows-laid line count name statement old new named counts same start adds labels
 }
 
 -- some items more, and then others
-pub Grows-then : (a b : List Item) (x y z : Section) → Grows a x y → Grows b y z → Grows (a ++ b) x z
+pub Grows-then : {A : Type 0} (a b : List Item) (x y z : Section A) → Grows a x y → Grows b y z → Grows (a ++ b) x z
 Grows-then a b x y z first second = record {
   name = second.name ∙ first.name;
   reads = λ items read.
@@ -225,7 +225,7 @@ found-common names (Item.Section own ∷ items) line directive symbol is (first,
 -- ---- all sections
 
 -- of the same items, the same were read
-pub AreReadFrom-same : (names : List (List ℕ)) (k : ℕ) (items more : List Item) (sections : List Section)
+pub AreReadFrom-same : {A : Type 0} (names : List (List ℕ)) (k : ℕ) (items more : List Item) (sections : List (Section A))
     → ((n : ℕ) → k ≤ n → n < k + length sections → in_section names n (first_open names) more ≡ in_section names n (first_open names) items)
     → AreReadFrom names k items sections → AreReadFrom names k more sections
 AreReadFrom-same names k items more [] same read = tt
@@ -236,7 +236,7 @@ AreReadFrom-same names k items more (s ∷ sections) same (first, read) =
     )
 
 -- one of the sections grew
-pub AreReadFrom-at : (names : List (List ℕ)) (k i : ℕ) (items more own_items : List Item) (sections : List Section) (d new : Section)
+pub AreReadFrom-at : {A : Type 0} (names : List (List ℕ)) (k i : ℕ) (items more own_items : List Item) (sections : List (Section A)) (d new : Section A)
     → ((n : ℕ) → n ≢ k + i → in_section names n (first_open names) more ≡ in_section names n (first_open names) items)
     → ((n : ℕ) → n ≡ k + i → in_section names n (first_open names) more ≡ in_section names n (first_open names) items ++ own_items)
     → i < length sections → Grows own_items (get_or sections i d) new
@@ -255,7 +255,7 @@ AreReadFrom-at names k (suc i) items more own_items (s ∷ sections) d new same 
           (λ n e. own n (omega arith)) (omega arith) grows read,
     )
 
-names-at : (i : ℕ) (sections : List Section) (d new : Section) → i < length sections → new.name ≡ (get_or sections i d).name → names_of (set sections i new) ≡ names_of sections
+names-at : {A : Type 0} (i : ℕ) (sections : List (Section A)) (d new : Section A) → i < length sections → new.name ≡ (get_or sections i d).name → names_of (set sections i new) ≡ names_of sections
 names-at i [] d new below same = absurd (omega arith)
 names-at zero (s ∷ sections) d new below same = rw same refl
 names-at (suc i) (s ∷ sections) d new below same = rw (names-at i sections d new (omega arith) same) refl
@@ -285,37 +285,37 @@ not-true true never = absurd (never refl)
 not-true false never = refl
 
 -- it is the next one
-pub index-hit : (name : List ℕ) (sections : List Section) (i : ℕ) (d : Section) → i < length sections → (get_or sections i d).name.now ≡ name → index_of name (names_of (drop i sections)) ≡ 0
+pub index-hit : {A : Type 0} (name : List ℕ) (sections : List (Section A)) (i : ℕ) (d : Section A) → i < length sections → (get_or sections i d).name.now ≡ name → index_of name (names_of (drop i sections)) ≡ 0
 index-hit name sections i d below same =
     let cut : drop i sections ≡ get_or sections i d ∷ drop (i + 1) sections = rw add-one (drop-cons sections i d below) in
     let is : bytes_eq (get_or sections i d).name.now name ≡ true = (bytes_eq-Decides (get_or sections i d).name.now name).1 same in
     rw (cut, is) refl
 
 -- it is not the next one
-pub index-step : (name : List ℕ) (sections : List Section) (i : ℕ) (d : Section) → i < length sections → (get_or sections i d).name.now ≢ name → index_of name (names_of (drop i sections)) ≡ index_of name (names_of (drop (i + 1) sections)) + 1
+pub index-step : {A : Type 0} (name : List ℕ) (sections : List (Section A)) (i : ℕ) (d : Section A) → i < length sections → (get_or sections i d).name.now ≢ name → index_of name (names_of (drop i sections)) ≡ index_of name (names_of (drop (i + 1) sections)) + 1
 index-step name sections i d below other =
     let cut : drop i sections ≡ get_or sections i d ∷ drop (i + 1) sections = rw add-one (drop-cons sections i d below) in
     let is : bytes_eq (get_or sections i d).name.now name ≡ false = not-true _ (λ e. other ((bytes_eq-Decides (get_or sections i d).name.now name).0 e)) in
     rw (cut, is) refl
 
-pub names-length : (sections : List Section) → length (names_of sections) ≡ length sections
+pub names-length : {A : Type 0} (sections : List (Section A)) → length (names_of sections) ≡ length sections
 names-length [] = refl
 names-length (s ∷ sections) = ap suc (names-length sections)
 
 -- ---- readings
 
 -- nothing is read
-pub ReadsOn-nothing : (r : Reading) → ReadsOn [] r r
+pub ReadsOn-nothing : {A : Type 0} (r : Reading A) → ReadsOn [] r r
 ReadsOn-nothing r names items read = let P : List Item → Type 0 = λ all. IsRead names all r in subst P (sym (append-nil items)) read
 
 -- one reads on, and then another
-pub ReadsOn-then : (a b : List Item) (x y z : Reading) → ReadsOn a x y → ReadsOn b y z → ReadsOn (a ++ b) x z
+pub ReadsOn-then : {A : Type 0} (a b : List Item) (x y z : Reading A) → ReadsOn a x y → ReadsOn b y z → ReadsOn (a ++ b) x z
 ReadsOn-then a b x y z first second names items read =
     let P : List Item → Type 0 = λ all. IsRead names all z in
     subst P (append_assoc items a b) (second names (items ++ a) (first names items read))
 
 -- the open section grew
-pub ReadsOn-at : (item : Item) (old new : Reading) (d s : Section) → IsNoSection item
+pub ReadsOn-at : {A : Type 0} (item : Item) (old new : Reading A) (d s : Section A) → IsNoSection item
     → old.current < length old.sections.items → Grows (item ∷ []) (get_or old.sections.items old.current d) s
     → new.sections.items ≡ set old.sections.items old.current s → new.current ≡ old.current
     → ReadsOn (item ∷ []) old new
@@ -348,7 +348,7 @@ common-other names k items line directive symbol is =
     ∙ append-nil (in_section names k (first_open names) items)
 
 -- `COMMON` grew
-pub ReadsOn-common : (line i : ℕ) (directive symbol : List ℕ) (old new : Reading) (d s : Section)
+pub ReadsOn-common : {A : Type 0} (line i : ℕ) (directive symbol : List ℕ) (old new : Reading A) (d s : Section A)
     → i ≡ common (names_of old.sections.items) → i < length old.sections.items → Grows (in_common line directive symbol) (get_or old.sections.items i d) s
     → new.sections.items ≡ set old.sections.items i s → new.current ≡ old.current
     → ReadsOn (Item.Common line directive symbol ∷ []) old new
@@ -366,7 +366,7 @@ ReadsOn-common line i directive symbol old new d s at below grows sections curre
     }
 
 -- no section is open
-pub ReadsOn-skipped : (item : Item) (old : Reading) → IsNoSection item → length old.sections.items ≤ old.current → ReadsOn (item ∷ []) old old
+pub ReadsOn-skipped : {A : Type 0} (item : Item) (old : Reading A) → IsNoSection item → length old.sections.items ≤ old.current → ReadsOn (item ∷ []) old old
 ReadsOn-skipped item old plain above names items read = record {
   named = read.named;
   current = read.current ∙ sym (open-behind-more names (first_open names) items item plain);
@@ -376,7 +376,7 @@ ReadsOn-skipped item old plain above names items read = record {
 }
 
 -- a section is opened
-pub ReadsOn-opened : (name : List ℕ) (old new : Reading)
+pub ReadsOn-opened : {A : Type 0} (name : List ℕ) (old new : Reading A)
     → new.sections.items ≡ old.sections.items → new.current ≡ index_of name (names_of old.sections.items)
     → (is_laid_out name ≡ true → index_of name (names_of old.sections.items) < length (names_of old.sections.items))
     → ReadsOn (Item.Section name ∷ []) old new
@@ -393,7 +393,7 @@ ReadsOn-opened name old new sections current is names items read =
 -- ---- what is left
 
 -- a part of a line, and what is left of the line
-pub ReadsOn-part : (number : ℕ) (text : List ℕ) (part : Part) (others : Option (Bor (List ℕ))) (x y z : Reading)
+pub ReadsOn-part : {A : Type 0} (number : ℕ) (text : List ℕ) (part : Part) (others : Option (Bor (List ℕ))) (x y z : Reading A)
     → parts text ≡ part ∷ option_map_or (λ rest. parts rest.now) others []
     → ReadsOn (items_in number part) x y → ReadsOn (left_in_line number others) y z
     → ReadsOn (items_of_parts number (parts text)) x z
@@ -401,7 +401,7 @@ ReadsOn-part number text part None x y z cut first second = rw cut (ReadsOn-then
 ReadsOn-part number text part (Some rest) x y z cut first second = rw cut (ReadsOn-then (items_in number part) _ x y z first second)
 
 -- the same of what was read of the part
-pub ReadsOn-read : (number : ℕ) (text : List ℕ) (part : Part) (others : Option (Bor (List ℕ))) (said : List Item) (x y z : Reading)
+pub ReadsOn-read : {A : Type 0} (number : ℕ) (text : List ℕ) (part : Part) (others : Option (Bor (List ℕ))) (said : List Item) (x y z : Reading A)
     → parts text ≡ part ∷ option_map_or (λ rest. parts rest.now) others [] → said ≡ items_in number part
     → ReadsOn said x y → ReadsOn (left_in_line number others) y z
     → ReadsOn (items_of_parts number (parts text)) x z
@@ -410,7 +410,7 @@ ReadsOn-read number text part others said x y z cut same first second =
     ReadsOn-part number text part others x y z cut (subst P same first) second
 
 -- a line of a source, and what is left of the source
-pub ReadsOn-line : (number : ℕ) (text line : List ℕ) (others : Option (Bor (List ℕ))) (x y z : Reading)
+pub ReadsOn-line : {A : Type 0} (number : ℕ) (text line : List ℕ) (others : Option (Bor (List ℕ))) (x y z : Reading A)
     → lines text ≡ line ∷ option_map_or (λ rest. lines rest.now) others []
     → ReadsOn (items_of_parts number (parts line)) x y → ReadsOn (left_in_source (number + 1) others) y z
     → ReadsOn (items_from number (lines text)) x z
@@ -425,7 +425,7 @@ on-ok (Err e) p follows = tt
 
 -- ---- what is placed
 
-pub adds-placed : (base number : ℕ) (s : Statement) (p : Placed) (old new : List Placed) (before after : List ℕ)
+pub adds-placed : {A : Type 0} (base number : ℕ) (s : Statement A) (p : Placed A) (old new : List (Placed A)) (before after : List ℕ)
     → new ≡ old ++ p ∷ [] → p.line ≡ number → p.address ≡ base + length before → p.statement ≡ s
     → ((own : List ℕ) × AreBytes s own × (after ≡ before ++ own)) → AddsPlaced base number s old new before after
 adds-placed base number s p old new before after behind line address statement (own, bytes, whole) =
@@ -434,7 +434,7 @@ adds-placed base number s p old new before after behind line address statement (
 -- ---- the loops
 
 -- nothing of new sections was read
-AreReadFrom-new : (names : List (List ℕ)) (k : ℕ) (sections : List Section) → All IsNew sections → AreReadFrom names k [] sections
+AreReadFrom-new : {A : Type 0} (names : List (List ℕ)) (k : ℕ) (sections : List (Section A)) → All IsNew sections → AreReadFrom names k [] sections
 AreReadFrom-new names k [] all = tt
 AreReadFrom-new names k (s ∷ sections) all =
     let new : IsNew s = All-head IsNew s sections all in (
@@ -442,32 +442,32 @@ AreReadFrom-new names k (s ∷ sections) all =
       AreReadFrom-new names (k + 1) sections (All-tail IsNew s sections all),
     )
 
-pub IsRead-nothing : (r : Reading) → All IsNew r.sections.items → r.current ≡ first_open (names_of r.sections.items) → IsRead (names_of r.sections.items) [] r
+pub IsRead-nothing : {A : Type 0} (r : Reading A) → All IsNew r.sections.items → r.current ≡ first_open (names_of r.sections.items) → IsRead (names_of r.sections.items) [] r
 IsRead-nothing r all current = record { named = refl; current = current; read = AreReadFrom-new _ 0 r.sections.items all; found = tt }
 
 -- what is made of each section
-AreMadeFrom-read : (names : List (List ℕ)) (k : ℕ) (items : List Item) (sections : List Section) → AreReadFrom names k items sections → AreMadeFrom names k items sections
+AreMadeFrom-read : {A : Type 0} (names : List (List ℕ)) (k : ℕ) (items : List Item) (sections : List (Section A)) → AreReadFrom names k items sections → AreMadeFrom names k items sections
 AreMadeFrom-read names k items [] read = tt
 AreMadeFrom-read names k items (s ∷ sections) (first, read) = (first.made, AreMadeFrom-read names (k + 1) items sections read)
 
-pub are-made : (names : List (List ℕ)) (items : List Item) (r : Reading) → IsRead names items r → AreMade items r.sections.items
+pub are-made : {A : Type 0} (names : List (List ℕ)) (items : List Item) (r : Reading A) → IsRead names items r → AreMade items r.sections.items
 are-made names items r read =
     let P : List (List ℕ) → Type 0 = λ own. AreMadeFrom own 0 items r.sections.items in
     subst P (sym read.named) (AreMadeFrom-read names 0 items r.sections.items read.read)
 
-pub all-found : (names : List (List ℕ)) (items : List Item) (r : Reading) → IsRead names items r → AllFound (names_of r.sections.items) items
+pub all-found : {A : Type 0} (names : List (List ℕ)) (items : List Item) (r : Reading A) → IsRead names items r → AllFound (names_of r.sections.items) items
 all-found names items r read =
     let P : List (List ℕ) → Type 0 = λ own. AllFound own items in
     subst P (sym read.named) read.found
 
-are-laid-out-from : (names : List (List ℕ)) (k : ℕ) (items : List Item) (sections : List Section) → AreReadFrom names k items sections → AreLaidOut sections
+are-laid-out-from : {A : Type 0} (names : List (List ℕ)) (k : ℕ) (items : List Item) (sections : List (Section A)) → AreReadFrom names k items sections → AreLaidOut sections
 are-laid-out-from names k items [] read = tt
 are-laid-out-from names k items (s ∷ sections) (first, read) = (
   laid-out s.address (in_section names k (first_open names) items) _ _ _ first.made,
   are-laid-out-from names (k + 1) items sections read,
 )
 
-pub are-laid-out : (names : List (List ℕ)) (items : List Item) (r : Reading) → IsRead names items r → AreLaidOut r.sections.items
+pub are-laid-out : {A : Type 0} (names : List (List ℕ)) (items : List Item) (r : Reading A) → IsRead names items r → AreLaidOut r.sections.items
 are-laid-out names items r read = are-laid-out-from names 0 items r.sections.items read.read
 
 -- a label or a statement opens no section

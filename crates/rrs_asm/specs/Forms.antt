@@ -97,7 +97,7 @@ IsRowForm name _ = Unit {0}
 abbrev pub skipped : ℕ → List ℕ → Bool → Item
 skipped line name is_label = if is_label then Item.Label line name else Item.Laid line name
 
-abbrev pub items_of_read : ℕ → Read → List Item
+abbrev pub items_of_read : {A : Type 0} → ℕ → Read A → List Item
 items_of_read line (Read.Label name) = Item.Label line name.now ∷ []
 items_of_read line (Read.Laid name statement notes) = Item.Laid line name.now ∷ []
 items_of_read line (Read.Section name kind) = Item.Section name.now ∷ []
@@ -106,7 +106,7 @@ items_of_read line (Read.Skipped name is_label) = skipped line name.now is_label
 items_of_read line _ = []
 
 -- a statement is one of its name
-abbrev pub HasItsName : Read → Type 0
+abbrev pub HasItsName : {A : Type 0} → Read A → Type 0
 HasItsName (Read.Laid name statement notes) = IsNamed name.now statement
 HasItsName (Read.Common name symbol common) = is_one_of fill_names name.now ≡ true
 HasItsName _ = Unit {0}
@@ -120,25 +120,25 @@ IsNoSection _ = Unit {0}
 -- ---- sections
 
 -- nothing is made of a section yet
-pub record IsNew (section : Section) : Type 0 where
+pub record IsNew {A : Type 0} (section : Section A) : Type 0 where
   pub labels : section.made.labels.items ≡ []
   pub placed : section.made.placed.items ≡ []
   pub bytes : section.made.bytes.items ≡ []
   pub size : section.size ≡ 0
 
 -- these items were read in a section
-pub record IsSectionRead (items : List Item) (section : Section) : Type 0 where
+pub record IsSectionRead {A : Type 0} (items : List Item) (section : Section A) : Type 0 where
   pub made :
       IsMade section.address items section.made.labels.items section.made.placed.items section.made.bytes.items
   pub size : section.size ≡ length section.made.bytes.items
 
 -- these items more were read in a section
-pub record Grows (more : List Item) (old new : Section) : Type 0 where
+pub record Grows {A : Type 0} (more : List Item) (old new : Section A) : Type 0 where
   pub name : new.name ≡ old.name
   pub reads : (items : List Item) → IsSectionRead items old → IsSectionRead (items ++ more) new
 
 -- of these items, those in each section were read in it, from the one with this number on
-abbrev pub AreReadFrom : List (List ℕ) → ℕ → List Item → List Section → Type 0
+abbrev pub AreReadFrom : {A : Type 0} → List (List ℕ) → ℕ → List Item → List (Section A) → Type 0
 AreReadFrom names number items [] = Unit {0}
 AreReadFrom names number items (s ∷ others) =
     IsSectionRead (in_section names number (first_open names) items) s
@@ -147,14 +147,14 @@ AreReadFrom names number items (s ∷ others) =
 -- ---- readings
 
 -- these items were read
-pub record IsRead (names : List (List ℕ)) (items : List Item) (reading : Reading) : Type 0 where
+pub record IsRead {A : Type 0} (names : List (List ℕ)) (items : List Item) (reading : Reading A) : Type 0 where
   pub named : names_of reading.sections.items ≡ names
   pub current : reading.current ≡ open_behind names (first_open names) items
   pub read : AreReadFrom names 0 items reading.sections.items
   pub found : AllFound names items
 
 -- these were read behind all those before
-abbrev pub ReadsOn : List Item → Reading → Reading → Type 0
+abbrev pub ReadsOn : {A : Type 0} → List Item → Reading A → Reading A → Type 0
 ReadsOn more old new =
     (names : List (List ℕ)) (items : List Item) → IsRead names items old
     → IsRead names (items ++ more) new

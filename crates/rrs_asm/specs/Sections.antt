@@ -12,7 +12,7 @@ use Rattle.rrs_asm.specs.Source.{Item, is_empty, is_laid_out}
 use Rattle.rrs_asm.specs.Statements.{IsMade, LaysOut}
 
 -- the names of sections
-abbrev pub names_of : List Section → List (List ℕ)
+abbrev pub names_of : {A : Type 0} → List (Section A) → List (List ℕ)
 names_of [] = []
 names_of (s ∷ others) = s.name.now ∷ names_of others
 
@@ -66,7 +66,7 @@ abbrev pub first_open : List (List ℕ) → ℕ
 first_open names = index_of (codes ".text") names
 
 -- what is made of each section, from the one with this number on, is made of the items in it
-abbrev pub AreMadeFrom : List (List ℕ) → ℕ → List Item → List Section → Type 0
+abbrev pub AreMadeFrom : {A : Type 0} → List (List ℕ) → ℕ → List Item → List (Section A) → Type 0
 AreMadeFrom names number items [] = Unit {0}
 AreMadeFrom names number items (s ∷ others) =
     IsMade s.address (in_section names number (first_open names) items) s.made.labels.items
@@ -74,11 +74,11 @@ AreMadeFrom names number items (s ∷ others) =
     × AreMadeFrom names (number + 1) items others
 
 -- what is made of each section is made of the items in it
-abbrev pub AreMade : List Item → List Section → Type 0
+abbrev pub AreMade : {A : Type 0} → List Item → List (Section A) → Type 0
 AreMade items sections = AreMadeFrom (names_of sections) 0 items sections
 
 -- the statements of each section stand one behind the other
-abbrev pub AreLaidOut : List Section → Type 0
+abbrev pub AreLaidOut : {A : Type 0} → List (Section A) → Type 0
 AreLaidOut [] = Unit {0}
 AreLaidOut (s ∷ others) =
     LaysOut s.address s.made.placed.items s.made.bytes.items × AreLaidOut others
@@ -127,21 +127,21 @@ start_behind layout before before_alignment end kind alignment =
     (if is_data kind && not (is_data before) then data_address layout behind else behind)
     alignment
 
-abbrev pub end_of : Section → ℕ
+abbrev pub end_of : {A : Type 0} → Section A → ℕ
 end_of s = s.address + length s.made.bytes.items
 
 -- a section lies behind another one, where the layout says
-pub record IsBehind (layout : Layout) (before s : Section) : Type 0 where
+pub record IsBehind {A : Type 0} (layout : Layout) (before s : Section A) : Type 0 where
   pub start :
       s.address ≡ start_behind layout before.kind before.alignment (end_of before) s.kind s.alignment
   pub behind : end_of before ≤ s.address
 
-abbrev pub AreBehind : Layout → Section → List Section → Type 0
+abbrev pub AreBehind : {A : Type 0} → Layout → Section A → List (Section A) → Type 0
 AreBehind layout before [] = Unit {0}
 AreBehind layout before (s ∷ others) = IsBehind layout before s × AreBehind layout s others
 
 -- the first section lies at the address that the layout says, and each other behind the one before
-abbrev pub ArePlaced : Layout → List Section → Type 0
+abbrev pub ArePlaced : {A : Type 0} → Layout → List (Section A) → Type 0
 ArePlaced layout [] = Unit {0}
 ArePlaced layout (s ∷ others) = (s.address ≡ layout.text_start) × AreBehind layout s others
 
@@ -149,40 +149,40 @@ ArePlaced layout (s ∷ others) = (s.address ≡ layout.text_start) × AreBehind
 
 -- the bytes of a section behind others, the first of which are at an address: behind zeros up to its
 -- own
-abbrev pub with_section : ℕ → List ℕ → Section → List ℕ
+abbrev pub with_section : {A : Type 0} → ℕ → List ℕ → Section A → List ℕ
 with_section base before s =
     if is_empty s.made.bytes.items then before
     else before ++ (replicate (s.address - base - length before) 0 ++ s.made.bytes.items)
 
-abbrev pub flat_behind : ℕ → List ℕ → List Section → List ℕ
+abbrev pub flat_behind : {A : Type 0} → ℕ → List ℕ → List (Section A) → List ℕ
 flat_behind base before [] = before
 flat_behind base before (s ∷ others) = flat_behind base (with_section base before s) others
 
 -- the bytes of sections from an address on, with zeros between them; an empty section has none
-abbrev pub laid_flat : ℕ → List Section → List ℕ
+abbrev pub laid_flat : {A : Type 0} → ℕ → List (Section A) → List ℕ
 laid_flat base sections = flat_behind base [] sections
 
 -- the sections that have bytes
-abbrev pub with_bytes : List Section → List Section
+abbrev pub with_bytes : {A : Type 0} → List (Section A) → List (Section A)
 with_bytes [] = []
 with_bytes (s ∷ others) =
     if is_empty s.made.bytes.items then with_bytes others else s ∷ with_bytes others
 
 -- The bytes from an address on are those of these sections, each at its address, with zeros before
 -- it, and nothing else.
-abbrev pub AreBytesFrom : ℕ → List Section → List ℕ → Type 0
+abbrev pub AreBytesFrom : {A : Type 0} → ℕ → List (Section A) → List ℕ → Type 0
 AreBytesFrom address [] bytes = bytes ≡ []
 AreBytesFrom address (s ∷ others) bytes =
     (gap : ℕ) × (rest : List ℕ) × (address + gap ≡ s.address) × AreBytesFrom (end_of s) others rest
     × (bytes ≡ replicate gap 0 ++ (s.made.bytes.items ++ rest))
 
-abbrev pub IsImage : ℕ → List Section → List ℕ → Type 0
+abbrev pub IsImage : {A : Type 0} → ℕ → List (Section A) → List ℕ → Type 0
 IsImage address sections bytes = AreBytesFrom address (with_bytes sections) bytes
 
 -- ---- a whole source
 
 -- the sections are those of these items, and lie where the layout says
-pub record AreSectionsOf (layout : Layout) (items : List Item) (sections : List Section) : Type 0
+pub record AreSectionsOf {A : Type 0} (layout : Layout) (items : List Item) (sections : List (Section A)) : Type 0
   where
     pub made : AreMade items sections
     pub all_found : AllFound (names_of sections) (Item.Section (codes ".text") ∷ items)

@@ -20,7 +20,7 @@ use crate::sections::{
 };
 use crate::statements::Statement;
 use crate::symbols::{Known, Pass, Symbols};
-use std::alloc::Global;
+use std::alloc::{Allocator, Global};
 
 /// The most sections of a source.
 const MOST_SECTIONS: usize = 256;
@@ -49,6 +49,25 @@ pub fn assemble_source(
         (Item.Section (codes ".text") ∷ items_of source.now)) }
     ensures placed { IfOk result (λ program. ArePlaced layout program.sections.items) }
 {
+    assemble_source_in(alloc, source, layout)
+}
+
+/// Does what [assemble_source] does, with any allocator: in memory that a caller lends, say.
+///
+/// # Errors
+///
+/// `SourceFault::Errors`, each with its line and column, and `SourceFault::OutOfMemory`.
+pub fn assemble_source_in<A: Allocator + Copy>(
+    alloc: A,
+    source: &[u8],
+    layout: Layout,
+) -> Result<Program<'_, A>, SourceFault<A>>
+    ensures items { IfOk result (λ program. AreMade (items_of source.now) program.sections.items) }
+    ensures laid_out { IfOk result (λ program. AreLaidOut program.sections.items) }
+    ensures all_found { IfOk result (λ program. AllFound (names_of program.sections.items)
+        (Item.Section (codes ".text") ∷ items_of source.now)) }
+    ensures placed { IfOk result (λ program. ArePlaced layout program.sections.items) }
+{
     let mut symbols = Symbols::new(alloc);
     let sections = first_sections(alloc, layout)?;
     let (first, _) = read_source(alloc, source, &mut symbols, sections)?;
@@ -59,7 +78,7 @@ pub fn assemble_source(
     let sections = placed_again(alloc, &first.sections, layout)?;
     let (last, mut errors) = read_source(alloc, source, &mut symbols, sections)?;
     let is_settled = is_settled(&second.sections, &last.sections);
-    if errors.is_empty() && is_settled && are_placed(&last.sections, layout) {
+    if has_none(&errors) && is_settled && are_placed(&last.sections, layout) {
         return Ok(Program {
             sections: last.sections,
         });
@@ -70,12 +89,19 @@ pub fn assemble_source(
     Err(SourceFault::Errors(errors))
 }
 
+/// Whether there is no mistake.
+fn has_none<A: Allocator>(errors: &Vec<SourceError, A>) -> bool
+    ensures { result ≡ true → errors.now.items ≡ [] }
+{
+    errors.is_empty()
+}
+
 /// The sections, empty again, each at its address by the sizes that they have.
-fn placed_again<'a>(
-    alloc: Global,
-    sections: &[Section<'a>],
+fn placed_again<'a, A: Allocator + Copy>(
+    alloc: A,
+    sections: &[Section<'a, A>],
     layout: Layout,
-) -> Result<Vec<Section<'a>>, SourceFault>
+) -> Result<Vec<Section<'a, A>, A>, SourceFault<A>>
     ensures { IfOk result (λ placed. All IsNew placed.items) }
 {
     match laid_out(alloc, sections, layout) {
@@ -90,7 +116,7 @@ fn placed_again<'a>(
 }
 
 /// Whether each section has the same size as in another reading, and `.text` is one of them.
-fn is_settled(others: &[Section], sections: &[Section]) -> bool
+fn is_settled<A: Allocator + Copy>(others: &[Section<A>], sections: &[Section<A>]) -> bool
     ensures { result ≡ true → first_open (names_of sections.now) < length sections.now }
 {
     if section_named(sections, b".text") >= sections.len() {
@@ -112,16 +138,16 @@ const MOVED_END: SourceError = SourceError {
 
 /// How far a reading of the source has come.
 #[derive(Drop)]
-pub struct Reading<'a> {
+pub struct Reading<'a, A: Allocator = Global> {
     /// The sections, as far as they were read.
-    sections: Vec<Section<'a>>,
+    sections: Vec<Section<'a, A>, A>,
     /// Which of them is open. None of them: what follows is not laid out.
     current: usize,
     /// How many bytes all statements so far take.
     total: usize,
 }
 
-impl<'a> Reading<'a> {
+impl<'a, A: Allocator + Copy> Reading<'a, A> {
     /// Where the next statement stands.
     fn site(&self) -> Site {
         match self.sections.get(self.current) {
@@ -140,7 +166,7 @@ impl<'a> Reading<'a> {
 }
 
 /// Which of the sections has a name: as many as there are where none has it.
-fn section_named(sections: &[Section], name: &[u8]) -> usize
+fn section_named<A: Allocator + Copy>(sections: &[Section<A>], name: &[u8]) -> usize
     ensures { result ≡ index_of name.now (names_of sections.now) }
 {
     for (index, section) in sections.iter().enumerate() {
@@ -153,12 +179,12 @@ fn section_named(sections: &[Section], name: &[u8]) -> usize
 
 /// Reads all lines. Gives what was made of them, which is nothing before the last reading, and the
 /// mistakes.
-fn read_source<'a>(
-    alloc: Global,
+fn read_source<'a, A: Allocator + Copy>(
+    alloc: A,
     source: &'a [u8],
-    symbols: &mut Symbols<'a>,
-    sections: Vec<Section<'a>>,
-) -> Result<(Reading<'a>, Vec<SourceError>), SourceFault>
+    symbols: &mut Symbols<'a, A>,
+    sections: Vec<Section<'a, A>, A>,
+) -> Result<(Reading<'a, A>, Vec<SourceError, A>), SourceFault<A>>
     ensures { symbols.old.pass ≡ Pass.Last → All IsNew sections.entry.items
         → IfOk result (λ read. read.1.items ≡ []
         → IsRead (names_of sections.entry.items) (items_of source.now) read.0) }
@@ -190,7 +216,7 @@ fn read_source<'a>(
 
 /// Goes on behind a mistake: behind an instruction at a wrong address at a right one, so that not
 /// every instruction from there on is a mistake.
-fn recover(reading: &mut Reading, kind: SourceErrorKind) {
+fn recover<A: Allocator + Copy>(reading: &mut Reading<A>, kind: SourceErrorKind) {
     if kind == SourceErrorKind::Misplaced {
         if let Some(section) = reading.sections.get_mut(reading.current) {
             section.realign();
@@ -208,12 +234,12 @@ fn error_at(text: &[u8], line: usize, error: LineError) -> SourceError {
 }
 
 /// Reads the labels and the statements of a line.
-fn read_line<'a>(
-    alloc: Global,
+fn read_line<'a, A: Allocator + Copy>(
+    alloc: A,
     line: &'a [u8],
     number: usize,
-    symbols: &mut Symbols<'a>,
-    reading: &mut Reading<'a>,
+    symbols: &mut Symbols<'a, A>,
+    reading: &mut Reading<'a, A>,
 ) -> Result<(), Halt>
     ensures pass { symbols.new.pass ≡ symbols.old.pass }
     ensures items { OnOk result (symbols.old.pass ≡ Pass.Last
@@ -240,13 +266,13 @@ fn error_before(text: &[u8], behind: usize) -> LineError {
 }
 
 /// Reads a part of a line, with so many bytes of the line behind it.
-fn read_part<'a>(
-    alloc: Global,
+fn read_part<'a, A: Allocator + Copy>(
+    alloc: A,
     part: Part<'a>,
     behind: usize,
-    symbols: &Symbols<'a>,
+    symbols: &Symbols<'a, A>,
     site: Site,
-) -> Result<Read<'a>, Halt>
+) -> Result<Read<'a, A>, Halt>
     ensures items { (number : ℕ) → IfOk result (λ read.
         items_of_read number read ≡ items_in number (shown part.entry)) }
     ensures name { IfOk result HasItsName }
@@ -280,13 +306,13 @@ fn label_name(text: &[u8], behind: usize) -> Result<&[u8], LineError>
 }
 
 /// Reads a statement.
-fn read_statement<'a>(
-    alloc: Global,
+fn read_statement<'a, A: Allocator + Copy>(
+    alloc: A,
     text: &'a [u8],
     behind: usize,
-    symbols: &Symbols<'a>,
+    symbols: &Symbols<'a, A>,
     site: Site,
-) -> Result<Read<'a>, Halt>
+) -> Result<Read<'a, A>, Halt>
     ensures items { (number : ℕ) → IfOk result (λ read.
         items_of_read number read ≡ items_in_statement number text.now) }
     ensures name { IfOk result HasItsName }
@@ -312,11 +338,11 @@ fn read_statement<'a>(
 }
 
 /// Reads the value of a constant of this name.
-fn read_constant<'a>(
+fn read_constant<'a, A: Allocator + Copy>(
     name: &'a [u8],
     error: LineError,
-    line: &mut Line,
-) -> Result<Read<'a>, LineError>
+    line: &mut Line<A>,
+) -> Result<Read<'a, A>, LineError>
     ensures items { (number : ℕ) → IfOk result (λ read. items_of_read number read ≡ []) }
     ensures name { IfOk result HasItsName }
 {
@@ -327,13 +353,13 @@ fn read_constant<'a>(
 }
 
 /// Reads the operands of a statement of this name.
-fn read_named<'a>(
-    alloc: Global,
-    line: &mut Line<'a, '_>,
+fn read_named<'a, A: Allocator + Copy>(
+    alloc: A,
+    line: &mut Line<'a, '_, A>,
     name: &'a [u8],
     operands: &'a [u8],
     error: LineError,
-) -> Result<Read<'a>, Halt>
+) -> Result<Read<'a, A>, Halt>
     ensures items { (number : ℕ) → IfOk result (λ read.
         items_of_read number read ≡ items_named number name.now operands.now) }
     ensures name { IfOk result HasItsName }
@@ -350,7 +376,7 @@ fn read_named<'a>(
 }
 
 /// Takes the end of a statement.
-fn ended(line: &mut Line) -> Result<(), LineError> {
+fn ended<A: Allocator + Copy>(line: &mut Line<A>) -> Result<(), LineError> {
     if line.is_over() {
         Ok(())
     } else {
@@ -378,13 +404,13 @@ fn unexpected(word: &[u8], error: LineError) -> LineError {
 }
 
 /// Does what a part says.
-fn perform<'a>(
-    alloc: Global,
-    read: Read<'a>,
+fn perform<'a, A: Allocator + Copy>(
+    alloc: A,
+    read: Read<'a, A>,
     number: usize,
     start: LineError,
-    symbols: &mut Symbols<'a>,
-    reading: &mut Reading<'a>,
+    symbols: &mut Symbols<'a, A>,
+    reading: &mut Reading<'a, A>,
 ) -> Result<(), Halt>
     requires { HasItsName read }
     ensures pass { symbols.new.pass ≡ symbols.old.pass }
@@ -406,7 +432,10 @@ fn perform<'a>(
 }
 
 /// Sees that no section is open where something is left out.
-fn check_skipped(start: LineError, reading: &mut Reading) -> Result<(), Halt>
+fn check_skipped<A: Allocator + Copy>(
+    start: LineError,
+    reading: &mut Reading<A>,
+) -> Result<(), Halt>
     ensures { OnOk result ((item : Item) → IsNoSection item
         → ReadsOn (item ∷ []) reading.old reading.new) }
 {
@@ -418,13 +447,13 @@ fn check_skipped(start: LineError, reading: &mut Reading) -> Result<(), Halt>
 }
 
 /// Opens a section: in the last reading one that was met before.
-fn open<'a>(
-    alloc: Global,
+fn open<'a, A: Allocator + Copy>(
+    alloc: A,
     name: &'a [u8],
     kind: Option<SectionKind>,
     start: LineError,
     is_last: bool,
-    reading: &mut Reading<'a>,
+    reading: &mut Reading<'a, A>,
 ) -> Result<(), Halt>
     ensures { OnOk result (is_last ≡ true
         → ReadsOn (Item.Section name.now ∷ []) reading.old reading.new) }
@@ -441,19 +470,19 @@ fn open<'a>(
 }
 
 /// Whether a section is laid out, and is none of these.
-fn is_missing(sections: &[Section], name: &[u8], index: usize) -> bool
+fn is_missing<A: Allocator + Copy>(sections: &[Section<A>], name: &[u8], index: usize) -> bool
     ensures { result ≡ false → is_laid_out name.now ≡ true → index < length sections.now }
 {
     index >= sections.len() && is_laid_out(name)
 }
 
 /// Opens a section before the last reading, which may be a new one.
-fn open_early<'a>(
-    alloc: Global,
+fn open_early<'a, A: Allocator + Copy>(
+    alloc: A,
     name: &'a [u8],
     kind: Option<SectionKind>,
     start: LineError,
-    reading: &mut Reading<'a>,
+    reading: &mut Reading<'a, A>,
 ) -> Result<(), Halt> {
     let index = section_named(&reading.sections, name);
     reading.current = index;
@@ -472,7 +501,11 @@ fn open_early<'a>(
 }
 
 /// Keeps what a statement asks beside its bytes. In the last reading the sections are aligned.
-fn keep_notes(notes: Notes, symbols: &mut Symbols, reading: &mut Reading) -> Result<(), Halt>
+fn keep_notes<A: Allocator + Copy>(
+    notes: Notes,
+    symbols: &mut Symbols<A>,
+    reading: &mut Reading<A>,
+) -> Result<(), Halt>
     ensures pass { symbols.new.pass ≡ symbols.old.pass }
     ensures same { symbols.old.pass ≡ Pass.Last → reading.new ≡ reading.old }
 {
@@ -488,12 +521,12 @@ fn keep_notes(notes: Notes, symbols: &mut Symbols, reading: &mut Reading) -> Res
 }
 
 /// Defines a symbol.
-fn define<'a>(
+fn define<'a, A: Allocator + Copy>(
     name: &'a [u8],
     value: u32,
     is_label: bool,
     start: LineError,
-    symbols: &mut Symbols<'a>,
+    symbols: &mut Symbols<'a, A>,
 ) -> Result<(), Halt>
     ensures { symbols.new.pass ≡ symbols.old.pass }
 {
@@ -509,11 +542,11 @@ fn define<'a>(
 }
 
 /// Defines a label, and gives what is known of it then.
-fn define_label<'a>(
+fn define_label<'a, A: Allocator + Copy>(
     name: &'a [u8],
     here: u32,
     start: LineError,
-    symbols: &mut Symbols<'a>,
+    symbols: &mut Symbols<'a, A>,
 ) -> Result<Known, Halt>
     ensures { symbols.new.pass ≡ symbols.old.pass }
 {
@@ -531,12 +564,12 @@ fn define_label<'a>(
 }
 
 /// Puts a label behind what is in the open section, if its address is what its name stands for.
-fn put_label<'a>(
+fn put_label<'a, A: Allocator + Copy>(
     name: &'a [u8],
     number: usize,
     start: LineError,
-    symbols: &mut Symbols<'a>,
-    reading: &mut Reading<'a>,
+    symbols: &mut Symbols<'a, A>,
+    reading: &mut Reading<'a, A>,
 ) -> Result<(), Halt>
     ensures pass { symbols.new.pass ≡ symbols.old.pass }
     ensures items { OnOk result (symbols.old.pass ≡ Pass.Last
@@ -554,13 +587,13 @@ fn put_label<'a>(
 }
 
 /// Puts a symbol, with bytes that are zero, behind what is in `COMMON`.
-fn put_common<'a>(
+fn put_common<'a, A: Allocator + Copy>(
     name: &'a [u8],
     common: Common,
     number: usize,
     start: LineError,
-    symbols: &mut Symbols<'a>,
-    reading: &mut Reading<'a>,
+    symbols: &mut Symbols<'a, A>,
+    reading: &mut Reading<'a, A>,
 ) -> Result<(), Halt>
     ensures pass { symbols.new.pass ≡ symbols.old.pass }
     ensures items { OnOk result (symbols.old.pass ≡ Pass.Last → (directive : List ℕ)
@@ -586,7 +619,11 @@ fn put_common<'a>(
 }
 
 /// How many bytes a section takes up to an alignment, and the address behind these.
-fn place_in(sections: &[Section], index: usize, alignment: u32) -> (u32, u32) {
+fn place_in<A: Allocator + Copy>(
+    sections: &[Section<A>],
+    index: usize,
+    alignment: u32,
+) -> (u32, u32) {
     match sections.get(index) {
         Some(section) => {
             let padding = section.padding(alignment);
@@ -598,13 +635,13 @@ fn place_in(sections: &[Section], index: usize, alignment: u32) -> (u32, u32) {
 
 /// Counts the bytes of a symbol in a section before the last reading, and aligns `.bss` too, of which
 /// it is a part in GNU `as`.
-fn count_common(
+fn count_common<A: Allocator + Copy>(
     common: Common,
     padding: u32,
     number: usize,
     start: LineError,
     index: usize,
-    reading: &mut Reading,
+    reading: &mut Reading<A>,
 ) -> Result<(), Halt> {
     let before = section_named(&reading.sections, b".bss");
     if let Some(section) = reading.sections.get_mut(before) {
@@ -619,12 +656,12 @@ fn count_common(
 }
 
 /// Puts a statement behind what is in the open section.
-fn put(
-    statement: Statement,
+fn put<A: Allocator + Copy>(
+    statement: Statement<A>,
     number: usize,
     start: LineError,
     is_last: bool,
-    reading: &mut Reading,
+    reading: &mut Reading<A>,
 ) -> Result<(), Halt>
     ensures { OnOk result (is_last ≡ true → (name : List ℕ) → IsNamed name statement
         → ReadsOn (Item.Laid number name ∷ []) reading.old reading.new) }

@@ -13,7 +13,7 @@ use crate::output::MOST_BYTES;
 use crate::reading::{Line, Notes};
 use crate::sections::{SectionKind, is_laid_out, kind_of_name};
 use crate::statements::Statement;
-use std::alloc::Global;
+use std::alloc::Allocator;
 
 /// The greatest alignment, as a power of 2.
 const MOST_ALIGNED: u32 = 16;
@@ -29,11 +29,11 @@ pub struct Common {
 
 /// What a part of a line says.
 #[derive(Drop)]
-pub enum Read<'a> {
+pub enum Read<'a, A: Allocator> {
     /// A label of this name stands here.
     Label(&'a [u8]),
     /// A statement of this name is laid out here.
-    Laid(&'a [u8], Statement, Notes),
+    Laid(&'a [u8], Statement<A>, Notes),
     /// A constant has this value.
     Constant(&'a [u8], u32),
     /// By a directive of this name a symbol of the other has bytes in `COMMON`.
@@ -48,13 +48,13 @@ pub enum Read<'a> {
 
 /// Reads the operands of a directive of this name, which begins with a dot. Its name stands at
 /// `error`.
-pub fn read_directive<'a>(
-    alloc: Global,
-    line: &mut Line<'a, '_>,
+pub fn read_directive<'a, A: Allocator + Copy>(
+    alloc: A,
+    line: &mut Line<'a, '_, A>,
     name: &'a [u8],
     operands: &'a [u8],
     error: LineError,
-) -> Result<Read<'a>, Halt>
+) -> Result<Read<'a, A>, Halt>
     ensures items { (number : ℕ) → IfOk result (λ read.
         items_of_read number read ≡ items_named number name.now operands.now) }
     ensures name { IfOk result HasItsName }
@@ -97,12 +97,12 @@ pub fn read_directive<'a>(
 }
 
 /// Reads which section follows, by the name of the directive and its operands.
-fn read_section<'a>(
-    line: &mut Line<'a, '_>,
+fn read_section<'a, A: Allocator + Copy>(
+    line: &mut Line<'a, '_, A>,
     name: &'a [u8],
     operands: &'a [u8],
     error: LineError,
-) -> Result<Read<'a>, LineError>
+) -> Result<Read<'a, A>, LineError>
     ensures items { (number : ℕ) → IfOk result (λ read.
         items_of_read number read ≡ Item.Section (section_opened name.now operands.now) ∷ []) }
     ensures name { IfOk result HasItsName }
@@ -127,8 +127,8 @@ fn read_section<'a>(
 
 /// Reads the size and the alignment of a symbol in `COMMON`, which stand behind its name. Where there is
 /// no alignment, it is that of GNU `as`.
-fn read_common<'a>(
-    line: &mut Line<'a, '_>,
+fn read_common<'a, A: Allocator + Copy>(
+    line: &mut Line<'a, '_, A>,
     name: &[u8],
     symbol: &[u8],
     rest: &'a [u8],
@@ -151,7 +151,7 @@ fn read_common<'a>(
 }
 
 /// Reads the alignment of a symbol in `COMMON`, a power of 2.
-fn common_alignment(line: &mut Line) -> Result<u32, LineError> {
+fn common_alignment<A: Allocator + Copy>(line: &mut Line<A>) -> Result<u32, LineError> {
     line.skip_blanks();
     let error = line.error(SourceErrorKind::Range);
     let alignment = line.known_value()?;
@@ -195,7 +195,7 @@ fn kind_of_flags(text: &[u8]) -> Option<SectionKind> {
 }
 
 /// Reads an option. Those that would allow other instructions are refused.
-fn read_option(line: &mut Line) -> Result<(), LineError> {
+fn read_option<A: Allocator + Copy>(line: &mut Line<A>) -> Result<(), LineError> {
     line.skip_blanks();
     let error = line.error(SourceErrorKind::Unsupported);
     match line.word() {
@@ -208,12 +208,12 @@ fn read_option(line: &mut Line) -> Result<(), LineError> {
 }
 
 /// Reads the operands of a directive of this name that puts something at its address.
-fn read_placed(
-    alloc: Global,
-    line: &mut Line,
+fn read_placed<A: Allocator + Copy>(
+    alloc: A,
+    line: &mut Line<A>,
     name: &[u8],
     form: PlacedForm,
-) -> Result<Statement, Halt>
+) -> Result<Statement<A>, Halt>
     requires { fits_placed name.now form ≡ true }
     ensures { IfOk result (IsNamed name.now) }
 {
@@ -228,7 +228,11 @@ fn read_placed(
 }
 
 /// Reads the operands of a directive that puts bytes at its address.
-fn read_bytes(alloc: Global, line: &mut Line, form: DataForm) -> Result<Vec<u8>, Halt> {
+fn read_bytes<A: Allocator + Copy>(
+    alloc: A,
+    line: &mut Line<A>,
+    form: DataForm,
+) -> Result<Vec<u8, A>, Halt> {
     match form {
         DataForm::Numbers(bits) => read_data(alloc, line, bits),
         DataForm::Strings(is_ended) => read_strings(alloc, line, is_ended),
@@ -239,14 +243,16 @@ fn read_bytes(alloc: Global, line: &mut Line, form: DataForm) -> Result<Vec<u8>,
 }
 
 /// Reads the name and the value of a constant.
-fn read_constant<'a>(line: &mut Line<'a, '_>) -> Result<(&'a [u8], u32), LineError> {
+fn read_constant<'a, A: Allocator + Copy>(
+    line: &mut Line<'a, '_, A>,
+) -> Result<(&'a [u8], u32), LineError> {
     let name = read_name(line)?;
     line.comma()?;
     Ok((name, line.known_value()?))
 }
 
 /// Reads the name of a symbol.
-fn read_name<'a>(line: &mut Line<'a, '_>) -> Result<&'a [u8], LineError> {
+fn read_name<'a, A: Allocator + Copy>(line: &mut Line<'a, '_, A>) -> Result<&'a [u8], LineError> {
     line.skip_blanks();
     let error = line.error(SourceErrorKind::Character);
     match line.word() {
@@ -256,7 +262,11 @@ fn read_name<'a>(line: &mut Line<'a, '_>) -> Result<&'a [u8], LineError> {
 }
 
 /// Reads numbers of so many bits each, with commas between them.
-fn read_data(alloc: Global, line: &mut Line, bits: u32) -> Result<Vec<u8>, Halt> {
+fn read_data<A: Allocator + Copy>(
+    alloc: A,
+    line: &mut Line<A>,
+    bits: u32,
+) -> Result<Vec<u8, A>, Halt> {
     let mut bytes = Vec::new(alloc);
     for _ in 0..u64::MAX {
         push_datum(&mut bytes, line, bits)?;
@@ -268,7 +278,11 @@ fn read_data(alloc: Global, line: &mut Line, bits: u32) -> Result<Vec<u8>, Halt>
 }
 
 /// Reads a number of so many bits, and appends it, its lowest byte first.
-fn push_datum(bytes: &mut Vec<u8>, line: &mut Line, bits: u32) -> Result<(), Halt> {
+fn push_datum<A: Allocator + Copy>(
+    bytes: &mut Vec<u8, A>,
+    line: &mut Line<A>,
+    bits: u32,
+) -> Result<(), Halt> {
     let value = if bits == 64 {
         line.wide_value()?
     } else {
@@ -291,7 +305,7 @@ fn bytes_in(bits: u32) -> usize
 }
 
 /// Reads how often a number stands, how many bytes it has, and the number.
-fn read_pattern(alloc: Global, line: &mut Line) -> Result<Vec<u8>, Halt> {
+fn read_pattern<A: Allocator + Copy>(alloc: A, line: &mut Line<A>) -> Result<Vec<u8, A>, Halt> {
     let count = read_count(line)?;
     let (size, value) = read_pattern_item(line)?;
     if count as usize * size as usize > MOST_BYTES {
@@ -308,7 +322,7 @@ fn read_pattern(alloc: Global, line: &mut Line) -> Result<Vec<u8>, Halt> {
 
 /// Reads how many bytes a number has, at most 8 and 1 where none is said, and the number, which is 0
 /// where none is said.
-fn read_pattern_item(line: &mut Line) -> Result<(u32, u32), LineError>
+fn read_pattern_item<A: Allocator + Copy>(line: &mut Line<A>) -> Result<(u32, u32), LineError>
     ensures { IfOk result (λ item. item.0 ≤ 8) }
 {
     if !line.take(b',') {
@@ -325,7 +339,11 @@ fn read_pattern_item(line: &mut Line) -> Result<(u32, u32), LineError>
 }
 
 /// Reads strings with commas between them, and puts a zero byte behind each if that is asked.
-fn read_strings(alloc: Global, line: &mut Line, is_ended: bool) -> Result<Vec<u8>, Halt> {
+fn read_strings<A: Allocator + Copy>(
+    alloc: A,
+    line: &mut Line<A>,
+    is_ended: bool,
+) -> Result<Vec<u8, A>, Halt> {
     let mut bytes = Vec::new(alloc);
     for _ in 0..u64::MAX {
         read_string(line, &mut bytes)?;
@@ -340,7 +358,10 @@ fn read_strings(alloc: Global, line: &mut Line, is_ended: bool) -> Result<Vec<u8
 }
 
 /// Reads a string, and appends its bytes.
-fn read_string(line: &mut Line, bytes: &mut Vec<u8>) -> Result<(), Halt> {
+fn read_string<A: Allocator + Copy>(
+    line: &mut Line<A>,
+    bytes: &mut Vec<u8, A>,
+) -> Result<(), Halt> {
     line.expect(b'"', SourceErrorKind::Quote)?;
     for _ in 0..u64::MAX {
         let Some(byte) = next_in_string(line)? else {
@@ -352,7 +373,7 @@ fn read_string(line: &mut Line, bytes: &mut Vec<u8>) -> Result<(), Halt> {
 }
 
 /// Takes the next byte of a string, or its end, where there is none.
-fn next_in_string(line: &mut Line) -> Result<Option<u8>, LineError> {
+fn next_in_string<A: Allocator + Copy>(line: &mut Line<A>) -> Result<Option<u8>, LineError> {
     match line.next_byte() {
         None => Err(line.error(SourceErrorKind::Quote)),
         Some(b'"') => Ok(None),
@@ -363,7 +384,7 @@ fn next_in_string(line: &mut Line) -> Result<Option<u8>, LineError> {
 
 /// Takes what follows a backslash: the byte that it stands for. It may be written in octal, as
 /// `\101`, or in hexadecimal, as `\x41`.
-fn next_escaped(line: &mut Line) -> Result<Option<u8>, LineError> {
+fn next_escaped<A: Allocator + Copy>(line: &mut Line<A>) -> Result<Option<u8>, LineError> {
     let error = line.error(SourceErrorKind::Escape);
     match line.next_byte() {
         Some(digit @ b'0'..=b'7') => Ok(Some(octal_escape(line, digit - b'0'))),
@@ -377,7 +398,7 @@ fn next_escaped(line: &mut Line) -> Result<Option<u8>, LineError> {
 }
 
 /// Takes two further digits of an octal escape, as far as they stand there.
-fn octal_escape(line: &mut Line, first: u8) -> u8 {
+fn octal_escape<A: Allocator + Copy>(line: &mut Line<A>, first: u8) -> u8 {
     let mut value = first;
     for _ in 0..2 {
         match line.next_digit(8) {
@@ -389,7 +410,10 @@ fn octal_escape(line: &mut Line, first: u8) -> u8 {
 }
 
 /// Takes the digits of a hexadecimal escape, of which the last two count.
-fn hexadecimal_escape(line: &mut Line, error: LineError) -> Result<u8, LineError> {
+fn hexadecimal_escape<A: Allocator + Copy>(
+    line: &mut Line<A>,
+    error: LineError,
+) -> Result<u8, LineError> {
     let mut value = line.next_digit(16).ok_or(error)?;
     for _ in 0..u64::MAX {
         match line.next_digit(16) {
@@ -401,7 +425,7 @@ fn hexadecimal_escape(line: &mut Line, error: LineError) -> Result<u8, LineError
 }
 
 /// Reads how many bytes, and which byte where another than zero is meant.
-fn read_space(line: &mut Line) -> Result<(u32, u8), LineError> {
+fn read_space<A: Allocator + Copy>(line: &mut Line<A>) -> Result<(u32, u8), LineError> {
     let count = read_count(line)?;
     let byte = if line.take(b',') {
         (line.datum(8)? % 256) as u8
@@ -412,7 +436,7 @@ fn read_space(line: &mut Line) -> Result<(u32, u8), LineError> {
 }
 
 /// Reads a number of bytes that is known here.
-fn read_count(line: &mut Line) -> Result<u32, LineError> {
+fn read_count<A: Allocator + Copy>(line: &mut Line<A>) -> Result<u32, LineError> {
     line.skip_blanks();
     let error = line.error(SourceErrorKind::TooLong);
     let count = line.known_value()?;
@@ -425,7 +449,7 @@ fn read_count(line: &mut Line) -> Result<u32, LineError> {
 
 /// Reads the address of what follows, which is no lower than that of the directive: how many bytes
 /// it is behind.
-fn read_origin(line: &mut Line) -> Result<u32, LineError> {
+fn read_origin<A: Allocator + Copy>(line: &mut Line<A>) -> Result<u32, LineError> {
     line.skip_blanks();
     let error = line.error(SourceErrorKind::Backward);
     let target = line.known_value()?;
@@ -438,7 +462,7 @@ fn read_origin(line: &mut Line) -> Result<u32, LineError> {
 }
 
 /// Reads an alignment as a power of 2.
-fn read_power(alloc: Global, line: &mut Line) -> Result<Vec<u8>, Halt> {
+fn read_power<A: Allocator + Copy>(alloc: A, line: &mut Line<A>) -> Result<Vec<u8, A>, Halt> {
     line.skip_blanks();
     let error = line.error(SourceErrorKind::Range);
     let power = line.known_value()?;
@@ -449,7 +473,7 @@ fn read_power(alloc: Global, line: &mut Line) -> Result<Vec<u8>, Halt> {
 }
 
 /// Reads an alignment in bytes, a power of 2.
-fn read_alignment(alloc: Global, line: &mut Line) -> Result<Vec<u8>, Halt> {
+fn read_alignment<A: Allocator + Copy>(alloc: A, line: &mut Line<A>) -> Result<Vec<u8, A>, Halt> {
     line.skip_blanks();
     let error = line.error(SourceErrorKind::Range);
     let alignment = line.known_value()?;
@@ -460,7 +484,11 @@ fn read_alignment(alloc: Global, line: &mut Line) -> Result<Vec<u8>, Halt> {
 }
 
 /// Reads which byte fills up to an alignment, and how many at most: otherwise nothing is filled.
-fn read_padding(alloc: Global, line: &mut Line, alignment: u32) -> Result<Vec<u8>, Halt>
+fn read_padding<A: Allocator + Copy>(
+    alloc: A,
+    line: &mut Line<A>,
+    alignment: u32,
+) -> Result<Vec<u8, A>, Halt>
     requires { 0 < alignment }
 {
     line.align(alignment);
@@ -482,14 +510,14 @@ fn read_padding(alloc: Global, line: &mut Line, alignment: u32) -> Result<Vec<u8
 }
 
 /// So many of a byte.
-fn filled(alloc: Global, count: u32, byte: u8) -> Result<Vec<u8>, Halt> {
+fn filled<A: Allocator + Copy>(alloc: A, count: u32, byte: u8) -> Result<Vec<u8, A>, Halt> {
     let mut bytes = Vec::new(alloc);
     bytes.resize(count as usize, byte)?;
     Ok(bytes)
 }
 
 /// So many bytes between instructions: zeros up to a multiple of 4, and then `nop`s.
-fn padding(alloc: Global, count: u32) -> Result<Vec<u8>, Halt> {
+fn padding<A: Allocator + Copy>(alloc: A, count: u32) -> Result<Vec<u8, A>, Halt> {
     let mut bytes = Vec::new(alloc);
     for _ in 0..count % 4 {
         bytes.push(0)?;

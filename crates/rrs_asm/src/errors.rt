@@ -1,6 +1,6 @@
 //! What can be wrong with a source.
 
-use std::alloc::{AllocError, AllocFailed};
+use std::alloc::{AllocError, AllocFailed, Allocator, Global};
 use std::error::Error;
 use std::fmt;
 
@@ -125,15 +125,16 @@ impl fmt::Display for SourceError {
 }
 
 /// Why a source is not assembled.
-#[derive(Debug, Drop)]
-pub enum SourceFault {
+#[derive(Drop)]
+#[derive_where(Debug)]
+pub enum SourceFault<A: Allocator = Global> {
     /// Each mistake, in the order of the source: the first one of each line.
-    Errors(Vec<SourceError>),
+    Errors(Vec<SourceError, A>),
     /// Out of memory.
     OutOfMemory,
 }
 
-impl fmt::Display for SourceFault {
+impl<A: Allocator> fmt::Display for SourceFault<A> {
     fn fmt<W: fmt::Write>(&self, f: &mut fmt::Formatter<W>) -> fmt::Result {
         match self {
             SourceFault::Errors(errors) => {
@@ -145,15 +146,15 @@ impl fmt::Display for SourceFault {
     }
 }
 
-impl Error for SourceFault {}
+impl<A: Allocator> Error for SourceFault<A> {}
 
-impl From<AllocError> for SourceFault {
+impl<A: Allocator> From<AllocError> for SourceFault<A> {
     fn from(_: AllocError) -> Self {
         SourceFault::OutOfMemory
     }
 }
 
-impl<T: Drop> From<AllocFailed<T>> for SourceFault {
+impl<T: Drop, A: Allocator> From<AllocFailed<T>> for SourceFault<A> {
     fn from(_: AllocFailed<T>) -> Self {
         SourceFault::OutOfMemory
     }

@@ -13,6 +13,7 @@ use crate::reading::Line;
 use crate::statements::Statement;
 use rrs_encode::{Operands, instruction_named, with_operands};
 use rrs_instruction::instruction::{Instruction, InstructionFields};
+use std::alloc::Allocator;
 
 /// How far a branch reaches, in bytes: so many backward, and fewer forward.
 const BRANCH_REACH: i32 = 0x1000;
@@ -30,11 +31,11 @@ const NONE: Operands = Operands {
 
 /// Reads the operands of an instruction or a pseudo-instruction of this name. Its name stands at
 /// `error`.
-pub fn read_instruction(
-    line: &mut Line,
+pub fn read_instruction<A: Allocator + Copy>(
+    line: &mut Line<A>,
     name: &[u8],
     error: LineError,
-) -> Result<Statement, LineError>
+) -> Result<Statement<A>, LineError>
     ensures { IfOk result (IsNamed name.now) }
 {
     if line.here() % 4 != 0 {
@@ -51,7 +52,10 @@ pub fn read_instruction(
 }
 
 /// Reads the operands of a row.
-fn read_row(line: &mut Line, template: Instruction) -> Result<Statement, LineError>
+fn read_row<A: Allocator + Copy>(
+    line: &mut Line<A>,
+    template: Instruction,
+) -> Result<Statement<A>, LineError>
     ensures { IfOk result (IsNamed (table (row_of template)).name) }
 {
     match row_form(template) {
@@ -104,7 +108,11 @@ fn row_form(template: Instruction) -> RowForm
 }
 
 /// Reads `rd, immediate(rs1)`, or `rd, symbol`.
-fn read_load(line: &mut Line, template: Instruction, load: Load) -> Result<Statement, LineError>
+fn read_load<A: Allocator + Copy>(
+    line: &mut Line<A>,
+    template: Instruction,
+    load: Load,
+) -> Result<Statement<A>, LineError>
     requires { load_name load ≡ (table (row_of template)).name }
     ensures { IfOk result (IsNamed (table (row_of template)).name) }
 {
@@ -123,7 +131,11 @@ fn read_load(line: &mut Line, template: Instruction, load: Load) -> Result<State
 }
 
 /// Reads `rs2, immediate(rs1)`, or `rs2, symbol, rt`.
-fn read_store(line: &mut Line, template: Instruction, store: Store) -> Result<Statement, LineError>
+fn read_store<A: Allocator + Copy>(
+    line: &mut Line<A>,
+    template: Instruction,
+    store: Store,
+) -> Result<Statement<A>, LineError>
     requires { store_name store ≡ (table (row_of template)).name }
     ensures { IfOk result (IsNamed (table (row_of template)).name) }
 {
@@ -144,7 +156,10 @@ fn read_store(line: &mut Line, template: Instruction, store: Store) -> Result<St
 }
 
 /// The statement that is an instruction with these operands, whose ranges the readers saw to.
-fn statement_of(template: Instruction, operands: Operands) -> Result<Statement, LineError>
+fn statement_of<A: Allocator + Copy>(
+    template: Instruction,
+    operands: Operands,
+) -> Result<Statement<A>, LineError>
     ensures { IfOk result (IsNamed (table (row_of template)).name) }
 {
     let instruction = with_operands(&template, operands).ok_or(LineError {
@@ -155,7 +170,10 @@ fn statement_of(template: Instruction, operands: Operands) -> Result<Statement, 
 }
 
 /// Reads the operands of an instruction that is written as others of its format.
-fn format_operands(line: &mut Line, fields: InstructionFields) -> Result<Operands, LineError> {
+fn format_operands<A: Allocator + Copy>(
+    line: &mut Line<A>,
+    fields: InstructionFields,
+) -> Result<Operands, LineError> {
     let (rd, rs1, rs2, imm) = match fields {
         InstructionFields::R(_) => {
             let (rd, rs1) = line.registers_before_comma()?;
@@ -191,7 +209,10 @@ fn format_operands(line: &mut Line, fields: InstructionFields) -> Result<Operand
 }
 
 /// Reads `rd, target`, or `target` alone.
-fn read_jal(line: &mut Line, template: Instruction) -> Result<Statement, LineError>
+fn read_jal<A: Allocator + Copy>(
+    line: &mut Line<A>,
+    template: Instruction,
+) -> Result<Statement<A>, LineError>
     requires { (table (row_of template)).name ≡ codes "jal" }
     ensures { IfOk result (IsNamed (table (row_of template)).name) }
 {
@@ -208,7 +229,10 @@ fn read_jal(line: &mut Line, template: Instruction) -> Result<Statement, LineErr
 }
 
 /// Reads `rd, immediate(rs1)`, `rd, rs1, immediate`, `rd, rs1`, or `rs1` alone.
-fn read_jalr(line: &mut Line, template: Instruction) -> Result<Statement, LineError>
+fn read_jalr<A: Allocator + Copy>(
+    line: &mut Line<A>,
+    template: Instruction,
+) -> Result<Statement<A>, LineError>
     requires { (table (row_of template)).name ≡ codes "jalr" }
     ensures { IfOk result (IsNamed (table (row_of template)).name) }
 {
@@ -239,7 +263,10 @@ fn read_jalr(line: &mut Line, template: Instruction) -> Result<Statement, LineEr
 }
 
 /// Reads two sets of accesses, or nothing.
-fn read_fence(line: &mut Line, template: Instruction) -> Result<Statement, LineError>
+fn read_fence<A: Allocator + Copy>(
+    line: &mut Line<A>,
+    template: Instruction,
+) -> Result<Statement<A>, LineError>
     requires { (table (row_of template)).name ≡ codes "fence" }
     ensures { IfOk result (IsNamed (table (row_of template)).name) }
 {
@@ -255,7 +282,7 @@ fn read_fence(line: &mut Line, template: Instruction) -> Result<Statement, LineE
 }
 
 /// Reads a set of accesses: some of the letters `iorw`, in this order.
-fn read_accesses(line: &mut Line) -> Result<u32, LineError>
+fn read_accesses<A: Allocator + Copy>(line: &mut Line<A>) -> Result<u32, LineError>
     ensures { IfOk result (λ set. set < 16) }
 {
     line.skip_blanks();
@@ -288,7 +315,10 @@ fn accesses_of(word: &[u8]) -> Option<u32>
 }
 
 /// Reads the operands of a pseudo-instruction.
-fn read_pseudo(line: &mut Line, form: PseudoForm) -> Result<Pseudo, LineError>
+fn read_pseudo<A: Allocator + Copy>(
+    line: &mut Line<A>,
+    form: PseudoForm,
+) -> Result<Pseudo, LineError>
     ensures { IfOk result (λ pseudo. pseudo_name pseudo ≡ form_name form) }
 {
     match form {
@@ -310,7 +340,7 @@ fn read_pseudo(line: &mut Line, form: PseudoForm) -> Result<Pseudo, LineError>
 }
 
 /// Reads `rd, value`.
-fn read_li(line: &mut Line) -> Result<Pseudo, LineError>
+fn read_li<A: Allocator + Copy>(line: &mut Line<A>) -> Result<Pseudo, LineError>
     ensures { IfOk result (λ pseudo. pseudo_name pseudo ≡ codes "li") }
 {
     let rd = line.register_before_comma()?;
@@ -318,7 +348,7 @@ fn read_li(line: &mut Line) -> Result<Pseudo, LineError>
 }
 
 /// Reads `rd, symbol`.
-fn read_la(line: &mut Line) -> Result<Pseudo, LineError>
+fn read_la<A: Allocator + Copy>(line: &mut Line<A>) -> Result<Pseudo, LineError>
     ensures { IfOk result (λ pseudo. pseudo_name pseudo ≡ codes "la") }
 {
     let rd = line.register_before_comma()?;
@@ -326,7 +356,7 @@ fn read_la(line: &mut Line) -> Result<Pseudo, LineError>
 }
 
 /// Reads `rd, symbol`.
-fn read_lla(line: &mut Line) -> Result<Pseudo, LineError>
+fn read_lla<A: Allocator + Copy>(line: &mut Line<A>) -> Result<Pseudo, LineError>
     ensures { IfOk result (λ pseudo. pseudo_name pseudo ≡ codes "lla") }
 {
     let rd = line.register_before_comma()?;
@@ -334,7 +364,10 @@ fn read_lla(line: &mut Line) -> Result<Pseudo, LineError>
 }
 
 /// Reads `rd, rs, rt`.
-fn read_compared(line: &mut Line, name: SwappedComparison) -> Result<Pseudo, LineError>
+fn read_compared<A: Allocator + Copy>(
+    line: &mut Line<A>,
+    name: SwappedComparison,
+) -> Result<Pseudo, LineError>
     ensures { IfOk result (λ pseudo. pseudo_name pseudo ≡ comparison_name name) }
 {
     let (rd, rs) = line.registers_before_comma()?;
@@ -342,7 +375,7 @@ fn read_compared(line: &mut Line, name: SwappedComparison) -> Result<Pseudo, Lin
 }
 
 /// Reads `symbol, rt`.
-fn read_jump(line: &mut Line) -> Result<Pseudo, LineError>
+fn read_jump<A: Allocator + Copy>(line: &mut Line<A>) -> Result<Pseudo, LineError>
     ensures { IfOk result (λ pseudo. pseudo_name pseudo ≡ codes "jump") }
 {
     let distance = read_distance(line)?;
@@ -351,7 +384,7 @@ fn read_jump(line: &mut Line) -> Result<Pseudo, LineError>
 }
 
 /// Reads `rd, rs`.
-fn read_of_one(line: &mut Line, name: Unary) -> Result<Pseudo, LineError>
+fn read_of_one<A: Allocator + Copy>(line: &mut Line<A>, name: Unary) -> Result<Pseudo, LineError>
     ensures { IfOk result (λ pseudo. pseudo_name pseudo ≡ unary_name name) }
 {
     let rd = line.register_before_comma()?;
@@ -359,7 +392,10 @@ fn read_of_one(line: &mut Line, name: Unary) -> Result<Pseudo, LineError>
 }
 
 /// Reads `rs, target`.
-fn read_against_zero(line: &mut Line, name: ZeroBranch) -> Result<Pseudo, LineError>
+fn read_against_zero<A: Allocator + Copy>(
+    line: &mut Line<A>,
+    name: ZeroBranch,
+) -> Result<Pseudo, LineError>
     ensures { IfOk result (λ pseudo. pseudo_name pseudo ≡ zero_branch_name name) }
 {
     let rs = line.register_before_comma()?;
@@ -367,7 +403,10 @@ fn read_against_zero(line: &mut Line, name: ZeroBranch) -> Result<Pseudo, LineEr
 }
 
 /// Reads `rs, rt, target`.
-fn read_swapped(line: &mut Line, name: SwappedBranch) -> Result<Pseudo, LineError>
+fn read_swapped<A: Allocator + Copy>(
+    line: &mut Line<A>,
+    name: SwappedBranch,
+) -> Result<Pseudo, LineError>
     ensures { IfOk result (λ pseudo. pseudo_name pseudo ≡ swapped_name name) }
 {
     let (rs, rt) = line.registers_before_comma()?;
@@ -375,6 +414,6 @@ fn read_swapped(line: &mut Line, name: SwappedBranch) -> Result<Pseudo, LineErro
 }
 
 /// Reads a symbol, or an address: how far it is from the statement, modulo 2^32.
-fn read_distance(line: &mut Line) -> Result<u32, LineError> {
+fn read_distance<A: Allocator + Copy>(line: &mut Line<A>) -> Result<u32, LineError> {
     Ok(line.value()?.wrapping_sub(line.here()))
 }

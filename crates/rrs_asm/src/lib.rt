@@ -29,7 +29,7 @@ mod sections;
 mod statements;
 mod symbols;
 
-pub use assembling::assemble_source;
+pub use assembling::{assemble_source, assemble_source_in};
 pub use errors::{SourceError, SourceErrorKind, SourceFault};
 pub use gnu::gnu_text;
 pub use output::{Assembled, Label, MOST_BYTES, Placed};

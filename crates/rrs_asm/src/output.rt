@@ -9,7 +9,7 @@ use crate::pseudo::Expansion;
 use crate::statements::Statement;
 use rrs_encode::encode;
 use rrs_instruction::instruction::Instruction;
-use std::alloc::Global;
+use std::alloc::{Allocator, Global};
 
 /// The most bytes that are made of a source: 64 MiB.
 pub const MOST_BYTES: usize = 0x400_0000;
@@ -18,14 +18,15 @@ pub const MOST_BYTES: usize = 0x400_0000;
 const UNIMP: u32 = 0xc000_1073;
 
 /// A statement and its place.
-#[derive(Debug, PartialEq, Drop)]
-pub struct Placed {
+#[derive(Drop)]
+#[derive_where(Debug, PartialEq)]
+pub struct Placed<A: Allocator = Global> {
     /// The line where it stands, counted from 1.
     pub line: usize,
     /// The address of its first byte.
     pub address: u32,
     /// What stands there.
-    pub statement: Statement,
+    pub statement: Statement<A>,
 }
 
 /// A label and its place.
@@ -40,19 +41,20 @@ pub struct Label<'a> {
 }
 
 /// What was made of the items of a section.
-#[derive(Debug, Drop)]
-pub struct Assembled<'a> {
+#[derive(Drop)]
+#[derive_where(Debug)]
+pub struct Assembled<'a, A: Allocator = Global> {
     /// The labels in the order of the source, local labels too.
-    pub labels: Vec<Label<'a>>,
+    pub labels: Vec<Label<'a>, A>,
     /// The statements in the order of their addresses, which is that of the source.
-    pub placed: Vec<Placed>,
+    pub placed: Vec<Placed<A>, A>,
     /// The bytes from the first address on.
-    pub bytes: Vec<u8>,
+    pub bytes: Vec<u8, A>,
 }
 
-impl<'a> Assembled<'a> {
+impl<'a, A: Allocator + Copy> Assembled<'a, A> {
     /// Nothing.
-    pub fn new(alloc: Global) -> Self
+    pub fn new(alloc: A) -> Self
         ensures labels { result.labels.items ≡ [] }
         ensures placed { result.placed.items ≡ [] }
         ensures bytes { result.bytes.items ≡ [] }
@@ -65,7 +67,7 @@ impl<'a> Assembled<'a> {
     }
 
     /// Puts a statement of a line behind the others, the first of which stands at `base`.
-    pub fn place(&mut self, base: u32, line: usize, statement: Statement) -> Result<(), Halt>
+    pub fn place(&mut self, base: u32, line: usize, statement: Statement<A>) -> Result<(), Halt>
         ensures placed { OnOk result (AddsPlaced base line statement self.old.placed.items
             self.new.placed.items self.old.bytes.items self.new.bytes.items) }
         ensures labels { self.new.labels.items ≡ self.old.labels.items }
@@ -82,7 +84,7 @@ impl<'a> Assembled<'a> {
 }
 
 /// The address behind bytes, the first of which stands at `base`.
-fn address_behind(base: u32, bytes: &Vec<u8>) -> Result<u32, Halt>
+fn address_behind<A: Allocator + Copy>(base: u32, bytes: &Vec<u8, A>) -> Result<u32, Halt>
     ensures { IfOk result (λ address. address ≡ base + length bytes.now.items) }
 {
     let length = bytes.len();
@@ -102,7 +104,7 @@ fn too_long() -> Halt {
 }
 
 /// Appends the bytes of a statement.
-fn append(bytes: &mut Vec<u8>, statement: &Statement) -> Result<(), Halt>
+fn append<A: Allocator + Copy>(bytes: &mut Vec<u8, A>, statement: &Statement<A>) -> Result<(), Halt>
     ensures { OnOk result ((own : List ℕ) × AreBytes statement.now own
         × (bytes.new.items ≡ bytes.old.items ++ own)) }
 {
@@ -116,14 +118,18 @@ fn append(bytes: &mut Vec<u8>, statement: &Statement) -> Result<(), Halt>
 }
 
 /// Appends bytes.
-fn append_data(bytes: &mut Vec<u8>, own: &Vec<u8>) -> Result<(), Halt>
+fn append_data<A: Allocator + Copy>(bytes: &mut Vec<u8, A>, own: &Vec<u8, A>) -> Result<(), Halt>
     ensures { OnOk result (bytes.new.items ≡ bytes.old.items ++ own.now.items) }
 {
     Ok(bytes.extend_from_slice(own)?)
 }
 
 /// Appends so many of a byte.
-fn append_fill(bytes: &mut Vec<u8>, count: u32, byte: u8) -> Result<(), Halt>
+fn append_fill<A: Allocator + Copy>(
+    bytes: &mut Vec<u8, A>,
+    count: u32,
+    byte: u8,
+) -> Result<(), Halt>
     ensures { OnOk result (bytes.new.items ≡ bytes.old.items ++ replicate count byte) }
 {
     let length = bytes.len().checked_add(count as usize).ok_or(too_long())?;
@@ -131,7 +137,10 @@ fn append_fill(bytes: &mut Vec<u8>, count: u32, byte: u8) -> Result<(), Halt>
 }
 
 /// Appends the words of one or two instructions.
-fn append_expansion(bytes: &mut Vec<u8>, expansion: &Expansion) -> Result<(), Halt>
+fn append_expansion<A: Allocator + Copy>(
+    bytes: &mut Vec<u8, A>,
+    expansion: &Expansion,
+) -> Result<(), Halt>
     ensures { OnOk result ((own : List ℕ) × AreWords (listed expansion.now) own
         × (bytes.new.items ≡ bytes.old.items ++ own)) }
 {
@@ -143,7 +152,10 @@ fn append_expansion(bytes: &mut Vec<u8>, expansion: &Expansion) -> Result<(), Ha
 }
 
 /// Appends the word of an instruction, its lowest byte first.
-fn append_instruction(bytes: &mut Vec<u8>, instruction: &Instruction) -> Result<(), Halt>
+fn append_instruction<A: Allocator + Copy>(
+    bytes: &mut Vec<u8, A>,
+    instruction: &Instruction,
+) -> Result<(), Halt>
     ensures { OnOk result ((own : List ℕ) × AreWords (instruction.now ∷ []) own
         × (bytes.new.items ≡ bytes.old.items ++ own)) }
 {

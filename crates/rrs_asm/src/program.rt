@@ -5,20 +5,25 @@ ghost use Rattle.rrs_asm.specs.declared.sections.Layout.{Layout};
 ghost use Rattle.rrs_asm.specs.Sections.{laid_flat, with_section, ArePlaced, IsImage};
 
 use crate::sections::Section;
-use std::alloc::{AllocError, Global};
+use std::alloc::{AllocError, Allocator, Global};
 
 /// A source that was assembled.
-#[derive(Debug, Drop)]
-pub struct Program<'a> {
+#[derive(Drop)]
+#[derive_where(Debug)]
+pub struct Program<'a, A: Allocator = Global> {
     /// Its sections in the order of their addresses: those with instructions, with data that is
     /// not written, with data, and with zeros.
-    pub sections: Vec<Section<'a>>,
+    pub sections: Vec<Section<'a, A>, A>,
 }
 
 /// The bytes of all sections from an address on, with zeros between them (`laid_flat`). An empty
 /// section has no bytes. Where the sections lie as a layout says, from this address on, these are
 /// the bytes of each section at its address, and zeros (`at_addresses`).
-pub fn image(alloc: Global, program: &Program, base: u32) -> Result<Vec<u8>, AllocError>
+pub fn image<A: Allocator + Copy>(
+    alloc: A,
+    program: &Program<A>,
+    base: u32,
+) -> Result<Vec<u8, A>, AllocError>
     ensures laid_flat { IfOk result (λ bytes. bytes.items
         ≡ laid_flat base program.now.sections.items) }
     ensures at_addresses { (layout : Layout) → layout.text_start ≡ base
@@ -33,7 +38,11 @@ pub fn image(alloc: Global, program: &Program, base: u32) -> Result<Vec<u8>, All
 }
 
 /// Appends the bytes of a section behind zeros up to its address, if it has any.
-fn append_section(bytes: &mut Vec<u8>, section: &Section, base: u32) -> Result<(), AllocError>
+fn append_section<A: Allocator + Copy>(
+    bytes: &mut Vec<u8, A>,
+    section: &Section<A>,
+    base: u32,
+) -> Result<(), AllocError>
     ensures { OnOk result (bytes.new.items ≡ with_section base bytes.old.items section.now) }
 {
     if section.made.bytes.is_empty() {

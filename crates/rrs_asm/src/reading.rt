@@ -8,6 +8,7 @@ use crate::lexing::{behind_blanks, split_word};
 use crate::literals::{digit_of, escaped, local_label, number_of};
 use crate::registers::register_number;
 use crate::symbols::{Known, Symbols};
+use std::alloc::Allocator;
 
 /// Where a statement stands.
 #[derive(Clone, Copy)]
@@ -39,19 +40,19 @@ struct Wanted {
 }
 
 /// What is left of a statement, and where it stands.
-#[derive(Clone, Copy)]
-pub struct Line<'a, 's> {
+#[derive_where(Clone, Copy)]
+pub struct Line<'a, 's, A: Allocator> {
     rest: &'a [u8],
     /// How many bytes of the line are behind the statement.
     behind: usize,
-    symbols: &'s Symbols<'a>,
+    symbols: &'s Symbols<'a, A>,
     site: Site,
     notes: Notes,
 }
 
-impl<'a, 's> Line<'a, 's> {
+impl<'a, 's, A: Allocator + Copy> Line<'a, 's, A> {
     /// The rest of a statement at a place, with so many bytes of the line behind it.
-    pub fn new(rest: &'a [u8], behind: usize, symbols: &'s Symbols<'a>, site: Site) -> Self {
+    pub fn new(rest: &'a [u8], behind: usize, symbols: &'s Symbols<'a, A>, site: Site) -> Self {
         let notes = Notes {
             alignment: 1,
             distance: None,

@@ -10,7 +10,7 @@ use crate::errors::{Halt, LineError, SourceErrorKind};
 use crate::output::{Assembled, Label, MOST_BYTES};
 use crate::statements::Statement;
 use crate::symbols::Known;
-use std::alloc::{AllocError, Global};
+use std::alloc::{AllocError, Allocator, Global};
 
 /// What a section holds, and so where it lies: the sections of a kind lie one behind the other, and
 /// the kinds in this order.
@@ -60,8 +60,9 @@ impl Layout {
 }
 
 /// A section, and what is made of the items in it.
-#[derive(Debug, Drop)]
-pub struct Section<'a> {
+#[derive(Drop)]
+#[derive_where(Debug)]
+pub struct Section<'a, A: Allocator = Global> {
     /// Its name.
     pub name: &'a [u8],
     /// What it holds.
@@ -71,20 +72,14 @@ pub struct Section<'a> {
     /// The greatest alignment in it, a power of 2.
     pub alignment: u32,
     /// What is made of the items in it.
-    pub made: Assembled<'a>,
+    pub made: Assembled<'a, A>,
     /// How many bytes the statements so far take.
     size: usize,
 }
 
-impl<'a> Section<'a> {
+impl<'a, A: Allocator + Copy> Section<'a, A> {
     /// An empty section at an address.
-    pub fn new(
-        alloc: Global,
-        name: &'a [u8],
-        kind: SectionKind,
-        alignment: u32,
-        address: u32,
-    ) -> Self
+    pub fn new(alloc: A, name: &'a [u8], kind: SectionKind, alignment: u32, address: u32) -> Self
         ensures { IsNew result }
     {
         Section {
@@ -150,7 +145,7 @@ impl<'a> Section<'a> {
     pub fn put(
         &mut self,
         line: usize,
-        statement: Statement,
+        statement: Statement<A>,
         is_last: bool,
         start: LineError,
     ) -> Result<(), Halt>
@@ -307,7 +302,10 @@ fn is_data(kind: SectionKind) -> bool
 }
 
 /// Whether sections lie as a layout says.
-pub fn are_placed<'a, 'b>(sections: &'b [Section<'a>], layout: Layout) -> bool
+pub fn are_placed<'a, 'b, A: Allocator + Copy>(
+    sections: &'b [Section<'a, A>],
+    layout: Layout,
+) -> bool
     ensures { result ≡ true → ArePlaced layout sections.now }
 {
     match sections {
@@ -319,7 +317,11 @@ pub fn are_placed<'a, 'b>(sections: &'b [Section<'a>], layout: Layout) -> bool
 }
 
 /// Whether each section lies behind the one before it as a layout says, the first behind another.
-fn are_behind<'a, 'b>(first: &'b Section<'a>, others: &'b [Section<'a>], layout: Layout) -> bool
+fn are_behind<'a, 'b, A: Allocator + Copy>(
+    first: &'b Section<'a, A>,
+    others: &'b [Section<'a, A>],
+    layout: Layout,
+) -> bool
     ensures { result ≡ true → AreBehind layout first.now others.now }
 {
     let mut before = first;
@@ -333,7 +335,7 @@ fn are_behind<'a, 'b>(first: &'b Section<'a>, others: &'b [Section<'a>], layout:
 }
 
 /// Whether a section lies behind another as a layout says.
-fn is_behind(before: &Section, section: &Section, layout: Layout) -> bool
+fn is_behind<A: Allocator + Copy>(before: &Section<A>, section: &Section<A>, layout: Layout) -> bool
     ensures { result ≡ true → IsBehind layout before.now section.now }
 {
     let end = u64::from(before.address).saturating_add(before.made.bytes.len() as u64);
@@ -349,37 +351,39 @@ fn is_behind(before: &Section, section: &Section, layout: Layout) -> bool
 }
 
 /// The sections, empty again, each at its address by the sizes that they have.
-pub fn laid_out<'a>(
-    alloc: Global,
-    sections: &[Section<'a>],
+pub fn laid_out<'a, A: Allocator + Copy>(
+    alloc: A,
+    sections: &[Section<'a, A>],
     layout: Layout,
-) -> Result<Vec<Section<'a>>, Halt>
+) -> Result<Vec<Section<'a, A>, A>, Halt>
     ensures { IfOk result (λ laid. All IsNew laid.items) }
 {
     let mut laid = Vec::new(alloc);
     let mut before = None;
     for kind in &KINDS {
         for section in sections {
-            if section.kind == *kind {
-                add_new(alloc, section, layout, &mut before, &mut laid)?;
-            }
+            add_new(alloc, section, *kind, layout, &mut before, &mut laid)?;
         }
     }
     Ok(laid)
 }
 
-/// Adds a section, empty again, behind the others. One that is left empty behind the last address is
-/// none.
-fn add_new<'a>(
-    alloc: Global,
-    section: &Section<'a>,
+/// Adds a section of a kind, empty again, behind the others. One of another kind is none, and neither
+/// is one that is left empty behind the last address.
+fn add_new<'a, A: Allocator + Copy>(
+    alloc: A,
+    section: &Section<'a, A>,
+    kind: SectionKind,
     layout: Layout,
     before: &mut Option<Extent>,
-    laid: &mut Vec<Section<'a>>,
+    laid: &mut Vec<Section<'a, A>, A>,
 ) -> Result<(), Halt>
     ensures { OnOk result (All IsNew laid.old.items → All IsNew laid.new.items) }
 {
-    let (kind, alignment) = (section.kind, section.alignment);
+    if section.kind != kind {
+        return Ok(());
+    }
+    let alignment = section.alignment;
     let start = match *before {
         None => Some(u64::from(layout.text_start)),
         Some(extent) => extent.start_behind(kind, alignment, layout),
@@ -404,7 +408,10 @@ fn add_new<'a>(
 }
 
 /// The sections that every source has, at the addresses that are said.
-pub fn first_sections<'a>(alloc: Global, layout: Layout) -> Result<Vec<Section<'a>>, AllocError> {
+pub fn first_sections<'a, A: Allocator + Copy>(
+    alloc: A,
+    layout: Layout,
+) -> Result<Vec<Section<'a, A>, A>, AllocError> {
     let mut sections = Vec::new(alloc);
     sections.push(Section::new(alloc, b".text", SectionKind::Code, 4, layout.text_start))?;
     let data = layout.data_start.unwrap_or(0);

@@ -5,23 +5,25 @@ ghost use Rattle.rrs_asm.specs.Statements.{AreBytes};
 
 use crate::pseudo::Pseudo;
 use rrs_instruction::instruction::Instruction;
+use std::alloc::{Allocator, Global};
 
 /// What a statement of a source puts at its address.
-#[derive(Debug, PartialEq, Drop)]
-pub enum Statement {
+#[derive(Drop)]
+#[derive_where(Debug, PartialEq)]
+pub enum Statement<A: Allocator = Global> {
     /// An instruction of the table.
     Instruction(Instruction),
     /// One or two instructions.
     Pseudo(Pseudo),
     /// Bytes.
-    Data(Vec<u8>),
+    Data(Vec<u8, A>),
     /// So many of one byte.
     Fill(u32, u8),
     /// `unimp`: the word 0xc0001073, which is no instruction of the table.
     Unimp,
 }
 
-impl Statement {
+impl<A: Allocator + Copy> Statement<A> {
     /// How many bytes it takes: as many as it is laid out as.
     pub fn size(&self) -> usize
         ensures { (own : List ℕ) → AreBytes self.now own → result ≡ length own }

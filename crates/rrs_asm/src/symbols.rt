@@ -4,7 +4,7 @@ ghost use Rattle.std.specs.Prelude.{◌≡◌, false, true};
 ghost use Rattle.rrs_asm.specs.declared.symbols.Pass.{Pass};
 
 use crate::errors::{Halt, SourceErrorKind};
-use std::alloc::{AllocError, Global};
+use std::alloc::{AllocError, Allocator, Global};
 use std::collections::BTreeMap;
 
 /// A reading of the source.
@@ -30,14 +30,14 @@ struct Definition {
 
 /// The symbols of a source.
 #[derive(Drop)]
-pub struct Symbols<'a> {
-    names: BTreeMap<&'a [u8], Definition>,
+pub struct Symbols<'a, A: Allocator = Global> {
+    names: BTreeMap<&'a [u8], Definition, A>,
     /// The addresses of local labels, by their digit and how many of it stand before.
-    locals: BTreeMap<(u8, u32), u32>,
+    locals: BTreeMap<(u8, u32), u32, A>,
     /// How many local labels of each digit were met in this reading.
     counts: [u32; 10],
     /// How far each `%pcrel_hi` reaches, by the address of its statement.
-    distances: BTreeMap<u32, u32>,
+    distances: BTreeMap<u32, u32, A>,
     /// Which reading it is.
     pass: Pass,
 }
@@ -55,9 +55,9 @@ pub enum Known {
     Never,
 }
 
-impl<'a> Symbols<'a> {
+impl<'a, A: Allocator + Copy> Symbols<'a, A> {
     /// No symbols, before the first reading.
-    pub fn new(alloc: Global) -> Self {
+    pub fn new(alloc: A) -> Self {
         Symbols {
             names: BTreeMap::new(alloc),
             locals: BTreeMap::new(alloc),

@@ -7,7 +7,7 @@ use Rattle.rrs_asm.proofs.assembling.put.Goals as goal
 
 -- the open section has the statement behind the others
 pub returns-in-Some : goal.returns-in-Some
-returns-in-Some c =
+returns-in-Some g c =
     on-ok c.put.result c.put.ensures (λ grows. λ last name named.
-    let P : Section → Type 0 = λ s. Grows (Item.Laid c.args.number name ∷ []) s c.put.new.self in
+    let P : Section _ → Type 0 = λ s. Grows (Item.Laid c.args.number name ∷ []) s c.put.new.self in
     ReadsOn-at (Item.Laid c.args.number name) c.args.reading.now _ c.in-Some.section.now c.put.new.self tt (search rules) (subst P c.in-Some.ensures.value (grows last name named)) refl refl)

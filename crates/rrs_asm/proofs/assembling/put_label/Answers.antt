@@ -7,7 +7,7 @@ use Rattle.rrs_asm.proofs.assembling.put_label.Goals as goal
 
 -- the open section has the label behind the others
 pub returns-in-Some-clause-items : goal.returns-in-Some-clause-items
-returns-in-Some-clause-items c =
+returns-in-Some-clause-items g c =
     on-ok c.put_label.result c.put_label.ensures (λ grows. λ last.
-    let P : Section → Type 0 = λ s. Grows (Item.Label c.args.number c.args.name.now ∷ []) s c.put_label.new.self in
+    let P : Section _ → Type 0 = λ s. Grows (Item.Label c.args.number c.args.name.now ∷ []) s c.put_label.new.self in
     ReadsOn-at (Item.Label c.args.number c.args.name.now) c.args.reading.now _ c.in-Some.section.now c.put_label.new.self tt (search rules) (subst P c.in-Some.ensures.value grows) refl refl)

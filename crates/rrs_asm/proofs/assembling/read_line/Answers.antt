@@ -7,7 +7,7 @@ use Rattle.rrs_asm.proofs.assembling.read_line.Goals as goal
 
 -- the part was read, and who reads the others reads what was left
 pub loop-rest-preserved : goal.loop-rest-preserved
-loop-rest-preserved c =
+loop-rest-preserved g c =
     let same : c.loop-rest.symbols.pass ≡ c.args.symbols.now.pass = c.loop-rest.invariant.0 in (
       c.in_ok-perform.ensures.pass ∙ same,
       λ second end rest.
@@ -21,7 +21,7 @@ loop-rest-preserved c =
 
 -- nothing is left
 pub returns-clause-items : goal.returns-clause-items
-returns-clause-items c = λ second.
+returns-clause-items g c = λ second.
     let over : c.loop-rest.rest ≡ None = first_of (search rules, cc, grind (arith, common_steps)) in
     let Left : Option (Bor (List ℕ)) → Type 0 = λ r. ReadsOn (left_in_line c.args.number r) c.loop-rest.reading c.loop-rest.reading in
     c.loop-rest.invariant.1 second c.loop-rest.reading (subst Left (sym over) (ReadsOn-nothing c.loop-rest.reading))

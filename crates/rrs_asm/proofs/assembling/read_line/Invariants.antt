@@ -8,11 +8,11 @@ use Rattle.rrs_asm.proofs.assembling.read_line.Given as goal
 
 -- who reads what is left, reads the line
 abbrev pub invariant-loop-rest : goal.invariant-loop-rest
-invariant-loop-rest l =
+invariant-loop-rest g l =
     (l.symbols.pass ≡ l.fn.symbols.pass)
-    × (l.fn.symbols.pass ≡ Pass.Last → (end : Reading)
+    × (l.fn.symbols.pass ≡ Pass.Last → (end : Reading _)
     → ReadsOn (left_in_line l.number l.rest) l.reading end
     → ReadsOn (items_of_parts l.number (parts l.line)) l.fn.reading end)
 
 abbrev pub decreases-loop-rest : goal.decreases-loop-rest
-decreases-loop-rest l = option_map_or (λ rest. length rest.now + 1) l.rest 0
+decreases-loop-rest g l = option_map_or (λ rest. length rest.now + 1) l.rest 0

@@ -6,6 +6,6 @@ use Rattle.rrs_asm.proofs.assembling.read_part.Goals as goal
 
 -- the part is a statement
 pub returns-in-Statement-clause-items : goal.returns-in-Statement-clause-items
-returns-in-Statement-clause-items c =
+returns-in-Statement-clause-items g c =
     let P : Cut → Type 0 = λ p. (number : ℕ) → IfOk c.read_statement.result (λ read. items_of_read number read ≡ items_in number (shown p)) in
     subst P (sym c.in-Statement.is) c.read_statement.ensures.items

@@ -10,17 +10,17 @@ use Rattle.rrs_asm.proofs.assembling.read_source.Goals as goal
 
 -- nothing was read yet
 pub loop-rest-init : goal.loop-rest-init
-loop-rest-init c = (
+loop-rest-init g c = (
   omega arith,
   refl,
   λ last all none end reads.
-      let Is : List Section → Type 0 = λ xs. c.section_named-current.result ≡ first_open (names_of xs) in
+      let Is : List (Section _) → Type 0 = λ xs. c.section_named-current.result ≡ first_open (names_of xs) in
       reads (names_of c.args.sections.items) [] (IsRead-nothing (record { sections = c.args.sections; current = c.section_named-current.result; total = 0 }) all (subst Is c.deref.ensures.value c.section_named-current.ensures)),
 )
 
 -- the line was read, and who reads the others reads what was left
 pub loop-rest-preserved-in-Ok : goal.loop-rest-preserved-in-Ok
-loop-rest-preserved-in-Ok c =
+loop-rest-preserved-in-Ok g c =
     let Fits : Option (Bor (List ℕ)) → Type 0 = λ r. option_map_or (λ rest. c.loop-rest.number + length rest.now) r 0 ≤ length c.args.source.now in
     let same : c.loop-rest.symbols.pass ≡ c.args.symbols.now.pass = c.loop-rest.invariant.1 in (
       counted c.first_line.result.1 c.loop-rest.number (length c.args.source.now) c.in-Some.text.now c.first_line.ensures.shorter (subst Fits c.in-Some.is c.loop-rest.invariant.0),
@@ -35,7 +35,7 @@ loop-rest-preserved-in-Ok c =
 
 -- there is a mistake
 pub loop-rest-preserved : goal.loop-rest-preserved
-loop-rest-preserved c =
+loop-rest-preserved g c =
     let Fits : Option (Bor (List ℕ)) → Type 0 = λ r. option_map_or (λ rest. c.loop-rest.number + length rest.now) r 0 ≤ length c.args.source.now in (
       counted c.first_line.result.1 c.loop-rest.number (length c.args.source.now) c.in-Some.text.now c.first_line.ensures.shorter (subst Fits c.in-Some.is c.loop-rest.invariant.0),
       c.in-Err-Error.ensures.pass ∙ c.loop-rest.invariant.1,
@@ -44,7 +44,7 @@ loop-rest-preserved c =
 
 -- nothing is left
 pub returns : goal.returns
-returns c = λ last all none.
+returns g c = λ last all none.
     let over : c.loop-rest.rest ≡ None = first_of (search rules, cc, grind (arith, common_steps)) in
     let Left : Option (Bor (List ℕ)) → Type 0 = λ r. ReadsOn (left_in_source (c.loop-rest.number + 1) r) c.loop-rest.reading c.loop-rest.reading in
     c.loop-rest.invariant.2 last all none c.loop-rest.reading (subst Left (sym over) (ReadsOn-nothing c.loop-rest.reading))

@@ -4,4 +4,4 @@ use Rattle.rrs_asm.proofs.assembling.section_named.Given as goal
 
 -- none before has the name
 abbrev pub invariant-loop-index : goal.invariant-loop-index
-invariant-loop-index l = index_of l.name (names_of l.sections) ≡ l.index + index_of l.name (names_of (drop l.index l.sections))
+invariant-loop-index g l = index_of l.name (names_of l.sections) ≡ l.index + index_of l.name (names_of (drop l.index l.sections))

@@ -4,7 +4,7 @@ use Rattle.rrs_asm.proofs.sections.laid_out.Given as goal
 
 -- those so far are new
 abbrev pub invariant-loop-section : goal.invariant-loop-section
-invariant-loop-section l = All IsNew l.laid.items
+invariant-loop-section g l = All IsNew l.laid.items
 
 abbrev pub invariant-loop-kind : goal.invariant-loop-kind
-invariant-loop-kind l = All IsNew l.laid.items
+invariant-loop-kind g l = All IsNew l.laid.items

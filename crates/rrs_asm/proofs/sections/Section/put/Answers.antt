@@ -5,7 +5,7 @@ use Rattle.rrs_asm.proofs.sections.Section.put.Goals as goal
 
 -- the statement stands behind the others, and the size is that of the bytes
 pub returns-then-is_last : goal.returns-then-is_last
-returns-then-is_last c =
+returns-then-is_last g c =
     let size : c.saturating_add-size.result ≡ c.args.self.now.size + c.size.result = first_of (omega arith, grind (arith, common_steps)) in
     on-ok c.place.result c.place.ensures.placed (λ adds. λ last name named.
     Grows-laid c.args.line c.size.result name c.args.statement c.args.self.now
