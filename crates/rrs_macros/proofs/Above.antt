@@ -16,7 +16,7 @@ above-more all others line e has =
     ap lines_above e ∙ subst P (sym has) refl
 
 -- what is left has no lines above a directive
-pub kept : (source : List ℕ) (expanded : Expanded) (left made : List (List ℕ)) (number : ℕ)
+pub kept : {A : Type 0} (source : List ℕ) (expanded : Expanded A) (left made : List (List ℕ)) (number : ℕ)
     → ((others : List (List ℕ)) → made ≡ lines_above left ++ others → BeginWith (lines_above (lines source)) (lines expanded.text.items))
     → number + length (lines_above left) ≡ length (lines_above (lines source))
     → ((k : ℕ) → k < number → get_or expanded.lines.items k 0 ≡ k + 1)

@@ -9,7 +9,7 @@ one_line text =
     let counted : length (lines text) ≡ count_by is_line_feed text + 1 = length-slice_split is_line_feed text in
     omega (arith, counted)
 
-pub mapped : (source : List ℕ) (total : ℕ) (made : Expanded) → total ≡ length (lines source) → 1 ≤ length made.lines.items → IsMade total made → IsMapped source made
+pub mapped : {A : Type 0} (source : List ℕ) (total : ℕ) (made : Expanded A) → total ≡ length (lines source) → 1 ≤ length made.lines.items → IsMade total made → IsMapped source made
 mapped source total made same some is =
     let counted : length (lines made.text.items) ≡ count_by is_line_feed made.text.items + 1 = length-slice_split is_line_feed made.text.items in
     let P : ℕ → Type 0 = λ n. All (IsLine n) made.lines.items in record {

@@ -3,7 +3,7 @@
 use crate::cursor::Cursor;
 use crate::errors::{Halt, MacroErrorKind, Slip};
 use crate::values::character;
-use std::alloc::{AllocError, Global};
+use std::alloc::{AllocError, Allocator};
 
 /// The most parameters of a macro.
 const MOST_PARAMETERS: usize = 256;
@@ -21,14 +21,17 @@ pub enum Kind {
 
 /// A parameter.
 #[derive(Drop)]
-pub struct Parameter {
-    pub name: Vec<u8>,
-    pub default: Vec<u8>,
+pub struct Parameter<A: Allocator> {
+    pub name: Vec<u8, A>,
+    pub default: Vec<u8, A>,
     pub kind: Kind,
 }
 
 /// Takes the parameters of a macro.
-pub fn take_parameters(alloc: Global, cursor: &mut Cursor) -> Result<Vec<Parameter>, Halt> {
+pub fn take_parameters<A: Allocator + Copy>(
+    alloc: A,
+    cursor: &mut Cursor,
+) -> Result<Vec<Parameter<A>, A>, Halt> {
     let mut parameters = Vec::new(alloc);
     for _ in 0..u64::MAX {
         if cursor.is_over() {
@@ -46,7 +49,10 @@ pub fn take_parameters(alloc: Global, cursor: &mut Cursor) -> Result<Vec<Paramet
 }
 
 /// What is wrong with a parameter of this name behind others, if something is.
-fn mistake_behind(parameters: &[Parameter], name: &[u8]) -> Option<MacroErrorKind> {
+fn mistake_behind<A: Allocator + Copy>(
+    parameters: &[Parameter<A>],
+    name: &[u8],
+) -> Option<MacroErrorKind> {
     if index_of(parameters, name).is_some() {
         Some(MacroErrorKind::DuplicateParameter)
     } else if parameters.len() >= MOST_PARAMETERS {
@@ -59,7 +65,7 @@ fn mistake_behind(parameters: &[Parameter], name: &[u8]) -> Option<MacroErrorKin
 }
 
 /// Whether the last parameter takes all that is left.
-fn takes_rest(parameters: &[Parameter]) -> bool {
+fn takes_rest<A: Allocator + Copy>(parameters: &[Parameter<A>]) -> bool {
     match parameters.last() {
         Some(parameter) => parameter.kind == Kind::Rest,
         None => false,
@@ -67,7 +73,10 @@ fn takes_rest(parameters: &[Parameter]) -> bool {
 }
 
 /// Takes a parameter: its name, what it takes, and its default.
-fn take_parameter(alloc: Global, cursor: &mut Cursor) -> Result<Parameter, Halt> {
+fn take_parameter<A: Allocator + Copy>(
+    alloc: A,
+    cursor: &mut Cursor,
+) -> Result<Parameter<A>, Halt> {
     let name = cursor.name()?;
     let kind = take_kind(cursor)?;
     let mut parameter = Parameter {
@@ -95,7 +104,7 @@ fn take_kind(cursor: &mut Cursor) -> Result<Kind, Slip> {
 }
 
 /// Which parameter has a name.
-pub fn index_of(parameters: &[Parameter], name: &[u8]) -> Option<usize> {
+pub fn index_of<A: Allocator + Copy>(parameters: &[Parameter<A>], name: &[u8]) -> Option<usize> {
     for (index, parameter) in parameters.iter().enumerate() {
         if parameter.name.as_slice() == name {
             return Some(index);
@@ -106,11 +115,11 @@ pub fn index_of(parameters: &[Parameter], name: &[u8]) -> Option<usize> {
 
 /// Takes the arguments of a call: of each parameter what stands in its place, which is its default
 /// where nothing is given.
-pub fn arguments(
-    alloc: Global,
+pub fn arguments<A: Allocator + Copy>(
+    alloc: A,
     cursor: &mut Cursor,
-    parameters: &[Parameter],
-) -> Result<Vec<Vec<u8>>, Halt> {
+    parameters: &[Parameter<A>],
+) -> Result<Vec<Vec<u8, A>, A>, Halt> {
     let call = cursor.slip(MacroErrorKind::Missing);
     let mut values = Vec::new(alloc);
     for _ in parameters {
@@ -145,9 +154,9 @@ fn keyword<'a>(cursor: &Cursor<'a>) -> Option<&'a [u8]> {
 }
 
 /// Which parameter the next argument is of. Its name is taken.
-fn parameter_for(
+fn parameter_for<A: Allocator + Copy>(
     cursor: &mut Cursor,
-    parameters: &[Parameter],
+    parameters: &[Parameter<A>],
     name: Option<&[u8]>,
     next: usize,
     is_named: bool,
@@ -168,11 +177,11 @@ fn parameter_for(
 }
 
 /// Takes an argument as the value of a parameter.
-fn take_value(
+fn take_value<A: Allocator + Copy>(
     cursor: &mut Cursor,
-    parameters: &[Parameter],
+    parameters: &[Parameter<A>],
     index: usize,
-    values: &mut Vec<Vec<u8>>,
+    values: &mut Vec<Vec<u8, A>, A>,
 ) -> Result<(), AllocError> {
     let (Some(parameter), Some(value)) = (parameters.get(index), values.get_mut(index)) else {
         return Ok(());
@@ -186,9 +195,9 @@ fn take_value(
 }
 
 /// Gives each parameter that has no value its default.
-fn give_defaults(
-    parameters: &[Parameter],
-    values: &mut Vec<Vec<u8>>,
+fn give_defaults<A: Allocator + Copy>(
+    parameters: &[Parameter<A>],
+    values: &mut Vec<Vec<u8, A>, A>,
     call: Slip,
 ) -> Result<(), Halt> {
     for (index, parameter) in parameters.iter().enumerate() {
@@ -200,7 +209,11 @@ fn give_defaults(
 }
 
 /// Gives a parameter its default, if it has no value.
-fn give_default(parameter: &Parameter, value: &mut Vec<u8>, call: Slip) -> Result<(), Halt> {
+fn give_default<A: Allocator + Copy>(
+    parameter: &Parameter<A>,
+    value: &mut Vec<u8, A>,
+    call: Slip,
+) -> Result<(), Halt> {
     if !value.is_empty() {
         return Ok(());
     }
@@ -212,7 +225,10 @@ fn give_default(parameter: &Parameter, value: &mut Vec<u8>, call: Slip) -> Resul
 
 /// Takes an argument: a string without its quotation marks, or what stands before a comma or a
 /// blank, with blanks in parentheses and brackets.
-pub fn take_argument(cursor: &mut Cursor, value: &mut Vec<u8>) -> Result<(), AllocError> {
+pub fn take_argument<A: Allocator + Copy>(
+    cursor: &mut Cursor,
+    value: &mut Vec<u8, A>,
+) -> Result<(), AllocError> {
     if cursor.take_if(b'"') {
         return take_string(cursor, value);
     }
@@ -231,9 +247,9 @@ pub fn take_argument(cursor: &mut Cursor, value: &mut Vec<u8>) -> Result<(), All
 }
 
 /// Takes all that is left before a byte, without blanks that mean nothing.
-pub fn take_all(
+pub fn take_all<A: Allocator + Copy>(
     cursor: &mut Cursor,
-    value: &mut Vec<u8>,
+    value: &mut Vec<u8, A>,
     end: Option<u8>,
 ) -> Result<(), AllocError> {
     for _ in 0..u64::MAX {
@@ -255,7 +271,10 @@ fn is_end(next: Option<u8>, end: Option<u8>) -> bool {
 }
 
 /// Takes a byte, a string as it stands, or a character constant as its number.
-fn take_piece(cursor: &mut Cursor, value: &mut Vec<u8>) -> Result<(), AllocError> {
+fn take_piece<A: Allocator + Copy>(
+    cursor: &mut Cursor,
+    value: &mut Vec<u8, A>,
+) -> Result<(), AllocError> {
     let Some(byte) = cursor.take() else {
         return Ok(());
     };
@@ -270,7 +289,10 @@ fn take_piece(cursor: &mut Cursor, value: &mut Vec<u8>) -> Result<(), AllocError
 }
 
 /// Takes what is left of a string, with the quotation mark that ends it.
-fn take_to_quote(cursor: &mut Cursor, value: &mut Vec<u8>) -> Result<(), AllocError> {
+fn take_to_quote<A: Allocator + Copy>(
+    cursor: &mut Cursor,
+    value: &mut Vec<u8, A>,
+) -> Result<(), AllocError> {
     let mut is_escaped = false;
     for _ in 0..u64::MAX {
         let Some(byte) = cursor.take_raw() else {
@@ -287,7 +309,10 @@ fn take_to_quote(cursor: &mut Cursor, value: &mut Vec<u8>) -> Result<(), AllocEr
 
 /// Takes what is left of a character constant, with the apostrophe that can end it, and appends its
 /// number, as GNU `as` does before it looks at macros.
-fn take_character(cursor: &mut Cursor, value: &mut Vec<u8>) -> Result<(), AllocError> {
+fn take_character<A: Allocator + Copy>(
+    cursor: &mut Cursor,
+    value: &mut Vec<u8, A>,
+) -> Result<(), AllocError> {
     match character(cursor) {
         Some(byte) => push_decimal(byte, value),
         None => Ok(()),
@@ -295,7 +320,7 @@ fn take_character(cursor: &mut Cursor, value: &mut Vec<u8>) -> Result<(), AllocE
 }
 
 /// Appends a number.
-fn push_decimal(number: u8, value: &mut Vec<u8>) -> Result<(), AllocError> {
+fn push_decimal<A: Allocator + Copy>(number: u8, value: &mut Vec<u8, A>) -> Result<(), AllocError> {
     if number >= 100 {
         value.push(b'0' + number / 100)?;
     }
@@ -306,7 +331,10 @@ fn push_decimal(number: u8, value: &mut Vec<u8>) -> Result<(), AllocError> {
 }
 
 /// Takes what is left of a string, without the quotation mark that ends it. Two of them are one.
-pub fn take_string(cursor: &mut Cursor, value: &mut Vec<u8>) -> Result<(), AllocError> {
+pub fn take_string<A: Allocator + Copy>(
+    cursor: &mut Cursor,
+    value: &mut Vec<u8, A>,
+) -> Result<(), AllocError> {
     let mut is_escaped = false;
     for _ in 0..u64::MAX {
         let Some(byte) = cursor.take_raw() else {

@@ -7,15 +7,15 @@ use crate::errors::{Halt, MacroError, MacroErrorKind};
 use crate::frames::{Condition, Reader};
 use crate::tables::Tables;
 use crate::values::value;
-use std::alloc::AllocError;
+use std::alloc::{AllocError, Allocator};
 
 /// Begins a condition. With a mistake in it nothing of it is read.
-pub fn begin(
-    tables: &Tables,
+pub fn begin<A: Allocator + Copy>(
+    tables: &Tables<A>,
     test: Test,
     cursor: &mut Cursor,
     place: MacroError,
-    reader: &mut Reader,
+    reader: &mut Reader<A>,
 ) -> Result<(), Halt> {
     match holds(tables, test, cursor) {
         Ok(holds) => {
@@ -30,11 +30,11 @@ pub fn begin(
 }
 
 /// Ends the innermost condition, or goes on with `.else` or `.elseif`.
-pub fn conclude(
-    tables: &Tables,
+pub fn conclude<A: Allocator + Copy>(
+    tables: &Tables<A>,
     directive: Directive,
     cursor: &mut Cursor,
-    reader: &mut Reader,
+    reader: &mut Reader<A>,
 ) -> Result<(), Halt> {
     let Some(condition) = reader.conditions.pop() else {
         return Err(Halt::Slip(cursor.slip(MacroErrorKind::NoCondition)));
@@ -66,7 +66,11 @@ pub fn conclude(
 }
 
 /// Whether what a condition asks holds.
-fn holds(tables: &Tables, test: Test, cursor: &mut Cursor) -> Result<bool, Halt> {
+fn holds<A: Allocator + Copy>(
+    tables: &Tables<A>,
+    test: Test,
+    cursor: &mut Cursor,
+) -> Result<bool, Halt> {
     match test {
         Test::Compared(comparison) => {
             let value = value(cursor, &tables.symbols)?;
@@ -85,7 +89,10 @@ fn holds(tables: &Tables, test: Test, cursor: &mut Cursor) -> Result<bool, Halt>
 }
 
 /// Takes two texts with a comma between them, and tells whether they are the same.
-fn are_same_texts(tables: &Tables, cursor: &mut Cursor) -> Result<bool, Halt> {
+fn are_same_texts<A: Allocator + Copy>(
+    tables: &Tables<A>,
+    cursor: &mut Cursor,
+) -> Result<bool, Halt> {
     let slip = cursor.slip(MacroErrorKind::Strings);
     let mut one = Vec::new(tables.alloc);
     take_all(cursor, &mut one, Some(b','))?;
@@ -97,14 +104,21 @@ fn are_same_texts(tables: &Tables, cursor: &mut Cursor) -> Result<bool, Halt> {
 }
 
 /// Takes all that is left, and tells whether it is this text.
-fn is_rest(tables: &Tables, cursor: &mut Cursor, text: &[u8]) -> Result<bool, AllocError> {
+fn is_rest<A: Allocator + Copy>(
+    tables: &Tables<A>,
+    cursor: &mut Cursor,
+    text: &[u8],
+) -> Result<bool, AllocError> {
     let mut rest = Vec::new(tables.alloc);
     take_all(cursor, &mut rest, None)?;
     Ok(rest.as_slice() == text)
 }
 
 /// Takes two strings with a comma between them, and tells whether they are the same.
-fn are_same_strings(tables: &Tables, cursor: &mut Cursor) -> Result<bool, Halt> {
+fn are_same_strings<A: Allocator + Copy>(
+    tables: &Tables<A>,
+    cursor: &mut Cursor,
+) -> Result<bool, Halt> {
     let one = string(tables, cursor)?;
     if cursor.take_if(b',') {
         is_string(tables, cursor, &one)
@@ -114,14 +128,21 @@ fn are_same_strings(tables: &Tables, cursor: &mut Cursor) -> Result<bool, Halt> 
 }
 
 /// Takes a string that is the last, and tells whether it is this text.
-fn is_string(tables: &Tables, cursor: &mut Cursor, text: &[u8]) -> Result<bool, Halt> {
+fn is_string<A: Allocator + Copy>(
+    tables: &Tables<A>,
+    cursor: &mut Cursor,
+    text: &[u8],
+) -> Result<bool, Halt> {
     let other = string(tables, cursor)?;
     cursor.end()?;
     Ok(other.as_slice() == text)
 }
 
 /// Takes a string.
-fn string(tables: &Tables, cursor: &mut Cursor) -> Result<Vec<u8>, Halt> {
+fn string<A: Allocator + Copy>(
+    tables: &Tables<A>,
+    cursor: &mut Cursor,
+) -> Result<Vec<u8, A>, Halt> {
     let slip = cursor.slip(MacroErrorKind::Strings);
     if !cursor.take_if(b'"') {
         return Err(Halt::Slip(slip));

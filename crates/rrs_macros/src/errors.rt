@@ -1,6 +1,6 @@
 //! What can be wrong with macros, conditions and repetitions.
 
-use std::alloc::{AllocError, AllocFailed};
+use std::alloc::{AllocError, AllocFailed, Allocator, Global};
 use std::error::Error;
 use std::fmt;
 
@@ -132,15 +132,16 @@ impl fmt::Display for MacroError {
 }
 
 /// Why a source is not expanded.
-#[derive(Debug, Drop)]
-pub enum MacroFault {
+#[derive(Drop)]
+#[derive_where(Debug)]
+pub enum MacroFault<A: Allocator = Global> {
     /// The mistakes, in the order in which they are met, up to 20.
-    Mistakes(Vec<MacroError>),
+    Mistakes(Vec<MacroError, A>),
     /// Out of memory.
     OutOfMemory,
 }
 
-impl fmt::Display for MacroFault {
+impl<A: Allocator> fmt::Display for MacroFault<A> {
     fn fmt<W: fmt::Write>(&self, f: &mut fmt::Formatter<W>) -> fmt::Result {
         match self {
             MacroFault::Mistakes(mistakes) => {
@@ -152,15 +153,15 @@ impl fmt::Display for MacroFault {
     }
 }
 
-impl Error for MacroFault {}
+impl<A: Allocator> Error for MacroFault<A> {}
 
-impl From<AllocError> for MacroFault {
+impl<A: Allocator> From<AllocError> for MacroFault<A> {
     fn from(_: AllocError) -> Self {
         MacroFault::OutOfMemory
     }
 }
 
-impl<T: Drop> From<AllocFailed<T>> for MacroFault {
+impl<T: Drop, A: Allocator> From<AllocFailed<T>> for MacroFault<A> {
     fn from(_: AllocFailed<T>) -> Self {
         MacroFault::OutOfMemory
     }

@@ -16,7 +16,7 @@ use crate::performing::{Span, Turn, read_step};
 use crate::scanning::begins_directive;
 use crate::tables::Tables;
 use crate::words::has_directives;
-use std::alloc::{AllocError, Global};
+use std::alloc::{AllocError, Allocator, Global};
 
 /// The most macros and repetitions in one another, with the source.
 const MOST_DEPTH: usize = 100;
@@ -32,17 +32,17 @@ const MOST_MISTAKES: usize = 20;
 
 /// A source that is being expanded.
 #[derive(Drop)]
-struct Expansion {
+struct Expansion<A: Allocator> {
     /// What is being read, the innermost last.
-    frames: Vec<Frame>,
-    mistakes: Vec<MacroError>,
+    frames: Vec<Frame<A>, A>,
+    mistakes: Vec<MacroError, A>,
     /// Whether nothing more is read.
     is_over: bool,
 }
 
-impl Expansion {
+impl<A: Allocator + Copy> Expansion<A> {
     /// Nothing of a source is read.
-    fn new(alloc: Global, source: &[u8]) -> Result<Self, AllocError> {
+    fn new(alloc: A, source: &[u8]) -> Result<Self, AllocError> {
         let mut frames = Vec::new(alloc);
         frames.push(Frame::of_source(alloc, source)?)?;
         Ok(Expansion {
@@ -53,7 +53,7 @@ impl Expansion {
     }
 
     /// What is read next, and is no more among what is being read.
-    fn next(&mut self) -> Option<Frame> {
+    fn next(&mut self) -> Option<Frame<A>> {
         if self.is_over {
             None
         } else {
@@ -71,7 +71,7 @@ impl Expansion {
     }
 
     /// Goes on where a text is read to its end.
-    fn finish(&mut self, frame: Frame) -> Result<(), AllocError> {
+    fn finish(&mut self, frame: Frame<A>) -> Result<(), AllocError> {
         let mut frame = frame;
         if let Some(condition) = frame.reader.conditions.pop() {
             frame.reader.conditions.clear();
@@ -87,8 +87,8 @@ impl Expansion {
     /// are made.
     fn turn(
         &mut self,
-        frame: Frame,
-        turn: Turn,
+        frame: Frame<A>,
+        turn: Turn<A>,
         origin: Origin,
         made: usize,
     ) -> Result<(), AllocError> {
@@ -109,7 +109,7 @@ impl Expansion {
     }
 
     /// Reads another text next, where there are not too many.
-    fn enter(&mut self, inner: Frame, deep: MacroError) -> Result<(), AllocError> {
+    fn enter(&mut self, inner: Frame<A>, deep: MacroError) -> Result<(), AllocError> {
         if self.frames.len() >= MOST_DEPTH {
             return self.tell(deep);
         }
@@ -117,7 +117,7 @@ impl Expansion {
     }
 
     /// Goes on behind what is not performed.
-    fn stumble(&mut self, frame: Frame, halt: Halt, origin: Origin) -> Result<(), AllocError> {
+    fn stumble(&mut self, frame: Frame<A>, halt: Halt, origin: Origin) -> Result<(), AllocError> {
         match halt {
             Halt::OutOfMemory => Err(AllocError),
             Halt::Slip(slip) => {
@@ -128,7 +128,7 @@ impl Expansion {
     }
 
     /// The mistakes, where there are any or something is left to be read.
-    fn mistakes(self) -> Result<Vec<MacroError>, AllocError> {
+    fn mistakes(self) -> Result<Vec<MacroError, A>, AllocError> {
         let Expansion {
             frames,
             mistakes,
@@ -165,6 +165,26 @@ pub fn expand(alloc: Global, source: &[u8]) -> Result<Expanded, MacroFault>
     ensures becomes { has_directives source.now ≡ true
         → IfOk result (λ expanded. IsExpansion source.now expanded.text.items) }
 {
+    expand_in(alloc, source)
+}
+
+/// Does what [expand] does, with any allocator: in memory that a caller lends, say.
+///
+/// # Errors
+///
+/// `MacroFault::Mistakes` with the first 20 mistakes, in the order in which they are met, and
+/// `MacroFault::OutOfMemory`.
+pub fn expand_in<A: Allocator + Copy>(alloc: A, source: &[u8]) -> Result<Expanded<A>, MacroFault<A>>
+    ensures same { has_directives source.now ≡ false → IfOk result (IsSame source.now) }
+    ensures taken { has_directives source.now ≡ false
+        → IfErr result (λ fault. fault ≡ MacroFault.OutOfMemory) }
+    ensures gone { has_directives source.now ≡ true → IfOk result (λ expanded.
+        list_any begins_one (lines expanded.text.items) ≡ false) }
+    ensures mapped { IfOk result (IsMapped source.now) }
+    ensures above { has_directives source.now ≡ true → IfOk result (KeepsAbove source.now) }
+    ensures becomes { has_directives source.now ≡ true
+        → IfOk result (λ expanded. IsExpansion source.now expanded.text.items) }
+{
     if has_directives(source) {
         expanded(alloc, source)
     } else {
@@ -176,7 +196,7 @@ pub fn expand(alloc: Global, source: &[u8]) -> Result<Expanded, MacroFault>
 }
 
 /// A source with directives, expanded.
-fn expanded(alloc: Global, source: &[u8]) -> Result<Expanded, MacroFault>
+fn expanded<A: Allocator + Copy>(alloc: A, source: &[u8]) -> Result<Expanded<A>, MacroFault<A>>
     ensures gone { IfOk result (λ expanded.
         list_any begins_one (lines expanded.text.items) ≡ false) }
     ensures mapped { IfOk result (IsMapped source.now) }
@@ -204,11 +224,11 @@ fn expanded(alloc: Global, source: &[u8]) -> Result<Expanded, MacroFault>
 }
 
 /// Reads a line or a statement of a text, and puts what comes of it.
-fn advance(
-    tables: &mut Tables,
-    expansion: &mut Expansion,
-    frame: Frame,
-    out: &mut Expanded,
+fn advance<A: Allocator + Copy>(
+    tables: &mut Tables<A>,
+    expansion: &mut Expansion<A>,
+    frame: Frame<A>,
+    out: &mut Expanded<A>,
     total: usize,
 ) -> Result<(), AllocError>
     ensures { 1 ≤ total → IsMade total out.old → OnOk result (IsMade total out.new) }
@@ -227,7 +247,11 @@ fn advance(
 }
 
 /// A result, if it is one of this source.
-fn settled(alloc: Global, source: &[u8], whole: Expanded) -> Result<Expanded, MacroFault>
+fn settled<A: Allocator + Copy>(
+    alloc: A,
+    source: &[u8],
+    whole: Expanded<A>,
+) -> Result<Expanded<A>, MacroFault<A>>
     ensures gone { IfOk result (λ expanded.
         list_any begins_one (lines expanded.text.items) ≡ false) }
     ensures mapped { IsMapped source.now whole → IfOk result (IsMapped source.now) }
@@ -246,7 +270,7 @@ fn settled(alloc: Global, source: &[u8], whole: Expanded) -> Result<Expanded, Ma
 
 /// That a directive is left in a result, or that it is another than the source becomes. No source is
 /// known of which that is so.
-fn left_over(alloc: Global) -> Result<MacroFault, AllocError> {
+fn left_over<A: Allocator + Copy>(alloc: A) -> Result<MacroFault<A>, AllocError> {
     let mut mistakes = Vec::new(alloc);
     mistakes.push(MacroError {
         line: 1,
@@ -257,7 +281,7 @@ fn left_over(alloc: Global) -> Result<MacroFault, AllocError> {
 }
 
 /// A result of one of so many lines of the source, with a line at least.
-fn completed(out: Expanded, total: usize) -> Result<Expanded, AllocError>
+fn completed<A: Allocator + Copy>(out: Expanded<A>, total: usize) -> Result<Expanded<A>, AllocError>
     ensures { 1 ≤ total → IsMade total out
         → IfOk result (λ whole. (1 ≤ length whole.lines.items) × IsMade total whole) }
 {
@@ -269,8 +293,8 @@ fn completed(out: Expanded, total: usize) -> Result<Expanded, AllocError>
 }
 
 /// Appends a part of a text, if one is put, as a line of one of so many lines of the source.
-fn put_span(
-    out: &mut Expanded,
+fn put_span<A: Allocator + Copy>(
+    out: &mut Expanded<A>,
     text: &[u8],
     span: Option<Span>,
     total: usize,

@@ -7,7 +7,7 @@ ghost use Rattle.rrs_macros.specs.Lines.{lines};
 
 use crate::repeating::{LineKind, kind_of};
 use crate::scanning::first_line;
-use std::alloc::{AllocError, Global};
+use std::alloc::{AllocError, Allocator};
 
 /// How far lines become others.
 #[derive(Clone, Copy)]
@@ -23,7 +23,11 @@ enum Reach {
 }
 
 /// Whether a text is what the lines of a source become.
-pub fn is_expansion(alloc: Global, source: &[u8], text: &[u8]) -> Result<bool, AllocError>
+pub fn is_expansion<A: Allocator + Copy>(
+    alloc: A,
+    source: &[u8],
+    text: &[u8],
+) -> Result<bool, AllocError>
     ensures { IfOk result (λ yes. yes ≡ true → IsExpansion source.now text.now) }
 {
     let rows = rows_of(alloc, source)?;
@@ -32,7 +36,7 @@ pub fn is_expansion(alloc: Global, source: &[u8], text: &[u8]) -> Result<bool, A
 }
 
 /// The lines of a text.
-fn rows_of(alloc: Global, text: &[u8]) -> Result<Vec<&[u8]>, AllocError>
+fn rows_of<A: Allocator + Copy>(alloc: A, text: &[u8]) -> Result<Vec<&[u8], A>, AllocError>
     ensures { IfOk result (λ rows. texts rows.items ≡ lines text.now) }
 {
     let mut rows = Vec::new(alloc);

@@ -2,7 +2,7 @@
 
 use crate::blocks::height;
 use crate::errors::{MacroError, Slip};
-use std::alloc::{AllocError, Global};
+use std::alloc::{AllocError, Allocator};
 
 /// A condition whose `.endif` is not met yet.
 #[derive(Clone, Copy)]
@@ -51,7 +51,7 @@ impl Condition {
 
 /// How far a text is read.
 #[derive(Drop)]
-pub struct Reader {
+pub struct Reader<A: Allocator> {
     /// Where what is left begins.
     next: Option<usize>,
     /// Where its line begins.
@@ -67,10 +67,10 @@ pub struct Reader {
     /// Whether it is the source.
     pub is_source: bool,
     /// The conditions whose `.endif` is not met yet, the innermost last.
-    pub conditions: Vec<Condition>,
+    pub conditions: Vec<Condition, A>,
 }
 
-impl Reader {
+impl<A: Allocator + Copy> Reader<A> {
     /// The line of the source that is read.
     pub fn number(&self) -> usize {
         self.first.saturating_add(self.passed)
@@ -158,15 +158,15 @@ impl Origin {
 
 /// A text, and how far it is read.
 #[derive(Drop)]
-pub struct Frame {
-    pub text: Vec<u8>,
-    pub reader: Reader,
+pub struct Frame<A: Allocator> {
+    pub text: Vec<u8, A>,
+    pub reader: Reader<A>,
 }
 
-impl Frame {
+impl<A: Allocator + Copy> Frame<A> {
     /// A text whose first line is of a line of the source, with so many lines before they are of the
     /// same lines of the source again. It is read once and so often again.
-    pub fn new(alloc: Global, text: Vec<u8>, first: usize, height: usize, copies: u64) -> Self {
+    pub fn new(alloc: A, text: Vec<u8, A>, first: usize, height: usize, copies: u64) -> Self {
         let reader = Reader {
             next: Some(0),
             line_start: 0,
@@ -181,7 +181,7 @@ impl Frame {
     }
 
     /// The source.
-    pub fn of_source(alloc: Global, source: &[u8]) -> Result<Self, AllocError> {
+    pub fn of_source(alloc: A, source: &[u8]) -> Result<Self, AllocError> {
         let text = Vec::from_slice(alloc, source)?;
         let mut frame = Frame::new(alloc, text, 1, height(source), 0);
         frame.reader.is_source = true;

@@ -6,10 +6,11 @@ ghost use Rattle.rrs_macros.specs.Lines.{KeepsAbove};
 use crate::output::Expanded;
 use crate::scanning::first_line;
 use crate::words::has_directives;
+use std::alloc::Allocator;
 
 /// Whether the lines above the first one with a directive stand at the head of a result, each as it
 /// is, and of itself.
-pub fn keeps_above(source: &[u8], expanded: &Expanded) -> bool
+pub fn keeps_above<A: Allocator + Copy>(source: &[u8], expanded: &Expanded<A>) -> bool
     ensures { result ≡ true → KeepsAbove source.now expanded.now }
 {
     let mut number = 0usize;

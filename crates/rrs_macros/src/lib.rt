@@ -29,5 +29,5 @@ mod values;
 mod words;
 
 pub use errors::{MacroError, MacroErrorKind, MacroFault};
-pub use expanding::{MOST_MADE, expand};
+pub use expanding::{MOST_MADE, expand, expand_in};
 pub use output::Expanded;

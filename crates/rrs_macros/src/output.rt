@@ -4,20 +4,21 @@ ghost use Rattle.std.specs.Prelude.{◌≡◌, ℕ, ◌≤◌, length, OnOk, IfO
 ghost use Rattle.rrs_macros.specs.Lines.{IsLine, IsMade, IsSame};
 
 use crate::scanning::first_line;
-use std::alloc::{AllocError, Global};
+use std::alloc::{AllocError, Allocator, Global};
 
 /// A source without macros, conditions and repetitions.
-#[derive(Debug, Drop)]
-pub struct Expanded {
+#[derive(Drop)]
+#[derive_where(Debug)]
+pub struct Expanded<A: Allocator = Global> {
     /// Its text.
-    pub text: Vec<u8>,
+    pub text: Vec<u8, A>,
     /// Of each of its lines the line of the source that it is of, counted from 1.
-    pub lines: Vec<usize>,
+    pub lines: Vec<usize, A>,
 }
 
-impl Expanded {
+impl<A: Allocator + Copy> Expanded<A> {
     /// Nothing.
-    pub fn new(alloc: Global) -> Self
+    pub fn new(alloc: A) -> Self
         ensures { (total : ℕ) → IsMade total result }
     {
         Expanded {
@@ -41,7 +42,7 @@ impl Expanded {
 }
 
 /// A source as it stands.
-pub fn unchanged(alloc: Global, source: &[u8]) -> Result<Expanded, AllocError>
+pub fn unchanged<A: Allocator + Copy>(alloc: A, source: &[u8]) -> Result<Expanded<A>, AllocError>
     ensures { IfOk result (IsSame source.now) }
 {
     let mut lines = Vec::new(alloc);

@@ -13,6 +13,7 @@ use crate::scanning::{
 use crate::substitution::without_comments;
 use crate::tables::{Lines, Tables};
 use crate::values::value;
+use std::alloc::Allocator;
 
 /// A part of a text that is a line of the result.
 #[derive(Clone, Copy)]
@@ -25,22 +26,22 @@ pub struct Span {
 
 /// What is read next.
 #[derive(Drop)]
-pub enum Turn {
+pub enum Turn<A: Allocator> {
     /// What stands behind.
     Stay,
     /// Another text, and then what stands behind.
-    Enter(Frame),
+    Enter(Frame<A>),
     /// What stands behind the call or the repetition that is read.
     Leave,
 }
 
 /// What comes of a statement or a line.
 #[derive(Drop)]
-pub struct Step {
+pub struct Step<A: Allocator> {
     /// What is put into the result, if something is.
     pub line: Option<Span>,
     /// What is read next.
-    pub turn: Turn,
+    pub turn: Turn<A>,
 }
 
 /// Where a statement stands: its text, what is left of it behind the statement, and its line.
@@ -56,11 +57,11 @@ struct Site<'a> {
 }
 
 /// Reads a line or a statement of a text, if something is left of it.
-pub fn read_step(
-    tables: &mut Tables,
+pub fn read_step<A: Allocator + Copy>(
+    tables: &mut Tables<A>,
     text: &[u8],
-    reader: &mut Reader,
-) -> Result<Option<Step>, Halt> {
+    reader: &mut Reader<A>,
+) -> Result<Option<Step<A>>, Halt> {
     match reader.rest(text) {
         Some(rest) => Ok(Some(read_rest(tables, text, rest, reader)?)),
         None => Ok(None),
@@ -68,12 +69,12 @@ pub fn read_step(
 }
 
 /// Reads a line or a statement of a text of which this is left.
-fn read_rest(
-    tables: &mut Tables,
+fn read_rest<A: Allocator + Copy>(
+    tables: &mut Tables<A>,
     text: &[u8],
     rest: &[u8],
-    reader: &mut Reader,
-) -> Result<Step, Halt> {
+    reader: &mut Reader<A>,
+) -> Result<Step<A>, Halt> {
     let start = text.len().saturating_sub(rest.len());
     let number = reader.number();
     if reader.is_at_line() && !reader.is_skipping() {
@@ -109,7 +110,7 @@ fn read_rest(
 }
 
 /// That what stands behind is read next.
-fn stay(line: Option<Span>) -> Step {
+fn stay<A: Allocator + Copy>(line: Option<Span>) -> Step<A> {
     Step {
         line,
         turn: Turn::Stay,
@@ -117,7 +118,12 @@ fn stay(line: Option<Span>) -> Step {
 }
 
 /// Reads a statement of a condition that does not hold: it counts where it is a condition.
-fn skip(tables: &mut Tables, site: Site, code: &[u8], reader: &mut Reader) -> Result<Step, Halt> {
+fn skip<A: Allocator + Copy>(
+    tables: &mut Tables<A>,
+    site: Site,
+    code: &[u8],
+    reader: &mut Reader<A>,
+) -> Result<Step<A>, Halt> {
     let (word, operands) = split_word(code);
     let cursor = &mut Cursor::new(operands, site.behind);
     match directive_named(word) {
@@ -144,13 +150,13 @@ fn place(site: Site, code: &[u8]) -> MacroError {
 
 /// Performs a statement that begins at a place of its text. Its labels are put, and all of it where
 /// it is no directive of macros and no call.
-fn perform(
-    tables: &mut Tables,
+fn perform<A: Allocator + Copy>(
+    tables: &mut Tables<A>,
     site: Site,
     statement: Statement,
     start: usize,
-    reader: &mut Reader,
-) -> Result<Step, Halt> {
+    reader: &mut Reader<A>,
+) -> Result<Step<A>, Halt> {
     let code = statement.code;
     let behind = behind_labels(code);
     let labels = code
@@ -167,13 +173,13 @@ fn perform(
 }
 
 /// Performs a statement that is no directive of macros, with these labels.
-fn call_or_put(
-    tables: &mut Tables,
+fn call_or_put<A: Allocator + Copy>(
+    tables: &mut Tables<A>,
     site: Site,
     code: &[u8],
     labels: &[u8],
     start: usize,
-) -> Result<Step, Halt> {
+) -> Result<Step<A>, Halt> {
     let number = site.origin.number;
     let Some((name, operands)) = tables.call_in(code)? else {
         tables.symbols.note(code)?;
@@ -195,7 +201,12 @@ fn span_of(put: &[u8], start: usize, number: usize) -> Option<Span> {
 }
 
 /// Calls a macro.
-fn call(tables: &mut Tables, name: &[u8], site: Site, operands: &[u8]) -> Result<Turn, Halt> {
+fn call<A: Allocator + Copy>(
+    tables: &mut Tables<A>,
+    name: &[u8],
+    site: Site,
+    operands: &[u8],
+) -> Result<Turn<A>, Halt> {
     let cursor = &mut Cursor::new(operands, site.behind);
     let left = operands.len().saturating_add(site.behind);
     match tables.called(name, cursor)? {
@@ -208,20 +219,20 @@ fn call(tables: &mut Tables, name: &[u8], site: Site, operands: &[u8]) -> Result
 }
 
 /// Reads lines next, once and so often again.
-fn enter(tables: &Tables, lines: Lines, copies: u64) -> Turn {
+fn enter<A: Allocator + Copy>(tables: &Tables<A>, lines: Lines<A>, copies: u64) -> Turn<A> {
     let frame = Frame::new(tables.alloc, lines.text, lines.first, lines.height, copies);
     Turn::Enter(frame)
 }
 
 /// Performs a directive.
-fn direct(
-    tables: &mut Tables,
+fn direct<A: Allocator + Copy>(
+    tables: &mut Tables<A>,
     directive: Directive,
     site: Site,
     code: &[u8],
     operands: &[u8],
-    reader: &mut Reader,
-) -> Result<Turn, Halt> {
+    reader: &mut Reader<A>,
+) -> Result<Turn<A>, Halt> {
     let cursor = &mut Cursor::new(operands, site.behind);
     let left = behind_blanks(code).len().saturating_add(site.behind);
     match directive {
@@ -258,12 +269,12 @@ fn slip(kind: MacroErrorKind, left: usize) -> Halt {
 }
 
 /// The block behind a statement with so many bytes left, which is not read again.
-fn block<'a>(
-    tables: &mut Tables,
+fn block<'a, A: Allocator + Copy>(
+    tables: &mut Tables<A>,
     kind: BlockKind,
     site: Site<'a>,
     left: usize,
-    reader: &mut Reader,
+    reader: &mut Reader<A>,
 ) -> Result<Block<'a>, Halt> {
     let found = match site.others {
         Some(others) => first_block(others, kind),
@@ -281,7 +292,12 @@ fn block<'a>(
 }
 
 /// Defines a macro with a block as its body.
-fn define(tables: &mut Tables, site: Site, block: Block, cursor: &mut Cursor) -> Result<(), Halt> {
+fn define<A: Allocator + Copy>(
+    tables: &mut Tables<A>,
+    site: Site,
+    block: Block,
+    cursor: &mut Cursor,
+) -> Result<(), Halt> {
     let body = match block.inside {
         Some(text) => Some(Lines {
             text: without_comments(tables.alloc, text)?,
@@ -294,13 +310,13 @@ fn define(tables: &mut Tables, site: Site, block: Block, cursor: &mut Cursor) ->
 }
 
 /// Reads a block next, as often as a repetition says.
-fn repeat(
-    tables: &mut Tables,
+fn repeat<A: Allocator + Copy>(
+    tables: &mut Tables<A>,
     directive: Directive,
     site: Site,
     block: Block,
     cursor: &mut Cursor,
-) -> Result<Turn, Halt> {
+) -> Result<Turn<A>, Halt> {
     let start = *cursor;
     let first = site.next_number;
     let count = match directive {
@@ -331,7 +347,7 @@ fn repeat(
 }
 
 /// Takes how often a repetition is made.
-fn count(tables: &Tables, cursor: &mut Cursor) -> Result<u64, Halt> {
+fn count<A: Allocator + Copy>(tables: &Tables<A>, cursor: &mut Cursor) -> Result<u64, Halt> {
     let negative = cursor.slip(MacroErrorKind::Negative);
     let count = value(cursor, &tables.symbols)?;
     cursor.end()?;

@@ -5,21 +5,21 @@ use crate::cursor::Cursor;
 use crate::errors::Halt;
 use crate::substitution::{substitute, without_comments};
 use crate::tables::Tables;
-use std::alloc::AllocError;
+use std::alloc::{AllocError, Allocator};
 
 /// The parameter of a repetition, and its lines.
 #[derive(Drop)]
-struct Repeated {
-    parameters: Vec<Parameter>,
-    lines: Vec<u8>,
+struct Repeated<A: Allocator> {
+    parameters: Vec<Parameter<A>, A>,
+    lines: Vec<u8, A>,
     /// The lines with values.
-    text: Vec<u8>,
+    text: Vec<u8, A>,
     is_begun: bool,
 }
 
-impl Repeated {
+impl<A: Allocator + Copy> Repeated<A> {
     /// The parameter that stands first among the operands, and these lines without their comments.
-    fn new(tables: &Tables, lines: &[u8], cursor: &mut Cursor) -> Result<Self, Halt> {
+    fn new(tables: &Tables<A>, lines: &[u8], cursor: &mut Cursor) -> Result<Self, Halt> {
         let parameter = Parameter {
             name: Vec::from_slice(tables.alloc, cursor.name()?)?,
             default: Vec::new(tables.alloc),
@@ -37,8 +37,9 @@ impl Repeated {
     }
 
     /// Appends the lines with a value.
-    fn append(&mut self, tables: &Tables, value: Vec<u8>) -> Result<(), AllocError> {
-        let values = [value];
+    fn append(&mut self, tables: &Tables<A>, value: Vec<u8, A>) -> Result<(), AllocError> {
+        let mut values = Vec::new(tables.alloc);
+        values.push(value)?;
         if self.is_begun {
             self.text.push(b'\n')?;
         }
@@ -54,7 +55,11 @@ impl Repeated {
     }
 
     /// Appends the lines with the argument that is next.
-    fn append_argument(&mut self, tables: &Tables, cursor: &mut Cursor) -> Result<(), AllocError> {
+    fn append_argument(
+        &mut self,
+        tables: &Tables<A>,
+        cursor: &mut Cursor,
+    ) -> Result<(), AllocError> {
         let mut value = Vec::new(tables.alloc);
         take_argument(cursor, &mut value)?;
         cursor.skip_comma();
@@ -64,7 +69,7 @@ impl Repeated {
     /// Appends the lines with each of the characters that stand there, or once with none.
     fn append_characters(
         &mut self,
-        tables: &Tables,
+        tables: &Tables<A>,
         cursor: &mut Cursor,
     ) -> Result<(), AllocError> {
         let mut characters = Vec::new(tables.alloc);
@@ -81,7 +86,10 @@ impl Repeated {
 }
 
 /// Takes a string, or all that is left but for blanks.
-fn take_characters(cursor: &mut Cursor, characters: &mut Vec<u8>) -> Result<(), AllocError> {
+fn take_characters<A: Allocator + Copy>(
+    cursor: &mut Cursor,
+    characters: &mut Vec<u8, A>,
+) -> Result<(), AllocError> {
     if cursor.take_if(b'"') {
         return take_string(cursor, characters);
     }
@@ -91,7 +99,11 @@ fn take_characters(cursor: &mut Cursor, characters: &mut Vec<u8>) -> Result<(), 
 }
 
 /// Lines with each of the values that are listed, or once with none.
-pub fn each_value(tables: &Tables, lines: &[u8], cursor: &mut Cursor) -> Result<Vec<u8>, Halt> {
+pub fn each_value<A: Allocator + Copy>(
+    tables: &Tables<A>,
+    lines: &[u8],
+    cursor: &mut Cursor,
+) -> Result<Vec<u8, A>, Halt> {
     let mut repeated = Repeated::new(tables, lines, cursor)?;
     for _ in 0..u64::MAX {
         if repeated.is_begun && cursor.is_over() {
@@ -103,7 +115,11 @@ pub fn each_value(tables: &Tables, lines: &[u8], cursor: &mut Cursor) -> Result<
 }
 
 /// Lines with each of the characters that stand there, or once with none.
-pub fn each_character(tables: &Tables, lines: &[u8], cursor: &mut Cursor) -> Result<Vec<u8>, Halt> {
+pub fn each_character<A: Allocator + Copy>(
+    tables: &Tables<A>,
+    lines: &[u8],
+    cursor: &mut Cursor,
+) -> Result<Vec<u8, A>, Halt> {
     let mut repeated = Repeated::new(tables, lines, cursor)?;
     repeated.append_characters(tables, cursor)?;
     Ok(repeated.text)

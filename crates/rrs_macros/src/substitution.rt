@@ -2,17 +2,17 @@
 
 use crate::arguments::{Parameter, index_of};
 use crate::scanning::{first_statement, split_word};
-use std::alloc::{AllocError, Global};
+use std::alloc::{AllocError, Allocator};
 
 /// Appends a body with the values of the parameters in their places, and the number of the call in
 /// that of `\@`.
-pub fn substitute(
-    alloc: Global,
+pub fn substitute<A: Allocator + Copy>(
+    alloc: A,
     body: &[u8],
-    parameters: &[Parameter],
-    values: &[Vec<u8>],
+    parameters: &[Parameter<A>],
+    values: &[Vec<u8, A>],
     call: u64,
-    out: &mut Vec<u8>,
+    out: &mut Vec<u8, A>,
 ) -> Result<(), AllocError> {
     let mut rest = body;
     for _ in 0..body.len() {
@@ -38,7 +38,10 @@ pub fn substitute(
 }
 
 /// Appends what stands before a closing parenthesis, and returns what is behind it.
-fn literally<'a>(text: &'a [u8], out: &mut Vec<u8>) -> Result<&'a [u8], AllocError> {
+fn literally<'a, A: Allocator + Copy>(
+    text: &'a [u8],
+    out: &mut Vec<u8, A>,
+) -> Result<&'a [u8], AllocError> {
     for (index, byte) in text.iter().enumerate() {
         if *byte == b')' {
             return Ok(&text[index + 1..]);
@@ -50,11 +53,11 @@ fn literally<'a>(text: &'a [u8], out: &mut Vec<u8>) -> Result<&'a [u8], AllocErr
 
 /// Appends the value of the parameter whose name a text begins with, or the backslash and the name
 /// where there is none, and returns what is behind the name.
-fn named<'a>(
+fn named<'a, A: Allocator + Copy>(
     text: &'a [u8],
-    parameters: &[Parameter],
-    values: &[Vec<u8>],
-    out: &mut Vec<u8>,
+    parameters: &[Parameter<A>],
+    values: &[Vec<u8, A>],
+    out: &mut Vec<u8, A>,
 ) -> Result<&'a [u8], AllocError> {
     let (name, others) = match text {
         [b'a'..=b'z' | b'A'..=b'Z' | b'_' | b'.' | b'$', ..] => split_word(text),
@@ -72,7 +75,10 @@ fn named<'a>(
 }
 
 /// A text without its comments.
-pub fn without_comments(alloc: Global, text: &[u8]) -> Result<Vec<u8>, AllocError> {
+pub fn without_comments<A: Allocator + Copy>(
+    alloc: A,
+    text: &[u8],
+) -> Result<Vec<u8, A>, AllocError> {
     let mut out = Vec::new(alloc);
     let mut rest = Some(text);
     for _ in 0..=text.len() {

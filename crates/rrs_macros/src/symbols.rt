@@ -3,20 +3,20 @@
 use crate::cursor::Cursor;
 use crate::scanning::{behind_blanks, first_label, split_word};
 use crate::values::value;
-use std::alloc::{AllocError, Global};
+use std::alloc::{AllocError, Allocator};
 use std::collections::BTreeMap;
 
 /// The symbols that are defined so far.
 #[derive(Drop)]
-pub struct Symbols {
-    alloc: Global,
+pub struct Symbols<A: Allocator> {
+    alloc: A,
     /// The value of each, where it is a number that is known.
-    values: BTreeMap<Vec<u8>, Option<u64>>,
+    values: BTreeMap<Vec<u8, A>, Option<u64>, A>,
 }
 
-impl Symbols {
+impl<A: Allocator + Copy> Symbols<A> {
     /// None.
-    pub fn new(alloc: Global) -> Self {
+    pub fn new(alloc: A) -> Self {
         Symbols {
             alloc,
             values: BTreeMap::new(alloc),

@@ -6,7 +6,7 @@ use crate::errors::{Halt, MacroErrorKind, Slip};
 use crate::scanning::{behind_labels, directive_of, first_statement, split_word};
 use crate::substitution::substitute;
 use crate::symbols::Symbols;
-use std::alloc::{AllocError, Global};
+use std::alloc::{AllocError, Allocator};
 use std::collections::BTreeMap;
 
 /// The most bytes of lines that are read, each as often as it is read.
@@ -14,8 +14,8 @@ const MOST_READ: usize = 0x1000_0000;
 
 /// The lines of a macro or a repetition.
 #[derive(Drop)]
-pub struct Lines {
-    pub text: Vec<u8>,
+pub struct Lines<A: Allocator> {
+    pub text: Vec<u8, A>,
     /// The line of the source that the first is of.
     pub first: usize,
     /// How many lines there are.
@@ -24,27 +24,27 @@ pub struct Lines {
 
 /// A macro.
 #[derive(Drop)]
-struct Macro {
-    parameters: Vec<Parameter>,
+struct Macro<A: Allocator> {
+    parameters: Vec<Parameter<A>, A>,
     /// Its lines, if it has any.
-    body: Option<Lines>,
+    body: Option<Lines<A>>,
 }
 
 /// What is defined so far.
 #[derive(Drop)]
-pub struct Tables {
-    pub alloc: Global,
-    macros: BTreeMap<Vec<u8>, Macro>,
-    pub symbols: Symbols,
+pub struct Tables<A: Allocator> {
+    pub alloc: A,
+    macros: BTreeMap<Vec<u8, A>, Macro<A>, A>,
+    pub symbols: Symbols<A>,
     /// How many calls were made.
     pub calls: u64,
     /// How many bytes may still be read.
     left: usize,
 }
 
-impl Tables {
+impl<A: Allocator + Copy> Tables<A> {
     /// Nothing is defined.
-    pub fn new(alloc: Global) -> Self {
+    pub fn new(alloc: A) -> Self {
         Tables {
             alloc,
             macros: BTreeMap::new(alloc),
@@ -75,7 +75,10 @@ impl Tables {
     }
 
     /// The name of the macro that a statement calls, in small letters, and the arguments.
-    pub fn call_in<'a>(&self, code: &'a [u8]) -> Result<Option<(Vec<u8>, &'a [u8])>, AllocError> {
+    pub fn call_in<'a>(
+        &self,
+        code: &'a [u8],
+    ) -> Result<Option<(Vec<u8, A>, &'a [u8])>, AllocError> {
         if self.macros.is_empty() {
             return Ok(None);
         }
@@ -119,7 +122,7 @@ impl Tables {
     }
 
     /// Defines a macro with a name, parameters and a body.
-    pub fn define(&mut self, cursor: &mut Cursor, body: Option<Lines>) -> Result<(), Halt> {
+    pub fn define(&mut self, cursor: &mut Cursor, body: Option<Lines<A>>) -> Result<(), Halt> {
         let slip = cursor.slip(MacroErrorKind::Duplicate);
         let name = cursor.name()?;
         cursor.skip_comma();
@@ -128,7 +131,7 @@ impl Tables {
     }
 
     /// Adds a macro, if there is none of its name.
-    fn add(&mut self, name: &[u8], definition: Macro, slip: Slip) -> Result<(), Halt> {
+    fn add(&mut self, name: &[u8], definition: Macro<A>, slip: Slip) -> Result<(), Halt> {
         let name = name.to_ascii_lowercase(self.alloc)?;
         if self.macros.get(name.as_slice()).is_some() {
             return Err(Halt::Slip(slip));
@@ -159,7 +162,7 @@ impl Tables {
     }
 
     /// The lines that a call of a macro stands for, if there are any.
-    pub fn called(&mut self, name: &[u8], cursor: &mut Cursor) -> Result<Option<Lines>, Halt> {
+    pub fn called(&mut self, name: &[u8], cursor: &mut Cursor) -> Result<Option<Lines<A>>, Halt> {
         let Some(definition) = self.macros.get(name) else {
             return Ok(None);
         };
@@ -174,15 +177,15 @@ impl Tables {
     }
 }
 
-impl Lines {
+impl<A: Allocator + Copy> Lines<A> {
     /// The lines with these values in the places of the parameters, in a call with this number.
     fn substituted(
         &self,
-        alloc: Global,
-        parameters: &[Parameter],
-        values: &[Vec<u8>],
+        alloc: A,
+        parameters: &[Parameter<A>],
+        values: &[Vec<u8, A>],
         call: u64,
-    ) -> Result<Lines, AllocError> {
+    ) -> Result<Lines<A>, AllocError> {
         let mut text = Vec::new(alloc);
         substitute(alloc, &self.text, parameters, values, call, &mut text)?;
         Ok(Lines {

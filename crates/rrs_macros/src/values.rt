@@ -5,6 +5,7 @@ use crate::errors::{MacroErrorKind, Slip};
 use crate::operators::{Infix, Prefix, infix_at};
 use crate::scanning::behind_blanks;
 use crate::symbols::Symbols;
+use std::alloc::Allocator;
 
 /// The most operators and parentheses that wait for what is behind them.
 const MOST_WAITING: usize = 64;
@@ -97,7 +98,7 @@ impl Waiting {
 }
 
 /// Takes a value.
-pub fn value(cursor: &mut Cursor, symbols: &Symbols) -> Result<u64, Slip> {
+pub fn value<A: Allocator + Copy>(cursor: &mut Cursor, symbols: &Symbols<A>) -> Result<u64, Slip> {
     let mut waiting = Waiting::new();
     for _ in 0..u64::MAX {
         prefixes(cursor, &mut waiting)?;
@@ -166,7 +167,7 @@ fn infix(cursor: &mut Cursor) -> Option<Infix> {
 }
 
 /// Takes a number, a character constant, or a constant that is known.
-fn term(cursor: &mut Cursor, symbols: &Symbols) -> Result<u64, Slip> {
+fn term<A: Allocator + Copy>(cursor: &mut Cursor, symbols: &Symbols<A>) -> Result<u64, Slip> {
     let slip = cursor.slip(MacroErrorKind::Value);
     if cursor.take_if(b'\'') {
         return match character(cursor) {

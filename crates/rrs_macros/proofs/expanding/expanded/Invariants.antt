@@ -3,4 +3,4 @@ use Rattle.rrs_macros.proofs.expanding.expanded.Given as goal
 
 -- each line that was made is of a line of the source
 abbrev pub invariant-loop : goal.invariant-loop
-invariant-loop l = IsMade l.total l.out
+invariant-loop g l = IsMade l.total l.out

@@ -6,7 +6,7 @@ use Rattle.rrs_macros.proofs.following.rows_of.Given as goal
 
 -- the lines so far, and those that are left
 abbrev pub invariant-loop-rest : goal.invariant-loop-rest
-invariant-loop-rest l = lines l.text ≡ texts l.rows.items ++ option_map_or (λ rest. lines rest.now) l.rest []
+invariant-loop-rest g l = lines l.text ≡ texts l.rows.items ++ option_map_or (λ rest. lines rest.now) l.rest []
 
 abbrev pub decreases-loop-rest : goal.decreases-loop-rest
-decreases-loop-rest l = option_map_or (λ rest. length rest.now + 1) l.rest 0
+decreases-loop-rest g l = option_map_or (λ rest. length rest.now + 1) l.rest 0

@@ -11,7 +11,7 @@ rows text = option_map_or (λ bytes. lines bytes.now) text []
 
 pub returns-then-has_directives : goal.returns-then-has_directives
 unfolding rows
-returns-then-has_directives c = λ yes.
+returns-then-has_directives g c = λ yes.
     let before = c.loop-left.invariant in
     let line = c.first_line.result.0.now in
     let left : rows c.loop-left.left ≡ line ∷ rows c.first_line.result.1 = ap rows c.in-Some.is ∙ c.first_line.ensures.lines in
@@ -21,7 +21,7 @@ returns-then-has_directives c = λ yes.
 
 pub loop-left-preserved : goal.loop-left-preserved
 unfolding rows
-loop-left-preserved c =
+loop-left-preserved g c =
     let before = c.loop-left.invariant in
     let line = c.first_line.result.0.now in
     let left : rows c.loop-left.left ≡ line ∷ rows c.first_line.result.1 = ap rows c.in-Some.is ∙ c.first_line.ensures.lines in
@@ -37,7 +37,7 @@ loop-left-preserved c =
 
 pub returns : goal.returns
 unfolding rows
-returns c = λ yes.
+returns g c = λ yes.
     let before = c.loop-left.invariant in
     kept c.args.source.now c.args.expanded.now (rows c.loop-left.left) (rows c.loop-left.made) c.loop-left.number before.head before.counted before.numbered
     (ap (λ text. lines_above (rows text)) c.in_default.is)

@@ -5,7 +5,7 @@ use Rattle.rrs_macros.proofs.keeping.keeps_above.Given as goal
 
 -- what the lines that are left keep, all keep; and those before are numbered
 abbrev pub invariant-loop-left : goal.invariant-loop-left
-invariant-loop-left l = record {
+invariant-loop-left g l = record {
   head : (others : List (List ℕ)) →
       option_map_or (λ text. lines text.now) l.made [] ≡ lines_above (option_map_or (λ text. lines text.now) l.left []) ++ others
       → BeginWith (lines_above (lines l.source)) (lines l.expanded.text.items);
@@ -14,4 +14,4 @@ invariant-loop-left l = record {
 }
 
 abbrev pub decreases-loop-left : goal.decreases-loop-left
-decreases-loop-left l = option_map_or (λ text. length text.now + 1) l.left 0
+decreases-loop-left g l = option_map_or (λ text. length text.now + 1) l.left 0
