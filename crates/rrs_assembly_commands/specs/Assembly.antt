@@ -4,19 +4,17 @@
 --   rrs as [--gnu | --list] [-o OUTPUT] [--rars] [-Ttext ADDRESS] [-Tdata ADDRESS] FILE
 --
 -- Options stand before FILE and behind it.
-use Rattle.std.specs.Prelude.{ℕ, ◌%◌, ◌≡◌, ◌≤◌, ◌⊎◌, true, false, List, [], ◌∷◌, length, take, drop, Option, Some, None, IsSome, Result, Ok, Err, option_map, codes}
-use Rattle.std.specs.List.{list_any}
+use Rattle.std.specs.Prelude.{ℕ, ◌%◌, ◌≡◌, ◌≤◌, ◌⊎◌, List, [], ◌∷◌, length, take, drop, Option, Some, None, IsSome, Result, Ok, Err, option_map, codes}
 use Rattle.std.specs.Option.{option_map_or}
 use Rattle.std.specs.Str.Parse.{IsNumeral, digits_value}
+use Rattle.std.specs.declared.alloc.Global.{Global}
 use Rattle.rrs_asm.specs.declared.sections.Layout.{Layout}
 use Rattle.rrs_asm.specs.declared.sections.Section.{Section}
 use Rattle.rrs_asm.specs.Source.{items_of}
 use Rattle.rrs_asm.specs.Sections.{flat, AreSectionsOf, IsImage}
 use Rattle.rrs_assembly.specs.Executables.{IsExecutableOf}
 use Rattle.rrs_cli.specs.declared.command.Failure.TheVariants.{Usage}
-use Rattle.rrs_macros.specs.Directives.{begins_one, has_directives}
-use Rattle.rrs_macros.specs.Expansion.{IsExpansion}
-use Rattle.rrs_macros.specs.Lines.{lines}
+use Rattle.rrs_macros.specs.Expansion.{Becomes}
 use Rattle.rrs_requests.specs.Words.{RefusesNoWord, Asks}
 use Rattle.rrs_requests.specs.declared.refusal.Refusal.{Refusal}
 use Rattle.rrs_requests.specs.declared.refusal.Refusal.TheVariants.{WrongAddress, Failed}
@@ -160,19 +158,12 @@ layout_of wanted = record {
   page = (usual_layout wanted.output).page;
 }
 
--- The text that is assembled: the source as it stands where no word of it is a directive of macros,
--- and else what its lines become, with no such directive at the beginning of a line.
-pub record Becomes (source text : List ℕ) : Type 0 where
-  pub same : has_directives source ≡ false → text ≡ source
-  pub expanded : has_directives source ≡ true → IsExpansion source text
-  pub gone : has_directives source ≡ true → list_any begins_one (lines text) ≡ false
-
 -- The file is an executable of the source: its segments are the sections of what it becomes, each
 -- where the layout says.
 abbrev pub IsExecutableFrom : Layout → List ℕ → List ℕ → Type 0
 IsExecutableFrom layout source file =
     (text : List ℕ) × Becomes source text
-    × (sections : List Section) × AreSectionsOf layout (items_of text) sections
+    × (sections : List (Section Global)) × AreSectionsOf layout (items_of text) sections
     × IsExecutableOf sections file
 
 -- The bytes are those of the sections of what the source becomes, each where the layout says, from
@@ -180,5 +171,5 @@ IsExecutableFrom layout source file =
 abbrev pub IsImageFrom : Layout → List ℕ → List ℕ → Type 0
 IsImageFrom layout source bytes =
     (text : List ℕ) × Becomes source text
-    × (sections : List Section) × AreSectionsOf layout (items_of text) sections
+    × (sections : List (Section Global)) × AreSectionsOf layout (items_of text) sections
     × IsImage layout.text_start sections bytes

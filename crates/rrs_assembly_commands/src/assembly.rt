@@ -5,7 +5,8 @@ ghost use Rattle.rrs_asm.specs.declared.sections.Layout.{Layout};
 ghost use Rattle.rrs_asm.specs.Source.{items_of};
 ghost use Rattle.rrs_asm.specs.Sections.{AreSectionsOf, ArePlaced, IsImage};
 ghost use Rattle.rrs_assembly.specs.Executables.{IsExecutableOf};
-ghost use Rattle.rrs_assembly_commands.specs.Assembly.{Becomes, IsExecutableFrom, IsImageFrom, layout_of, wanted_of};
+ghost use Rattle.rrs_macros.specs.Expansion.{Becomes};
+ghost use Rattle.rrs_assembly_commands.specs.Assembly.{IsExecutableFrom, IsImageFrom, layout_of, wanted_of};
 
 use crate::assembly_requests::{AssemblyRequest, Form};
 use rrs_asm::{

@@ -4,7 +4,7 @@ use Rattle.std.specs.Prelude.{◌≡◌, ◌⊎◌, ℕ, zero, suc, ◌+◌, ◌
 use Rattle.std.specs.Prelude.{ltb, if◌then◌else◌, List, [], ◌∷◌, ◌++◌, Option, None, Some, codes}
 use Rattle.std.specs.List.{list_any}
 use Rattle.std.specs.Str.{str_eq_ignore_ascii_case}
-use Rattle.rrs_macros.specs.Directives.{is_between, is_in_name, behind_blanks, word, has_directives}
+use Rattle.rrs_macros.specs.Directives.{is_between, is_in_name, behind_blanks, word, begins_one, has_directives}
 use Rattle.rrs_macros.specs.Lines.{lines}
 
 -- ---- `.rept` with a number, and `.endr`
@@ -85,3 +85,10 @@ pub data ExpandsFirst : List (List ℕ) → List (List ℕ) → Type 0 where
 abbrev pub IsExpansion : List ℕ → List ℕ → Type 0
 IsExpansion source text = ExpandsFirst (lines source) (lines text)
     ⊎ (ExpandsFirst (lines source) [] × (text ≡ []))
+
+-- The text that is assembled: the source as it stands where no word of it is a directive of macros,
+-- and else what its lines become, with no such directive at the beginning of a line.
+pub record Becomes (source text : List ℕ) : Type 0 where
+  pub same : has_directives source ≡ false → text ≡ source
+  pub expanded : has_directives source ≡ true → IsExpansion source text
+  pub gone : has_directives source ≡ true → list_any begins_one (lines text) ≡ false
