@@ -6,7 +6,7 @@ use std::alloc::{AllocError, Global};
 use std::test::Fail;
 
 /// Sources, each with what is told of it.
-static TOLD: [(&str, &str); 19] = [
+static TOLD: [(&str, &str); 21] = [
     (
         "addi a0, a1, a2",
         "1:14: a number is wanted here: add takes three registers\n",
@@ -60,6 +60,8 @@ static TOLD: [(&str, &str); 19] = [
         "2:3: symbol is not defined: lop; is loop meant?\n",
     ),
     ("j there\nj there", "1:3: symbol is not defined: there\n"),
+    (".equ a, a", "1:9: symbol is not defined: a\n"),
+    (".equ a, b\n.equ b, a", "1:9: symbol is not defined: b\n"),
     (
         "addd a0, a1, a2",
         "1:1: no such instruction or directive: addd; is add meant?\n",

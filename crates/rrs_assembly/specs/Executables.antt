@@ -23,7 +23,7 @@ rights_of SectionKind.Zero = 6
 
 -- Segment k is this section: it is loaded to the address of the section, and has its bytes and no
 -- others.
-pub record IsSegment (file : List ℕ) (k : ℕ) (s : Section) : Type 0 where
+pub record IsSegment {A : Type 0} (file : List ℕ) (k : ℕ) (s : Section A) : Type 0 where
   pub loaded : IsLoaded file k
   pub address : p_vaddr file k ≡ s.address
   pub size : p_memsz file k ≡ length s.made.bytes.items
@@ -32,7 +32,7 @@ pub record IsSegment (file : List ℕ) (k : ℕ) (s : Section) : Type 0 where
       → segment_byte file k i ≡ slice_index s.made.bytes.items i
 
 -- the segments from number k on are these sections, and there are no others
-abbrev pub AreSegments : List ℕ → ℕ → List Section → Type 0
+abbrev pub AreSegments : {A : Type 0} → List ℕ → ℕ → List (Section A) → Type 0
 AreSegments file k [] = e_phnum file ≡ k
 AreSegments file k (s ∷ others) = IsSegment file k s × AreSegments file (k + 1) others
 
@@ -44,27 +44,27 @@ address_in name [] = None
 address_in name (l ∷ others) =
     if bytes_eq l.name.now name then Some l.address else address_in name others
 
-abbrev pub address_of : List ℕ → List Section → Option ℕ
+abbrev pub address_of : {A : Type 0} → List ℕ → List (Section A) → Option ℕ
 address_of name [] = None
 address_of name (s ∷ others) =
     option_or (address_in name s.made.labels.items) (address_of name others)
 
 -- the address of the first byte
-abbrev pub first_address : List Section → Option ℕ
+abbrev pub first_address : {A : Type 0} → List (Section A) → Option ℕ
 first_address [] = None
 first_address (s ∷ others) =
     if is_empty s.made.bytes.items then first_address others else Some s.address
 
 -- A program begins at `_start`, where there is no such label at `main`, and where there is neither at
 -- its first byte.
-abbrev pub entry_of : List Section → Option ℕ
+abbrev pub entry_of : {A : Type 0} → List (Section A) → Option ℕ
 entry_of sections = option_or (address_of (codes "_start") sections)
     (option_or (address_of (codes "main") sections) (first_address sections))
 
 -- ---- all of it
 
 -- the file is the executable of these sections
-pub record IsExecutableOf (sections : List Section) (file : List ℕ) : Type 0 where
+pub record IsExecutableOf {A : Type 0} (sections : List (Section A)) (file : List ℕ) : Type 0 where
   pub executable : IsExecutable file
   pub entry : entry_of sections ≡ Some (e_entry file)
   pub segments : AreSegments file 0 (with_bytes sections)

@@ -64,7 +64,7 @@ fn is_segment(executable: &Executable, index: u16, section: &Section) -> bool
 /// The number of the next segment behind a section that is the segment of a number, if it is. A
 /// section without bytes is none.
 fn next_segment(executable: &Executable, index: u16, section: &Section) -> Option<u16>
-    ensures { IfSome result (λ next. (others : List Section)
+    ensures { IfSome result (λ next. (others : List (Section _))
         → AreSegments executable.now.file.now next (with_bytes others)
         → AreSegments executable.now.file.now index (with_bytes (section.now ∷ others))) }
 {

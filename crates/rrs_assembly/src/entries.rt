@@ -4,6 +4,7 @@ ghost use Rattle.std.specs.Prelude.{◌≡◌};
 ghost use Rattle.rrs_assembly.specs.Executables.{address_in, address_of, first_address, entry_of};
 
 use rrs_asm::{Label, Section};
+use std::alloc::Allocator;
 
 /// The address of the first label of a name.
 fn address_in(labels: &[Label], name: &[u8]) -> Option<u32>
@@ -18,7 +19,7 @@ fn address_in(labels: &[Label], name: &[u8]) -> Option<u32>
 }
 
 /// The address of the first label of a name in the sections.
-fn address_of(sections: &[Section], name: &[u8]) -> Option<u32>
+fn address_of<A: Allocator + Copy>(sections: &[Section<A>], name: &[u8]) -> Option<u32>
     ensures { result ≡ address_of name.now sections.now }
 {
     for section in sections {
@@ -30,7 +31,7 @@ fn address_of(sections: &[Section], name: &[u8]) -> Option<u32>
 }
 
 /// The address of the first byte of the sections.
-fn first_address(sections: &[Section]) -> Option<u32>
+fn first_address<A: Allocator + Copy>(sections: &[Section<A>]) -> Option<u32>
     ensures { result ≡ first_address sections.now }
 {
     for section in sections {
@@ -42,7 +43,7 @@ fn first_address(sections: &[Section]) -> Option<u32>
 }
 
 /// Where a program begins: at `_start`, else at `main`, else at its first byte.
-pub fn entry_of(sections: &[Section]) -> Option<u32>
+pub fn entry_of<A: Allocator + Copy>(sections: &[Section<A>]) -> Option<u32>
     ensures { result ≡ entry_of sections.now }
 {
     if let Some(address) = address_of(sections, b"_start") {

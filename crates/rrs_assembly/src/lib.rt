@@ -15,6 +15,7 @@ mod listing;
 mod mistakes;
 mod words;
 
+pub use entries::entry_of;
 pub use executable::{ExecutableError, executable_of};
 pub use listing::listing_of;
 pub use mistakes::{MOST_MISTAKES, Mistake, mistakes_of, number_of};

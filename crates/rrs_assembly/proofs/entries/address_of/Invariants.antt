@@ -4,4 +4,4 @@ use Rattle.rrs_assembly.proofs.entries.address_of.Given as goal
 
 -- none before has a label of the name
 abbrev pub invariant-loop-section : goal.invariant-loop-section
-invariant-loop-section l = address_of l.name l.sections ≡ address_of l.name (drop l.section-index l.sections)
+invariant-loop-section g l = address_of l.name l.sections ≡ address_of l.name (drop l.section-index l.sections)
