@@ -1,0 +1,85 @@
+-- What is told of one more, and of statements that lie one behind the other.
+use Rattle.std.proofs.Common.{◌≡◌, ℕ, ◌+◌, ◌++◌, ◌<◌, ◌≤◌, List, [], ◌∷◌, All, length, take, get_or, refl, sym, subst, ap, ◌∙◌, append_assoc, length-append, arith}
+use Rattle.std.specs.Prelude.{min}
+use Rattle.std.proofs.lemmas.List.{take_more, append-nil}
+use Rattle.std.proofs.lemmas.List.Elements.{All-head, All-tail}
+use Rattle.rrs_asm.specs.declared.output.Placed.{Placed}
+use Rattle.rrs_asm.specs.declared.sections.Section.{Section}
+use Rattle.rrs_asm.specs.Statements.{LaysOut}
+use Rattle.rrs_asm.specs.Sections.{AreLaidOut}
+use Rattle.rrs_lent.specs.declared.outcome.RrsStatement.{RrsStatement}
+use Rattle.rrs_lent.specs.declared.outcome.RrsMistake.{RrsMistake}
+use Rattle.rrs_lent.specs.Telling.{TellStatements, TellAll, LieBehind}
+use Rattle.rrs_lent.specs.Steps.{IsAsLong, AreAsLong, AreAllAsLong, IsShort}
+
+-- ---- mistakes
+
+-- one mistake more, whose text lies behind the others
+pub lie-more : (at : ℕ) (ms : List RrsMistake) (m : RrsMistake) (end : ℕ) → LieBehind at ms end → m.text ≡ end → LieBehind at (ms ++ m ∷ []) (end + m.length)
+lie-more at [] m end lies here = (here ∙ sym lies, ap (λ n. n + m.length) lies)
+lie-more at (x ∷ xs) m end (is, lies) here = (is, lie-more (at + x.length) xs m end lies here)
+
+-- a mistake is put behind others, and its text behind theirs
+pub lie-pushed : (ms new : List RrsMistake) (m : RrsMistake) (texts own all : List ℕ) → LieBehind 0 ms (length texts) → m.text ≡ length texts → new ≡ ms ++ m ∷ [] → m.length ≡ length own
+    → all ≡ texts ++ own → LieBehind 0 new (length all)
+lie-pushed ms new m texts own all lies here pushed long behind =
+    let end : length all ≡ length texts + m.length = ap length behind ∙ length-append texts own ∙ ap (λ n. length texts + n) (sym long) in rw (pushed, end) (lie-more 0 ms m (length texts) lies here)
+
+-- ---- statements
+
+-- one statement more
+pub as-long-more : {A : Type 0} (ps : List (Placed A)) (ts : List RrsStatement) (p : Placed A) (t : RrsStatement) → AreAsLong ps ts → IsAsLong p t → AreAsLong (ps ++ p ∷ []) (ts ++ t ∷ [])
+as-long-more [] ts p t none long = (t, [], long, refl, rw none refl)
+as-long-more (x ∷ xs) ts p t (own, rest, is, are, all) long = (own, rest ++ t ∷ [], is, as-long-more xs rest p t are long, rw all refl)
+
+-- one section more
+pub all-as-long-more : {A : Type 0} (ss : List (Section A)) (ts : List RrsStatement) (s : Section A) (own : List RrsStatement) → AreAllAsLong ss ts → AreAsLong s.made.placed.items own
+    → AreAllAsLong (ss ++ s ∷ []) (ts ++ own)
+all-as-long-more [] ts s own none long = (own, [], long, refl, rw none (sym (append-nil own)))
+all-as-long-more (x ∷ xs) ts s own (first, rest, is, are, all) long =
+    (first, rest ++ own, is, all-as-long-more xs rest s own are long, rw all (append_assoc first rest own))
+
+-- a statement is put behind those before
+pub as-long-pushed : {A : Type 0} (ps : List (Placed A)) (i : ℕ) (told before new : List RrsStatement) (p : Placed A) (t : RrsStatement) → i < length ps → p ≡ get_or ps i p → IsAsLong p t
+    → new ≡ told ++ t ∷ [] → ((own : List RrsStatement) × AreAsLong (take i ps) own × (told ≡ before ++ own))
+    → (own : List RrsStatement) × AreAsLong (take (i + 1) ps) own × (new ≡ before ++ own)
+as-long-pushed ps i told before new p t below is long pushed (own, longs, same) =
+    let more : take (i + 1) ps ≡ take i ps ++ p ∷ [] = take_more ps i p below ∙ ap (λ x. take i ps ++ x ∷ []) (sym is) in
+    let P : List (Placed _) → Type 0 = λ xs. AreAsLong xs (own ++ t ∷ []) in
+    (own ++ t ∷ [], subst P (sym more) (as-long-more (take i ps) own p t longs long), pushed ∙ ap (λ xs. xs ++ t ∷ []) same ∙ append_assoc before own (t ∷ []))
+
+-- the statements of a section are put behind those of the sections before
+pub all-as-long-pushed : {A : Type 0} (ss : List (Section A)) (i : ℕ) (told new : List RrsStatement) (s : Section A) (placed : List (Placed A)) → i < length ss → s ≡ get_or ss i s
+    → placed ≡ s.made.placed.items → ((own : List RrsStatement) × AreAsLong placed own × (new ≡ told ++ own)) → AreAllAsLong (take i ss) told → AreAllAsLong (take (i + 1) ss) new
+all-as-long-pushed ss i told new s placed below is value (own, longs, pushed) all =
+    let more : take (i + 1) ss ≡ take i ss ++ s ∷ [] = take_more ss i s below ∙ ap (λ x. take i ss ++ x ∷ []) (sym is) in
+    let Own : List (Placed _) → Type 0 = λ xs. AreAsLong xs own in
+    let P : List (Section _) → Type 0 = λ xs. AreAllAsLong xs (told ++ own) in
+    rw pushed (subst P (sym more) (all-as-long-more (take i ss) told s own all (subst Own value longs)))
+
+-- statements that lie one behind the other, in no more bytes than an assembler makes, are told
+tell-statements : {A : Type 0} (ps : List (Placed A)) (ts : List RrsStatement) (address : ℕ) (bytes : List ℕ) → length bytes ≤ 0x4000000 → LaysOut address ps bytes → AreAsLong ps ts
+    → TellStatements ps ts
+tell-statements [] ts address bytes short laid none = none
+tell-statements (p ∷ ps) ts address bytes short (own, rest, at, are, laid, whole) (t, others, long, longs, all) =
+    let sum : length bytes ≡ length own + length rest = ap length whole ∙ length-append own rest in
+    let below : length rest ≤ 0x4000000 = omega (arith, sum, short) in
+    let size : t.size ≡ min (length own) 0xffffffff = long.size own are in (
+      t,
+      others,
+      record { line = long.line; address = long.address; own = own; bytes = are; size = omega (arith, size, sum, short) },
+      tell-statements ps others (address + length own) rest below laid longs,
+      all,
+    )
+
+-- those of each section are told
+pub tell-all : {A : Type 0} (ss : List (Section A)) (ts : List RrsStatement) → All IsShort ss → AreLaidOut ss → AreAllAsLong ss ts → TellAll ss ts
+tell-all [] ts short laid none = none
+tell-all (s ∷ ss) ts short (here, laid) (own, rest, long, longs, all) =
+    let own_short : length s.made.bytes.items ≤ 0x4000000 = All-head IsShort s ss short in (
+      own,
+      rest,
+      tell-statements s.made.placed.items own s.address s.made.bytes.items own_short here long,
+      tell-all ss rest (All-tail IsShort s ss short) laid longs,
+      all,
+    )

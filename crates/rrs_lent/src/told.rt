@@ -1,0 +1,107 @@
+//! What is told of a source, before it is put into the caller's buffers.
+
+ghost use Rattle.std.specs.Prelude.{◌≡◌, ◌≤◌, All, IfOk, length};
+ghost use Rattle.rrs_asm.specs.Source.{items_of};
+ghost use Rattle.rrs_asm.specs.Sections.{flat, AreSectionsOf, AreLaidOut};
+ghost use Rattle.rrs_lent.specs.Steps.{IsShort, IsTold};
+
+use crate::mistakes::told_of_mistakes;
+use crate::outcome::{ASSEMBLED, MISTAKES, RrsMistake, RrsStatement, RrsSymbol};
+use crate::statements::{has_long, statements_of};
+use crate::symbols::symbols_of;
+use rrs_asm::{
+    Layout, Program, SourceError, SourceErrorKind, SourceFault, assemble_source_in, image,
+};
+use rrs_assembly::{entry_of, mistakes_of};
+use std::alloc::{AllocError, Allocator};
+
+/// What is told of a source.
+#[derive(Drop)]
+pub struct Told<A: Allocator> {
+    /// `ASSEMBLED` or `MISTAKES`.
+    pub(crate) end: u32,
+    /// Where the program begins.
+    pub(crate) entry: u32,
+    /// The bytes from the address of the first section on.
+    pub(crate) bytes: Vec<u8, A>,
+    /// The statements.
+    pub(crate) statements: Vec<RrsStatement, A>,
+    /// The labels.
+    pub(crate) symbols: Vec<RrsSymbol, A>,
+    /// The mistakes.
+    pub(crate) mistakes: Vec<RrsMistake, A>,
+    /// The names of the labels, or what is told of the mistakes.
+    pub(crate) texts: Vec<u8, A>,
+}
+
+/// The mistake of a program that is too long. An assembler tells it before.
+const TOO_LONG: SourceError = SourceError {
+    line: 1,
+    column: 1,
+    kind: SourceErrorKind::TooLong,
+};
+
+/// What is told of a source whose first section lies at an address.
+pub(crate) fn told_of<A: Allocator + Copy>(
+    alloc: A,
+    source: &[u8],
+    start: u32,
+) -> Result<Told<A>, AllocError>
+    ensures { IfOk result (IsTold source.now start) }
+{
+    match assemble_source_in(alloc, source, Layout::flat(start)) {
+        Ok(program) if has_long(&program.sections) => refused(alloc, source, &[TOO_LONG]),
+        Ok(program) => made(alloc, &program, start),
+        Err(SourceFault::OutOfMemory) => Err(AllocError),
+        Err(SourceFault::Errors(errors)) => match errors.as_slice() {
+            [] => refused(alloc, source, &[TOO_LONG]),
+            errors => refused(alloc, source, errors),
+        },
+    }
+}
+
+/// What is told of a program.
+fn made<A: Allocator + Copy>(
+    alloc: A,
+    program: &Program<A>,
+    start: u32,
+) -> Result<Told<A>, AllocError>
+    requires short { All IsShort program.now.sections.items }
+    requires laid_out { AreLaidOut program.now.sections.items }
+    ensures { (source : _) → AreSectionsOf (flat start) (items_of source) program.now.sections.items
+        → IfOk result (IsTold source start) }
+{
+    let sections = &program.sections;
+    let (symbols, texts) = symbols_of(alloc, sections)?;
+    Ok(Told {
+        end: ASSEMBLED,
+        entry: entry_of(sections).unwrap_or(start),
+        bytes: image(alloc, program, start)?,
+        statements: statements_of(alloc, sections)?,
+        symbols,
+        mistakes: Vec::new(alloc),
+        texts,
+    })
+}
+
+/// What is told of mistakes.
+fn refused<A: Allocator + Copy>(
+    alloc: A,
+    source: &[u8],
+    errors: &[SourceError],
+) -> Result<Told<A>, AllocError>
+    requires { 1 ≤ length errors.now }
+    ensures { (start : _) → IfOk result (IsTold source.now start) }
+{
+    let own = mistakes_of(alloc, source, &[], errors)?;
+    let (mistakes, texts) = told_of_mistakes(alloc, &own)?;
+    Ok(Told {
+        end: MISTAKES,
+        entry: 0,
+        bytes: Vec::new(alloc),
+        statements: Vec::new(alloc),
+        symbols: Vec::new(alloc),
+        mistakes,
+        texts,
+    })
+}
