@@ -6,25 +6,26 @@ use Rattle.rrs_asm.specs.Statements.{AreBytes}
 use Rattle.rrs_lent.specs.declared.outcome.RrsStatement.{RrsStatement}
 use Rattle.rrs_lent.specs.declared.outcome.RrsAssembled.{RrsAssembled}
 use Rattle.rrs_lent.specs.declared.told.Told.{Told}
-use Rattle.rrs_lent.specs.Telling.{Assembles, TellMistakes}
+use Rattle.rrs_lent.specs.Telling.{line_in, Assembles, TellMistakes}
 
 -- a statement is told with the size of its bytes, whichever they are, up to the greatest number
-pub record IsAsLong {A : Type 0} (placed : Placed A) (told : RrsStatement) : Type 0 where
-  pub line : told.line ≡ placed.line
+pub record IsAsLong {A : Type 0} (numbers : List ℕ) (placed : Placed A) (told : RrsStatement) : Type 0 where
+  pub line : told.line ≡ line_in numbers placed.line
   pub address : told.address ≡ placed.address
   pub size : (own : List ℕ) → AreBytes placed.statement own → told.size ≡ min (length own) 0xffffffff
 
-abbrev pub AreAsLong : {A : Type 0} → List (Placed A) → List RrsStatement → Type 0
-AreAsLong [] told = told ≡ []
-AreAsLong (p ∷ others) told =
-    (own : RrsStatement) × (rest : List RrsStatement) × IsAsLong p own
-    × AreAsLong others rest × (told ≡ own ∷ rest)
+abbrev pub AreAsLong : {A : Type 0} → List ℕ → List (Placed A) → List RrsStatement → Type 0
+AreAsLong numbers [] told = told ≡ []
+AreAsLong numbers (p ∷ others) told =
+    (own : RrsStatement) × (rest : List RrsStatement) × IsAsLong numbers p own
+    × AreAsLong numbers others rest × (told ≡ own ∷ rest)
 
-abbrev pub AreAllAsLong : {A : Type 0} → List (Section A) → List RrsStatement → Type 0
-AreAllAsLong [] told = told ≡ []
-AreAllAsLong (s ∷ others) told =
+abbrev pub AreAllAsLong : {A : Type 0} → List ℕ → List (Section A) → List RrsStatement → Type 0
+AreAllAsLong numbers [] told = told ≡ []
+AreAllAsLong numbers (s ∷ others) told =
     (own : List RrsStatement) × (rest : List RrsStatement)
-    × AreAsLong s.made.placed.items own × AreAllAsLong others rest × (told ≡ own ++ rest)
+    × AreAsLong numbers s.made.placed.items own × AreAllAsLong numbers others rest
+    × (told ≡ own ++ rest)
 
 -- a section has no more bytes than an assembler makes
 abbrev pub IsShort : {A : Type 0} → Section A → Type 0

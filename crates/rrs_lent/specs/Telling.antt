@@ -1,7 +1,7 @@
 -- What a caller that lends its memory is told of a source (rrs_asm, Source and Sections): the bytes,
 -- the statements and the labels of its sections, or its mistakes. Texts lie one behind the other in
 -- one buffer, and what is told of a label or a mistake says where its own begins.
-use Rattle.std.specs.Prelude.{◌≡◌, ℕ, ◌+◌, ◌≤◌, List, [], ◌∷◌, ◌++◌, length, drop, unwrap_or}
+use Rattle.std.specs.Prelude.{◌≡◌, ℕ, ◌+◌, ◌-◌, ◌≤◌, false, List, [], ◌∷◌, ◌++◌, length, drop, get_or, unwrap_or}
 use Rattle.rrs_asm.specs.declared.output.Label.{Label}
 use Rattle.rrs_asm.specs.declared.output.Placed.{Placed}
 use Rattle.rrs_asm.specs.declared.sections.Section.{Section}
@@ -9,34 +9,53 @@ use Rattle.rrs_asm.specs.Source.{items_of}
 use Rattle.rrs_asm.specs.Statements.{AreBytes}
 use Rattle.rrs_asm.specs.Sections.{flat, AreSectionsOf, IsImage}
 use Rattle.rrs_assembly.specs.Executables.{entry_of}
+use Rattle.rrs_macros.specs.declared.output.Expanded.{Expanded}
+use Rattle.rrs_macros.specs.Directives.{has_directives}
+use Rattle.rrs_macros.specs.Expansion.{Becomes}
+use Rattle.rrs_macros.specs.Lines.{IsMapped, IsSame}
 use Rattle.rrs_lent.specs.declared.outcome.RrsStatement.{RrsStatement}
 use Rattle.rrs_lent.specs.declared.outcome.RrsSymbol.{RrsSymbol}
 use Rattle.rrs_lent.specs.declared.outcome.RrsMistake.{RrsMistake}
 use Rattle.rrs_lent.specs.declared.outcome.RrsAssembled.{RrsAssembled}
 
+-- ---- lines
+
+-- The line of the source that a line of the text is of. Lines are counted from 1.
+abbrev pub line_in : List ℕ → ℕ → ℕ
+line_in numbers line = get_or numbers (line - 1) line
+
+-- The text is what the source becomes without its macros, conditions and repetitions, and each of its
+-- lines is of one of the source: where there are none of these, of itself.
+pub record IsTextOf {A : Type 0} (source : List ℕ) (expanded : Expanded A) : Type 0 where
+  pub becomes : Becomes source expanded.text.items
+  pub mapped : IsMapped source expanded
+  pub same : has_directives source ≡ false → IsSame source expanded
+
 -- ---- statements
 
 -- a statement is told by its line, its address, and how many bytes it has
-pub record TellsStatement {A : Type 0} (placed : Placed A) (told : RrsStatement) : Type 0 where
-  pub line : told.line ≡ placed.line
-  pub address : told.address ≡ placed.address
-  pub own : List ℕ
-  pub bytes : AreBytes placed.statement own
-  pub size : told.size ≡ length own
+pub record TellsStatement {A : Type 0} (numbers : List ℕ) (placed : Placed A) (told : RrsStatement) : Type 0
+  where
+    pub line : told.line ≡ line_in numbers placed.line
+    pub address : told.address ≡ placed.address
+    pub own : List ℕ
+    pub bytes : AreBytes placed.statement own
+    pub size : told.size ≡ length own
 
 -- each statement is told, in order
-abbrev pub TellStatements : {A : Type 0} → List (Placed A) → List RrsStatement → Type 0
-TellStatements [] told = told ≡ []
-TellStatements (p ∷ others) told =
-    (own : RrsStatement) × (rest : List RrsStatement) × TellsStatement p own
-    × TellStatements others rest × (told ≡ own ∷ rest)
+abbrev pub TellStatements : {A : Type 0} → List ℕ → List (Placed A) → List RrsStatement → Type 0
+TellStatements numbers [] told = told ≡ []
+TellStatements numbers (p ∷ others) told =
+    (own : RrsStatement) × (rest : List RrsStatement) × TellsStatement numbers p own
+    × TellStatements numbers others rest × (told ≡ own ∷ rest)
 
 -- the statements of each section, section by section
-abbrev pub TellAll : {A : Type 0} → List (Section A) → List RrsStatement → Type 0
-TellAll [] told = told ≡ []
-TellAll (s ∷ others) told =
+abbrev pub TellAll : {A : Type 0} → List ℕ → List (Section A) → List RrsStatement → Type 0
+TellAll numbers [] told = told ≡ []
+TellAll numbers (s ∷ others) told =
     (own : List RrsStatement) × (rest : List RrsStatement)
-    × TellStatements s.made.placed.items own × TellAll others rest × (told ≡ own ++ rest)
+    × TellStatements numbers s.made.placed.items own × TellAll numbers others rest
+    × (told ≡ own ++ rest)
 
 -- ---- labels
 
@@ -46,35 +65,41 @@ names_of [] = []
 names_of (l ∷ others) = l.name.now ++ names_of others
 
 -- labels as they are told, where the name of the first begins at a place of the texts
-abbrev pub symbols_from : ℕ → List Label → List RrsSymbol
-symbols_from at [] = []
-symbols_from at (l ∷ others) =
-    record { line = l.line; name = at; length = length l.name.now; address = l.address }
-    ∷ symbols_from (at + length l.name.now) others
+abbrev pub symbols_from : List ℕ → ℕ → List Label → List RrsSymbol
+symbols_from numbers at [] = []
+symbols_from numbers at (l ∷ others) =
+    record {
+      line = line_in numbers l.line;
+      name = at;
+      length = length l.name.now;
+      address = l.address;
+    }
+    ∷ symbols_from numbers (at + length l.name.now) others
 
 -- those of each section, section by section
 abbrev pub all_names_of : {A : Type 0} → List (Section A) → List ℕ
 all_names_of [] = []
 all_names_of (s ∷ others) = names_of s.made.labels.items ++ all_names_of others
 
-abbrev pub all_symbols_from : {A : Type 0} → ℕ → List (Section A) → List RrsSymbol
-all_symbols_from at [] = []
-all_symbols_from at (s ∷ others) =
-    symbols_from at s.made.labels.items
-    ++ all_symbols_from (at + length (names_of s.made.labels.items)) others
+abbrev pub all_symbols_from : {A : Type 0} → List ℕ → ℕ → List (Section A) → List RrsSymbol
+all_symbols_from numbers at [] = []
+all_symbols_from numbers at (s ∷ others) =
+    symbols_from numbers at s.made.labels.items
+    ++ all_symbols_from numbers (at + length (names_of s.made.labels.items)) others
 
 -- ---- a program
 
--- The sections are those of the source, the first at an address. What is told are their bytes from
--- this address on, their statements, their labels with their names, and where the program begins:
--- without any byte at this address.
+-- The sections are those of the text that the source becomes, the first at an address. What is told
+-- are their bytes from this address on, their statements, their labels with their names, and where
+-- the program begins: without any byte at this address.
 pub record TellsProgram {A : Type 0} (source : List ℕ) (start entry : ℕ) (bytes : List ℕ)
     (statements : List RrsStatement) (symbols : List RrsSymbol) (texts : List ℕ)
-    (sections : List (Section A)) : Type 0 where
-  pub sections_of : AreSectionsOf (flat start) (items_of source) sections
+    (expanded : Expanded A) (sections : List (Section A)) : Type 0 where
+  pub text_of : IsTextOf source expanded
+  pub sections_of : AreSectionsOf (flat start) (items_of expanded.text.items) sections
   pub image : IsImage start sections bytes
-  pub statements_of : TellAll sections statements
-  pub symbols_of : symbols ≡ all_symbols_from 0 sections
+  pub statements_of : TellAll expanded.lines.items sections statements
+  pub symbols_of : symbols ≡ all_symbols_from expanded.lines.items 0 sections
   pub names : texts ≡ all_names_of sections
   pub entry_of : entry ≡ unwrap_or (entry_of sections) start
 
@@ -82,8 +107,8 @@ pub record TellsProgram {A : Type 0} (source : List ℕ) (start entry : ℕ) (by
 abbrev pub Assembles : (A : Type 0) → List ℕ → ℕ → ℕ → List ℕ → List RrsStatement → List RrsSymbol
     → List ℕ → Type 0
 Assembles A source start entry bytes statements symbols texts =
-    (sections : List (Section A))
-    × TellsProgram source start entry bytes statements symbols texts sections
+    (expanded : Expanded A) × (sections : List (Section A))
+    × TellsProgram source start entry bytes statements symbols texts expanded sections
 
 -- ---- mistakes
 

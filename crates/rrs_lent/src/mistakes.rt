@@ -1,10 +1,11 @@
 //! The mistakes of a source, as they are told.
 
-ghost use Rattle.std.specs.Prelude.{◌≡◌, IfOk, length};
+ghost use Rattle.std.specs.Prelude.{◌≡◌, ◌≤◌, IfOk, length};
 ghost use Rattle.rrs_lent.specs.Telling.{LieBehind};
 
 use crate::outcome::RrsMistake;
-use rrs_assembly::Mistake;
+use rrs_assembly::{MOST_MISTAKES, Mistake};
+use rrs_macros::{MacroError, MacroErrorKind};
 use std::alloc::{AllocError, Allocator};
 
 /// Mistakes, and what is told of them one behind the other.
@@ -28,4 +29,42 @@ pub(crate) fn told_of_mistakes<A: Allocator + Copy>(
         texts.extend_from_slice(text)?;
     }
     Ok((told, texts))
+}
+
+/// The mistake of macros that make something else than the lines say. No source is known of which
+/// that is so.
+const LEFT_OVER: MacroError = MacroError {
+    line: 1,
+    column: 1,
+    kind: MacroErrorKind::LeftOver,
+};
+
+/// The first mistakes in macros, conditions and repetitions, as they are told.
+pub(crate) fn of_macros<A: Allocator + Copy>(
+    alloc: A,
+    errors: &[MacroError],
+) -> Result<Vec<Mistake<A>, A>, AllocError>
+    ensures some { IfOk result (λ own. 1 ≤ length own.items) }
+    ensures most { IfOk result (λ own. length own.items ≤ 20) }
+{
+    let mut own = Vec::new(alloc);
+    for error in errors {
+        if own.len() < MOST_MISTAKES {
+            own.push(of_macro(alloc, error)?)?;
+        }
+    }
+    if own.is_empty() {
+        own.push(of_macro(alloc, &LEFT_OVER)?)?;
+    }
+    Ok(own)
+}
+
+/// A mistake in macros, conditions and repetitions, as it is told.
+fn of_macro<A: Allocator + Copy>(alloc: A, error: &MacroError) -> Result<Mistake<A>, AllocError> {
+    let kind = error.kind;
+    Ok(Mistake {
+        line: error.line,
+        column: error.column,
+        text: format!(in alloc; "{kind}")?,
+    })
 }

@@ -6,6 +6,7 @@ ghost use Rattle.rrs_lent.specs.Steps.{IsAsLong, AreAsLong, AreAllAsLong, IsShor
 
 use crate::outcome::RrsStatement;
 use rrs_asm::{MOST_BYTES, Placed, Section};
+use rrs_assembly::number_of;
 use std::alloc::{AllocError, Allocator};
 
 /// Whether a section has more bytes than an assembler makes.
@@ -20,16 +21,17 @@ pub(crate) fn has_long<A: Allocator + Copy>(sections: &[Section<A>]) -> bool
     false
 }
 
-/// The statements of sections, in order.
+/// The statements of sections, in order, where the lines have these numbers in the source.
 pub(crate) fn statements_of<A: Allocator + Copy>(
     alloc: A,
     sections: &[Section<A>],
+    numbers: &[usize],
 ) -> Result<Vec<RrsStatement, A>, AllocError>
-    ensures { IfOk result (λ told. AreAllAsLong sections.now told.items) }
+    ensures { IfOk result (λ told. AreAllAsLong numbers.now sections.now told.items) }
 {
     let mut told = Vec::new(alloc);
     for section in sections {
-        push_statements(&mut told, &section.made.placed)?;
+        push_statements(&mut told, &section.made.placed, numbers)?;
     }
     Ok(told)
 }
@@ -38,22 +40,23 @@ pub(crate) fn statements_of<A: Allocator + Copy>(
 fn push_statements<A: Allocator + Copy>(
     told: &mut Vec<RrsStatement, A>,
     placed: &[Placed<A>],
+    numbers: &[usize],
 ) -> Result<(), AllocError>
-    ensures { OnOk result ((own : List RrsStatement) × AreAsLong placed.now own
+    ensures { OnOk result ((own : List RrsStatement) × AreAsLong numbers.now placed.now own
         × (told.new.items ≡ told.old.items ++ own)) }
 {
     for statement in placed {
-        told.push(statement_of(statement))?;
+        told.push(statement_of(statement, numbers))?;
     }
     Ok(())
 }
 
 /// A statement as it is told.
-fn statement_of<A: Allocator + Copy>(placed: &Placed<A>) -> RrsStatement
-    ensures { IsAsLong placed.now result }
+fn statement_of<A: Allocator + Copy>(placed: &Placed<A>, numbers: &[usize]) -> RrsStatement
+    ensures { IsAsLong numbers.now placed.now result }
 {
     RrsStatement {
-        line: placed.line,
+        line: number_of(numbers, placed.line),
         address: placed.address,
         size: placed.statement.size().min(u32::MAX as usize) as u32,
     }

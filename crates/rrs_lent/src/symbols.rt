@@ -5,20 +5,24 @@ ghost use Rattle.rrs_lent.specs.Telling.{symbols_from, names_of, all_symbols_fro
 
 use crate::outcome::RrsSymbol;
 use rrs_asm::{Label, Section};
+use rrs_assembly::number_of;
 use std::alloc::{AllocError, Allocator};
 
-/// The labels of sections in order, and their names one behind the other.
+/// The labels of sections in order, where the lines have these numbers in the source, and their
+/// names one behind the other.
 pub(crate) fn symbols_of<A: Allocator + Copy>(
     alloc: A,
     sections: &[Section<A>],
+    numbers: &[usize],
 ) -> Result<(Vec<RrsSymbol, A>, Vec<u8, A>), AllocError>
-    ensures symbols { IfOk result (λ told. told.0.items ≡ all_symbols_from 0 sections.now) }
+    ensures symbols { IfOk result (λ told.
+        told.0.items ≡ all_symbols_from numbers.now 0 sections.now) }
     ensures names { IfOk result (λ told. told.1.items ≡ all_names_of sections.now) }
 {
     let mut told = Vec::new(alloc);
     let mut names = Vec::new(alloc);
     for section in sections {
-        push_symbols(&mut told, &mut names, &section.made.labels)?;
+        push_symbols(&mut told, &mut names, &section.made.labels, numbers)?;
     }
     Ok((told, names))
 }
@@ -28,14 +32,15 @@ fn push_symbols<A: Allocator + Copy>(
     told: &mut Vec<RrsSymbol, A>,
     names: &mut Vec<u8, A>,
     labels: &[Label],
+    numbers: &[usize],
 ) -> Result<(), AllocError>
     ensures symbols { OnOk result (told.new.items
-        ≡ told.old.items ++ symbols_from (length names.old.items) labels.now) }
+        ≡ told.old.items ++ symbols_from numbers.now (length names.old.items) labels.now) }
     ensures names { OnOk result (names.new.items ≡ names.old.items ++ names_of labels.now) }
 {
     for label in labels {
         told.push(RrsSymbol {
-            line: label.line,
+            line: number_of(numbers, label.line),
             name: names.len(),
             length: label.name.len(),
             address: label.address,

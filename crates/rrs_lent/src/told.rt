@@ -3,16 +3,18 @@
 ghost use Rattle.std.specs.Prelude.{◌≡◌, ◌≤◌, All, IfOk, length};
 ghost use Rattle.rrs_asm.specs.Source.{items_of};
 ghost use Rattle.rrs_asm.specs.Sections.{flat, AreSectionsOf, AreLaidOut};
+ghost use Rattle.rrs_lent.specs.Telling.{IsTextOf};
 ghost use Rattle.rrs_lent.specs.Steps.{IsShort, IsTold};
 
-use crate::mistakes::told_of_mistakes;
+use crate::mistakes::{of_macros, told_of_mistakes};
 use crate::outcome::{ASSEMBLED, MISTAKES, RrsMistake, RrsStatement, RrsSymbol};
 use crate::statements::{has_long, statements_of};
 use crate::symbols::symbols_of;
 use rrs_asm::{
     Layout, Program, SourceError, SourceErrorKind, SourceFault, assemble_source_in, image,
 };
-use rrs_assembly::{entry_of, mistakes_of};
+use rrs_assembly::{Mistake, entry_of, mistakes_of};
+use rrs_macros::{Expanded, MacroFault, expand_in};
 use std::alloc::{AllocError, Allocator};
 
 /// What is told of a source.
@@ -49,13 +51,28 @@ pub(crate) fn told_of<A: Allocator + Copy>(
 ) -> Result<Told<A>, AllocError>
     ensures { IfOk result (IsTold source.now start) }
 {
-    match assemble_source_in(alloc, source, Layout::flat(start)) {
-        Ok(program) if has_long(&program.sections) => refused(alloc, source, &[TOO_LONG]),
-        Ok(program) => made(alloc, &program, start),
+    match expand_in(alloc, source) {
+        Ok(expanded) => told_of_text(alloc, &expanded, start),
+        Err(MacroFault::OutOfMemory) => Err(AllocError),
+        Err(MacroFault::Mistakes(errors)) => told_refused(alloc, &of_macros(alloc, &errors)?),
+    }
+}
+
+/// What is told of a source that became a text without macros, conditions and repetitions.
+fn told_of_text<A: Allocator + Copy>(
+    alloc: A,
+    expanded: &Expanded<A>,
+    start: u32,
+) -> Result<Told<A>, AllocError>
+    ensures { (source : _) → IsTextOf source expanded.now → IfOk result (IsTold source start) }
+{
+    match assemble_source_in(alloc, &expanded.text, Layout::flat(start)) {
+        Ok(program) if has_long(&program.sections) => refused(alloc, expanded, &[TOO_LONG]),
+        Ok(program) => made(alloc, expanded, &program, start),
         Err(SourceFault::OutOfMemory) => Err(AllocError),
         Err(SourceFault::Errors(errors)) => match errors.as_slice() {
-            [] => refused(alloc, source, &[TOO_LONG]),
-            errors => refused(alloc, source, errors),
+            [] => refused(alloc, expanded, &[TOO_LONG]),
+            errors => refused(alloc, expanded, errors),
         },
     }
 }
@@ -63,38 +80,51 @@ pub(crate) fn told_of<A: Allocator + Copy>(
 /// What is told of a program.
 fn made<A: Allocator + Copy>(
     alloc: A,
+    expanded: &Expanded<A>,
     program: &Program<A>,
     start: u32,
 ) -> Result<Told<A>, AllocError>
     requires short { All IsShort program.now.sections.items }
     requires laid_out { AreLaidOut program.now.sections.items }
-    ensures { (source : _) → AreSectionsOf (flat start) (items_of source) program.now.sections.items
+    ensures { (source : _) → IsTextOf source expanded.now
+        → AreSectionsOf (flat start) (items_of expanded.now.text.items) program.now.sections.items
         → IfOk result (IsTold source start) }
 {
     let sections = &program.sections;
-    let (symbols, texts) = symbols_of(alloc, sections)?;
+    let (symbols, texts) = symbols_of(alloc, sections, &expanded.lines)?;
     Ok(Told {
         end: ASSEMBLED,
         entry: entry_of(sections).unwrap_or(start),
         bytes: image(alloc, program, start)?,
-        statements: statements_of(alloc, sections)?,
+        statements: statements_of(alloc, sections, &expanded.lines)?,
         symbols,
         mistakes: Vec::new(alloc),
         texts,
     })
 }
 
-/// What is told of mistakes.
+/// What is told of mistakes in a text.
 fn refused<A: Allocator + Copy>(
     alloc: A,
-    source: &[u8],
+    expanded: &Expanded<A>,
     errors: &[SourceError],
 ) -> Result<Told<A>, AllocError>
     requires { 1 ≤ length errors.now }
-    ensures { (start : _) → IfOk result (IsTold source.now start) }
+    ensures { (source : _) (start : _) → IfOk result (IsTold source start) }
 {
-    let own = mistakes_of(alloc, source, &[], errors)?;
-    let (mistakes, texts) = told_of_mistakes(alloc, &own)?;
+    told_refused(
+        alloc,
+        &mistakes_of(alloc, &expanded.text, &expanded.lines, errors)?,
+    )
+}
+
+/// What is told of mistakes.
+fn told_refused<A: Allocator + Copy>(alloc: A, own: &[Mistake<A>]) -> Result<Told<A>, AllocError>
+    requires some { 1 ≤ length own.now }
+    requires most { length own.now ≤ 20 }
+    ensures { (source : _) (start : _) → IfOk result (IsTold source start) }
+{
+    let (mistakes, texts) = told_of_mistakes(alloc, own)?;
     Ok(Told {
         end: MISTAKES,
         entry: 0,

@@ -6,4 +6,4 @@ use Rattle.rrs_lent.proofs.statements.push_statements.Given as goal
 -- those before are told
 abbrev pub invariant-loop-statement : goal.invariant-loop-statement
 invariant-loop-statement g l =
-    (own : List RrsStatement) × AreAsLong (take l.statement-index l.placed) own × (l.told.items ≡ l.fn.told.items ++ own)
+    (own : List RrsStatement) × AreAsLong l.numbers (take l.statement-index l.placed) own × (l.told.items ≡ l.fn.told.items ++ own)

@@ -5,6 +5,6 @@ use Rattle.rrs_lent.proofs.symbols.push_symbols.Given as goal
 -- what is left is told behind what was
 abbrev pub invariant-loop-label : goal.invariant-loop-label
 invariant-loop-label g l = record {
-  symbols : l.told.items ++ symbols_from (length l.names.items) (drop l.label-index l.labels) ≡ l.fn.told.items ++ symbols_from (length l.fn.names.items) l.labels;
+  symbols : l.told.items ++ symbols_from l.numbers (length l.names.items) (drop l.label-index l.labels) ≡ l.fn.told.items ++ symbols_from l.numbers (length l.fn.names.items) l.labels;
   names : l.names.items ++ names_of (drop l.label-index l.labels) ≡ l.fn.names.items ++ names_of l.labels;
 }
