@@ -1,0 +1,132 @@
+//! An assembly in memory that is lent.
+
+ghost use Rattle.std.specs.Prelude.{◌≡◌, ◌*◌, ◌^◌, ◌<◌, ◌≤◌, IfOk, OnErr, length, take};
+ghost use Rattle.rrs_room.specs.Heaps.{IsBack};
+ghost use Rattle.rrs_room.specs.Rooms.{place_of, room_size};
+ghost use Rattle.rrs_lent.specs.Lent.{Arena};
+ghost use Rattle.rrs_lent.specs.Telling.{Assembles, Needs, TellMistakes, HasNoProgram, AllFit, StaysBehind, small_room};
+
+use crate::assembling::assemble_into;
+use crate::outcome::{RrsAssembled, RrsMistake, RrsStatement, RrsSymbol, SMALL_ROOM};
+use rrs_room::{LentHeap, Room};
+use std::alloc::{AllocError, Allocator};
+
+/// The least memory that is asked for where there was too little.
+const LEAST_ROOM: usize = 0x1_0000;
+
+/// Assembles a source in memory that is lent, and gives the memory back. What the source becomes
+/// without its macros is assembled, with sections one behind the other from an address on. What is
+/// told of it is put at the front of the buffers: of a program its bytes, statements and labels with
+/// their names (`assembled`), of mistakes what they are (`refused`). What is behind it stays.
+///
+/// Where a buffer is too small none is written, and the counts say how many of each there are
+/// (`needed`). Where the memory is too small all counts are 0 (`no_room`).
+pub fn assemble_lent(
+    source: &[u8],
+    start: u32,
+    room: &mut Room,
+    bytes: &mut [u8],
+    statements: &mut [RrsStatement],
+    symbols: &mut [RrsSymbol],
+    mistakes: &mut [RrsMistake],
+    texts: &mut [u8],
+) -> RrsAssembled
+    ensures ends { result.end < 4 }
+    ensures assembled { result.end ≡ 0 → Assembles (Arena ⟦<&'static LentHeap as Allocator>⟧) source.now start result.entry
+        (take result.bytes bytes.new) (take result.statements statements.new)
+        (take result.symbols symbols.new) (take result.texts texts.new) }
+    ensures no_mistakes { result.end ≡ 0 → result.mistakes ≡ 0 }
+    ensures refused { result.end ≡ 1
+        → TellMistakes (take result.mistakes mistakes.new) (take result.texts texts.new) }
+    ensures no_program { result.end ≡ 1 → HasNoProgram result }
+    ensures no_room { result.end ≡ 2 → result ≡ small_room result.room }
+    ensures twice { result.end ≡ 2 → room_size room.old < 2 ^ 63
+        → 2 * room_size room.old ≤ result.room }
+    ensures needed { result.end ≡ 3 → Needs (Arena ⟦<&'static LentHeap as Allocator>⟧) source.now start result }
+    ensures fit { result.end < 3 → AllFit result (length bytes.old) (length statements.old)
+        (length symbols.old) (length mistakes.old) (length texts.old) }
+    ensures small { result.end ≡ 3 → AllFit result (length bytes.old) (length statements.old)
+        (length symbols.old) (length mistakes.old) (length texts.old) → ⊥ }
+    ensures back { IsBack (place_of room.old) (place_of room.new) }
+    ensures bytes_behind { StaysBehind result.bytes bytes.old bytes.new }
+    ensures statements_behind { StaysBehind result.statements statements.old statements.new }
+    ensures symbols_behind { StaysBehind result.symbols symbols.old symbols.new }
+    ensures mistakes_behind { StaysBehind result.mistakes mistakes.old mistakes.new }
+    ensures texts_behind { StaysBehind result.texts texts.old texts.new }
+{
+    let heap = LentHeap::new(room.take());
+    let told = assemble_over(
+        &heap, source, start, bytes, statements, symbols, mistakes, texts,
+    );
+    let next = next_size(heap.size());
+    *room = heap.into_room();
+    match told {
+        Ok(told) => told,
+        Err(_) => without_room(next),
+    }
+}
+
+/// Assembles a source in an arena that fills a heap.
+fn assemble_over(
+    heap: &LentHeap,
+    source: &[u8],
+    start: u32,
+    bytes: &mut [u8],
+    statements: &mut [RrsStatement],
+    symbols: &mut [RrsSymbol],
+    mistakes: &mut [RrsMistake],
+    texts: &mut [u8],
+) -> Result<RrsAssembled, AllocError>
+    ensures ends { IfOk result (λ told. told.end < 4 × (told.end ≡ 2 → ⊥)) }
+    ensures assembled { IfOk result (λ told. told.end ≡ 0 → Assembles (Arena ⟦<&'static LentHeap as Allocator>⟧) source.now start told.entry
+        (take told.bytes bytes.new) (take told.statements statements.new)
+        (take told.symbols symbols.new) (take told.texts texts.new)) }
+    ensures no_mistakes { IfOk result (λ told. told.end ≡ 0 → told.mistakes ≡ 0) }
+    ensures refused { IfOk result (λ told. told.end ≡ 1
+        → TellMistakes (take told.mistakes mistakes.new) (take told.texts texts.new)) }
+    ensures no_program { IfOk result (λ told. told.end ≡ 1 → HasNoProgram told) }
+    ensures needed { IfOk result (λ told. told.end ≡ 3 → Needs (Arena ⟦<&'static LentHeap as Allocator>⟧) source.now start told) }
+    ensures fit { IfOk result (λ told. told.end < 3 → AllFit told (length bytes.old)
+        (length statements.old) (length symbols.old) (length mistakes.old) (length texts.old)) }
+    ensures small { IfOk result (λ told. told.end ≡ 3 → AllFit told (length bytes.old)
+        (length statements.old) (length symbols.old) (length mistakes.old) (length texts.old) → ⊥) }
+    ensures room { IfOk result (λ told. told.room ≡ 0) }
+    ensures bytes_behind { IfOk result (λ told. StaysBehind told.bytes bytes.old bytes.new) }
+    ensures statements_behind { IfOk result (λ told.
+        StaysBehind told.statements statements.old statements.new) }
+    ensures symbols_behind { IfOk result (λ told.
+        StaysBehind told.symbols symbols.old symbols.new) }
+    ensures mistakes_behind { IfOk result (λ told.
+        StaysBehind told.mistakes mistakes.old mistakes.new) }
+    ensures texts_behind { IfOk result (λ told. StaysBehind told.texts texts.old texts.new) }
+    ensures kept { OnErr result ((bytes.new ≡ bytes.old) × (statements.new ≡ statements.old)
+        × (symbols.new ≡ symbols.old) × (mistakes.new ≡ mistakes.old) × (texts.new ≡ texts.old)) }
+{
+    let arena = heap.arena()?;
+    assemble_into(
+        &arena, source, start, bytes, statements, symbols, mistakes, texts,
+    )
+}
+
+/// How much memory to lend the next time, where so much is too little.
+fn next_size(size: usize) -> usize
+    ensures { size < 2 ^ 63 → 2 * size ≤ result }
+{
+    size.saturating_mul(2).max(LEAST_ROOM)
+}
+
+/// What is told where the memory is too small, and so much is asked for the next time.
+fn without_room(next: usize) -> RrsAssembled
+    ensures { result ≡ small_room next }
+{
+    RrsAssembled {
+        end: SMALL_ROOM,
+        entry: 0,
+        bytes: 0,
+        statements: 0,
+        symbols: 0,
+        mistakes: 0,
+        texts: 0,
+        room: next,
+    }
+}
