@@ -1,5 +1,5 @@
--- What lists in lent memory are kept by: a reference to an arena over it. The ghost members are those
--- of the allocator that the arena stands on.
+-- What lists in lent memory are kept by: a reference to an arena over it. The ghost members are
+-- those of the allocator that the arena stands on.
 use Rattle.std.specs.Borrow.{Bor}
 use Rattle.std.specs.declared.alloc.Allocator.{Ghosts}
 use Rattle.bumpalo.specs.declared.bump.Bump.{Bump}

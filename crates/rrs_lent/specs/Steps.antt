@@ -9,10 +9,12 @@ use Rattle.rrs_lent.specs.declared.told.Told.{Told}
 use Rattle.rrs_lent.specs.Telling.{line_in, Assembles, TellMistakes}
 
 -- a statement is told with the size of its bytes, whichever they are, up to the greatest number
-pub record IsAsLong {A : Type 0} (numbers : List ℕ) (placed : Placed A) (told : RrsStatement) : Type 0 where
+pub record IsAsLong {A : Type 0} (numbers : List ℕ) (placed : Placed A) (told : RrsStatement)
+    : Type 0 where
   pub line : told.line ≡ line_in numbers placed.line
   pub address : told.address ≡ placed.address
-  pub size : (own : List ℕ) → AreBytes placed.statement own → told.size ≡ min (length own) 0xffffffff
+  pub size : (own : List ℕ) → AreBytes placed.statement own
+      → told.size ≡ min (length own) 0xffffffff
 
 abbrev pub AreAsLong : {A : Type 0} → List ℕ → List (Placed A) → List RrsStatement → Type 0
 AreAsLong numbers [] told = told ≡ []
@@ -35,7 +37,8 @@ IsShort s = length s.made.bytes.items ≤ 0x4000000
 pub data IsTold {A : Type 0} (source : List ℕ) (start : ℕ) (told : Told A) : Type 0 where
   IsProgram :
       told.end ≡ 0 → told.mistakes.items ≡ []
-      → Assembles A source start told.entry told.bytes.items told.statements.items told.symbols.items told.texts.items
+      → Assembles A source start told.entry told.bytes.items told.statements.items
+      told.symbols.items told.texts.items
       → IsTold source start told
   IsRefused :
       told.end ≡ 1 → told.entry ≡ 0 → told.bytes.items ≡ [] → told.statements.items ≡ []

@@ -1,6 +1,7 @@
--- What a caller that lends its memory is told of a source (rrs_asm, Source and Sections): the bytes,
--- the statements and the labels of its sections, or its mistakes. Texts lie one behind the other in
--- one buffer, and what is told of a label or a mistake says where its own begins.
+-- What a caller that lends its memory is told of a source (rrs_macros, Expansion; rrs_asm, Source
+-- and Sections): the bytes, the statements and the labels of its sections, or its mistakes. Texts lie
+-- one behind the other in one buffer, and what is told of a label or a mistake says where its own
+-- begins.
 use Rattle.std.specs.Prelude.{◌≡◌, ℕ, ◌+◌, ◌-◌, ◌≤◌, false, List, [], ◌∷◌, ◌++◌, length, drop, get_or, unwrap_or}
 use Rattle.rrs_asm.specs.declared.output.Label.{Label}
 use Rattle.rrs_asm.specs.declared.output.Placed.{Placed}
@@ -24,8 +25,8 @@ use Rattle.rrs_lent.specs.declared.outcome.RrsAssembled.{RrsAssembled}
 abbrev pub line_in : List ℕ → ℕ → ℕ
 line_in numbers line = get_or numbers (line - 1) line
 
--- The text is what the source becomes without its macros, conditions and repetitions, and each of its
--- lines is of one of the source: where there are none of these, of itself.
+-- The text is what the source becomes without its macros, conditions and repetitions, and each of
+-- its lines is of one of the source: where there are none of these, of itself.
 pub record IsTextOf {A : Type 0} (source : List ℕ) (expanded : Expanded A) : Type 0 where
   pub becomes : Becomes source expanded.text.items
   pub mapped : IsMapped source expanded
@@ -34,7 +35,8 @@ pub record IsTextOf {A : Type 0} (source : List ℕ) (expanded : Expanded A) : T
 -- ---- statements
 
 -- a statement is told by its line, its address, and how many bytes it has
-pub record TellsStatement {A : Type 0} (numbers : List ℕ) (placed : Placed A) (told : RrsStatement) : Type 0
+pub record TellsStatement {A : Type 0} (numbers : List ℕ) (placed : Placed A)
+    (told : RrsStatement) : Type 0
   where
     pub line : told.line ≡ line_in numbers placed.line
     pub address : told.address ≡ placed.address
@@ -151,7 +153,8 @@ pub record HasNoProgram (told : RrsAssembled) : Type 0 where
 
 -- what a program or its mistakes need, where the source is this
 pub data Needs (A : Type 0) (source : List ℕ) (start : ℕ) (told : RrsAssembled) : Type 0 where
-  OfProgram : (bytes : List ℕ) (statements : List RrsStatement) (symbols : List RrsSymbol) (texts : List ℕ)
+  OfProgram : (bytes : List ℕ) (statements : List RrsStatement) (symbols : List RrsSymbol)
+      (texts : List ℕ)
       → Assembles A source start told.entry bytes statements symbols texts
       → AreCounts told (length bytes) (length statements) (length symbols) 0 (length texts)
       → Needs A source start told

@@ -16,8 +16,8 @@ const LEAST_ROOM: usize = 0x1_0000;
 
 /// Assembles a source in memory that is lent, and gives the memory back. What the source becomes
 /// without its macros is assembled, with sections one behind the other from an address on. What is
-/// told of it is put at the front of the buffers: of a program its bytes, statements and labels with
-/// their names (`assembled`), of mistakes what they are (`refused`). What is behind it stays.
+/// told of it is put at the front of the buffers: of a program its bytes, statements and labels
+/// with their names (`assembled`), of mistakes what they are (`refused`). What is behind it stays.
 ///
 /// Where a buffer is too small none is written, and the counts say how many of each there are
 /// (`needed`). Where the memory is too small all counts are 0 (`no_room`).
@@ -32,7 +32,8 @@ pub fn assemble_lent(
     texts: &mut [u8],
 ) -> RrsAssembled
     ensures ends { result.end < 4 }
-    ensures assembled { result.end ≡ 0 → Assembles (Arena ⟦<&'static LentHeap as Allocator>⟧) source.now start result.entry
+    ensures assembled { result.end ≡ 0
+        → Assembles (Arena ⟦<&'static LentHeap as Allocator>⟧) source.now start result.entry
         (take result.bytes bytes.new) (take result.statements statements.new)
         (take result.symbols symbols.new) (take result.texts texts.new) }
     ensures no_mistakes { result.end ≡ 0 → result.mistakes ≡ 0 }
@@ -42,7 +43,9 @@ pub fn assemble_lent(
     ensures no_room { result.end ≡ 2 → result ≡ small_room result.room }
     ensures twice { result.end ≡ 2 → room_size room.old < 2 ^ 63
         → 2 * room_size room.old ≤ result.room }
-    ensures needed { result.end ≡ 3 → Needs (Arena ⟦<&'static LentHeap as Allocator>⟧) source.now start result }
+    ensures asks_none { (result.end ≡ 2 → ⊥) → result.room ≡ 0 }
+    ensures needed { result.end ≡ 3
+        → Needs (Arena ⟦<&'static LentHeap as Allocator>⟧) source.now start result }
     ensures fit { result.end < 3 → AllFit result (length bytes.old) (length statements.old)
         (length symbols.old) (length mistakes.old) (length texts.old) }
     ensures small { result.end ≡ 3 → AllFit result (length bytes.old) (length statements.old)
@@ -78,14 +81,16 @@ fn assemble_over(
     texts: &mut [u8],
 ) -> Result<RrsAssembled, AllocError>
     ensures ends { IfOk result (λ told. told.end < 4 × (told.end ≡ 2 → ⊥)) }
-    ensures assembled { IfOk result (λ told. told.end ≡ 0 → Assembles (Arena ⟦<&'static LentHeap as Allocator>⟧) source.now start told.entry
+    ensures assembled { IfOk result (λ told. told.end ≡ 0
+        → Assembles (Arena ⟦<&'static LentHeap as Allocator>⟧) source.now start told.entry
         (take told.bytes bytes.new) (take told.statements statements.new)
         (take told.symbols symbols.new) (take told.texts texts.new)) }
     ensures no_mistakes { IfOk result (λ told. told.end ≡ 0 → told.mistakes ≡ 0) }
     ensures refused { IfOk result (λ told. told.end ≡ 1
         → TellMistakes (take told.mistakes mistakes.new) (take told.texts texts.new)) }
     ensures no_program { IfOk result (λ told. told.end ≡ 1 → HasNoProgram told) }
-    ensures needed { IfOk result (λ told. told.end ≡ 3 → Needs (Arena ⟦<&'static LentHeap as Allocator>⟧) source.now start told) }
+    ensures needed { IfOk result (λ told. told.end ≡ 3
+        → Needs (Arena ⟦<&'static LentHeap as Allocator>⟧) source.now start told) }
     ensures fit { IfOk result (λ told. told.end < 3 → AllFit told (length bytes.old)
         (length statements.old) (length symbols.old) (length mistakes.old) (length texts.old)) }
     ensures small { IfOk result (λ told. told.end ≡ 3 → AllFit told (length bytes.old)

@@ -1,10 +1,10 @@
-//! An assembler for callers that lend all its memory: C, and a page with WebAssembly, where there is
-//! no `malloc`.
+//! An assembler for callers that lend all its memory: C, and a page with WebAssembly, where there
+//! is no `malloc`.
 //!
-//! [assemble_lent] assembles a source in a room of the caller, and puts what is told of it into the
-//! caller's buffers: the bytes, the statements and the labels of its sections, or its mistakes. What
-//! stands in the buffers is written in `specs/Telling.antt`. [assemble_into] does so with any
-//! allocator.
+//! [assemble_lent] assembles a source in a room of the caller, and puts what is told of it into
+//! the caller's buffers: the bytes, the statements and the labels of its sections, or its
+//! mistakes. What stands in the buffers is written in `specs/Telling.antt`. [assemble_into] does so
+//! with any allocator.
 
 #![tactic(auto)]
 
