@@ -7,7 +7,8 @@
  * What holds of all functions:
  *
  * - Ownership. The caller owns every value, and no function keeps a pointer after it returns. None
- *   allocates, prints, calls back, or ends the process.
+ *   prints, calls back, or ends the process. None allocates but rrs_assemble, in memory that it is
+ *   lent for the call.
  * - Pointers. Each is aligned for its type and points to a value of the caller. None may be NULL,
  *   also not one to an array of length 0. What two of them point to must not overlap. Nothing
  *   checks this. Every hart, word, address and limit is allowed.
@@ -496,6 +497,81 @@ rrs_loaded rrs_elf_load(const uint8_t *file, size_t size, uint32_t *words, size_
 rrs_location rrs_elf_function_at(const uint8_t *file, size_t size, uint32_t address, char *text,
                                  size_t room);
 
+/* Memory that is lent for a call. The bytes from `start` on are the callee's while it runs: nobody
+ * else reads or writes them, and no other argument points there. `start` is a multiple of 16. Of
+ * `size` a rest below 16 is not used, and where it is below 16 `start` may be NULL. */
+typedef struct rrs_room {
+    uint8_t *start;
+    size_t size; /* In bytes. */
+} rrs_room;
+
+/* How rrs_assemble ended. */
+enum rrs_assembly_end {
+    RRS_ASSEMBLED = 0,   /* The source was assembled. */
+    RRS_MISTAKES = 1,    /* It has mistakes. */
+    RRS_SMALL_ROOM = 2,  /* The room is too small. */
+    RRS_SMALL_BUFFER = 3 /* A buffer is too small: that of a count which is above its length. */
+};
+
+/* A statement that has an address: an instruction, or a directive that lays out bytes. Of a macro
+ * or a repetition each statement in it is one, at its line in the body. */
+typedef struct rrs_statement {
+    size_t line;      /* The line of the source, counted from 1. */
+    uint32_t address; /* The address of its first byte. */
+    uint32_t size;    /* How many bytes it has, which may be 0. */
+} rrs_statement;
+
+/* A label, a local one too, whose name is its digit. */
+typedef struct rrs_symbol {
+    size_t line;      /* The line of the source, counted from 1. */
+    size_t name;      /* Where its name begins in the texts. */
+    size_t length;    /* How many bytes its name has. No 0 ends it. */
+    uint32_t address; /* The address of what stands behind it. Behind the last address that is 0. */
+} rrs_symbol;
+
+/* A mistake. */
+typedef struct rrs_mistake {
+    size_t line;   /* The line of the source, counted from 1. */
+    size_t column; /* The byte of the line, counted from 1, or one past its last. */
+    size_t text;   /* Where what is told of it begins in the texts: what is wrong there, what is
+                    * wanted, and what was probably meant. */
+    size_t length; /* How many bytes that has. No 0 ends it. */
+} rrs_mistake;
+
+/* What rrs_assemble tells: how it ended, and how many of each there are. */
+typedef struct rrs_assembled {
+    uint32_t end;      /* One of enum rrs_assembly_end. */
+    uint32_t entry;    /* Where the program begins: at _start, else at main, else at the first byte;
+                        * the `start` where there is no byte, and 0 where there is no program. */
+    size_t bytes;      /* How many bytes there are, from the address `start` on. */
+    size_t statements; /* How many statements. */
+    size_t symbols;    /* How many labels. */
+    size_t mistakes;   /* How many mistakes, at most 20. */
+    size_t texts;      /* How many bytes the labels' names have, or the texts of the mistakes. */
+    size_t room;       /* Of RRS_SMALL_ROOM how large a room to lend the next time, at least twice
+                        * as large, and else 0. */
+} rrs_assembled;
+
+/* Assembles the `source_length` bytes at `source`, as `rrs as` does: RV32I with multiply and
+ * divide, with sections, pseudo-instructions, directives, macros, conditions and repetitions.
+ * docs/ASSEMBLY.md of the kit has the syntax. The first section lies at the address `start`, and
+ * each other behind the one before it.
+ *
+ * It allocates in `room` alone, and after the call *room is what it was. It writes to the front of
+ * the buffers, each of which has room for so many as its length says:
+ * - RRS_ASSEMBLED: the bytes from `start` on, with zeros between sections, the statements and the
+ *   labels, section by section in the order of their addresses, and in `texts` the labels' names.
+ * - RRS_MISTAKES: the mistakes, and in `texts` what is told of each. There are 20 at most, and none
+ *   that only follows from another.
+ * - RRS_SMALL_ROOM: nothing. All counts are 0.
+ * - RRS_SMALL_BUFFER: nothing. The counts say how many of each there are.
+ * What is behind the counts stays as it is. Texts lie one behind the other. */
+rrs_assembled rrs_assemble(const uint8_t *source, size_t source_length, uint32_t start,
+                           rrs_room *room, uint8_t *bytes, size_t bytes_length,
+                           rrs_statement *statements, size_t statements_length,
+                           rrs_symbol *symbols, size_t symbols_length, rrs_mistake *mistakes,
+                           size_t mistakes_length, uint8_t *texts, size_t texts_length);
+
 /* The layout that the library has been built with. */
 #if defined(__cplusplus) && __cplusplus >= 201103L
 #define RRS_ASSERT(name, condition) static_assert(condition, #name)
@@ -613,6 +689,32 @@ RRS_ASSERT(size_of_location, sizeof(rrs_location) == 16);
 RRS_ASSERT(location_found, offsetof(rrs_location, found) == 0);
 RRS_ASSERT(location_distance, offsetof(rrs_location, distance) == 4);
 RRS_ASSERT(location_length, offsetof(rrs_location, length) == 8);
+RRS_ASSERT(size_of_room, sizeof(rrs_room) == 16);
+RRS_ASSERT(room_start, offsetof(rrs_room, start) == 0);
+RRS_ASSERT(room_size, offsetof(rrs_room, size) == 8);
+RRS_ASSERT(size_of_statement, sizeof(rrs_statement) == 16);
+RRS_ASSERT(statement_line, offsetof(rrs_statement, line) == 0);
+RRS_ASSERT(statement_address, offsetof(rrs_statement, address) == 8);
+RRS_ASSERT(statement_size, offsetof(rrs_statement, size) == 12);
+RRS_ASSERT(size_of_symbol, sizeof(rrs_symbol) == 32);
+RRS_ASSERT(symbol_line, offsetof(rrs_symbol, line) == 0);
+RRS_ASSERT(symbol_name, offsetof(rrs_symbol, name) == 8);
+RRS_ASSERT(symbol_length, offsetof(rrs_symbol, length) == 16);
+RRS_ASSERT(symbol_address, offsetof(rrs_symbol, address) == 24);
+RRS_ASSERT(size_of_mistake, sizeof(rrs_mistake) == 32);
+RRS_ASSERT(mistake_line, offsetof(rrs_mistake, line) == 0);
+RRS_ASSERT(mistake_column, offsetof(rrs_mistake, column) == 8);
+RRS_ASSERT(mistake_text, offsetof(rrs_mistake, text) == 16);
+RRS_ASSERT(mistake_length, offsetof(rrs_mistake, length) == 24);
+RRS_ASSERT(size_of_assembled, sizeof(rrs_assembled) == 56);
+RRS_ASSERT(assembled_end, offsetof(rrs_assembled, end) == 0);
+RRS_ASSERT(assembled_entry, offsetof(rrs_assembled, entry) == 4);
+RRS_ASSERT(assembled_bytes, offsetof(rrs_assembled, bytes) == 8);
+RRS_ASSERT(assembled_statements, offsetof(rrs_assembled, statements) == 16);
+RRS_ASSERT(assembled_symbols, offsetof(rrs_assembled, symbols) == 24);
+RRS_ASSERT(assembled_mistakes, offsetof(rrs_assembled, mistakes) == 32);
+RRS_ASSERT(assembled_texts, offsetof(rrs_assembled, texts) == 40);
+RRS_ASSERT(assembled_room, offsetof(rrs_assembled, room) == 48);
 
 #undef RRS_ASSERT
 

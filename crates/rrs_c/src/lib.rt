@@ -3,8 +3,9 @@
 //! `include/rrs.h` declares them for C, and `docs/C.md` says how to build and call them. Each
 //! function is total. It requires of its pointers that they are aligned, that each points to a
 //! value of the caller, and that no two of these overlap. `rrs_run_cached` and
-//! `rrs_run_until_cached` require too that `rrs_cache_clear` made their cache. None allocates, keeps
-//! anything between two calls, or calls back.
+//! `rrs_run_until_cached` require too that `rrs_cache_clear` made their cache, and `rrs_assemble`
+//! that nobody else has the memory of its room. None keeps anything between two calls, or calls
+//! back, and none allocates but `rrs_assemble`, in this room.
 //!
 //! The contracts are those of the kit's own calls, over `state_in_c`: the hart, and the words from
 //! the base on, all writable.
@@ -27,7 +28,7 @@ mod retired;
 mod text;
 mod undoing;
 
-ghost use Rattle.std.specs.Prelude.{◌≡◌, ◌<◌, ◌==◌, ◌↔◌, List, length, slice_index, OnErr, Err};
+ghost use Rattle.std.specs.Prelude.{◌≡◌, ◌*◌, ◌^◌, ◌<◌, ◌≤◌, ◌==◌, ◌↔◌, List, length, take, slice_index, OnErr, Err};
 ghost use Rattle.rrs_lib.specs.Encodings.{Fields};
 ghost use Rattle.rrs_lib.specs.Table.{Row, Decodes, IsIllegal};
 ghost use Rattle.rrs_lib.specs.Steps.{Step, IsOnlyStep, ChangesLittle, RunUntil, IsOnlyRunUntil, cleared};
@@ -54,6 +55,10 @@ ghost use Rattle.rrs_system.specs.MachineRecords.{MachineRetires};
 ghost use Rattle.rrs_history.specs.Changes.{undone};
 ghost use Rattle.rrs_c.specs.Machines.{csrs_in, machine_in_c, inputs_in, machine_answer, IsOutcome, machine_retired_in, IsMachineRecord, csr_told, csr_to_write, file_after, was_written};
 ghost use Rattle.rrs_c.specs.Undoing.{change_in, IsChange};
+ghost use Rattle.rrs_room.specs.Heaps.{IsBack};
+ghost use Rattle.rrs_room.specs.Rooms.{place_of, room_size};
+ghost use Rattle.rrs_lent.specs.Lent.{Arena};
+ghost use Rattle.rrs_lent.specs.Telling.{Assembles, Needs, TellMistakes, HasNoProgram, AllFit, StaysBehind, small_room};
 ghost use Rattle.rrs_c.specs.Names.{PutsRowName, PutsName, named, fault_names, register_names, field_names};
 
 use access::{RrsAccess, access_or_fault, given_by};
@@ -79,12 +84,15 @@ use machine::{
 use names::{fault_name, field_name, put_name, register_name, row_name};
 use retired::{RrsRetired, refused, written_out};
 use rrs_fast::WordTable;
+use rrs_lent::{RrsAssembled, RrsMistake, RrsStatement, RrsSymbol, assemble_lent};
 use rrs_lib::disassembly::Disassembled;
 use rrs_lib::instruction::decode;
 use rrs_lib::instruction_executor::InstructionException;
 use rrs_lib::memories::SliceMemory;
 use rrs_privileged::CsrFile;
+use rrs_room::{LentHeap, Room};
 use rrs_trace::{complete_parts, request_parts};
+use std::alloc::Allocator;
 use text::put_text;
 use undoing::{RrsChange, change_from, change_of};
 
@@ -597,4 +605,52 @@ pub extern "C" fn rrs_elf_function_at(file: &[u8], address: u32, buffer: &mut [u
     ensures { FindsFunction file.now address buffer.old buffer.new result }
 {
     function_of(file, address, buffer)
+}
+
+/// Assembles a source in the memory of a room, whose first section lies at an address and each other
+/// behind the one before, and gives the memory back. The bytes from this address on, the statements,
+/// and the labels with their names stand then at the front of the buffers (`assembled`), or the
+/// mistakes (`refused`). What is behind them stays. Where a buffer is too small nothing is written,
+/// and the counts say how many of each there are (`needed`). Where the room is too small all counts
+/// are 0 (`no_room`).
+#[unsafe(no_mangle)]
+pub extern "C" fn rrs_assemble(
+    source: &[u8],
+    start: u32,
+    room: &mut Room,
+    bytes: &mut [u8],
+    statements: &mut [RrsStatement],
+    symbols: &mut [RrsSymbol],
+    mistakes: &mut [RrsMistake],
+    texts: &mut [u8],
+) -> RrsAssembled
+    ensures ends { result.end < 4 }
+    ensures assembled { result.end ≡ 0
+        → Assembles (Arena ⟦<&'static LentHeap as Allocator>⟧) source.now start result.entry
+        (take result.bytes bytes.new) (take result.statements statements.new)
+        (take result.symbols symbols.new) (take result.texts texts.new) }
+    ensures no_mistakes { result.end ≡ 0 → result.mistakes ≡ 0 }
+    ensures refused { result.end ≡ 1
+        → TellMistakes (take result.mistakes mistakes.new) (take result.texts texts.new) }
+    ensures no_program { result.end ≡ 1 → HasNoProgram result }
+    ensures no_room { result.end ≡ 2 → result ≡ small_room result.room }
+    ensures twice { result.end ≡ 2 → room_size room.old < 2 ^ 63
+        → 2 * room_size room.old ≤ result.room }
+    ensures asks_none { (result.end ≡ 2 → ⊥) → result.room ≡ 0 }
+    ensures needed { result.end ≡ 3
+        → Needs (Arena ⟦<&'static LentHeap as Allocator>⟧) source.now start result }
+    ensures fit { result.end < 3 → AllFit result (length bytes.old) (length statements.old)
+        (length symbols.old) (length mistakes.old) (length texts.old) }
+    ensures small { result.end ≡ 3 → AllFit result (length bytes.old) (length statements.old)
+        (length symbols.old) (length mistakes.old) (length texts.old) → ⊥ }
+    ensures back { IsBack (place_of room.old) (place_of room.new) }
+    ensures bytes_behind { StaysBehind result.bytes bytes.old bytes.new }
+    ensures statements_behind { StaysBehind result.statements statements.old statements.new }
+    ensures symbols_behind { StaysBehind result.symbols symbols.old symbols.new }
+    ensures mistakes_behind { StaysBehind result.mistakes mistakes.old mistakes.new }
+    ensures texts_behind { StaysBehind result.texts texts.old texts.new }
+{
+    assemble_lent(
+        source, start, room, bytes, statements, symbols, mistakes, texts,
+    )
 }
