@@ -1,5 +1,6 @@
 //! The tests of `rrs_asm`: lines and their words, the places of labels, statements and mistakes, and
-//! the programs of `examples/assembly`, which are assembled, compared with their words, and run.
+//! the programs of `examples/assembly`, which are assembled, compared with their words, and run. What
+//! `rrs_lent` tells of sources is compared with what `assemble_source` makes.
 //!
 //! The words of pseudo-instructions are those that GNU `as` makes.
 
@@ -9,6 +10,8 @@
 mod assembled;
 #[cfg(test)]
 mod executables;
+#[cfg(test)]
+mod lent;
 #[cfg(test)]
 mod lines;
 #[cfg(test)]
