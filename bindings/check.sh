@@ -195,7 +195,7 @@ header_is_right() {
 
 examples() {
     local program
-    for program in three_words uart shadow lockstep; do
+    for program in three_words uart shadow lockstep assemble; do
         case $program in
         lockstep) set -- "$here/c/lockstep/main.c" "$here/c/lockstep/design.c" ;;
         *) set -- "$here/c/$program.c" ;;
@@ -205,7 +205,7 @@ examples() {
         try "$program, as C++" build "g++ -std=c++11 -x c++" "$program" "$@"
         try "$program, as C++, prints what is stored" prints "$program"
     done
-    try "uart, shadow and lockstep see what is wrong" examples_see
+    try "uart, shadow, lockstep and assemble see what is wrong" examples_see
     try "replay, as C99" build "gcc -std=c99 -x c" replay "$here/c/replay.c"
     try "replay, as C99, answers as is stored" answers "$room/replay"
     try "replay refuses a line with more" refuses_lines "$room/replay"
@@ -271,7 +271,26 @@ C
     build "gcc -std=c99 -x c" unplanted "$lockstep/main.c" "$room/unplanted.c" &&
         fails_with "^5 of 6 planted faults found" unplanted || return 1
     sed 's/b_type(0, 13, 0, -8)/addi(0, 0, 0)/' "$here/c/uart.c" >"$room/hasty.c"
-    build "gcc -std=c99 -x c" hasty "$room/hasty.c" && fails_with "bytes refused [1-9]" hasty
+    build "gcc -std=c99 -x c" hasty "$room/hasty.c" &&
+        fails_with "bytes refused [1-9]" hasty || return 1
+    assemble_sees
+}
+
+# assemble prints something else where one of what it is told is something else.
+assemble_sees() {
+    local what
+    for what in "made.entry ^= 4" "statements[1].line ^= 1" "statements[1].address ^= 4" \
+        "statements[1].size ^= 1" "symbols[1].line ^= 1" "symbols[1].name ^= 1" \
+        "symbols[1].length ^= 1" "symbols[1].address ^= 4" "mistakes[0].line ^= 1" \
+        "mistakes[0].column ^= 1" "mistakes[0].text ^= 1" "mistakes[0].length ^= 1" \
+        "bytes[1] ^= 1" "made.room ^= 1" "made.bytes ^= 1" "own.size ^= 1"; do
+        sed "s/^    if (own.start/    $what;\n&/" "$here/c/assemble.c" >"$room/wrong.c"
+        ! cmp -s "$here/c/assemble.c" "$room/wrong.c" || return 1
+        build "gcc -std=c99 -x c" wrong_assemble "$room/wrong.c" || return 1
+        "$room/wrong_assemble" >"$room/printed" 2>&1
+        ! diff -q "$here/c/expected/assemble.txt" "$room/printed" >"$room/same" ||
+            { echo "assemble does not see: $what" && return 1; }
+    done
 }
 
 # Libraries that the faces must refuse: of another version, one with no rrs_request, and one that
@@ -381,23 +400,23 @@ all() {
     examples
     try "libraries that must be refused" make_refused
     try "three_words refuses a library of another version" c_refuses
-    try "rust: its tests" rust_passes 8 57 "$crate/out"
+    try "rust: its tests" rust_passes 11 77 "$crate/out"
     try "rust: the examples of its docs" rust_examples 3
     try "rust: three_words prints what is stored" rust_prints
     try "rust: replay is built" rust "$crate/out" build --release --example replay
     try "rust: replay answers as is stored" answers "$room/rust/release/examples/replay"
     try "rust: replay refuses a line with more" refuses_lines "$room/rust/release/examples/replay"
-    try "rust: a library of another version is refused" rust_refuses version 21 another_version
-    try "rust: an unknown kind is refused" rust_refuses kind 11 unknown_kind
+    try "rust: a library of another version is refused" rust_refuses version 22 another_version
+    try "rust: an unknown kind is refused" rust_refuses kind 12 unknown_kind
     try "rust: README says which Rust it needs" rust_says_what_it_needs "$here"
     try "the library for Python" gcc -shared -o "$room/librrs.so" \
         -Wl,--whole-archive "$library" -Wl,--no-whole-archive
-    try "python: its tests" python_passes 25 333 11
+    try "python: its tests" python_passes 29 357 14
     try "python: three_words prints what is stored" python_prints
     try "python: replay answers as is stored" answers python replay.py
     try "python: replay refuses a line with more" refuses_lines python replay.py
     try "python: the structs and constants are those of rrs.h" python_has_layouts
-    finish 49
+    finish 53
 }
 
 # The calls that do more than they may: some write a text where there is room for it, and none for

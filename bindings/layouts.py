@@ -23,8 +23,8 @@ def structs(header):
     """Each struct with the names of its fields, and whether each is a number."""
     text = preprocessed(header, "-P")
     for body, name in re.findall(r"typedef struct \w+ \{([^}]*)\} (rrs_\w+);", text):
-        fields = re.findall(r"(\w+) (\w+)(\[\d+\])?;", body)
-        yield name, [(field, kind.endswith("_t") and not count) for kind, field, count in fields]
+        fields = re.findall(r"(\w+ \*?)(\w+)(\[\d+\])?;", body)
+        yield name, [(field, kind.endswith("_t ") and not count) for kind, field, count in fields]
 
 
 def constants(header):

@@ -164,3 +164,15 @@ rrs_location rrs_elf_function_at(const uint8_t *file, size_t size, uint32_t addr
     (void)file, (void)size, (void)address, (void)text, (void)room;
     return none;
 }
+
+rrs_assembled rrs_assemble(const uint8_t *source, size_t length, uint32_t start, rrs_room *room,
+                           uint8_t *bytes, size_t bytes_length, rrs_statement *statements,
+                           size_t statements_length, rrs_symbol *symbols, size_t symbols_length,
+                           rrs_mistake *mistakes, size_t mistakes_length, uint8_t *texts,
+                           size_t texts_length) {
+    rrs_assembled none = {KIND, 0, 0, 0, 0, 0, 0, 0};
+    (void)source, (void)length, (void)start, (void)room, (void)bytes, (void)bytes_length;
+    (void)statements, (void)statements_length, (void)symbols, (void)symbols_length;
+    (void)mistakes, (void)mistakes_length, (void)texts, (void)texts_length;
+    return none;
+}

@@ -22,6 +22,11 @@ STRUCTS = {
     "rrs_segment": rrs._Segment,
     "rrs_loaded": rrs._Loaded,
     "rrs_location": rrs._Location,
+    "rrs_room": rrs._Room,
+    "rrs_statement": rrs._Statement,
+    "rrs_symbol": rrs._Symbol,
+    "rrs_mistake": rrs._Mistake,
+    "rrs_assembled": rrs._Assembled,
 }
 
 for name, struct in STRUCTS.items():
@@ -51,6 +56,8 @@ print("RRS_ELF_NOT_IN_WORDS", rrs._NOT_IN_WORDS)
 print("RRS_NOWHERE 0")
 print("RRS_IN_FUNCTION", rrs._IN_FUNCTION)
 print("RRS_BEHIND 2")
+for end in rrs._AssemblyEnd:
+    print(f"RRS_{end.name} {end.value}")
 print("RRS_NAME_SIZE", rrs._NAME_SIZE)
 print("RRS_NO_CAUSE", rrs._NO_CAUSE)
 print("RRS_TEXT_SIZE", rrs._TEXT_SIZE)

@@ -56,6 +56,12 @@ __all__ = [
     "ElfError",
     "Location",
     "Segment",
+    "assemble",
+    "AssemblyError",
+    "Program",
+    "Statement",
+    "Symbol",
+    "Mistake",
 ]
 
 _u32, _u64, _size = ctypes.c_uint32, ctypes.c_uint64, ctypes.c_size_t
@@ -151,6 +157,28 @@ class _Location(ctypes.Structure):
     _fields_ = [("found", _u32), ("distance", _u32), ("length", _size)]
 
 
+class _Room(ctypes.Structure):
+    _fields_ = [("start", ctypes.c_void_p), ("size", _size)]
+
+
+class _Statement(ctypes.Structure):
+    _fields_ = [("line", _size), ("address", _u32), ("size", _u32)]
+
+
+class _Symbol(ctypes.Structure):
+    _fields_ = [("line", _size), ("name", _size), ("length", _size), ("address", _u32)]
+
+
+class _Mistake(ctypes.Structure):
+    _fields_ = [(name, _size) for name in "line column text length".split()]
+
+
+class _Assembled(ctypes.Structure):
+    _fields_ = [("end", _u32), ("entry", _u32)] + [
+        (name, _size) for name in "bytes statements symbols mistakes texts room".split()
+    ]
+
+
 def _library():
     here = Path(__file__).resolve().parent
     beside, default = here / "librrs.so", here / "../../crates/rrs_c/out/librrs.so"
@@ -223,6 +251,13 @@ _elf_segment = _function("rrs_elf_segment", _Segment, ctypes.c_char_p, _size, _u
 _elf_load = _function("rrs_elf_load", _Loaded, ctypes.c_char_p, _size, _words, _size, _u32)
 _elf_function_at = _function(
     "rrs_elf_function_at", _Location, ctypes.c_char_p, _size, _u32, ctypes.c_char_p, _size
+)
+_assemble = _function(
+    "rrs_assemble",
+    _Assembled,
+    *(ctypes.c_char_p, _size, _u32, ctypes.POINTER(_Room), ctypes.c_char_p, _size),
+    *(ctypes.POINTER(_Statement), _size, ctypes.POINTER(_Symbol), _size),
+    *(ctypes.POINTER(_Mistake), _size, ctypes.c_char_p, _size),
 )
 _names = {
     kind: _function(f"rrs_{kind}_name", _size, _u32, ctypes.c_char_p, _size)
@@ -677,6 +712,123 @@ class Elf:
         _elf_function_at(*self._arguments, address, text, len(text))
         name = text.raw[: at.length].decode("utf-8", "surrogateescape")
         return Location(name, at.distance, at.found == _IN_FUNCTION)
+
+
+class _AssemblyEnd(enum.IntEnum):
+    """How an assembly ended."""
+
+    ASSEMBLED = 0
+    MISTAKES = 1
+    SMALL_ROOM = 2
+    SMALL_BUFFER = 3
+
+
+_Lent = NamedTuple("_Lent", [(name, int) for name in "room bytes statements symbols texts".split()])
+
+
+class Statement(NamedTuple):
+    """A statement that was assembled: its line, counted from 1, the address of its first byte, and
+    how many bytes it has."""
+
+    line: int
+    address: int
+    size: int
+
+
+class Symbol(NamedTuple):
+    """A label: its name, its line, counted from 1, and the address of what stands behind it."""
+
+    name: str
+    line: int
+    address: int
+
+
+class Mistake(NamedTuple):
+    """A mistake in a source: the line and the byte of it, counted from 1, and what is wrong."""
+
+    line: int
+    column: int
+    text: str
+
+
+class Program(NamedTuple):
+    """A source that was assembled: where it begins, its bytes from the address ``start`` on, its
+    statements in the order of their addresses, and its labels."""
+
+    start: int
+    entry: int
+    bytes: bytes
+    statements: list[Statement]
+    symbols: list[Symbol]
+
+
+class AssemblyError(ValueError):
+    """A source with mistakes: ``mistakes`` are the first 20, as ``rrs as`` tells them."""
+
+    def __init__(self, mistakes: list[Mistake]) -> None:
+        self.mistakes = mistakes
+        super().__init__("; ".join(f"{m.line}:{m.column}: {m.text}" for m in mistakes))
+
+
+def assemble(source: Union[str, bytes], start: int = 0) -> Program:
+    """Assembles a source of RISC-V assembly, as ``rrs as`` does, its sections one behind the other
+    from the address ``start`` on. A text is taken as UTF-8.
+
+    >>> program = assemble("loop: addi x1, x1, 1\\n j loop")
+    >>> Machine(program.bytes).run(4).steps
+    4
+    >>> program.symbols
+    [Symbol(name='loop', line=1, address=0)]
+
+    An AssemblyError is raised where the source has mistakes, and a MemoryError where it asks for
+    more memory than there is.
+    """
+    data = source.encode() if isinstance(source, str) else bytes(source)
+    lent = _Lent(64 * len(data) + (1 << 16), 4 * len(data) + 64, len(data) + 8, len(data) + 8, 4096)
+    while True:
+        made, parts = _assembled(data, _word_of(start), lent)
+        if made.end == _AssemblyEnd.SMALL_ROOM:
+            lent = lent._replace(room=made.room)
+        elif made.end == _AssemblyEnd.SMALL_BUFFER:
+            lent = _Lent(lent.room, made.bytes, made.statements, made.symbols, made.texts)
+        else:
+            return _program_of(start, made, *parts)
+
+
+def _assembled(data: bytes, start: int, lent: _Lent):
+    """How an assembly in so much memory ended, and the buffers that were lent."""
+    memory = ctypes.create_string_buffer(lent.room + 16)
+    place = ctypes.addressof(memory)
+    room = _Room(place + -place % 16, lent.room)
+    parts = (
+        ctypes.create_string_buffer(lent.bytes + 1),
+        (_Statement * (lent.statements + 1))(),
+        (_Symbol * (lent.symbols + 1))(),
+        (_Mistake * 20)(),
+        ctypes.create_string_buffer(lent.texts + 1),
+    )
+    sized = [part for each in parts for part in (each, len(each))]
+    made = _assemble(data, len(data), start, ctypes.byref(room), *sized)
+    return made, parts
+
+
+def _program_of(start, made, into, statements, symbols, mistakes, texts) -> Program:
+    """The program, or its mistakes, in the buffers."""
+
+    def text_of(first: int, length: int) -> str:
+        return texts.raw[first : first + length].decode("utf-8", "surrogateescape")
+
+    if _AssemblyEnd(made.end) is _AssemblyEnd.MISTAKES:
+        raise AssemblyError(
+            [Mistake(m.line, m.column, text_of(m.text, m.length)) for m in mistakes[: made.mistakes]]
+        )
+    return Program(
+        _word_of(start),
+        made.entry,
+        into.raw[: made.bytes],
+        [Statement(s.line, s.address, s.size) for s in statements[: made.statements]],
+        [Symbol(text_of(s.name, s.length), s.line, s.address) for s in symbols[: made.symbols]],
+    )
 
 
 class Machine:

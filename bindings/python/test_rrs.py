@@ -338,6 +338,45 @@ class Faces(Counted):
             self.assertIn("Only one thread at a time may use a machine", " ".join(text.split()))
 
 
+SOURCE = """.macro twice register
+    add \\register, \\register, \\register
+.endm
+_start: li a0, 0x12345678
+loop:   twice a0
+    bnez a0, loop
+    ecall
+.data
+text:   .asciz "end"
+"""
+
+
+class Assembling(Counted):
+    def test_a_program_has_bytes_statements_and_labels(self):
+        program = rrs.assemble(SOURCE, 0x1000)
+        self.assertEqual((program.start, program.entry, len(program.bytes)), (0x1000, 0x1000, 24))
+        self.assertEqual(program.bytes[:4] + program.bytes[20:], b"\x37\x55\x34\x12end\0")
+        self.assertEqual([tuple(each) for each in program.statements], [
+            (4, 0x1000, 8), (2, 0x1008, 4), (6, 0x100C, 4), (7, 0x1010, 4), (9, 0x1014, 4)])
+        self.assertEqual([tuple(each) for each in program.symbols], [
+            ("_start", 4, 0x1000), ("loop", 5, 0x1008), ("text", 9, 0x1014)])
+        self.assertEqual(rrs.assemble(SOURCE.encode(), 0x1000), program)
+        self.assertEqual(rrs.assemble(""), rrs.Program(0, 0, b"", [], []))
+
+    def test_what_is_too_small_grows(self):
+        program = rrs.assemble(".zero 1000000\n.rept 20000\n1: .byte 1, 2\n.endr")
+        self.assertEqual((len(program.bytes), len(program.statements)), (1040000, 20001))
+        self.assertEqual(program.bytes[999999:1000003], b"\0\1\2\1")
+
+    def test_mistakes_are_an_error(self):
+        with self.assertRaises(rrs.AssemblyError) as raised:
+            rrs.assemble("    addi a0, a0, 5000\n    j lop\nloop:\n")
+        first, second = raised.exception.mistakes
+        self.assertEqual(first[:2] + second[:2], (1, 18, 2, 7))
+        self.assertEqual(second.text, "symbol is not defined: lop; is loop meant?")
+        self.assertEqual(str(raised.exception), f"1:18: {first.text}; 2:7: {second.text}")
+        self.assertRaises(ValueError, rrs.assemble, "nop", 2**32)
+
+
 class Libraries(Counted):
     """The way to the library, and the libraries that are refused: RRS_REFUSED is the folder where
     check.sh puts them."""
@@ -383,6 +422,8 @@ class Libraries(Counted):
         _, _, said = self.run_over(f"{folder}/kind.so",
                                    "import rrs\nrrs.Machine([0]).machine_step(rrs.Csrs())")
         self.assertIn("ValueError: 9 is not a valid OutcomeKind", said)
+        _, _, said = self.run_over(f"{folder}/kind.so", "import rrs\nrrs.assemble('')")
+        self.assertIn("ValueError: 9 is not a valid _AssemblyEnd", said)
 
 
 def load_tests(loader, tests, pattern):

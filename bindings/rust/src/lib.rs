@@ -896,6 +896,140 @@ impl<'a> Elf<'a> {
     }
 }
 
+/// A statement that was assembled, and where its bytes lie.
+#[repr(C)]
+#[derive(Clone, Copy, Debug, Default, PartialEq, Eq)]
+pub struct Statement {
+    /// The line of the source, counted from 1.
+    pub line: usize,
+    /// The address of its first byte.
+    pub address: u32,
+    /// How many bytes it has.
+    pub size: u32,
+}
+
+/// A label, and what it stands for.
+#[repr(C)]
+#[derive(Clone, Copy, Debug, Default, PartialEq, Eq)]
+pub struct Symbol {
+    /// The line of the source, counted from 1.
+    pub line: usize,
+    /// Where its name begins in the texts.
+    pub name: usize,
+    /// How many bytes its name has.
+    pub length: usize,
+    /// The address of what stands behind it.
+    pub address: u32,
+}
+
+/// A mistake in a source.
+#[repr(C)]
+#[derive(Clone, Copy, Debug, Default, PartialEq, Eq)]
+pub struct Mistake {
+    /// The line of the source, counted from 1.
+    pub line: usize,
+    /// The byte of the line, counted from 1.
+    pub column: usize,
+    /// Where what is told of it begins in the texts.
+    pub text: usize,
+    /// How many bytes that has.
+    pub length: usize,
+}
+
+/// Memory in which [`assemble`] works, by pieces of 16 bytes, aligned to 16.
+#[repr(C, align(16))]
+#[derive(Clone, Copy, Debug, Default)]
+pub struct Piece([u8; 16]);
+
+/// What is lent to [`assemble`]: memory to work in, and buffers for what is made.
+#[derive(Debug, Default)]
+pub struct Lent<'a> {
+    /// The memory to work in, at least 31 pieces. What is left in it means nothing.
+    pub room: &'a mut [Piece],
+    /// For the bytes, from the address of the first on.
+    pub bytes: &'a mut [u8],
+    /// For the statements, in the order of their addresses.
+    pub statements: &'a mut [Statement],
+    /// For the labels.
+    pub symbols: &'a mut [Symbol],
+    /// For the mistakes, at most 20.
+    pub mistakes: &'a mut [Mistake],
+    /// For the names of the labels, or what is told of the mistakes, one behind the other.
+    pub texts: &'a mut [u8],
+}
+
+/// How many of each there are in the buffers, or are wanted there.
+#[derive(Clone, Copy, Debug, Default, PartialEq, Eq)]
+pub struct Counts {
+    /// How many bytes.
+    pub bytes: usize,
+    /// How many statements.
+    pub statements: usize,
+    /// How many labels.
+    pub symbols: usize,
+    /// How many mistakes.
+    pub mistakes: usize,
+    /// How many bytes of texts.
+    pub texts: usize,
+}
+
+/// Why a source is not assembled.
+#[derive(Clone, Copy, Debug, PartialEq, Eq)]
+pub enum Unassembled {
+    /// The source has mistakes.
+    Mistakes(Counts),
+    /// The room is too small: how many bytes to lend next.
+    SmallRoom(usize),
+    /// A buffer is too small: how much is wanted of each.
+    SmallBuffer(Counts),
+}
+
+/// Assembles a source of RISC-V assembly, as `rrs as` does, its sections one behind the other from
+/// an address on. Answers where the program begins, and how much of the buffers is of it; what is
+/// behind that stays as it is.
+///
+/// # Errors
+///
+/// The mistakes, which are in the buffers then, or what was too small.
+pub fn assemble(source: &[u8], start: u32, lent: Lent<'_>) -> Result<(u32, Counts), Unassembled> {
+    check_version();
+    let Lent { room, bytes, statements, symbols, mistakes, texts } = lent;
+    let mut room = sys::Room { start: room.as_mut_ptr().cast(), size: core::mem::size_of_val(room) };
+    let (into, count) = (bytes.as_mut_ptr(), bytes.len());
+    let made = unsafe {
+        sys::rrs_assemble(
+            source.as_ptr(),
+            source.len(),
+            start,
+            &mut room,
+            into,
+            count,
+            statements.as_mut_ptr(),
+            statements.len(),
+            symbols.as_mut_ptr(),
+            symbols.len(),
+            mistakes.as_mut_ptr(),
+            mistakes.len(),
+            texts.as_mut_ptr(),
+            texts.len(),
+        )
+    };
+    let counts = Counts {
+        bytes: made.bytes,
+        statements: made.statements,
+        symbols: made.symbols,
+        mistakes: made.mistakes,
+        texts: made.texts,
+    };
+    match made.end {
+        0 => Ok((made.entry, counts)),
+        1 => Err(Unassembled::Mistakes(counts)),
+        2 => Err(Unassembled::SmallRoom(made.room)),
+        3 => Err(Unassembled::SmallBuffer(counts)),
+        end => panic!("librrs_c.a gives an assembly an end of unknown kind {end}"),
+    }
+}
+
 /// The version of the library: 65536 times the major number, plus 256 times the minor one, plus the
 /// patch.
 pub fn version() -> u32 {

@@ -1,6 +1,6 @@
 //! The functions of librrs_c.a, as `rrs.h` declares them.
 
-use crate::{Change, Csrs, Hart};
+use crate::{Change, Csrs, Hart, Mistake, Statement, Symbol};
 
 #[repr(C)]
 pub struct Fault {
@@ -121,6 +121,24 @@ pub struct Csr {
     pub value: u32,
 }
 
+#[repr(C)]
+pub struct Room {
+    pub start: *mut u8,
+    pub size: usize,
+}
+
+#[repr(C)]
+pub struct Assembled {
+    pub end: u32,
+    pub entry: u32,
+    pub bytes: usize,
+    pub statements: usize,
+    pub symbols: usize,
+    pub mistakes: usize,
+    pub texts: usize,
+    pub room: usize,
+}
+
 extern "C" {
     pub fn rrs_version() -> u32;
     pub fn rrs_step(hart: *mut Hart, words: *mut u32, count: usize, base: u32) -> Fault;
@@ -231,4 +249,20 @@ extern "C" {
         text: *mut u8,
         room: usize,
     ) -> Location;
+    pub fn rrs_assemble(
+        source: *const u8,
+        source_length: usize,
+        start: u32,
+        room: *mut Room,
+        bytes: *mut u8,
+        bytes_length: usize,
+        statements: *mut Statement,
+        statements_length: usize,
+        symbols: *mut Symbol,
+        symbols_length: usize,
+        mistakes: *mut Mistake,
+        mistakes_length: usize,
+        texts: *mut u8,
+        texts_length: usize,
+    ) -> Assembled;
 }

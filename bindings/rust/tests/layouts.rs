@@ -4,7 +4,7 @@
 #[macro_use]
 mod same;
 
-use rrs::{Change, Csrs, Hart, Instruction, VERSION};
+use rrs::{Change, Csrs, Hart, Instruction, Mistake, Statement, Symbol, VERSION};
 use std::any::type_name;
 use std::mem::{offset_of, size_of};
 
@@ -56,6 +56,12 @@ fn the_structs_are_those_of_the_header() {
     listed!(lines, "rrs_segment", sys::Segment, loaded address memory_size offset file_size flags);
     listed!(lines, "rrs_loaded", sys::Loaded, refusal address);
     listed!(lines, "rrs_location", sys::Location, found distance length);
+    listed!(lines, "rrs_room", sys::Room, start size);
+    listed!(lines, "rrs_statement", Statement, line address size);
+    listed!(lines, "rrs_symbol", Symbol, line name length address);
+    listed!(lines, "rrs_mistake", Mistake, line column text length);
+    listed!(lines, "rrs_assembled", sys::Assembled, end entry bytes statements symbols mistakes texts
+        room);
     lines.push(format!("RRS_VERSION {VERSION}"));
     let listed = include_str!("../../layouts").lines();
     let of_header: Vec<_> = listed

@@ -5,8 +5,8 @@
 mod same;
 
 use rrs::{
-    decode, disassemble, field_name, register_name, row_name, Change, Csrs, Elf, Fault, Hart,
-    Inputs, Memory,
+    assemble, decode, disassemble, field_name, register_name, row_name, Change, Csrs, Elf, Fault,
+    Hart, Inputs, Lent, Memory,
 };
 use std::panic::{catch_unwind, UnwindSafe};
 
@@ -37,6 +37,7 @@ fn all_said() -> (Vec<String>, Vec<String>) {
             let (mut csrs, inputs) = (Csrs::default(), Inputs::default());
             void(hart.machine_step(&mut csrs, &mut Memory::new(&mut [0], 0), inputs, 0))
         }),
+        said(|| void(assemble(b"", 0, Lent::default()))),
     ];
     let others = vec![
         said(|| void(decode(0))),
