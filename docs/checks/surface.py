@@ -220,8 +220,8 @@ def trait_lines(item, path, modules, traits):
 
 def derived(item):
     """The traits that a type derives."""
-    found = [re.findall(r"\w+", text)[1:] for text in item.attributes if "derive(" in text]
-    return [name for names in found for name in names]
+    found = [re.match(r".*?derive(?:_where)?\(([^;)]*)", text) for text in item.attributes]
+    return [name for names in found if names for name in re.findall(r"\w+", names[1])]
 
 
 def last_name(trait):
@@ -237,7 +237,7 @@ def type_lines(item, path, modules, traits):
     for block in modules.blocks_of(item.name):
         trait, _ = owner(block.head)
         if not trait:
-            of = re.sub(r"<'\w+>|'\w+, ", "", of_type(block.head))
+            of = re.sub(r"<(?:'\w+, )?A>|<'\w+>|'\w+, ", "", of_type(block.head))
             lines += ["  " + function_line(one, f"{of}::") for one in block.items
                       if one.kind == "fn" and one.public]
         elif last_name(trait) in traits or ghosts(block) and last_name(trait) not in PLAIN:
