@@ -1,6 +1,7 @@
 //! The tests of `rrs_asm`: lines and their words, the places of labels, statements and mistakes, and
 //! the programs of `examples/assembly`, which are assembled, compared with their words, and run. What
-//! `rrs_lent` tells of sources is compared with what `assemble_source` makes.
+//! `rrs_lent` tells of sources is compared with what `assemble_source` makes, and collections fill
+//! the rooms of `rrs_room`.
 //!
 //! The words of pseudo-instructions are those that GNU `as` makes.
 
@@ -20,6 +21,8 @@ mod mistakes;
 mod places;
 #[cfg(test)]
 mod programs;
+#[cfg(test)]
+mod room;
 #[cfg(test)]
 mod sections;
 #[cfg(test)]

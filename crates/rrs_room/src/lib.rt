@@ -12,8 +12,6 @@ mod lent;
 mod room;
 mod sizes;
 mod slot;
-#[cfg(test)]
-mod tests;
 
 pub use lent::LentHeap;
 pub use room::Room;

@@ -1,12 +1,14 @@
+//! Collections in a room that is lent.
+
 ghost use Rattle.rrs_room.specs.Heaps.{IsBack};
 ghost use Rattle.rrs_room.specs.Rooms.{place_of};
 
-use super::*;
+use rrs_room::{LentHeap, Room};
 use std::alloc::{AllocError, Allocator};
 use std::collections::BTreeMap;
 use std::test::Fail;
 
-// How many numbers a `Vec` takes before an error, up to `most`, and whether all are in it then.
+/// How many numbers a `Vec` takes before an error, up to `most`, and whether all are in it then.
 fn filled<A: Allocator + Copy>(alloc: A, most: u64) -> (u64, bool) {
     let mut numbers = Vec::new(alloc);
     let mut count = 0;
@@ -26,12 +28,13 @@ fn filled<A: Allocator + Copy>(alloc: A, most: u64) -> (u64, bool) {
     (count, expected == count)
 }
 
+/// The same in an arena over a heap.
 fn filled_over(heap: &LentHeap, most: u64) -> Result<(u64, bool), AllocError> {
     let arena = heap.arena()?;
     Ok(filled(&arena, most))
 }
 
-// As an exported function uses a room.
+/// As an exported function uses a room.
 fn filled_in(room: &mut Room, most: u64) -> Result<(u64, bool), AllocError>
     ensures { IsBack (place_of room.old) (place_of room.new) }
 {
@@ -41,6 +44,7 @@ fn filled_in(room: &mut Room, most: u64) -> Result<(u64, bool), AllocError>
     answer
 }
 
+/// What a map of halves has at 9, of so many numbers.
 fn mapped<A: Allocator + Copy>(alloc: A, most: u32) -> Result<Option<u32>, AllocError> {
     let mut halves = BTreeMap::new(alloc);
     for n in 0..most {
@@ -49,7 +53,7 @@ fn mapped<A: Allocator + Copy>(alloc: A, most: u32) -> Result<Option<u32>, Alloc
     Ok(halves.get(&9).copied())
 }
 
-// A `Vec` doubles, so it ends at the largest power of two of numbers that the room holds.
+/// A `Vec` doubles, so it ends at the largest power of two of numbers that the room holds.
 #[test]
 fn a_vec_fills_the_room_and_the_room_is_lent_again(rt: HostRuntime) -> Result<(), Fail> {
     for (size, most) in [(496, 32), (1008, 64), (8176, 512), (12272, 1024)] {
