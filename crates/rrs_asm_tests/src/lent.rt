@@ -72,11 +72,21 @@ const NO_MISTAKE: RrsMistake = RrsMistake {
     length: 0,
 };
 
-/// Assembles a source in a room of a size, with buffers of these lengths. The contract of
-/// `assemble_lent` is paid in this function alone.
+/// Assembles a source in a room of a size, with buffers of these lengths.
 fn lent(alloc: Global, source: &str, size: usize, lengths: [usize; 5]) -> Result<Told, AllocError> {
-    let [bytes, statements, symbols, mistakes, texts] = lengths;
     let mut room = Room::of_allocator(&alloc, size)?;
+    lent_in(alloc, source, &mut room, lengths)
+}
+
+/// Assembles a source in a room, with buffers of these lengths. The contract of `assemble_lent` is
+/// paid in this function alone.
+fn lent_in(
+    alloc: Global,
+    source: &str,
+    room: &mut Room,
+    lengths: [usize; 5],
+) -> Result<Told, AllocError> {
+    let [bytes, statements, symbols, mistakes, texts] = lengths;
     let mut bytes = Vec::from_elem(alloc, 0xa5u8, bytes)?;
     let mut statements = Vec::from_elem(alloc, NO_STATEMENT, statements)?;
     let mut symbols = Vec::from_elem(alloc, NO_SYMBOL, symbols)?;
@@ -85,7 +95,7 @@ fn lent(alloc: Global, source: &str, size: usize, lengths: [usize; 5]) -> Result
     let told = assemble_lent(
         source.as_bytes(),
         START,
-        &mut room,
+        room,
         &mut bytes,
         &mut statements,
         &mut symbols,
@@ -272,6 +282,27 @@ fn a_small_room_is_told(rt: HostRuntime) -> Result<(), Fail> {
             is_told_at_last(alloc, SECTIONS)?
         ),
         (2, 0x1_0000, true, (2, true))
+    );
+    Ok(())
+}
+
+/// How a source ends three times in one room, and how large that is then.
+fn ends_in_one(alloc: Global, source: &str) -> Result<([u32; 3], usize), AllocError> {
+    let mut room = Room::of_allocator(&alloc, 0x1_0000)?;
+    let mut ends = [9; 3];
+    for end in &mut ends {
+        *end = lent_in(alloc, source, &mut room, AMPLE)?.told.end;
+    }
+    Ok((ends, room.with_size().0))
+}
+
+/// A room is given back, and may be lent again.
+#[test]
+fn a_room_is_lent_again(rt: HostRuntime) -> Result<(), Fail> {
+    let alloc = rt.alloc();
+    assert_eq!(rt;
+        (ends_in_one(alloc, SECTIONS)?, ends_in_one(alloc, "li")?),
+        (([0; 3], 0x1_0000), ([1; 3], 0x1_0000))
     );
     Ok(())
 }
