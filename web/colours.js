@@ -2,16 +2,28 @@
 
 // What is known of a text of assembly before it is read: whether it is one, and its colours.
 
+/* The pseudo-instructions that no instruction has the name of. */
+const PSEUDO = [
+  "nop", "li", "la", "lla", "mv", "not", "neg", "seqz", "snez", "sltz", "sgtz", "sgt", "sgtu",
+  "zext.b", "beqz", "bnez", "blez", "bgez", "bltz", "bgtz", "bgt", "ble", "bgtu", "bleu", "j", "jr",
+  "ret", "call", "tail", "jump", "unimp",
+];
+
+/* The names with which statements begin that are no directives. */
+function namesOf(kit) {
+  kit.names ??= new Set([...kit.instructionNames(), ...PSEUDO]);
+  return kit.names;
+}
+
 /** Whether a text is a source of assembly, and no words: a line of it begins, behind labels, with a
  * directive, or with the name of an instruction and operands. */
 function isAssembly(text, kit) {
-  kit.rows ??= rowsOf(kit);
-  const isName = (name) => kit.rows.has(name) || Object.hasOwn(PSEUDO, name);
+  const names = namesOf(kit);
   return text.split("\n").some((line) => {
     const [, name, rest] = /^(?:\s*[\w.$]+:)*\s*([\w.$]*)\s*([^#;/]?)/.exec(line);
     if (name.startsWith(".")) return !name.endsWith(":");
     // a lone add is a word of three digits too
-    return isName(name) && (rest !== "" || !WORD.test(name));
+    return names.has(name) && (rest !== "" || !WORD.test(name));
   });
 }
 
@@ -26,12 +38,11 @@ const COLOURED = new RegExp([
 
 /** The parts of a source that have a colour: `{ start, end, kind }`, in order. */
 function colouredIn(text, kit) {
-  kit.rows ??= rowsOf(kit);
+  const names = namesOf(kit);
   const found = [];
   for (const { index, 0: part, groups } of text.matchAll(COLOURED)) {
     const [[kind]] = Object.entries(groups).filter(([, value]) => value !== undefined);
-    const isName = kind === "word" && (kit.rows.has(part) || Object.hasOwn(PSEUDO, part));
-    const own = kind !== "word" ? kind : isName ? "name"
+    const own = kind !== "word" ? kind : names.has(part) ? "name"
       : registerNamed(part) !== undefined ? "register" : "";
     if (own) found.push({ start: index, end: index + part.length, kind: own });
   }

@@ -9,10 +9,13 @@ const READ_AFTER_MS = 200;
 const MOST_READ_LIVE = 1 << 17;
 const MOST_COLOURED = 1 << 15;
 
+/* How much room the assembler has while one types. Repetitions can make much of a short text. */
+const ROOM_LIVE = 1 << 24;
+
 /* What stands above the text, by the language that it is read as. */
 const LANGUAGE_NOTES = {
-  assembly: "RV32IM, with the ABI's names, labels, pseudo-instructions and sections. The program "
-    + "starts at _start, else at main, else at its first line.",
+  assembly: "RV32IM, with the ABI's names, labels, pseudo-instructions, sections and macros. The "
+    + "program starts at _start, else at main, else at its first instruction.",
   words: "Words of hexadecimal digits. # begins a comment, and name: is a label of the next word.",
 };
 
@@ -77,13 +80,14 @@ class EditorView {
     this.showMistakes();
   }
 
-  /* The mistakes of the text. A long one is read when it is loaded. */
+  /* The mistakes of the text. A long one is read when it is loaded, and so is what takes much room. */
   mistakesNow() {
     const { value } = $("text");
     if (value.length > MOST_READ_LIVE || value.trim() === "") return [];
     const base = parseHex($("base").value.trim());
     try {
-      this.session.read(value, this.language, Number.isNaN(base) ? 0 : base, MOST_BYTES);
+      this.session.read(
+        value, this.language, Number.isNaN(base) ? 0 : base, MOST_BYTES, ROOM_LIVE);
     } catch (error) {
       if (!(error instanceof ProgramError)) throw error;
       return error.mistakes;

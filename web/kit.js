@@ -21,6 +21,15 @@ const LAYOUT = {
   segment: { size: 24, loaded: 0, address: 4, memorySize: 8, fileSize: 16, flags: 20 },
   loaded: { size: 8, refusal: 0 },
   location: { size: 16, found: 0, distance: 4, length: 8 },
+  room: { size: 16, start: 0, bytes: 8 },
+  assembled: {
+    size: 56, end: 0, entry: 4, bytes: 8, statements: 16, symbols: 24, mistakes: 32, texts: 40,
+    room: 48,
+  },
+  statement: { size: 16, line: 0, address: 8, bytes: 12 },
+  symbol: { size: 32, line: 0, name: 8, length: 16, address: 24 },
+  mistake: { size: 32, line: 0, column: 8, text: 16, length: 24 },
+  name: { size: 20 },
 };
 
 /* The flag of a segment whose bytes are executed. */
@@ -50,15 +59,61 @@ const FAULT = {
 };
 const ACCESS = { NONE: 0, LOAD: 1, STORE: 2 };
 
+/* How the assembling of a source ends, as rrs.h numbers it. */
+const ASSEMBLY = { RIGHT: 0, MISTAKES: 1, SMALL_ROOM: 2, SMALL_BUFFER: 3 };
+
 /* The most bytes that the page's memory may have. */
 const MOST_BYTES = 1 << 20;
 
 const PAGE_BYTES = 65536;
 
+/* How many bytes the assembler is lent to work in at first, and at most, and how many times as many
+ * where these are too few. */
+const FIRST_ROOM = 1 << 20;
+const MOST_ROOM = 1 << 29;
+const ROOM_GROWTH = 4;
+
+/* The buffers that the assembler fills, in the order of its call: how many bytes one of each has,
+ * and how many it holds at first. */
+const BUFFERS = {
+  bytes: { each: 1, first: MOST_BYTES },
+  statements: { each: LAYOUT.statement.size, first: 1 << 12 },
+  symbols: { each: LAYOUT.symbol.size, first: 1 << 10 },
+  mistakes: { each: LAYOUT.mistake.size, first: 20 },
+  texts: { each: 1, first: 1 << 14 },
+};
+
+/* What is answered of a source but for its size, where nothing is told of it. */
+const NO_PROGRAM = {
+  entry: 0, bytes: new Uint8Array(), statements: [], labels: [], mistakes: [],
+};
+
+
 /** Whether this browser runs modules whose addresses have 64 bits: a module with such a memory. */
 function hasMemory64() {
   const module = [0, 0x61, 0x73, 0x6d, 1, 0, 0, 0, 5, 3, 1, 4, 1];
   return typeof WebAssembly === "object" && WebAssembly.validate(new Uint8Array(module));
+}
+
+/** Places in the memory of a module, behind what the module uses itself. */
+class Places {
+  constructor({ memory, __heap_base: heapBase }) {
+    this.memory = memory;
+    this.next = Number(heapBase.value);
+  }
+
+  /** A place for some bytes, at a multiple of 16. */
+  of(bytes) {
+    const at = Math.ceil(this.next / 16) * 16;
+    this.next = at + bytes;
+    return at;
+  }
+
+  /** Has the memory reach to the end of the last place. Throws a RangeError where it can't. */
+  grow() {
+    const short = this.next - this.memory.buffer.byteLength;
+    if (short > 0) this.memory.grow(BigInt(Math.ceil(short / PAGE_BYTES)));
+  }
 }
 
 /** The library's calls over one hart and one memory, which lie in the module's own memory. */
@@ -88,21 +143,14 @@ class Kit {
   /* Gives each struct a place behind what the module uses, and then the words, a second hart with
    * its words, and the records of steps. */
   placeStructs() {
-    const { memory, __heap_base: heapBase } = this.exports;
-    let next = (Number(heapBase.value) + 15) & ~15;
-    const place = (size) => {
-      const at = next;
-      next += (size + 15) & ~15;
-      return at;
-    };
-    const structs = ["hart", "fault", "retired", "change", "instruction", "access", "text"];
-    for (const name of structs) this[name] = place(LAYOUT[name].size);
-    this.memory = place(MOST_BYTES);
-    this.hartCopy = place(LAYOUT.hart.size);
-    this.memoryCopy = place(MOST_BYTES);
-    this.records = place(4 * RECORD_WORDS * RECORDS);
-    const short = next - memory.buffer.byteLength;
-    if (short > 0) memory.grow(BigInt(Math.ceil(short / PAGE_BYTES)));
+    const places = new Places(this.exports);
+    const structs = ["hart", "fault", "retired", "change", "instruction", "access", "text", "name"];
+    for (const name of structs) this[name] = places.of(LAYOUT[name].size);
+    this.memory = places.of(MOST_BYTES);
+    this.hartCopy = places.of(LAYOUT.hart.size);
+    this.memoryCopy = places.of(MOST_BYTES);
+    this.records = places.of(4 * RECORD_WORDS * RECORDS);
+    places.grow();
     this.addresses = {};
     for (const name of [...structs, "memory"]) this.addresses[name] = BigInt(this[name]);
     const ofCopy = { hart: BigInt(this.hartCopy), memory: BigInt(this.memoryCopy) };
@@ -213,6 +261,132 @@ class Kit {
     const length = Number(this.exports.rrs_disassemble(word, pc, this.addresses.text, room));
     return String.fromCharCode(...this.u8.subarray(this.text, this.text + length));
   }
+
+  /** The names of the instructions, in the order of the table. */
+  instructionNames() {
+    const names = [];
+    for (let row = 1; ; row++) {
+      const room = BigInt(LAYOUT.name.size);
+      const length = Number(this.exports.rrs_row_name(row, this.addresses.name, room));
+      if (length === 0) return names;
+      names.push(String.fromCharCode(...this.u8.subarray(this.name, this.name + length)));
+    }
+  }
+
+  /** Assembles a text from an address on, as `Assembler` does. Where that takes more room to work in
+   * than is allowed, or than there is, it answers null, and what the assembler had is let go. */
+  assemble(text, start, mostRoom = MOST_ROOM) {
+    try {
+      this.assembler ??= new Assembler(new WebAssembly.Instance(this.module, {}).exports);
+      return this.assembler.assemble(new TextEncoder().encode(text), start, mostRoom);
+    } catch (error) {
+      if (!(error instanceof RangeError)) throw error;
+      this.assembler = undefined;
+      return null;
+    }
+  }
+}
+
+/** The library's assembler, in a module of its own. The memory of that module can grow, since each
+ * call makes the views of it anew. */
+class Assembler {
+  constructor(exports) {
+    Object.assign(this, { exports, room: FIRST_ROOM, decoder: new TextDecoder() });
+    this.holds = Object.fromEntries(
+      Object.entries(BUFFERS).map(([name, { first }]) => [name, first]));
+  }
+
+  /** Assembles a source, which is bytes, from an address on. Answers what the library tells, with
+   * columns in bytes: `{ size, entry, bytes, statements, labels, mistakes }`. Where a program has
+   * more bytes than a memory its size is all. Throws a RangeError where there is too little room. */
+  assemble(source, start, mostRoom) {
+    for (;;) {
+      const told = this.call(source, start, Math.min(this.room, mostRoom));
+      if (told.bytes > MOST_BYTES) return { ...NO_PROGRAM, size: told.bytes };
+      if (told.end === ASSEMBLY.SMALL_ROOM) this.growRoom(told.room, mostRoom);
+      else if (told.end === ASSEMBLY.SMALL_BUFFER) this.growBuffers(told);
+      else return this.made(told);
+    }
+  }
+
+  growRoom(wanted, mostRoom) {
+    if (this.room >= mostRoom) throw new RangeError("the room is as large as it may be");
+    this.room = Math.min(Math.max(wanted, ROOM_GROWTH * this.room), mostRoom);
+  }
+
+  growBuffers(told) {
+    for (const [name, count] of Object.entries(this.holds)) {
+      if (told[name] > count) this.holds[name] = Math.max(told[name], 2 * count);
+    }
+  }
+
+  /* Calls the library with room of some bytes, and buffers as large as they are now. */
+  call(source, start, size) {
+    const places = new Places(this.exports);
+    const [assembled, room, given, lent] =
+      [LAYOUT.assembled.size, LAYOUT.room.size, source.length, size].map(
+        (bytes) => places.of(bytes));
+    this.at = {};
+    for (const [name, { each }] of Object.entries(BUFFERS)) {
+      this.at[name] = places.of(each * this.holds[name]);
+    }
+    places.grow();
+    const { buffer } = this.exports.memory;
+    [this.u8, this.u32] = [new Uint8Array(buffer), new Uint32Array(buffer)];
+    this.u8.set(source, given);
+    const view = new DataView(buffer, room);
+    view.setBigUint64(LAYOUT.room.start, BigInt(lent), true);
+    view.setBigUint64(LAYOUT.room.bytes, BigInt(size), true);
+    const buffers = Object.keys(BUFFERS).flatMap((name) => [this.at[name], this.holds[name]]);
+    this.exports.rrs_assemble(BigInt(assembled), BigInt(given), BigInt(source.length), start,
+      ...[room, ...buffers].map(BigInt));
+    return this.told(assembled);
+  }
+
+  /* What the struct at an address says. */
+  told(at) {
+    const { size, end, entry, ...counts } = LAYOUT.assembled;
+    const word = (offset) => this.u32[(at + offset) / 4];
+    const told = { end: word(end), entry: word(entry) };
+    for (const [name, offset] of Object.entries(counts)) {
+      told[name] = word(offset) + 2 ** 32 * word(offset + 4);
+    }
+    return told;
+  }
+
+  /* What stands in the buffers. */
+  made({ entry, bytes, statements, symbols, mistakes }) {
+    const { at } = this;
+    return {
+      size: bytes,
+      entry,
+      bytes: this.u8.slice(at.bytes, at.bytes + bytes),
+      statements: this.rows("statement", at.statements, statements)
+        .map(({ line, address, bytes: size }) => ({ line, address, size })),
+      labels: this.rows("symbol", at.symbols, symbols)
+        .map(({ line, name, length, address }) =>
+          ({ line, name: this.textAt(name, length), address })),
+      mistakes: this.rows("mistake", at.mistakes, mistakes)
+        .map(({ line, column, text, length }) =>
+          ({ line, column, text: this.textAt(text, length) })),
+    };
+  }
+
+  /* The structs of a buffer, by the fields that they have. */
+  rows(name, at, count) {
+    const { size, ...offsets } = LAYOUT[name];
+    const fields = Object.entries(wordsOf(offsets));
+    return Array.from({ length: count }, (_, index) => {
+      const row = {};
+      for (const [field, word] of fields) row[field] = this.u32[(at + index * size) / 4 + word];
+      return row;
+    });
+  }
+
+  textAt(start, length) {
+    const first = this.at.texts + start;
+    return this.decoder.decode(this.u8.subarray(first, first + length));
+  }
 }
 
 /** A file that may be an executable in the ELF format, as the library reads it. It lies in the
@@ -225,22 +399,15 @@ class ElfFile {
 
   constructor(exports, bytes) {
     this.exports = exports;
-    const { memory, __heap_base: heapBase } = exports;
-    let next = Number(heapBase.value);
-    const place = (size) => {
-      const at = (next + 15) & ~15;
-      next = at + size;
-      return at;
-    };
+    const places = new Places(exports);
     for (const name of ["elf", "segment", "loaded", "location"]) {
-      this[name] = place(LAYOUT[name].size);
+      this[name] = places.of(LAYOUT[name].size);
     }
     [this.name, this.words, this.file] =
-      [place(MOST_NAME + 1), place(MOST_BYTES), place(bytes.length)];
-    const short = next - memory.buffer.byteLength;
-    if (short > 0) memory.grow(BigInt(Math.ceil(short / PAGE_BYTES)));
-    this.u32 = new Uint32Array(memory.buffer);
-    this.u8 = new Uint8Array(memory.buffer);
+      [MOST_NAME + 1, MOST_BYTES, bytes.length].map((size) => places.of(size));
+    places.grow();
+    this.u32 = new Uint32Array(exports.memory.buffer);
+    this.u8 = new Uint8Array(exports.memory.buffer);
     this.u8.set(bytes, this.file);
     this.given = [BigInt(this.file), BigInt(bytes.length)];
     exports.rrs_elf_parse(BigInt(this.elf), ...this.given);

@@ -20,6 +20,7 @@ const numbered = (count) => count.toLocaleString("en");
 /* The most bytes of a text of words, in a file, a link or the editor. */
 const MOST_TEXT = 1 << 23;
 const TOO_LONG = `A text of words has ${numbered(MOST_TEXT)} bytes at most, and this one has more.`;
+const NO_ROOM = "There is not enough memory to assemble it.";
 
 /* What stands in a text: blanks and commas, comments up to the end of their line, and parts. A part
  * is labels and a word. No pattern looks at a character more than twice. */
@@ -153,43 +154,40 @@ function refuseLarger(bytes, size) {
     0, `It has ${numbered(bytes)} bytes, and the memory has ${numbered(size)}.`);
 }
 
-/* Where a program of assembly starts: at the label _start, else at main, else at its first
- * instruction. */
-const STARTS = ["_start", "main"];
-
 /** Reads a source of assembly for `size` bytes of memory from `base` on, or throws a ProgramError.
  * Beside what `parseProgram` answers: of each word at which a statement begins its line and text,
  * and where the program starts, in bytes from `base` on. */
-function parseAssembly(text, base, size, kit) {
+function parseAssembly(text, base, size, kit, mostRoom) {
   if (isTooLong(text)) throw new ProgramError(0, TOO_LONG);
-  const { bytes, statements, labels, mistakes } = assemble(text, base, kit);
-  if (mistakes.length > 0) {
-    const [{ line, text: what }] = mistakes;
-    throw new ProgramError(line, what, mistakes);
+  const made = assemble(text, base, kit, mostRoom);
+  if (made === null) throw new ProgramError(0, NO_ROOM);
+  if (made.mistakes.length > 0) {
+    const [{ line, text: what }] = made.mistakes;
+    throw new ProgramError(line, what, made.mistakes);
   }
-  if (bytes.length === 0) throw new ProgramError(0, "There is no statement in it.");
-  refuseLarger(bytes.length, size);
-  const words = new Uint32Array(Math.ceil(bytes.length / 4));
-  new Uint8Array(words.buffer).set(bytes);
-  const program = { words, comments: new Map(), ...placesOf(labels, base, text) };
-  program.sources = sourcesOf(statements, base);
-  const start = STARTS.find((name) => program.places.has(name));
-  program.entry = start === undefined ? 0 : program.places.get(start).offset;
-  if (program.entry % 4 !== 0) program.entry = 0;
-  return program;
+  if (made.size === 0) throw new ProgramError(0, "There is no statement in it.");
+  refuseLarger(made.size, size);
+  const words = new Uint32Array(Math.ceil(made.size / 4));
+  new Uint8Array(words.buffer).set(made.bytes);
+  const entry = made.entry - base;
+  return {
+    words,
+    comments: new Map(),
+    ...placesOf(made.labels, base),
+    sources: sourcesOf(made.statements, base),
+    entry: entry % 4 === 0 ? entry : 0,
+  };
 }
 
-/* The labels by the word in which they stand, and the place of each: its word, how many bytes it is
- * behind the first address, and where it stands in the text. */
-function placesOf(all, base, text) {
-  const starts = [0];
-  for (let at = text.indexOf("\n"); at >= 0; at = text.indexOf("\n", at + 1)) starts.push(at + 1);
+/* The labels by the word in which they stand, and the place of each: its word, and how many bytes
+ * it is behind the first address. */
+function placesOf(all, base) {
   const labels = new Map();
   const places = new Map();
-  for (const { name, address, line, at } of all) {
+  for (const { name, address } of all) {
     const offset = address - base;
     const index = Math.floor(offset / 4);
-    places.set(name, { index, offset, at: starts[line - 1] + at });
+    places.set(name, { index, offset });
     if (labels.has(index)) labels.get(index).push(name);
     else labels.set(index, [name]);
   }
@@ -200,19 +198,20 @@ function placesOf(all, base, text) {
  * several words, each behind the first has no text. */
 function sourcesOf(statements, base) {
   const sources = new Map();
-  for (const { line, text, name, address, bytes } of statements) {
+  for (const { line, text, address, size } of statements) {
     const index = Math.floor((address - base) / 4);
     const before = sources.get(index);
     const all = before ? `${before.text}; ${text}` : text;
     sources.set(index, { line: before?.line ?? line, text: all });
-    if (!name.startsWith(".") && bytes.length > 4) sources.set(index + 1, { line, text: "" });
+    if (!text.startsWith(".") && size > 4) sources.set(index + 1, { line, text: "" });
   }
   return sources;
 }
 
 /** Reads a program in one of LANGUAGES, or throws a ProgramError. */
-function readProgram(text, language, base, size, kit) {
-  return language === "assembly" ? parseAssembly(text, base, size, kit) : parseProgram(text, size);
+function readProgram(text, language, base, size, kit, mostRoom) {
+  return language === "assembly" ? parseAssembly(text, base, size, kit, mostRoom)
+    : parseProgram(text, size);
 }
 
 /* What a text has no byte of: control characters, but for tabs and the ends of lines and pages. */

@@ -88,12 +88,13 @@ class Session {
     this.start();
   }
 
-  /** Reads a text, as a program for a memory. Throws a ProgramError. */
-  read(text, language, base, size) {
+  /** Reads a text, as a program for a memory. Throws a ProgramError, also where assembling takes more
+   * room than `mostRoom`. */
+  read(text, language, base, size, mostRoom) {
     if (!Object.hasOwn(LANGUAGES, language)) {
       throw new ProgramError(0, `A program can be ${Object.values(LANGUAGES).join(" or ")}.`);
     }
-    return readProgram(text, language, base, size, this.machine.kit);
+    return readProgram(text, language, base, size, this.machine.kit, mostRoom);
   }
 
   /* The words of another program at which breakpoints stand, by the places of its labels: as far

@@ -1,7 +1,7 @@
 "use strict";
 
 // Opens sources as the page does, and runs each to its end in the memory of `rrs exec`. Tells of
-// each, on a line, what it printed and its status, or the mistakes for which it was not opened.
+// each, on a line, what it printed and its status, or why it was not opened.
 //
 // usage: node --experimental-wasm-memory64 classroom.js SCRIPTS MODULE SOURCE ..
 
@@ -25,13 +25,13 @@ function run(page, session, source) {
     session.open({ ...page.PRESETS[1], name: source, text, language });
   } catch (error) {
     if (!(error instanceof page.ProgramError)) throw error;
-    return { mistakes: error.mistakes, told: error.message };
+    return error.message;
   }
   machine.terminal.close();
   const end = machine.run(LIMIT, session.stops);
   const { output, printed } = machine.terminal;
   const told = Buffer.from(output.slice(0, printed)).toString("latin1");
-  return { told: `${told}-- status ${end?.status}\n` };
+  return `${told}-- status ${end?.status}\n`;
 }
 
 main(process.argv.slice(2)).catch((error) => {

@@ -1,4 +1,4 @@
-"""Sources of assembly, which the page reads as `rrs as` reads them."""
+"""Sources of assembly, which the page has assembled by the library: it tells what `rrs as` does."""
 
 import json
 import pathlib
@@ -7,138 +7,101 @@ import subprocess
 import sys
 import tempfile
 
-from trials import corners
 from trials.generated import node
 from trials.report import Differs, same
 from trials.running import RRS
 from trials.view import WEB
 
 ASSEMBLY = WEB.parent / "examples" / "assembly"
-SEEDS = (1, 21, 22)
-STATEMENTS = 10000
-CORNERS = 150
-# `rrs as` reads a source twice, and the page until nothing moves
-MOVED = b"the address differs between the two readings"
-MISTAKE = re.compile(r".*?:(\d+):\d+: ")
+STATEMENTS = 1000
+# changed lines, of which each source has some, since twenty mistakes are told of one
+CHANGED, TOGETHER = 2000, 20
+ROW = re.compile(r"([0-9a-f]{8})  [0-9a-f ]{8}(?: +(\d+)  .*)?")
+MISTAKE = re.compile(r".*?:(\d+):(\d+): (.*)")
 
 
 def lines(*arguments):
-    """Lines of the comparison with GNU as."""
+    """Lines of the comparison with GNU as, which have any byte."""
     run = subprocess.run([sys.executable, ASSEMBLY / "lines.py", *map(str, arguments)],
                          capture_output=True, check=True)
-    return run.stdout
+    return run.stdout.decode("latin1")
 
 
-def as_proved(path):
-    """The bytes that rrs as makes of a source, and the lines that it refuses, which it tells all
-    with --gnu, and else twenty of them."""
-    made, told = (subprocess.run([RRS / "out" / "rrs", "as", *words, path], capture_output=True,
-                                 check=False) for words in ([], ["--gnu"]))
-    return made.stdout, refused(told.stderr.decode("latin1"))
+def assembled(*words):
+    return subprocess.run([RRS / "out" / "rrs", "as", *words], capture_output=True, check=False)
 
 
-def refused(text):
-    return {int(found[1]) for found in map(MISTAKE.match, text.splitlines()) if found}
+def rows_of(listing):
+    """The numbers of lines in a listing, and the addresses of what stands there."""
+    rows, line = [], None
+    for row in filter(None, map(ROW.fullmatch, listing.split("\n"))):
+        line = int(row[2]) if row[2] else line
+        rows.append([line, int(row[1], 16)])
+    return rows
+
+
+def mistakes_of(errors, text):
+    """The mistakes that are told, each with the character of its line in place of the byte."""
+    told = []
+    for number, column, what in map(re.Match.groups, filter(None, map(MISTAKE.fullmatch, errors))):
+        before = text.split("\n")[int(number) - 1].encode()[:int(column) - 1]
+        letters = len(before.decode(errors="ignore").encode("utf-16-le")) // 2
+        told.append(f"{number}:{letters + 1} {what}")
+    return told
+
+
+def as_proved(path, text):
+    """What `rrs as` makes of a source: its bytes, where each statement lies, and its mistakes."""
+    made = assembled(path)
+    mistakes = mistakes_of(made.stderr.decode().split("\n"), text)
+    rows = [] if mistakes else rows_of(assembled("--list", path).stdout.decode())
+    return {"bytes": made.stdout.hex(), "rows": sorted(rows), "mistakes": mistakes}
+
+
+def texts():
+    """Sources by their names: those of the examples, in both forms of ends of lines, statements of
+    every kind, and lines that are changed."""
+    for path in [*sorted(ASSEMBLY.glob("*.s")), *sorted(ASSEMBLY.glob("*/*.s"))]:
+        text = path.read_text(encoding="utf-8")
+        name = f"{path.parent.name}-{path.name}"
+        yield name, text
+        yield f"crlf-{name}", text.replace("\n", "\r\n")
+    yield "statements.s", lines(1, STATEMENTS)
+    changed = lines(31, CHANGED, "changed").split("\n")
+    for at in range(0, CHANGED, TOGETHER):
+        yield f"changed-{at}.s", "\n".join(changed[at:at + TOGETHER])
 
 
 def sources():
-    """sources give the words that rrs as makes, and no line is refused that it takes"""
+    """sources give the bytes, the places of statements and the mistakes that `rrs as` tells"""
     with tempfile.TemporaryDirectory() as name:
-        folder = pathlib.Path(name)
-        paths = [folder / f"{seed}.s" for seed in SEEDS]
-        for seed, path in zip(SEEDS, paths):
-            path.write_bytes(lines(seed, STATEMENTS))
-        for path in sorted(ASSEMBLY.glob("*.s")):
-            paths.append(folder / path.name)
-            paths[-1].write_bytes(path.read_bytes())
-        changed = folder / "changed.s"
-        changed.write_bytes(lines(31, STATEMENTS, "changed"))
-        status, said = node("sources.js", *paths, changed)
+        folder, given = pathlib.Path(name), dict(texts())
+        for source, text in given.items():
+            (folder / source).write_bytes(text.encode())
+        status, said = node("sources.js", *(folder / source for source in given))
         if status:
             raise Differs(said)
-        for path in paths:
-            same(f"the words of {path.name}", (as_proved(path)[0], set()),
-                 (path.with_name(f"{path.name}.page").read_bytes(), refused(
-                     "\n".join(line for line in said.splitlines() if str(path) in line))))
-        _, wrong = as_proved(changed)
-        here = refused("\n".join(line for line in said.splitlines() if str(changed) in line))
-        same("lines that rrs as takes, and the page refuses", set(), here - wrong)
-        same("whether the page refuses most of the others", True, len(here) > 0.98 * len(wrong))
-    return f"{len(paths)} sources, {len(wrong):,} lines that are wrong"
-
-
-# what some of the programs ask for, and the page does not lay out
-NOT_HERE = re.compile(r"^\s*\.l?comm\s", re.MULTILINE)
+        came = list(map(json.loads, said.splitlines()))
+        same("how many sources were assembled", len(given), len(came))
+        mistakes = 0
+        for (source, text), got in zip(given.items(), came):
+            got["rows"].sort()
+            same(f"what comes of {source}", as_proved(folder / source, text), got)
+            mistakes += len(got["mistakes"])
+        same("whether there are mistakes enough", True, mistakes > CHANGED // 2)
+    return f"{len(given)} sources, {mistakes:,} mistakes"
 
 
 def classroom():
     """programs as classes have them print and end in the page as they do under rrs exec"""
-    paths = [path for path in sorted((ASSEMBLY / "programs").glob("*.s"))
+    paths = [path for path in sorted(ASSEMBLY.glob("*/*.s"))
              if not path.with_suffix(".in").exists()]
     status, said = node("classroom.js", *paths)
     if status:
         raise Differs(said)
-    came = list(map(json.loads, said.splitlines()))
+    came = said.splitlines()
     same("how many programs were tried", len(paths), len(came))
-    refused_here = 0
     for path, end in zip(paths, came):
-        if "mistakes" in end and NOT_HERE.search(path.read_text(encoding="utf-8")):
-            same(f"why {path.name} is refused", True, bool(end["mistakes"][0]))
-            refused_here += 1
-            continue
         wanted = path.with_suffix(".out").read_text(encoding="latin1")
-        same(f"what {path.name} prints, and its status", wanted, end["told"])
-    return f"{len(paths)} programs, of which {refused_here} are refused for .comm"
-
-
-def accepted(lines, path):
-    """The lines of a source that `rrs as` takes together, and the numbers of those that it refused
-    first."""
-    first = None
-    kept = list(range(len(lines)))
-    for _ in range(10):
-        path.write_text("\n".join(lines[number] for number in kept), encoding="utf-8")
-        wrong = as_proved(path)[1]
-        first = wrong if first is None else first
-        if not wrong:
-            return kept, [number - 1 for number in first]
-        kept = [number for at, number in enumerate(kept, 1) if at not in wrong]
-    return [], []
-
-
-def variants(lines, path):
-    """A source without the lines that are refused, and with each of them alone."""
-    kept, wrong = accepted(lines, path)
-    for more in [None, *wrong] if kept else []:
-        numbers = sorted({*kept, *([] if more is None else [more])})
-        yield more, "\n".join(lines[number] for number in numbers)
-
-
-def edges():
-    """at the edges of what a source can say the page takes and refuses what rrs as does"""
-    with tempfile.TemporaryDirectory() as name:
-        folder = pathlib.Path(name)
-        told = {}
-        for seed in range(CORNERS):
-            lines = corners.source(seed).split("\n")
-            for more, text in variants(lines, folder / "all.s"):
-                path = folder / f"{seed}-{more}.s"
-                path.write_text(text, encoding="utf-8")
-                run = subprocess.run([RRS / "out" / "rrs", "as", path], capture_output=True,
-                                     check=False)
-                if MOVED not in run.stderr:
-                    told[path] = run.stdout, refused(run.stderr.decode())
-        status, said = node("sources.js", *told)
-        if status:
-            raise Differs(said)
-        here = {}
-        for line in said.splitlines():
-            here.setdefault(line.split(":")[0], set()).update(refused(line))
-        for path, (words, wrong) in told.items():
-            same(f"what comes of {path.name}: {path.read_text(encoding='utf-8')}",
-                 (words, bool(wrong)),
-                 (path.with_name(f"{path.name}.page").read_bytes(), str(path) in here))
-        same("whether there are enough that are taken, and that are not", True,
-             min(sum(bool(wrong) == is_wrong for _, wrong in told.values())
-                 for is_wrong in (True, False)) >= CORNERS // 2)
-    return f"{CORNERS} sources, {len(told)} forms of them"
+        same(f"what {path.name} prints, and its status", wanted, json.loads(end))
+    return f"{len(paths)} programs"

@@ -59,10 +59,9 @@ def while_one_types(machine):
     type_source(machine, "nop\nmv a0, 5\n  addi a0, a0, 5000\nj nowhere\n")
     page.wait(f"{MISTAKES}.length === 3", 5)
     same("the mistakes", [
-        'Line 2: A register is wanted here, and "5" stands there. li loads a number into a '
-        "register.",
-        "Line 3: 5000 is out of range: from -2048 to 2047 is wanted here. li loads any number into "
-        "a register.", "Line 4: There is no symbol nowhere."], page.ask(MISTAKES))
+        "Line 2: a register is wanted here: li takes a number",
+        "Line 3: value out of range: addi takes -2048 to 2047; li puts any number into a register",
+        "Line 4: symbol is not defined: nowhere"], page.ask(MISTAKES))
     same("the numbers of the lines", "1\n2\n3\n4\n5\n", page.ask(
         "document.getElementById('numbers').textContent"))
     same("the lines that are marked", ["2", "3", "4"], page.ask(
@@ -73,8 +72,8 @@ def while_one_types(machine):
     same("where the cursor is", ["text", 28], page.ask(
         "[document.activeElement.id, document.getElementById('text').selectionStart]"))
     page.click("#take")
-    same("the first one, at Load", 'Line 2: A register is wanted here, and "5" stands there. li '
-         "loads a number into a register.", page.text("#mistake"))
+    same("the first one, at Load", "Line 2: a register is wanted here: li takes a number",
+         page.text("#mistake"))
     same("what was open", "lui sp, 0x1234b000", machine.line(0)[2])
     page.replace("#text", "nop")
     page.wait(f"{MISTAKES}.length === 0", 5)
@@ -129,8 +128,8 @@ def assembly_from_elsewhere(machine):
         same("the language", "assembly", page.ask("rrs.session.language"))
         path.write_text("add a0, a0, a1\nnop\nfoo\n")
         machine.give(path)
-        machine.says("Not opened", "program.txt was not opened. Line 3: There is no instruction "
-                     "foo.")
+        machine.says("Not opened", "program.txt was not opened. Line 3: no such instruction or "
+                     "directive: foo")
         path.write_text("add\ndead beef\n")
         machine.give(path)
         same("words", ["words", "00000add"], [page.ask("rrs.session.language"), machine.line(0)[1]])
@@ -152,7 +151,7 @@ def assembly_from_elsewhere(machine):
 
 
 def long_sources(machine):
-    """a long source is not coloured, and a longer one is not read while one types"""
+    """a long source is not coloured, and a longer one, or what makes much, is read at Load alone"""
     page = machine.page
     machine.choose("three")
     machine.keys("e")
@@ -164,6 +163,11 @@ def long_sources(machine):
     same("sources by their lengths", {
         32768: ["code", 32769, 1], 32769: ["code plain", 0, 1], 131072: ["code plain", 0, 1],
         131073: ["code plain", 0, 0]}, seen)
+    page.choose("#language", "assembly")
+    took = page.ask(
+        "(() => { $('text').value = '.rept 16777215\\nnop\\n.endr';"
+        " const begun = performance.now(); rrs.editor.read(); return performance.now() - begun; })()")
+    same("whether the page answers soon where a source makes much", True, took < 3000)
     machine.escape()
 
 

@@ -1,6 +1,7 @@
 "use strict";
 
-// Sources of assembly: their words, their mistakes, their labels, and what is known of a text.
+// Sources of assembly: that the page gives them to the kit as they are, and takes what it tells as
+// it is; and what is known of a text before that.
 
 const { Report } = require("./report.js");
 
@@ -14,101 +15,145 @@ function made(page, kit, text, base = 0) {
 }
 
 function words(report, page, kit) {
-  report.same("how many rows the kit has", 48, page.rowsOf(kit).size);
   report.cases("the bytes of a source", [
-    ["add a0, a1, a2", "3385c500"],
-    ["li a0, 5", "13055000"],
-    ["li a0, 0x12345", "3725010013055534"],
-    ["li a0, -1", "1305f0ff"], ["li a0, 0x1000", "37150000"], ["ret", "67800000"],
-    ["nop; nop", "1300000013000000"], ["x: j x", "6f000000"], ["call f\nf:", "97000000e7808000"],
-    ["1: beqz a0, 1b\nbnez a0, 1f\n1:", "6300050063120500"],
-    ["lw a0, -4(sp)", "0325c1ff"],
-    ["sw a0, (sp)", "2320a100"],
-    ["ecall\nebreak", "7300000073001000"],
-    ["lui a0, 0x12345", "37553412"],
-    ["lui a0, %hi(x)\naddi a0, a0, %lo(x)\nx = 0x1800", "3725000013050580"],
-    [".byte 1, 'a', -1; .half 258", "0161ff0201"],
-    [".word 1\n.align 3\n.word 2", "010000001300000002000000"],
-    [".word 1\n.align 3, , 4\n.word 2", "010000001300000002000000"],
-    [".word 1\n.align 3, , 3\n.word 2", "0100000002000000"],
-    ['.ascii "a\\n\\x41\\101"', "610a4141"], ['.asciz "é"', "c3a900"], [".space 3, 7", "070707"],
+    ["", ""], ["\n\n", ""], ["# nop", ""], ["nop", "13000000"],
+    ["nop\r\nret\r\n", "1300000067800000"],
+    ["li a0, 0x12345; ebreak", "372501001305553473001000"],
+    ['.asciz "é😀" # ü', "c3a9f09f988000"], ["// \u2028\nnop", "13000000"],
     [".data\nx: .word 9\n.text\nla a0, x", "170500001305850009000000"],
-    ['.data\n.byte 1\n.section own,"aw"\n.byte 2', "0102"],
-    [".bss\n.space 4\n.text\nnop", "1300000000000000"], ["fence; fence rw, w", "0f00f00f0f001003"],
-    ["li a0, 2 + 3 * 4 - (1 << 2) | 1", "13059000"],
-    ["li a0, ~0 & 255; li a1, -(-7)", "1305f00f93057000"],
-    ["li a0, 010; li a1, 0b11; li a2, 0XfF", "13058000930530001306f00f"],
-    ["mv a0, a1 # no; mistake", "13850500"], ["// nothing\nnop", "13000000"],
-    ['.string "#", ";"', "23003b00"],
-    [".fill 2, 2, 3", "03000300"],
-    [".org 8\nnop", "000000000000000013000000"],
-    [".globl main\n.type main, @function\nmain: ret", "67800000"],
-    [".dword -1", "ffffffffffffffff"],
-    ['.section .debug_info,"",@progbits\n.word nothing\n.text\nnop', "13000000"],
-    ["lw a0, x\nsw a0, x, t0\nx:", "17050000032505019702000023a4a200"],
-    ["sgt a0, a1, a2; unimp", "3325b600731000c0"],
-    ["tail f\nf: jump f, t0", "17030000670083009702000067800200"],
+    [".byte 1\n.comm x, 4\n.data\n.half 2", "010000000200000000000000"],
+    [".bss\n.space 4\n.text\nnop", "1300000000000000"],
   ], (text) => made(page, kit, text));
-  report.cases("local labels, by their digit", Array.from("0123456789", (digit) =>
-    [`${digit}: j ${digit}b\nj ${digit}f\n${digit}:`, "6f0000006f004000"]),
-  (text) => made(page, kit, text));
-  report.same("from another address", "b7020080", made(page, kit, "x: lui t0, %hi(x)", 0x80000000));
+  report.cases("the bytes of a source from an address on", [
+    [0, "b7020000"], [0x1000, "b7120000"], [0x80000000, "b7020080"], [0xfff00000, "b702f0ff"],
+  ], (base) => made(page, kit, "x: lui t0, %hi(x)", base));
+}
+
+/* The statements of a source: the line, the address, the size and the text of each. */
+function statementsOf(page, kit, text, base = 0x1000) {
+  return page.assemble(text, base, kit).statements.map(({ line, address, size, text: own }) =>
+    [line, address - base, size, own]);
+}
+
+function statements(report, page, kit) {
+  report.cases("the statements of a source", [
+    ["", []],
+    ["nop # so\n\n  li a0, 0x12345\r\n", [[1, 0, 4, "nop # so"], [3, 4, 8, "li a0, 0x12345"]]],
+    ["a: 1: nop; nop ; # both", [[1, 0, 4, "nop"], [1, 4, 4, "nop"]]],
+    ['.ascii "é:;#"; .byte \';\', \':\' // ü',
+      [[1, 0, 5, '.ascii "é:;#"'], [1, 5, 2, ".byte ';', ':' // ü"]]],
+    ['.ascii "\\"; x"; .byte \'\\\'\'', [[1, 0, 4, '.ascii "\\"; x"'], [1, 4, 1, ".byte '\\''"]]],
+    [".align 3; .word 1; .align 2; .word 2", [[1, 0, 4, ".word 1"], [1, 4, 4, ".word 2"]]],
+    [".data\n.byte 1\n.text\nnop", [[4, 0, 4, "nop"], [2, 4, 1, ".byte 1"]]],
+    ["x: .globl x; call x", [[1, 0, 8, "x: .globl x; call x"]]],
+    [".data; .byte 1; .text; nop",
+      [[1, 0, 4, ".data; .byte 1; .text; nop"], [1, 4, 1, ".data; .byte 1; .text; nop"]]],
+    ["nop\n.comm x, 8", [[1, 0, 4, "nop"], [2, 8, 8, ".comm x, 8"]]],
+    [".comm x, 8; y = 1", [[1, 0, 8, ".comm x, 8; y = 1"]]],
+    [".rept 2\nnop\n.endr", [[2, 0, 4, "nop"], [2, 4, 4, "nop"]]],
+    [".macro m a\nli \\a, 1; li \\a, -1 # é\n.endm\nm a0\nret\nm a1",
+      [[2, 0, 4, "li \\a, 1"], [2, 4, 4, "li \\a, -1 # é"], [5, 8, 4, "ret"],
+        [2, 12, 4, "li \\a, 1"], [2, 16, 4, "li \\a, -1 # é"]]],
+  ], (text) => statementsOf(page, kit, text));
+  report.cases("the labels of a source", [
+    ["nop", []], ["1: nop", []], ["a: b: nop\n.Lc: 2:", [["a", 0], ["b", 0], [".Lc", 4]]],
+    [".data\nx: .byte 1\ny:\n.text\nz: nop", [["z", 0], ["x", 4], ["y", 5]]],
+    ["v = 3\n.lcomm $w_.9, 4", [["$w_.9", 0]]],
+  ], (text) => page.assemble(text, 0x1000, kit).labels
+    .map(({ name, address }) => [name, address - 0x1000]));
+}
+
+/* A source in which ¦ stands where its one mistake is, and its words. */
+const MISTAKES = [
+  ["¦xyzzy", "no such instruction or directive: xyzzy"],
+  ["¦adi a0, a0, 1", "no such instruction or directive: adi; is add meant?"],
+  ["a ¦b: nop", "unexpected character"],
+  ["mv a0, ¦5", "a register is wanted here: li takes a number"],
+  ["li a0,¦", "a value is wanted here: it is written li rd, number"],
+  ["addi a0, a1, ¦a2", "a number is wanted here: add takes three registers"],
+  ["li a0, ¦08", "not a number of 32 bits"],
+  ["slli a0, a0, ¦32", "value out of range: slli takes 0 to 31"],
+  ["beqz a0, ¦. + 3", "not a multiple of what is wanted here"],
+  ["add a0 ¦a1", "a comma is wanted here: it is written add rd, rs1, rs2"],
+  ["lw a0, 4¦", "a parenthesis is wanted here: it is written lw rd, offset(rs1)"],
+  ['.ascii "a¦', "a quotation mark is wanted here"],
+  ['.ascii "a\\¦q"', "no such escape"],
+  ["nop ¦nop", "more than the statement takes: it is written nop"],
+  ["j ¦1f", "symbol is not defined: 1f"],
+  ["la a0, ¦mesage\nmessage: nop", "symbol is not defined: mesage; is message meant?"],
+  ["li a0, ¦x\nx = 3", "symbol is defined later, and its value is wanted here"],
+  ["a: nop\n¦a: nop", "symbol is defined already"],
+  ["¦sp: nop", "the name of a register can't be a symbol"],
+  ["¦.section foo", "a section needs a name, and flags where its name says nothing"],
+  [".bss\n¦.word 1", "this section holds zeros only"],
+  [".option ¦rvc", "not implemented"],
+  ["addi a0, a0, %¦hi(4)", "12 bits are wanted here, as %lo"],
+  ["lui a0, %¦lo(4)", "the upper 20 bits are wanted here, as %hi"],
+  ["addi a0, a0, %¦pcrel_lo(x)\nx: nop", "no statement with %pcrel_hi is at this label"],
+  ["li a0, 1 / 0¦", "division by zero"],
+  [`li a0, ${"(".repeat(65)}¦`, "too many operators and parentheses"],
+  [".org 400\n.org ¦40", "the address goes back"],
+  [".byte 1\n¦nop", "the address of an instruction is misaligned"],
+  [".space ¦100000000", "the program is too long"],
+  ["¦.rept 2\nnop", "there is no end of this macro or repetition"],
+  [".macro m a\nli a0, ¦\\a\n.endm\nm 08", "not a number of 32 bits"],
+];
+
+/* The mistakes of a marked source, each as the source with the mark at its place. A carriage return
+ * is a blank, behind which a mistake may stand. */
+function mistakesAt(page, kit, marked) {
+  const text = marked.replace("¦", "");
+  return page.assemble(text, 0, kit).mistakes.map(({ line, column, text: what }) => {
+    const at = page.lineStartsOf(text)[line - 1] + column - 1;
+    return [`${text.slice(0, at)}¦${text.slice(at)}`.replace("\r¦", "¦\r"), what];
+  });
 }
 
 function mistakes(report, page, kit) {
-  const one = (line, column, text) => [`${line}:${column} ${text}`];
-  report.cases("what is wrong with a source", [
-    ["addi a0, a1, a2", one(1, 14, "A number is wanted here, and a2 is a register. add takes three "
-      + "registers.")],
-    ["mv a0, 5", one(1, 8, 'A register is wanted here, and "5" stands there. li loads a number '
-      + "into a register.")],
-    ["addi a0, a0, 5000", one(1, 14, "5000 is out of range: from -2048 to 2047 is wanted here. li "
-      + "loads any number into a register.")],
-    ["add a0, a1, 5", one(1, 13, 'A register is wanted here, and "5" stands there. addi takes a '
-      + "number.")],
-    ["mul a0, a1, 5", one(1, 13, 'A register is wanted here, and "5" stands there.')],
-    ["li a0, a1", one(1, 8, "A number is wanted here, and a1 is a register. mv copies a "
-      + "register.")],
-    ["adi a0, a0, 1", one(1, 1, "There is no instruction adi. addi is one.")],
-    ["xyzzy", one(1, 1, "There is no instruction xyzzy.")],
-    [".wrd 1", one(1, 1, "There is no directive .wrd. .word is one.")],
-    ["la a0, mesage\nmessage: nop", one(1, 8, "There is no symbol mesage. message is one.")],
-    ["nop\na: nop\na: nop", one(3, 1, "a is defined twice. It stands on line 2 too.")],
-    ["sp: nop", one(1, 1, "sp is a register, and can't be a symbol.")],
-    ["slli a0, a0, 32", one(1, 14, "32 is out of range: from 0 to 31 is wanted here.")],
-    ["beqz a0, x\n.space 4096\nx:", one(1, 10, "The target is 4,100 bytes away, and this reaches "
-      + "4,096 at most.")],
-    ["j 1f", one(1, 3, "There is no label 1: below.")],
-    ["j 1b", one(1, 3, "There is no label 1: above.")],
-    ["li a0, x\nx = 3", one(1, 8, "x has to stand above: its value is wanted here.")],
-    ["li a0, 08", one(1, 8, "08 is no number. A number that begins with 0 is octal.")],
-    ["li a0, 0x100000000", one(1, 8, "0x100000000 has more than 32 bits.")],
-    ["nop nop", one(1, 5, 'The statement is complete, and "nop" stands there.')],
-    ["add a0 a1", one(1, 8, 'A comma is wanted here, and "a1" stands there.')],
-    ["add a0, a1", one(1, 11, "A comma is wanted here, and the statement ends.")],
-    ["lw a0, 4", one(1, 9, "A register in parentheses is wanted here, and the statement ends.")],
-    [".byte 256", one(1, 7, "256 is out of range: it has more than 8 bits.")],
-    ['.ascii "a', one(1, 10, "The string is not ended: a quotation mark is wanted here.")],
-    [".byte 1\nnop\nnop", one(2, 1, "An instruction stands at a multiple of 4: .align 2 goes "
-      + "there.")],
-    [".macro x", one(1, 1, ".macro is not implemented here.")],
-    ["lui a0, %lo(4)", one(1, 9, "The upper 20 bits are wanted here, by %hi.")],
-    ["addi a0, a0, %hi(4)", one(1, 14, "The lower 12 bits are wanted here, by %lo.")],
-    [".bss\n.word 1", one(2, 1, ".bss holds zeros alone: .data takes other bytes.")],
-    ["li a0, 1 / 0", one(1, 10, "This divides by zero.")],
-    [".org 4\n.org 0", one(2, 6, "The address is lower than 0x00000004, where this stands.")],
-    ["nop\nfoo\nbar\nnop", [...one(2, 1, "There is no instruction foo."),
-      ...one(3, 1, "There is no instruction bar.")]],
-    [".space 2000000", one(1, 8, "2,000,000 bytes are too many.")],
-    ["=", one(1, 1, "A name is wanted here.")],
-    ["a b: nop", one(1, 3, 'A label is one name, and "b" '
-      + "stands there.")],
-    [".section foo", one(1, 13, 'Nothing says what foo holds: flags do, as "aw".')],
-    [".option rvc", one(1, 9, ".option rvc would mean other instructions.")],
-  ], (text) => made(page, kit, text));
-  report.cases("the most bytes of a source", [[1 << 20, 0], [(1 << 20) + 1, 1]], (count) =>
-    page.assemble(`.space ${count - 4}\n.word 1`, 0, kit).mistakes.length);
+  for (const [marked, what] of MISTAKES) {
+    for (const source of [marked, `.ascii "é😀";;.align 2;${marked}`, `# ü\r\n${marked}\r\n# 😀`]) {
+      report.same(`what is wrong in ${source}`, [[source, what]], mistakesAt(page, kit, source));
+    }
+  }
   report.same("how many are told", 20, made(page, kit, "foo\n".repeat(30)).length);
+  report.same("the lines of several", ["2:1", "4:2"],
+    made(page, kit, "nop\nfoo\nnop\n bar\nnop").map((each) => each.split(" ")[0]));
+}
+
+/* What the library tells of a source over room and buffers that are small at first. */
+function overLittle(page, kit, text, mostRoom = page.MOST_ROOM) {
+  const assembler = new page.Assembler(new WebAssembly.Instance(kit.module, {}).exports);
+  const first = Object.keys(assembler.holds).map((name) => [name, 0]);
+  Object.assign(assembler, { room: 16, holds: Object.fromEntries(first) });
+  return assembler.assemble(new TextEncoder().encode(text), 0x1000, mostRoom);
+}
+
+function memories(report, page, kit) {
+  const long = Array.from({ length: 20000 }, (_, at) => `l${at}: la a0, l${at} # é`).join("\n");
+  for (const text of ["", "nop", "a: nop\n.data\nb: .word 1", long, "foo\n".repeat(20)]) {
+    report.same(`over little memory, ${text.length} letters`, kit.assemble(text, 0x1000),
+      overLittle(page, kit, text));
+  }
+  report.same("how much there is", [160000, 20000, 20000], ["bytes", "statements", "labels"].map(
+    (name) => kit.assemble(long, 0x1000)[name].length));
+  report.same("over less than is needed", "the room is as large as it may be",
+    Report.refused(() => overLittle(page, kit, long, 1 << 16)));
+  const { assembler } = kit;
+  report.same("with less room than there is, and with it", [null, "1300000013000000", false, true], [
+    page.assemble(long, 0, kit, 1 << 16), made(page, kit, "nop\nnop"), kit.assembler === assembler,
+    page.assemble(long, 0, kit, 1 << 26) !== null]);
+  const repeated = ".rept 16777215\nnop\n.endr";
+  report.same("with less than is needed", "There is not enough memory to assemble it.",
+    Report.refused(() => page.parseAssembly(repeated, 0, 65536, kit, page.ROOM_LIVE)));
+  report.same("where memory does not grow", null, kit.assemble.call({ assembler: { assemble() {
+    throw new RangeError("no memory");
+  } } }, "nop", 0));
+  report.cases("the bytes of a program, and those that are there", [
+    [1 << 20, [1 << 20, 1 << 20, 2]], [(1 << 20) + 1, [(1 << 20) + 1, 0, 0]],
+  ], (count) => {
+    const { size, bytes, statements: all } = page.assemble(`.space ${count - 1}\n.byte 1`, 0, kit);
+    return [size, bytes.length, all.length];
+  });
 }
 
 function programs(report, page, kit) {
@@ -116,23 +161,26 @@ function programs(report, page, kit) {
   const text = "helper: ret\nmain:\n  li a0, 0x12345  # so\n  nop; nop\n.data\n"
     + "c: .byte 1\nd: .byte 2";
   const program = read(text, 0x1000);
+  report.same("the words", [0x00008067, 0x00012537, 0x34550513, 0x13, 0x13, 0x0201],
+    [...program.words]);
   report.same("the labels by their words", { 0: ["helper"], 1: ["main"], 5: ["c", "d"] },
     Object.fromEntries(program.labels));
-  report.same("where the labels stand", { helper: [0, 0, 0], main: [1, 4, 12], c: [5, 20, 58],
-    d: [5, 21, 69] }, Object.fromEntries([...program.places].map(([name, { index, offset, at }]) =>
-    [name, [index, offset, at]])));
+  report.same("where the labels stand", { helper: [0, 0], main: [1, 4], c: [5, 20], d: [5, 21] },
+    Object.fromEntries([...program.places].map(([name, { index, offset }]) =>
+      [name, [index, offset]])));
   report.same("the lines of the words", [[0, 1, "ret"], [1, 3, "li a0, 0x12345  # so"], [2, 3, ""],
     [3, 4, "nop"], [4, 4, "nop"], [5, 6, ".byte 1; .byte 2"]],
   [...program.sources].map(([index, { line, text: own }]) => [index, line, own]));
   report.cases("where a program starts", [
     ["nop", 0], ["nop\nmain: nop", 4], ["nop\nmain: nop\n_start: nop", 8],
-    [".data\nmain: .word 1", 0],
-    ["nop\n.data\n.byte 1\nmain: .byte 1", 0],
-  ], (source) => read(source).entry);
+    [".data\nmain: .word 1", 0], ["nop\n.data\n.byte 1\nmain: .byte 1", 0], [".word 1", 0],
+  ], (source) => read(source, 0x1000).entry);
   report.cases("why a source is no program", [
-    ["nop\nfoo", "Line 2: There is no instruction foo."], ["", "There is no statement in it."],
+    ["nop\nfoo", "Line 2: no such instruction or directive: foo"],
+    ["", "There is no statement in it."],
     ["# nop", "There is no statement in it."], ["x = 1", "There is no statement in it."],
     [".space 65537", "It has 65,537 bytes, and the memory has 65,536."],
+    [".space 2000000", "It has 2,000,000 bytes, and the memory has 65,536."],
   ], (source) => Report.refused(() => read(source)));
 }
 
@@ -143,6 +191,9 @@ function known(report, page, kit) {
     [".start: 13", false], ["ret", true], ["nothing", false], ["loop: 13", false], ["", false],
     ["a:b: nop", true], ["1: nop", true], ["13\nmv a0, a1", true],
   ], (text) => page.isAssembly(text, kit));
+  report.same("names that are coloured and that the kit does not have", [],
+    [...page.namesOf(kit)].filter((name) => made(page, kit, name).toString().includes("no such")));
+  report.same("how many are coloured", 48 + page.PSEUDO.length, page.namesOf(kit).size);
   const coloured = (text) => page.colouredIn(text, kit)
     .map(({ start, end, kind }) => `${text.slice(start, end)} ${kind}`);
   report.cases("the colours of a source", [
@@ -158,16 +209,14 @@ function known(report, page, kit) {
     [[1, 5], [4, 6]], [[1, 7], [6, 7]], [[1, 11], [9, 10]], [[2, 1], [11, 12]], [[3, 1], [13, 13]],
   ], ([line, column]) => page.EditorView.prototype.wrongIn
     .call({ mistakes: [{ line, column }] }, text, page.lineStartsOf(text))[0]);
-  report.cases("the nearest word", [
-    ["adi", "addi"], ["loop1", "loop"], ["x", undefined], ["zzzz", undefined],
-    ["lxyp", undefined], ["lxoyp", "loop"],
-  ], (word) => page.nearestOf(word, ["addi", "andi", "loop", "y"]));
 }
 
 /** Tries sources of assembly. */
 function tryAssembly(report, page, kit) {
   report.begin("assembly");
-  for (const part of [words, mistakes, programs, known]) part(report, page, kit);
+  for (const part of [words, statements, mistakes, memories, programs, known]) {
+    part(report, page, kit);
+  }
 }
 
 module.exports = { tryAssembly };

@@ -6,9 +6,8 @@ const fs = require("node:fs");
 const path = require("node:path");
 
 const SCRIPTS = [
-  "kit", "terminal", "records", "actions", "machine", "calls", "frames", "convention", "operands",
-  "statements", "assembly", "colours", "program", "executable", "lesson", "examples", "wording",
-  "session", "views", "editor",
+  "kit", "terminal", "records", "actions", "machine", "calls", "frames", "convention", "assembly",
+  "colours", "program", "executable", "lesson", "examples", "wording", "session", "views", "editor",
 ];
 const DEFINED = /^(?:const|class|function|async function) ([A-Za-z_]\w*)/gm;
 
