@@ -24,9 +24,9 @@ def drop(machine, name, content):
         path.write_bytes(content)
         data = {"items": [], "files": [str(path)], "dragOperationsMask": 1}
         # what the page does not keep the browser from, it opens in the place of the page
-        page.ask("globalThis.kept = {}; for (const type of ['dragover', 'drop'])"
-                 " addEventListener(type, (event) => { kept[type] = event.defaultPrevented; });"
-                 " null")
+        page.ask("globalThis.kept = {}; globalThis.watch = new AbortController();"
+                 " for (const type of ['dragover', 'drop']) addEventListener(type,"
+                 " (event) => { kept[type] = event.defaultPrevented; }, watch); null")
         # over the page, from one part of it to another, out of it, and over it again
         for leaves_to in ("document.body", "null", None):
             for kind in ("dragEnter", "dragOver"):
@@ -40,6 +40,7 @@ def drop(machine, name, content):
         page.wait(f"document.querySelector('#program-title').textContent === {js(name)}")
     same("whether the browser is kept from the file", {"dragover": True, "drop": True},
          page.ask("kept"))
+    page.ask("watch.abort()")
     same("whether the page still says so", True, page.ask("document.querySelector('#drop').hidden"))
 
 
