@@ -153,7 +153,7 @@ impl<'a, A: Allocator + Copy> Reading<'a, A> {
         match self.sections.get(self.current) {
             Some(section) => Site {
                 here: section.here(),
-                is_code: section.kind == SectionKind::Code,
+                is_code: matches!(section.kind, SectionKind::Code),
                 is_skipped: false,
             },
             None => Site {
@@ -367,12 +367,12 @@ fn read_named<'a, A: Allocator + Copy>(
     if name.first() == Some(&b'.') {
         return read_directive(alloc, line, name, operands, error);
     }
-    if line.site().is_skipped {
+    if line.site.is_skipped {
         line.skip_all();
         return Ok(Read::Skipped(name, false));
     }
     let statement = read_instruction(line, name, error)?;
-    Ok(Read::Laid(name, statement, line.notes()))
+    Ok(Read::Laid(name, statement, line.notes))
 }
 
 /// Takes the end of a statement.
@@ -493,7 +493,11 @@ fn open_early<'a, A: Allocator + Copy>(
         return Err(Halt::Error(start.with_kind(SourceErrorKind::Sections)));
     }
     if index >= reading.sections.len() {
-        let alignment = if kind == SectionKind::Code { 4 } else { 1 };
+        let alignment = if matches!(kind, SectionKind::Code) {
+            4
+        } else {
+            1
+        };
         let section = Section::new(alloc, name, kind, alignment, 0);
         reading.sections.push(section)?;
     }

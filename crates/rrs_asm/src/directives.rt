@@ -8,7 +8,7 @@ ghost use Rattle.rrs_asm.specs.Forms.{fits_placed, items_of_read, HasItsName};
 use crate::errors::{Halt, LineError, SourceErrorKind};
 use crate::lexing::split_word;
 use crate::literals::escaped;
-use crate::names::{DataForm, DirectiveForm, PlacedForm, directive_named};
+use crate::names::{DataForm, DirectiveForm, PlacedForm, directive_named, is_unsupported};
 use crate::output::MOST_BYTES;
 use crate::reading::{Line, Notes};
 use crate::sections::{SectionKind, is_laid_out, kind_of_name};
@@ -59,14 +59,15 @@ pub fn read_directive<'a, A: Allocator + Copy>(
         items_of_read number read ≡ items_named number name.now operands.now) }
     ensures name { IfOk result HasItsName }
 {
+    let unsupported = error.with_kind(SourceErrorKind::Unsupported);
     match directive_named(name) {
-        Some(DirectiveForm::Place(_) | DirectiveForm::Refused) if line.site().is_skipped => {
+        Some(DirectiveForm::Place(_) | DirectiveForm::Refused) if line.site.is_skipped => {
             line.skip_all();
             Ok(Read::Skipped(name, false))
         }
         Some(DirectiveForm::Place(form)) => {
             let statement = read_placed(alloc, line, name, form)?;
-            Ok(Read::Laid(name, statement, line.notes()))
+            Ok(Read::Laid(name, statement, line.notes))
         }
         Some(DirectiveForm::Common) => {
             let (symbol, rest) = split_word(operands);
@@ -89,9 +90,8 @@ pub fn read_directive<'a, A: Allocator + Copy>(
             let section = read_section(line, name, operands, error)?;
             Ok(section)
         }
-        Some(DirectiveForm::Refused) => Err(Halt::Error(error.with_kind(
-            SourceErrorKind::Unsupported,
-        ))),
+        Some(DirectiveForm::Refused) => Err(Halt::Error(unsupported)),
+        None if is_unsupported(name) => Err(Halt::Error(unsupported)),
         None => Err(Halt::Error(error)),
     }
 }
@@ -137,29 +137,17 @@ fn read_common<'a, A: Allocator + Copy>(
     if matches!(symbol, [] | [b'0'..=b'9', ..]) {
         return Err(error);
     }
-    line.go_to(rest);
+    line.rest = rest;
     line.comma()?;
     let size = read_count(line)?;
     let alignment = if line.take(b',') {
-        common_alignment(line)?
+        alignment(line, false)?
     } else if name == b".lcomm".as_slice() {
         implied_alignment(size, 8)
     } else {
         implied_alignment(size.saturating_mul(2).saturating_sub(1), 16)
     };
     Ok(Common { size, alignment })
-}
-
-/// Reads the alignment of a symbol in `COMMON`, a power of 2.
-fn common_alignment<A: Allocator + Copy>(line: &mut Line<A>) -> Result<u32, LineError> {
-    line.skip_blanks();
-    let error = line.error(SourceErrorKind::Range);
-    let alignment = line.known_value()?;
-    if alignment.is_power_of_two() && alignment <= 1 << MOST_ALIGNED {
-        Ok(alignment)
-    } else {
-        Err(error)
-    }
 }
 
 /// The greatest power of 2 up to a size and a limit.
@@ -237,8 +225,7 @@ fn read_bytes<A: Allocator + Copy>(
         DataForm::Numbers(bits) => read_data(alloc, line, bits),
         DataForm::Strings(is_ended) => read_strings(alloc, line, is_ended),
         DataForm::Pattern => read_pattern(alloc, line),
-        DataForm::Power => read_power(alloc, line),
-        DataForm::Alignment => read_alignment(alloc, line),
+        DataForm::Alignment(is_power) => read_alignment(alloc, line, is_power),
     }
 }
 
@@ -382,13 +369,16 @@ fn next_in_string<A: Allocator + Copy>(line: &mut Line<A>) -> Result<Option<u8>,
     }
 }
 
-/// Takes what follows a backslash: the byte that it stands for. It may be written in octal, as
-/// `\101`, or in hexadecimal, as `\x41`.
+/// Takes what follows a backslash: the byte that it stands for. It may be written by up to three octal
+/// digits, as `\101`, or by hexadecimal ones, of which the last two count, as `\x41`.
 fn next_escaped<A: Allocator + Copy>(line: &mut Line<A>) -> Result<Option<u8>, LineError> {
     let error = line.error(SourceErrorKind::Escape);
     match line.next_byte() {
-        Some(digit @ b'0'..=b'7') => Ok(Some(octal_escape(line, digit - b'0'))),
-        Some(b'x' | b'X') => Ok(Some(hexadecimal_escape(line, error)?)),
+        Some(digit @ b'0'..=b'7') => Ok(Some(digits_behind(line, digit - b'0', 8, 2))),
+        Some(b'x' | b'X') => {
+            let first = line.next_digit(16).ok_or(error)?;
+            Ok(Some(digits_behind(line, first, 16, u64::MAX)))
+        }
         Some(byte) => match escaped(byte) {
             None => Err(error),
             value => Ok(value),
@@ -397,31 +387,17 @@ fn next_escaped<A: Allocator + Copy>(line: &mut Line<A>) -> Result<Option<u8>, L
     }
 }
 
-/// Takes two further digits of an octal escape, as far as they stand there.
-fn octal_escape<A: Allocator + Copy>(line: &mut Line<A>, first: u8) -> u8 {
+/// Takes so many further digits of an escape at most, as far as they stand there. The value is taken
+/// modulo 256.
+fn digits_behind<A: Allocator + Copy>(line: &mut Line<A>, first: u8, base: u8, most: u64) -> u8 {
     let mut value = first;
-    for _ in 0..2 {
-        match line.next_digit(8) {
-            Some(digit) => value = value.wrapping_mul(8).wrapping_add(digit),
+    for _ in 0..most {
+        match line.next_digit(u64::from(base)) {
+            Some(digit) => value = value.wrapping_mul(base).wrapping_add(digit),
             None => break,
         }
     }
     value
-}
-
-/// Takes the digits of a hexadecimal escape, of which the last two count.
-fn hexadecimal_escape<A: Allocator + Copy>(
-    line: &mut Line<A>,
-    error: LineError,
-) -> Result<u8, LineError> {
-    let mut value = line.next_digit(16).ok_or(error)?;
-    for _ in 0..u64::MAX {
-        match line.next_digit(16) {
-            Some(digit) => value = value.wrapping_mul(16).wrapping_add(digit),
-            None => break,
-        }
-    }
-    Ok(value)
 }
 
 /// Reads how many bytes, and which byte where another than zero is meant.
@@ -453,7 +429,7 @@ fn read_origin<A: Allocator + Copy>(line: &mut Line<A>) -> Result<u32, LineError
     line.skip_blanks();
     let error = line.error(SourceErrorKind::Backward);
     let target = line.known_value()?;
-    let count = target.checked_sub(line.here()).ok_or(error)?;
+    let count = target.checked_sub(line.site.here).ok_or(error)?;
     if count as usize <= MOST_BYTES {
         Ok(count)
     } else {
@@ -461,26 +437,34 @@ fn read_origin<A: Allocator + Copy>(line: &mut Line<A>) -> Result<u32, LineError
     }
 }
 
-/// Reads an alignment as a power of 2.
-fn read_power<A: Allocator + Copy>(alloc: A, line: &mut Line<A>) -> Result<Vec<u8, A>, Halt> {
-    line.skip_blanks();
-    let error = line.error(SourceErrorKind::Range);
-    let power = line.known_value()?;
-    if power > MOST_ALIGNED {
-        return Err(Halt::Error(error));
-    }
-    read_padding(alloc, line, 1 << power)
+/// Reads an alignment, as a power of 2 or in bytes, and what fills up to it.
+fn read_alignment<A: Allocator + Copy>(
+    alloc: A,
+    line: &mut Line<A>,
+    is_power: bool,
+) -> Result<Vec<u8, A>, Halt> {
+    let bytes = alignment(line, is_power)?;
+    read_padding(alloc, line, bytes)
 }
 
-/// Reads an alignment in bytes, a power of 2.
-fn read_alignment<A: Allocator + Copy>(alloc: A, line: &mut Line<A>) -> Result<Vec<u8, A>, Halt> {
+/// Reads how many bytes an alignment has: a power of 2, which may be said by its exponent.
+fn alignment<A: Allocator + Copy>(line: &mut Line<A>, is_power: bool) -> Result<u32, LineError>
+    ensures { IfOk result (λ bytes. 0 < bytes) }
+{
     line.skip_blanks();
     let error = line.error(SourceErrorKind::Range);
-    let alignment = line.known_value()?;
-    if !alignment.is_power_of_two() || alignment > 1 << MOST_ALIGNED {
-        return Err(Halt::Error(error));
+    let value = line.known_value()?;
+    let bytes = if is_power { power_of_two(value) } else { value };
+    if bytes.is_power_of_two() && bytes <= 1 << MOST_ALIGNED {
+        Ok(bytes)
+    } else {
+        Err(error)
     }
-    read_padding(alloc, line, alignment)
+}
+
+/// Which power of 2 has this exponent. It is 0 where that is too large.
+fn power_of_two(exponent: u32) -> u32 {
+    1u32.checked_shl(exponent).unwrap_or(0)
 }
 
 /// Reads which byte fills up to an alignment, and how many at most: otherwise nothing is filled.
@@ -491,20 +475,21 @@ fn read_padding<A: Allocator + Copy>(
 ) -> Result<Vec<u8, A>, Halt>
     requires { 0 < alignment }
 {
-    line.align(alignment);
+    line.notes.alignment = alignment;
     let mut fill = None;
-    let count = 0u32.wrapping_sub(line.here()) % alignment;
+    let count = 0u32.wrapping_sub(line.site.here) % alignment;
     if line.take(b',') {
-        if !line.is_comma_next() {
+        let has_limit = line.take(b',');
+        if !has_limit {
             fill = Some((line.datum(8)? % 256) as u8);
         }
-        if line.take(b',') && line.known_value()? < count {
+        if (has_limit || line.take(b',')) && line.known_value()? < count {
             return Ok(Vec::new(alloc));
         }
     }
     match fill {
         Some(byte) => filled(alloc, count, byte),
-        None if line.site().is_code => padding(alloc, count),
+        None if line.site.is_code => padding(alloc, count),
         None => filled(alloc, count, 0),
     }
 }

@@ -6,8 +6,11 @@ use crate::errors::{LineError, SourceErrorKind};
 /// The most operators and parentheses that wait for what is behind them.
 const MOST_WAITING: usize = 64;
 
+/// The rank of the operators that bind the least.
+pub const LOOSEST: u8 = 1;
+
 /// An operator, or an opening parenthesis.
-#[derive(Clone, Copy, PartialEq)]
+#[derive(Clone, Copy)]
 pub enum Operator {
     Open,
     Negate,
@@ -58,16 +61,18 @@ impl Operator {
         }
     }
 
-    /// What it makes of two numbers. One before its number has nothing on the left.
-    fn apply(self, left: u64, right: u64) -> Result<u64, SourceErrorKind> {
-        Ok(match self {
+    /// What it makes of two numbers. One before its number has nothing on the left. None: there is
+    /// no such quotient.
+    fn apply(self, left: u64, right: u64) -> Option<u64> {
+        let (signed, divisor) = (left.cast_signed(), right.cast_signed());
+        Some(match self {
             Operator::Open => right,
             Operator::Negate => 0u64.wrapping_sub(right),
             Operator::Complement => !right,
             Operator::IsZero => u64::from(right == 0),
             Operator::Multiply => left.wrapping_mul(right),
-            Operator::Divide => quotient(left, right)?,
-            Operator::Remainder => remainder(left, right)?,
+            Operator::Divide => signed.checked_div(divisor)?.cast_unsigned(),
+            Operator::Remainder => signed.checked_rem(divisor)?.cast_unsigned(),
             Operator::ShiftLeft if right < 64 => left << right,
             Operator::ShiftRight if right < 64 => left >> right,
             Operator::ShiftLeft | Operator::ShiftRight => 0,
@@ -79,24 +84,8 @@ impl Operator {
             Operator::Subtract => left.wrapping_sub(right),
             Operator::Both => u64::from(left != 0 && right != 0),
             Operator::Either => u64::from(left != 0 || right != 0),
-            _ => compared(self, left.cast_signed(), right.cast_signed()),
+            _ => compared(self, signed, divisor),
         })
-    }
-}
-
-/// The quotient of two signed numbers, rounded to zero.
-fn quotient(left: u64, right: u64) -> Result<u64, SourceErrorKind> {
-    match left.cast_signed().checked_div(right.cast_signed()) {
-        Some(value) => Ok(value.cast_unsigned()),
-        None => Err(SourceErrorKind::Division),
-    }
-}
-
-/// The remainder of two signed numbers, with the sign of the first.
-fn remainder(left: u64, right: u64) -> Result<u64, SourceErrorKind> {
-    match left.cast_signed().checked_rem(right.cast_signed()) {
-        Some(value) => Ok(value.cast_unsigned()),
-        None => Err(SourceErrorKind::Division),
     }
 }
 
@@ -156,16 +145,6 @@ struct Entry {
     left: u64,
 }
 
-impl Entry {
-    /// What it makes of a value behind it. A mistake is told as this one, by its kind.
-    fn applied(self, value: u64, error: LineError) -> Result<u64, LineError> {
-        match self.operator.apply(self.left, value) {
-            Ok(value) => Ok(value),
-            Err(kind) => Err(error.with_kind(kind)),
-        }
-    }
-}
-
 /// The operators that wait, the innermost last.
 #[derive(Clone, Copy)]
 pub struct Waiting {
@@ -197,7 +176,7 @@ impl Waiting {
     /// Whether the innermost is a minus before its number.
     pub fn is_negated(&self) -> bool {
         match self.last() {
-            Some(entry) => entry.operator == Operator::Negate,
+            Some(entry) => matches!(entry.operator, Operator::Negate),
             None => false,
         }
     }
@@ -220,7 +199,7 @@ impl Waiting {
             None => return Err(error.with_kind(SourceErrorKind::Deep)),
         }
         self.count = self.count.saturating_add(1);
-        if operator == Operator::Open {
+        if matches!(operator, Operator::Open) {
             self.open = self.open.saturating_add(1);
         }
         Ok(())
@@ -237,13 +216,15 @@ impl Waiting {
         self.push(operator, left, error)
     }
 
-    /// What those that bind so strongly make of a value behind them.
-    fn applied(&mut self, rank: u8, value: u64, error: LineError) -> Result<u64, LineError> {
+    /// What those that bind so strongly make of a value behind them. All up to the innermost
+    /// parenthesis do that by `LOOSEST`.
+    pub fn applied(&mut self, rank: u8, value: u64, error: LineError) -> Result<u64, LineError> {
         let mut value = value;
         for _ in 0..MOST_WAITING {
             match self.last() {
                 Some(entry) if entry.operator.rank() >= rank => {
-                    value = entry.applied(value, error)?;
+                    let applied = entry.operator.apply(entry.left, value);
+                    value = applied.ok_or(error.with_kind(SourceErrorKind::Division))?;
                     self.count = self.count.saturating_sub(1);
                 }
                 _ => break,
@@ -252,14 +233,9 @@ impl Waiting {
         Ok(value)
     }
 
-    /// What all make of a value behind them, up to the innermost parenthesis.
-    pub fn all_applied(&mut self, value: u64, error: LineError) -> Result<u64, LineError> {
-        self.applied(1, value, error)
-    }
-
     /// The value of what stands in the innermost parenthesis, which is closed.
     pub fn closed(&mut self, value: u64, error: LineError) -> Result<u64, LineError> {
-        let value = self.applied(1, value, error)?;
+        let value = self.applied(LOOSEST, value, error)?;
         self.count = self.count.saturating_sub(1);
         self.open = self.open.saturating_sub(1);
         Ok(value)

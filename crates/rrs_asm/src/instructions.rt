@@ -3,12 +3,12 @@
 ghost use Rattle.std.specs.Prelude.{◌≡◌, ◌<◌, IfOk, IfSome, codes};
 ghost use Rattle.rrs_instruction.specs.Table.{table};
 ghost use Rattle.rrs_instruction.specs.Instructions.{row_of};
-ghost use Rattle.rrs_asm.specs.Names.{IsNamed, pseudo_name, unary_name, zero_branch_name, swapped_name, comparison_name, load_name, store_name};
+ghost use Rattle.rrs_asm.specs.Names.{IsNamed, pseudo_name, load_name, store_name};
 ghost use Rattle.rrs_asm.specs.Forms.{form_name, IsRowForm};
 
 use crate::errors::{LineError, SourceErrorKind};
 use crate::names::{PseudoForm, pseudo_named};
-use crate::pseudo::{Load, Pseudo, Store, SwappedBranch, SwappedComparison, Unary, ZeroBranch};
+use crate::pseudo::{Load, Pseudo, Store};
 use crate::reading::Line;
 use crate::statements::Statement;
 use rrs_encode::{Operands, instruction_named, with_operands};
@@ -38,7 +38,7 @@ pub fn read_instruction<A: Allocator + Copy>(
 ) -> Result<Statement<A>, LineError>
     ensures { IfOk result (IsNamed name.now) }
 {
-    if line.here() % 4 != 0 {
+    if line.site.here % 4 != 0 {
         return Err(error.with_kind(SourceErrorKind::Misplaced));
     }
     if let Some(template) = instruction_named(name) {
@@ -66,7 +66,7 @@ fn read_row<A: Allocator + Copy>(
         RowForm::Load(load) => read_load(line, template, load),
         RowForm::Store(store) => read_store(line, template, store),
         RowForm::Format => {
-            let operands = format_operands(line, template.fields())?;
+            let operands = read_operands(line, operands_of(template.fields()))?;
             statement_of(template, operands)
         }
     }
@@ -169,43 +169,110 @@ fn statement_of<A: Allocator + Copy>(
     Ok(Statement::Instruction(instruction))
 }
 
-/// Reads the operands of an instruction that is written as others of its format.
-fn format_operands<A: Allocator + Copy>(
+/// An operand: where it goes, and how it is written.
+#[derive(Clone, Copy)]
+enum Operand {
+    Rd,
+    Rs1,
+    Rs2,
+    /// `immediate(rs1)`.
+    Address,
+    Number(Number),
+}
+
+/// How a number is written that goes where an immediate does.
+#[derive(Clone, Copy)]
+enum Number {
+    /// 12 bits.
+    Immediate,
+    /// How far is shifted: below 32.
+    Amount,
+    /// The upper 20 bits of a word.
+    Upper,
+    /// The target of a branch.
+    Branch,
+    /// The target of a jump.
+    Jump,
+    /// A word that is known here.
+    Word,
+    /// A symbol, or an address: how far it is from the statement, modulo 2^32.
+    Distance,
+}
+
+/// The operands of each format, and of the pseudo-instructions that are written as it is.
+static OF_R: [Operand; 3] = [Operand::Rd, Operand::Rs1, Operand::Rs2];
+
+static OF_I: [Operand; 3] = [
+    Operand::Rd,
+    Operand::Rs1,
+    Operand::Number(Number::Immediate),
+];
+
+static OF_SHIFT: [Operand; 3] = [Operand::Rd, Operand::Rs1, Operand::Number(Number::Amount)];
+
+static OF_S: [Operand; 2] = [Operand::Rs2, Operand::Address];
+
+static OF_B: [Operand; 3] = [Operand::Rs1, Operand::Rs2, Operand::Number(Number::Branch)];
+
+static OF_U: [Operand; 2] = [Operand::Rd, Operand::Number(Number::Upper)];
+
+static OF_J: [Operand; 2] = [Operand::Rd, Operand::Number(Number::Jump)];
+
+/// The operands of an instruction that is written as others of its format.
+fn operands_of(fields: InstructionFields) -> &'static [Operand] {
+    match fields {
+        InstructionFields::R(_) => &OF_R,
+        InstructionFields::I(_) => &OF_I,
+        InstructionFields::IShamt(_) => &OF_SHIFT,
+        InstructionFields::S(_) => &OF_S,
+        InstructionFields::B(_) => &OF_B,
+        InstructionFields::U(_) => &OF_U,
+        InstructionFields::J(_) => &OF_J,
+    }
+}
+
+/// Reads operands with commas between them.
+fn read_operands<A: Allocator + Copy>(
     line: &mut Line<A>,
-    fields: InstructionFields,
+    wanted: &[Operand],
 ) -> Result<Operands, LineError> {
-    let (rd, rs1, rs2, imm) = match fields {
-        InstructionFields::R(_) => {
-            let (rd, rs1) = line.registers_before_comma()?;
-            (rd, rs1, line.register()?, 0)
+    let mut operands = NONE;
+    for (number, operand) in wanted.iter().enumerate() {
+        if number > 0 {
+            line.comma()?;
         }
-        InstructionFields::I(_) => {
-            let (rd, rs1) = line.registers_before_comma()?;
-            (rd, rs1, 0, line.immediate()?)
-        }
-        InstructionFields::IShamt(_) => {
-            let (rd, rs1) = line.registers_before_comma()?;
-            (rd, rs1, 0, line.below(32)?.cast_signed())
-        }
-        InstructionFields::S(_) => {
-            let rs2 = line.register_before_comma()?;
-            let (imm, rs1) = line.address()?;
-            (0, rs1, rs2, imm)
-        }
-        InstructionFields::B(_) => {
-            let (rs1, rs2) = line.registers_before_comma()?;
-            (0, rs1, rs2, line.offset(BRANCH_REACH)?)
-        }
-        InstructionFields::U(_) => {
-            let rd = line.register_before_comma()?;
-            (rd, 0, 0, (line.upper()? << 12).cast_signed())
-        }
-        InstructionFields::J(_) => {
-            let rd = line.register_before_comma()?;
-            (rd, 0, 0, line.offset(JUMP_REACH)?)
-        }
-    };
-    Ok(Operands { rd, rs1, rs2, imm })
+        read_operand(line, *operand, &mut operands)?;
+    }
+    Ok(operands)
+}
+
+/// Reads an operand, and puts it where it goes.
+fn read_operand<A: Allocator + Copy>(
+    line: &mut Line<A>,
+    operand: Operand,
+    operands: &mut Operands,
+) -> Result<(), LineError> {
+    match operand {
+        Operand::Rd => operands.rd = line.register()?,
+        Operand::Rs1 => operands.rs1 = line.register()?,
+        Operand::Rs2 => operands.rs2 = line.register()?,
+        Operand::Address => (operands.imm, operands.rs1) = line.address()?,
+        Operand::Number(number) => operands.imm = read_number(line, number)?,
+    }
+    Ok(())
+}
+
+/// Reads a number that goes where an immediate does. A word is taken as a signed one.
+fn read_number<A: Allocator + Copy>(line: &mut Line<A>, number: Number) -> Result<i32, LineError> {
+    match number {
+        Number::Immediate => line.immediate(),
+        Number::Branch => line.offset(BRANCH_REACH),
+        Number::Jump => line.offset(JUMP_REACH),
+        Number::Amount => Ok(line.below(32)?.cast_signed()),
+        Number::Upper => Ok((line.upper()? << 12).cast_signed()),
+        Number::Word => Ok(line.known_value()?.cast_signed()),
+        Number::Distance => Ok(line.value()?.wrapping_sub(line.site.here).cast_signed()),
+    }
 }
 
 /// Reads `rd, target`, or `target` alone.
@@ -321,99 +388,63 @@ fn read_pseudo<A: Allocator + Copy>(
 ) -> Result<Pseudo, LineError>
     ensures { IfOk result (λ pseudo. pseudo_name pseudo ≡ form_name form) }
 {
+    Ok(pseudo_of(form, read_operands(line, operands_of_pseudo(form))?))
+}
+
+/// The operands of pseudo-instructions that are written as no format is.
+static OF_LI: [Operand; 2] = [Operand::Rd, Operand::Number(Number::Word)];
+
+static OF_LA: [Operand; 2] = [Operand::Rd, Operand::Number(Number::Distance)];
+
+static OF_JUMP: [Operand; 2] = [Operand::Number(Number::Distance), Operand::Rs1];
+
+static OF_ONE: [Operand; 2] = [Operand::Rd, Operand::Rs1];
+
+static AGAINST_ZERO: [Operand; 2] = [Operand::Rs1, Operand::Number(Number::Branch)];
+
+static OF_TARGET: [Operand; 1] = [Operand::Number(Number::Jump)];
+
+static OF_REGISTER: [Operand; 1] = [Operand::Rs1];
+
+static OF_SYMBOL: [Operand; 1] = [Operand::Number(Number::Distance)];
+
+/// The operands of a pseudo-instruction.
+fn operands_of_pseudo(form: PseudoForm) -> &'static [Operand] {
     match form {
-        PseudoForm::Nop => Ok(Pseudo::Nop),
-        PseudoForm::Ret => Ok(Pseudo::Ret),
-        PseudoForm::Li => read_li(line),
-        PseudoForm::La => read_la(line),
-        PseudoForm::Lla => read_lla(line),
-        PseudoForm::Compared(name) => read_compared(line, name),
-        PseudoForm::Jump => read_jump(line),
-        PseudoForm::OfOne(name) => read_of_one(line, name),
-        PseudoForm::AgainstZero(name) => read_against_zero(line, name),
-        PseudoForm::Swapped(name) => read_swapped(line, name),
-        PseudoForm::J => Ok(Pseudo::J(line.offset(JUMP_REACH)?)),
-        PseudoForm::Jr => Ok(Pseudo::Jr(line.register()?)),
-        PseudoForm::Call => Ok(Pseudo::Call(read_distance(line)?)),
-        PseudoForm::Tail => Ok(Pseudo::Tail(read_distance(line)?)),
+        PseudoForm::Nop | PseudoForm::Ret => &[],
+        PseudoForm::Li => &OF_LI,
+        PseudoForm::La | PseudoForm::Lla => &OF_LA,
+        PseudoForm::Compared(_) => &OF_R,
+        PseudoForm::Jump => &OF_JUMP,
+        PseudoForm::OfOne(_) => &OF_ONE,
+        PseudoForm::AgainstZero(_) => &AGAINST_ZERO,
+        PseudoForm::Swapped(_) => &OF_B,
+        PseudoForm::J => &OF_TARGET,
+        PseudoForm::Jr => &OF_REGISTER,
+        PseudoForm::Call | PseudoForm::Tail => &OF_SYMBOL,
     }
 }
 
-/// Reads `rd, value`.
-fn read_li<A: Allocator + Copy>(line: &mut Line<A>) -> Result<Pseudo, LineError>
-    ensures { IfOk result (λ pseudo. pseudo_name pseudo ≡ codes "li") }
+/// The pseudo-instruction with these operands.
+fn pseudo_of(form: PseudoForm, operands: Operands) -> Pseudo
+    ensures { pseudo_name result ≡ form_name form }
 {
-    let rd = line.register_before_comma()?;
-    Ok(Pseudo::Li(rd, line.known_value()?))
-}
-
-/// Reads `rd, symbol`.
-fn read_la<A: Allocator + Copy>(line: &mut Line<A>) -> Result<Pseudo, LineError>
-    ensures { IfOk result (λ pseudo. pseudo_name pseudo ≡ codes "la") }
-{
-    let rd = line.register_before_comma()?;
-    Ok(Pseudo::La(rd, read_distance(line)?))
-}
-
-/// Reads `rd, symbol`.
-fn read_lla<A: Allocator + Copy>(line: &mut Line<A>) -> Result<Pseudo, LineError>
-    ensures { IfOk result (λ pseudo. pseudo_name pseudo ≡ codes "lla") }
-{
-    let rd = line.register_before_comma()?;
-    Ok(Pseudo::Lla(rd, read_distance(line)?))
-}
-
-/// Reads `rd, rs, rt`.
-fn read_compared<A: Allocator + Copy>(
-    line: &mut Line<A>,
-    name: SwappedComparison,
-) -> Result<Pseudo, LineError>
-    ensures { IfOk result (λ pseudo. pseudo_name pseudo ≡ comparison_name name) }
-{
-    let (rd, rs) = line.registers_before_comma()?;
-    Ok(Pseudo::Compared(name, rd, rs, line.register()?))
-}
-
-/// Reads `symbol, rt`.
-fn read_jump<A: Allocator + Copy>(line: &mut Line<A>) -> Result<Pseudo, LineError>
-    ensures { IfOk result (λ pseudo. pseudo_name pseudo ≡ codes "jump") }
-{
-    let distance = read_distance(line)?;
-    line.comma()?;
-    Ok(Pseudo::Jump(line.register()?, distance))
-}
-
-/// Reads `rd, rs`.
-fn read_of_one<A: Allocator + Copy>(line: &mut Line<A>, name: Unary) -> Result<Pseudo, LineError>
-    ensures { IfOk result (λ pseudo. pseudo_name pseudo ≡ unary_name name) }
-{
-    let rd = line.register_before_comma()?;
-    Ok(Pseudo::OfOne(name, rd, line.register()?))
-}
-
-/// Reads `rs, target`.
-fn read_against_zero<A: Allocator + Copy>(
-    line: &mut Line<A>,
-    name: ZeroBranch,
-) -> Result<Pseudo, LineError>
-    ensures { IfOk result (λ pseudo. pseudo_name pseudo ≡ zero_branch_name name) }
-{
-    let rs = line.register_before_comma()?;
-    Ok(Pseudo::AgainstZero(name, rs, line.offset(BRANCH_REACH)?))
-}
-
-/// Reads `rs, rt, target`.
-fn read_swapped<A: Allocator + Copy>(
-    line: &mut Line<A>,
-    name: SwappedBranch,
-) -> Result<Pseudo, LineError>
-    ensures { IfOk result (λ pseudo. pseudo_name pseudo ≡ swapped_name name) }
-{
-    let (rs, rt) = line.registers_before_comma()?;
-    Ok(Pseudo::Swapped(name, rs, rt, line.offset(BRANCH_REACH)?))
-}
-
-/// Reads a symbol, or an address: how far it is from the statement, modulo 2^32.
-fn read_distance<A: Allocator + Copy>(line: &mut Line<A>) -> Result<u32, LineError> {
-    Ok(line.value()?.wrapping_sub(line.here()))
+    let Operands { rd, rs1, rs2, imm } = operands;
+    let word = imm.cast_unsigned();
+    match form {
+        PseudoForm::Nop => Pseudo::Nop,
+        PseudoForm::Ret => Pseudo::Ret,
+        PseudoForm::Li => Pseudo::Li(rd, word),
+        PseudoForm::La => Pseudo::La(rd, word),
+        PseudoForm::Lla => Pseudo::Lla(rd, word),
+        PseudoForm::Compared(name) => Pseudo::Compared(name, rd, rs1, rs2),
+        PseudoForm::Jump => Pseudo::Jump(rs1, word),
+        PseudoForm::OfOne(name) => Pseudo::OfOne(name, rd, rs1),
+        PseudoForm::AgainstZero(name) => Pseudo::AgainstZero(name, rs1, imm),
+        PseudoForm::Swapped(name) => Pseudo::Swapped(name, rs1, rs2, imm),
+        PseudoForm::J => Pseudo::J(imm),
+        PseudoForm::Jr => Pseudo::Jr(rs1),
+        PseudoForm::Call => Pseudo::Call(word),
+        PseudoForm::Tail => Pseudo::Tail(word),
+    }
 }

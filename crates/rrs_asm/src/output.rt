@@ -19,7 +19,6 @@ const UNIMP: u32 = 0xc000_1073;
 
 /// A statement and its place.
 #[derive(Drop)]
-#[derive_where(Debug, PartialEq)]
 pub struct Placed<A: Allocator = Global> {
     /// The line where it stands, counted from 1.
     pub line: usize,
@@ -30,7 +29,7 @@ pub struct Placed<A: Allocator = Global> {
 }
 
 /// A label and its place.
-#[derive(Debug, PartialEq, Clone, Copy)]
+#[derive(Clone, Copy)]
 pub struct Label<'a> {
     /// The line where it stands, counted from 1.
     pub line: usize,
@@ -42,7 +41,6 @@ pub struct Label<'a> {
 
 /// What was made of the items of a section.
 #[derive(Drop)]
-#[derive_where(Debug)]
 pub struct Assembled<'a, A: Allocator = Global> {
     /// The labels in the order of the source, local labels too.
     pub labels: Vec<Label<'a>, A>,
@@ -95,8 +93,8 @@ fn address_behind<A: Allocator + Copy>(base: u32, bytes: &Vec<u8, A>) -> Result<
     }
 }
 
-/// The mistake of a program that is too long.
-fn too_long() -> Halt {
+/// The mistake of a program that is too long, or goes past the end of addresses.
+pub fn too_long() -> Halt {
     Halt::Error(LineError {
         kind: SourceErrorKind::TooLong,
         left: 0,

@@ -9,7 +9,6 @@ use std::alloc::{AllocError, Allocator, Global};
 
 /// A source that was assembled.
 #[derive(Drop)]
-#[derive_where(Debug)]
 pub struct Program<'a, A: Allocator = Global> {
     /// Its sections in the order of their addresses: those with instructions, with data that is
     /// not written, with data, and with zeros.

@@ -8,7 +8,7 @@ use rrs_instruction::instruction::Instruction;
 use rrs_instruction::instruction_formats::{BType, IType, JType, RType, SType, UType};
 
 /// A pseudo-instruction that writes a register from one other.
-#[derive(Debug, PartialEq, Clone, Copy)]
+#[derive(Clone, Copy)]
 pub enum Unary {
     Mv,
     Not,
@@ -21,7 +21,7 @@ pub enum Unary {
 }
 
 /// A branch that compares a register with zero.
-#[derive(Debug, PartialEq, Clone, Copy)]
+#[derive(Clone, Copy)]
 pub enum ZeroBranch {
     Beqz,
     Bnez,
@@ -32,7 +32,7 @@ pub enum ZeroBranch {
 }
 
 /// A branch whose two registers change places.
-#[derive(Debug, PartialEq, Clone, Copy)]
+#[derive(Clone, Copy)]
 pub enum SwappedBranch {
     Bgt,
     Ble,
@@ -41,14 +41,14 @@ pub enum SwappedBranch {
 }
 
 /// A comparison whose two registers change places.
-#[derive(Debug, PartialEq, Clone, Copy)]
+#[derive(Clone, Copy)]
 pub enum SwappedComparison {
     Sgt,
     Sgtu,
 }
 
 /// A load from a symbol.
-#[derive(Debug, PartialEq, Clone, Copy)]
+#[derive(Clone, Copy)]
 pub enum Load {
     Lb,
     Lbu,
@@ -58,7 +58,7 @@ pub enum Load {
 }
 
 /// A store at a symbol.
-#[derive(Debug, PartialEq, Clone, Copy)]
+#[derive(Clone, Copy)]
 pub enum Store {
     Sb,
     Sh,
@@ -67,7 +67,7 @@ pub enum Store {
 
 /// A pseudo-instruction with its operands. Registers go by their numbers, and the offset of a
 /// branch or a jump is that from its own address.
-#[derive(Debug, PartialEq, Clone, Copy)]
+#[derive(Clone, Copy)]
 pub enum Pseudo {
     /// `nop`.
     Nop,
@@ -110,7 +110,7 @@ pub enum Pseudo {
 }
 
 /// The instructions that a pseudo-instruction is: one or two.
-#[derive(Debug, PartialEq, Clone, Copy)]
+#[derive(Clone, Copy)]
 pub struct Expansion {
     pub first: Instruction,
     pub second: Option<Instruction>,

@@ -3,9 +3,10 @@
 ghost use Rattle.std.specs.Prelude.{pos, ◌<ℤ◌};
 
 use crate::errors::{LineError, SourceErrorKind};
-use crate::expressions::{Operator, Waiting, operator_between};
+use crate::expressions::{LOOSEST, Operator, Waiting, operator_between};
 use crate::lexing::{behind_blanks, split_word};
 use crate::literals::{digit_of, escaped, local_label, number_of};
+use crate::pseudo::{lower, upper};
 use crate::registers::register_number;
 use crate::symbols::{Known, Symbols};
 use std::alloc::Allocator;
@@ -42,12 +43,12 @@ struct Wanted {
 /// What is left of a statement, and where it stands.
 #[derive_where(Clone, Copy)]
 pub struct Line<'a, 's, A: Allocator> {
-    rest: &'a [u8],
+    pub rest: &'a [u8],
     /// How many bytes of the line are behind the statement.
     behind: usize,
     symbols: &'s Symbols<'a, A>,
-    site: Site,
-    notes: Notes,
+    pub site: Site,
+    pub notes: Notes,
 }
 
 impl<'a, 's, A: Allocator + Copy> Line<'a, 's, A> {
@@ -66,38 +67,12 @@ impl<'a, 's, A: Allocator + Copy> Line<'a, 's, A> {
         }
     }
 
-    /// The address of the statement.
-    pub fn here(&self) -> u32 {
-        self.site.here
-    }
-
-    /// Where the statement stands.
-    pub fn site(&self) -> Site {
-        self.site
-    }
-
-    /// What the statement asks beside its bytes.
-    pub fn notes(&self) -> Notes {
-        self.notes
-    }
-
-    /// Asks for an alignment of the section.
-    pub fn align(&mut self, alignment: u32) {
-        self.notes.alignment = alignment;
-    }
-
     /// Takes a digit below a base, if one is next.
     pub fn next_digit(&mut self, base: u64) -> Option<u8> {
         let byte = *self.rest.first()?;
         let digit = digit_of(byte, base)?;
         let _ = self.next_byte();
         u8::try_from(digit).ok()
-    }
-
-    /// Whether a comma is next, behind blanks.
-    pub fn is_comma_next(&self) -> bool {
-        let mut ahead = *self;
-        ahead.take(b',')
     }
 
     /// Takes a symbol, with what is added to it, and no register in parentheses behind it: how far
@@ -116,11 +91,6 @@ impl<'a, 's, A: Allocator + Copy> Line<'a, 's, A> {
         }
         *self = ahead;
         Some(value.wrapping_sub(self.site.here))
-    }
-
-    /// Goes on at an end of what is left.
-    pub fn go_to(&mut self, rest: &'a [u8]) {
-        self.rest = rest;
     }
 
     /// Takes whatever is left.
@@ -205,13 +175,6 @@ impl<'a, 's, A: Allocator + Copy> Line<'a, 's, A> {
         Ok(register)
     }
 
-    /// Takes two registers, each with a comma.
-    pub fn registers_before_comma(&mut self) -> Result<(usize, usize), LineError> {
-        let first = self.register_before_comma()?;
-        let second = self.register_before_comma()?;
-        Ok((first, second))
-    }
-
     /// Takes a value. It is taken modulo 2^32.
     pub fn value(&mut self) -> Result<u32, LineError> {
         self.word_of(false)
@@ -252,7 +215,7 @@ impl<'a, 's, A: Allocator + Copy> Line<'a, 's, A> {
                 None if waiting.is_open() => {
                     return Err(error.with_kind(SourceErrorKind::Parenthesis));
                 }
-                None => return waiting.all_applied(value, error),
+                None => return waiting.applied(LOOSEST, value, error),
             }
         }
         Err(self.error(SourceErrorKind::Value))
@@ -390,11 +353,11 @@ impl<'a, 's, A: Allocator + Copy> Line<'a, 's, A> {
         let error = self.error(SourceErrorKind::Value);
         let name = self.word();
         match name {
-            b"lo" => Ok(low_part(self.enclosed()?)),
+            b"lo" => Ok(lower(self.enclosed()?).cast_unsigned()),
             b"pcrel_lo" => {
                 let address = self.enclosed()?;
                 match self.symbols.distance_at(address) {
-                    Some(distance) => Ok(low_part(distance)),
+                    Some(distance) => Ok(lower(distance).cast_unsigned()),
                     None => self.fitting(0, 0, false, error.with_kind(SourceErrorKind::Distance)),
                 }
             }
@@ -411,11 +374,11 @@ impl<'a, 's, A: Allocator + Copy> Line<'a, 's, A> {
         let error = self.error(SourceErrorKind::Value);
         let name = self.word();
         match name {
-            b"hi" => Ok(high_part(self.enclosed()?)),
+            b"hi" => Ok(upper(self.enclosed()?).cast_unsigned() >> 12),
             b"pcrel_hi" => {
                 let distance = self.enclosed()?.wrapping_sub(self.site.here);
                 self.notes.distance = Some(distance);
-                Ok(high_part(distance))
+                Ok(upper(distance).cast_unsigned() >> 12)
             }
             b"lo" | b"pcrel_lo" => Err(error.with_kind(SourceErrorKind::Low)),
             _ => Err(error),
@@ -531,14 +494,4 @@ fn number(
     } else {
         Ok(value)
     }
-}
-
-/// The upper 20 bits to which the low part is added, sign-extended.
-fn high_part(value: u32) -> u32 {
-    value.wrapping_add(0x800) >> 12
-}
-
-/// The lower 12 bits, sign-extended.
-fn low_part(value: u32) -> u32 {
-    value.wrapping_sub(high_part(value) << 12)
 }

@@ -7,14 +7,14 @@ ghost use Rattle.rrs_asm.specs.Sections.{in_common, flat, is_data, data_address,
 ghost use Rattle.rrs_asm.specs.Forms.{Grows, IsNew};
 
 use crate::errors::{Halt, LineError, SourceErrorKind};
-use crate::output::{Assembled, Label, MOST_BYTES};
+use crate::output::{Assembled, Label, MOST_BYTES, too_long};
 use crate::statements::Statement;
 use crate::symbols::Known;
 use std::alloc::{AllocError, Allocator, Global};
 
 /// What a section holds, and so where it lies: the sections of a kind lie one behind the other, and
 /// the kinds in this order.
-#[derive(Debug, PartialEq, Clone, Copy)]
+#[derive(Clone, Copy)]
 pub enum SectionKind {
     /// Instructions.
     Code,
@@ -26,16 +26,23 @@ pub enum SectionKind {
     Zero,
 }
 
-/// The kinds in the order in which they lie.
-const KINDS: [SectionKind; 4] = [
-    SectionKind::Code,
-    SectionKind::ReadOnly,
-    SectionKind::Data,
-    SectionKind::Zero,
-];
+/// How many kinds there are.
+const KINDS: u8 = 4;
+
+impl SectionKind {
+    /// How many kinds lie before it.
+    fn order(self) -> u8 {
+        match self {
+            SectionKind::Code => 0,
+            SectionKind::ReadOnly => 1,
+            SectionKind::Data => 2,
+            SectionKind::Zero => 3,
+        }
+    }
+}
 
 /// Where sections lie.
-#[derive(Debug, PartialEq, Clone, Copy)]
+#[derive(Clone, Copy)]
 pub struct Layout {
     /// The address of the first section, which holds instructions.
     pub text_start: u32,
@@ -61,7 +68,6 @@ impl Layout {
 
 /// A section, and what is made of the items in it.
 #[derive(Drop)]
-#[derive_where(Debug)]
 pub struct Section<'a, A: Allocator = Global> {
     /// Its name.
     pub name: &'a [u8],
@@ -156,7 +162,7 @@ impl<'a, A: Allocator + Copy> Section<'a, A> {
         if size > MOST_BYTES || size as u64 + u64::from(self.address) > 1 << 32 {
             return Err(Halt::Error(start.with_kind(SourceErrorKind::TooLong)));
         }
-        if self.kind == SectionKind::Zero && !statement.is_zero() {
+        if matches!(self.kind, SectionKind::Zero) && !statement.is_zero() {
             return Err(Halt::Error(start.with_kind(SourceErrorKind::Zeros)));
         }
         self.size = size;
@@ -236,14 +242,6 @@ fn begins(name: &[u8], first: &[u8]) -> bool {
         None => name == first,
         Some(byte) => *byte == b'.' && name.starts_with(first),
     }
-}
-
-/// The mistake of sections that go past the end of addresses, or of data that would lie in them.
-fn too_long() -> Halt {
-    Halt::Error(LineError {
-        kind: SourceErrorKind::TooLong,
-        left: 0,
-    })
 }
 
 /// What a section takes.
@@ -360,30 +358,30 @@ pub fn laid_out<'a, A: Allocator + Copy>(
 {
     let mut laid = Vec::new(alloc);
     let mut before = None;
-    for kind in &KINDS {
+    for order in 0..KINDS {
         for section in sections {
-            add_new(alloc, section, *kind, layout, &mut before, &mut laid)?;
+            add_new(alloc, section, order, layout, &mut before, &mut laid)?;
         }
     }
     Ok(laid)
 }
 
-/// Adds a section of a kind, empty again, behind the others. One of another kind is none, and neither
-/// is one that is left empty behind the last address.
+/// Adds a section of the kind with this place in the order, empty again, behind the others. One of
+/// another kind is none, and neither is one that is left empty behind the last address.
 fn add_new<'a, A: Allocator + Copy>(
     alloc: A,
     section: &Section<'a, A>,
-    kind: SectionKind,
+    order: u8,
     layout: Layout,
     before: &mut Option<Extent>,
     laid: &mut Vec<Section<'a, A>, A>,
 ) -> Result<(), Halt>
     ensures { OnOk result (All IsNew laid.old.items → All IsNew laid.new.items) }
 {
-    if section.kind != kind {
+    if section.kind.order() != order {
         return Ok(());
     }
-    let alignment = section.alignment;
+    let (kind, alignment) = (section.kind, section.alignment);
     let start = match *before {
         None => Some(u64::from(layout.text_start)),
         Some(extent) => extent.start_behind(kind, alignment, layout),

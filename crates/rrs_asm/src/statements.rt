@@ -9,7 +9,6 @@ use std::alloc::{Allocator, Global};
 
 /// What a statement of a source puts at its address.
 #[derive(Drop)]
-#[derive_where(Debug, PartialEq)]
 pub enum Statement<A: Allocator = Global> {
     /// An instruction of the table.
     Instruction(Instruction),

@@ -1,7 +1,5 @@
 //! The tests of `rrs_asm`: lines and their words, the places of labels, statements and mistakes, and
-//! the programs of `examples/assembly`, which are assembled, compared with their words, and run. What
-//! `rrs_lent` tells of sources is compared with what `assemble_source` makes, and collections fill
-//! the rooms of `rrs_room`.
+//! the programs of `examples/assembly`, which are assembled, compared with their words, and run.
 //!
 //! The words of pseudo-instructions are those that GNU `as` makes.
 
@@ -12,8 +10,6 @@ mod assembled;
 #[cfg(test)]
 mod executables;
 #[cfg(test)]
-mod lent;
-#[cfg(test)]
 mod lines;
 #[cfg(test)]
 mod mistakes;
@@ -21,8 +17,6 @@ mod mistakes;
 mod places;
 #[cfg(test)]
 mod programs;
-#[cfg(test)]
-mod room;
 #[cfg(test)]
 mod sections;
 #[cfg(test)]

@@ -153,7 +153,7 @@ fn add_section(parts: &mut Parts, section: &Section) -> Result<(), AllocError> {
     let here = parts.here();
     let offset = here.wrapping_add(section.address.wrapping_sub(here) % PAGE);
     let size = size_of(&section.made.bytes);
-    let is_stored = section.kind != SectionKind::Zero && size > 0;
+    let is_stored = !matches!(section.kind, SectionKind::Zero) && size > 0;
     if is_stored {
         parts
             .contents

@@ -6,5 +6,5 @@ use Rattle.rrs_asm.proofs.sections.laid_out.Given as goal
 abbrev pub invariant-loop-section : goal.invariant-loop-section
 invariant-loop-section g l = All IsNew l.laid.items
 
-abbrev pub invariant-loop-kind : goal.invariant-loop-kind
-invariant-loop-kind g l = All IsNew l.laid.items
+abbrev pub invariant-loop-order : goal.invariant-loop-order
+invariant-loop-order g l = All IsNew l.laid.items

@@ -1,7 +1,6 @@
 //! Sources that are assembled in memory that is lent.
 
-use crate::assembled::made;
-use rrs_asm::{Program, SourceFault, image};
+use rrs_asm::{Layout, Program, SourceFault, assemble_source, image};
 use rrs_lent::{RrsAssembled, RrsMistake, RrsStatement, RrsSymbol, assemble_lent};
 use rrs_room::Room;
 use std::alloc::{AllocError, Global};
@@ -179,7 +178,7 @@ fn same(one: &Told, other: &Told) -> bool {
 fn is_told(alloc: Global, source: &str) -> Result<bool, AllocError> {
     let mut told = lent(alloc, source, 0x4_0000, AMPLE)?;
     cut(&mut told);
-    match made(alloc, source.as_bytes(), START) {
+    match assemble_source(alloc, source.as_bytes(), Layout::flat(START)) {
         Ok(program) => Ok(same(&told, &wanted_of(alloc, &program)?)),
         Err(SourceFault::Errors(_)) => Ok(false),
         Err(SourceFault::OutOfMemory) => Err(AllocError),
