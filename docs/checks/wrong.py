@@ -13,6 +13,7 @@ RIGHT = {
     "crates.txt": "one:\n",
     "crates/one/src/lib.rt": "//! A crate.\n\n/// One.\npub fn one_name() -> u32 {\n    1\n}\n",
     TABLE: "table Row.Add = row \"add\"\n",
+    "crates/one/must-fail/tried-alone.md": "part: another\nfile: src/lib.rt\nold:     1\nnew:     2\n",
     "docs/ADDING.md": f"# Adding\n\n| `{TABLE}` | 1 |\n",
     "docs/OTHER.md": "# Other\n\n## A heading\n",
     "docs/SURFACE.md": f"# Surface\n\n{BELOW}\n",
@@ -39,6 +40,8 @@ WRONG = [
     ("README.md", "`one_name`", "`two_name`", "no source has `two_name`"),
     ("README.md", "1<!--", "2<!--", "`crates` is 1, and not 2"),
     ("README.md", "count crates", "count none", "there is no count `none`"),
+    ("crates/one/must-fail/tried-alone.md", "old:     1", "old:     3", "this stands 0 times"),
+    ("crates/one/must-fail/tried-alone.md", "old:     1", "old: u", "this stands 2 times"),
     ("docs/ADDING.md", "specs/Table.antt", "src/lib.rt", "lists " + TABLE),
     ("docs/SURFACE.md", "one_name", "two_name", "call docs/check --write"),
 ]
