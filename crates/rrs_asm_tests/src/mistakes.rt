@@ -6,7 +6,7 @@ use std::alloc::Global;
 use std::test::Fail;
 
 /// Sources, each with the line and the column of its mistake.
-static MISTAKES: [(&str, usize, usize, SourceErrorKind); 36] = [
+static MISTAKES: [(&str, usize, usize, SourceErrorKind); 37] = [
     ("nop\n  addx a0, a1", 2, 3, SourceErrorKind::Unknown),
     (".wrod 1", 1, 1, SourceErrorKind::Unknown),
     ("addi-1", 1, 1, SourceErrorKind::Unknown),
@@ -40,6 +40,7 @@ static MISTAKES: [(&str, usize, usize, SourceErrorKind); 36] = [
     ("a:\nnop; a: nop", 2, 6, SourceErrorKind::Duplicate),
     ("a0: nop", 1, 1, SourceErrorKind::Reserved),
     (".section", 1, 9, SourceErrorKind::Section),
+    (".section .debug\n.popsection", 2, 1, SourceErrorKind::Unsupported),
     ("nop\n.org 2", 2, 6, SourceErrorKind::Backward),
     (".byte 1\nnop\nnop", 2, 1, SourceErrorKind::Misplaced),
     (".space 0x4000001", 1, 8, SourceErrorKind::TooLong),
