@@ -9,7 +9,7 @@ use std::alloc::{AllocError, Allocator};
 const MOST_PARAMETERS: usize = 256;
 
 /// What a parameter takes.
-#[derive(Clone, Copy, PartialEq)]
+#[derive(Clone, Copy)]
 pub enum Kind {
     /// An argument, or its default.
     Optional,
@@ -54,21 +54,14 @@ fn mistake_behind<A: Allocator + Copy>(
     name: &[u8],
 ) -> Option<MacroErrorKind> {
     if index_of(parameters, name).is_some() {
-        Some(MacroErrorKind::DuplicateParameter)
-    } else if parameters.len() >= MOST_PARAMETERS {
-        Some(MacroErrorKind::Parameters)
-    } else if takes_rest(parameters) {
-        Some(MacroErrorKind::BehindRest)
-    } else {
-        None
+        return Some(MacroErrorKind::DuplicateParameter);
     }
-}
-
-/// Whether the last parameter takes all that is left.
-fn takes_rest<A: Allocator + Copy>(parameters: &[Parameter<A>]) -> bool {
-    match parameters.last() {
-        Some(parameter) => parameter.kind == Kind::Rest,
-        None => false,
+    if parameters.len() >= MOST_PARAMETERS {
+        return Some(MacroErrorKind::Parameters);
+    }
+    match parameters.last()?.kind {
+        Kind::Rest => Some(MacroErrorKind::BehindRest),
+        _ => None,
     }
 }
 
@@ -84,7 +77,7 @@ fn take_parameter<A: Allocator + Copy>(
         default: Vec::new(alloc),
         kind,
     };
-    if cursor.take_if(b'=') {
+    if cursor.take_if(b"=") {
         take_argument(cursor, &mut parameter.default)?;
     }
     Ok(parameter)
@@ -92,7 +85,7 @@ fn take_parameter<A: Allocator + Copy>(
 
 /// Takes what a parameter takes, if it is said.
 fn take_kind(cursor: &mut Cursor) -> Result<Kind, Slip> {
-    if !cursor.take_if(b':') {
+    if !cursor.take_if(b":") {
         return Ok(Kind::Optional);
     }
     let slip = cursor.slip(MacroErrorKind::Qualifier);
@@ -113,8 +106,8 @@ pub fn index_of<A: Allocator + Copy>(parameters: &[Parameter<A>], name: &[u8]) -
     None
 }
 
-/// Takes the arguments of a call: of each parameter what stands in its place, which is its default
-/// where nothing is given.
+/// Takes the arguments of a call: of each parameter the one in its place, which is empty where none
+/// is given.
 pub fn arguments<A: Allocator + Copy>(
     alloc: A,
     cursor: &mut Cursor,
@@ -125,55 +118,64 @@ pub fn arguments<A: Allocator + Copy>(
     for _ in parameters {
         values.push(Vec::new(alloc))?;
     }
+    take_arguments(cursor, parameters, &mut values)?;
+    for (parameter, value) in parameters.iter().zip(&values) {
+        if matches!(parameter.kind, Kind::Required) && value.is_empty() {
+            return Err(Halt::Slip(call));
+        }
+    }
+    Ok(values)
+}
+
+/// Takes the arguments of a call, each as the value of its parameter.
+fn take_arguments<A: Allocator + Copy>(
+    cursor: &mut Cursor,
+    parameters: &[Parameter<A>],
+    values: &mut Vec<Vec<u8, A>, A>,
+) -> Result<(), Halt> {
     let mut next = 0usize;
     let mut is_named = false;
     for _ in 0..u64::MAX {
         if cursor.is_over() {
             break;
         }
-        let name = keyword(cursor);
+        let place = cursor.slip(MacroErrorKind::NoParameter);
+        let name = take_keyword(cursor);
         is_named = is_named || name.is_some();
-        let index = parameter_for(cursor, parameters, name, next, is_named)?;
+        let index = parameter_for(parameters, name, next, is_named, place)?;
         next = next.saturating_add(1);
-        take_value(cursor, parameters, index, &mut values)?;
+        take_value(cursor, parameters, index, values)?;
         cursor.skip_comma();
     }
-    give_defaults(parameters, &mut values, call)?;
-    Ok(values)
+    Ok(())
 }
 
-/// The name of the next argument, if it has one.
-fn keyword<'a>(cursor: &Cursor<'a>) -> Option<&'a [u8]> {
+/// Takes the name of the next argument and the `=` behind it, if it has one.
+fn take_keyword<'a>(cursor: &mut Cursor<'a>) -> Option<&'a [u8]> {
     let mut ahead = *cursor;
-    let name = ahead.name().ok()?;
-    if ahead.take_if(b'=') {
-        Some(name)
-    } else {
-        None
+    match ahead.name() {
+        Ok(name) if ahead.take_if(b"=") => {
+            *cursor = ahead;
+            Some(name)
+        }
+        _ => None,
     }
 }
 
-/// Which parameter the next argument is of. Its name is taken.
+/// Which parameter an argument is of that stands at a place.
 fn parameter_for<A: Allocator + Copy>(
-    cursor: &mut Cursor,
     parameters: &[Parameter<A>],
     name: Option<&[u8]>,
     next: usize,
     is_named: bool,
+    place: Slip,
 ) -> Result<usize, Slip> {
-    let Some(name) = name else {
-        return if is_named {
-            Err(cursor.slip(MacroErrorKind::Mixed))
-        } else if next < parameters.len() {
-            Ok(next)
-        } else {
-            Err(cursor.slip(MacroErrorKind::Arguments))
-        };
-    };
-    let index = index_of(parameters, name).ok_or(cursor.slip(MacroErrorKind::NoParameter))?;
-    let _ = cursor.word();
-    let _ = cursor.take_if(b'=');
-    Ok(index)
+    match name {
+        Some(name) => index_of(parameters, name).ok_or(place),
+        None if is_named => Err(place.with_kind(MacroErrorKind::Mixed)),
+        None if next < parameters.len() => Ok(next),
+        None => Err(place.with_kind(MacroErrorKind::Arguments)),
+    }
 }
 
 /// Takes an argument as the value of a parameter.
@@ -187,40 +189,10 @@ fn take_value<A: Allocator + Copy>(
         return Ok(());
     };
     value.clear();
-    if parameter.kind == Kind::Rest {
-        take_all(cursor, value, None)
-    } else {
-        take_argument(cursor, value)
+    match parameter.kind {
+        Kind::Rest => take_all(cursor, value, None),
+        _ => take_argument(cursor, value),
     }
-}
-
-/// Gives each parameter that has no value its default.
-fn give_defaults<A: Allocator + Copy>(
-    parameters: &[Parameter<A>],
-    values: &mut Vec<Vec<u8, A>, A>,
-    call: Slip,
-) -> Result<(), Halt> {
-    for (index, parameter) in parameters.iter().enumerate() {
-        if let Some(value) = values.get_mut(index) {
-            give_default(parameter, value, call)?;
-        }
-    }
-    Ok(())
-}
-
-/// Gives a parameter its default, if it has no value.
-fn give_default<A: Allocator + Copy>(
-    parameter: &Parameter<A>,
-    value: &mut Vec<u8, A>,
-    call: Slip,
-) -> Result<(), Halt> {
-    if !value.is_empty() {
-        return Ok(());
-    }
-    if parameter.kind == Kind::Required {
-        return Err(Halt::Slip(call));
-    }
-    Ok(value.extend_from_slice(&parameter.default)?)
 }
 
 /// Takes an argument: a string without its quotation marks, or what stands before a comma or a
@@ -229,8 +201,8 @@ pub fn take_argument<A: Allocator + Copy>(
     cursor: &mut Cursor,
     value: &mut Vec<u8, A>,
 ) -> Result<(), AllocError> {
-    if cursor.take_if(b'"') {
-        return take_string(cursor, value);
+    if cursor.take_if(b"\"") {
+        return take_string(cursor, value, false);
     }
     let mut depth = 0usize;
     for _ in 0..u64::MAX {
@@ -253,7 +225,8 @@ pub fn take_all<A: Allocator + Copy>(
     end: Option<u8>,
 ) -> Result<(), AllocError> {
     for _ in 0..u64::MAX {
-        if is_end(cursor.peek(), end) {
+        let next = cursor.peek();
+        if next.is_none() || next == end {
             break;
         }
         take_piece(cursor, value)?;
@@ -261,60 +234,22 @@ pub fn take_all<A: Allocator + Copy>(
     Ok(())
 }
 
-/// Whether nothing is next, or what ends a text.
-fn is_end(next: Option<u8>, end: Option<u8>) -> bool {
-    match (next, end) {
-        (Some(next), Some(end)) => next == end,
-        (Some(_), None) => false,
-        (None, _) => true,
-    }
-}
-
-/// Takes a byte, a string as it stands, or a character constant as its number.
+/// Takes a byte, a string as it stands, or a character constant as its number, which GNU `as` makes
+/// of it before it looks at macros.
 fn take_piece<A: Allocator + Copy>(
     cursor: &mut Cursor,
     value: &mut Vec<u8, A>,
 ) -> Result<(), AllocError> {
-    let Some(byte) = cursor.take() else {
-        return Ok(());
-    };
-    if byte == b'\'' {
-        return take_character(cursor, value);
-    }
-    value.push(byte)?;
-    if byte == b'"' {
-        take_to_quote(cursor, value)?;
-    }
-    Ok(())
-}
-
-/// Takes what is left of a string, with the quotation mark that ends it.
-fn take_to_quote<A: Allocator + Copy>(
-    cursor: &mut Cursor,
-    value: &mut Vec<u8, A>,
-) -> Result<(), AllocError> {
-    let mut is_escaped = false;
-    for _ in 0..u64::MAX {
-        let Some(byte) = cursor.take_raw() else {
-            break;
-        };
-        value.push(byte)?;
-        if byte == b'"' && !is_escaped {
-            break;
+    match cursor.take() {
+        Some(b'\'') => match character(cursor) {
+            Some(number) => push_decimal(number, value),
+            None => Ok(()),
+        },
+        Some(b'"') => {
+            value.push(b'"')?;
+            take_string(cursor, value, true)
         }
-        is_escaped = byte == b'\\' && !is_escaped;
-    }
-    Ok(())
-}
-
-/// Takes what is left of a character constant, with the apostrophe that can end it, and appends its
-/// number, as GNU `as` does before it looks at macros.
-fn take_character<A: Allocator + Copy>(
-    cursor: &mut Cursor,
-    value: &mut Vec<u8, A>,
-) -> Result<(), AllocError> {
-    match character(cursor) {
-        Some(byte) => push_decimal(byte, value),
+        Some(byte) => Ok(value.push(byte)?),
         None => Ok(()),
     }
 }
@@ -330,10 +265,12 @@ fn push_decimal<A: Allocator + Copy>(number: u8, value: &mut Vec<u8, A>) -> Resu
     Ok(value.push(b'0' + number % 10)?)
 }
 
-/// Takes what is left of a string, without the quotation mark that ends it. Two of them are one.
+/// Takes what is left of a string, with or without the quotation mark that ends it. Two of them are
+/// one, and are kept as two.
 pub fn take_string<A: Allocator + Copy>(
     cursor: &mut Cursor,
     value: &mut Vec<u8, A>,
+    keeps_marks: bool,
 ) -> Result<(), AllocError> {
     let mut is_escaped = false;
     for _ in 0..u64::MAX {
@@ -341,10 +278,12 @@ pub fn take_string<A: Allocator + Copy>(
             break;
         };
         if byte == b'"' && !is_escaped {
-            if cursor.peek_raw() != Some(b'"') {
+            if keeps_marks {
+                value.push(b'"')?;
+            }
+            if !cursor.take_next(b'"') {
                 break;
             }
-            let _ = cursor.take_raw();
         }
         value.push(byte)?;
         is_escaped = byte == b'\\' && !is_escaped;

@@ -3,8 +3,8 @@
 ghost use Rattle.std.specs.Prelude.{◌≡◌, length};
 ghost use Rattle.rrs_macros.specs.Lines.{lines};
 
-use crate::directives::Directive;
-use crate::scanning::{behind_labels, directive_of, first_statement};
+use crate::directives::{Directive, directive_named};
+use crate::scanning::{behind_labels, first_statement, split_word};
 
 /// What a block is.
 #[derive(Clone, Copy)]
@@ -28,7 +28,8 @@ pub struct Block<'a> {
 
 /// By how much a statement nests blocks of a kind: whether it begins one or ends one.
 fn edge(kind: BlockKind, code: &[u8]) -> (bool, bool) {
-    let Some((directive, _)) = directive_of(code) else {
+    let (word, _) = split_word(behind_labels(code));
+    let Some(directive) = directive_named(word) else {
         return (false, false);
     };
     match (kind, directive) {

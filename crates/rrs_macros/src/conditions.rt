@@ -7,7 +7,7 @@ use crate::errors::{Halt, MacroError, MacroErrorKind};
 use crate::frames::{Condition, Reader};
 use crate::tables::Tables;
 use crate::values::value;
-use std::alloc::{AllocError, Allocator};
+use std::alloc::Allocator;
 
 /// Begins a condition. With a mistake in it nothing of it is read.
 pub fn begin<A: Allocator + Copy>(
@@ -17,15 +17,25 @@ pub fn begin<A: Allocator + Copy>(
     place: MacroError,
     reader: &mut Reader<A>,
 ) -> Result<(), Halt> {
-    match holds(tables, test, cursor) {
-        Ok(holds) => {
-            reader.conditions.push(Condition::new(place, holds))?;
-            Ok(())
-        }
-        Err(halt) => {
-            reader.conditions.push(Condition::skipped(place))?;
-            Err(halt)
-        }
+    let asked = holds(tables, test, cursor);
+    go_on(reader, Condition::new(place, false), asked, false)
+}
+
+/// Goes on with a condition behind what is asked. With a mistake in that nothing of it is read.
+fn go_on<A: Allocator + Copy>(
+    reader: &mut Reader<A>,
+    condition: Condition,
+    asked: Result<bool, Halt>,
+    is_else: bool,
+) -> Result<(), Halt> {
+    let next = match asked {
+        Ok(holds) => condition.or(holds, is_else),
+        Err(_) => Condition::new(condition.place, true),
+    };
+    reader.conditions.push(next)?;
+    match asked {
+        Ok(_) => Ok(()),
+        Err(halt) => Err(halt),
     }
 }
 
@@ -47,22 +57,12 @@ pub fn conclude<A: Allocator + Copy>(
         return Err(Halt::Slip(cursor.slip(MacroErrorKind::SecondElse)));
     }
     let is_else = matches!(directive, Directive::Else);
-    let holds = if is_else {
-        Ok(true)
-    } else if condition.is_done {
-        Ok(false)
+    let asked = if is_else || condition.is_done {
+        Ok(is_else)
     } else {
-        holds(tables, Test::Compared(Comparison::NotEqual), cursor)
+        compares(tables, Comparison::NotEqual, cursor)
     };
-    let next = match &holds {
-        Ok(holds) => condition.or(*holds, is_else),
-        Err(_) => Condition::skipped(condition.place),
-    };
-    reader.conditions.push(next)?;
-    match holds {
-        Ok(_) => Ok(()),
-        Err(halt) => Err(halt),
-    }
+    go_on(reader, condition, asked, is_else)
 }
 
 /// Whether what a condition asks holds.
@@ -72,82 +72,60 @@ fn holds<A: Allocator + Copy>(
     cursor: &mut Cursor,
 ) -> Result<bool, Halt> {
     match test {
-        Test::Compared(comparison) => {
-            let value = value(cursor, &tables.symbols)?;
-            cursor.end()?;
-            Ok(comparison.holds(value, 0))
-        }
+        Test::Compared(comparison) => compares(tables, comparison, cursor),
         Test::Defined(wanted) => {
             let name = cursor.name()?;
             cursor.end()?;
             Ok(tables.symbols.is_defined(name) == wanted)
         }
         Test::Blank(wanted) => Ok(cursor.is_over() == wanted),
-        Test::SameText(wanted) => Ok(are_same_texts(tables, cursor)? == wanted),
-        Test::SameString(wanted) => Ok(are_same_strings(tables, cursor)? == wanted),
+        Test::SameText(wanted) => Ok(are_same(tables, cursor, false)? == wanted),
+        Test::SameString(wanted) => Ok(are_same(tables, cursor, true)? == wanted),
     }
 }
 
-/// Takes two texts with a comma between them, and tells whether they are the same.
-fn are_same_texts<A: Allocator + Copy>(
+/// Takes a value that is the last, and tells how it compares with zero.
+fn compares<A: Allocator + Copy>(
     tables: &Tables<A>,
+    comparison: Comparison,
     cursor: &mut Cursor,
 ) -> Result<bool, Halt> {
-    let slip = cursor.slip(MacroErrorKind::Strings);
-    let mut one = Vec::new(tables.alloc);
-    take_all(cursor, &mut one, Some(b','))?;
-    if cursor.take_if(b',') {
-        Ok(is_rest(tables, cursor, &one)?)
-    } else {
-        Err(Halt::Slip(slip))
-    }
-}
-
-/// Takes all that is left, and tells whether it is this text.
-fn is_rest<A: Allocator + Copy>(
-    tables: &Tables<A>,
-    cursor: &mut Cursor,
-    text: &[u8],
-) -> Result<bool, AllocError> {
-    let mut rest = Vec::new(tables.alloc);
-    take_all(cursor, &mut rest, None)?;
-    Ok(rest.as_slice() == text)
-}
-
-/// Takes two strings with a comma between them, and tells whether they are the same.
-fn are_same_strings<A: Allocator + Copy>(
-    tables: &Tables<A>,
-    cursor: &mut Cursor,
-) -> Result<bool, Halt> {
-    let one = string(tables, cursor)?;
-    if cursor.take_if(b',') {
-        is_string(tables, cursor, &one)
-    } else {
-        Err(Halt::Slip(cursor.slip(MacroErrorKind::Strings)))
-    }
-}
-
-/// Takes a string that is the last, and tells whether it is this text.
-fn is_string<A: Allocator + Copy>(
-    tables: &Tables<A>,
-    cursor: &mut Cursor,
-    text: &[u8],
-) -> Result<bool, Halt> {
-    let other = string(tables, cursor)?;
+    let value = value(cursor, &tables.symbols)?;
     cursor.end()?;
-    Ok(other.as_slice() == text)
+    Ok(comparison.holds(value, 0))
 }
 
-/// Takes a string.
-fn string<A: Allocator + Copy>(
+/// Takes two texts or strings with a comma between them, and tells whether they are the same.
+fn are_same<A: Allocator + Copy>(
     tables: &Tables<A>,
     cursor: &mut Cursor,
-) -> Result<Vec<u8, A>, Halt> {
-    let slip = cursor.slip(MacroErrorKind::Strings);
-    if !cursor.take_if(b'"') {
-        return Err(Halt::Slip(slip));
+    are_strings: bool,
+) -> Result<bool, Halt> {
+    let first = cursor.slip(MacroErrorKind::Strings);
+    let one = text(tables, cursor, are_strings, Some(b','))?;
+    let comma = cursor.slip(MacroErrorKind::Strings);
+    if !cursor.take_if(b",") {
+        return Err(Halt::Slip(if are_strings { comma } else { first }));
     }
+    let other = text(tables, cursor, are_strings, None)?;
+    cursor.end()?;
+    Ok(one.as_slice() == other.as_slice())
+}
+
+/// Takes a string, or a text before a byte.
+fn text<A: Allocator + Copy>(
+    tables: &Tables<A>,
+    cursor: &mut Cursor,
+    is_string: bool,
+    end: Option<u8>,
+) -> Result<Vec<u8, A>, Halt> {
     let mut text = Vec::new(tables.alloc);
-    take_string(cursor, &mut text)?;
+    if !is_string {
+        take_all(cursor, &mut text, end)?;
+    } else if cursor.take_if(b"\"") {
+        take_string(cursor, &mut text, false)?;
+    } else {
+        return Err(Halt::Slip(cursor.slip(MacroErrorKind::Strings)));
+    }
     Ok(text)
 }

@@ -22,14 +22,6 @@ fn keeps_blank(before: u8, after: u8) -> bool {
         && (is_in_name(after) || matches!(after, b'"' | b'\'' | b'\\'))
 }
 
-/// Whether a word is a name, which does not begin with a digit.
-fn is_name(word: &[u8]) -> bool {
-    match word {
-        [] => false,
-        [byte, ..] => !byte.is_ascii_digit(),
-    }
-}
-
 impl<'a> Cursor<'a> {
     /// The operands of a statement, with so many bytes of the text behind it.
     pub fn new(operands: &'a [u8], behind: usize) -> Self {
@@ -48,48 +40,36 @@ impl<'a> Cursor<'a> {
         }
     }
 
-    /// What is left.
-    pub fn rest(&self) -> &'a [u8] {
-        self.rest
-    }
-
-    /// The next byte, with no blank that means nothing, and what is behind it.
-    fn next(&self) -> Option<(u8, &'a [u8])> {
-        let after = behind_blanks(self.rest);
-        match (self.rest, after) {
-            (_, []) => None,
-            ([first, ..], [byte, ..]) if is_blank(*first) && keeps_blank(self.before, *byte) => {
-                Some((b' ', after))
-            }
-            (_, [byte, others @ ..]) => Some((*byte, others)),
-        }
-    }
-
-    /// The next byte, with no blank that means nothing.
-    pub fn peek(&self) -> Option<u8> {
-        match self.next() {
-            Some((byte, _)) => Some(byte),
-            None => None,
-        }
-    }
-
     /// Takes the next byte, with no blank that means nothing.
     pub fn take(&mut self) -> Option<u8> {
-        let (byte, rest) = self.next()?;
+        let after = behind_blanks(self.rest);
+        let (byte, rest) = match (self.rest, after) {
+            (_, []) => return None,
+            ([first, ..], [byte, ..]) if is_blank(*first) && keeps_blank(self.before, *byte) => {
+                (b' ', after)
+            }
+            (_, [byte, others @ ..]) => (*byte, others),
+        };
         self.rest = rest;
         self.before = byte;
         Some(byte)
     }
 
-    /// Takes a byte, if it is the next one behind blanks.
-    pub fn take_if(&mut self, wanted: u8) -> bool {
-        match behind_blanks(self.rest) {
-            [byte, rest @ ..] if *byte == wanted => {
+    /// The next byte, with no blank that means nothing.
+    pub fn peek(&self) -> Option<u8> {
+        let mut ahead = *self;
+        ahead.take()
+    }
+
+    /// Takes these bytes, if they are the next ones behind blanks.
+    pub fn take_if(&mut self, wanted: &[u8]) -> bool {
+        match behind_blanks(self.rest).strip_prefix(wanted) {
+            Some(rest) => {
                 self.rest = rest;
-                self.before = wanted;
+                self.before = b' ';
                 true
             }
-            _ => false,
+            None => false,
         }
     }
 
@@ -105,15 +85,22 @@ impl<'a> Cursor<'a> {
         }
     }
 
-    /// The next byte, whatever it is.
-    pub fn peek_raw(&self) -> Option<u8> {
-        self.rest.first().copied()
+    /// Takes a byte, if it is the next one and stands behind no blank.
+    pub fn take_next(&mut self, wanted: u8) -> bool {
+        match self.rest {
+            [byte, rest @ ..] if *byte == wanted => {
+                self.rest = rest;
+                self.before = wanted;
+                true
+            }
+            _ => false,
+        }
     }
 
     /// Takes a comma and the blanks around it, or blanks alone.
     pub fn skip_comma(&mut self) {
         self.rest = behind_blanks(self.rest);
-        if self.take_if(b',') {
+        if self.take_if(b",") {
             self.rest = behind_blanks(self.rest);
         }
         self.before = b' ';
@@ -135,8 +122,10 @@ impl<'a> Cursor<'a> {
     /// Takes a name, which does not begin with a digit.
     pub fn name(&mut self) -> Result<&'a [u8], Slip> {
         let slip = self.slip(MacroErrorKind::Name);
-        let word = self.word();
-        if is_name(word) { Ok(word) } else { Err(slip) }
+        match self.word() {
+            [] | [b'0'..=b'9', ..] => Err(slip),
+            word => Ok(word),
+        }
     }
 
     /// That nothing is left.

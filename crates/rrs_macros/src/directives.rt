@@ -6,7 +6,7 @@ ghost use Rattle.std.specs.Str.{str_eq_ignore_ascii_case};
 ghost use Rattle.rrs_macros.specs.Directives.{is_directive};
 
 /// What a condition asks of two values, or of one and zero.
-#[derive(Clone, Copy, PartialEq)]
+#[derive(Clone, Copy)]
 pub enum Comparison {
     Equal,
     NotEqual,

@@ -12,7 +12,7 @@ use crate::following::is_expansion;
 use crate::frames::{Frame, Origin};
 use crate::keeping::keeps_above;
 use crate::output::{Expanded, unchanged};
-use crate::performing::{Span, Turn, read_step};
+use crate::performing::{Span, Step, Turn, read_step};
 use crate::scanning::begins_directive;
 use crate::tables::Tables;
 use crate::words::has_directives;
@@ -43,22 +43,16 @@ struct Expansion<A: Allocator> {
 impl<A: Allocator + Copy> Expansion<A> {
     /// Nothing of a source is read.
     fn new(alloc: A, source: &[u8]) -> Result<Self, AllocError> {
+        let text = Vec::from_slice(alloc, source)?;
+        let mut frame = Frame::new(alloc, text, 1, height(source), 0);
+        frame.reader.is_source = true;
         let mut frames = Vec::new(alloc);
-        frames.push(Frame::of_source(alloc, source)?)?;
+        frames.push(frame)?;
         Ok(Expansion {
             frames,
             mistakes: Vec::new(alloc),
             is_over: false,
         })
-    }
-
-    /// What is read next, and is no more among what is being read.
-    fn next(&mut self) -> Option<Frame<A>> {
-        if self.is_over {
-            None
-        } else {
-            self.frames.pop()
-        }
     }
 
     /// Tells a mistake.
@@ -73,8 +67,7 @@ impl<A: Allocator + Copy> Expansion<A> {
     /// Goes on where a text is read to its end.
     fn finish(&mut self, frame: Frame<A>) -> Result<(), AllocError> {
         let mut frame = frame;
-        if let Some(condition) = frame.reader.conditions.pop() {
-            frame.reader.conditions.clear();
+        if let Some(condition) = frame.reader.conditions.last() {
             self.tell(condition.place)?;
         }
         if frame.reader.begin_again() {
@@ -99,50 +92,21 @@ impl<A: Allocator + Copy> Expansion<A> {
         }
         match turn {
             Turn::Leave => Ok(()),
+            Turn::Over => self.finish(frame),
             Turn::Stay => Ok(self.frames.push(frame)?),
-            Turn::Enter(inner) => {
-                self.frames.push(frame)?;
-                let kind = MacroErrorKind::Deep;
-                self.enter(inner, origin.mistake(left, Slip { kind, left }))
-            }
-        }
-    }
-
-    /// Reads another text next, where there are not too many.
-    fn enter(&mut self, inner: Frame<A>, deep: MacroError) -> Result<(), AllocError> {
-        if self.frames.len() >= MOST_DEPTH {
-            return self.tell(deep);
-        }
-        Ok(self.frames.push(inner)?)
-    }
-
-    /// Goes on behind what is not performed.
-    fn stumble(&mut self, frame: Frame<A>, halt: Halt, origin: Origin) -> Result<(), AllocError> {
-        match halt {
-            Halt::OutOfMemory => Err(AllocError),
-            Halt::Slip(slip) => {
-                self.tell(origin.mistake(frame.text.len(), slip))?;
+            Turn::Stumble(slip) => {
+                self.tell(origin.mistake(left, slip))?;
                 Ok(self.frames.push(frame)?)
             }
+            Turn::Enter(inner) => {
+                self.frames.push(frame)?;
+                if self.frames.len() < MOST_DEPTH {
+                    return Ok(self.frames.push(inner)?);
+                }
+                let kind = MacroErrorKind::Deep;
+                self.tell(origin.mistake(left, Slip { kind, left }))
+            }
         }
-    }
-
-    /// The mistakes, where there are any or something is left to be read.
-    fn mistakes(self) -> Result<Vec<MacroError, A>, AllocError> {
-        let Expansion {
-            frames,
-            mistakes,
-            ..
-        } = self;
-        let mut mistakes = mistakes;
-        if mistakes.is_empty() && !frames.is_empty() {
-            mistakes.push(MacroError {
-                line: 1,
-                column: 1,
-                kind: MacroErrorKind::Much,
-            })?;
-        }
-        Ok(mistakes)
     }
 }
 
@@ -208,14 +172,24 @@ fn expanded<A: Allocator + Copy>(alloc: A, source: &[u8]) -> Result<Expanded<A>,
     let mut expansion = Expansion::new(alloc, source)?;
     let mut tables = Tables::new(alloc);
     for _ in 0..MOST_STEPS {
-        let Some(frame) = expansion.next() else {
+        if expansion.is_over {
+            break;
+        }
+        let Some(frame) = expansion.frames.pop() else {
             break;
         };
         advance(&mut tables, &mut expansion, frame, &mut out, total)?;
     }
-    let mistakes = expansion.mistakes()?;
+    let Expansion {
+        frames,
+        mistakes,
+        ..
+    } = expansion;
     if !mistakes.is_empty() {
         return Err(MacroFault::Mistakes(mistakes));
+    }
+    if !frames.is_empty() {
+        return Err(fault(alloc, MacroErrorKind::Much)?);
     }
     match completed(out, total) {
         Ok(whole) => settled(alloc, source, whole),
@@ -235,15 +209,16 @@ fn advance<A: Allocator + Copy>(
 {
     let mut frame = frame;
     let origin = frame.reader.origin();
-    match read_step(tables, &frame.text, &mut frame.reader) {
-        Ok(Some(step)) => {
-            put_span(out, &frame.text, step.line, total)?;
-            expansion.turn(frame, step.turn, origin, out.text.len())?;
-        }
-        Ok(None) => expansion.finish(frame)?,
-        Err(halt) => expansion.stumble(frame, halt, origin)?,
-    }
-    Ok(())
+    let step = match read_step(tables, &frame.text, &mut frame.reader) {
+        Ok(step) => step,
+        Err(Halt::Slip(slip)) => Step {
+            line: None,
+            turn: Turn::Stumble(slip),
+        },
+        Err(Halt::OutOfMemory) => return Err(AllocError),
+    };
+    put_span(out, &frame.text, step.line, total)?;
+    expansion.turn(frame, step.turn, origin, out.text.len())
 }
 
 /// A result, if it is one of this source.
@@ -259,23 +234,24 @@ fn settled<A: Allocator + Copy>(
     ensures becomes { IfOk result (λ expanded. IsExpansion source.now expanded.text.items) }
 {
     if begins_directive(&whole.text) || !keeps_above(source, &whole) {
-        return Err(left_over(alloc)?);
+        return Err(fault(alloc, MacroErrorKind::LeftOver)?);
     }
     if is_expansion(alloc, source, &whole.text)? {
         Ok(whole)
     } else {
-        Err(left_over(alloc)?)
+        Err(fault(alloc, MacroErrorKind::LeftOver)?)
     }
 }
 
-/// That a directive is left in a result, or that it is another than the source becomes. No source is
-/// known of which that is so.
-fn left_over<A: Allocator + Copy>(alloc: A) -> Result<MacroFault<A>, AllocError> {
+/// A mistake that has no place of its own. `MacroErrorKind::LeftOver` says that a directive is left
+/// in a result, or that it is another than the source becomes. No source is known of which that is
+/// so.
+fn fault<A: Allocator + Copy>(alloc: A, kind: MacroErrorKind) -> Result<MacroFault<A>, AllocError> {
     let mut mistakes = Vec::new(alloc);
     mistakes.push(MacroError {
         line: 1,
         column: 1,
-        kind: MacroErrorKind::LeftOver,
+        kind,
     })?;
     Ok(MacroFault::Mistakes(mistakes))
 }

@@ -1,8 +1,7 @@
 //! What is being read: the source, and the macros and repetitions in it.
 
-use crate::blocks::height;
 use crate::errors::{MacroError, Slip};
-use std::alloc::{AllocError, Allocator};
+use std::alloc::Allocator;
 
 /// A condition whose `.endif` is not met yet.
 #[derive(Clone, Copy)]
@@ -18,27 +17,17 @@ pub struct Condition {
 }
 
 impl Condition {
-    /// A condition that holds or does not.
-    pub fn new(place: MacroError, holds: bool) -> Self {
-        Condition {
-            place,
-            is_read: holds,
-            is_done: holds,
-            is_behind_else: false,
-        }
-    }
-
-    /// A condition nothing of which is read.
-    pub fn skipped(place: MacroError) -> Self {
+    /// A condition of which nothing is read so far, or of which nothing is to be read any more.
+    pub fn new(place: MacroError, is_done: bool) -> Self {
         Condition {
             place,
             is_read: false,
-            is_done: true,
+            is_done,
             is_behind_else: false,
         }
     }
 
-    /// The condition behind `.else`, or behind `.elseif` with one that holds or does not.
+    /// The condition behind `.else`, or behind `.if` or `.elseif` with one that holds or does not.
     pub fn or(self, holds: bool, is_behind_else: bool) -> Self {
         Condition {
             is_read: holds && !self.is_done,
@@ -71,11 +60,6 @@ pub struct Reader<A: Allocator> {
 }
 
 impl<A: Allocator + Copy> Reader<A> {
-    /// The line of the source that is read.
-    pub fn number(&self) -> usize {
-        self.first.saturating_add(self.passed)
-    }
-
     /// What is left of its text.
     pub fn rest<'a>(&self, text: &'a [u8]) -> Option<&'a [u8]> {
         text.get(self.next?..)
@@ -107,11 +91,6 @@ impl<A: Allocator + Copy> Reader<A> {
         }
     }
 
-    /// Reads nothing more, in this copy.
-    pub fn stop(&mut self) {
-        self.next = None;
-    }
-
     /// Begins again, if it is to be read once more.
     pub fn begin_again(&mut self) -> bool {
         match self.copies.checked_sub(1) {
@@ -120,16 +99,17 @@ impl<A: Allocator + Copy> Reader<A> {
                 self.next = Some(0);
                 self.line_start = 0;
                 self.passed = 0;
+                self.conditions.clear();
                 true
             }
             None => false,
         }
     }
 
-    /// Where the line begins that is read.
+    /// The line that is read.
     pub fn origin(&self) -> Origin {
         Origin {
-            number: self.number(),
+            number: self.first.saturating_add(self.passed),
             line_start: self.line_start,
         }
     }
@@ -178,13 +158,5 @@ impl<A: Allocator + Copy> Frame<A> {
             conditions: Vec::new(alloc),
         };
         Frame { text, reader }
-    }
-
-    /// The source.
-    pub fn of_source(alloc: A, source: &[u8]) -> Result<Self, AllocError> {
-        let text = Vec::from_slice(alloc, source)?;
-        let mut frame = Frame::new(alloc, text, 1, height(source), 0);
-        frame.reader.is_source = true;
-        Ok(frame)
     }
 }

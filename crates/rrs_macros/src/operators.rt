@@ -1,12 +1,16 @@
 //! Operators of values, with the ranks that they have in GNU `as`, and what they make of numbers of
 //! 64 bits.
 
+use crate::cursor::Cursor;
 use crate::directives::Comparison;
-use crate::errors::MacroErrorKind;
 
-/// An operator between two values.
+/// An operator before a value or between two values, or an opening parenthesis.
 #[derive(Clone, Copy)]
-pub enum Infix {
+pub enum Operator {
+    Open,
+    Negate,
+    Complement,
+    IsZero,
     Multiply,
     Divide,
     Remainder,
@@ -23,58 +27,89 @@ pub enum Infix {
     Either,
 }
 
-/// An operator before a value.
-#[derive(Clone, Copy)]
-pub enum Prefix {
-    Negate,
-    Complement,
-    IsZero,
+/// What stands before a value, and is no `+`.
+pub const PREFIXES: [(&[u8], Operator); 4] = [
+    (b"(", Operator::Open),
+    (b"-", Operator::Negate),
+    (b"~", Operator::Complement),
+    (b"!", Operator::IsZero),
+];
+
+/// The operators between two values. One with which another begins stands behind that.
+pub const INFIXES: [(&[u8], Operator); 20] = [
+    (b"<<", Operator::ShiftLeft),
+    (b">>", Operator::ShiftRight),
+    (b"<=", Operator::Compared(Comparison::LessOrEqual)),
+    (b">=", Operator::Compared(Comparison::GreaterOrEqual)),
+    (b"<>", Operator::Compared(Comparison::NotEqual)),
+    (b"!=", Operator::Compared(Comparison::NotEqual)),
+    (b"==", Operator::Compared(Comparison::Equal)),
+    (b"&&", Operator::Both),
+    (b"||", Operator::Either),
+    (b"*", Operator::Multiply),
+    (b"/", Operator::Divide),
+    (b"%", Operator::Remainder),
+    (b"|", Operator::Or),
+    (b"!", Operator::OrNot),
+    (b"^", Operator::Xor),
+    (b"&", Operator::And),
+    (b"+", Operator::Add),
+    (b"-", Operator::Subtract),
+    (b"<", Operator::Compared(Comparison::Less)),
+    (b">", Operator::Compared(Comparison::Greater)),
+];
+
+/// Takes an operator of a table, if one is next.
+pub fn take_operator(cursor: &mut Cursor, table: &[(&[u8], Operator)]) -> Option<Operator> {
+    for (name, operator) in table {
+        if cursor.take_if(name) {
+            return Some(*operator);
+        }
+    }
+    None
 }
 
-impl Infix {
-    /// How strongly it binds.
+impl Operator {
+    /// How strongly it binds. An opening parenthesis binds nothing.
     pub fn rank(self) -> u8 {
         match self {
-            Infix::Either => 1,
-            Infix::Both => 2,
-            Infix::Compared(_) => 3,
-            Infix::Add | Infix::Subtract => 4,
-            Infix::Or | Infix::OrNot | Infix::Xor | Infix::And => 5,
+            Operator::Open => 0,
+            Operator::Either => 1,
+            Operator::Both => 2,
+            Operator::Compared(_) => 3,
+            Operator::Add | Operator::Subtract => 4,
+            Operator::Or | Operator::OrNot | Operator::Xor | Operator::And => 5,
+            Operator::Negate | Operator::Complement | Operator::IsZero => 7,
             _ => 6,
         }
     }
 
-    /// What it makes of two numbers.
-    pub fn apply(self, left: u64, right: u64) -> Result<u64, MacroErrorKind> {
-        Ok(match self {
-            Infix::Multiply => left.wrapping_mul(right),
-            Infix::Divide => quotient(left, right)?,
-            Infix::Remainder => remainder(left, right)?,
-            Infix::ShiftLeft if right < 64 => left << right,
-            Infix::ShiftRight if right < 64 => left >> right,
-            Infix::ShiftLeft | Infix::ShiftRight => 0,
-            Infix::Or => left | right,
-            Infix::OrNot => left | !right,
-            Infix::Xor => left ^ right,
-            Infix::And => left & right,
-            Infix::Add => left.wrapping_add(right),
-            Infix::Subtract => left.wrapping_sub(right),
-            Infix::Compared(comparison) if comparison.holds(left, right) => u64::MAX,
-            Infix::Compared(_) => 0,
-            Infix::Both => u64::from(left != 0 && right != 0),
-            Infix::Either => u64::from(left != 0 || right != 0),
+    /// What it makes of two numbers, or of the one behind it. None where it divides by zero, or the
+    /// quotient has more than 64 bits.
+    pub fn apply(self, left: u64, right: u64) -> Option<u64> {
+        let signed = (left.cast_signed(), right.cast_signed());
+        Some(match self {
+            Operator::Open => right,
+            Operator::Negate => 0u64.wrapping_sub(right),
+            Operator::Complement => !right,
+            Operator::IsZero => u64::from(right == 0),
+            Operator::Multiply => left.wrapping_mul(right),
+            Operator::Divide => signed.0.checked_div(signed.1)?.cast_unsigned(),
+            Operator::Remainder => signed.0.checked_rem(signed.1)?.cast_unsigned(),
+            Operator::ShiftLeft if right < 64 => left << right,
+            Operator::ShiftRight if right < 64 => left >> right,
+            Operator::ShiftLeft | Operator::ShiftRight => 0,
+            Operator::Or => left | right,
+            Operator::OrNot => left | !right,
+            Operator::Xor => left ^ right,
+            Operator::And => left & right,
+            Operator::Add => left.wrapping_add(right),
+            Operator::Subtract => left.wrapping_sub(right),
+            Operator::Compared(comparison) if comparison.holds(left, right) => u64::MAX,
+            Operator::Compared(_) => 0,
+            Operator::Both => u64::from(left != 0 && right != 0),
+            Operator::Either => u64::from(left != 0 || right != 0),
         })
-    }
-}
-
-impl Prefix {
-    /// What it makes of a number.
-    pub fn apply(self, value: u64) -> u64 {
-        match self {
-            Prefix::Negate => 0u64.wrapping_sub(value),
-            Prefix::Complement => !value,
-            Prefix::IsZero => u64::from(value == 0),
-        }
     }
 }
 
@@ -92,56 +127,4 @@ impl Comparison {
             Comparison::GreaterOrEqual => left >= right,
         }
     }
-}
-
-/// The quotient of two signed numbers, rounded to zero.
-fn quotient(left: u64, right: u64) -> Result<u64, MacroErrorKind> {
-    match left.cast_signed().checked_div(right.cast_signed()) {
-        Some(value) => Ok(value.cast_unsigned()),
-        None => Err(MacroErrorKind::Division),
-    }
-}
-
-/// The remainder of two signed numbers, with the sign of the first.
-fn remainder(left: u64, right: u64) -> Result<u64, MacroErrorKind> {
-    match left.cast_signed().checked_rem(right.cast_signed()) {
-        Some(value) => Ok(value.cast_unsigned()),
-        None => Err(MacroErrorKind::Division),
-    }
-}
-
-/// The operator between two values that a text begins with, and how many bytes it has.
-pub fn infix_at(text: &[u8]) -> Option<(Infix, usize)> {
-    let infix = match text {
-        [b'<', b'<', ..] => Infix::ShiftLeft,
-        [b'>', b'>', ..] => Infix::ShiftRight,
-        [b'<', b'=', ..] => Infix::Compared(Comparison::LessOrEqual),
-        [b'>', b'=', ..] => Infix::Compared(Comparison::GreaterOrEqual),
-        [b'<', b'>', ..] | [b'!', b'=', ..] => Infix::Compared(Comparison::NotEqual),
-        [b'=', b'=', ..] => Infix::Compared(Comparison::Equal),
-        [b'&', b'&', ..] => Infix::Both,
-        [b'|', b'|', ..] => Infix::Either,
-        [byte, ..] => return single(*byte),
-        [] => return None,
-    };
-    Some((infix, 2))
-}
-
-/// The operator between two values that is one byte.
-fn single(byte: u8) -> Option<(Infix, usize)> {
-    let infix = match byte {
-        b'*' => Infix::Multiply,
-        b'/' => Infix::Divide,
-        b'%' => Infix::Remainder,
-        b'|' => Infix::Or,
-        b'!' => Infix::OrNot,
-        b'^' => Infix::Xor,
-        b'&' => Infix::And,
-        b'+' => Infix::Add,
-        b'-' => Infix::Subtract,
-        b'<' => Infix::Compared(Comparison::Less),
-        b'>' => Infix::Compared(Comparison::Greater),
-        _ => return None,
-    };
-    Some((infix, 1))
 }

@@ -6,10 +6,8 @@ use crate::cursor::Cursor;
 use crate::directives::{Directive, directive_named};
 use crate::errors::{Halt, MacroError, MacroErrorKind, Slip};
 use crate::frames::{Condition, Frame, Origin, Reader};
-use crate::repetitions::{each_character, each_value};
-use crate::scanning::{
-    Statement, behind_blanks, behind_labels, directive_of, first_line, first_statement, split_word,
-};
+use crate::repetitions::each;
+use crate::scanning::{behind_blanks, behind_labels, first_line, first_statement, split_word};
 use crate::substitution::without_comments;
 use crate::tables::{Lines, Tables};
 use crate::values::value;
@@ -33,6 +31,10 @@ pub enum Turn<A: Allocator> {
     Enter(Frame<A>),
     /// What stands behind the call or the repetition that is read.
     Leave,
+    /// The same text once more or what stands behind it, since nothing is left of it.
+    Over,
+    /// What stands behind, with a mistake to be told.
+    Stumble(Slip),
 }
 
 /// What comes of a statement or a line.
@@ -56,64 +58,63 @@ struct Site<'a> {
     behind: usize,
 }
 
-/// Reads a line or a statement of a text, if something is left of it.
+/// Reads a line or a statement of a text, where something is left of it.
 pub fn read_step<A: Allocator + Copy>(
     tables: &mut Tables<A>,
     text: &[u8],
     reader: &mut Reader<A>,
-) -> Result<Option<Step<A>>, Halt> {
-    match reader.rest(text) {
-        Some(rest) => Ok(Some(read_rest(tables, text, rest, reader)?)),
-        None => Ok(None),
-    }
-}
-
-/// Reads a line or a statement of a text of which this is left.
-fn read_rest<A: Allocator + Copy>(
-    tables: &mut Tables<A>,
-    text: &[u8],
-    rest: &[u8],
-    reader: &mut Reader<A>,
 ) -> Result<Step<A>, Halt> {
-    let start = text.len().saturating_sub(rest.len());
-    let number = reader.number();
+    let Some(rest) = reader.rest(text) else {
+        return Ok(Step {
+            line: None,
+            turn: Turn::Over,
+        });
+    };
     if reader.is_at_line() && !reader.is_skipping() {
         let (line, others) = first_line(rest);
         if tables.is_plain(line)? {
             tables.spend(line.len().saturating_add(1), rest.len())?;
             tables.note_line(line)?;
+            let start = text.len().saturating_sub(rest.len());
+            let span = Span {
+                start,
+                end: start.saturating_add(line.len()),
+                number: reader.origin().number,
+            };
             reader.go_on(text, others, 1);
-            let end = start.saturating_add(line.len());
-            return Ok(stay(Some(Span { start, end, number })));
+            return Ok(Step {
+                line: Some(span),
+                turn: Turn::Stay,
+            });
         }
     }
+    read_statement(tables, text, rest, reader)
+}
+
+/// Reads a statement of a text of which this is left.
+fn read_statement<A: Allocator + Copy>(
+    tables: &mut Tables<A>,
+    text: &[u8],
+    rest: &[u8],
+    reader: &mut Reader<A>,
+) -> Result<Step<A>, Halt> {
     let statement = first_statement(rest);
-    let read = rest
-        .len()
-        .saturating_sub(statement.others.unwrap_or(&[]).len());
-    tables.spend(read, rest.len())?;
+    let others = statement.others.unwrap_or(&[]).len();
+    tables.spend(rest.len().saturating_sub(others), rest.len())?;
     let origin = reader.origin();
     reader.go_on(text, statement.others, usize::from(statement.ends_line));
-    let behind = rest.len().saturating_sub(statement.code.len());
     let site = Site {
         text,
         others: statement.others,
-        next_number: reader.number(),
+        next_number: reader.origin().number,
         origin,
-        behind,
+        behind: rest.len().saturating_sub(statement.code.len()),
     };
     if reader.is_skipping() {
         skip(tables, site, statement.code, reader)
     } else {
-        perform(tables, site, statement, start, reader)
-    }
-}
-
-/// That what stands behind is read next.
-fn stay<A: Allocator + Copy>(line: Option<Span>) -> Step<A> {
-    Step {
-        line,
-        turn: Turn::Stay,
+        let start = text.len().saturating_sub(rest.len());
+        perform(tables, site, statement.code, start, reader)
     }
 }
 
@@ -128,23 +129,24 @@ fn skip<A: Allocator + Copy>(
     let cursor = &mut Cursor::new(operands, site.behind);
     match directive_named(word) {
         Some(Directive::If(_)) => {
-            let place = place(site, code);
-            reader.conditions.push(Condition::skipped(place))?;
+            let start = Cursor::new(code, site.behind).slip(MacroErrorKind::UnendedCondition);
+            let place = place(site, start);
+            reader.conditions.push(Condition::new(place, true))?;
         }
         Some(directive @ (Directive::ElseIf | Directive::Else | Directive::EndIf)) => {
             conclude(tables, directive, cursor, reader)?;
         }
         _ => (),
     }
-    Ok(stay(None))
+    Ok(Step {
+        line: None,
+        turn: Turn::Stay,
+    })
 }
 
-/// Where a statement begins.
-fn place(site: Site, code: &[u8]) -> MacroError {
-    let slip = Slip {
-        kind: MacroErrorKind::UnendedCondition,
-        left: behind_blanks(code).len().saturating_add(site.behind),
-    };
+/// Where a condition stands that begins at a place.
+fn place(site: Site, start: Slip) -> MacroError {
+    let slip = start.with_kind(MacroErrorKind::UnendedCondition);
     site.origin.mistake(site.text.len(), slip)
 }
 
@@ -153,41 +155,27 @@ fn place(site: Site, code: &[u8]) -> MacroError {
 fn perform<A: Allocator + Copy>(
     tables: &mut Tables<A>,
     site: Site,
-    statement: Statement,
+    code: &[u8],
     start: usize,
     reader: &mut Reader<A>,
 ) -> Result<Step<A>, Halt> {
-    let code = statement.code;
     let behind = behind_labels(code);
-    let labels = code
-        .get(..code.len().saturating_sub(behind.len()))
-        .unwrap_or(code);
-    let number = site.origin.number;
-    let Some((directive, operands)) = directive_of(code) else {
-        return call_or_put(tables, site, code, labels, start);
+    let (word, operands) = split_word(behind);
+    let directive = directive_named(word);
+    let is_call = directive.is_none() && tables.is_macro(word)?;
+    let put = if directive.is_some() || is_call {
+        let labels = code.len().saturating_sub(behind.len());
+        code.get(..labels).unwrap_or(code)
+    } else {
+        code
     };
-    tables.symbols.note(labels)?;
-    let turn = direct(tables, directive, site, behind, operands, reader)?;
-    let line = span_of(labels, start, number);
-    Ok(Step { line, turn })
-}
-
-/// Performs a statement that is no directive of macros, with these labels.
-fn call_or_put<A: Allocator + Copy>(
-    tables: &mut Tables<A>,
-    site: Site,
-    code: &[u8],
-    labels: &[u8],
-    start: usize,
-) -> Result<Step<A>, Halt> {
-    let number = site.origin.number;
-    let Some((name, operands)) = tables.call_in(code)? else {
-        tables.symbols.note(code)?;
-        return Ok(stay(span_of(code, start, number)));
+    tables.symbols.note(put)?;
+    let turn = match directive {
+        Some(directive) => direct(tables, directive, site, behind, operands, reader)?,
+        None if is_call => call(tables, word, site, operands)?,
+        None => Turn::Stay,
     };
-    tables.symbols.note(labels)?;
-    let turn = call(tables, &name, site, operands)?;
-    let line = span_of(labels, start, number);
+    let line = span_of(put, start, site.origin.number);
     Ok(Step { line, turn })
 }
 
@@ -203,25 +191,21 @@ fn span_of(put: &[u8], start: usize, number: usize) -> Option<Span> {
 /// Calls a macro.
 fn call<A: Allocator + Copy>(
     tables: &mut Tables<A>,
-    name: &[u8],
+    word: &[u8],
     site: Site,
     operands: &[u8],
 ) -> Result<Turn<A>, Halt> {
     let cursor = &mut Cursor::new(operands, site.behind);
-    let left = operands.len().saturating_add(site.behind);
-    match tables.called(name, cursor)? {
-        Some(lines) => {
-            tables.spend(lines.text.len(), left)?;
-            Ok(enter(tables, lines, 0))
+    let lines = tables.called(word, cursor)?;
+    tables.calls = tables.calls.saturating_add(1);
+    match lines {
+        Some(frame) => {
+            let left = operands.len().saturating_add(site.behind);
+            tables.spend(frame.text.len(), left)?;
+            Ok(Turn::Enter(frame))
         }
         None => Ok(Turn::Stay),
     }
-}
-
-/// Reads lines next, once and so often again.
-fn enter<A: Allocator + Copy>(tables: &Tables<A>, lines: Lines<A>, copies: u64) -> Turn<A> {
-    let frame = Frame::new(tables.alloc, lines.text, lines.first, lines.height, copies);
-    Turn::Enter(frame)
 }
 
 /// Performs a directive.
@@ -233,60 +217,60 @@ fn direct<A: Allocator + Copy>(
     operands: &[u8],
     reader: &mut Reader<A>,
 ) -> Result<Turn<A>, Halt> {
+    let start = Cursor::new(code, site.behind).slip(MacroErrorKind::EndAlone);
     let cursor = &mut Cursor::new(operands, site.behind);
-    let left = behind_blanks(code).len().saturating_add(site.behind);
     match directive {
-        Directive::EndMacro | Directive::EndRepeat => Err(slip(MacroErrorKind::EndAlone, left)),
-        Directive::ExitMacro if reader.is_source => Err(slip(MacroErrorKind::NothingToLeave, left)),
-        Directive::ExitMacro => Ok(Turn::Leave),
-        Directive::Purge => {
-            tables.purge(cursor)?;
-            Ok(Turn::Stay)
-        }
-        Directive::If(test) => {
-            begin(tables, test, cursor, place(site, code), reader)?;
-            Ok(Turn::Stay)
-        }
-        Directive::ElseIf | Directive::Else | Directive::EndIf => {
-            conclude(tables, directive, cursor, reader)?;
-            Ok(Turn::Stay)
-        }
-        Directive::Macro => {
-            let block = block(tables, BlockKind::Macro, site, left, reader)?;
-            define(tables, site, block, cursor)?;
-            Ok(Turn::Stay)
-        }
         Directive::Repeat | Directive::RepeatEach | Directive::RepeatCharacters => {
-            let block = block(tables, BlockKind::Repetition, site, left, reader)?;
+            let block = block(tables, BlockKind::Repetition, site, start, reader)?;
             repeat(tables, directive, site, block, cursor)
+        }
+        Directive::ExitMacro if !reader.is_source => Ok(Turn::Leave),
+        _ => {
+            note(tables, directive, site, start, cursor, reader)?;
+            Ok(Turn::Stay)
         }
     }
 }
 
-/// A mistake with so many bytes left.
-fn slip(kind: MacroErrorKind, left: usize) -> Halt {
-    Halt::Slip(Slip { kind, left })
+/// Performs a directive that begins at a place and behind which is read next.
+fn note<A: Allocator + Copy>(
+    tables: &mut Tables<A>,
+    directive: Directive,
+    site: Site,
+    start: Slip,
+    cursor: &mut Cursor,
+    reader: &mut Reader<A>,
+) -> Result<(), Halt> {
+    match directive {
+        Directive::Purge => tables.purge(cursor),
+        Directive::If(test) => begin(tables, test, cursor, place(site, start), reader),
+        Directive::ElseIf | Directive::Else | Directive::EndIf => {
+            conclude(tables, directive, cursor, reader)
+        }
+        Directive::Macro => {
+            let block = block(tables, BlockKind::Macro, site, start, reader)?;
+            define(tables, site, block, cursor)
+        }
+        Directive::ExitMacro => Err(Halt::Slip(start.with_kind(MacroErrorKind::NothingToLeave))),
+        _ => Err(Halt::Slip(start)),
+    }
 }
 
-/// The block behind a statement with so many bytes left, which is not read again.
+/// The block behind a statement at a place, which is not read again.
 fn block<'a, A: Allocator + Copy>(
     tables: &mut Tables<A>,
     kind: BlockKind,
     site: Site<'a>,
-    left: usize,
+    slip: Slip,
     reader: &mut Reader<A>,
 ) -> Result<Block<'a>, Halt> {
-    let found = match site.others {
-        Some(others) => first_block(others, kind),
-        None => None,
+    let others = site.others.unwrap_or(&[]);
+    let Some(block) = first_block(others, kind) else {
+        reader.go_on(site.text, None, 0);
+        return Err(Halt::Slip(slip.with_kind(MacroErrorKind::Unended)));
     };
-    let Some(block) = found else {
-        reader.stop();
-        return Err(slip(MacroErrorKind::Unended, left));
-    };
-    let others = block.others.unwrap_or(&[]).len();
-    let read = site.others.unwrap_or(&[]).len().saturating_sub(others);
-    tables.spend(read, left)?;
+    let left = block.others.unwrap_or(&[]).len();
+    tables.spend(others.len().saturating_sub(left), slip.left)?;
     reader.go_on(site.text, block.others, block.lines);
     Ok(block)
 }
@@ -318,7 +302,6 @@ fn repeat<A: Allocator + Copy>(
     cursor: &mut Cursor,
 ) -> Result<Turn<A>, Halt> {
     let start = *cursor;
-    let first = site.next_number;
     let count = match directive {
         Directive::Repeat => count(tables, cursor)?,
         _ => 1,
@@ -326,24 +309,19 @@ fn repeat<A: Allocator + Copy>(
     let (Some(inside), Some(copies)) = (block.inside, count.checked_sub(1)) else {
         return Ok(Turn::Stay);
     };
-    let height = height(inside);
     let text = match directive {
         Directive::Repeat => Vec::from_slice(tables.alloc, inside)?,
-        Directive::RepeatEach => each_value(tables, inside, cursor)?,
-        _ => each_character(tables, inside, cursor)?,
+        Directive::RepeatEach => each(tables, inside, cursor, false)?,
+        _ => each(tables, inside, cursor, true)?,
     };
     let slip = start.slip(MacroErrorKind::Much);
-    if tables.has_left(text.len(), copies) {
-        tables.spend(text.len(), slip.left)?;
-    } else {
+    if !tables.has_left(text.len(), copies) {
         return Err(Halt::Slip(slip));
     }
-    let lines = Lines {
-        text,
-        first,
-        height,
-    };
-    Ok(enter(tables, lines, copies))
+    tables.spend(text.len(), slip.left)?;
+    let first = site.next_number;
+    let frame = Frame::new(tables.alloc, text, first, height(inside), copies);
+    Ok(Turn::Enter(frame))
 }
 
 /// Takes how often a repetition is made.

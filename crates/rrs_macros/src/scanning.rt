@@ -7,10 +7,10 @@ ghost use Rattle.rrs_macros.specs.Directives.{begins_one, behind_blanks, is_blan
 ghost use Rattle.rrs_macros.specs.Expansion.{behind_word};
 ghost use Rattle.rrs_macros.specs.Lines.{is_line_feed, lines};
 
-use crate::directives::{Directive, directive_named, is_directive};
+use crate::directives::is_directive;
 
 /// Where a byte of a line stands.
-#[derive(Clone, Copy, PartialEq)]
+#[derive(Clone, Copy)]
 enum Place {
     /// In no string, no character constant and no comment.
     Plain,
@@ -49,11 +49,6 @@ impl Place {
             Place::Comment => Place::Comment,
         }
     }
-
-    /// Whether a semicolon here ends the statement.
-    fn ends_at_semicolon(self) -> bool {
-        matches!(self, Place::Plain | Place::CharacterEnd)
-    }
 }
 
 /// Where the byte behind one that stands in nothing stands. A comment begins before its first byte.
@@ -85,7 +80,8 @@ pub fn first_statement(text: &[u8]) -> Statement<'_> {
     for (index, byte) in text.iter().enumerate() {
         let behind = &text[index + 1..];
         let is_line_feed = *byte == b'\n';
-        if is_line_feed || *byte == b';' && place.ends_at_semicolon() {
+        let can_end = matches!(place, Place::Plain | Place::CharacterEnd);
+        if is_line_feed || *byte == b';' && can_end {
             return Statement {
                 code: text.get(..end.unwrap_or(index)).unwrap_or(text),
                 others: Some(behind),
@@ -93,7 +89,7 @@ pub fn first_statement(text: &[u8]) -> Statement<'_> {
             };
         }
         place = place.behind(*byte, behind.first().copied());
-        if place == Place::Comment && end.is_none() {
+        if matches!(place, Place::Comment) && end.is_none() {
             end = Some(index);
         }
     }
@@ -194,13 +190,4 @@ pub fn behind_labels(code: &[u8]) -> &[u8] {
         }
     }
     rest
-}
-
-/// The directive that a statement is, behind its labels, and its operands.
-pub fn directive_of(code: &[u8]) -> Option<(Directive, &[u8])> {
-    let (word, operands) = split_word(behind_labels(code));
-    match directive_named(word) {
-        Some(directive) => Some((directive, operands)),
-        None => None,
-    }
 }

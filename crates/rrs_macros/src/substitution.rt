@@ -14,20 +14,12 @@ pub fn substitute<A: Allocator + Copy>(
     call: u64,
     out: &mut Vec<u8, A>,
 ) -> Result<(), AllocError> {
+    let number = format!(in alloc; "{call}")?;
     let mut rest = body;
     for _ in 0..body.len() {
         rest = match rest {
             [] => break,
-            [b'\\', b'(', others @ ..] => literally(others, out)?,
-            [b'\\', b'@', others @ ..] => {
-                out.extend_from_slice(format!(in alloc; "{call}")?.as_bytes())?;
-                others
-            }
-            [b'\\', b'&', others @ ..] => {
-                out.extend_from_slice(b"\\&")?;
-                others
-            }
-            [b'\\', others @ ..] => named(others, parameters, values, out)?,
+            [b'\\', others @ ..] => escaped(others, parameters, values, number.as_bytes(), out)?,
             [byte, others @ ..] => {
                 out.push(*byte)?;
                 others
@@ -35,6 +27,24 @@ pub fn substitute<A: Allocator + Copy>(
         };
     }
     Ok(())
+}
+
+/// Appends what a backslash and the text behind it stand for, and returns what is behind that.
+fn escaped<'a, A: Allocator + Copy>(
+    text: &'a [u8],
+    parameters: &[Parameter<A>],
+    values: &[Vec<u8, A>],
+    number: &[u8],
+    out: &mut Vec<u8, A>,
+) -> Result<&'a [u8], AllocError> {
+    match text {
+        [b'(', others @ ..] => literally(others, out),
+        [b'@', others @ ..] => {
+            out.extend_from_slice(number)?;
+            Ok(others)
+        }
+        _ => named(text, parameters, values, out),
+    }
 }
 
 /// Appends what stands before a closing parenthesis, and returns what is behind it.
@@ -63,8 +73,7 @@ fn named<'a, A: Allocator + Copy>(
         [b'a'..=b'z' | b'A'..=b'Z' | b'_' | b'.' | b'$', ..] => split_word(text),
         _ => (&text[..0], text),
     };
-    let index = index_of(parameters, name);
-    match values.get(index.unwrap_or(values.len())) {
+    match value_of(parameters, values, name) {
         Some(value) => out.extend_from_slice(value)?,
         None => {
             out.push(b'\\')?;
@@ -72,6 +81,19 @@ fn named<'a, A: Allocator + Copy>(
         }
     }
     Ok(others)
+}
+
+/// The value of the parameter with a name, which is its default where it is empty.
+fn value_of<'a, A: Allocator + Copy>(
+    parameters: &'a [Parameter<A>],
+    values: &'a [Vec<u8, A>],
+    name: &[u8],
+) -> Option<&'a [u8]> {
+    let index = index_of(parameters, name)?;
+    match values.get(index)?.as_slice() {
+        [] => Some(&parameters.get(index)?.default),
+        value => Some(value),
+    }
 }
 
 /// A text without its comments.

@@ -1,10 +1,16 @@
 //! The symbols that a source has defined so far.
 
 use crate::cursor::Cursor;
-use crate::scanning::{behind_blanks, first_label, split_word};
+use crate::scanning::{first_label, split_word};
 use crate::values::value;
 use std::alloc::{AllocError, Allocator};
 use std::collections::BTreeMap;
+
+/// The directives that define a constant.
+const CONSTANTS: [&[u8]; 3] = [b".equ", b".set", b".equiv"];
+
+/// The directives that define a symbol of bytes that are zero.
+const SPACES: [&[u8]; 2] = [b".comm", b".lcomm"];
 
 /// The symbols that are defined so far.
 #[derive(Drop)]
@@ -60,31 +66,27 @@ impl<A: Allocator + Copy> Symbols<A> {
     /// Defines the constant that a statement with no labels defines, if it does.
     fn note_constant(&mut self, statement: &[u8]) -> Result<(), AllocError> {
         let (word, rest) = split_word(statement);
-        match word {
-            b".equ" | b".set" | b".equiv" => {
-                let (name, rest) = split_word(rest);
-                match behind_blanks(rest) {
-                    [b',', text @ ..] => self.define_by(name, text),
-                    _ => Ok(()),
-                }
-            }
-            b".comm" | b".lcomm" => {
-                let (name, _) = split_word(rest);
-                self.define(name, None)
-            }
-            _ => match behind_blanks(rest) {
-                [b'=', b'=', text @ ..] | [b'=', text @ ..] => self.define_by(word, text),
-                _ => Ok(()),
-            },
+        let (operand, others) = split_word(rest);
+        if SPACES.contains(&word) {
+            return self.define(operand, None);
+        }
+        if CONSTANTS.contains(&word) {
+            let mut cursor = Cursor::new(others, 0);
+            let is_given = cursor.take_if(b",");
+            self.define_by(operand, is_given, cursor)
+        } else {
+            let mut cursor = Cursor::new(rest, 0);
+            let is_given = cursor.take_if(b"==") || cursor.take_if(b"=");
+            self.define_by(word, is_given, cursor)
         }
     }
 
-    /// Defines a constant, where it has a name, by the text of its value.
-    fn define_by(&mut self, name: &[u8], text: &[u8]) -> Result<(), AllocError> {
-        if name.is_empty() {
+    /// Defines a constant, where it has a name and a value is given, by that value.
+    fn define_by(&mut self, name: &[u8], is_given: bool, cursor: Cursor) -> Result<(), AllocError> {
+        if name.is_empty() || !is_given {
             return Ok(());
         }
-        let mut cursor = Cursor::new(text, 0);
+        let mut cursor = cursor;
         let value = match value(&mut cursor, self) {
             Ok(value) if cursor.is_over() => Some(value),
             _ => None,

@@ -2,8 +2,10 @@
 
 use crate::arguments::{Parameter, arguments, take_parameters};
 use crate::cursor::Cursor;
+use crate::directives::directive_named;
 use crate::errors::{Halt, MacroErrorKind, Slip};
-use crate::scanning::{behind_labels, directive_of, first_statement, split_word};
+use crate::frames::Frame;
+use crate::scanning::{behind_labels, first_statement, split_word};
 use crate::substitution::substitute;
 use crate::symbols::Symbols;
 use std::alloc::{AllocError, Allocator};
@@ -12,7 +14,7 @@ use std::collections::BTreeMap;
 /// The most bytes of lines that are read, each as often as it is read.
 const MOST_READ: usize = 0x1000_0000;
 
-/// The lines of a macro or a repetition.
+/// The lines of a macro.
 #[derive(Drop)]
 pub struct Lines<A: Allocator> {
     pub text: Vec<u8, A>,
@@ -74,21 +76,13 @@ impl<A: Allocator + Copy> Tables<A> {
         }
     }
 
-    /// The name of the macro that a statement calls, in small letters, and the arguments.
-    pub fn call_in<'a>(
-        &self,
-        code: &'a [u8],
-    ) -> Result<Option<(Vec<u8, A>, &'a [u8])>, AllocError> {
+    /// Whether a word is the name of a macro, in capitals or not.
+    pub fn is_macro(&self, word: &[u8]) -> Result<bool, AllocError> {
         if self.macros.is_empty() {
-            return Ok(None);
+            return Ok(false);
         }
-        let (word, operands) = split_word(behind_labels(code));
         let name = word.to_ascii_lowercase(self.alloc)?;
-        if self.macros.get(name.as_slice()).is_some() {
-            Ok(Some((name, operands)))
-        } else {
-            Ok(None)
-        }
+        Ok(self.macros.get(name.as_slice()).is_some())
     }
 
     /// Whether no statement of a line is a directive of macros or calls one.
@@ -99,7 +93,8 @@ impl<A: Allocator + Copy> Tables<A> {
                 break;
             };
             let statement = first_statement(left);
-            if directive_of(statement.code).is_some() || self.call_in(statement.code)?.is_some() {
+            let (word, _) = split_word(behind_labels(statement.code));
+            if directive_named(word).is_some() || self.is_macro(word)? {
                 return Ok(false);
             }
             rest = statement.others;
@@ -132,10 +127,10 @@ impl<A: Allocator + Copy> Tables<A> {
 
     /// Adds a macro, if there is none of its name.
     fn add(&mut self, name: &[u8], definition: Macro<A>, slip: Slip) -> Result<(), Halt> {
-        let name = name.to_ascii_lowercase(self.alloc)?;
-        if self.macros.get(name.as_slice()).is_some() {
+        if self.is_macro(name)? {
             return Err(Halt::Slip(slip));
         }
+        let name = name.to_ascii_lowercase(self.alloc)?;
         let _ = self.macros.insert(name, definition)?;
         Ok(())
     }
@@ -144,7 +139,7 @@ impl<A: Allocator + Copy> Tables<A> {
     pub fn purge(&mut self, cursor: &mut Cursor) -> Result<(), Halt> {
         for _ in 0..u64::MAX {
             self.purge_one(cursor)?;
-            if !cursor.take_if(b',') {
+            if !cursor.take_if(b",") {
                 break;
             }
         }
@@ -161,37 +156,22 @@ impl<A: Allocator + Copy> Tables<A> {
         }
     }
 
-    /// The lines that a call of a macro stands for, if there are any.
-    pub fn called(&mut self, name: &[u8], cursor: &mut Cursor) -> Result<Option<Lines<A>>, Halt> {
-        let Some(definition) = self.macros.get(name) else {
+    /// The lines that a call of the macro with a name stands for, if there are any.
+    pub fn called(&self, word: &[u8], cursor: &mut Cursor) -> Result<Option<Frame<A>>, Halt> {
+        let alloc = self.alloc;
+        let name = word.to_ascii_lowercase(alloc)?;
+        let Some(definition) = self.macros.get(name.as_slice()) else {
             return Ok(None);
         };
-        let values = arguments(self.alloc, cursor, &definition.parameters)?;
-        let call = self.calls;
-        self.calls = self.calls.saturating_add(1);
+        let values = arguments(alloc, cursor, &definition.parameters)?;
         let Some(body) = &definition.body else {
             return Ok(None);
         };
         let parameters = &definition.parameters;
-        Ok(Some(body.substituted(self.alloc, parameters, &values, call)?))
-    }
-}
-
-impl<A: Allocator + Copy> Lines<A> {
-    /// The lines with these values in the places of the parameters, in a call with this number.
-    fn substituted(
-        &self,
-        alloc: A,
-        parameters: &[Parameter<A>],
-        values: &[Vec<u8, A>],
-        call: u64,
-    ) -> Result<Lines<A>, AllocError> {
         let mut text = Vec::new(alloc);
-        substitute(alloc, &self.text, parameters, values, call, &mut text)?;
-        Ok(Lines {
-            text,
-            first: self.first,
-            height: self.height,
-        })
+        substitute(
+            alloc, &body.text, parameters, &values, self.calls, &mut text,
+        )?;
+        Ok(Some(Frame::new(alloc, text, body.first, body.height, 0)))
     }
 }

@@ -2,8 +2,7 @@
 
 use crate::cursor::Cursor;
 use crate::errors::{MacroErrorKind, Slip};
-use crate::operators::{Infix, Prefix, infix_at};
-use crate::scanning::behind_blanks;
+use crate::operators::{INFIXES, Operator, PREFIXES, take_operator};
 use crate::symbols::Symbols;
 use std::alloc::Allocator;
 
@@ -12,33 +11,10 @@ const MOST_WAITING: usize = 64;
 
 /// What waits for the value behind it.
 #[derive(Clone, Copy)]
-enum Entry {
-    Open,
-    Before(Prefix),
-    Between(u64, Infix),
-}
-
-impl Entry {
-    /// How strongly it binds. An opening parenthesis binds nothing.
-    fn rank(self) -> u8 {
-        match self {
-            Entry::Open => 0,
-            Entry::Between(_, infix) => infix.rank(),
-            Entry::Before(_) => 7,
-        }
-    }
-
-    /// What it makes of a value behind it, before a place.
-    fn applied(self, value: u64, slip: Slip) -> Result<u64, Slip> {
-        match self {
-            Entry::Open => Ok(value),
-            Entry::Before(prefix) => Ok(prefix.apply(value)),
-            Entry::Between(left, infix) => match infix.apply(left, value) {
-                Ok(value) => Ok(value),
-                Err(kind) => Err(slip.with_kind(kind)),
-            },
-        }
-    }
+struct Entry {
+    /// The value before it, or any where none is.
+    left: u64,
+    operator: Operator,
 }
 
 /// What waits, the innermost last.
@@ -51,49 +27,43 @@ struct Waiting {
 impl Waiting {
     /// Nothing.
     fn new() -> Self {
+        let open = Entry {
+            left: 0,
+            operator: Operator::Open,
+        };
         Waiting {
-            entries: [Entry::Open; MOST_WAITING],
+            entries: [open; MOST_WAITING],
             count: 0,
         }
     }
 
     /// One more, which stands at a place.
-    fn push(&mut self, entry: Entry, slip: Slip) -> Result<(), Slip> {
+    fn push(&mut self, left: u64, operator: Operator, slip: Slip) -> Result<(), Slip> {
         match self.entries.get_mut(self.count) {
-            Some(place) => *place = entry,
+            Some(place) => *place = Entry { left, operator },
             None => return Err(slip.with_kind(MacroErrorKind::Operators)),
         }
         self.count = self.count.saturating_add(1);
         Ok(())
     }
 
-    /// The innermost.
-    fn last(&self) -> Option<Entry> {
-        self.entries.get(self.count.checked_sub(1)?).copied()
-    }
-
     /// What those that bind so strongly make of a value behind them, before a place.
     fn applied(&mut self, rank: u8, value: u64, slip: Slip) -> Result<u64, Slip> {
         let mut value = value;
         for _ in 0..MOST_WAITING {
-            match self.last() {
-                Some(entry) if entry.rank() >= rank => value = entry.applied(value, slip)?,
+            let last = self.count.saturating_sub(1);
+            match self.entries.get(last) {
+                Some(entry) if self.count > 0 && entry.operator.rank() >= rank => {
+                    value = entry
+                        .operator
+                        .apply(entry.left, value)
+                        .ok_or(slip.with_kind(MacroErrorKind::Division))?;
+                    self.count = last;
+                }
                 _ => break,
             }
-            self.count = self.count.saturating_sub(1);
         }
         Ok(value)
-    }
-
-    /// Closes the innermost parenthesis, if there is one.
-    fn close(&mut self) -> bool {
-        match self.last() {
-            Some(Entry::Open) => {
-                self.count = self.count.saturating_sub(1);
-                true
-            }
-            _ => false,
-        }
     }
 }
 
@@ -105,7 +75,7 @@ pub fn value<A: Allocator + Copy>(cursor: &mut Cursor, symbols: &Symbols<A>) -> 
         let term = term(cursor, symbols)?;
         let value = closed(cursor, &mut waiting, term)?;
         let slip = cursor.slip(MacroErrorKind::Parenthesis);
-        let Some(infix) = infix(cursor) else {
+        let Some(infix) = take_operator(cursor, &INFIXES) else {
             let value = waiting.applied(1, value, slip)?;
             return if waiting.count == 0 {
                 Ok(value)
@@ -114,7 +84,7 @@ pub fn value<A: Allocator + Copy>(cursor: &mut Cursor, symbols: &Symbols<A>) -> 
             };
         };
         let left = waiting.applied(infix.rank(), value, slip)?;
-        waiting.push(Entry::Between(left, infix), slip)?;
+        waiting.push(left, infix, slip)?;
     }
     Err(cursor.slip(MacroErrorKind::Value))
 }
@@ -123,20 +93,11 @@ pub fn value<A: Allocator + Copy>(cursor: &mut Cursor, symbols: &Symbols<A>) -> 
 fn prefixes(cursor: &mut Cursor, waiting: &mut Waiting) -> Result<(), Slip> {
     for _ in 0..u64::MAX {
         let slip = cursor.slip(MacroErrorKind::Operators);
-        let entry = if cursor.take_if(b'-') {
-            Entry::Before(Prefix::Negate)
-        } else if cursor.take_if(b'~') {
-            Entry::Before(Prefix::Complement)
-        } else if cursor.take_if(b'!') {
-            Entry::Before(Prefix::IsZero)
-        } else if cursor.take_if(b'(') {
-            Entry::Open
-        } else if cursor.take_if(b'+') {
-            continue;
-        } else {
-            break;
-        };
-        waiting.push(entry, slip)?;
+        match take_operator(cursor, &PREFIXES) {
+            Some(operator) => waiting.push(0, operator, slip)?,
+            None if cursor.take_if(b"+") => (),
+            None => break,
+        }
     }
     Ok(())
 }
@@ -146,30 +107,19 @@ fn closed(cursor: &mut Cursor, waiting: &mut Waiting, term: u64) -> Result<u64, 
     let mut value = term;
     for _ in 0..MOST_WAITING {
         let slip = cursor.slip(MacroErrorKind::Parenthesis);
-        if !cursor.take_if(b')') {
+        if !cursor.take_if(b")") {
             break;
         }
         value = waiting.applied(1, value, slip)?;
-        if !waiting.close() {
-            return Err(slip);
-        }
+        waiting.count = waiting.count.checked_sub(1).ok_or(slip)?;
     }
     Ok(value)
-}
-
-/// Takes an operator between two values, if one is next.
-fn infix(cursor: &mut Cursor) -> Option<Infix> {
-    let (infix, count) = infix_at(behind_blanks(cursor.rest()))?;
-    for _ in 0..count {
-        let _ = cursor.take();
-    }
-    Some(infix)
 }
 
 /// Takes a number, a character constant, or a constant that is known.
 fn term<A: Allocator + Copy>(cursor: &mut Cursor, symbols: &Symbols<A>) -> Result<u64, Slip> {
     let slip = cursor.slip(MacroErrorKind::Value);
-    if cursor.take_if(b'\'') {
+    if cursor.take_if(b"'") {
         return match character(cursor) {
             Some(byte) => Ok(u64::from(byte)),
             None => Err(slip),
@@ -192,9 +142,7 @@ pub fn character(cursor: &mut Cursor) -> Option<u8> {
         b'\\' => escaped(cursor.take_raw()?),
         byte => byte,
     };
-    if cursor.peek_raw() == Some(b'\'') {
-        let _ = cursor.take_raw();
-    }
+    let _ = cursor.take_next(b'\'');
     Some(byte)
 }
 
@@ -214,32 +162,24 @@ fn escaped(byte: u8) -> u8 {
 /// The value of a number: decimal, octal after a zero, hexadecimal after `0x`, or binary after
 /// `0b`. None where it is written otherwise, or has more than 64 bits.
 fn number(word: &[u8]) -> Option<u64> {
-    match word {
-        [b'0'] => Some(0),
-        [b'0', b'x' | b'X', digits @ ..] => number_to(digits, 16),
-        [b'0', b'b' | b'B', digits @ ..] => number_to(digits, 2),
-        [b'0', digits @ ..] => number_to(digits, 8),
-        _ => number_to(word, 10),
-    }
-}
-
-/// The value of digits to a base.
-fn number_to(digits: &[u8], base: u64) -> Option<u64> {
+    let (digits, base) = match word {
+        [b'0', b'x' | b'X', digits @ ..] => (digits, 16u32),
+        [b'0', b'b' | b'B', digits @ ..] => (digits, 2),
+        [b'0', _, ..] => (word, 8),
+        _ => (word, 10),
+    };
     if digits.is_empty() {
         return None;
     }
     let mut value = 0u64;
     for byte in digits {
-        let digit = match *byte {
-            b'0'..=b'9' => u64::from(*byte - b'0'),
-            b'a'..=b'f' => u64::from(*byte - b'a') + 10,
-            b'A'..=b'F' => u64::from(*byte - b'A') + 10,
-            _ => return None,
-        };
+        let digit = char::from(*byte).to_digit(16)?;
         if digit >= base {
             return None;
         }
-        value = value.checked_mul(base)?.checked_add(digit)?;
+        value = value
+            .checked_mul(u64::from(base))?
+            .checked_add(u64::from(digit))?;
     }
     Some(value)
 }
