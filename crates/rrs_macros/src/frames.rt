@@ -144,8 +144,8 @@ pub struct Frame<A: Allocator> {
 }
 
 impl<A: Allocator + Copy> Frame<A> {
-    /// A text whose first line is of a line of the source, with so many lines before they are of the
-    /// same lines of the source again. It is read once and so often again.
+    /// A text whose first line is of a line of the source, and so many lines later they are of the
+    /// same lines of the source again. It is read once, and so often again.
     pub fn new(alloc: A, text: Vec<u8, A>, first: usize, height: usize, copies: u64) -> Self {
         let reader = Reader {
             next: Some(0),
