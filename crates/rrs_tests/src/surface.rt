@@ -1,8 +1,8 @@
 //! The public names of the port, each called with exactly the arguments and types that it promises.
 //!
 //! A name that is gone, a parameter more, another type, another field or another variant does not
-//! compile here. What the calls do is seen on a few worked numbers; the tests beside these, and
-//! `rrs_extra_tests`, have the others.
+//! compile here. What the calls do is seen on a few worked numbers; the tests beside these have
+//! the others.
 
 mod executor;
 mod extras;

@@ -1,12 +1,14 @@
-//! The texts of chosen words, and that a text whose memory is refused may be asked for again. Those
-//! of a word of each row are in `rrs_extra_tests`, with the rows' numbers.
+//! The texts of chosen words, those of two words compared, and that a text whose memory is refused
+//! may be asked for again. Those of a word of each row are in `rows`, with the rows' numbers.
 
 use crate::machines::same_text_at;
+use crate::rows::WORDS_OUTSIDE;
+use rrs_extra::laws::both_texts;
 use rrs_lib::disassembly::{Disassembled, InstructionText, LONGEST_TEXT, hexadecimal_digits};
 use rrs_lib::instruction::decode;
 use rrs_lib::instruction_string_outputter::InstructionStringOutputter;
 use rrs_lib::process_instruction;
-use std::alloc::AllocError;
+use std::alloc::{AllocError, Global};
 use std::test::Fail;
 
 /// The text of a word at an address, or `None` for an illegal instruction.
@@ -16,7 +18,7 @@ fn text_at(pc: u32, word: u32) -> Option<InstructionText> {
 }
 
 /// The text of a word, or out of memory.
-fn text_by(
+pub(crate) fn text_by(
     outputter: &mut InstructionStringOutputter,
     word: u32,
 ) -> Option<Result<String, AllocError>> {
@@ -77,19 +79,11 @@ fn words_have_these_digits(rt: HostRuntime) {
     }
 }
 
-/// Illegal instructions.
-static OUTSIDE: [u32; 9] = [
-    0x00200073, 0x000000f3, 0x00008073, 0x00001073, 0x0000100f, 0xfe109093, 0x00009067, 0xffffffff,
-    0x00000000,
-];
-
-/// SYSTEM words beside ecall and ebreak, fence.i, slli with another funct7, jalr with another
-/// funct3, and the words of all ones and of all zeros are illegal instructions.
 #[test]
 fn words_outside_the_table_have_no_text(rt: HostRuntime) {
     let alloc = rt.alloc();
     let mut outputter = InstructionStringOutputter { insn_pc: 0, alloc };
-    for &word in &OUTSIDE {
+    for &word in &WORDS_OUTSIDE {
         assert!(rt; text_by(&mut outputter, word).is_none(), "of {word:#010x}");
     }
 }
@@ -126,6 +120,86 @@ fn a_refused_text_may_be_asked_for_again(rt: HostRuntime) -> Result<(), Fail> {
     for &(word, expected) in &REFUSED {
         let text = asked_for_twice(&mut outputter, word)?;
         same_text_at(&rt, word, text.as_str(), expected);
+    }
+    Ok(())
+}
+
+/// The text of a word, or `no row` where it is an illegal instruction.
+fn text_or_no_row(
+    alloc: Global,
+    answer: Option<Result<String, AllocError>>,
+) -> Result<String, AllocError> {
+    match answer {
+        Some(text) => text,
+        None => format!(in alloc; "no row"),
+    }
+}
+
+/// The texts of two words at one address.
+fn texts_of(
+    alloc: Global,
+    insn_pc: u32,
+    first: u32,
+    second: u32,
+) -> Result<(String, String), AllocError> {
+    let (one, other) = both_texts(alloc, insn_pc, first, second);
+    Ok((text_or_no_row(alloc, one)?, text_or_no_row(alloc, other)?))
+}
+
+/// An address and two words, with their texts.
+static PAIRS: [(u32, u32, u32, (&str, &str)); 10] = [
+    (0, 0x0ff0000f, 0x0000000f, ("fence", "fence")),
+    (0, 0x8330000f, 0xffff8f8f, ("fence", "fence")),
+    (
+        0,
+        0x00709193,
+        0x0070d193,
+        ("slli x3, x1, 7", "srli x3, x1, 7"),
+    ),
+    (
+        0,
+        0x002081b3,
+        0x00208233,
+        ("add x3, x1, x2", "add x4, x1, x2"),
+    ),
+    (
+        0,
+        0x002101b3,
+        0x001081b3,
+        ("add x3, x2, x2", "add x3, x1, x1"),
+    ),
+    (
+        0,
+        0xffb08193,
+        0x00508193,
+        ("addi x3, x1, -5", "addi x3, x1, 5"),
+    ),
+    (
+        0x100,
+        0x00000463,
+        0x00000263,
+        ("beq x0, x0, 0x00000108", "beq x0, x0, 0x00000104"),
+    ),
+    (
+        0x104,
+        0x00000263,
+        0xffffffff,
+        ("beq x0, x0, 0x00000108", "no row"),
+    ),
+    (0, 0xfe109093, 0x00109093, ("no row", "slli x1, x1, 1")),
+    (0, 0x00009067, 0x00008067, ("no row", "jalr x0, 0x000(x1)")),
+];
+
+/// No text shows the fields of `fence`. Another row with the same fields has another text, and so
+/// has one row with another rd, rs1, rs2 or immediate. A branch has another text at another
+/// address, and two branches to one target from two addresses have one. What would show like `slli`
+/// and `jalr` but has another funct7 or funct3 is an illegal instruction.
+#[test]
+fn texts_show_what_words_are(rt: HostRuntime) -> Result<(), Fail> {
+    for &(insn_pc, first, second, expected) in &PAIRS {
+        let texts = texts_of(rt.alloc(), insn_pc, first, second)?;
+        same_text_at(&rt, first, texts.0.as_str(), expected.0);
+        same_text_at(&rt, second, texts.1.as_str(), expected.1);
     }
     Ok(())
 }

@@ -1,5 +1,5 @@
 use Rattle.rrs_extra.proofs.OpenPages.{one_open_page}
-use Rattle.rrs_extra_tests.proofs.independence.a_page_and_its_words_answer_alike.Goals as goal
+use Rattle.rrs_tests.proofs.independence.a_page_and_its_words_answer_alike.Goals as goal
 
 pub same_bytes-requires-clause-pages : goal.same_bytes-requires-clause-pages
 same_bytes-requires-clause-pages g c =

@@ -3,7 +3,7 @@
 ghost use Rattle.std.specs.Prelude.{◌≡◌, ℕ, ◌+◌, ◌-◌, ◌^◌, ◌≤◌, min, slice_index, replicate};
 ghost use Rattle.std.specs.Bool.{OnTrue, OnFalse};
 ghost use Rattle.rrs_lib.specs.Table.{IsRowAnd, IsIllegal, IsOneRowAtMost};
-ghost use Rattle.rrs_extra_tests.specs.Counting.{CountsOnce};
+ghost use Rattle.rrs_tests.specs.Counting.{CountsOnce};
 ghost use Rattle.rrs_extra.specs.declared.TheConstants.{ROW_COUNT};
 
 use rrs_extra::ROW_COUNT;

@@ -1,5 +1,5 @@
 use Rattle.rrs_lib.proofs.Programs.{step-from_same}
-use Rattle.rrs_extra_tests.proofs.coverage.counted_step.Goals as goal
+use Rattle.rrs_tests.proofs.coverage.counted_step.Goals as goal
 
 -- src/coverage.rt:19:1
 pub returns-clause-step : goal.returns-clause-step

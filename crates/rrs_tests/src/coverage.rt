@@ -6,7 +6,7 @@ ghost use Rattle.rrs_lib.specs.Encodings.{Fields};
 ghost use Rattle.rrs_lib.specs.Table.{Row, Decodes, IsIllegal};
 ghost use Rattle.rrs_lib.specs.Executor.{state_in};
 ghost use Rattle.rrs_lib.specs.Steps.{Step, next_word};
-ghost use Rattle.rrs_extra_tests.specs.Counting.{CountsOnce};
+ghost use Rattle.rrs_tests.specs.Counting.{CountsOnce};
 
 use crate::call_counter::CallCounter;
 use rrs_extra::ROW_COUNT;

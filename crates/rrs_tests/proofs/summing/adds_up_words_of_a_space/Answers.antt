@@ -2,8 +2,8 @@ use Rattle.std.proofs.Common.{◌≡◌, ◌∷◌, [], ap, refl, ◌∙◌}
 use Rattle.rrs_lib.specs.VecBytes.{vec_bytes, bytes_of_words}
 use Rattle.rrs_lib.specs.Spaces.{space_bytes}
 use Rattle.rrs_extra.proofs.Words.{holds_by_test}
-use Rattle.rrs_extra_tests.proofs.WholeSpaces.{region}
-use Rattle.rrs_extra_tests.proofs.summing.adds_up_words_of_a_space.Goals as goal
+use Rattle.rrs_tests.proofs.WholeSpaces.{region}
+use Rattle.rrs_tests.proofs.summing.adds_up_words_of_a_space.Goals as goal
 
 pub add_up-end-requires-clause-program : goal.add_up-end-requires-clause-program
 add_up-end-requires-clause-program g c =

@@ -1,6 +1,6 @@
 use Rattle.std.proofs.Common.{ap, refl, ◌∙◌}
-use Rattle.rrs_extra_tests.proofs.WholeSpaces.{nested_bytes, nested_writable}
-use Rattle.rrs_extra_tests.proofs.independence.a_space_in_a_space_answers_as_its_words.Goals as goal
+use Rattle.rrs_tests.proofs.WholeSpaces.{nested_bytes, nested_writable}
+use Rattle.rrs_tests.proofs.independence.a_space_in_a_space_answers_as_its_words.Goals as goal
 
 pub four_steps-answers-requires-clause-bytes : goal.four_steps-answers-requires-clause-bytes
 four_steps-answers-requires-clause-bytes g c =

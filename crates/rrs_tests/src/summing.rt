@@ -2,7 +2,7 @@
 
 ghost use Rattle.std.specs.Prelude.{◌≡◌, ◌+◌, ◌*◌, ◌≤◌, IfOk, IfSome};
 ghost use Rattle.rrs_extra.specs.Programs.{HoldsWords, HoldsIllegal, IsMapped, sum_loop_program};
-ghost use Rattle.rrs_extra_tests.specs.SumLoopExamples.{words_to_add, words_of_program, three_words, two_regions};
+ghost use Rattle.rrs_tests.specs.SumLoopExamples.{words_to_add, words_of_program, three_words, two_regions};
 
 use rrs_extra::laws::sum_loop;
 use rrs_lib::instruction_executor::{InstructionException, InstructionExecutor, RunEnd};

@@ -4,40 +4,30 @@ ghost use Rattle.std.specs.Prelude.{◌≡◌, IfSome, IfNone};
 ghost use Rattle.rrs_lib.specs.Table.{IsRowAnd, IsIllegal, table};
 
 use crate::call_counter::{CallCounter, count_word};
+use crate::machines::same_text_at;
+use crate::texts::text_by;
 use rrs_extra::{ROW_COUNT, RowNumberer};
 use rrs_lib::instruction_string_outputter::InstructionStringOutputter;
 use rrs_lib::process_instruction;
 use rrs_test_machines::ROWS;
-use std::alloc::{AllocError, Global};
-use std::process::Abort;
 use std::test::Fail;
 
 /// Words of no row: `ecall` with another immediate, rd, rs1 and funct3, `fence.i`, `slli` with
 /// another funct7, `jalr` with another funct3, all ones and all zeros.
-static WORDS_OUTSIDE: [u32; 9] = [
+pub(crate) static WORDS_OUTSIDE: [u32; 9] = [
     0x00200073, 0x000000f3, 0x00008073, 0x00001073, 0x0000100f, 0xfe109093, 0x00009067, 0xffffffff,
     0x00000000,
 ];
 
-/// The text of a word.
-fn text_of(alloc: Global, word: u32) -> Option<Result<String, AllocError>> {
-    let mut outputter = InstructionStringOutputter {
-        insn_pc: 0x100,
-        alloc,
-    };
-    process_instruction(&mut outputter, word)
-}
-
-/// Asserts that a text is this one.
-pub fn same_text(rt: &impl Abort, seen: &str, expected: &str) {
-    assert_eq!(rt; seen, expected);
-}
-
 #[test]
 fn each_row_has_its_text(rt: HostRuntime) -> Result<(), Fail> {
+    let mut outputter = InstructionStringOutputter {
+        insn_pc: 0x100,
+        alloc: rt.alloc(),
+    };
     for &(word, expected) in &ROWS {
-        let text = text_of(rt.alloc(), word).ok_or("no row")??;
-        same_text(&rt, text.as_str(), expected);
+        let text = text_by(&mut outputter, word).ok_or("no row")??;
+        same_text_at(&rt, word, text.as_str(), expected);
     }
     Ok(())
 }
