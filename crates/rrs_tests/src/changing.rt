@@ -38,7 +38,7 @@ struct Table {
 }
 
 /// The table of a `DecodeCache`.
-const SMALL: Table = Table {
+static SMALL: Table = Table {
     words: 1024,
     bytes: 4096,
     away: 0x7f50_006f, // jal x0, 4084
@@ -46,7 +46,7 @@ const SMALL: Table = Table {
 };
 
 /// The table of `rrs run` and `rrs exec`.
-const LARGE: Table = Table {
+static LARGE: Table = Table {
     words: 16384,
     bytes: 0x1_0000,
     away: 0x7f50_f06f, // jal x0, 65524
@@ -61,7 +61,7 @@ type Change = (u32, [u32; 4], u32, u32);
 /// A word of the loop, a half-word, each byte that can be changed and leaves an `addi`; the next
 /// word, and a half-word and a byte of it; the store itself; the word that is jumped to next; the
 /// same over the table's end; words behind the loop; and a loop of words that have one place.
-const CHANGES: [Change; 19] = [
+static CHANGES: [Change; 19] = [
     (0, [ADD, 0x0060_2023, EXCHANGE, BACK], ADD_100, ADD), // sw x6, 0(x0)
     (0, [ADD, 0x0060_1123, EXCHANGE, BACK], 0x0642, 0x0012), // sh x6, 2(x0): its upper half
     (0, [ADD, 0x0060_0123, EXCHANGE, BACK], 0x72, 0x12), // sb x6, 2(x0): four bits of its immediate
@@ -230,9 +230,40 @@ fn box_of(alloc: Global, change: &Change) -> Result<BoxedMemory, AllocError> {
     Ok(BoxedMemory { memory })
 }
 
+/// What a hart has after steps over words that are fetched.
+fn stepped(alloc: Global, change: &Change, table: &Table) -> Result<Seen, AllocError> {
+    let mut memory = VecMemory::new(words_of(alloc, change, table)?);
+    Ok(step_by_step(&mut memory, hart_for(change, table)))
+}
+
 /// Asserts that a run leaves what is expected.
 fn same_seen(rt: &impl Abort, seen: &Seen, expected: &Seen) {
     assert!(rt; seen == expected);
+}
+
+/// Asserts that a run over a memory, with a cache that is lent, leaves what is expected.
+fn run_leaves<M: Memory>(
+    rt: &impl Abort,
+    cache: &mut DecodeCache,
+    mem: &mut M,
+    change: &Change,
+    expected: &Seen,
+) {
+    let seen = run_in_parts(cache, mem, hart_for(change, &SMALL), LIMIT);
+    same_seen(rt, &seen, expected);
+}
+
+/// Asserts that runs of so many steps each, over a memory whose words are kept, leave what is
+/// expected.
+fn kept_runs_leave<M: Memory, const N: usize>(
+    rt: &impl Abort,
+    cached: &mut CachedMemory<M, N>,
+    hart: HartState,
+    part: u64,
+    expected: &Seen,
+) {
+    let seen = run_in_parts(&mut OwnCache, cached, hart, part);
+    same_seen(rt, &seen, expected);
 }
 
 #[test]
@@ -241,32 +272,15 @@ fn each_change_is_seen_by_the_next_fetch(rt: HostRuntime) -> Result<(), Fail> {
     // One cache is lent to all of the runs.
     let mut cache = DecodeCache::new();
     for change in &CHANGES {
-        let hart = || hart_for(change, &SMALL);
-        let expected = step_by_step(&mut words_over(alloc, change)?, hart());
+        let expected = stepped(alloc, change, &SMALL)?;
         let words = &mut words_over(alloc, change)?;
-        same_seen(
-            &rt,
-            &run_in_parts(&mut cache, words, hart(), LIMIT),
-            &expected,
-        );
+        run_leaves(&rt, &mut cache, words, change, &expected);
         let pages = &mut pages_of(alloc, change)?;
-        same_seen(
-            &rt,
-            &run_in_parts(&mut cache, pages, hart(), LIMIT),
-            &expected,
-        );
+        run_leaves(&rt, &mut cache, pages, change, &expected);
         let space = &mut space_of(alloc, change)?;
-        same_seen(
-            &rt,
-            &run_in_parts(&mut cache, space, hart(), LIMIT),
-            &expected,
-        );
+        run_leaves(&rt, &mut cache, space, change, &expected);
         let boxed = &mut box_of(alloc, change)?;
-        same_seen(
-            &rt,
-            &run_in_parts(&mut cache, boxed, hart(), LIMIT),
-            &expected,
-        );
+        run_leaves(&rt, &mut cache, boxed, change, &expected);
     }
     Ok(())
 }
@@ -289,29 +303,20 @@ fn each_change_is_seen_by_the_next_run(rt: HostRuntime) -> Result<(), Fail> {
     // A cache of words is lent to runs of all of the loops.
     let mut cache = WordCache::new();
     for change in &CHANGES {
-        let hart = || hart_for(change, &SMALL);
-        let expected = step_by_step(&mut words_over(alloc, change)?, hart());
+        let expected = stepped(alloc, change, &SMALL)?;
         let mut words: CachedMemory<_, 1024> = CachedMemory::new(words_over(alloc, change)?);
-        same_seen(
-            &rt,
-            &run_in_parts(&mut OwnCache, &mut words, hart(), 7),
-            &expected,
-        );
+        let hart = hart_for(change, &SMALL);
+        kept_runs_leave(&rt, &mut words, hart, 7, &expected);
         // Each even word has the place of each other one.
         let mut pages: CachedMemory<_, 2> = CachedMemory::new(pages_of(alloc, change)?);
-        same_seen(
-            &rt,
-            &run_in_parts(&mut OwnCache, &mut pages, hart(), 1000),
-            &expected,
-        );
+        let hart = hart_for(change, &SMALL);
+        kept_runs_leave(&rt, &mut pages, hart, 1000, &expected);
         let mut space: CachedMemory<_, 64> = CachedMemory::new(space_of(alloc, change)?);
-        same_seen(
-            &rt,
-            &run_in_parts(&mut OwnCache, &mut space, hart(), 1000),
-            &expected,
-        );
+        let hart = hart_for(change, &SMALL);
+        kept_runs_leave(&rt, &mut space, hart, 1000, &expected);
         let lent = &mut words_over(alloc, change)?;
-        same_seen(&rt, &run_in_parts(&mut cache, lent, hart(), 7), &expected);
+        let hart = hart_for(change, &SMALL);
+        same_seen(&rt, &run_in_parts(&mut cache, lent, hart, 7), &expected);
     }
     Ok(())
 }
@@ -320,16 +325,11 @@ fn each_change_is_seen_by_the_next_run(rt: HostRuntime) -> Result<(), Fail> {
 fn each_change_is_seen_over_the_table_of_programs(rt: HostRuntime) -> Result<(), Fail> {
     let alloc = rt.alloc();
     for change in &CHANGES {
-        let hart = || hart_for(change, &LARGE);
+        let expected = stepped(alloc, change, &LARGE)?;
         let words = VecMemory::new(words_of(alloc, change, &LARGE)?);
         let mut kept: CachedMemory<_, 16384> = CachedMemory::new(words);
-        let mut fetched = VecMemory::new(words_of(alloc, change, &LARGE)?);
-        let expected = step_by_step(&mut fetched, hart());
-        same_seen(
-            &rt,
-            &run_in_parts(&mut OwnCache, &mut kept, hart(), 1000),
-            &expected,
-        );
+        let hart = hart_for(change, &LARGE);
+        kept_runs_leave(&rt, &mut kept, hart, 1000, &expected);
     }
     Ok(())
 }
