@@ -11,7 +11,8 @@ use std::alloc::{AllocError, Allocator};
 
 /// Assembles a source, whose sections lie one behind the other from an address on, and puts what is
 /// told of it at the front of the buffers, where these have room for all of it. What is behind it
-/// there stays. Where a buffer is too small, it is said how many of each there are (`needed`).
+/// there stays. Where a buffer is too small none is written (`unwritten`), and it is said how many of
+/// each there are (`needed`).
 ///
 /// # Errors
 ///
@@ -39,6 +40,9 @@ pub fn assemble_into<A: Allocator + Copy>(
         (length statements.old) (length symbols.old) (length mistakes.old) (length texts.old)) }
     ensures small { IfOk result (λ told. told.end ≡ 3 → AllFit told (length bytes.old)
         (length statements.old) (length symbols.old) (length mistakes.old) (length texts.old) → ⊥) }
+    ensures unwritten { IfOk result (λ told. told.end ≡ 3 → (bytes.new ≡ bytes.old)
+        × (statements.new ≡ statements.old) × (symbols.new ≡ symbols.old)
+        × (mistakes.new ≡ mistakes.old) × (texts.new ≡ texts.old)) }
     ensures room { IfOk result (λ told. told.room ≡ 0) }
     ensures bytes_behind { IfOk result (λ told. StaysBehind told.bytes bytes.old bytes.new) }
     ensures statements_behind { IfOk result (λ told.

@@ -19,8 +19,8 @@ const LEAST_ROOM: usize = 0x1_0000;
 /// told of it is put at the front of the buffers: of a program its bytes, statements and labels
 /// with their names (`assembled`), of mistakes what they are (`refused`). What is behind it stays.
 ///
-/// Where a buffer is too small none is written, and the counts say how many of each there are
-/// (`needed`). Where the memory is too small all counts are 0 (`no_room`).
+/// Where a buffer is too small none is written (`unwritten`), and the counts say how many of each
+/// there are (`needed`). Where the memory is too small all counts are 0 (`no_room`).
 pub fn assemble_lent(
     source: &[u8],
     start: u32,
@@ -50,6 +50,9 @@ pub fn assemble_lent(
         (length symbols.old) (length mistakes.old) (length texts.old) }
     ensures small { result.end ≡ 3 → AllFit result (length bytes.old) (length statements.old)
         (length symbols.old) (length mistakes.old) (length texts.old) → ⊥ }
+    ensures unwritten { result.end ≡ 3 → (bytes.new ≡ bytes.old)
+        × (statements.new ≡ statements.old) × (symbols.new ≡ symbols.old)
+        × (mistakes.new ≡ mistakes.old) × (texts.new ≡ texts.old) }
     ensures back { IsBack (place_of room.old) (place_of room.new) }
     ensures bytes_behind { StaysBehind result.bytes bytes.old bytes.new }
     ensures statements_behind { StaysBehind result.statements statements.old statements.new }
@@ -95,6 +98,9 @@ fn assemble_over(
         (length statements.old) (length symbols.old) (length mistakes.old) (length texts.old)) }
     ensures small { IfOk result (λ told. told.end ≡ 3 → AllFit told (length bytes.old)
         (length statements.old) (length symbols.old) (length mistakes.old) (length texts.old) → ⊥) }
+    ensures unwritten { IfOk result (λ told. told.end ≡ 3 → (bytes.new ≡ bytes.old)
+        × (statements.new ≡ statements.old) × (symbols.new ≡ symbols.old)
+        × (mistakes.new ≡ mistakes.old) × (texts.new ≡ texts.old)) }
     ensures room { IfOk result (λ told. told.room ≡ 0) }
     ensures bytes_behind { IfOk result (λ told. StaysBehind told.bytes bytes.old bytes.new) }
     ensures statements_behind { IfOk result (λ told.
