@@ -610,9 +610,9 @@ pub extern "C" fn rrs_elf_function_at(file: &[u8], address: u32, buffer: &mut [u
 /// Assembles a source in the memory of a room, whose first section lies at an address and each other
 /// behind the one before, and gives the memory back. The bytes from this address on, the statements,
 /// and the labels with their names stand then at the front of the buffers (`assembled`), or the
-/// mistakes (`refused`). What is behind them stays. Where a buffer is too small nothing is written,
-/// and the counts say how many of each there are (`needed`). Where the room is too small all counts
-/// are 0 (`no_room`).
+/// mistakes (`refused`). What is behind them stays. Where a buffer is too small nothing is written
+/// (`unwritten`), and the counts say how many of each there are (`needed`). Where the room is too
+/// small all counts are 0 (`no_room`).
 #[unsafe(no_mangle)]
 pub extern "C" fn rrs_assemble(
     source: &[u8],
@@ -643,6 +643,9 @@ pub extern "C" fn rrs_assemble(
         (length symbols.old) (length mistakes.old) (length texts.old) }
     ensures small { result.end ≡ 3 → AllFit result (length bytes.old) (length statements.old)
         (length symbols.old) (length mistakes.old) (length texts.old) → ⊥ }
+    ensures unwritten { result.end ≡ 3 → (bytes.new ≡ bytes.old)
+        × (statements.new ≡ statements.old) × (symbols.new ≡ symbols.old)
+        × (mistakes.new ≡ mistakes.old) × (texts.new ≡ texts.old) }
     ensures back { IsBack (place_of room.old) (place_of room.new) }
     ensures bytes_behind { StaysBehind result.bytes bytes.old bytes.new }
     ensures statements_behind { StaysBehind result.statements statements.old statements.new }
