@@ -1,6 +1,6 @@
 //! An assembly in memory that is lent.
 
-ghost use Rattle.std.specs.Prelude.{◌≡◌, ◌*◌, ◌^◌, ◌<◌, ◌≤◌, IfOk, OnErr, length, take};
+ghost use Rattle.std.specs.Prelude.{◌≡◌, ◌*◌, ◌^◌, ◌<◌, ◌≤◌, length, take};
 ghost use Rattle.rrs_room.specs.Heaps.{IsBack};
 ghost use Rattle.rrs_room.specs.Rooms.{place_of, room_size};
 ghost use Rattle.rrs_lent.specs.Lent.{Arena};
@@ -9,7 +9,7 @@ ghost use Rattle.rrs_lent.specs.Telling.{Assembles, Needs, TellMistakes, HasNoPr
 use crate::assembling::assemble_into;
 use crate::outcome::{RrsAssembled, RrsMistake, RrsStatement, RrsSymbol, SMALL_ROOM};
 use rrs_room::{LentHeap, Room};
-use std::alloc::{AllocError, Allocator};
+use std::alloc::Allocator;
 
 /// The least memory that is asked for where there was too little.
 const LEAST_ROOM: usize = 0x1_0000;
@@ -61,62 +61,20 @@ pub fn assemble_lent(
     ensures texts_behind { StaysBehind result.texts texts.old texts.new }
 {
     let heap = LentHeap::new(room.take());
-    let told = assemble_over(
-        &heap, source, start, bytes, statements, symbols, mistakes, texts,
-    );
     let next = next_size(heap.size());
+    let Ok(arena) = heap.arena() else {
+        *room = heap.into_room();
+        return without_room(next);
+    };
+    let told = assemble_into(
+        &arena, source, start, bytes, statements, symbols, mistakes, texts,
+    );
+    drop(arena);
     *room = heap.into_room();
     match told {
         Ok(told) => told,
         Err(_) => without_room(next),
     }
-}
-
-/// Assembles a source in an arena that fills a heap.
-fn assemble_over(
-    heap: &LentHeap,
-    source: &[u8],
-    start: u32,
-    bytes: &mut [u8],
-    statements: &mut [RrsStatement],
-    symbols: &mut [RrsSymbol],
-    mistakes: &mut [RrsMistake],
-    texts: &mut [u8],
-) -> Result<RrsAssembled, AllocError>
-    ensures ends { IfOk result (λ told. told.end < 4 × (told.end ≡ 2 → ⊥)) }
-    ensures assembled { IfOk result (λ told. told.end ≡ 0
-        → Assembles (Arena ⟦<&'static LentHeap as Allocator>⟧) source.now start told.entry
-        (take told.bytes bytes.new) (take told.statements statements.new)
-        (take told.symbols symbols.new) (take told.texts texts.new)) }
-    ensures no_mistakes { IfOk result (λ told. told.end ≡ 0 → told.mistakes ≡ 0) }
-    ensures refused { IfOk result (λ told. told.end ≡ 1
-        → TellMistakes (take told.mistakes mistakes.new) (take told.texts texts.new)) }
-    ensures no_program { IfOk result (λ told. told.end ≡ 1 → HasNoProgram told) }
-    ensures needed { IfOk result (λ told. told.end ≡ 3
-        → Needs (Arena ⟦<&'static LentHeap as Allocator>⟧) source.now start told) }
-    ensures fit { IfOk result (λ told. told.end < 3 → AllFit told (length bytes.old)
-        (length statements.old) (length symbols.old) (length mistakes.old) (length texts.old)) }
-    ensures small { IfOk result (λ told. told.end ≡ 3 → AllFit told (length bytes.old)
-        (length statements.old) (length symbols.old) (length mistakes.old) (length texts.old) → ⊥) }
-    ensures unwritten { IfOk result (λ told. told.end ≡ 3 → (bytes.new ≡ bytes.old)
-        × (statements.new ≡ statements.old) × (symbols.new ≡ symbols.old)
-        × (mistakes.new ≡ mistakes.old) × (texts.new ≡ texts.old)) }
-    ensures room { IfOk result (λ told. told.room ≡ 0) }
-    ensures bytes_behind { IfOk result (λ told. StaysBehind told.bytes bytes.old bytes.new) }
-    ensures statements_behind { IfOk result (λ told.
-        StaysBehind told.statements statements.old statements.new) }
-    ensures symbols_behind { IfOk result (λ told.
-        StaysBehind told.symbols symbols.old symbols.new) }
-    ensures mistakes_behind { IfOk result (λ told.
-        StaysBehind told.mistakes mistakes.old mistakes.new) }
-    ensures texts_behind { IfOk result (λ told. StaysBehind told.texts texts.old texts.new) }
-    ensures kept { OnErr result ((bytes.new ≡ bytes.old) × (statements.new ≡ statements.old)
-        × (symbols.new ≡ symbols.old) × (mistakes.new ≡ mistakes.old) × (texts.new ≡ texts.old)) }
-{
-    let arena = heap.arena()?;
-    assemble_into(
-        &arena, source, start, bytes, statements, symbols, mistakes, texts,
-    )
 }
 
 /// How much memory to lend the next time, where so much is too little.
