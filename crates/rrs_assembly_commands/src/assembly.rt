@@ -12,7 +12,7 @@ use crate::assembly_requests::{AssemblyRequest, Form};
 use rrs_asm::{
     Layout, MOST_BYTES, Program, SourceError, SourceFault, assemble_source, gnu_text, image,
 };
-use rrs_assembly::{executable_of, listing_of, mistakes_of, number_of};
+use rrs_assembly::{ExecutableError, executable_of, listing_of, mistakes_of, number_of};
 use rrs_cli::command::Failure;
 use rrs_cli::report::{flush, write_text};
 use rrs_macros::{Expanded, MacroFault, expand};
@@ -44,8 +44,9 @@ pub struct Products {
 /// # Errors
 ///
 /// `Refusal::SourceErrors` where the source has mistakes, which were printed;
-/// `Refusal::NoExecutable` where the program has no executable; `Refusal::LargeImage` where its
-/// bytes are more than 64 MiB; out of memory as a failure.
+/// `Refusal::EmptyProgram`, `Refusal::WrongEntry` or `Refusal::NoExecutable` where an executable is
+/// asked for and the program has none; `Refusal::LargeImage` where its bytes are more than 64 MiB;
+/// out of memory as a failure.
 pub fn products_of<H: Eprint + AllocGlobal>(
     rt: &H,
     path: &str,
@@ -127,7 +128,7 @@ fn program_of<'a, H: Eprint + AllocGlobal>(
 ///
 /// # Errors
 ///
-/// `Refusal::NoExecutable`, and why there is none.
+/// What `refused` says of why there is none.
 fn executable_for(
     alloc: Global,
     request: AssemblyRequest<'_>,
@@ -142,7 +143,17 @@ fn executable_for(
     }
     match executable_of(alloc, program) {
         Ok(file) => Ok(Some(file)),
-        Err(error) => Err(Refusal::NoExecutable(error)),
+        Err(error) => Err(refused(error)),
+    }
+}
+
+/// Why a program has no executable, as the refusal of the subcommand.
+fn refused(error: ExecutableError) -> Refusal {
+    match error {
+        ExecutableError::Empty => Refusal::EmptyProgram,
+        ExecutableError::Entry(address) => Refusal::WrongEntry(address),
+        ExecutableError::Unlike => Refusal::NoExecutable,
+        ExecutableError::OutOfMemory => out_of_memory(),
     }
 }
 

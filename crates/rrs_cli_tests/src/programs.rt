@@ -102,7 +102,7 @@ const SOURCE: &[u8] = b"    addi x1, x0, 7\n    .data\n    .byte 5, 6, 7, 8, 9\n
 
 /// Files of a program, of jal x0, 0, which jumps to itself, of an executable, and of sources. None can
 /// be written.
-const FILES: [Contents<'static>; 5] = [
+const FILES: [Contents<'static>; 6] = [
     Contents {
         name: "program",
         bytes: THREE_WORDS,
@@ -126,6 +126,11 @@ const FILES: [Contents<'static>; 5] = [
     Contents {
         name: "empty",
         bytes: b"",
+        fails: false,
+    },
+    Contents {
+        name: "misaligned",
+        bytes: b"    .byte 1\n_start:\n    .byte 2\n",
         fails: false,
     },
 ];
@@ -167,7 +172,7 @@ const NO_ADDRESS: &str = "rrs as: an address has 0x and hexadecimal digits, is b
 /// line on standard error.
 type Refused = (Program, &'static [&'static [u8]], u8, &'static str);
 
-static REFUSED: [Refused; 46] = [
+static REFUSED: [Refused; 47] = [
     (Program::Run, &[], 2, RUN_USAGE),
     (Program::Run, &[b"rrs-run"], 2, RUN_USAGE),
     (Program::Run, &[b"rrs-run", b"program"], 2, RUN_USAGE),
@@ -350,6 +355,12 @@ static REFUSED: [Refused; 46] = [
         &[b"rrs", b"as", b"empty", b"-o", b"loop"],
         1,
         "rrs as: the program is empty\n",
+    ),
+    (
+        Program::Rrs,
+        &[b"rrs", b"as", b"misaligned", b"-o", b"loop"],
+        1,
+        "rrs as: no instruction can begin at the entry 0x00010001\n",
     ),
     (
         Program::Rrs,

@@ -9,7 +9,7 @@ use Rattle.rrs_env.specs.declared.Ending.{Ending}
 use Rattle.rrs_env.specs.declared.Ending.TheVariants.{Limit, Fault, Exit}
 use Rattle.rrs_cli.specs.Failures as Failures
 use Rattle.rrs_requests.specs.declared.refusal.Refusal.{Refusal}
-use Rattle.rrs_requests.specs.declared.refusal.Refusal.TheVariants.{SourceErrors, UnreadableSource, LargeSource, UnreadableInput, LargeProgram, WrongLimit, Image, IsElf, NoAddress, WrongAddress, NoExecutable, LargeImage, CannotCreate, Failed}
+use Rattle.rrs_requests.specs.declared.refusal.Refusal.TheVariants.{SourceErrors, UnreadableSource, LargeSource, UnreadableInput, LargeProgram, WrongLimit, Image, IsElf, NoAddress, WrongAddress, EmptyProgram, WrongEntry, NoExecutable, LargeImage, CannotCreate, Failed}
 use Rattle.rrs_commands.specs.declared.subcommands.Task.{Task}
 use Rattle.rrs_commands.specs.declared.subcommands.Task.TheVariants.{Execute, Trace, Cover, Board}
 
@@ -38,7 +38,9 @@ refused_status task (Image error) = 1
 refused_status task IsElf = 1
 refused_status task NoAddress = 1
 refused_status task WrongAddress = 2
-refused_status task (NoExecutable error) = 1
+refused_status task EmptyProgram = 1
+refused_status task (WrongEntry address) = 1
+refused_status task NoExecutable = 1
 refused_status task LargeImage = 1
 refused_status task CannotCreate = 1
 refused_status task (Failed failure) = Failures.status_of failure

@@ -88,7 +88,10 @@ fn tell_refusal<H: Eprint>(rt: &H, program: Command, refusal: Refusal) -> io::Re
     }
     match refusal {
         Refusal::Image(error) => eprintln!(rt; "{}: {}", program.name, ToldImageError(error)),
-        Refusal::NoExecutable(error) => eprintln!(rt; "{}: {error}", program.name),
+        Refusal::WrongEntry(address) => {
+            let name = program.name;
+            eprintln!(rt; "{name}: no instruction can begin at the entry 0x{address:08x}")
+        }
         Refusal::Failed(failure) => rt.eprintln(NamedFailure { program, failure }),
         _ => Ok(()),
     }
@@ -112,8 +115,10 @@ fn text_of(refusal: &Refusal) -> Option<&'static str> {
         Refusal::LargeImage => {
             Some("the program has more than 64 MiB from its first byte to its last")
         }
+        Refusal::EmptyProgram => Some("the program is empty"),
+        Refusal::NoExecutable => Some("no executable of the program"),
         Refusal::CannotCreate => Some("cannot create file"),
-        Refusal::SourceErrors | Refusal::Image(_) | Refusal::NoExecutable(_) | Refusal::Failed(_) =>
+        Refusal::SourceErrors | Refusal::Image(_) | Refusal::WrongEntry(_) | Refusal::Failed(_) =>
             None,
     }
 }

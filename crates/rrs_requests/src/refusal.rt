@@ -1,6 +1,5 @@
 //! Why a subcommand of `rrs` did not do what it was asked.
 
-use rrs_assembly::ExecutableError;
 use rrs_cli::command::Failure;
 use rrs_cli::fault::RunFault;
 use rrs_elf::ElfError;
@@ -29,8 +28,12 @@ pub enum Refusal {
     NoAddress,
     /// The word for where a section lies is no address.
     WrongAddress,
-    /// The program that was assembled has no executable.
-    NoExecutable(ExecutableError),
+    /// The program that was assembled has no executable, since it has no bytes.
+    EmptyProgram,
+    /// It has none, since no instruction can begin at its entry, which is this address.
+    WrongEntry(u32),
+    /// It has none for another reason. This does not happen.
+    NoExecutable,
     /// The bytes of the program, with the zeros between its sections, are too many.
     LargeImage,
     /// A file that is to be written can't be created, or is the one that is read.
