@@ -40,7 +40,12 @@ static MISTAKES: [(&str, usize, usize, SourceErrorKind); 37] = [
     ("a:\nnop; a: nop", 2, 6, SourceErrorKind::Duplicate),
     ("a0: nop", 1, 1, SourceErrorKind::Reserved),
     (".section", 1, 9, SourceErrorKind::Section),
-    (".section .debug\n.popsection", 2, 1, SourceErrorKind::Unsupported),
+    (
+        ".section .debug\n.popsection",
+        2,
+        1,
+        SourceErrorKind::Unsupported,
+    ),
     ("nop\n.org 2", 2, 6, SourceErrorKind::Backward),
     (".byte 1\nnop\nnop", 2, 1, SourceErrorKind::Misplaced),
     (".space 0x4000001", 1, 8, SourceErrorKind::TooLong),
