@@ -10,7 +10,9 @@ ghost use Rattle.rrs_asm.specs.Forms.{shown, items_of_read, HasItsName, IsNoSect
 use crate::directives::{Common, Read, read_directive};
 use crate::errors::{Halt, LineError, SourceError, SourceErrorKind, SourceFault};
 use crate::instructions::read_instruction;
-use crate::lexing::{Part, begins_with, behind_blanks, first_line, first_part, split_word};
+use crate::lexing::{
+    Part, begins_with, behind_blanks, first_line, first_part, is_name, split_word,
+};
 use crate::output::MOST_BYTES;
 use crate::program::Program;
 use crate::reading::{Line, Notes, Site};
@@ -388,9 +390,10 @@ fn ended<A: Allocator + Copy>(line: &mut Line<A>) -> Result<(), LineError> {
 fn checked_name(name: &[u8], error: LineError) -> Result<&[u8], LineError>
     ensures { IfOk result (λ checked. checked.now ≡ name.now) }
 {
-    match name {
-        [] | [b'0'..=b'9', ..] => Err(error.with_kind(SourceErrorKind::Character)),
-        _ => Ok(name),
+    if is_name(name) {
+        Ok(name)
+    } else {
+        Err(error.with_kind(SourceErrorKind::Character))
     }
 }
 

@@ -6,7 +6,7 @@ ghost use Rattle.rrs_asm.specs.Source.{Item, items_named, section_opened};
 ghost use Rattle.rrs_asm.specs.Forms.{fits_placed, items_of_read, HasItsName};
 
 use crate::errors::{Halt, LineError, SourceErrorKind};
-use crate::lexing::split_word;
+use crate::lexing::{is_name, split_word};
 use crate::literals::escaped;
 use crate::names::{DataForm, DirectiveForm, PlacedForm, directive_named, is_unsupported};
 use crate::output::MOST_BYTES;
@@ -134,7 +134,7 @@ fn read_common<'a, A: Allocator + Copy>(
     rest: &'a [u8],
 ) -> Result<Common, LineError> {
     let error = line.error(SourceErrorKind::Character);
-    if matches!(symbol, [] | [b'0'..=b'9', ..]) {
+    if !is_name(symbol) {
         return Err(error);
     }
     line.rest = rest;
@@ -162,37 +162,60 @@ fn implied_alignment(size: u32, most: u32) -> u32 {
 
 /// The kind of a section by what stands behind its name, as `, "aw", @nobits`.
 fn kind_of_flags(text: &[u8]) -> Option<SectionKind> {
-    let mut parts = text.split(|byte| *byte == b'"');
-    let _comma = parts.next()?;
-    let flags = parts.next()?;
-    let is_zero = match parts.next() {
-        Some(rest) => rest.ends_with(b"nobits"),
-        None => false,
-    };
-    if flags.contains(&b'x') {
+    let flags = flags_in(text);
+    if flags.is_code {
         Some(SectionKind::Code)
-    } else if !flags.contains(&b'a') {
+    } else if !flags.is_laid_out {
         None
-    } else if is_zero {
+    } else if text.ends_with(b"nobits") {
         Some(SectionKind::Zero)
-    } else if flags.contains(&b'w') {
+    } else if flags.is_written {
         Some(SectionKind::Data)
     } else {
         Some(SectionKind::ReadOnly)
     }
 }
 
+/// The flags of a section: the letters `x`, `a` and `w` between quotation marks.
+#[derive(Clone, Copy)]
+struct Flags {
+    is_code: bool,
+    is_laid_out: bool,
+    is_written: bool,
+}
+
+/// The flags that stand behind the name of a section.
+fn flags_in(text: &[u8]) -> Flags {
+    let mut flags = Flags {
+        is_code: false,
+        is_laid_out: false,
+        is_written: false,
+    };
+    let mut is_quoted = false;
+    for byte in text {
+        match *byte {
+            b'"' => is_quoted = !is_quoted,
+            b'x' if is_quoted => flags.is_code = true,
+            b'a' if is_quoted => flags.is_laid_out = true,
+            b'w' if is_quoted => flags.is_written = true,
+            _ => (),
+        }
+    }
+    flags
+}
+
+/// The options that allow no other instructions.
+const OPTIONS: [&[u8]; 6] = [b"norvc", b"relax", b"norelax", b"push", b"pop", b"nopic"];
+
 /// Reads an option. Those that would allow other instructions are refused.
 fn read_option<A: Allocator + Copy>(line: &mut Line<A>) -> Result<(), LineError> {
     line.skip_blanks();
     let error = line.error(SourceErrorKind::Unsupported);
-    match line.word() {
-        b"norvc" | b"relax" | b"norelax" | b"push" | b"pop" | b"nopic" => {
-            line.skip_all();
-            Ok(())
-        }
-        _ => Err(error),
+    if !OPTIONS.contains(&line.word()) {
+        return Err(error);
     }
+    line.skip_all();
+    Ok(())
 }
 
 /// Reads the operands of a directive of this name that puts something at its address.
@@ -242,10 +265,8 @@ fn read_constant<'a, A: Allocator + Copy>(
 fn read_name<'a, A: Allocator + Copy>(line: &mut Line<'a, '_, A>) -> Result<&'a [u8], LineError> {
     line.skip_blanks();
     let error = line.error(SourceErrorKind::Character);
-    match line.word() {
-        [] | [b'0'..=b'9', ..] => Err(error),
-        name => Ok(name),
-    }
+    let name = line.word();
+    if is_name(name) { Ok(name) } else { Err(error) }
 }
 
 /// Reads numbers of so many bits each, with commas between them.

@@ -31,7 +31,7 @@ const NONE: Operands = Operands {
 
 /// Reads the operands of an instruction or a pseudo-instruction of this name. Its name stands at
 /// `error`.
-pub fn read_instruction<A: Allocator + Copy>(
+pub fn read_instruction<A: Allocator>(
     line: &mut Line<A>,
     name: &[u8],
     error: LineError,
@@ -52,7 +52,7 @@ pub fn read_instruction<A: Allocator + Copy>(
 }
 
 /// Reads the operands of a row.
-fn read_row<A: Allocator + Copy>(
+fn read_row<A: Allocator>(
     line: &mut Line<A>,
     template: Instruction,
 ) -> Result<Statement<A>, LineError>
@@ -108,7 +108,7 @@ fn row_form(template: Instruction) -> RowForm
 }
 
 /// Reads `rd, immediate(rs1)`, or `rd, symbol`.
-fn read_load<A: Allocator + Copy>(
+fn read_load<A: Allocator>(
     line: &mut Line<A>,
     template: Instruction,
     load: Load,
@@ -131,7 +131,7 @@ fn read_load<A: Allocator + Copy>(
 }
 
 /// Reads `rs2, immediate(rs1)`, or `rs2, symbol, rt`.
-fn read_store<A: Allocator + Copy>(
+fn read_store<A: Allocator>(
     line: &mut Line<A>,
     template: Instruction,
     store: Store,
@@ -156,7 +156,7 @@ fn read_store<A: Allocator + Copy>(
 }
 
 /// The statement that is an instruction with these operands, whose ranges the readers saw to.
-fn statement_of<A: Allocator + Copy>(
+fn statement_of<A: Allocator>(
     template: Instruction,
     operands: Operands,
 ) -> Result<Statement<A>, LineError>
@@ -232,7 +232,7 @@ fn operands_of(fields: InstructionFields) -> &'static [Operand] {
 }
 
 /// Reads operands with commas between them.
-fn read_operands<A: Allocator + Copy>(
+fn read_operands<A: Allocator>(
     line: &mut Line<A>,
     wanted: &[Operand],
 ) -> Result<Operands, LineError> {
@@ -247,7 +247,7 @@ fn read_operands<A: Allocator + Copy>(
 }
 
 /// Reads an operand, and puts it where it goes.
-fn read_operand<A: Allocator + Copy>(
+fn read_operand<A: Allocator>(
     line: &mut Line<A>,
     operand: Operand,
     operands: &mut Operands,
@@ -263,7 +263,7 @@ fn read_operand<A: Allocator + Copy>(
 }
 
 /// Reads a number that goes where an immediate does. A word is taken as a signed one.
-fn read_number<A: Allocator + Copy>(line: &mut Line<A>, number: Number) -> Result<i32, LineError> {
+fn read_number<A: Allocator>(line: &mut Line<A>, number: Number) -> Result<i32, LineError> {
     match number {
         Number::Immediate => line.immediate(),
         Number::Branch => line.offset(BRANCH_REACH),
@@ -276,27 +276,25 @@ fn read_number<A: Allocator + Copy>(line: &mut Line<A>, number: Number) -> Resul
 }
 
 /// Reads `rd, target`, or `target` alone.
-fn read_jal<A: Allocator + Copy>(
+fn read_jal<A: Allocator>(
     line: &mut Line<A>,
     template: Instruction,
 ) -> Result<Statement<A>, LineError>
     requires { (table (row_of template)).name ≡ codes "jal" }
     ensures { IfOk result (IsNamed (table (row_of template)).name) }
 {
-    let mut ahead = *line;
-    if let Ok(rd) = ahead.register() {
-        if ahead.take(b',') {
-            *line = ahead;
-            let imm = line.offset(JUMP_REACH)?;
-            let operands = Operands { rd, imm, ..NONE };
-            return statement_of(template, operands);
-        }
+    let before = line.rest;
+    if let Ok(rd) = line.register_before_comma() {
+        let imm = line.offset(JUMP_REACH)?;
+        let operands = Operands { rd, imm, ..NONE };
+        return statement_of(template, operands);
     }
+    line.rest = before;
     Ok(Statement::Pseudo(Pseudo::Jal(line.offset(JUMP_REACH)?)))
 }
 
 /// Reads `rd, immediate(rs1)`, `rd, rs1, immediate`, `rd, rs1`, or `rs1` alone.
-fn read_jalr<A: Allocator + Copy>(
+fn read_jalr<A: Allocator>(
     line: &mut Line<A>,
     template: Instruction,
 ) -> Result<Statement<A>, LineError>
@@ -307,18 +305,14 @@ fn read_jalr<A: Allocator + Copy>(
     if !line.take(b',') {
         return Ok(Statement::Pseudo(Pseudo::Jalr(rd)));
     }
-    let mut ahead = *line;
-    let (imm, rs1) = match ahead.register() {
-        Ok(rs1) => {
-            *line = ahead;
-            let imm = if line.take(b',') {
-                line.immediate()?
-            } else {
-                0
-            };
-            (imm, rs1)
+    let before = line.rest;
+    let (imm, rs1) = match line.register() {
+        Ok(rs1) if line.take(b',') => (line.immediate()?, rs1),
+        Ok(rs1) => (0, rs1),
+        Err(_) => {
+            line.rest = before;
+            line.address()?
         }
-        Err(_) => line.address()?,
     };
     let operands = Operands {
         rd,
@@ -330,7 +324,7 @@ fn read_jalr<A: Allocator + Copy>(
 }
 
 /// Reads two sets of accesses, or nothing.
-fn read_fence<A: Allocator + Copy>(
+fn read_fence<A: Allocator>(
     line: &mut Line<A>,
     template: Instruction,
 ) -> Result<Statement<A>, LineError>
@@ -349,7 +343,7 @@ fn read_fence<A: Allocator + Copy>(
 }
 
 /// Reads a set of accesses: some of the letters `iorw`, in this order.
-fn read_accesses<A: Allocator + Copy>(line: &mut Line<A>) -> Result<u32, LineError>
+fn read_accesses<A: Allocator>(line: &mut Line<A>) -> Result<u32, LineError>
     ensures { IfOk result (λ set. set < 16) }
 {
     line.skip_blanks();
@@ -357,35 +351,26 @@ fn read_accesses<A: Allocator + Copy>(line: &mut Line<A>) -> Result<u32, LineErr
     accesses_of(line.word()).ok_or(error)
 }
 
+/// The sets of accesses, in the order of their four bits, from 1 on.
+const ACCESSES: [&[u8]; 15] = [
+    b"w", b"r", b"rw", b"o", b"ow", b"or", b"orw", b"i", b"iw", b"ir", b"irw", b"io", b"iow",
+    b"ior", b"iorw",
+];
+
 /// The four bits of a set of accesses.
 fn accesses_of(word: &[u8]) -> Option<u32>
     ensures { IfSome result (λ set. set < 16) }
 {
-    match word {
-        b"i" => Some(8),
-        b"o" => Some(4),
-        b"r" => Some(2),
-        b"w" => Some(1),
-        b"io" => Some(12),
-        b"ir" => Some(10),
-        b"iw" => Some(9),
-        b"or" => Some(6),
-        b"ow" => Some(5),
-        b"rw" => Some(3),
-        b"ior" => Some(14),
-        b"iow" => Some(13),
-        b"irw" => Some(11),
-        b"orw" => Some(7),
-        b"iorw" => Some(15),
-        _ => None,
+    for (set, own) in (1u32..16).zip(&ACCESSES) {
+        if *own == word {
+            return Some(set);
+        }
     }
+    None
 }
 
 /// Reads the operands of a pseudo-instruction.
-fn read_pseudo<A: Allocator + Copy>(
-    line: &mut Line<A>,
-    form: PseudoForm,
-) -> Result<Pseudo, LineError>
+fn read_pseudo<A: Allocator>(line: &mut Line<A>, form: PseudoForm) -> Result<Pseudo, LineError>
     ensures { IfOk result (λ pseudo. pseudo_name pseudo ≡ form_name form) }
 {
     Ok(pseudo_of(form, read_operands(line, operands_of_pseudo(form))?))

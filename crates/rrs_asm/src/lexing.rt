@@ -164,6 +164,11 @@ pub fn behind_blanks(text: &[u8]) -> &[u8]
     &text[text.len()..]
 }
 
+/// Whether a word can be the name of a symbol: it begins with no digit.
+pub fn is_name(word: &[u8]) -> bool {
+    !matches!(word, [] | [b'0'..=b'9', ..])
+}
+
 /// Whether a text begins with a byte.
 pub fn begins_with(text: &[u8], wanted: u8) -> bool
     ensures { result ≡ begins_with wanted text.now }

@@ -4,12 +4,12 @@ ghost use Rattle.std.specs.Prelude.{pos, ◌<ℤ◌};
 
 use crate::errors::{LineError, SourceErrorKind};
 use crate::expressions::{LOOSEST, Operator, Waiting, operator_between};
-use crate::lexing::{behind_blanks, split_word};
+use crate::lexing::{behind_blanks, is_name, split_word};
 use crate::literals::{digit_of, escaped, local_label, number_of};
 use crate::pseudo::{lower, upper};
 use crate::registers::register_number;
 use crate::symbols::{Known, Symbols};
-use std::alloc::Allocator;
+use std::alloc::{AllocError, Allocator};
 
 /// Where a statement stands.
 #[derive(Clone, Copy)]
@@ -41,7 +41,6 @@ struct Wanted {
 }
 
 /// What is left of a statement, and where it stands.
-#[derive_where(Clone, Copy)]
 pub struct Line<'a, 's, A: Allocator> {
     pub rest: &'a [u8],
     /// How many bytes of the line are behind the statement.
@@ -51,7 +50,15 @@ pub struct Line<'a, 's, A: Allocator> {
     pub notes: Notes,
 }
 
-impl<'a, 's, A: Allocator + Copy> Line<'a, 's, A> {
+impl<A: Allocator> Clone for Line<'_, '_, A> {
+    fn clone(&self) -> Result<Self, AllocError> {
+        Ok(*self)
+    }
+}
+
+impl<A: Allocator> Copy for Line<'_, '_, A> {}
+
+impl<'a, 's, A: Allocator> Line<'a, 's, A> {
     /// The rest of a statement at a place, with so many bytes of the line behind it.
     pub fn new(rest: &'a [u8], behind: usize, symbols: &'s Symbols<'a, A>, site: Site) -> Self {
         let notes = Notes {
@@ -76,21 +83,19 @@ impl<'a, 's, A: Allocator + Copy> Line<'a, 's, A> {
     }
 
     /// Takes a symbol, with what is added to it, and no register in parentheses behind it: how far
-    /// it is from the statement, modulo 2^32. None where something else stands there.
+    /// it is from the statement, modulo 2^32. None where something else stands there, which is left.
     pub fn distance_alone(&mut self) -> Option<u32> {
-        let mut ahead = *self;
-        ahead.skip_blanks();
-        let is_symbol = match ahead.rest {
-            [b'a'..=b'z' | b'A'..=b'Z' | b'_' | b'.' | b'$', ..] => true,
-            _ => false,
-        };
-        let value = ahead.value().ok()?;
-        let mut behind = ahead;
-        if !is_symbol || behind.take(b'(') {
-            return None;
+        let before = self.rest;
+        let (word, _) = split_word(before);
+        if is_name(word) {
+            if let Ok(value) = self.value() {
+                if !self.take(b'(') {
+                    return Some(value.wrapping_sub(self.site.here));
+                }
+            }
         }
-        *self = ahead;
-        Some(value.wrapping_sub(self.site.here))
+        self.rest = before;
+        None
     }
 
     /// Takes whatever is left.
@@ -345,44 +350,35 @@ impl<'a, 's, A: Allocator + Copy> Line<'a, 's, A> {
         Ok(value)
     }
 
-    /// Takes a value, or the lower 12 bits of one.
-    fn low(&mut self) -> Result<u32, LineError> {
+    /// Takes a value, or the part of one that a modifier names: its lower 12 bits or its upper 20.
+    fn part(&mut self, is_low: bool) -> Result<u32, LineError> {
         if !self.take(b'%') {
             return self.value();
         }
         let error = self.error(SourceErrorKind::Value);
-        let name = self.word();
-        match name {
-            b"lo" => Ok(lower(self.enclosed()?).cast_unsigned()),
-            b"pcrel_lo" => {
-                let address = self.enclosed()?;
-                match self.symbols.distance_at(address) {
-                    Some(distance) => Ok(lower(distance).cast_unsigned()),
-                    None => self.fitting(0, 0, false, error.with_kind(SourceErrorKind::Distance)),
-                }
-            }
-            b"hi" | b"pcrel_hi" => Err(error.with_kind(SourceErrorKind::High)),
-            _ => Err(error),
+        let modifier = modifier_named(self.word()).ok_or(error)?;
+        if modifier.is_low != is_low {
+            return Err(error.with_kind(modifier.misplaced()));
         }
+        let value = self.enclosed()?;
+        let whole = if modifier.is_relative {
+            self.distance(value, is_low, error)?
+        } else {
+            value
+        };
+        Ok(part_of(whole, is_low))
     }
 
-    /// Takes a value, or the upper 20 bits of one.
-    fn high(&mut self) -> Result<u32, LineError> {
-        if !self.take(b'%') {
-            return self.value();
+    /// How far a `%pcrel_hi` of this value reaches, which is kept, or the one at this address did.
+    fn distance(&mut self, value: u32, is_low: bool, error: LineError) -> Result<u32, LineError> {
+        if is_low {
+            let known = self.symbols.distance_at(value);
+            let missing = error.with_kind(SourceErrorKind::Distance);
+            return self.fitting(known.unwrap_or(0), 0, known.is_some(), missing);
         }
-        let error = self.error(SourceErrorKind::Value);
-        let name = self.word();
-        match name {
-            b"hi" => Ok(upper(self.enclosed()?).cast_unsigned() >> 12),
-            b"pcrel_hi" => {
-                let distance = self.enclosed()?.wrapping_sub(self.site.here);
-                self.notes.distance = Some(distance);
-                Ok(upper(distance).cast_unsigned() >> 12)
-            }
-            b"lo" | b"pcrel_lo" => Err(error.with_kind(SourceErrorKind::Low)),
-            _ => Err(error),
-        }
+        let distance = value.wrapping_sub(self.site.here);
+        self.notes.distance = Some(distance);
+        Ok(distance)
     }
 
     /// A value, if it fits. Before the last reading, where a symbol may be unknown, 0 where it does
@@ -404,7 +400,7 @@ impl<'a, 's, A: Allocator + Copy> Line<'a, 's, A> {
     pub fn immediate(&mut self) -> Result<i32, LineError> {
         self.skip_blanks();
         let error = self.error(SourceErrorKind::Range);
-        let value = self.low()?.cast_signed();
+        let value = self.part(true)?.cast_signed();
         self.fitting(value, 0, -2048 <= value && value <= 2047, error)
     }
 
@@ -420,7 +416,7 @@ impl<'a, 's, A: Allocator + Copy> Line<'a, 's, A> {
     pub fn upper(&mut self) -> Result<u32, LineError> {
         self.skip_blanks();
         let error = self.error(SourceErrorKind::Range);
-        let value = self.high()?;
+        let value = self.part(false)?;
         self.fitting(value, 0, value < 0x10_0000, error)
     }
 
@@ -469,10 +465,62 @@ impl<'a, 's, A: Allocator + Copy> Line<'a, 's, A> {
         Ok((imm, register))
     }
 
-    /// Whether a register in parentheses is next.
-    fn is_register_enclosed(&self) -> bool {
-        let mut ahead = *self;
-        ahead.take(b'(') && ahead.register().is_ok()
+    /// Whether a register in parentheses is next, which is left.
+    fn is_register_enclosed(&mut self) -> bool {
+        let before = self.rest;
+        let is_enclosed = self.take(b'(') && self.register().is_ok();
+        self.rest = before;
+        is_enclosed
+    }
+}
+
+/// A name behind `%`, which says what is meant of the value in parentheses.
+#[derive(Clone, Copy)]
+struct Modifier {
+    /// Its lower 12 bits, and not its upper 20.
+    is_low: bool,
+    /// Whether it is taken from the address of a statement.
+    is_relative: bool,
+}
+
+impl Modifier {
+    /// The mistake where the other part is wanted.
+    fn misplaced(self) -> SourceErrorKind {
+        if self.is_low {
+            SourceErrorKind::Low
+        } else {
+            SourceErrorKind::High
+        }
+    }
+}
+
+/// The modifiers, each by its name, whether it means the lower 12 bits, and whether it is relative.
+const MODIFIERS: [(&[u8], bool, bool); 4] = [
+    (b"hi", false, false),
+    (b"lo", true, false),
+    (b"pcrel_hi", false, true),
+    (b"pcrel_lo", true, true),
+];
+
+/// The modifier of a name.
+fn modifier_named(name: &[u8]) -> Option<Modifier> {
+    for (own, is_low, is_relative) in &MODIFIERS {
+        if *own == name {
+            return Some(Modifier {
+                is_low: *is_low,
+                is_relative: *is_relative,
+            });
+        }
+    }
+    None
+}
+
+/// The lower 12 bits of a word, or its upper 20.
+fn part_of(word: u32, is_low: bool) -> u32 {
+    if is_low {
+        lower(word).cast_unsigned()
+    } else {
+        upper(word).cast_unsigned() >> 12
     }
 }
 

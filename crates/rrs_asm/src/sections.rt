@@ -263,7 +263,8 @@ impl Extent {
     {
         match layout.data_start {
             None => end.checked_next_multiple_of(u64::from(layout.page)),
-            Some(data) => Some(u64::from(data)).filter(|data| *data >= end),
+            Some(data) if u64::from(data) >= end => Some(u64::from(data)),
+            Some(_) => None,
         }
     }
 
@@ -390,7 +391,9 @@ fn add_new<'a, A: Allocator + Copy>(
     if start > u64::from(u32::MAX) && section.size == 0 {
         return Ok(());
     }
-    let address = u32::try_from(start).map_err(|_| too_long())?;
+    let Ok(address) = u32::try_from(start) else {
+        return Err(too_long());
+    };
     let end = start.saturating_add(section.size as u64);
     if end > 1 << 32 {
         return Err(too_long());
@@ -405,16 +408,33 @@ fn add_new<'a, A: Allocator + Copy>(
     Ok(())
 }
 
+/// The name, the kind and the alignment of each section that every source has.
+const FIRST_SECTIONS: [(&[u8], SectionKind, u32); 4] = [
+    (b".text", SectionKind::Code, 4),
+    (b".data", SectionKind::Data, 1),
+    (b".bss", SectionKind::Zero, 1),
+    (b"COMMON", SectionKind::Zero, 1),
+];
+
 /// The sections that every source has, at the addresses that are said.
 pub fn first_sections<'a, A: Allocator + Copy>(
     alloc: A,
     layout: Layout,
 ) -> Result<Vec<Section<'a, A>, A>, AllocError> {
     let mut sections = Vec::new(alloc);
-    sections.push(Section::new(alloc, b".text", SectionKind::Code, 4, layout.text_start))?;
-    let data = layout.data_start.unwrap_or(0);
-    sections.push(Section::new(alloc, b".data", SectionKind::Data, 1, data))?;
-    sections.push(Section::new(alloc, b".bss", SectionKind::Zero, 1, 0))?;
-    sections.push(Section::new(alloc, b"COMMON", SectionKind::Zero, 1, 0))?;
+    for (name, kind, alignment) in &FIRST_SECTIONS {
+        let address = first_address(*kind, layout);
+        let section = Section::new(alloc, *name, *kind, *alignment, address);
+        sections.push(section)?;
+    }
     Ok(sections)
+}
+
+/// Where a section of a kind lies before its address is known.
+fn first_address(kind: SectionKind, layout: Layout) -> u32 {
+    match kind {
+        SectionKind::Code => layout.text_start,
+        SectionKind::Data => layout.data_start.unwrap_or(0),
+        SectionKind::ReadOnly | SectionKind::Zero => 0,
+    }
 }

@@ -1,6 +1,6 @@
 //! Symbols: labels, local labels and constants.
 
-ghost use Rattle.std.specs.Prelude.{◌≡◌, false, true};
+ghost use Rattle.std.specs.Prelude.{◌≡◌, true};
 ghost use Rattle.rrs_asm.specs.declared.symbols.Pass.{Pass};
 
 use crate::errors::{Halt, SourceErrorKind};
@@ -75,13 +75,52 @@ impl<'a, A: Allocator + Copy> Symbols<'a, A> {
         self.pass = pass;
     }
 
-    /// Whether the source is read for the first time.
-    pub fn is_first(&self) -> bool
-        ensures { self.now.pass ≡ Pass.Last → result ≡ false }
+    /// Keeps how far a `%pcrel_hi` reaches.
+    pub fn keep_distance(&mut self, address: u32, distance: u32) -> Result<(), AllocError>
+        ensures { self.new.pass ≡ self.old.pass }
     {
-        matches!(self.pass, Pass::First)
+        let _ = self.distances.insert(address, distance)?;
+        Ok(())
     }
 
+    /// Defines a local label of a digit.
+    pub fn define_local(&mut self, digit: u8, address: u32) -> Result<(), Halt>
+        ensures { self.new.pass ≡ self.old.pass }
+    {
+        let count = self.count_of(digit);
+        self.locals.insert((digit, count), address)?;
+        if let Some(slot) = self.counts.get_mut(usize::from(digit)) {
+            *slot = count.saturating_add(1);
+        }
+        Ok(())
+    }
+
+    /// Defines a label, or a constant. Tells what is wrong with it.
+    pub fn define(
+        &mut self,
+        name: &'a [u8],
+        value: u32,
+        is_label: bool,
+    ) -> Result<Option<SourceErrorKind>, AllocError>
+        ensures { self.new.pass ≡ self.old.pass }
+    {
+        if let Some(old) = self.names.get(name).copied() {
+            if (is_label || old.is_label) && (old.met == self.pass || old.is_label != is_label) {
+                return Ok(Some(SourceErrorKind::Duplicate));
+            }
+        }
+        let met = self.pass;
+        let definition = Definition {
+            value,
+            is_label,
+            met,
+        };
+        self.names.insert(name, definition)?;
+        Ok(None)
+    }
+}
+
+impl<'a, A: Allocator> Symbols<'a, A> {
     /// Whether the source is read for the last time.
     pub fn is_last(&self) -> bool
         ensures { self.now.pass ≡ Pass.Last → result ≡ true }
@@ -92,14 +131,6 @@ impl<'a, A: Allocator + Copy> Symbols<'a, A> {
     /// How far the `%pcrel_hi` of the statement at an address reaches.
     pub fn distance_at(&self, address: u32) -> Option<u32> {
         self.distances.get(&address).copied()
-    }
-
-    /// Keeps how far a `%pcrel_hi` reaches.
-    pub fn keep_distance(&mut self, address: u32, distance: u32) -> Result<(), AllocError>
-        ensures { self.new.pass ≡ self.old.pass }
-    {
-        let _ = self.distances.insert(address, distance)?;
-        Ok(())
     }
 
     /// What is known of a symbol.
@@ -141,41 +172,5 @@ impl<'a, A: Allocator + Copy> Symbols<'a, A> {
     /// How many local labels of a digit were met.
     fn count_of(&self, digit: u8) -> u32 {
         self.counts.get(usize::from(digit)).copied().unwrap_or(0)
-    }
-
-    /// Defines a local label of a digit.
-    pub fn define_local(&mut self, digit: u8, address: u32) -> Result<(), Halt>
-        ensures { self.new.pass ≡ self.old.pass }
-    {
-        let count = self.count_of(digit);
-        self.locals.insert((digit, count), address)?;
-        if let Some(slot) = self.counts.get_mut(usize::from(digit)) {
-            *slot = count.saturating_add(1);
-        }
-        Ok(())
-    }
-
-    /// Defines a label, or a constant. Tells what is wrong with it.
-    pub fn define(
-        &mut self,
-        name: &'a [u8],
-        value: u32,
-        is_label: bool,
-    ) -> Result<Option<SourceErrorKind>, AllocError>
-        ensures { self.new.pass ≡ self.old.pass }
-    {
-        if let Some(old) = self.names.get(name).copied() {
-            if (is_label || old.is_label) && (old.met == self.pass || old.is_label != is_label) {
-                return Ok(Some(SourceErrorKind::Duplicate));
-            }
-        }
-        let met = self.pass;
-        let definition = Definition {
-            value,
-            is_label,
-            met,
-        };
-        self.names.insert(name, definition)?;
-        Ok(None)
     }
 }
