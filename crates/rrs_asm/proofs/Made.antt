@@ -25,10 +25,10 @@ use Rattle.rrs_asm.specs.Forms.{skipped, IsNoSection, IsNew, IsSectionRead, Grow
 label-at : (a b line : ℕ) (name : List ℕ) (l : Label) → a ≡ b → IsLabelAt a line name l → IsLabelAt b line name l
 label-at a b line name l same at = let P : ℕ → Type 0 = λ n. IsLabelAt n line name l in subst P same at
 
-placed-at : {A : Type 0} (a b line : ℕ) (name : List ℕ) (p : Placed A) (own : List ℕ) → a ≡ b → IsPlacedAt a line name p own → IsPlacedAt b line name p own
+placed-at : (a b line : ℕ) (name : List ℕ) (p : Placed) (own : List ℕ) → a ≡ b → IsPlacedAt a line name p own → IsPlacedAt b line name p own
 placed-at a b line name p own same at = let P : ℕ → Type 0 = λ n. IsPlacedAt n line name p own in subst P same at
 
-pub IsMade-label : {A : Type 0} (base : ℕ) (items : List Item) (labels : List Label) (placed : List (Placed A)) (bytes : List ℕ) (line : ℕ) (name : List ℕ) (l : Label)
+pub IsMade-label : (base : ℕ) (items : List Item) (labels : List Label) (placed : List Placed) (bytes : List ℕ) (line : ℕ) (name : List ℕ) (l : Label)
     → IsMade base items labels placed bytes → IsLabelAt (base + length bytes) line name l
     → IsMade base (items ++ Item.Label line name ∷ []) (labels ++ l ∷ []) placed bytes
 IsMade-label base [] labels placed bytes line name l (none, nothing, empty) label =
@@ -42,7 +42,7 @@ IsMade-label base (Item.Common own_line directive symbol ∷ items) labels place
 IsMade-label base (Item.Laid own_line own_name ∷ items) labels placed bytes line name l (p, others, own, rest, at, made, all, whole) label =
     (p, others, own, rest, at, IsMade-label (base + length own) items labels others rest line name l made (label-at _ _ line name l (grind (arith, common_steps)) label), all, whole)
 
-pub IsMade-laid : {A : Type 0} (base : ℕ) (items : List Item) (labels : List Label) (placed : List (Placed A)) (bytes : List ℕ) (line : ℕ) (name : List ℕ) (p : Placed A) (own : List ℕ)
+pub IsMade-laid : (base : ℕ) (items : List Item) (labels : List Label) (placed : List Placed) (bytes : List ℕ) (line : ℕ) (name : List ℕ) (p : Placed) (own : List ℕ)
     → IsMade base items labels placed bytes → IsPlacedAt (base + length bytes) line name p own
     → IsMade base (items ++ Item.Laid line name ∷ []) labels (placed ++ p ∷ []) (bytes ++ own)
 IsMade-laid base [] labels placed bytes line name p own (none, nothing, empty) at =
@@ -65,7 +65,7 @@ IsMade-laid base (Item.Laid own_line own_name ∷ items) labels placed bytes lin
 )
 
 -- what is made stands one behind the other
-pub laid-out : {A : Type 0} (base : ℕ) (items : List Item) (labels : List Label) (placed : List (Placed A)) (bytes : List ℕ) → IsMade base items labels placed bytes → LaysOut base placed bytes
+pub laid-out : (base : ℕ) (items : List Item) (labels : List Label) (placed : List Placed) (bytes : List ℕ) → IsMade base items labels placed bytes → LaysOut base placed bytes
 laid-out base [] labels placed bytes (none, nothing, empty) = rw nothing empty
 laid-out base (Item.Label line name ∷ items) labels placed bytes (first, others, label, made, all) = laid-out base items others placed bytes made
 laid-out base (Item.Section name ∷ items) labels placed bytes made = laid-out base items labels placed bytes made
@@ -92,7 +92,7 @@ Grows-label line name l old new named start size labels placed bytes at_line own
 }
 
 -- a statement, of so many bytes
-pub Grows-laid : {A : Type 0} (line count : ℕ) (name : List ℕ) (statement : Statement A) (old new : Section A)
+pub Grows-laid : {A : Type 0} (line count : ℕ) (name : List ℕ) (statement : Statement) (old new : Section A)
     → IsNamed name statement → ((own : List ℕ) → AreBytes statement own → count ≡ length own)
     → new.name ≡ old.name → new.address ≡ old.address
     → AddsPlaced old.address line statement old.made.placed.items new.made.placed.items old.made.bytes.items new.made.bytes.items
@@ -101,7 +101,7 @@ pub Grows-laid : {A : Type 0} (line count : ℕ) (name : List ℕ) (statement : 
 Grows-laid line count name statement old new named counts same start adds labels size = record {
   name = same;
   reads = λ items read.
-      let Bytes : Statement _ → Type 0 = λ s. AreBytes s adds.own in
+      let Bytes : Statement → Type 0 = λ s. AreBytes s adds.own in
       let length_own : count ≡ length adds.own = counts adds.own adds.bytes in
       let same_size : old.size ≡ length old.made.bytes.items = read.size in
       let behind : new.made.bytes.items ≡ old.made.bytes.items ++ adds.own = adds.bytes_behind in
@@ -425,7 +425,7 @@ on-ok (Err e) p follows = tt
 
 -- ---- what is placed
 
-pub adds-placed : {A : Type 0} (base number : ℕ) (s : Statement A) (p : Placed A) (old new : List (Placed A)) (before after : List ℕ)
+pub adds-placed : (base number : ℕ) (s : Statement) (p : Placed) (old new : List Placed) (before after : List ℕ)
     → new ≡ old ++ p ∷ [] → p.line ≡ number → p.address ≡ base + length before → p.statement ≡ s
     → ((own : List ℕ) × AreBytes s own × (after ≡ before ++ own)) → AddsPlaced base number s old new before after
 adds-placed base number s p old new before after behind line address statement (own, bytes, whole) =

@@ -97,7 +97,7 @@ IsRowForm name _ = Unit {0}
 abbrev pub skipped : ℕ → List ℕ → Bool → Item
 skipped line name is_label = if is_label then Item.Label line name else Item.Laid line name
 
-abbrev pub items_of_read : {A : Type 0} → ℕ → Read A → List Item
+abbrev pub items_of_read : ℕ → Read → List Item
 items_of_read line (Read.Label name) = Item.Label line name.now ∷ []
 items_of_read line (Read.Laid name statement notes) = Item.Laid line name.now ∷ []
 items_of_read line (Read.Section name kind) = Item.Section name.now ∷ []
@@ -106,7 +106,7 @@ items_of_read line (Read.Skipped name is_label) = skipped line name.now is_label
 items_of_read line _ = []
 
 -- a statement is one of its name
-abbrev pub HasItsName : {A : Type 0} → Read A → Type 0
+abbrev pub HasItsName : Read → Type 0
 HasItsName (Read.Laid name statement notes) = IsNamed name.now statement
 HasItsName (Read.Common name symbol common) = is_one_of fill_names name.now ≡ true
 HasItsName _ = Unit {0}

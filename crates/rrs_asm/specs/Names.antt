@@ -137,9 +137,9 @@ is_common_name name = begins_with_dot name && is_one_of common_names name
 -- ---- statements
 
 -- a statement is one of this name
-abbrev pub IsNamed : {A : Type 0} → List ℕ → Statement A → Type 0
+abbrev pub IsNamed : List ℕ → Statement → Type 0
 IsNamed name (Statement.Instruction i) = (table (row_of i)).name ≡ name
 IsNamed name (Statement.Pseudo pseudo) = pseudo_name pseudo ≡ name
-IsNamed name (Statement.Data own) = is_one_of data_names name ≡ true
+IsNamed name (Statement.Data count) = is_one_of data_names name ≡ true
 IsNamed name (Statement.Fill count byte) = is_one_of fill_names name ≡ true
 IsNamed name Statement.Unimp = codes "unimp" ≡ name

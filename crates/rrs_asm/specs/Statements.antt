@@ -18,16 +18,16 @@ AreWords (i ∷ others) bytes =
     × (bytes ≡ to_le_bytes w32 w ++ rest)
 
 -- the bytes are those of a statement
-abbrev pub AreBytes : {A : Type 0} → Statement A → List ℕ → Type 0
+abbrev pub AreBytes : Statement → List ℕ → Type 0
 AreBytes (Statement.Instruction i) bytes = AreWords (i ∷ []) bytes
 AreBytes (Statement.Pseudo pseudo) bytes = AreWords (expanded pseudo) bytes
-AreBytes (Statement.Data own) bytes = bytes ≡ own.items
+AreBytes (Statement.Data count) bytes = length bytes ≡ count
 AreBytes (Statement.Fill count byte) bytes = bytes ≡ replicate count byte
 AreBytes Statement.Unimp bytes = bytes ≡ to_le_bytes w32 0xc0001073
 
 -- The statements stand one after another from an address on: the address of each is that of the
 -- one before and its size. These are their bytes.
-abbrev pub LaysOut : {A : Type 0} → ℕ → List (Placed A) → List ℕ → Type 0
+abbrev pub LaysOut : ℕ → List Placed → List ℕ → Type 0
 LaysOut address [] bytes = bytes ≡ []
 LaysOut address (p ∷ others) bytes =
     (own : List ℕ) × (rest : List ℕ) × (p.address ≡ address) × AreBytes p.statement own
@@ -40,7 +40,7 @@ pub record IsLabelAt (at number : ℕ) (own_name : List ℕ) (label : Label) : T
   pub address : label.address ≡ at % 2 ^ 32
 
 -- a statement of a line and a name stands at an address, as these bytes
-pub record IsPlacedAt {A : Type 0} (at number : ℕ) (own_name : List ℕ) (placed : Placed A) (own : List ℕ) : Type 0
+pub record IsPlacedAt (at number : ℕ) (own_name : List ℕ) (placed : Placed) (own : List ℕ) : Type 0
   where
     pub line : placed.line ≡ number
     pub address : placed.address ≡ at
@@ -50,13 +50,13 @@ pub record IsPlacedAt {A : Type 0} (at number : ℕ) (own_name : List ℕ) (plac
 -- What is made of items, from an address on: each label and each statement is one of theirs, in
 -- order, and each item has its label or its statement. A label's address is that of what stands
 -- behind it, and a statement's that at which the one before it ends.
-abbrev pub IsMade : {A : Type 0} → ℕ → List Item → List Label → List (Placed A) → List ℕ → Type 0
+abbrev pub IsMade : ℕ → List Item → List Label → List Placed → List ℕ → Type 0
 IsMade address [] labels placed bytes = (labels ≡ []) × (placed ≡ []) × (bytes ≡ [])
 IsMade address (Item.Label line name ∷ items) labels placed bytes =
     (l : Label) × (others : List Label) × IsLabelAt address line name l
     × IsMade address items others placed bytes × (labels ≡ l ∷ others)
 IsMade address (Item.Laid line name ∷ items) labels placed bytes =
-    (p : Placed _) × (others : List (Placed _)) × (own : List ℕ) × (rest : List ℕ)
+    (p : Placed) × (others : List Placed) × (own : List ℕ) × (rest : List ℕ)
     × IsPlacedAt address line name p own × IsMade (address + length own) items labels others rest
     × (placed ≡ p ∷ others) × (bytes ≡ own ++ rest)
 IsMade address (Item.Section name ∷ items) labels placed bytes =
@@ -65,9 +65,9 @@ IsMade address (Item.Common line directive symbol ∷ items) labels placed bytes
     IsMade address items labels placed bytes
 
 -- one statement of a line more stands behind those from `base` on
-pub record AddsPlaced {A : Type 0} (base number : ℕ) (own_statement : Statement A) (old new : List (Placed A))
+pub record AddsPlaced (base number : ℕ) (own_statement : Statement) (old new : List Placed)
     (before after : List ℕ) : Type 0 where
-  pub placed : Placed A
+  pub placed : Placed
   pub own : List ℕ
   pub line : placed.line ≡ number
   pub address : placed.address ≡ base + length before

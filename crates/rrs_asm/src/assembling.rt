@@ -7,12 +7,10 @@ ghost use Rattle.rrs_asm.specs.Source.{Part, Item, word, is_laid_out, items_of, 
 ghost use Rattle.rrs_asm.specs.Sections.{names_of, index_of, first_open, AreMade, AreLaidOut, AllFound, ArePlaced};
 ghost use Rattle.rrs_asm.specs.Forms.{shown, items_of_read, HasItsName, IsNoSection, IsNew, IsRead, ReadsOn};
 
-use crate::directives::{Common, Read, read_directive};
+use crate::directives::{Common, Read, checked_name, read_directive};
 use crate::errors::{Halt, LineError, SourceError, SourceErrorKind, SourceFault};
 use crate::instructions::read_instruction;
-use crate::lexing::{
-    Part, begins_with, behind_blanks, first_line, first_part, is_name, split_word,
-};
+use crate::lexing::{Part, begins_with, behind_blanks, first_line, first_part, split_word};
 use crate::output::MOST_BYTES;
 use crate::program::Program;
 use crate::reading::{Line, Notes, Site};
@@ -73,22 +71,43 @@ pub fn assemble_source_in<A: Allocator + Copy>(
     let mut symbols = Symbols::new(alloc);
     let sections = first_sections(alloc, layout)?;
     let (first, _) = read_source(alloc, source, &mut symbols, sections)?;
-    symbols.begin(Pass::Second);
-    let sections = placed_again(alloc, &first.sections, layout)?;
-    let (second, _) = read_source(alloc, source, &mut symbols, sections)?;
-    symbols.begin(Pass::Last);
-    let sections = placed_again(alloc, &first.sections, layout)?;
-    let (last, mut errors) = read_source(alloc, source, &mut symbols, sections)?;
+    let first = first.sections;
+    let (second, _) = read_again(alloc, source, &mut symbols, Pass::Second, &first, layout)?;
+    let (last, errors) = read_again(alloc, source, &mut symbols, Pass::Last, &first, layout)?;
     let is_settled = is_settled(&second.sections, &last.sections);
     if has_none(&errors) && is_settled && are_placed(&last.sections, layout) {
         return Ok(Program {
             sections: last.sections,
         });
     }
-    if errors.is_empty() {
-        errors.push(MOVED_END)?;
+    Err(fault_of(errors))
+}
+
+/// Reads all lines again, where the sections have the sizes that they have after the first reading.
+fn read_again<'a, A: Allocator + Copy>(
+    alloc: A,
+    source: &'a [u8],
+    symbols: &mut Symbols<'a, A>,
+    pass: Pass,
+    first: &[Section<'a, A>],
+    layout: Layout,
+) -> Result<(Reading<'a, A>, Vec<SourceError, A>), SourceFault<A>>
+    ensures { pass ≡ Pass.Last → IfOk result (λ read. read.1.items ≡ []
+        → (names : List (List ℕ)) × IsRead names (items_of source.now) read.0) }
+{
+    symbols.begin(pass);
+    let sections = placed_again(alloc, first, layout)?;
+    read_source(alloc, source, symbols, sections)
+}
+
+/// The fault that these mistakes are. Where there is none, the last reading ends at another address
+/// than the one before.
+fn fault_of<A: Allocator + Copy>(errors: Vec<SourceError, A>) -> SourceFault<A> {
+    let mut errors = errors;
+    if errors.is_empty() && errors.push(MOVED_END).is_err() {
+        return SourceFault::OutOfMemory;
     }
-    Err(SourceFault::Errors(errors))
+    SourceFault::Errors(errors)
 }
 
 /// Whether there is no mistake.
@@ -121,14 +140,18 @@ fn placed_again<'a, A: Allocator + Copy>(
 fn is_settled<A: Allocator + Copy>(others: &[Section<A>], sections: &[Section<A>]) -> bool
     ensures { result ≡ true → first_open (names_of sections.now) < length sections.now }
 {
-    if section_named(sections, b".text") >= sections.len() {
-        return false;
+    section_named(sections, b".text") < sections.len() && are_as_long(others, sections)
+}
+
+/// Whether each section has the same size as in another reading.
+fn are_as_long<A: Allocator + Copy>(others: &[Section<A>], sections: &[Section<A>]) -> bool {
+    for (index, section) in sections.iter().enumerate() {
+        match others.get(index) {
+            Some(other) if other.size() == section.size() => (),
+            _ => return false,
+        }
     }
     sections.len() == others.len()
-        && sections
-            .iter()
-            .zip(others)
-            .all(|(own, other)| own.size() == other.size())
 }
 
 /// The mistake where the last reading ends at another address than the one before.
@@ -198,13 +221,14 @@ fn read_source<'a, A: Allocator + Copy>(
         total: 0,
     };
     let mut errors = Vec::new(alloc);
+    let mut data = Vec::new(alloc);
     let mut number = 0usize;
     let mut rest = Some(source);
     while let Some(text) = rest {
         let (line, others) = first_line(text);
         rest = others;
         number += 1;
-        match read_line(alloc, line, number, symbols, &mut reading) {
+        match read_line(alloc, line, number, symbols, &mut reading, &mut data) {
             Ok(()) => (),
             Err(Halt::OutOfMemory) => return Err(SourceFault::OutOfMemory),
             Err(Halt::Error(error)) => {
@@ -235,13 +259,15 @@ fn error_at(text: &[u8], line: usize, error: LineError) -> SourceError {
     }
 }
 
-/// Reads the labels and the statements of a line.
+/// Reads the labels and the statements of a line. The data of a statement are put in the place of
+/// those that were there.
 fn read_line<'a, A: Allocator + Copy>(
     alloc: A,
     line: &'a [u8],
     number: usize,
     symbols: &mut Symbols<'a, A>,
     reading: &mut Reading<'a, A>,
+    data: &mut Vec<u8, A>,
 ) -> Result<(), Halt>
     ensures pass { symbols.new.pass ≡ symbols.old.pass }
     ensures items { OnOk result (symbols.old.pass ≡ Pass.Last
@@ -251,9 +277,9 @@ fn read_line<'a, A: Allocator + Copy>(
     while let Some(text) = rest {
         let (part, others) = first_part(text);
         let behind = text.len().saturating_sub(part.text().len());
-        let read = read_part(alloc, part, behind, symbols, reading.site())?;
+        let read = read_part(part, behind, symbols, reading.site(), data)?;
         let start = error_before(part.text(), behind);
-        perform(alloc, read, number, start, symbols, reading)?;
+        perform(alloc, read, data, number, start, symbols, reading)?;
         rest = others;
     }
     Ok(())
@@ -269,12 +295,12 @@ fn error_before(text: &[u8], behind: usize) -> LineError {
 
 /// Reads a part of a line, with so many bytes of the line behind it.
 fn read_part<'a, A: Allocator + Copy>(
-    alloc: A,
     part: Part<'a>,
     behind: usize,
     symbols: &Symbols<'a, A>,
     site: Site,
-) -> Result<Read<'a, A>, Halt>
+    data: &mut Vec<u8, A>,
+) -> Result<Read<'a>, Halt>
     ensures items { (number : ℕ) → IfOk result (λ read.
         items_of_read number read ≡ items_in number (shown part.entry)) }
     ensures name { IfOk result HasItsName }
@@ -288,7 +314,7 @@ fn read_part<'a, A: Allocator + Copy>(
                 Read::Label(name)
             })
         }
-        Part::Statement(text) => read_statement(alloc, text, behind, symbols, site),
+        Part::Statement(text) => read_statement(text, behind, symbols, site, data),
     }
 }
 
@@ -309,12 +335,12 @@ fn label_name(text: &[u8], behind: usize) -> Result<&[u8], LineError>
 
 /// Reads a statement.
 fn read_statement<'a, A: Allocator + Copy>(
-    alloc: A,
     text: &'a [u8],
     behind: usize,
     symbols: &Symbols<'a, A>,
     site: Site,
-) -> Result<Read<'a, A>, Halt>
+    data: &mut Vec<u8, A>,
+) -> Result<Read<'a>, Halt>
     ensures items { (number : ℕ) → IfOk result (λ read.
         items_of_read number read ≡ items_in_statement number text.now) }
     ensures name { IfOk result HasItsName }
@@ -327,28 +353,28 @@ fn read_statement<'a, A: Allocator + Copy>(
     let operands = behind_blanks(rest);
     let mut line = Line::new(operands, behind, symbols, site);
     if begins_with(operands, b'=') {
-        let _equals = line.next_byte();
-        let constant = read_constant(name, error, &mut line)?;
+        let constant = read_value(name, error, &mut line)?;
         return Ok(constant);
     }
     if !operands.is_empty() && operands.len() == rest.len() {
         return Err(Halt::Error(unexpected(name, error)));
     }
-    let read = read_named(alloc, &mut line, name, rest, error)?;
+    let read = read_named(&mut line, name, rest, error, data)?;
     ended(&mut line)?;
     Ok(read)
 }
 
-/// Reads the value of a constant of this name.
-fn read_constant<'a, A: Allocator + Copy>(
+/// Reads the equals sign and the value of a constant of this name.
+fn read_value<'a, A: Allocator + Copy>(
     name: &'a [u8],
     error: LineError,
     line: &mut Line<A>,
-) -> Result<Read<'a, A>, LineError>
+) -> Result<Read<'a>, LineError>
     ensures items { (number : ℕ) → IfOk result (λ read. items_of_read number read ≡ []) }
     ensures name { IfOk result HasItsName }
 {
     let name = checked_name(name, error)?;
+    let _equals = line.next_byte();
     let value = line.known_value()?;
     ended(line)?;
     Ok(Read::Constant(name, value))
@@ -356,18 +382,18 @@ fn read_constant<'a, A: Allocator + Copy>(
 
 /// Reads the operands of a statement of this name.
 fn read_named<'a, A: Allocator + Copy>(
-    alloc: A,
     line: &mut Line<'a, '_, A>,
     name: &'a [u8],
     operands: &'a [u8],
     error: LineError,
-) -> Result<Read<'a, A>, Halt>
+    data: &mut Vec<u8, A>,
+) -> Result<Read<'a>, Halt>
     ensures items { (number : ℕ) → IfOk result (λ read.
         items_of_read number read ≡ items_named number name.now operands.now) }
     ensures name { IfOk result HasItsName }
 {
     if name.first() == Some(&b'.') {
-        return read_directive(alloc, line, name, operands, error);
+        return read_directive(line, name, operands, error, data);
     }
     if line.site.is_skipped {
         line.skip_all();
@@ -386,17 +412,6 @@ fn ended<A: Allocator + Copy>(line: &mut Line<A>) -> Result<(), LineError> {
     }
 }
 
-/// A name, if a symbol can have it.
-fn checked_name(name: &[u8], error: LineError) -> Result<&[u8], LineError>
-    ensures { IfOk result (λ checked. checked.now ≡ name.now) }
-{
-    if is_name(name) {
-        Ok(name)
-    } else {
-        Err(error.with_kind(SourceErrorKind::Character))
-    }
-}
-
 /// The mistake where a word is followed by something that can't follow it.
 fn unexpected(word: &[u8], error: LineError) -> LineError {
     if word.is_empty() {
@@ -409,7 +424,8 @@ fn unexpected(word: &[u8], error: LineError) -> LineError {
 /// Does what a part says.
 fn perform<'a, A: Allocator + Copy>(
     alloc: A,
-    read: Read<'a, A>,
+    read: Read<'a>,
+    data: &[u8],
     number: usize,
     start: LineError,
     symbols: &mut Symbols<'a, A>,
@@ -429,7 +445,7 @@ fn perform<'a, A: Allocator + Copy>(
         Read::Common(_, name, common) => put_common(name, common, number, start, symbols, reading),
         Read::Laid(_, statement, notes) => {
             keep_notes(notes, symbols, reading)?;
-            put(statement, number, start, symbols.is_last(), reading)
+            put(statement, data, number, start, symbols.is_last(), reading)
         }
     }
 }
@@ -658,13 +674,14 @@ fn count_common<A: Allocator + Copy>(
         return Err(Halt::Error(start.with_kind(SourceErrorKind::Sections)));
     };
     section.align(common.alignment);
-    section.put(number, Statement::Fill(padding, 0), false, start)?;
-    section.put(number, Statement::Fill(common.size, 0), false, start)
+    section.put(number, Statement::Fill(padding, 0), &[], false, start)?;
+    section.put(number, Statement::Fill(common.size, 0), &[], false, start)
 }
 
-/// Puts a statement behind what is in the open section.
+/// Puts a statement with its data behind what is in the open section.
 fn put<A: Allocator + Copy>(
-    statement: Statement<A>,
+    statement: Statement,
+    data: &[u8],
     number: usize,
     start: LineError,
     is_last: bool,
@@ -679,7 +696,7 @@ fn put<A: Allocator + Copy>(
     }
     reading.total = total;
     match reading.sections.get_mut(reading.current) {
-        Some(section) => section.put(number, statement, is_last, start),
+        Some(section) => section.put(number, statement, data, is_last, start),
         None => Err(Halt::Error(start.with_kind(SourceErrorKind::Moved))),
     }
 }

@@ -28,12 +28,12 @@ pub struct Common {
 }
 
 /// What a part of a line says.
-#[derive(Drop)]
-pub enum Read<'a, A: Allocator> {
+#[derive(Clone, Copy)]
+pub enum Read<'a> {
     /// A label of this name stands here.
     Label(&'a [u8]),
     /// A statement of this name is laid out here.
-    Laid(&'a [u8], Statement<A>, Notes),
+    Laid(&'a [u8], Statement, Notes),
     /// A constant has this value.
     Constant(&'a [u8], u32),
     /// By a directive of this name a symbol of the other has bytes in `COMMON`.
@@ -47,14 +47,14 @@ pub enum Read<'a, A: Allocator> {
 }
 
 /// Reads the operands of a directive of this name, which begins with a dot. Its name stands at
-/// `error`.
+/// `error`. Its data, if it has some, are put in the place of those that were there.
 pub fn read_directive<'a, A: Allocator + Copy>(
-    alloc: A,
     line: &mut Line<'a, '_, A>,
     name: &'a [u8],
     operands: &'a [u8],
     error: LineError,
-) -> Result<Read<'a, A>, Halt>
+    data: &mut Vec<u8, A>,
+) -> Result<Read<'a>, Halt>
     ensures items { (number : ℕ) → IfOk result (λ read.
         items_of_read number read ≡ items_named number name.now operands.now) }
     ensures name { IfOk result HasItsName }
@@ -66,7 +66,7 @@ pub fn read_directive<'a, A: Allocator + Copy>(
             Ok(Read::Skipped(name, false))
         }
         Some(DirectiveForm::Place(form)) => {
-            let statement = read_placed(alloc, line, name, form)?;
+            let statement = read_placed(line, name, form, data)?;
             Ok(Read::Laid(name, statement, line.notes))
         }
         Some(DirectiveForm::Common) => {
@@ -75,8 +75,8 @@ pub fn read_directive<'a, A: Allocator + Copy>(
             Ok(Read::Common(name, symbol, common))
         }
         Some(DirectiveForm::Constant) => {
-            let (constant, value) = read_constant(line)?;
-            Ok(Read::Constant(constant, value))
+            let constant = read_constant(line)?;
+            Ok(constant)
         }
         Some(DirectiveForm::Option) => {
             read_option(line)?;
@@ -102,7 +102,7 @@ fn read_section<'a, A: Allocator + Copy>(
     name: &'a [u8],
     operands: &'a [u8],
     error: LineError,
-) -> Result<Read<'a, A>, LineError>
+) -> Result<Read<'a>, LineError>
     ensures items { (number : ℕ) → IfOk result (λ read.
         items_of_read number read ≡ Item.Section (section_opened name.now operands.now) ∷ []) }
     ensures name { IfOk result HasItsName }
@@ -220,16 +220,20 @@ fn read_option<A: Allocator + Copy>(line: &mut Line<A>) -> Result<(), LineError>
 
 /// Reads the operands of a directive of this name that puts something at its address.
 fn read_placed<A: Allocator + Copy>(
-    alloc: A,
     line: &mut Line<A>,
     name: &[u8],
     form: PlacedForm,
-) -> Result<Statement<A>, Halt>
+    data: &mut Vec<u8, A>,
+) -> Result<Statement, Halt>
     requires { fits_placed name.now form ≡ true }
     ensures { IfOk result (IsNamed name.now) }
 {
     match form {
-        PlacedForm::Data(form) => Ok(Statement::Data(read_bytes(alloc, line, form)?)),
+        PlacedForm::Data(form) => {
+            data.clear();
+            read_bytes(line, form, data)?;
+            Ok(Statement::Data(data.len()))
+        }
         PlacedForm::Space => {
             let (count, byte) = read_space(line)?;
             Ok(Statement::Fill(count, byte))
@@ -238,51 +242,56 @@ fn read_placed<A: Allocator + Copy>(
     }
 }
 
-/// Reads the operands of a directive that puts bytes at its address.
+/// Reads the operands of a directive that puts bytes at its address, and appends these.
 fn read_bytes<A: Allocator + Copy>(
-    alloc: A,
     line: &mut Line<A>,
     form: DataForm,
-) -> Result<Vec<u8, A>, Halt> {
+    bytes: &mut Vec<u8, A>,
+) -> Result<(), Halt> {
     match form {
-        DataForm::Numbers(bits) => read_data(alloc, line, bits),
-        DataForm::Strings(is_ended) => read_strings(alloc, line, is_ended),
-        DataForm::Pattern => read_pattern(alloc, line),
-        DataForm::Alignment(is_power) => read_alignment(alloc, line, is_power),
+        DataForm::Numbers(bits) => read_data(line, bits, bytes),
+        DataForm::Strings(is_ended) => read_strings(line, is_ended, bytes),
+        DataForm::Pattern => read_pattern(line, bytes),
+        DataForm::Alignment(is_power) => read_alignment(line, is_power, bytes),
     }
 }
 
 /// Reads the name and the value of a constant.
-fn read_constant<'a, A: Allocator + Copy>(
-    line: &mut Line<'a, '_, A>,
-) -> Result<(&'a [u8], u32), LineError> {
-    let name = read_name(line)?;
-    line.comma()?;
-    Ok((name, line.known_value()?))
-}
-
-/// Reads the name of a symbol.
-fn read_name<'a, A: Allocator + Copy>(line: &mut Line<'a, '_, A>) -> Result<&'a [u8], LineError> {
+fn read_constant<'a, A: Allocator + Copy>(line: &mut Line<'a, '_, A>) -> Result<Read<'a>, LineError>
+    ensures items { (number : ℕ) → IfOk result (λ read. items_of_read number read ≡ []) }
+    ensures name { IfOk result HasItsName }
+{
     line.skip_blanks();
     let error = line.error(SourceErrorKind::Character);
-    let name = line.word();
-    if is_name(name) { Ok(name) } else { Err(error) }
+    let name = checked_name(line.word(), error)?;
+    line.comma()?;
+    Ok(Read::Constant(name, line.known_value()?))
+}
+
+/// A name, if a symbol can have it.
+pub fn checked_name(name: &[u8], error: LineError) -> Result<&[u8], LineError>
+    ensures { IfOk result (λ checked. checked.now ≡ name.now) }
+{
+    if is_name(name) {
+        Ok(name)
+    } else {
+        Err(error.with_kind(SourceErrorKind::Character))
+    }
 }
 
 /// Reads numbers of so many bits each, with commas between them.
 fn read_data<A: Allocator + Copy>(
-    alloc: A,
     line: &mut Line<A>,
     bits: u32,
-) -> Result<Vec<u8, A>, Halt> {
-    let mut bytes = Vec::new(alloc);
+    bytes: &mut Vec<u8, A>,
+) -> Result<(), Halt> {
     for _ in 0..u64::MAX {
-        push_datum(&mut bytes, line, bits)?;
+        push_datum(bytes, line, bits)?;
         if !line.take(b',') {
             break;
         }
     }
-    Ok(bytes)
+    Ok(())
 }
 
 /// Reads a number of so many bits, and appends it, its lowest byte first.
@@ -313,7 +322,10 @@ fn bytes_in(bits: u32) -> usize
 }
 
 /// Reads how often a number stands, how many bytes it has, and the number.
-fn read_pattern<A: Allocator + Copy>(alloc: A, line: &mut Line<A>) -> Result<Vec<u8, A>, Halt> {
+fn read_pattern<A: Allocator + Copy>(
+    line: &mut Line<A>,
+    bytes: &mut Vec<u8, A>,
+) -> Result<(), Halt> {
     let count = read_count(line)?;
     let (size, value) = read_pattern_item(line)?;
     if count as usize * size as usize > MOST_BYTES {
@@ -321,11 +333,10 @@ fn read_pattern<A: Allocator + Copy>(alloc: A, line: &mut Line<A>) -> Result<Vec
     }
     let [first, second, third, fourth] = value.to_le_bytes();
     let own = [first, second, third, fourth, 0, 0, 0, 0];
-    let mut bytes = Vec::new(alloc);
     for _ in 0..count {
         bytes.extend_from_slice(&own[..size as usize])?;
     }
-    Ok(bytes)
+    Ok(())
 }
 
 /// Reads how many bytes a number has, at most 8 and 1 where none is said, and the number, which is 0
@@ -348,13 +359,12 @@ fn read_pattern_item<A: Allocator + Copy>(line: &mut Line<A>) -> Result<(u32, u3
 
 /// Reads strings with commas between them, and puts a zero byte behind each if that is asked.
 fn read_strings<A: Allocator + Copy>(
-    alloc: A,
     line: &mut Line<A>,
     is_ended: bool,
-) -> Result<Vec<u8, A>, Halt> {
-    let mut bytes = Vec::new(alloc);
+    bytes: &mut Vec<u8, A>,
+) -> Result<(), Halt> {
     for _ in 0..u64::MAX {
-        read_string(line, &mut bytes)?;
+        read_string(line, bytes)?;
         if is_ended {
             bytes.push(0)?;
         }
@@ -362,7 +372,7 @@ fn read_strings<A: Allocator + Copy>(
             break;
         }
     }
-    Ok(bytes)
+    Ok(())
 }
 
 /// Reads a string, and appends its bytes.
@@ -460,12 +470,12 @@ fn read_origin<A: Allocator + Copy>(line: &mut Line<A>) -> Result<u32, LineError
 
 /// Reads an alignment, as a power of 2 or in bytes, and what fills up to it.
 fn read_alignment<A: Allocator + Copy>(
-    alloc: A,
     line: &mut Line<A>,
     is_power: bool,
-) -> Result<Vec<u8, A>, Halt> {
-    let bytes = alignment(line, is_power)?;
-    read_padding(alloc, line, bytes)
+    bytes: &mut Vec<u8, A>,
+) -> Result<(), Halt> {
+    let alignment = alignment(line, is_power)?;
+    read_padding(line, alignment, bytes)
 }
 
 /// Reads how many bytes an alignment has: a power of 2, which may be said by its exponent.
@@ -490,10 +500,10 @@ fn power_of_two(exponent: u32) -> u32 {
 
 /// Reads which byte fills up to an alignment, and how many at most: otherwise nothing is filled.
 fn read_padding<A: Allocator + Copy>(
-    alloc: A,
     line: &mut Line<A>,
     alignment: u32,
-) -> Result<Vec<u8, A>, Halt>
+    bytes: &mut Vec<u8, A>,
+) -> Result<(), Halt>
     requires { 0 < alignment }
 {
     line.notes.alignment = alignment;
@@ -505,31 +515,20 @@ fn read_padding<A: Allocator + Copy>(
             fill = Some((line.datum(8)? % 256) as u8);
         }
         if (has_limit || line.take(b',')) && line.known_value()? < count {
-            return Ok(Vec::new(alloc));
+            return Ok(());
         }
     }
     match fill {
-        Some(byte) => filled(alloc, count, byte),
-        None if line.site.is_code => padding(alloc, count),
-        None => filled(alloc, count, 0),
+        None if line.site.is_code => push_padding(bytes, count),
+        _ => Ok(bytes.resize(count as usize, fill.unwrap_or(0))?),
     }
 }
 
-/// So many of a byte.
-fn filled<A: Allocator + Copy>(alloc: A, count: u32, byte: u8) -> Result<Vec<u8, A>, Halt> {
-    let mut bytes = Vec::new(alloc);
-    bytes.resize(count as usize, byte)?;
-    Ok(bytes)
-}
-
-/// So many bytes between instructions: zeros up to a multiple of 4, and then `nop`s.
-fn padding<A: Allocator + Copy>(alloc: A, count: u32) -> Result<Vec<u8, A>, Halt> {
-    let mut bytes = Vec::new(alloc);
-    for _ in 0..count % 4 {
-        bytes.push(0)?;
-    }
+/// Appends so many bytes between instructions: zeros up to a multiple of 4, and then `nop`s.
+fn push_padding<A: Allocator + Copy>(bytes: &mut Vec<u8, A>, count: u32) -> Result<(), Halt> {
+    bytes.resize((count % 4) as usize, 0)?;
     for _ in 0..count / 4 {
         bytes.extend_from_slice(&[0x13, 0, 0, 0])?;
     }
-    Ok(bytes)
+    Ok(())
 }

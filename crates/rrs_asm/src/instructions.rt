@@ -35,7 +35,7 @@ pub fn read_instruction<A: Allocator>(
     line: &mut Line<A>,
     name: &[u8],
     error: LineError,
-) -> Result<Statement<A>, LineError>
+) -> Result<Statement, LineError>
     ensures { IfOk result (IsNamed name.now) }
 {
     if line.site.here % 4 != 0 {
@@ -52,10 +52,7 @@ pub fn read_instruction<A: Allocator>(
 }
 
 /// Reads the operands of a row.
-fn read_row<A: Allocator>(
-    line: &mut Line<A>,
-    template: Instruction,
-) -> Result<Statement<A>, LineError>
+fn read_row<A: Allocator>(line: &mut Line<A>, template: Instruction) -> Result<Statement, LineError>
     ensures { IfOk result (IsNamed (table (row_of template)).name) }
 {
     match row_form(template) {
@@ -112,7 +109,7 @@ fn read_load<A: Allocator>(
     line: &mut Line<A>,
     template: Instruction,
     load: Load,
-) -> Result<Statement<A>, LineError>
+) -> Result<Statement, LineError>
     requires { load_name load ≡ (table (row_of template)).name }
     ensures { IfOk result (IsNamed (table (row_of template)).name) }
 {
@@ -135,7 +132,7 @@ fn read_store<A: Allocator>(
     line: &mut Line<A>,
     template: Instruction,
     store: Store,
-) -> Result<Statement<A>, LineError>
+) -> Result<Statement, LineError>
     requires { store_name store ≡ (table (row_of template)).name }
     ensures { IfOk result (IsNamed (table (row_of template)).name) }
 {
@@ -156,10 +153,7 @@ fn read_store<A: Allocator>(
 }
 
 /// The statement that is an instruction with these operands, whose ranges the readers saw to.
-fn statement_of<A: Allocator>(
-    template: Instruction,
-    operands: Operands,
-) -> Result<Statement<A>, LineError>
+fn statement_of(template: Instruction, operands: Operands) -> Result<Statement, LineError>
     ensures { IfOk result (IsNamed (table (row_of template)).name) }
 {
     let instruction = with_operands(&template, operands).ok_or(LineError {
@@ -276,10 +270,7 @@ fn read_number<A: Allocator>(line: &mut Line<A>, number: Number) -> Result<i32, 
 }
 
 /// Reads `rd, target`, or `target` alone.
-fn read_jal<A: Allocator>(
-    line: &mut Line<A>,
-    template: Instruction,
-) -> Result<Statement<A>, LineError>
+fn read_jal<A: Allocator>(line: &mut Line<A>, template: Instruction) -> Result<Statement, LineError>
     requires { (table (row_of template)).name ≡ codes "jal" }
     ensures { IfOk result (IsNamed (table (row_of template)).name) }
 {
@@ -297,7 +288,7 @@ fn read_jal<A: Allocator>(
 fn read_jalr<A: Allocator>(
     line: &mut Line<A>,
     template: Instruction,
-) -> Result<Statement<A>, LineError>
+) -> Result<Statement, LineError>
     requires { (table (row_of template)).name ≡ codes "jalr" }
     ensures { IfOk result (IsNamed (table (row_of template)).name) }
 {
@@ -327,7 +318,7 @@ fn read_jalr<A: Allocator>(
 fn read_fence<A: Allocator>(
     line: &mut Line<A>,
     template: Instruction,
-) -> Result<Statement<A>, LineError>
+) -> Result<Statement, LineError>
     requires { (table (row_of template)).name ≡ codes "fence" }
     ensures { IfOk result (IsNamed (table (row_of template)).name) }
 {

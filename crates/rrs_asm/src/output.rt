@@ -18,14 +18,14 @@ pub const MOST_BYTES: usize = 0x400_0000;
 const UNIMP: u32 = 0xc000_1073;
 
 /// A statement and its place.
-#[derive(Drop)]
-pub struct Placed<A: Allocator = Global> {
+#[derive(Clone, Copy)]
+pub struct Placed {
     /// The line where it stands, counted from 1.
     pub line: usize,
     /// The address of its first byte.
     pub address: u32,
     /// What stands there.
-    pub statement: Statement<A>,
+    pub statement: Statement,
 }
 
 /// A label and its place.
@@ -45,7 +45,7 @@ pub struct Assembled<'a, A: Allocator = Global> {
     /// The labels in the order of the source, local labels too.
     pub labels: Vec<Label<'a>, A>,
     /// The statements in the order of their addresses, which is that of the source.
-    pub placed: Vec<Placed<A>, A>,
+    pub placed: Vec<Placed, A>,
     /// The bytes from the first address on.
     pub bytes: Vec<u8, A>,
 }
@@ -64,14 +64,21 @@ impl<'a, A: Allocator + Copy> Assembled<'a, A> {
         }
     }
 
-    /// Puts a statement of a line behind the others, the first of which stands at `base`.
-    pub fn place(&mut self, base: u32, line: usize, statement: Statement<A>) -> Result<(), Halt>
+    /// Puts a statement of a line behind the others, the first of which stands at `base`. Its data
+    /// are given, if it has some.
+    pub fn place(
+        &mut self,
+        base: u32,
+        line: usize,
+        statement: Statement,
+        data: &[u8],
+    ) -> Result<(), Halt>
         ensures placed { OnOk result (AddsPlaced base line statement self.old.placed.items
             self.new.placed.items self.old.bytes.items self.new.bytes.items) }
         ensures labels { self.new.labels.items ≡ self.old.labels.items }
     {
         let address = address_behind(base, &self.bytes)?;
-        append(&mut self.bytes, &statement)?;
+        append(&mut self.bytes, &statement, data)?;
         self.placed.push(Placed {
             line,
             address,
@@ -101,25 +108,37 @@ pub fn too_long() -> Halt {
     })
 }
 
-/// Appends the bytes of a statement.
-fn append<A: Allocator + Copy>(bytes: &mut Vec<u8, A>, statement: &Statement<A>) -> Result<(), Halt>
+/// Appends the bytes of a statement, whose data are given.
+fn append<A: Allocator + Copy>(
+    bytes: &mut Vec<u8, A>,
+    statement: &Statement,
+    data: &[u8],
+) -> Result<(), Halt>
     ensures { OnOk result ((own : List ℕ) × AreBytes statement.now own
         × (bytes.new.items ≡ bytes.old.items ++ own)) }
 {
     match statement {
         Statement::Instruction(instruction) => append_instruction(bytes, instruction),
         Statement::Pseudo(pseudo) => append_expansion(bytes, &pseudo.expand()),
-        Statement::Data(data) => append_data(bytes, data),
+        Statement::Data(count) => append_data(bytes, data, *count),
         Statement::Fill(count, byte) => append_fill(bytes, *count, *byte),
         Statement::Unimp => Ok(bytes.extend_from_slice(&UNIMP.to_le_bytes())?),
     }
 }
 
-/// Appends bytes.
-fn append_data<A: Allocator + Copy>(bytes: &mut Vec<u8, A>, own: &Vec<u8, A>) -> Result<(), Halt>
-    ensures { OnOk result (bytes.new.items ≡ bytes.old.items ++ own.now.items) }
+/// Appends the first so many bytes of data.
+fn append_data<A: Allocator + Copy>(
+    bytes: &mut Vec<u8, A>,
+    data: &[u8],
+    count: usize,
+) -> Result<(), Halt>
+    ensures { OnOk result ((own : List ℕ) × (length own ≡ count)
+        × (bytes.new.items ≡ bytes.old.items ++ own)) }
 {
-    Ok(bytes.extend_from_slice(own)?)
+    match data.get(..count) {
+        Some(own) => Ok(bytes.extend_from_slice(own)?),
+        None => Err(too_long()),
+    }
 }
 
 /// Appends so many of a byte.

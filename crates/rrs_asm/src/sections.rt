@@ -148,10 +148,12 @@ impl<'a, A: Allocator + Copy> Section<'a, A> {
     }
 
     /// Counts the bytes of a statement, and puts it behind what is there if it is the last reading.
+    /// Its data are given, if it has some.
     pub fn put(
         &mut self,
         line: usize,
-        statement: Statement<A>,
+        statement: Statement,
+        data: &[u8],
         is_last: bool,
         start: LineError,
     ) -> Result<(), Halt>
@@ -162,12 +164,12 @@ impl<'a, A: Allocator + Copy> Section<'a, A> {
         if size > MOST_BYTES || size as u64 + u64::from(self.address) > 1 << 32 {
             return Err(Halt::Error(start.with_kind(SourceErrorKind::TooLong)));
         }
-        if matches!(self.kind, SectionKind::Zero) && !statement.is_zero() {
+        if matches!(self.kind, SectionKind::Zero) && !statement.is_zero(data) {
             return Err(Halt::Error(start.with_kind(SourceErrorKind::Zeros)));
         }
         self.size = size;
         if is_last {
-            self.made.place(self.address, line, statement)
+            self.made.place(self.address, line, statement, data)
         } else {
             Ok(())
         }
@@ -194,9 +196,9 @@ impl<'a, A: Allocator + Copy> Section<'a, A> {
         ensures { OnOk result ((directive : List ℕ) → is_one_of fill_names directive ≡ true
             → Grows (in_common line directive name.now) self.old self.new) }
     {
-        self.put(line, Statement::Fill(padding, 0), true, start)?;
+        self.put(line, Statement::Fill(padding, 0), &[], true, start)?;
         self.put_label(line, name, known, start)?;
-        self.put(line, Statement::Fill(size, 0), true, start)
+        self.put(line, Statement::Fill(size, 0), &[], true, start)
     }
 }
 

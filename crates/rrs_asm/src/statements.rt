@@ -5,24 +5,23 @@ ghost use Rattle.rrs_asm.specs.Statements.{AreBytes};
 
 use crate::pseudo::Pseudo;
 use rrs_instruction::instruction::Instruction;
-use std::alloc::{Allocator, Global};
 
 /// What a statement of a source puts at its address.
-#[derive(Drop)]
-pub enum Statement<A: Allocator = Global> {
+#[derive(Clone, Copy)]
+pub enum Statement {
     /// An instruction of the table.
     Instruction(Instruction),
     /// One or two instructions.
     Pseudo(Pseudo),
-    /// Bytes.
-    Data(Vec<u8, A>),
+    /// So many bytes of data.
+    Data(usize),
     /// So many of one byte.
     Fill(u32, u8),
     /// `unimp`: the word 0xc0001073, which is no instruction of the table.
     Unimp,
 }
 
-impl<A: Allocator + Copy> Statement<A> {
+impl Statement {
     /// How many bytes it takes: as many as it is laid out as.
     pub fn size(&self) -> usize
         ensures { (own : List ℕ) → AreBytes self.now own → result ≡ length own }
@@ -33,17 +32,27 @@ impl<A: Allocator + Copy> Statement<A> {
                 None => 4,
                 Some(_) => 8,
             },
-            Statement::Data(bytes) => bytes.len(),
+            Statement::Data(count) => *count,
             Statement::Fill(count, _) => *count as usize,
         }
     }
 
-    /// Whether all its bytes are zero.
-    pub fn is_zero(&self) -> bool {
+    /// Whether all its bytes are zero, where its data are given.
+    pub fn is_zero(&self, data: &[u8]) -> bool {
         match self {
             Statement::Fill(_, byte) => *byte == 0,
-            Statement::Data(bytes) => bytes.iter().all(|byte| *byte == 0),
+            Statement::Data(_) => are_zero(data),
             _ => false,
         }
     }
+}
+
+/// Whether all these bytes are zero.
+fn are_zero(bytes: &[u8]) -> bool {
+    for byte in bytes {
+        if *byte != 0 {
+            return false;
+        }
+    }
+    true
 }

@@ -28,7 +28,7 @@ lie-pushed ms new m texts own all lies here pushed long behind =
 -- ---- statements
 
 -- one statement more
-pub as-long-more : {A : Type 0} (numbers : List ℕ) (ps : List (Placed A)) (ts : List RrsStatement) (p : Placed A) (t : RrsStatement) → AreAsLong numbers ps ts → IsAsLong numbers p t → AreAsLong numbers (ps ++ p ∷ []) (ts ++ t ∷ [])
+pub as-long-more : (numbers : List ℕ) (ps : List Placed) (ts : List RrsStatement) (p : Placed) (t : RrsStatement) → AreAsLong numbers ps ts → IsAsLong numbers p t → AreAsLong numbers (ps ++ p ∷ []) (ts ++ t ∷ [])
 as-long-more numbers [] ts p t none long = (t, [], long, refl, rw none refl)
 as-long-more numbers (x ∷ xs) ts p t (own, rest, is, are, all) long = (own, rest ++ t ∷ [], is, as-long-more numbers xs rest p t are long, rw all refl)
 
@@ -40,25 +40,25 @@ all-as-long-more numbers (x ∷ xs) ts s own (first, rest, is, are, all) long =
     (first, rest ++ own, is, all-as-long-more numbers xs rest s own are long, rw all (append_assoc first rest own))
 
 -- a statement is put behind those before
-pub as-long-pushed : {A : Type 0} (numbers : List ℕ) (ps : List (Placed A)) (i : ℕ) (told before new : List RrsStatement) (p : Placed A) (t : RrsStatement) → i < length ps → p ≡ get_or ps i p → IsAsLong numbers p t
+pub as-long-pushed : (numbers : List ℕ) (ps : List Placed) (i : ℕ) (told before new : List RrsStatement) (d p : Placed) (t : RrsStatement) → i < length ps → p ≡ get_or ps i d → IsAsLong numbers p t
     → new ≡ told ++ t ∷ [] → ((own : List RrsStatement) × AreAsLong numbers (take i ps) own × (told ≡ before ++ own))
     → (own : List RrsStatement) × AreAsLong numbers (take (i + 1) ps) own × (new ≡ before ++ own)
-as-long-pushed numbers ps i told before new p t below is long pushed (own, longs, same) =
-    let more : take (i + 1) ps ≡ take i ps ++ p ∷ [] = take_more ps i p below ∙ ap (λ x. take i ps ++ x ∷ []) (sym is) in
-    let P : List (Placed _) → Type 0 = λ xs. AreAsLong numbers xs (own ++ t ∷ []) in
+as-long-pushed numbers ps i told before new d p t below is long pushed (own, longs, same) =
+    let more : take (i + 1) ps ≡ take i ps ++ p ∷ [] = take_more ps i d below ∙ ap (λ x. take i ps ++ x ∷ []) (sym is) in
+    let P : List Placed → Type 0 = λ xs. AreAsLong numbers xs (own ++ t ∷ []) in
     (own ++ t ∷ [], subst P (sym more) (as-long-more numbers (take i ps) own p t longs long), pushed ∙ ap (λ xs. xs ++ t ∷ []) same ∙ append_assoc before own (t ∷ []))
 
 -- the statements of a section are put behind those of the sections before
-pub all-as-long-pushed : {A : Type 0} (numbers : List ℕ) (ss : List (Section A)) (i : ℕ) (told new : List RrsStatement) (s : Section A) (placed : List (Placed A)) → i < length ss → s ≡ get_or ss i s
+pub all-as-long-pushed : {A : Type 0} (numbers : List ℕ) (ss : List (Section A)) (i : ℕ) (told new : List RrsStatement) (s : Section A) (placed : List Placed) → i < length ss → s ≡ get_or ss i s
     → placed ≡ s.made.placed.items → ((own : List RrsStatement) × AreAsLong numbers placed own × (new ≡ told ++ own)) → AreAllAsLong numbers (take i ss) told → AreAllAsLong numbers (take (i + 1) ss) new
 all-as-long-pushed numbers ss i told new s placed below is value (own, longs, pushed) all =
     let more : take (i + 1) ss ≡ take i ss ++ s ∷ [] = take_more ss i s below ∙ ap (λ x. take i ss ++ x ∷ []) (sym is) in
-    let Own : List (Placed _) → Type 0 = λ xs. AreAsLong numbers xs own in
+    let Own : List Placed → Type 0 = λ xs. AreAsLong numbers xs own in
     let P : List (Section _) → Type 0 = λ xs. AreAllAsLong numbers xs (told ++ own) in
     rw pushed (subst P (sym more) (all-as-long-more numbers (take i ss) told s own all (subst Own value longs)))
 
 -- statements that lie one behind the other, in no more bytes than an assembler makes, are told
-tell-statements : {A : Type 0} (numbers : List ℕ) (ps : List (Placed A)) (ts : List RrsStatement) (address : ℕ) (bytes : List ℕ) → length bytes ≤ 0x4000000 → LaysOut address ps bytes → AreAsLong numbers ps ts
+tell-statements : (numbers : List ℕ) (ps : List Placed) (ts : List RrsStatement) (address : ℕ) (bytes : List ℕ) → length bytes ≤ 0x4000000 → LaysOut address ps bytes → AreAsLong numbers ps ts
     → TellStatements numbers ps ts
 tell-statements numbers [] ts address bytes short laid none = none
 tell-statements numbers (p ∷ ps) ts address bytes short (own, rest, at, are, laid, whole) (t, others, long, longs, all) =

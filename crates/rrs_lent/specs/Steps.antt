@@ -9,14 +9,14 @@ use Rattle.rrs_lent.specs.declared.told.Told.{Told}
 use Rattle.rrs_lent.specs.Telling.{line_in, Assembles, TellMistakes}
 
 -- a statement is told with the size of its bytes, whichever they are, up to the greatest number
-pub record IsAsLong {A : Type 0} (numbers : List ℕ) (placed : Placed A) (told : RrsStatement)
+pub record IsAsLong (numbers : List ℕ) (placed : Placed) (told : RrsStatement)
     : Type 0 where
   pub line : told.line ≡ line_in numbers placed.line
   pub address : told.address ≡ placed.address
   pub size : (own : List ℕ) → AreBytes placed.statement own
       → told.size ≡ min (length own) 0xffffffff
 
-abbrev pub AreAsLong : {A : Type 0} → List ℕ → List (Placed A) → List RrsStatement → Type 0
+abbrev pub AreAsLong : List ℕ → List Placed → List RrsStatement → Type 0
 AreAsLong numbers [] told = told ≡ []
 AreAsLong numbers (p ∷ others) told =
     (own : RrsStatement) × (rest : List RrsStatement) × IsAsLong numbers p own

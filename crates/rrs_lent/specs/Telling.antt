@@ -35,7 +35,7 @@ pub record IsTextOf {A : Type 0} (source : List ℕ) (expanded : Expanded A) : T
 -- ---- statements
 
 -- a statement is told by its line, its address, and how many bytes it has
-pub record TellsStatement {A : Type 0} (numbers : List ℕ) (placed : Placed A)
+pub record TellsStatement (numbers : List ℕ) (placed : Placed)
     (told : RrsStatement) : Type 0
   where
     pub line : told.line ≡ line_in numbers placed.line
@@ -45,7 +45,7 @@ pub record TellsStatement {A : Type 0} (numbers : List ℕ) (placed : Placed A)
     pub size : told.size ≡ length own
 
 -- each statement is told, in order
-abbrev pub TellStatements : {A : Type 0} → List ℕ → List (Placed A) → List RrsStatement → Type 0
+abbrev pub TellStatements : List ℕ → List Placed → List RrsStatement → Type 0
 TellStatements numbers [] told = told ≡ []
 TellStatements numbers (p ∷ others) told =
     (own : RrsStatement) × (rest : List RrsStatement) × TellsStatement numbers p own

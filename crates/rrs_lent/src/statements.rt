@@ -39,7 +39,7 @@ pub(crate) fn statements_of<A: Allocator + Copy>(
 /// Appends statements.
 fn push_statements<A: Allocator + Copy>(
     told: &mut Vec<RrsStatement, A>,
-    placed: &[Placed<A>],
+    placed: &[Placed],
     numbers: &[usize],
 ) -> Result<(), AllocError>
     ensures { OnOk result ((own : List RrsStatement) × AreAsLong numbers.now placed.now own
@@ -52,7 +52,7 @@ fn push_statements<A: Allocator + Copy>(
 }
 
 /// A statement as it is told.
-fn statement_of<A: Allocator + Copy>(placed: &Placed<A>, numbers: &[usize]) -> RrsStatement
+fn statement_of(placed: &Placed, numbers: &[usize]) -> RrsStatement
     ensures { IsAsLong numbers.now placed.now result }
 {
     RrsStatement {
