@@ -1,5 +1,5 @@
 -- What is made of items, one item more, and what is read of parts and lines, one more.
-use Rattle.std.proofs.Common.{◌≡◌, ◌≢◌, ℕ, zero, suc, get_or, drop, add-one, Bool, true, false, ◌==◌, if◌then◌else◌, ◌+◌, ◌%◌, ◌^◌, ◌++◌, List, [], ◌∷◌, length, ◌<◌, ◌≤◌, Option, Some, None, IfSome, Result, Ok, Err, OnOk, All, Bor, refl, sym, subst, ap, ◌∙◌, arith}
+use Rattle.std.proofs.Common.{◌≡◌, ◌≢◌, ℕ, zero, suc, get_or, drop, add-one, Bool, true, false, ◌==◌, if◌then◌else◌, ◌+◌, ◌%◌, ◌^◌, ◌++◌, List, [], ◌∷◌, length, codes, ◌<◌, ◌≤◌, Option, Some, None, IfSome, Result, Ok, Err, OnOk, All, Bor, refl, sym, subst, ap, ◌∙◌, arith}
 use Rattle.std.proofs.Math.ListN.{set}
 use Rattle.std.specs.Option.{option_map_or}
 use Rattle.std.proofs.lemmas.List.{append_assoc, append-nil}
@@ -112,15 +112,6 @@ Grows-laid line count name statement old new named counts same start adds labels
       };
 }
 
--- some items more, and then others
-pub Grows-then : {A : Type 0} (a b : List Item) (x y z : Section A) → Grows a x y → Grows b y z → Grows (a ++ b) x z
-Grows-then a b x y z first second = record {
-  name = second.name ∙ first.name;
-  reads = λ items read.
-      let P : List Item → Type 0 = λ all. IsSectionRead all z in
-      subst P (append_assoc items a b) (second.reads (items ++ a) (first.reads items read));
-}
-
 -- ---- the items of a section, one more
 
 if-more : (t : Bool) (item : Item) (xs ys : List Item) → (if t then item ∷ (xs ++ ys) else (xs ++ ys)) ≡ (if t then item ∷ xs else xs) ++ ys
@@ -193,17 +184,22 @@ found-opened names (Item.Laid line own ∷ items) name is found = found-opened n
 found-opened names (Item.Common line directive symbol ∷ items) name is (first, found) = (first, found-opened names items name is found)
 found-opened names (Item.Section own ∷ items) name is (first, found) = (first, found-opened names items name is found)
 
--- something is put into `COMMON`
+-- something is put into `COMMON`: as if that were opened
+if-three : (t : Bool) (a b c : Item) → (if t then (a ∷ b ∷ c ∷ []) ++ [] else []) ≡ (if t then a ∷ (if t then b ∷ (if t then c ∷ [] else []) else (if t then c ∷ [] else [])) else (if t then b ∷ (if t then c ∷ [] else []) else (if t then c ∷ [] else [])))
+if-three true a b c = refl
+if-three false a b c = refl
+
 in-section-common : (names : List (List ℕ)) (k before : ℕ) (items : List Item) (line : ℕ) (directive symbol : List ℕ)
-    → in_section names k before (items ++ Item.Common line directive symbol ∷ []) ≡ in_section names k before items ++ if_in k (common names) (in_common line directive symbol) []
-in-section-common names k before [] line directive symbol = refl
+    → in_section names k before (items ++ Item.Common line directive symbol ∷ [])
+    ≡ in_section names k before ((items ++ Item.Section (codes "COMMON") ∷ []) ++ in_common line directive symbol)
+in-section-common names k before [] line directive symbol =
+    if-three (common names == k) (Item.Laid line directive) (Item.Label line symbol) (Item.Laid line directive)
 in-section-common names k before (Item.Label own_line own ∷ items) line directive symbol =
-    rw (in-section-common names k before items line directive symbol) (if-open-more k before (Item.Label own_line own) (in_section names k before items) (if_in k (common names) (in_common line directive symbol) []))
+    ap (if_open k before (Item.Label own_line own)) (in-section-common names k before items line directive symbol)
 in-section-common names k before (Item.Laid own_line own ∷ items) line directive symbol =
-    rw (in-section-common names k before items line directive symbol) (if-open-more k before (Item.Laid own_line own) (in_section names k before items) (if_in k (common names) (in_common line directive symbol) []))
+    ap (if_open k before (Item.Laid own_line own)) (in-section-common names k before items line directive symbol)
 in-section-common names k before (Item.Common own_line own other ∷ items) line directive symbol =
-    rw (in-section-common names k before items line directive symbol)
-    (if-in-more k (common names) (in_common own_line own other) (in_section names k before items) (if_in k (common names) (in_common line directive symbol) []))
+    ap (if_in k (common names) (in_common own_line own other)) (in-section-common names k before items line directive symbol)
 in-section-common names k before (Item.Section own ∷ items) line directive symbol = in-section-common names k (index_of own names) items line directive symbol
 
 open-behind-common : (names : List (List ℕ)) (before : ℕ) (items : List Item) (line : ℕ) (directive symbol : List ℕ)
@@ -331,40 +327,6 @@ ReadsOn-at item old new d s plain below grows sections current names items read 
       found = found-more names items item plain read.found;
     }
 
--- in `COMMON`, and elsewhere
-common-own : (names : List (List ℕ)) (k : ℕ) (items : List Item) (line : ℕ) (directive symbol : List ℕ) → common names ≡ k
-    → in_section names k (first_open names) (items ++ Item.Common line directive symbol ∷ []) ≡ in_section names k (first_open names) items ++ in_common line directive symbol
-common-own names k items line directive symbol is =
-    let t : (common names == k) ≡ true = grind (arith, nat_tests) in
-    let own : if_in k (common names) (in_common line directive symbol) [] ≡ in_common line directive symbol = rw t refl in
-    in-section-common names k (first_open names) items line directive symbol ∙ ap (λ tail. in_section names k (first_open names) items ++ tail) own
-
-common-other : (names : List (List ℕ)) (k : ℕ) (items : List Item) (line : ℕ) (directive symbol : List ℕ) → common names ≢ k
-    → in_section names k (first_open names) (items ++ Item.Common line directive symbol ∷ []) ≡ in_section names k (first_open names) items
-common-other names k items line directive symbol is =
-    let t : (common names == k) ≡ false = grind (arith, nat_tests) in
-    let none : if_in k (common names) (in_common line directive symbol) [] ≡ [] = rw t refl in
-    in-section-common names k (first_open names) items line directive symbol ∙ ap (λ tail. in_section names k (first_open names) items ++ tail) none
-    ∙ append-nil (in_section names k (first_open names) items)
-
--- `COMMON` grew
-pub ReadsOn-common : {A : Type 0} (line i : ℕ) (directive symbol : List ℕ) (old new : Reading A) (d s : Section A)
-    → i ≡ common (names_of old.sections.items) → i < length old.sections.items → Grows (in_common line directive symbol) (get_or old.sections.items i d) s
-    → new.sections.items ≡ set old.sections.items i s → new.current ≡ old.current
-    → ReadsOn (Item.Common line directive symbol ∷ []) old new
-ReadsOn-common line i directive symbol old new d s at below grows sections current names items read =
-    let is : i ≡ common names = at ∙ ap common read.named in
-    let long : length names ≡ length old.sections.items = ap length (sym read.named) ∙ names-length old.sections.items in
-    record {
-      named = ap names_of sections ∙ names-at i old.sections.items d s below grows.name ∙ read.named;
-      current = current ∙ read.current ∙ sym (open-behind-common names (first_open names) items line directive symbol);
-      read = rw sections (AreReadFrom-at names 0 i items (items ++ Item.Common line directive symbol ∷ []) (in_common line directive symbol) old.sections.items d s
-          (λ n other. common-other names n items line directive symbol (λ e. other (omega (arith, is, e))))
-          (λ n own. common-own names n items line directive symbol (omega (arith, is, own)))
-          below grows read.read);
-      found = found-common names items line directive symbol (omega (arith, is, long, below)) read.found;
-    }
-
 -- no section is open
 pub ReadsOn-skipped : {A : Type 0} (item : Item) (old : Reading A) → IsNoSection item → length old.sections.items ≤ old.current → ReadsOn (item ∷ []) old old
 ReadsOn-skipped item old plain above names items read = record {
@@ -388,6 +350,26 @@ ReadsOn-opened name old new sections current is names items read =
       read = rw sections (AreReadFrom-same names 0 items (items ++ Item.Section name ∷ []) old.sections.items
           (λ n least most. in-section-opened names n (first_open names) items name) read.read);
       found = found-opened names items name (subst Found read.named is) read.found;
+    }
+
+-- `COMMON` grew while it was open
+pub ReadsOn-common : {A : Type 0} (line : ℕ) (directive symbol : List ℕ) (old inside behind new : Reading A)
+    → inside.sections.items ≡ old.sections.items → inside.current ≡ common (names_of old.sections.items)
+    → inside.current < length inside.sections.items → ReadsOn (in_common line directive symbol) inside behind
+    → new.sections.items ≡ behind.sections.items → new.current ≡ old.current
+    → ReadsOn (Item.Common line directive symbol ∷ []) old new
+ReadsOn-common line directive symbol old inside behind new sections at below reads same current names items read =
+    let long : length names ≡ length inside.sections.items = ap length (sym read.named) ∙ names-length old.sections.items ∙ ap length (sym sections) in
+    let own : inside.current ≡ common names = at ∙ ap common read.named in
+    let found : common (names_of old.sections.items) < length (names_of old.sections.items) = omega (arith, at, below, names-length old.sections.items, ap length sections) in
+    let opened : IsRead names (items ++ Item.Section (codes "COMMON") ∷ []) inside = ReadsOn-opened (codes "COMMON") old inside sections at (λ laid. found) names items read in
+    let put : IsRead names ((items ++ Item.Section (codes "COMMON") ∷ []) ++ in_common line directive symbol) behind = reads names _ opened in
+    record {
+      named = ap names_of same ∙ put.named;
+      current = current ∙ read.current ∙ sym (open-behind-common names (first_open names) items line directive symbol);
+      read = rw same (AreReadFrom-same names 0 _ (items ++ Item.Common line directive symbol ∷ []) behind.sections.items
+          (λ n least most. in-section-common names n (first_open names) items line directive symbol) put.read);
+      found = found-common names items line directive symbol (omega (arith, own, long, below)) read.found;
     }
 
 -- ---- what is left

@@ -4,7 +4,7 @@ ghost use Rattle.std.specs.Prelude.{◌≡◌, ◌<◌, ℕ, List, [], ◌∷◌
 ghost use Rattle.rrs_asm.specs.declared.symbols.Pass.{Pass};
 ghost use Rattle.rrs_asm.specs.Names.{is_one_of, fill_names, IsNamed};
 ghost use Rattle.rrs_asm.specs.Source.{Part, Item, word, is_laid_out, items_of, items_in, items_named, items_in_statement, items_of_parts, parts};
-ghost use Rattle.rrs_asm.specs.Sections.{names_of, index_of, first_open, AreMade, AreLaidOut, AllFound, ArePlaced};
+ghost use Rattle.rrs_asm.specs.Sections.{names_of, index_of, first_open, in_common, AreMade, AreLaidOut, AllFound, ArePlaced};
 ghost use Rattle.rrs_asm.specs.Forms.{shown, items_of_read, HasItsName, IsNoSection, IsNew, IsRead, ReadsOn};
 
 use crate::directives::{Common, Read, checked_name, read_directive};
@@ -609,7 +609,8 @@ fn put_label<'a, A: Allocator + Copy>(
     }
 }
 
-/// Puts a symbol, with bytes that are zero, behind what is in `COMMON`.
+/// Puts a symbol, with bytes that are zero, behind what is in `COMMON`. The section that is open
+/// stays open.
 fn put_common<'a, A: Allocator + Copy>(
     name: &'a [u8],
     common: Common,
@@ -623,59 +624,57 @@ fn put_common<'a, A: Allocator + Copy>(
         → is_one_of fill_names directive ≡ true
         → ReadsOn (Item.Common number directive name.now ∷ []) reading.old reading.new) }
 {
-    let index = section_named(&reading.sections, b"COMMON");
-    let (padding, here) = place_in(&reading.sections, index, common.alignment);
-    let known = define_label(name, here, start, symbols)?;
-    let size = (padding as usize).saturating_add(common.size as usize);
-    let total = reading.total.saturating_add(size);
-    if total > MOST_BYTES {
-        return Err(Halt::Error(start.with_kind(SourceErrorKind::TooLong)));
-    }
-    if !symbols.is_last() {
-        return count_common(common, padding, number, start, index, reading);
-    }
-    reading.total = total;
-    match reading.sections.get_mut(index) {
-        Some(section) => section.put_common(number, name, padding, common.size, known, start),
-        None => Err(Halt::Error(start.with_kind(SourceErrorKind::Sections))),
-    }
+    let current = reading.current;
+    reading.current = section_named(&reading.sections, b"COMMON");
+    let put = put_symbol(name, common, number, start, symbols, reading);
+    reading.current = current;
+    put
 }
 
-/// How many bytes a section takes up to an alignment, and the address behind these.
-fn place_in<A: Allocator + Copy>(
-    sections: &[Section<A>],
-    index: usize,
-    alignment: u32,
-) -> (u32, u32) {
-    match sections.get(index) {
-        Some(section) => {
-            let padding = section.padding(alignment);
-            (padding, section.here().wrapping_add(padding))
-        }
-        None => (0, 0),
-    }
-}
-
-/// Counts the bytes of a symbol in a section before the last reading, and aligns `.bss` too, of which
-/// it is a part in GNU `as`.
-fn count_common<A: Allocator + Copy>(
+/// Puts a symbol, behind zeros up to its alignment and before those that are its bytes, behind what
+/// is in the open section.
+fn put_symbol<'a, A: Allocator + Copy>(
+    name: &'a [u8],
     common: Common,
-    padding: u32,
     number: usize,
     start: LineError,
-    index: usize,
-    reading: &mut Reading<A>,
-) -> Result<(), Halt> {
-    let before = section_named(&reading.sections, b".bss");
-    if let Some(section) = reading.sections.get_mut(before) {
-        section.align(common.alignment);
-    }
-    let Some(section) = reading.sections.get_mut(index) else {
+    symbols: &mut Symbols<'a, A>,
+    reading: &mut Reading<'a, A>,
+) -> Result<(), Halt>
+    ensures pass { symbols.new.pass ≡ symbols.old.pass }
+    ensures items { OnOk result (symbols.old.pass ≡ Pass.Last → (directive : List ℕ)
+        → is_one_of fill_names directive ≡ true
+        → (reading.old.current < length reading.old.sections.items)
+        × ReadsOn (in_common number directive name.now) reading.old reading.new) }
+{
+    if reading.current >= reading.sections.len() {
         return Err(Halt::Error(start.with_kind(SourceErrorKind::Sections)));
-    };
-    section.align(common.alignment);
-    section.put(number, Statement::Fill(padding, 0), &[], false, start)?;
-    section.put(number, Statement::Fill(common.size, 0), &[], false, start)
+    }
+    let padding = align_common(common.alignment, symbols.is_last(), reading);
+    let (before, own) = (Statement::Fill(padding, 0), Statement::Fill(common.size, 0));
+    put(before, &[], number, start, symbols.is_last(), reading)?;
+    put_label(name, number, start, symbols, reading)?;
+    put(own, &[], number, start, symbols.is_last(), reading)
+}
+
+/// How many bytes the open section takes up to an alignment. Before the last reading the section is
+/// aligned, and `.bss` too, of which `COMMON` is a part in GNU `as`.
+fn align_common<A: Allocator + Copy>(alignment: u32, is_last: bool, reading: &mut Reading<A>) -> u32
+    ensures { is_last ≡ true → reading.new ≡ reading.old }
+{
+    let bss = section_named(&reading.sections, b".bss");
+    if !is_last {
+        if let Some(section) = reading.sections.get_mut(bss) {
+            section.align(alignment);
+        }
+        if let Some(section) = reading.sections.get_mut(reading.current) {
+            section.align(alignment);
+        }
+    }
+    match reading.sections.get(reading.current) {
+        Some(section) => section.padding(alignment),
+        None => 0,
+    }
 }
 
 /// Puts a statement with its data behind what is in the open section.

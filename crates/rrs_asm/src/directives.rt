@@ -1,9 +1,9 @@
 //! Directives.
 
 ghost use Rattle.std.specs.Prelude.{◌≡◌, ◌<◌, ◌≤◌, ℕ, true, IfOk, [], ◌∷◌};
-ghost use Rattle.rrs_asm.specs.Names.{IsNamed};
-ghost use Rattle.rrs_asm.specs.Source.{Item, items_named, section_opened};
-ghost use Rattle.rrs_asm.specs.Forms.{fits_placed, items_of_read, HasItsName};
+ghost use Rattle.rrs_asm.specs.Names.{is_one_of, fill_names, IsNamed};
+ghost use Rattle.rrs_asm.specs.Source.{Item, word, items_named, section_opened};
+ghost use Rattle.rrs_asm.specs.Forms.{fits_placed, items_of_read, HasItsName, IsForm};
 
 use crate::errors::{Halt, LineError, SourceErrorKind};
 use crate::lexing::{is_name, split_word};
@@ -59,7 +59,6 @@ pub fn read_directive<'a, A: Allocator + Copy>(
         items_of_read number read ≡ items_named number name.now operands.now) }
     ensures name { IfOk result HasItsName }
 {
-    let unsupported = error.with_kind(SourceErrorKind::Unsupported);
     match directive_named(name) {
         Some(DirectiveForm::Place(_) | DirectiveForm::Refused) if line.site.is_skipped => {
             line.skip_all();
@@ -69,30 +68,42 @@ pub fn read_directive<'a, A: Allocator + Copy>(
             let statement = read_placed(line, name, form, data)?;
             Ok(Read::Laid(name, statement, line.notes))
         }
-        Some(DirectiveForm::Common) => {
-            let (symbol, rest) = split_word(operands);
-            let common = read_common(line, name, symbol, rest)?;
-            Ok(Read::Common(name, symbol, common))
+        Some(form) => {
+            let read = read_said(line, form, name, operands, error)?;
+            Ok(read)
         }
-        Some(DirectiveForm::Constant) => {
-            let constant = read_constant(line)?;
-            Ok(constant)
+        None if is_unsupported(name) => {
+            Err(Halt::Error(error.with_kind(SourceErrorKind::Unsupported)))
         }
-        Some(DirectiveForm::Option) => {
-            read_option(line)?;
-            Ok(Read::Nothing)
-        }
-        Some(DirectiveForm::Silent) => {
+        None => Err(Halt::Error(error)),
+    }
+}
+
+/// Reads the operands of a directive of this name and form, which puts nothing at its address.
+fn read_said<'a, A: Allocator + Copy>(
+    line: &mut Line<'a, '_, A>,
+    form: DirectiveForm,
+    name: &'a [u8],
+    operands: &'a [u8],
+    error: LineError,
+) -> Result<Read<'a>, LineError>
+    requires { IsForm name.now form }
+    ensures items { (number : ℕ) → IfOk result (λ read.
+        items_of_read number read ≡ items_named number name.now operands.now) }
+    ensures name { IfOk result HasItsName }
+{
+    match form {
+        DirectiveForm::Common => read_common(line, name, operands),
+        DirectiveForm::Constant => read_constant(line),
+        DirectiveForm::Option => read_option(line),
+        DirectiveForm::Section => read_section(line, name, operands, error),
+        DirectiveForm::Silent => {
             line.skip_all();
             Ok(Read::Nothing)
         }
-        Some(DirectiveForm::Section) => {
-            let section = read_section(line, name, operands, error)?;
-            Ok(section)
+        DirectiveForm::Place(_) | DirectiveForm::Refused => {
+            Err(error.with_kind(SourceErrorKind::Unsupported))
         }
-        Some(DirectiveForm::Refused) => Err(Halt::Error(unsupported)),
-        None if is_unsupported(name) => Err(Halt::Error(unsupported)),
-        None => Err(Halt::Error(error)),
     }
 }
 
@@ -125,35 +136,41 @@ fn read_section<'a, A: Allocator + Copy>(
     }
 }
 
-/// Reads the size and the alignment of a symbol in `COMMON`, which stand behind its name. Where there is
-/// no alignment, it is that of GNU `as`.
+/// Reads a symbol in `COMMON`, with its size and its alignment. Where there is no alignment, it is
+/// that of GNU `as`.
 fn read_common<'a, A: Allocator + Copy>(
     line: &mut Line<'a, '_, A>,
-    name: &[u8],
-    symbol: &[u8],
-    rest: &'a [u8],
-) -> Result<Common, LineError> {
+    name: &'a [u8],
+    operands: &'a [u8],
+) -> Result<Read<'a>, LineError>
+    ensures items { (number : ℕ) → IfOk result (λ read.
+        items_of_read number read ≡ Item.Common number name.now (word operands.now) ∷ []) }
+    ensures name { is_one_of fill_names name.now ≡ true → IfOk result HasItsName }
+{
     let error = line.error(SourceErrorKind::Character);
-    if !is_name(symbol) {
-        return Err(error);
-    }
+    let (symbol, rest) = split_word(operands);
+    let symbol = checked_name(symbol, error)?;
     line.rest = rest;
     line.comma()?;
     let size = read_count(line)?;
     let alignment = if line.take(b',') {
         alignment(line, false)?
-    } else if name == b".lcomm".as_slice() {
-        implied_alignment(size, 8)
     } else {
-        implied_alignment(size.saturating_mul(2).saturating_sub(1), 16)
+        implied_alignment(size, name == b".lcomm".as_slice())
     };
-    Ok(Common { size, alignment })
+    Ok(Read::Common(name, symbol, Common { size, alignment }))
 }
 
-/// The greatest power of 2 up to a size and a limit.
-fn implied_alignment(size: u32, most: u32) -> u32 {
+/// The alignment of a symbol of a size: the greatest power of 2 up to the size and 8 where it is
+/// local, and else the least from the size on, or 16.
+fn implied_alignment(size: u32, is_local: bool) -> u32 {
+    let (most, up_to) = if is_local {
+        (8, size)
+    } else {
+        (16, size.saturating_mul(2).saturating_sub(1))
+    };
     for alignment in [16, 8, 4, 2] {
-        if alignment <= size && alignment <= most {
+        if alignment <= up_to && alignment <= most {
             return alignment;
         }
     }
@@ -208,14 +225,17 @@ fn flags_in(text: &[u8]) -> Flags {
 const OPTIONS: [&[u8]; 6] = [b"norvc", b"relax", b"norelax", b"push", b"pop", b"nopic"];
 
 /// Reads an option. Those that would allow other instructions are refused.
-fn read_option<A: Allocator + Copy>(line: &mut Line<A>) -> Result<(), LineError> {
+fn read_option<'a, A: Allocator + Copy>(line: &mut Line<'a, '_, A>) -> Result<Read<'a>, LineError>
+    ensures items { (number : ℕ) → IfOk result (λ read. items_of_read number read ≡ []) }
+    ensures name { IfOk result HasItsName }
+{
     line.skip_blanks();
     let error = line.error(SourceErrorKind::Unsupported);
     if !OPTIONS.contains(&line.word()) {
         return Err(error);
     }
     line.skip_all();
-    Ok(())
+    Ok(Read::Nothing)
 }
 
 /// Reads the operands of a directive of this name that puts something at its address.

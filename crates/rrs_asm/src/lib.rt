@@ -15,7 +15,6 @@ mod assembling;
 mod directives;
 mod errors;
 mod expressions;
-mod gnu;
 mod instructions;
 mod lexing;
 mod literals;
@@ -31,7 +30,6 @@ mod symbols;
 
 pub use assembling::{assemble_source, assemble_source_in};
 pub use errors::{SourceError, SourceErrorKind, SourceFault};
-pub use gnu::gnu_text;
 pub use output::{Assembled, Label, MOST_BYTES, Placed};
 pub use program::{Program, image};
 pub use pseudo::{

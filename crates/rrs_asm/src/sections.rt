@@ -2,8 +2,8 @@
 
 ghost use Rattle.std.specs.Prelude.{◌≡◌, ◌+◌, ◌%◌, ◌^◌, ℕ, List, [], ◌∷◌, true, false, OnOk, IfOk, IfSome, All, length};
 ghost use Rattle.rrs_asm.specs.Source.{Item, is_laid_out};
-ghost use Rattle.rrs_asm.specs.Names.{is_one_of, fill_names, IsNamed};
-ghost use Rattle.rrs_asm.specs.Sections.{in_common, flat, is_data, data_address, filled_end, start_behind, IsBehind, AreBehind, ArePlaced};
+ghost use Rattle.rrs_asm.specs.Names.{IsNamed};
+ghost use Rattle.rrs_asm.specs.Sections.{flat, is_data, data_address, filled_end, start_behind, IsBehind, AreBehind, ArePlaced};
 ghost use Rattle.rrs_asm.specs.Forms.{Grows, IsNew};
 
 use crate::errors::{Halt, LineError, SourceErrorKind};
@@ -180,25 +180,6 @@ impl<'a, A: Allocator + Copy> Section<'a, A> {
         0u32.wrapping_sub(self.here())
             .checked_rem(alignment)
             .unwrap_or(0)
-    }
-
-    /// Puts a symbol behind zeros and in front of zeros behind what is there, if its name stands for
-    /// this address.
-    pub fn put_common(
-        &mut self,
-        line: usize,
-        name: &'a [u8],
-        padding: u32,
-        size: u32,
-        known: Known,
-        start: LineError,
-    ) -> Result<(), Halt>
-        ensures { OnOk result ((directive : List ℕ) → is_one_of fill_names directive ≡ true
-            → Grows (in_common line directive name.now) self.old self.new) }
-    {
-        self.put(line, Statement::Fill(padding, 0), &[], true, start)?;
-        self.put_label(line, name, known, start)?;
-        self.put(line, Statement::Fill(size, 0), &[], true, start)
     }
 }
 

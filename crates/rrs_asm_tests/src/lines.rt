@@ -1,7 +1,8 @@
 //! Lines, and the words that they are.
 
 use crate::assembled::{made, same_words};
-use rrs_asm::{Pseudo, SwappedBranch, Unary, ZeroBranch, gnu_text, image};
+use rrs_asm::{Pseudo, SwappedBranch, Unary, ZeroBranch, image};
+use rrs_assembly::gnu_text;
 use rrs_lib::disassembly::Disassembled;
 use rrs_lib::instruction::Instruction;
 use std::alloc::{AllocError, Global};

@@ -9,10 +9,10 @@ ghost use Rattle.rrs_macros.specs.Expansion.{Becomes};
 ghost use Rattle.rrs_assembly_commands.specs.Assembly.{IsExecutableFrom, IsImageFrom, layout_of, wanted_of};
 
 use crate::assembly_requests::{AssemblyRequest, Form};
-use rrs_asm::{
-    Layout, MOST_BYTES, Program, SourceError, SourceFault, assemble_source, gnu_text, image,
+use rrs_asm::{Layout, MOST_BYTES, Program, SourceError, SourceFault, assemble_source, image};
+use rrs_assembly::{
+    ExecutableError, executable_of, gnu_text, listing_of, mistakes_of, number_of,
 };
-use rrs_assembly::{ExecutableError, executable_of, listing_of, mistakes_of, number_of};
 use rrs_cli::command::Failure;
 use rrs_cli::report::{flush, write_text};
 use rrs_macros::{Expanded, MacroFault, expand};
