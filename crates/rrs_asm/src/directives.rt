@@ -59,23 +59,28 @@ pub fn read_directive<'a, A: Allocator + Copy>(
         items_of_read number read ≡ items_named number name.now operands.now) }
     ensures name { IfOk result HasItsName }
 {
-    match directive_named(name) {
-        Some(DirectiveForm::Place(_) | DirectiveForm::Refused) if line.site.is_skipped => {
+    let Some(form) = directive_named(name) else {
+        return Err(Halt::Error(unknown(name, error)));
+    };
+    match form {
+        DirectiveForm::Place(_) | DirectiveForm::Refused if line.site.is_skipped => {
             line.skip_all();
             Ok(Read::Skipped(name, false))
         }
-        Some(DirectiveForm::Place(form)) => {
+        DirectiveForm::Place(form) => {
             let statement = read_placed(line, name, form, data)?;
             Ok(Read::Laid(name, statement, line.notes))
         }
-        Some(form) => {
-            let read = read_said(line, form, name, operands, error)?;
-            Ok(read)
-        }
-        None if is_unsupported(name) => {
-            Err(Halt::Error(error.with_kind(SourceErrorKind::Unsupported)))
-        }
-        None => Err(Halt::Error(error)),
+        _ => Ok(read_said(line, form, name, operands, error)?),
+    }
+}
+
+/// The mistake of a directive that is none: GNU `as` may have it.
+fn unknown(name: &[u8], error: LineError) -> LineError {
+    if is_unsupported(name) {
+        error.with_kind(SourceErrorKind::Unsupported)
+    } else {
+        error
     }
 }
 
