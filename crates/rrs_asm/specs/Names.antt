@@ -84,7 +84,7 @@ abbrev pub is_one_of : List (List ℕ) → List ℕ → Bool
 is_one_of names name = list_any (bytes_eq name) names
 
 -- the directives that lay data out
-abbrev pub data_names : List (List ℕ)
+unfoldable pub data_names : List (List ℕ)
 data_names =
     codes ".word" ∷ codes ".long" ∷ codes ".4byte" ∷ codes ".int"
     ∷ codes ".half" ∷ codes ".short" ∷ codes ".2byte" ∷ codes ".hword" ∷ codes ".byte"
@@ -93,12 +93,12 @@ data_names =
     ∷ codes ".align" ∷ codes ".p2align" ∷ codes ".balign" ∷ []
 
 -- the directives that lay out so many of a byte
-abbrev pub fill_names : List (List ℕ)
+unfoldable pub fill_names : List (List ℕ)
 fill_names =
     codes ".space" ∷ codes ".zero" ∷ codes ".skip" ∷ codes ".org" ∷ codes ".comm" ∷ codes ".lcomm" ∷ []
 
 -- the directives that say something of symbols, of the file, of options, or of debugging
-abbrev pub silent_names : List (List ℕ)
+unfoldable pub silent_names : List (List ℕ)
 silent_names =
     codes ".equ" ∷ codes ".set" ∷ codes ".globl" ∷ codes ".global" ∷ codes ".local"
     ∷ codes ".weak" ∷ codes ".hidden" ∷ codes ".internal" ∷ codes ".protected" ∷ codes ".extern"
@@ -112,13 +112,13 @@ silent_names =
     ∷ codes ".cfi_personality" ∷ codes ".cfi_lsda" ∷ codes ".cfi_escape" ∷ []
 
 -- the directives that open a section
-abbrev pub section_names : List (List ℕ)
+unfoldable pub section_names : List (List ℕ)
 section_names =
     codes ".text" ∷ codes ".data" ∷ codes ".bss" ∷ codes ".rodata" ∷ codes ".section" ∷ []
 
 -- the directives that put a symbol with so many bytes into the section `COMMON`, whichever is
 -- open
-abbrev pub common_names : List (List ℕ)
+unfoldable pub common_names : List (List ℕ)
 common_names = codes ".comm" ∷ codes ".lcomm" ∷ []
 
 abbrev pub begins_with_dot : List ℕ → Bool
