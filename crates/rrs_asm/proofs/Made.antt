@@ -1,5 +1,5 @@
 -- What is made of items, one item more, and what is read of parts and lines, one more.
-use Rattle.std.proofs.Common.{◌≡◌, ◌≢◌, ℕ, zero, suc, get_or, drop, add-one, Bool, true, false, ◌==◌, if◌then◌else◌, ◌+◌, ◌%◌, ◌^◌, ◌++◌, List, [], ◌∷◌, length, codes, ◌<◌, ◌≤◌, Option, Some, None, IfSome, Result, Ok, Err, OnOk, All, Bor, refl, sym, subst, ap, ◌∙◌, arith}
+use Rattle.std.proofs.Common.{◌≡◌, ◌≢◌, ℕ, zero, suc, get_or, drop, add-one, Bool, true, false, ◌==◌, if◌then◌else◌, ◌+◌, ◌%◌, ◌^◌, ◌++◌, List, [], ◌∷◌, length, codes, ◌<◌, ◌≤◌, Option, Some, None, IfSome, Result, Ok, Err, OnOk, IfOk, All, Bor, refl, sym, subst, ap, ◌∙◌, arith}
 use Rattle.std.proofs.Math.ListN.{set}
 use Rattle.std.specs.Option.{option_map_or}
 use Rattle.std.proofs.lemmas.List.{append_assoc, append-nil}
@@ -404,6 +404,10 @@ ReadsOn-line number text line (Some rest) x y z cut first second = rw cut (Reads
 pub on-ok : {T E P Q : Type 0} (r : Result T E) → OnOk r P → (P → Q) → OnOk r Q
 on-ok (Ok x) p follows = follows p
 on-ok (Err e) p follows = tt
+
+pub if-ok : {T E : Type 0} (r : Result T E) (P Q : T → Type 0) → IfOk r P → ((x : T) → P x → Q x) → IfOk r Q
+if-ok (Ok x) P Q p follows = follows x p
+if-ok (Err e) P Q p follows = tt
 
 -- ---- what is placed
 

@@ -10,12 +10,13 @@ use Rattle.rrs_asm.specs.declared.names.DirectiveForm.{DirectiveForm}
 use Rattle.rrs_asm.specs.declared.directives.Read.{Read}
 use Rattle.rrs_asm.specs.declared.instructions.RowForm.{RowForm}
 use Rattle.rrs_asm.specs.declared.sections.Section.{Section}
+use Rattle.rrs_asm.specs.declared.sections.Layout.{Layout}
 use Rattle.rrs_asm.specs.declared.assembling.Reading.{Reading}
 use Rattle.rrs_asm.specs.Source.{Part, Item, lines, parts, items_of_parts, items_from}
 use Rattle.rrs_asm.specs.Names.{load_name, store_name}
 use Rattle.rrs_asm.specs.Names.{unary_name, zero_branch_name, swapped_name, comparison_name, is_one_of, data_names, fill_names, is_silent_name, is_section_name, is_common_name, IsNamed}
 use Rattle.rrs_asm.specs.Statements.{IsMade}
-use Rattle.rrs_asm.specs.Sections.{names_of, open_behind, in_section, first_open, AllFound}
+use Rattle.rrs_asm.specs.Sections.{names_of, open_behind, in_section, first_open, AllFound, AreLaidOut, AreSectionsOf}
 
 -- a part, as it was cut
 abbrev pub shown : Cut → Part
@@ -143,6 +144,12 @@ AreReadFrom names number items [] = Unit {0}
 AreReadFrom names number items (s ∷ others) =
     IsSectionRead (in_section names number (first_open names) items) s
     × AreReadFrom names (number + 1) items others
+
+-- the sections are those of these items, lie where the layout says, and are laid out
+pub record AreAssembled {A : Type 0} (layout : Layout) (items : List Item) (sections : List (Section A)) : Type 0
+  where
+    pub sections_of : AreSectionsOf layout items sections
+    pub laid_out : AreLaidOut sections
 
 -- ---- readings
 

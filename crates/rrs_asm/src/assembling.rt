@@ -5,7 +5,7 @@ ghost use Rattle.rrs_asm.specs.declared.symbols.Pass.{Pass};
 ghost use Rattle.rrs_asm.specs.Names.{is_one_of, fill_names, IsNamed};
 ghost use Rattle.rrs_asm.specs.Source.{Part, Item, word, is_laid_out, items_of, items_in, items_named, items_in_statement, items_of_parts, parts};
 ghost use Rattle.rrs_asm.specs.Sections.{names_of, index_of, first_open, in_common, AreMade, AreLaidOut, AllFound, ArePlaced};
-ghost use Rattle.rrs_asm.specs.Forms.{shown, items_of_read, HasItsName, IsNoSection, IsNew, IsRead, ReadsOn};
+ghost use Rattle.rrs_asm.specs.Forms.{shown, items_of_read, HasItsName, IsNoSection, IsNew, IsRead, ReadsOn, AreAssembled};
 
 use crate::directives::{Common, Read, checked_name, read_directive};
 use crate::errors::{Halt, LineError, SourceError, SourceErrorKind, SourceFault};
@@ -67,6 +67,19 @@ pub fn assemble_source_in<A: Allocator + Copy>(
     ensures all_found { IfOk result (λ program. AllFound (names_of program.sections.items)
         (Item.Section (codes ".text") ∷ items_of source.now)) }
     ensures placed { IfOk result (λ program. ArePlaced layout program.sections.items) }
+{
+    program_of(alloc, source, layout)
+}
+
+/// The program that a source is, read three times: for the sizes of the sections, for what symbols
+/// stand for, and for the statements.
+fn program_of<A: Allocator + Copy>(
+    alloc: A,
+    source: &[u8],
+    layout: Layout,
+) -> Result<Program<'_, A>, SourceFault<A>>
+    ensures { IfOk result (λ program.
+        AreAssembled layout (items_of source.now) program.sections.items) }
 {
     let mut symbols = Symbols::new(alloc);
     let sections = first_sections(alloc, layout)?;
