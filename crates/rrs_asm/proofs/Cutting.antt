@@ -1,59 +1,7 @@
--- A source, a line and a text, cut at a byte.
-use Rattle.std.proofs.Common.{◌≡◌, ◌≢◌, ℕ, ◌+◌, ◌<◌, ◌==◌, zero, suc, Bool, true, false, if◌then◌else◌, List, [], ◌∷◌, ◌++◌, length, take, drop, get_or, add-one, refl, arith}
-use Rattle.std.proofs.lemmas.Bool.Decides.{nat_tests}
-use Rattle.std.proofs.lemmas.List.{append_assoc, append-nil, take_more}
-use Rattle.std.proofs.Math.Seq.{drop-cons}
-use Rattle.rrs_asm.specs.declared.lexing.Place.{Place}
-use Rattle.rrs_asm.specs.declared.lexing.Mark.{Mark}
-use Rattle.rrs_asm.specs.Source.{lines, Part, Item, word, behind_word, is_empty, is_constant, items_named, items_in_statement, onto, parts_from, mark_of, next, behind_blanks}
-
--- ---- lines
-
-pub lines-at : (text : List ℕ) (end : ℕ) → end < length text → get_or text end 0 ≡ 10 → ((k : ℕ) → k < end → get_or text k 0 ≢ 10) → lines text ≡ take end text ∷ lines (drop (suc end) text)
-lines-at [] end lt is none = absurd (omega arith)
-lines-at (b ∷ bs) zero lt is none = let e : (b == 10) ≡ true = grind (arith, nat_tests) in rw e
-lines-at (b ∷ bs) (suc end) lt is none =
-    let ne : b ≢ 10 = none zero (omega arith) in
-    let e : (b == 10) ≡ false = grind (arith, nat_tests) in
-    let rest : lines bs ≡ take end bs ∷ lines (drop (suc end) bs) = lines-at bs end (omega arith) is (λ k below. none (suc k) (omega arith)) in
-    rw (e, rest)
-
-pub lines-none : (text : List ℕ) → ((k : ℕ) → k < length text → get_or text k 0 ≢ 10) → lines text ≡ text ∷ []
-lines-none [] none = refl
-lines-none (b ∷ bs) none =
-    let ne : b ≢ 10 = none zero (omega arith) in
-    let e : (b == 10) ≡ false = grind (arith, nat_tests) in
-    let rest : lines bs ≡ bs ∷ [] = lines-none bs (λ k below. none (suc k) (omega arith)) in
-    rw (e, rest)
-
--- ---- parts
-
-pub onto-onto : (xs ys : List ℕ) (ps : List Part) → onto xs (onto ys ps) ≡ onto (xs ++ ys) ps
-onto-onto xs ys [] = refl
-onto-onto xs ys (Part.Label text ∷ ps) = rw append_assoc refl
-onto-onto xs ys (Part.Statement text ∷ ps) = rw append_assoc refl
-
--- a byte that is no mark
-pub parts-other : (place : Place) (xs : List ℕ) (b : ℕ) (bs : List ℕ) → mark_of place b bs ≡ Mark.Other → onto xs (parts_from place (b ∷ bs)) ≡ onto (xs ++ b ∷ []) (parts_from (next place b) bs)
-parts-other place xs b bs is = rw is (onto-onto xs (b ∷ []) (parts_from (next place b) bs))
-
-pub parts-colon : (place : Place) (xs : List ℕ) (b : ℕ) (bs : List ℕ) → mark_of place b bs ≡ Mark.Colon → onto xs (parts_from place (b ∷ bs)) ≡ Part.Label xs ∷ parts_from Place.Plain bs
-parts-colon place xs b bs is = rw is (rw append-nil refl)
-
-pub parts-semicolon : (place : Place) (xs : List ℕ) (b : ℕ) (bs : List ℕ) → mark_of place b bs ≡ Mark.Semicolon → onto xs (parts_from place (b ∷ bs)) ≡ Part.Statement xs ∷ parts_from Place.Plain bs
-parts-semicolon place xs b bs is = rw is (rw append-nil refl)
-
-pub parts-comment : (place : Place) (xs : List ℕ) (b : ℕ) (bs : List ℕ) → mark_of place b bs ≡ Mark.Comment → onto xs (parts_from place (b ∷ bs)) ≡ Part.Statement xs ∷ []
-parts-comment place xs b bs is = rw is (rw append-nil refl)
-
--- the same in a loop over a line
-pub parts-other-at : (line : List ℕ) (i : ℕ) (place after : Place) (others : List ℕ) → i < length line → others ≡ drop (i + 1) line → mark_of place (get_or line i 0) others ≡ Mark.Other → after ≡ next place (get_or line i 0) → onto (take i line) (parts_from place (drop i line)) ≡ onto (take (i + 1) line) (parts_from after (drop (i + 1) line))
-parts-other-at line i place after others lt same is follows =
-    let cut : drop i line ≡ get_or line i 0 ∷ drop (i + 1) line = rw add-one (drop-cons line i 0 lt) in
-    let mark : mark_of place (get_or line i 0) (drop (i + 1) line) ≡ Mark.Other = rw (← same) is in
-    rw (cut, take_more line i 0 lt, follows) (parts-other place (take i line) (get_or line i 0) (drop (i + 1) line) mark)
-
--- ---- statements
+-- Which items a statement is.
+use Rattle.std.proofs.Common.{◌≡◌, ℕ, Bool, true, false, if◌then◌else◌, List, [], refl}
+use Rattle.rrs_lines.specs.Lines.{word, behind_word, behind_blanks}
+use Rattle.rrs_asm.specs.Source.{Item, is_empty, is_constant, items_named, items_in_statement}
 
 nothing : (e c : Bool) (items : List Item) → c ≡ true → (if e then [] else (if c then [] else items)) ≡ []
 nothing true c items is = refl

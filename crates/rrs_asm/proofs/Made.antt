@@ -15,7 +15,8 @@ use Rattle.rrs_asm.specs.declared.output.Label.{Label}
 use Rattle.rrs_asm.specs.declared.output.Placed.{Placed}
 use Rattle.rrs_asm.specs.declared.statements.Statement.{Statement}
 use Rattle.rrs_asm.specs.Names.{IsNamed}
-use Rattle.rrs_asm.specs.Source.{Item, Part, lines, parts, items_in, items_of_parts, items_from, is_laid_out}
+use Rattle.rrs_lines.specs.Lines.{Part, lines, parts}
+use Rattle.rrs_asm.specs.Source.{Item, items_in, items_of_parts, items_from, is_laid_out}
 use Rattle.rrs_asm.specs.Sections.{names_of, index_of, open_behind, if_open, in_section, first_open, common, in_common, if_in, AreMadeFrom, AreMade, AreLaidOut, AllFound}
 use Rattle.rrs_asm.specs.Statements.{AreBytes, LaysOut, IsLabelAt, IsPlacedAt, IsMade, AddsPlaced}
 use Rattle.rrs_asm.specs.Forms.{skipped, IsNoSection, IsNew, IsSectionRead, Grows, AreReadFrom, IsRead, ReadsOn, left_in_line, left_in_source}

@@ -3,7 +3,6 @@
 use Rattle.std.specs.Prelude.{◌≡◌, ℕ, ◌+◌, Bool, true, false, not, ◌&&◌, if◌then◌else◌, List, [], ◌∷◌, ◌++◌, length, codes, Option, Some, None}
 use Rattle.std.specs.Borrow.{Bor}
 use Rattle.std.specs.Str.{bytes_eq}
-use Rattle.rrs_asm.specs.declared.lexing.Part.{Part as Cut}
 use Rattle.rrs_asm.specs.declared.names.PseudoForm.{PseudoForm}
 use Rattle.rrs_asm.specs.declared.names.PlacedForm.{PlacedForm}
 use Rattle.rrs_asm.specs.declared.names.DirectiveForm.{DirectiveForm}
@@ -12,16 +11,12 @@ use Rattle.rrs_asm.specs.declared.instructions.RowForm.{RowForm}
 use Rattle.rrs_asm.specs.declared.sections.Section.{Section}
 use Rattle.rrs_asm.specs.declared.sections.Layout.{Layout}
 use Rattle.rrs_asm.specs.declared.assembling.Reading.{Reading}
-use Rattle.rrs_asm.specs.Source.{Part, Item, lines, parts, items_of_parts, items_from}
+use Rattle.rrs_lines.specs.Lines.{lines, parts}
+use Rattle.rrs_asm.specs.Source.{Item, items_of_parts, items_from}
 use Rattle.rrs_asm.specs.Names.{load_name, store_name}
 use Rattle.rrs_asm.specs.Names.{unary_name, zero_branch_name, swapped_name, comparison_name, is_one_of, data_names, fill_names, is_silent_name, is_section_name, is_common_name, IsNamed}
 use Rattle.rrs_asm.specs.Statements.{IsMade}
 use Rattle.rrs_asm.specs.Sections.{names_of, open_behind, in_section, first_open, AllFound, AreLaidOut, AreSectionsOf}
-
--- a part, as it was cut
-abbrev pub shown : Cut → Part
-shown (Cut.Label text) = Part.Label text.now
-shown (Cut.Statement text) = Part.Statement text.now
 
 -- ---- tables
 

@@ -1,116 +1,17 @@
--- A source of assembly, down to its statements: the lines, the parts of a line, and the items that
--- stand there, each with its line and its name (GNU assembler manual, "Syntax": whitespace,
--- comments, statements and labels). What the operands of a statement mean is not said here.
-use Rattle.std.specs.Prelude.{ℕ, ◌+◌, Bool, false, not, ◌&&◌, ◌||◌, ◌==◌, nat_lt, if◌then◌else◌, List, [], ◌∷◌, ◌++◌, length, codes}
-use Rattle.std.specs.List.{slice_split, starts_with}
+-- The items of a source of assembly: the labels and the statements that stand in its lines, each
+-- with its line and its name (GNU assembler manual, "Syntax": statements and labels). The lines and
+-- their parts are those of `rrs_lines`. What the operands of a statement mean is not said here.
+use Rattle.std.specs.Prelude.{ℕ, ◌+◌, Bool, not, ◌&&◌, ◌==◌, if◌then◌else◌, List, [], ◌∷◌, ◌++◌, length, codes}
+use Rattle.std.specs.List.{starts_with}
 use Rattle.std.specs.Str.{bytes_eq}
-use Rattle.rrs_asm.specs.declared.lexing.Place.{Place}
-use Rattle.rrs_asm.specs.declared.lexing.Mark.{Mark}
+use Rattle.rrs_lines.specs.Lines.{Part, lines, begins_with, parts, behind_blanks, word, behind_word}
 use Rattle.rrs_asm.specs.Names.{is_silent_name, is_section_name, is_common_name}
-
--- the lines, cut at each line feed
-abbrev pub lines : List ℕ → List (List ℕ)
-lines source = slice_split (λ b. b == 10) source
-
--- ---- the parts of a line
-
--- What stands before a colon is a label, and what stands before a semicolon, a comment or the end
--- of the line is a statement.
-pub data Part : Type 0 where
-  Label : (text : List ℕ) → Part
-  Statement : (text : List ℕ) → Part
-
--- with a text in front of the first part
-abbrev pub onto : List ℕ → List Part → List Part
-onto before [] = []
-onto before (Part.Label text ∷ parts) = Part.Label (before ++ text) ∷ parts
-onto before (Part.Statement text ∷ parts) = Part.Statement (before ++ text) ∷ parts
-
-abbrev pub begins_with : ℕ → List ℕ → Bool
-begins_with wanted [] = false
-begins_with wanted (b ∷ bs) = b == wanted
-
--- What a byte means, before others. A colon, a semicolon, `#` and `//` mean something, unless they
--- stand in a string or a character constant.
-abbrev pub mark_of : Place → ℕ → List ℕ → Mark
-mark_of Place.Plain b others =
-    if b == 58 then Mark.Colon
-    else (if b == 59 then Mark.Semicolon
-    else (if b == 35 || (b == 47 && begins_with 47 others) then Mark.Comment else Mark.Other))
-mark_of _ b others = Mark.Other
-
--- Where the byte behind one that means nothing stands. A string ends at a quotation mark, and a
--- character constant is one byte and an apostrophe. A backslash takes the next byte with it.
-abbrev pub next : Place → ℕ → Place
-next Place.Plain b =
-    if b == 34 then Place.Text else (if b == 39 then Place.Character else Place.Plain)
-next Place.Text b =
-    if b == 92 then Place.TextEscape else (if b == 34 then Place.Plain else Place.Text)
-next Place.TextEscape b = Place.Text
-next Place.Character b = if b == 92 then Place.CharacterEscape else Place.CharacterEnd
-next Place.CharacterEscape b = Place.CharacterEnd
-next Place.CharacterEnd b = Place.Plain
-
--- where the byte behind any other stands
-abbrev pub behind : Mark → Place → ℕ → Place
-behind Mark.Other place b = next place b
-behind _ place b = Place.Plain
-
--- the parts of what begins with a byte, from those of what is behind it
-abbrev pub cut : Mark → ℕ → List Part → List Part
-cut Mark.Colon b parts = Part.Label [] ∷ parts
-cut Mark.Semicolon b parts = Part.Statement [] ∷ parts
-cut Mark.Comment b parts = Part.Statement [] ∷ []
-cut Mark.Other b parts = onto (b ∷ []) parts
-
-abbrev pub parts_from : Place → List ℕ → List Part
-parts_from place [] = Part.Statement [] ∷ []
-parts_from place (b ∷ bs) =
-    let mark = mark_of place b bs in cut mark b (parts_from (behind mark place b) bs)
-
--- the parts of a line
-abbrev pub parts : List ℕ → List Part
-parts line = parts_from Place.Plain line
-
--- ---- the words of a part
-
--- a space, a tab and a carriage return
-abbrev pub is_blank : ℕ → Bool
-is_blank b = b == 32 || (b == 9 || b == 13)
-
-abbrev pub is_between : ℕ → ℕ → ℕ → Bool
-is_between low high b = nat_lt b (high + 1) && nat_lt low (b + 1)
-
--- letters, digits, `_`, `.` and `$`
-abbrev pub is_in_word : ℕ → Bool
-is_in_word b =
-    is_between 97 122 b || (is_between 65 90 b || (is_between 48 57 b
-    || (b == 95 || (b == 46 || b == 36))))
-
-abbrev pub behind_blanks : List ℕ → List ℕ
-behind_blanks [] = []
-behind_blanks (b ∷ bs) = if is_blank b then behind_blanks bs else b ∷ bs
-
-abbrev pub first_word : List ℕ → List ℕ
-first_word [] = []
-first_word (b ∷ bs) = if is_in_word b then b ∷ first_word bs else []
-
-abbrev pub behind_first_word : List ℕ → List ℕ
-behind_first_word [] = []
-behind_first_word (b ∷ bs) = if is_in_word b then behind_first_word bs else b ∷ bs
-
--- the word that a text begins with, and what follows it
-abbrev pub word : List ℕ → List ℕ
-word text = first_word (behind_blanks text)
-
-abbrev pub behind_word : List ℕ → List ℕ
-behind_word text = behind_first_word (behind_blanks text)
 
 -- ---- items
 
 -- What stands in a line: a label and a statement that is laid out as bytes, each by its name, a
--- directive that opens a section, by the name of the section, and a directive that puts a symbol into
--- `COMMON`, by its name and that of the symbol.
+-- directive that opens a section, by the name of the section, and a directive that puts a symbol
+-- into `COMMON`, by its name and that of the symbol.
 pub data Item : Type 0 where
   Label : (line : ℕ) (name : List ℕ) → Item
   Laid : (line : ℕ) (name : List ℕ) → Item

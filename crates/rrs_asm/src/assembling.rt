@@ -1,25 +1,26 @@
-//! The two readings of a source.
+//! The readings of a source.
 
 ghost use Rattle.std.specs.Prelude.{◌≡◌, ◌<◌, ℕ, List, [], ◌∷◌, All, IfOk, OnOk, true, false, length, codes};
-ghost use Rattle.rrs_asm.specs.declared.symbols.Pass.{Pass};
+ghost use Rattle.rrs_lines.specs.declared.symbols.Pass.{Pass};
+ghost use Rattle.rrs_lines.specs.Lines.{Part, shown, word, parts};
 ghost use Rattle.rrs_asm.specs.Names.{is_one_of, fill_names, IsNamed};
-ghost use Rattle.rrs_asm.specs.Source.{Part, Item, word, is_laid_out, items_of, items_in, items_named, items_in_statement, items_of_parts, parts};
+ghost use Rattle.rrs_asm.specs.Source.{Item, is_laid_out, items_of, items_in, items_named, items_in_statement, items_of_parts};
 ghost use Rattle.rrs_asm.specs.Sections.{names_of, index_of, first_open, in_common, AreMade, AreLaidOut, AllFound, ArePlaced};
-ghost use Rattle.rrs_asm.specs.Forms.{shown, items_of_read, HasItsName, IsNoSection, IsNew, IsRead, ReadsOn, AreAssembled};
+ghost use Rattle.rrs_asm.specs.Forms.{items_of_read, HasItsName, IsNoSection, IsNew, IsRead, ReadsOn, AreAssembled};
 
 use crate::directives::{Common, Read, checked_name, read_directive};
-use crate::errors::{Halt, LineError, SourceError, SourceErrorKind, SourceFault};
+use crate::errors::{SourceError, SourceFault};
 use crate::instructions::read_instruction;
-use crate::lexing::{Part, begins_with, behind_blanks, first_line, first_part, split_word};
 use crate::output::MOST_BYTES;
 use crate::program::Program;
-use crate::reading::{Line, Notes, Site};
-use crate::registers::register_number;
 use crate::sections::{
     Layout, Section, SectionKind, are_placed, first_sections, is_laid_out, laid_out,
 };
 use crate::statements::Statement;
-use crate::symbols::{Known, Pass, Symbols};
+use rrs_lines::{
+    Halt, Known, Line, LineError, Notes, Part, Pass, Site, SourceErrorKind, Symbols, begins_with,
+    behind_blanks, first_line, first_part, register_number, split_word,
+};
 use std::alloc::{Allocator, Global};
 
 /// The most sections of a source.

@@ -6,13 +6,12 @@ ghost use Rattle.rrs_instruction.specs.Instructions.{row_of};
 ghost use Rattle.rrs_asm.specs.Names.{IsNamed, pseudo_name, load_name, store_name};
 ghost use Rattle.rrs_asm.specs.Forms.{form_name, IsRowForm};
 
-use crate::errors::{LineError, SourceErrorKind};
 use crate::names::{PseudoForm, pseudo_named};
 use crate::pseudo::{Load, Pseudo, Store};
-use crate::reading::Line;
 use crate::statements::Statement;
 use rrs_encode::{Operands, instruction_named, with_operands};
 use rrs_instruction::instruction::{Instruction, InstructionFields};
+use rrs_lines::{Line, LineError, SourceErrorKind};
 use std::alloc::Allocator;
 
 /// How far a branch reaches, in bytes: so many backward, and fewer forward.

@@ -4,11 +4,11 @@ ghost use Rattle.std.specs.Prelude.{◌≡◌, ◌≤◌, ◌+◌, ◌^◌, ℕ,
 ghost use Rattle.rrs_asm.specs.Statements.{AreWords, AreBytes, AddsPlaced};
 ghost use Rattle.rrs_asm.specs.Pseudo.{listed};
 
-use crate::errors::{Halt, LineError, SourceErrorKind};
 use crate::pseudo::Expansion;
 use crate::statements::Statement;
 use rrs_encode::encode;
 use rrs_instruction::instruction::Instruction;
+use rrs_lines::{Halt, LineError, SourceErrorKind};
 use std::alloc::{Allocator, Global};
 
 /// The most bytes that are made of a source: 64 MiB.

@@ -6,10 +6,9 @@ ghost use Rattle.rrs_asm.specs.Names.{IsNamed};
 ghost use Rattle.rrs_asm.specs.Sections.{flat, is_data, data_address, filled_end, start_behind, IsBehind, AreBehind, ArePlaced};
 ghost use Rattle.rrs_asm.specs.Forms.{Grows, IsNew};
 
-use crate::errors::{Halt, LineError, SourceErrorKind};
 use crate::output::{Assembled, Label, MOST_BYTES, too_long};
 use crate::statements::Statement;
-use crate::symbols::Known;
+use rrs_lines::{Halt, Known, LineError, SourceErrorKind};
 use std::alloc::{AllocError, Allocator, Global};
 
 /// What a section holds, and so where it lies: the sections of a kind lie one behind the other, and

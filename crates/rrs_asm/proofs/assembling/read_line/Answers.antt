@@ -1,7 +1,8 @@
 use Rattle.std.proofs.Common.{◌≡◌, ℕ, List, Option, None, Bor, subst, sym, ◌∙◌, rules, arith}
 use Rattle.std.proofs.lemmas.Grind.{common_steps}
-use Rattle.rrs_asm.specs.Source.{items_of_parts, parts}
-use Rattle.rrs_asm.specs.Forms.{shown, items_of_read, ReadsOn, left_in_line}
+use Rattle.rrs_lines.specs.Lines.{shown, parts}
+use Rattle.rrs_asm.specs.Source.{items_of_parts}
+use Rattle.rrs_asm.specs.Forms.{items_of_read, ReadsOn, left_in_line}
 use Rattle.rrs_asm.proofs.Made.{ReadsOn-nothing, ReadsOn-read}
 use Rattle.rrs_asm.proofs.assembling.read_line.Goals as goal
 

@@ -1,8 +1,9 @@
 use Rattle.std.proofs.Common.{◌≡◌, ◌+◌, length}
 use Rattle.std.specs.Option.{option_map_or}
-use Rattle.rrs_asm.specs.declared.symbols.Pass.{Pass}
+use Rattle.rrs_lines.specs.declared.symbols.Pass.{Pass}
 use Rattle.rrs_asm.specs.declared.assembling.Reading.{Reading}
-use Rattle.rrs_asm.specs.Source.{items_of_parts, parts}
+use Rattle.rrs_lines.specs.Lines.{parts}
+use Rattle.rrs_asm.specs.Source.{items_of_parts}
 use Rattle.rrs_asm.specs.Forms.{ReadsOn, left_in_line}
 use Rattle.rrs_asm.proofs.assembling.read_line.Given as goal
 

@@ -1,7 +1,8 @@
 use Rattle.std.proofs.Common.{◌≡◌, ℕ, ◌+◌, ◌≤◌, List, [], length, Option, None, Bor, rules, refl, subst, sym, ◌∙◌, arith}
 use Rattle.std.specs.Option.{option_map_or}
 use Rattle.std.proofs.lemmas.Grind.{common_steps}
-use Rattle.rrs_asm.specs.Source.{items_from, lines}
+use Rattle.rrs_lines.specs.Lines.{lines}
+use Rattle.rrs_asm.specs.Source.{items_from}
 use Rattle.rrs_asm.specs.Forms.{ReadsOn, left_in_source}
 use Rattle.rrs_asm.specs.declared.sections.Section.{Section}
 use Rattle.rrs_asm.specs.Sections.{names_of, first_open}

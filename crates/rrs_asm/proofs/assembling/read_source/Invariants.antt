@@ -1,6 +1,6 @@
 use Rattle.std.proofs.Common.{◌≡◌, ◌+◌, ◌≤◌, [], length, All}
 use Rattle.std.specs.Option.{option_map_or}
-use Rattle.rrs_asm.specs.declared.symbols.Pass.{Pass}
+use Rattle.rrs_lines.specs.declared.symbols.Pass.{Pass}
 use Rattle.rrs_asm.specs.declared.assembling.Reading.{Reading}
 use Rattle.rrs_asm.specs.Source.{items_of}
 use Rattle.rrs_asm.specs.Forms.{IsNew, IsRead, ReadsOn, left_in_source}

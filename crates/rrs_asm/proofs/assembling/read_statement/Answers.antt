@@ -1,6 +1,7 @@
 use Rattle.std.proofs.Common.{◌≡◌, true, false, sym, ap, ◌∙◌, rules, arith}
 use Rattle.std.proofs.lemmas.Grind.{common_steps}
-use Rattle.rrs_asm.specs.Source.{is_empty, is_constant, behind_blanks, word, items_named}
+use Rattle.rrs_lines.specs.Lines.{behind_blanks, word}
+use Rattle.rrs_asm.specs.Source.{is_empty, is_constant, items_named}
 use Rattle.rrs_asm.proofs.Cutting.{items-constant, items-statement}
 use Rattle.rrs_asm.proofs.assembling.read_statement.Goals as goal
 

@@ -2,9 +2,8 @@
 
 ghost use Rattle.std.specs.Prelude.{◌≡◌, ◌<◌, [], ◌∷◌, IfSome, length};
 ghost use Rattle.std.specs.Option.{option_map_or};
-ghost use Rattle.rrs_asm.specs.Source.{lines, next, mark_of, parts, begins_with, is_blank, is_in_word, word, behind_word, behind_blanks};
-ghost use Rattle.rrs_asm.specs.Forms.{shown};
-ghost use Rattle.rrs_asm.specs.declared.lexing.Place.{Place};
+ghost use Rattle.rrs_lines.specs.Lines.{lines, next, mark_of, parts, shown, begins_with, is_blank, is_in_word, word, behind_word, behind_blanks};
+ghost use Rattle.rrs_lines.specs.declared.lexing.Place.{Place};
 
 /// A line, and the text behind its line feed, if there is one.
 pub fn first_line(source: &[u8]) -> (&[u8], Option<&[u8]>)

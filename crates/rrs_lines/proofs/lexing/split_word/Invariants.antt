@@ -1,6 +1,6 @@
 use Rattle.std.proofs.Common.{◌≡◌, ◌++◌, take, drop}
-use Rattle.rrs_asm.specs.Source.{first_word, behind_first_word}
-use Rattle.rrs_asm.proofs.lexing.split_word.Given as goal
+use Rattle.rrs_lines.specs.Lines.{first_word, behind_first_word}
+use Rattle.rrs_lines.proofs.lexing.split_word.Given as goal
 
 -- what was read stands in the word
 abbrev pub invariant-loop-index : goal.invariant-loop-index

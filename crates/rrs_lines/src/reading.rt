@@ -1,12 +1,11 @@
 //! Reading a statement: its words, its registers and its values.
 
-ghost use Rattle.std.specs.Prelude.{pos, ◌<ℤ◌};
+ghost use Rattle.std.specs.Prelude.{◌≡◌, ◌+◌, ◌*◌, ◌/◌, ◌%◌, ◌^◌, pos, ◌<ℤ◌};
 
 use crate::errors::{LineError, SourceErrorKind};
 use crate::expressions::{LOOSEST, Operator, Waiting, operator_between};
 use crate::lexing::{behind_blanks, is_name, split_word};
 use crate::literals::{digit_of, escaped, local_label, number_of};
-use crate::pseudo::{lower, upper};
 use crate::registers::register_number;
 use crate::symbols::{Known, Symbols};
 use std::alloc::{AllocError, Allocator};
@@ -42,11 +41,14 @@ struct Wanted {
 
 /// What is left of a statement, and where it stands.
 pub struct Line<'a, 's, A: Allocator> {
+    /// The text that is left.
     pub rest: &'a [u8],
     /// How many bytes of the line are behind the statement.
     behind: usize,
     symbols: &'s Symbols<'a, A>,
+    /// Where it stands.
     pub site: Site,
+    /// What it asks beside its bytes.
     pub notes: Notes,
 }
 
@@ -83,7 +85,8 @@ impl<'a, 's, A: Allocator> Line<'a, 's, A> {
     }
 
     /// Takes a symbol, with what is added to it, and no register in parentheses behind it: how far
-    /// it is from the statement, modulo 2^32. None where something else stands there, which is left.
+    /// it is from the statement, modulo 2^32. None where something else stands there, which is
+    /// left.
     pub fn distance_alone(&mut self) -> Option<u32> {
         let before = self.rest;
         let (word, _) = split_word(before);
@@ -517,11 +520,17 @@ fn modifier_named(name: &[u8]) -> Option<Modifier> {
 
 /// The lower 12 bits of a word, or its upper 20.
 fn part_of(word: u32, is_low: bool) -> u32 {
-    if is_low {
-        lower(word).cast_unsigned()
-    } else {
-        upper(word).cast_unsigned() >> 12
-    }
+    let (high, low) = halves(word);
+    if is_low { low } else { high }
+}
+
+/// The upper 20 bits of a word, and its lower 12, sign-extended, which the two make up together.
+fn halves(word: u32) -> (u32, u32)
+    ensures high { result.0 ≡ (word + 2048) % 2 ^ 32 / 4096 }
+    ensures whole { (result.0 * 4096 + result.1) % 2 ^ 32 ≡ word }
+{
+    let high = word.wrapping_add(2048) / 4096;
+    (high, word.wrapping_sub(high * 4096))
 }
 
 /// The value of a number. One of 32 bits behind a minus is at most 2^31.

@@ -1,5 +1,5 @@
 use Rattle.std.proofs.Common.{◌≢◌, ℕ, ◌<◌, get_or}
-use Rattle.rrs_asm.proofs.lexing.first_line.Given as goal
+use Rattle.rrs_lines.proofs.lexing.first_line.Given as goal
 
 -- no line feed stands before
 abbrev pub invariant-loop-index : goal.invariant-loop-index

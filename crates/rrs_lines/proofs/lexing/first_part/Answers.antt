@@ -1,7 +1,7 @@
 use Rattle.std.proofs.Common.{◌+◌, sym, ◌∙◌, arith}
 use Rattle.std.proofs.lemmas.List.{take_rest}
-use Rattle.rrs_asm.proofs.Cutting.{parts-other-at}
-use Rattle.rrs_asm.proofs.lexing.first_part.Goals as goal
+use Rattle.rrs_lines.proofs.Cutting.{parts-other-at}
+use Rattle.rrs_lines.proofs.lexing.first_part.Goals as goal
 
 pub loop-index-preserved : goal.loop-index-preserved
 loop-index-preserved c =

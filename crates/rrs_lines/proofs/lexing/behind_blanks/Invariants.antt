@@ -1,6 +1,6 @@
 use Rattle.std.proofs.Common.{◌≡◌, drop}
-use Rattle.rrs_asm.specs.Source.{behind_blanks}
-use Rattle.rrs_asm.proofs.lexing.behind_blanks.Given as goal
+use Rattle.rrs_lines.specs.Lines.{behind_blanks}
+use Rattle.rrs_lines.proofs.lexing.behind_blanks.Given as goal
 
 -- what was read is blank
 abbrev pub invariant-loop-index : goal.invariant-loop-index

@@ -1,7 +1,7 @@
 //! Symbols: labels, local labels and constants.
 
 ghost use Rattle.std.specs.Prelude.{◌≡◌, true};
-ghost use Rattle.rrs_asm.specs.declared.symbols.Pass.{Pass};
+ghost use Rattle.rrs_lines.specs.declared.symbols.Pass.{Pass};
 
 use crate::errors::{Halt, SourceErrorKind};
 use std::alloc::{AllocError, Allocator, Global};
@@ -39,7 +39,7 @@ pub struct Symbols<'a, A: Allocator = Global> {
     /// How far each `%pcrel_hi` reaches, by the address of its statement.
     distances: BTreeMap<u32, u32, A>,
     /// Which reading it is.
-    pass: Pass,
+    pub pass: Pass,
 }
 
 /// What is known of a symbol at a place.

@@ -1,7 +1,7 @@
 use Rattle.std.proofs.Common.{add-one, rules, arith}
 use Rattle.std.proofs.lemmas.List.{take_rest}
-use Rattle.rrs_asm.proofs.Cutting.{lines-at, lines-none}
-use Rattle.rrs_asm.proofs.lexing.first_line.Goals as goal
+use Rattle.rrs_lines.proofs.Cutting.{lines-at, lines-none}
+use Rattle.rrs_lines.proofs.lexing.first_line.Goals as goal
 
 pub returns-then-byte-eq10-clause-lines : goal.returns-then-byte-eq10-clause-lines
 returns-then-byte-eq10-clause-lines c =

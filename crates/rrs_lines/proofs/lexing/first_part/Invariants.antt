@@ -1,7 +1,7 @@
 use Rattle.std.proofs.Common.{◌≡◌, take, drop}
-use Rattle.rrs_asm.specs.declared.lexing.Place.{Place}
-use Rattle.rrs_asm.specs.Source.{onto, parts_from}
-use Rattle.rrs_asm.proofs.lexing.first_part.Given as goal
+use Rattle.rrs_lines.specs.declared.lexing.Place.{Place}
+use Rattle.rrs_lines.specs.Lines.{onto, parts_from}
+use Rattle.rrs_lines.proofs.lexing.first_part.Given as goal
 
 -- what was read belongs to the first part
 abbrev pub invariant-loop-index : goal.invariant-loop-index

@@ -1,0 +1,26 @@
+//! What an assembler reads in a line of a source.
+//!
+//! [first_line] and [first_part] cut a source into lines, and a line into labels and statements.
+//! [Line] reads the operands of a statement: registers, numbers, symbols and values with operators.
+//! [Symbols] has what the symbols of a source stand for. What is made of all this is the work of
+//! the crate `rrs_asm`.
+//!
+//! Which lines a source has, which parts a line has, and which word a part begins with is written
+//! in `specs/Lines.antt`. What the operands are is not proved.
+
+#![tactic(auto)]
+
+mod errors;
+mod expressions;
+mod lexing;
+mod literals;
+mod reading;
+mod registers;
+mod symbols;
+
+pub use errors::{Halt, LineError, SourceErrorKind};
+pub use lexing::{Part, begins_with, behind_blanks, first_line, first_part, is_name, split_word};
+pub use literals::escaped;
+pub use reading::{Line, Notes, Site};
+pub use registers::register_number;
+pub use symbols::{Known, Pass, Symbols};
