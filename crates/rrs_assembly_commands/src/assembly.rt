@@ -10,9 +10,7 @@ ghost use Rattle.rrs_assembly_commands.specs.Assembly.{IsExecutableFrom, IsImage
 
 use crate::assembly_requests::{AssemblyRequest, Form};
 use rrs_asm::{Layout, MOST_BYTES, Program, SourceError, SourceFault, assemble_source, image};
-use rrs_assembly::{
-    ExecutableError, executable_of, gnu_text, listing_of, mistakes_of, number_of,
-};
+use rrs_assembly::{ExecutableError, executable_of, gnu_text, listing_of, mistakes_of, number_of};
 use rrs_cli::command::Failure;
 use rrs_cli::report::{flush, write_text};
 use rrs_macros::{Expanded, MacroFault, expand};

@@ -6,7 +6,8 @@ use Rattle.rrs_asm.specs.Statements.{AreBytes}
 use Rattle.rrs_lent.specs.declared.outcome.RrsStatement.{RrsStatement}
 use Rattle.rrs_lent.specs.declared.outcome.RrsAssembled.{RrsAssembled}
 use Rattle.rrs_lent.specs.declared.told.Told.{Told}
-use Rattle.rrs_lent.specs.Telling.{line_in, Assembles, TellMistakes}
+use Rattle.rrs_assembly.specs.Mistakes.{line_in}
+use Rattle.rrs_lent.specs.Telling.{Assembles, TellMistakes}
 
 -- a statement is told with the size of its bytes, whichever they are, up to the greatest number
 pub record IsAsLong (numbers : List ℕ) (placed : Placed) (told : RrsStatement)

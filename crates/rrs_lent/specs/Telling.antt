@@ -2,7 +2,7 @@
 -- and Sections): the bytes, the statements and the labels of its sections, or its mistakes. Texts lie
 -- one behind the other in one buffer, and what is told of a label or a mistake says where its own
 -- begins.
-use Rattle.std.specs.Prelude.{◌≡◌, ℕ, ◌+◌, ◌-◌, ◌≤◌, false, List, [], ◌∷◌, ◌++◌, length, drop, get_or, unwrap_or}
+use Rattle.std.specs.Prelude.{◌≡◌, ℕ, ◌+◌, ◌≤◌, false, List, [], ◌∷◌, ◌++◌, length, drop, unwrap_or}
 use Rattle.rrs_asm.specs.declared.output.Label.{Label}
 use Rattle.rrs_asm.specs.declared.output.Placed.{Placed}
 use Rattle.rrs_asm.specs.declared.sections.Section.{Section}
@@ -17,13 +17,10 @@ use Rattle.rrs_macros.specs.Lines.{IsMapped, IsSame}
 use Rattle.rrs_lent.specs.declared.outcome.RrsStatement.{RrsStatement}
 use Rattle.rrs_lent.specs.declared.outcome.RrsSymbol.{RrsSymbol}
 use Rattle.rrs_lent.specs.declared.outcome.RrsMistake.{RrsMistake}
+use Rattle.rrs_assembly.specs.Mistakes.{line_in}
 use Rattle.rrs_lent.specs.declared.outcome.RrsAssembled.{RrsAssembled}
 
 -- ---- lines
-
--- The line of the source that a line of the text is of. Lines are counted from 1.
-abbrev pub line_in : List ℕ → ℕ → ℕ
-line_in numbers line = get_or numbers (line - 1) line
 
 -- The text is what the source becomes without its macros, conditions and repetitions, and each of
 -- its lines is of one of the source: where there are none of these, of itself.
