@@ -1,4 +1,3 @@
-pub mod Cutting
 pub mod Halves
 pub mod Images
 pub mod Made

@@ -21,10 +21,6 @@ pub data Item : Type 0 where
 abbrev pub is_empty : List ℕ → Bool
 is_empty text = length text == 0
 
--- `name = value`
-abbrev pub is_constant : List ℕ → Bool
-is_constant text = begins_with 61 (behind_blanks (behind_word text))
-
 -- the section that a directive of this name opens: that of its name, or one that it names
 abbrev pub section_opened : List ℕ → List ℕ → List ℕ
 section_opened name operands = if bytes_eq name (codes ".section") then word operands else name
@@ -37,11 +33,15 @@ items_named line name operands =
     else (if is_common_name name then Item.Common line name (word operands) ∷ []
     else Item.Laid line name ∷ []))
 
--- a statement with this text: nothing, where it is blank or a constant
+-- a first word and what stands behind it: nothing, where that is a constant, `name = value`
+abbrev pub items_behind : ℕ → List ℕ → List ℕ → List Item
+items_behind line name behind =
+    if begins_with 61 (behind_blanks behind) then [] else items_named line name behind
+
+-- a statement with this text: nothing, where it is blank
 abbrev pub items_in_statement : ℕ → List ℕ → List Item
 items_in_statement line text =
-    if is_empty (behind_blanks text) then []
-    else (if is_constant text then [] else items_named line (word text) (behind_word text))
+    if is_empty (behind_blanks text) then [] else items_behind line (word text) (behind_word text)
 
 abbrev pub items_in : ℕ → Part → List Item
 items_in line (Part.Label text) = Item.Label line (word text) ∷ []

@@ -4,11 +4,11 @@ ghost use Rattle.std.specs.Prelude.{◌≡◌, ◌<◌, ℕ, List, [], ◌∷◌
 ghost use Rattle.rrs_lines.specs.declared.symbols.Pass.{Pass};
 ghost use Rattle.rrs_lines.specs.Lines.{Part, shown, word, parts};
 ghost use Rattle.rrs_asm.specs.Names.{is_one_of, fill_names, IsNamed};
-ghost use Rattle.rrs_asm.specs.Source.{Item, is_laid_out, items_of, items_in, items_named, items_in_statement, items_of_parts};
+ghost use Rattle.rrs_asm.specs.Source.{Item, is_laid_out, items_of, items_in, items_named, items_behind, items_in_statement, items_of_parts};
 ghost use Rattle.rrs_asm.specs.Sections.{names_of, index_of, first_open, in_common, AreMade, AreLaidOut, AllFound, ArePlaced};
 ghost use Rattle.rrs_asm.specs.Forms.{items_of_read, HasItsName, IsNoSection, IsNew, IsRead, ReadsOn, AreAssembled};
 
-use crate::directives::{Common, Read, checked_name, read_directive};
+use crate::directives::{Common, Read, read_directive};
 use crate::errors::{SourceError, SourceFault};
 use crate::instructions::read_instruction;
 use crate::output::MOST_BYTES;
@@ -19,7 +19,7 @@ use crate::sections::{
 use crate::statements::Statement;
 use rrs_lines::{
     Halt, Known, Line, LineError, Notes, Part, Pass, Site, SourceErrorKind, Symbols, begins_with,
-    behind_blanks, first_line, first_part, register_number, split_word,
+    behind_blanks, first_line, first_part, is_name, register_number, split_word,
 };
 use std::alloc::{Allocator, Global};
 
@@ -343,7 +343,8 @@ fn label_name(text: &[u8], behind: usize) -> Result<&[u8], LineError>
     }
     match name {
         [b'0'..=b'9'] => Ok(name),
-        _ => checked_name(name, error),
+        _ if is_name(name) => Ok(name),
+        _ => Err(error.with_kind(SourceErrorKind::Character)),
     }
 }
 
@@ -364,18 +365,37 @@ fn read_statement<'a, A: Allocator + Copy>(
     }
     let error = error_before(text, behind);
     let (name, rest) = split_word(text);
+    let mut line = Line::new(behind_blanks(rest), behind, symbols, site);
+    let read = read_behind(&mut line, name, rest, error, data)?;
+    let is_over = line.is_over();
+    line.want(is_over, SourceErrorKind::More);
+    match line.mistake {
+        None => Ok(read),
+        Some(mistake) => Err(Halt::Error(mistake)),
+    }
+}
+
+/// Reads what stands behind the first word of a statement: the value of a constant of this name, or
+/// the operands of a statement.
+fn read_behind<'a, A: Allocator + Copy>(
+    line: &mut Line<'a, '_, A>,
+    name: &'a [u8],
+    rest: &'a [u8],
+    error: LineError,
+    data: &mut Vec<u8, A>,
+) -> Result<Read<'a>, Halt>
+    ensures items { (number : ℕ) → IfOk result (λ read.
+        items_of_read number read ≡ items_behind number name.now rest.now) }
+    ensures name { IfOk result HasItsName }
+{
     let operands = behind_blanks(rest);
-    let mut line = Line::new(operands, behind, symbols, site);
     if begins_with(operands, b'=') {
-        let constant = read_value(name, error, &mut line)?;
-        return Ok(constant);
+        return Ok(read_value(name, error, line));
     }
     if !operands.is_empty() && operands.len() == rest.len() {
         return Err(Halt::Error(unexpected(name, error)));
     }
-    let read = read_named(&mut line, name, rest, error, data)?;
-    ended(&mut line)?;
-    Ok(read)
+    read_named(line, name, rest, error, data)
 }
 
 /// Reads the equals sign and the value of a constant of this name.
@@ -383,15 +403,15 @@ fn read_value<'a, A: Allocator + Copy>(
     name: &'a [u8],
     error: LineError,
     line: &mut Line<A>,
-) -> Result<Read<'a>, LineError>
-    ensures items { (number : ℕ) → IfOk result (λ read. items_of_read number read ≡ []) }
-    ensures name { IfOk result HasItsName }
+) -> Read<'a>
+    ensures items { (number : ℕ) → items_of_read number result ≡ [] }
+    ensures name { HasItsName result }
 {
-    let name = checked_name(name, error)?;
+    if !is_name(name) {
+        line.fail(error.with_kind(SourceErrorKind::Character));
+    }
     let _equals = line.next_byte();
-    let value = line.known_value()?;
-    ended(line)?;
-    Ok(Read::Constant(name, value))
+    Read::Constant(name, line.known_value())
 }
 
 /// Reads the operands of a statement of this name.
@@ -415,15 +435,6 @@ fn read_named<'a, A: Allocator + Copy>(
     }
     let statement = read_instruction(line, name, error)?;
     Ok(Read::Laid(name, statement, line.notes))
-}
-
-/// Takes the end of a statement.
-fn ended<A: Allocator + Copy>(line: &mut Line<A>) -> Result<(), LineError> {
-    if line.is_over() {
-        Ok(())
-    } else {
-        Err(line.error(SourceErrorKind::More))
-    }
 }
 
 /// The mistake where a word is followed by something that can't follow it.

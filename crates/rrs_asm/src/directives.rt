@@ -11,7 +11,7 @@ use crate::output::MOST_BYTES;
 use crate::sections::{SectionKind, is_laid_out, kind_of_name};
 use crate::statements::Statement;
 use rrs_lines::{Halt, Line, LineError, Notes, SourceErrorKind, escaped, is_name, split_word};
-use std::alloc::Allocator;
+use std::alloc::{AllocError, Allocator};
 
 /// The greatest alignment, as a power of 2.
 const MOST_ALIGNED: u32 = 16;
@@ -69,7 +69,7 @@ pub fn read_directive<'a, A: Allocator + Copy>(
             let statement = read_placed(line, name, form, data)?;
             Ok(Read::Laid(name, statement, line.notes))
         }
-        _ => Ok(read_said(line, form, name, operands, error)?),
+        _ => Ok(read_said(line, form, name, operands, error)),
     }
 }
 
@@ -89,11 +89,11 @@ fn read_said<'a, A: Allocator + Copy>(
     name: &'a [u8],
     operands: &'a [u8],
     error: LineError,
-) -> Result<Read<'a>, LineError>
+) -> Read<'a>
     requires { IsForm name.now form }
-    ensures items { (number : ℕ) → IfOk result (λ read.
-        items_of_read number read ≡ items_named number name.now operands.now) }
-    ensures name { IfOk result HasItsName }
+    ensures items { (number : ℕ) →
+        items_of_read number result ≡ items_named number name.now operands.now }
+    ensures name { HasItsName result }
 {
     match form {
         DirectiveForm::Common => read_common(line, name, operands),
@@ -102,10 +102,11 @@ fn read_said<'a, A: Allocator + Copy>(
         DirectiveForm::Section => read_section(line, name, operands, error),
         DirectiveForm::Silent => {
             line.skip_all();
-            Ok(Read::Nothing)
+            Read::Nothing
         }
         DirectiveForm::Place(_) | DirectiveForm::Refused => {
-            Err(error.with_kind(SourceErrorKind::Unsupported))
+            line.fail(error.with_kind(SourceErrorKind::Unsupported));
+            Read::Skipped(name, false)
         }
     }
 }
@@ -116,27 +117,25 @@ fn read_section<'a, A: Allocator + Copy>(
     name: &'a [u8],
     operands: &'a [u8],
     error: LineError,
-) -> Result<Read<'a>, LineError>
-    ensures items { (number : ℕ) → IfOk result (λ read.
-        items_of_read number read ≡ Item.Section (section_opened name.now operands.now) ∷ []) }
-    ensures name { IfOk result HasItsName }
+) -> Read<'a>
+    ensures items { (number : ℕ) →
+        items_of_read number result ≡ Item.Section (section_opened name.now operands.now) ∷ [] }
+    ensures name { HasItsName result }
 {
     if name != b".section".as_slice() {
-        return Ok(Read::Section(name, kind_of_name(name)));
+        return Read::Section(name, kind_of_name(name));
     }
     let (section, rest) = split_word(operands);
-    if section.is_empty() {
-        return Err(line.error(SourceErrorKind::Section));
-    }
+    line.want(!section.is_empty(), SourceErrorKind::Section);
     line.skip_all();
     if !is_laid_out(section) {
-        return Ok(Read::Section(section, None));
+        return Read::Section(section, None);
     }
     let kind = kind_of_name(section).or(kind_of_flags(rest));
-    match kind {
-        Some(_) => Ok(Read::Section(section, kind)),
-        None => Err(error.with_kind(SourceErrorKind::Section)),
+    if kind.is_none() {
+        line.fail(error.with_kind(SourceErrorKind::Section));
     }
+    Read::Section(section, kind)
 }
 
 /// Reads a symbol in `COMMON`, with its size and its alignment. Where there is no alignment, it is
@@ -145,23 +144,24 @@ fn read_common<'a, A: Allocator + Copy>(
     line: &mut Line<'a, '_, A>,
     name: &'a [u8],
     operands: &'a [u8],
-) -> Result<Read<'a>, LineError>
-    ensures items { (number : ℕ) → IfOk result (λ read.
-        items_of_read number read ≡ Item.Common number name.now (word operands.now) ∷ []) }
-    ensures name { is_one_of fill_names name.now ≡ true → IfOk result HasItsName }
+) -> Read<'a>
+    ensures items { (number : ℕ) →
+        items_of_read number result ≡ Item.Common number name.now (word operands.now) ∷ [] }
+    ensures name { is_one_of fill_names name.now ≡ true → HasItsName result }
 {
-    let error = line.error(SourceErrorKind::Character);
     let (symbol, rest) = split_word(operands);
-    let symbol = checked_name(symbol, error)?;
-    line.rest = rest;
-    line.comma()?;
-    let size = read_count(line)?;
+    line.want(is_name(symbol), SourceErrorKind::Character);
+    if line.mistake.is_none() {
+        line.rest = rest;
+    }
+    line.comma();
+    let size = read_count(line);
     let alignment = if line.take(b',') {
-        alignment(line, false)?
+        alignment(line, false)
     } else {
         implied_alignment(size, name == b".lcomm".as_slice())
     };
-    Ok(Read::Common(name, symbol, Common { size, alignment }))
+    Read::Common(name, symbol, Common { size, alignment })
 }
 
 /// The alignment of a symbol of a size: the greatest power of 2 up to the size and 8 where it is
@@ -228,17 +228,17 @@ fn flags_in(text: &[u8]) -> Flags {
 const OPTIONS: [&[u8]; 6] = [b"norvc", b"relax", b"norelax", b"push", b"pop", b"nopic"];
 
 /// Reads an option. Those that would allow other instructions are refused.
-fn read_option<'a, A: Allocator + Copy>(line: &mut Line<'a, '_, A>) -> Result<Read<'a>, LineError>
-    ensures items { (number : ℕ) → IfOk result (λ read. items_of_read number read ≡ []) }
-    ensures name { IfOk result HasItsName }
+fn read_option<'a, A: Allocator + Copy>(line: &mut Line<'a, '_, A>) -> Read<'a>
+    ensures items { (number : ℕ) → items_of_read number result ≡ [] }
+    ensures name { HasItsName result }
 {
     line.skip_blanks();
     let error = line.error(SourceErrorKind::Unsupported);
     if !OPTIONS.contains(&line.word()) {
-        return Err(error);
+        line.fail(error);
     }
     line.skip_all();
-    Ok(Read::Nothing)
+    Read::Nothing
 }
 
 /// Reads the operands of a directive of this name that puts something at its address.
@@ -247,7 +247,7 @@ fn read_placed<A: Allocator + Copy>(
     name: &[u8],
     form: PlacedForm,
     data: &mut Vec<u8, A>,
-) -> Result<Statement, Halt>
+) -> Result<Statement, AllocError>
     requires { fits_placed name.now form ≡ true }
     ensures { IfOk result (IsNamed name.now) }
 {
@@ -258,10 +258,10 @@ fn read_placed<A: Allocator + Copy>(
             Ok(Statement::Data(data.len()))
         }
         PlacedForm::Space => {
-            let (count, byte) = read_space(line)?;
+            let (count, byte) = read_space(line);
             Ok(Statement::Fill(count, byte))
         }
-        PlacedForm::Origin => Ok(Statement::Fill(read_origin(line)?, 0)),
+        PlacedForm::Origin => Ok(Statement::Fill(read_origin(line), 0)),
     }
 }
 
@@ -270,36 +270,31 @@ fn read_bytes<A: Allocator + Copy>(
     line: &mut Line<A>,
     form: DataForm,
     bytes: &mut Vec<u8, A>,
-) -> Result<(), Halt> {
+) -> Result<(), AllocError> {
     match form {
         DataForm::Numbers(bits) => read_data(line, bits, bytes),
         DataForm::Strings(is_ended) => read_strings(line, is_ended, bytes),
         DataForm::Pattern => read_pattern(line, bytes),
-        DataForm::Alignment(is_power) => read_alignment(line, is_power, bytes),
+        DataForm::Alignment(is_power) => {
+            let alignment = alignment(line, is_power);
+            read_padding(line, alignment, bytes)
+        }
     }
 }
 
 /// Reads the name and the value of a constant.
-fn read_constant<'a, A: Allocator + Copy>(line: &mut Line<'a, '_, A>) -> Result<Read<'a>, LineError>
-    ensures items { (number : ℕ) → IfOk result (λ read. items_of_read number read ≡ []) }
-    ensures name { IfOk result HasItsName }
+fn read_constant<'a, A: Allocator + Copy>(line: &mut Line<'a, '_, A>) -> Read<'a>
+    ensures items { (number : ℕ) → items_of_read number result ≡ [] }
+    ensures name { HasItsName result }
 {
     line.skip_blanks();
     let error = line.error(SourceErrorKind::Character);
-    let name = checked_name(line.word(), error)?;
-    line.comma()?;
-    Ok(Read::Constant(name, line.known_value()?))
-}
-
-/// A name, if a symbol can have it.
-pub fn checked_name(name: &[u8], error: LineError) -> Result<&[u8], LineError>
-    ensures { IfOk result (λ checked. checked.now ≡ name.now) }
-{
-    if is_name(name) {
-        Ok(name)
-    } else {
-        Err(error.with_kind(SourceErrorKind::Character))
+    let name = line.word();
+    if !is_name(name) {
+        line.fail(error);
     }
+    line.comma();
+    Read::Constant(name, line.known_value())
 }
 
 /// Reads numbers of so many bits each, with commas between them.
@@ -307,9 +302,10 @@ fn read_data<A: Allocator + Copy>(
     line: &mut Line<A>,
     bits: u32,
     bytes: &mut Vec<u8, A>,
-) -> Result<(), Halt> {
+) -> Result<(), AllocError> {
     for _ in 0..u64::MAX {
-        push_datum(bytes, line, bits)?;
+        let own = datum(line, bits).to_le_bytes();
+        bytes.extend_from_slice(&own[..bytes_in(bits)])?;
         if !line.take(b',') {
             break;
         }
@@ -317,19 +313,13 @@ fn read_data<A: Allocator + Copy>(
     Ok(())
 }
 
-/// Reads a number of so many bits, and appends it, its lowest byte first.
-fn push_datum<A: Allocator + Copy>(
-    bytes: &mut Vec<u8, A>,
-    line: &mut Line<A>,
-    bits: u32,
-) -> Result<(), Halt> {
-    let value = if bits == 64 {
-        line.wide_value()?
+/// Reads a number of so many bits.
+fn datum<A: Allocator + Copy>(line: &mut Line<A>, bits: u32) -> u64 {
+    if bits == 64 {
+        line.wide_value()
     } else {
-        u64::from(line.datum(bits)?)
-    };
-    let own = value.to_le_bytes();
-    Ok(bytes.extend_from_slice(&own[..bytes_in(bits)])?)
+        u64::from(line.datum(bits))
+    }
 }
 
 /// How many bytes a number of so many bits is.
@@ -348,14 +338,14 @@ fn bytes_in(bits: u32) -> usize
 fn read_pattern<A: Allocator + Copy>(
     line: &mut Line<A>,
     bytes: &mut Vec<u8, A>,
-) -> Result<(), Halt> {
-    let count = read_count(line)?;
-    let (size, value) = read_pattern_item(line)?;
+) -> Result<(), AllocError> {
+    let count = read_count(line);
+    let (size, value) = read_pattern_item(line);
     if count as usize * size as usize > MOST_BYTES {
-        return Err(Halt::Error(line.error(SourceErrorKind::TooLong)));
+        line.want(false, SourceErrorKind::TooLong);
+        return Ok(());
     }
-    let [first, second, third, fourth] = value.to_le_bytes();
-    let own = [first, second, third, fourth, 0, 0, 0, 0];
+    let own = u64::from(value).to_le_bytes();
     for _ in 0..count {
         bytes.extend_from_slice(&own[..size as usize])?;
     }
@@ -364,20 +354,15 @@ fn read_pattern<A: Allocator + Copy>(
 
 /// Reads how many bytes a number has, at most 8 and 1 where none is said, and the number, which is 0
 /// where none is said.
-fn read_pattern_item<A: Allocator + Copy>(line: &mut Line<A>) -> Result<(u32, u32), LineError>
-    ensures { IfOk result (λ item. item.0 ≤ 8) }
+fn read_pattern_item<A: Allocator + Copy>(line: &mut Line<A>) -> (u32, u32)
+    ensures { result.0 ≤ 8 }
 {
     if !line.take(b',') {
-        return Ok((1, 0));
+        return (1, 0);
     }
-    line.skip_blanks();
-    let error = line.error(SourceErrorKind::Range);
-    let size = line.known_value()?;
-    if size > 8 {
-        return Err(error);
-    }
-    let value = if line.take(b',') { line.value()? } else { 0 };
-    Ok((size, value))
+    let size = known_up_to(line, 8, SourceErrorKind::Range);
+    let value = if line.take(b',') { line.value() } else { 0 };
+    (size, value)
 }
 
 /// Reads strings with commas between them, and puts a zero byte behind each if that is asked.
@@ -385,7 +370,7 @@ fn read_strings<A: Allocator + Copy>(
     line: &mut Line<A>,
     is_ended: bool,
     bytes: &mut Vec<u8, A>,
-) -> Result<(), Halt> {
+) -> Result<(), AllocError> {
     for _ in 0..u64::MAX {
         read_string(line, bytes)?;
         if is_ended {
@@ -402,10 +387,10 @@ fn read_strings<A: Allocator + Copy>(
 fn read_string<A: Allocator + Copy>(
     line: &mut Line<A>,
     bytes: &mut Vec<u8, A>,
-) -> Result<(), Halt> {
-    line.expect(b'"', SourceErrorKind::Quote)?;
+) -> Result<(), AllocError> {
+    line.expect(b'"', SourceErrorKind::Quote);
     for _ in 0..u64::MAX {
-        let Some(byte) = next_in_string(line)? else {
+        let Some(byte) = next_in_string(line) else {
             break;
         };
         bytes.push(byte)?;
@@ -414,31 +399,35 @@ fn read_string<A: Allocator + Copy>(
 }
 
 /// Takes the next byte of a string, or its end, where there is none.
-fn next_in_string<A: Allocator + Copy>(line: &mut Line<A>) -> Result<Option<u8>, LineError> {
+fn next_in_string<A: Allocator + Copy>(line: &mut Line<A>) -> Option<u8> {
     match line.next_byte() {
-        None => Err(line.error(SourceErrorKind::Quote)),
-        Some(b'"') => Ok(None),
+        Some(b'"') => None,
         Some(b'\\') => next_escaped(line),
-        byte => Ok(byte),
+        None => {
+            line.want(false, SourceErrorKind::Quote);
+            None
+        }
+        byte => byte,
     }
 }
 
 /// Takes what follows a backslash: the byte that it stands for. It may be written by up to three octal
 /// digits, as `\101`, or by hexadecimal ones, of which the last two count, as `\x41`.
-fn next_escaped<A: Allocator + Copy>(line: &mut Line<A>) -> Result<Option<u8>, LineError> {
+fn next_escaped<A: Allocator + Copy>(line: &mut Line<A>) -> Option<u8> {
     let error = line.error(SourceErrorKind::Escape);
-    match line.next_byte() {
-        Some(digit @ b'0'..=b'7') => Ok(Some(digits_behind(line, digit - b'0', 8, 2))),
-        Some(b'x' | b'X') => {
-            let first = line.next_digit(16).ok_or(error)?;
-            Ok(Some(digits_behind(line, first, 16, u64::MAX)))
-        }
-        Some(byte) => match escaped(byte) {
-            None => Err(error),
-            value => Ok(value),
+    let value = match line.next_byte() {
+        Some(digit @ b'0'..=b'7') => Some(digits_behind(line, digit - b'0', 8, 2)),
+        Some(b'x' | b'X') => match line.next_digit(16) {
+            Some(first) => Some(digits_behind(line, first, 16, u64::MAX)),
+            None => None,
         },
-        None => Err(error),
+        Some(byte) => escaped(byte),
+        None => None,
+    };
+    if value.is_none() {
+        line.fail(error);
     }
+    value
 }
 
 /// Takes so many further digits of an escape at most, as far as they stand there. The value is taken
@@ -455,65 +444,58 @@ fn digits_behind<A: Allocator + Copy>(line: &mut Line<A>, first: u8, base: u8, m
 }
 
 /// Reads how many bytes, and which byte where another than zero is meant.
-fn read_space<A: Allocator + Copy>(line: &mut Line<A>) -> Result<(u32, u8), LineError> {
-    let count = read_count(line)?;
-    let byte = if line.take(b',') {
-        (line.datum(8)? % 256) as u8
-    } else {
-        0
-    };
-    Ok((count, byte))
+fn read_space<A: Allocator + Copy>(line: &mut Line<A>) -> (u32, u8) {
+    let count = read_count(line);
+    let byte = if line.take(b',') { line.datum(8) } else { 0 };
+    (count, (byte % 256) as u8)
 }
 
 /// Reads a number of bytes that is known here.
-fn read_count<A: Allocator + Copy>(line: &mut Line<A>) -> Result<u32, LineError> {
+fn read_count<A: Allocator + Copy>(line: &mut Line<A>) -> u32 {
+    known_up_to(line, MOST_BYTES as u32, SourceErrorKind::TooLong)
+}
+
+/// Reads a number that is known here, and is at most another one. One that is greater is a mistake
+/// of this kind.
+fn known_up_to<A: Allocator + Copy>(line: &mut Line<A>, most: u32, kind: SourceErrorKind) -> u32
+    ensures { result ≤ most }
+{
     line.skip_blanks();
-    let error = line.error(SourceErrorKind::TooLong);
-    let count = line.known_value()?;
-    if count as usize <= MOST_BYTES {
-        Ok(count)
-    } else {
-        Err(error)
+    let error = line.error(kind);
+    let value = line.known_value();
+    if value <= most {
+        return value;
     }
+    line.fail(error);
+    0
 }
 
 /// Reads the address of what follows, which is no lower than that of the directive: how many bytes
 /// it is behind.
-fn read_origin<A: Allocator + Copy>(line: &mut Line<A>) -> Result<u32, LineError> {
+fn read_origin<A: Allocator + Copy>(line: &mut Line<A>) -> u32 {
     line.skip_blanks();
     let error = line.error(SourceErrorKind::Backward);
-    let target = line.known_value()?;
-    let count = target.checked_sub(line.site.here).ok_or(error)?;
-    if count as usize <= MOST_BYTES {
-        Ok(count)
-    } else {
-        Err(error.with_kind(SourceErrorKind::TooLong))
+    match line.known_value().checked_sub(line.site.here) {
+        Some(count) if count as usize <= MOST_BYTES => return count,
+        Some(_) => line.fail(error.with_kind(SourceErrorKind::TooLong)),
+        None => line.fail(error),
     }
-}
-
-/// Reads an alignment, as a power of 2 or in bytes, and what fills up to it.
-fn read_alignment<A: Allocator + Copy>(
-    line: &mut Line<A>,
-    is_power: bool,
-    bytes: &mut Vec<u8, A>,
-) -> Result<(), Halt> {
-    let alignment = alignment(line, is_power)?;
-    read_padding(line, alignment, bytes)
+    0
 }
 
 /// Reads how many bytes an alignment has: a power of 2, which may be said by its exponent.
-fn alignment<A: Allocator + Copy>(line: &mut Line<A>, is_power: bool) -> Result<u32, LineError>
-    ensures { IfOk result (λ bytes. 0 < bytes) }
+fn alignment<A: Allocator + Copy>(line: &mut Line<A>, is_power: bool) -> u32
+    ensures { 0 < result }
 {
     line.skip_blanks();
     let error = line.error(SourceErrorKind::Range);
-    let value = line.known_value()?;
+    let value = line.known_value();
     let bytes = if is_power { power_of_two(value) } else { value };
     if bytes.is_power_of_two() && bytes <= 1 << MOST_ALIGNED {
-        Ok(bytes)
-    } else {
-        Err(error)
+        return bytes;
     }
+    line.fail(error);
+    1
 }
 
 /// Which power of 2 has this exponent. It is 0 where that is too large.
@@ -526,29 +508,42 @@ fn read_padding<A: Allocator + Copy>(
     line: &mut Line<A>,
     alignment: u32,
     bytes: &mut Vec<u8, A>,
-) -> Result<(), Halt>
+) -> Result<(), AllocError>
     requires { 0 < alignment }
 {
     line.notes.alignment = alignment;
-    let mut fill = None;
     let count = 0u32.wrapping_sub(line.site.here) % alignment;
-    if line.take(b',') {
-        let has_limit = line.take(b',');
-        if !has_limit {
-            fill = Some((line.datum(8)? % 256) as u8);
-        }
-        if (has_limit || line.take(b',')) && line.known_value()? < count {
-            return Ok(());
-        }
+    let (fill, most) = read_fill(line);
+    if most < count {
+        return Ok(());
     }
     match fill {
         None if line.site.is_code => push_padding(bytes, count),
-        _ => Ok(bytes.resize(count as usize, fill.unwrap_or(0))?),
+        _ => bytes.resize(count as usize, fill.unwrap_or(0)),
     }
 }
 
+/// Reads which byte fills, if one is said, and how many at most.
+fn read_fill<A: Allocator + Copy>(line: &mut Line<A>) -> (Option<u8>, u32) {
+    if !line.take(b',') {
+        return (None, u32::MAX);
+    }
+    let mut fill = None;
+    let mut has_limit = line.take(b',');
+    if !has_limit {
+        fill = Some((line.datum(8) % 256) as u8);
+        has_limit = line.take(b',');
+    }
+    let most = if has_limit {
+        line.known_value()
+    } else {
+        u32::MAX
+    };
+    (fill, most)
+}
+
 /// Appends so many bytes between instructions: zeros up to a multiple of 4, and then `nop`s.
-fn push_padding<A: Allocator + Copy>(bytes: &mut Vec<u8, A>, count: u32) -> Result<(), Halt> {
+fn push_padding<A: Allocator + Copy>(bytes: &mut Vec<u8, A>, count: u32) -> Result<(), AllocError> {
     bytes.resize((count % 4) as usize, 0)?;
     for _ in 0..count / 4 {
         bytes.extend_from_slice(&[0x13, 0, 0, 0])?;

@@ -15,10 +15,10 @@ use rrs_lines::{Line, LineError, SourceErrorKind};
 use std::alloc::Allocator;
 
 /// How far a branch reaches, in bytes: so many backward, and fewer forward.
-const BRANCH_REACH: i32 = 0x1000;
+const BRANCH_REACH: u32 = 0x1000;
 
 /// How far a jump reaches.
-const JUMP_REACH: i32 = 0x10_0000;
+const JUMP_REACH: u32 = 0x10_0000;
 
 /// No operands.
 const NONE: Operands = Operands {
@@ -41,29 +41,29 @@ pub fn read_instruction<A: Allocator>(
         return Err(error.with_kind(SourceErrorKind::Misplaced));
     }
     if let Some(template) = instruction_named(name) {
-        return read_row(line, template);
+        return Ok(read_row(line, template));
     }
     match pseudo_named(name) {
-        Some(form) => Ok(Statement::Pseudo(read_pseudo(line, form)?)),
+        Some(form) => Ok(Statement::Pseudo(read_pseudo(line, form))),
         None if name == b"unimp".as_slice() => Ok(Statement::Unimp),
         None => Err(error),
     }
 }
 
 /// Reads the operands of a row.
-fn read_row<A: Allocator>(line: &mut Line<A>, template: Instruction) -> Result<Statement, LineError>
-    ensures { IfOk result (IsNamed (table (row_of template)).name) }
+fn read_row<A: Allocator>(line: &mut Line<A>, template: Instruction) -> Statement
+    ensures { IsNamed (table (row_of template)).name result }
 {
     match row_form(template) {
-        RowForm::Alone => Ok(Statement::Instruction(template)),
+        RowForm::Alone => Statement::Instruction(template),
         RowForm::Fence => read_fence(line, template),
         RowForm::Jal => read_jal(line, template),
         RowForm::Jalr => read_jalr(line, template),
         RowForm::Load(load) => read_load(line, template, load),
         RowForm::Store(store) => read_store(line, template, store),
         RowForm::Format => {
-            let operands = read_operands(line, operands_of(template.fields()))?;
-            statement_of(template, operands)
+            let operands = read_operands(line, operands_of(template.fields()));
+            statement_of(line, template, operands)
         }
     }
 }
@@ -104,62 +104,62 @@ fn row_form(template: Instruction) -> RowForm
 }
 
 /// Reads `rd, immediate(rs1)`, or `rd, symbol`.
-fn read_load<A: Allocator>(
-    line: &mut Line<A>,
-    template: Instruction,
-    load: Load,
-) -> Result<Statement, LineError>
+fn read_load<A: Allocator>(line: &mut Line<A>, template: Instruction, load: Load) -> Statement
     requires { load_name load ≡ (table (row_of template)).name }
-    ensures { IfOk result (IsNamed (table (row_of template)).name) }
+    ensures { IsNamed (table (row_of template)).name result }
 {
-    let rd = line.register_before_comma()?;
+    let rd = line.register();
+    line.comma();
     if let Some(distance) = line.distance_alone() {
-        return Ok(Statement::Pseudo(Pseudo::From(load, rd, distance)));
+        return Statement::Pseudo(Pseudo::From(load, rd, distance));
     }
-    let (imm, rs1) = line.address()?;
+    let (imm, rs1) = line.address();
     let operands = Operands {
         rd,
         rs1,
         imm,
         ..NONE
     };
-    statement_of(template, operands)
+    statement_of(line, template, operands)
 }
 
 /// Reads `rs2, immediate(rs1)`, or `rs2, symbol, rt`.
-fn read_store<A: Allocator>(
-    line: &mut Line<A>,
-    template: Instruction,
-    store: Store,
-) -> Result<Statement, LineError>
+fn read_store<A: Allocator>(line: &mut Line<A>, template: Instruction, store: Store) -> Statement
     requires { store_name store ≡ (table (row_of template)).name }
-    ensures { IfOk result (IsNamed (table (row_of template)).name) }
+    ensures { IsNamed (table (row_of template)).name result }
 {
-    let rs2 = line.register_before_comma()?;
+    let rs2 = line.register();
+    line.comma();
     if let Some(distance) = line.distance_alone() {
-        line.comma()?;
-        let rt = line.register()?;
-        return Ok(Statement::Pseudo(Pseudo::At(store, rs2, rt, distance)));
+        line.comma();
+        let rt = line.register();
+        return Statement::Pseudo(Pseudo::At(store, rs2, rt, distance));
     }
-    let (imm, rs1) = line.address()?;
+    let (imm, rs1) = line.address();
     let operands = Operands {
         rs1,
         rs2,
         imm,
         ..NONE
     };
-    statement_of(template, operands)
+    statement_of(line, template, operands)
 }
 
 /// The statement that is an instruction with these operands, whose ranges the readers saw to.
-fn statement_of(template: Instruction, operands: Operands) -> Result<Statement, LineError>
-    ensures { IfOk result (IsNamed (table (row_of template)).name) }
+fn statement_of<A: Allocator>(
+    line: &mut Line<A>,
+    template: Instruction,
+    operands: Operands,
+) -> Statement
+    ensures { IsNamed (table (row_of template)).name result }
 {
-    let instruction = with_operands(&template, operands).ok_or(LineError {
-        kind: SourceErrorKind::Range,
-        left: 0,
-    })?;
-    Ok(Statement::Instruction(instruction))
+    match with_operands(&template, operands) {
+        Some(instruction) => Statement::Instruction(instruction),
+        None => {
+            line.want(false, SourceErrorKind::Range);
+            Statement::Instruction(template)
+        }
+    }
 }
 
 /// An operand: where it goes, and how it is written.
@@ -225,120 +225,114 @@ fn operands_of(fields: InstructionFields) -> &'static [Operand] {
 }
 
 /// Reads operands with commas between them.
-fn read_operands<A: Allocator>(
-    line: &mut Line<A>,
-    wanted: &[Operand],
-) -> Result<Operands, LineError> {
+fn read_operands<A: Allocator>(line: &mut Line<A>, wanted: &[Operand]) -> Operands {
     let mut operands = NONE;
     for (number, operand) in wanted.iter().enumerate() {
         if number > 0 {
-            line.comma()?;
+            line.comma();
         }
-        read_operand(line, *operand, &mut operands)?;
+        read_operand(line, *operand, &mut operands);
     }
-    Ok(operands)
+    operands
 }
 
 /// Reads an operand, and puts it where it goes.
-fn read_operand<A: Allocator>(
-    line: &mut Line<A>,
-    operand: Operand,
-    operands: &mut Operands,
-) -> Result<(), LineError> {
+fn read_operand<A: Allocator>(line: &mut Line<A>, operand: Operand, operands: &mut Operands) {
     match operand {
-        Operand::Rd => operands.rd = line.register()?,
-        Operand::Rs1 => operands.rs1 = line.register()?,
-        Operand::Rs2 => operands.rs2 = line.register()?,
-        Operand::Address => (operands.imm, operands.rs1) = line.address()?,
-        Operand::Number(number) => operands.imm = read_number(line, number)?,
+        Operand::Rd => operands.rd = line.register(),
+        Operand::Rs1 => operands.rs1 = line.register(),
+        Operand::Rs2 => operands.rs2 = line.register(),
+        Operand::Address => (operands.imm, operands.rs1) = line.address(),
+        Operand::Number(number) => operands.imm = read_number(line, number),
     }
-    Ok(())
 }
 
 /// Reads a number that goes where an immediate does. A word is taken as a signed one.
-fn read_number<A: Allocator>(line: &mut Line<A>, number: Number) -> Result<i32, LineError> {
+fn read_number<A: Allocator>(line: &mut Line<A>, number: Number) -> i32 {
     match number {
         Number::Immediate => line.immediate(),
         Number::Branch => line.offset(BRANCH_REACH),
         Number::Jump => line.offset(JUMP_REACH),
-        Number::Amount => Ok(line.below(32)?.cast_signed()),
-        Number::Upper => Ok((line.upper()? << 12).cast_signed()),
-        Number::Word => Ok(line.known_value()?.cast_signed()),
-        Number::Distance => Ok(line.value()?.wrapping_sub(line.site.here).cast_signed()),
+        Number::Amount => line.below(32, 0).cast_signed(),
+        Number::Upper => (line.upper() << 12).cast_signed(),
+        Number::Word => line.known_value().cast_signed(),
+        Number::Distance => line.value().wrapping_sub(line.site.here).cast_signed(),
     }
 }
 
 /// Reads `rd, target`, or `target` alone.
-fn read_jal<A: Allocator>(line: &mut Line<A>, template: Instruction) -> Result<Statement, LineError>
+fn read_jal<A: Allocator>(line: &mut Line<A>, template: Instruction) -> Statement
     requires { (table (row_of template)).name ≡ codes "jal" }
-    ensures { IfOk result (IsNamed (table (row_of template)).name) }
+    ensures { IsNamed (table (row_of template)).name result }
 {
-    let before = line.rest;
-    if let Ok(rd) = line.register_before_comma() {
-        let imm = line.offset(JUMP_REACH)?;
-        let operands = Operands { rd, imm, ..NONE };
-        return statement_of(template, operands);
+    let before = *line;
+    let rd = line.register();
+    line.comma();
+    if line.mistake.is_some() {
+        *line = before;
+        return Statement::Pseudo(Pseudo::Jal(line.offset(JUMP_REACH)));
     }
-    line.rest = before;
-    Ok(Statement::Pseudo(Pseudo::Jal(line.offset(JUMP_REACH)?)))
+    let imm = line.offset(JUMP_REACH);
+    let operands = Operands { rd, imm, ..NONE };
+    statement_of(line, template, operands)
 }
 
 /// Reads `rd, immediate(rs1)`, `rd, rs1, immediate`, `rd, rs1`, or `rs1` alone.
-fn read_jalr<A: Allocator>(
-    line: &mut Line<A>,
-    template: Instruction,
-) -> Result<Statement, LineError>
+fn read_jalr<A: Allocator>(line: &mut Line<A>, template: Instruction) -> Statement
     requires { (table (row_of template)).name ≡ codes "jalr" }
-    ensures { IfOk result (IsNamed (table (row_of template)).name) }
+    ensures { IsNamed (table (row_of template)).name result }
 {
-    let rd = line.register()?;
+    let rd = line.register();
     if !line.take(b',') {
-        return Ok(Statement::Pseudo(Pseudo::Jalr(rd)));
+        return Statement::Pseudo(Pseudo::Jalr(rd));
     }
-    let before = line.rest;
-    let (imm, rs1) = match line.register() {
-        Ok(rs1) if line.take(b',') => (line.immediate()?, rs1),
-        Ok(rs1) => (0, rs1),
-        Err(_) => {
-            line.rest = before;
-            line.address()?
-        }
-    };
+    let before = *line;
+    let mut rs1 = line.register();
+    let mut imm = 0;
+    if line.mistake.is_some() {
+        *line = before;
+        (imm, rs1) = line.address();
+    } else if line.take(b',') {
+        imm = line.immediate();
+    }
     let operands = Operands {
         rd,
         rs1,
         imm,
         ..NONE
     };
-    statement_of(template, operands)
+    statement_of(line, template, operands)
 }
 
 /// Reads two sets of accesses, or nothing.
-fn read_fence<A: Allocator>(
-    line: &mut Line<A>,
-    template: Instruction,
-) -> Result<Statement, LineError>
+fn read_fence<A: Allocator>(line: &mut Line<A>, template: Instruction) -> Statement
     requires { (table (row_of template)).name ≡ codes "fence" }
-    ensures { IfOk result (IsNamed (table (row_of template)).name) }
+    ensures { IsNamed (table (row_of template)).name result }
 {
     if line.is_over() {
-        return Ok(Statement::Pseudo(Pseudo::Fence));
+        return Statement::Pseudo(Pseudo::Fence);
     }
-    let before = read_accesses(line)?;
-    line.comma()?;
-    let after = read_accesses(line)?;
+    let before = read_accesses(line);
+    line.comma();
+    let after = read_accesses(line);
     let imm = (before * 16 + after).cast_signed();
     let operands = Operands { imm, ..NONE };
-    statement_of(template, operands)
+    statement_of(line, template, operands)
 }
 
 /// Reads a set of accesses: some of the letters `iorw`, in this order.
-fn read_accesses<A: Allocator>(line: &mut Line<A>) -> Result<u32, LineError>
-    ensures { IfOk result (λ set. set < 16) }
+fn read_accesses<A: Allocator>(line: &mut Line<A>) -> u32
+    ensures { result < 16 }
 {
     line.skip_blanks();
     let error = line.error(SourceErrorKind::Value);
-    accesses_of(line.word()).ok_or(error)
+    match accesses_of(line.word()) {
+        Some(set) => set,
+        None => {
+            line.fail(error);
+            0
+        }
+    }
 }
 
 /// The sets of accesses, in the order of their four bits, from 1 on.
@@ -360,10 +354,10 @@ fn accesses_of(word: &[u8]) -> Option<u32>
 }
 
 /// Reads the operands of a pseudo-instruction.
-fn read_pseudo<A: Allocator>(line: &mut Line<A>, form: PseudoForm) -> Result<Pseudo, LineError>
-    ensures { IfOk result (λ pseudo. pseudo_name pseudo ≡ form_name form) }
+fn read_pseudo<A: Allocator>(line: &mut Line<A>, form: PseudoForm) -> Pseudo
+    ensures { pseudo_name result ≡ form_name form }
 {
-    Ok(pseudo_of(form, read_operands(line, operands_of_pseudo(form))?))
+    pseudo_of(form, read_operands(line, operands_of_pseudo(form)))
 }
 
 /// The operands of pseudo-instructions that are written as no format is.

@@ -1,7 +1,7 @@
 //! Operators of values, with the ranks that they have in GNU `as`, and what they make of numbers of
 //! 64 bits.
 
-use crate::errors::{LineError, SourceErrorKind};
+use crate::errors::SourceErrorKind;
 
 /// The most operators and parentheses that wait for what is behind them.
 const MOST_WAITING: usize = 64;
@@ -102,6 +102,19 @@ fn compared(operator: Operator, left: i64, right: i64) -> u64 {
     if holds { u64::MAX } else { 0 }
 }
 
+/// The operator before a value that is this byte: for a plus, which does nothing, there is none.
+/// None: the byte is no operator.
+pub fn operator_before(byte: u8) -> Option<Option<Operator>> {
+    match byte {
+        b'-' => Some(Some(Operator::Negate)),
+        b'~' => Some(Some(Operator::Complement)),
+        b'!' => Some(Some(Operator::IsZero)),
+        b'(' => Some(Some(Operator::Open)),
+        b'+' => Some(None),
+        _ => None,
+    }
+}
+
 /// The operator between two values that a text begins with, and how many bytes it has.
 pub fn operator_between(first: u8, second: u8) -> Option<(Operator, usize)> {
     match (first, second) {
@@ -152,6 +165,8 @@ pub struct Waiting {
     count: usize,
     /// How many opening parentheses are among them.
     open: usize,
+    /// What went wrong, if something did.
+    pub fault: Option<SourceErrorKind>,
 }
 
 impl Waiting {
@@ -165,6 +180,7 @@ impl Waiting {
             entries: [entry; MOST_WAITING],
             count: 0,
             open: 0,
+            fault: None,
         }
     }
 
@@ -187,57 +203,59 @@ impl Waiting {
         self.entries.get(index).copied()
     }
 
-    /// One more, behind a value.
-    pub fn push(
-        &mut self,
-        operator: Operator,
-        left: u64,
-        error: LineError,
-    ) -> Result<(), LineError> {
+    /// One more, with the value before it.
+    pub fn push(&mut self, operator: Operator, left: u64) {
         match self.entries.get_mut(self.count) {
             Some(entry) => *entry = Entry { operator, left },
-            None => return Err(error.with_kind(SourceErrorKind::Deep)),
+            None => {
+                self.fault = Some(SourceErrorKind::Deep);
+                return;
+            }
         }
         self.count = self.count.saturating_add(1);
         if matches!(operator, Operator::Open) {
             self.open = self.open.saturating_add(1);
         }
-        Ok(())
     }
 
     /// An operator behind a value: those that bind as strongly are applied before it.
-    pub fn push_between(
-        &mut self,
-        operator: Operator,
-        value: u64,
-        error: LineError,
-    ) -> Result<(), LineError> {
-        let left = self.applied(operator.rank(), value, error)?;
-        self.push(operator, left, error)
+    pub fn push_between(&mut self, operator: Operator, value: u64) {
+        let left = self.applied(operator.rank(), value);
+        self.push(operator, left);
     }
 
     /// What those that bind so strongly make of a value behind them. All up to the innermost
     /// parenthesis do that by `LOOSEST`.
-    pub fn applied(&mut self, rank: u8, value: u64, error: LineError) -> Result<u64, LineError> {
+    pub fn applied(&mut self, rank: u8, value: u64) -> u64 {
         let mut value = value;
         for _ in 0..MOST_WAITING {
             match self.last() {
                 Some(entry) if entry.operator.rank() >= rank => {
-                    let applied = entry.operator.apply(entry.left, value);
-                    value = applied.ok_or(error.with_kind(SourceErrorKind::Division))?;
+                    value = self.made_of(entry, value);
                     self.count = self.count.saturating_sub(1);
                 }
                 _ => break,
             }
         }
-        Ok(value)
+        value
+    }
+
+    /// What an operator makes of the value before it and one behind it.
+    fn made_of(&mut self, entry: Entry, value: u64) -> u64 {
+        match entry.operator.apply(entry.left, value) {
+            Some(made) => made,
+            None => {
+                self.fault = Some(SourceErrorKind::Division);
+                0
+            }
+        }
     }
 
     /// The value of what stands in the innermost parenthesis, which is closed.
-    pub fn closed(&mut self, value: u64, error: LineError) -> Result<u64, LineError> {
-        let value = self.applied(LOOSEST, value, error)?;
+    pub fn closed(&mut self, value: u64) -> u64 {
+        let value = self.applied(LOOSEST, value);
         self.count = self.count.saturating_sub(1);
         self.open = self.open.saturating_sub(1);
-        Ok(value)
+        value
     }
 }

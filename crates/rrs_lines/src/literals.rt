@@ -36,16 +36,6 @@ pub fn digit_of(byte: u8, base: u64) -> Option<u64> {
     if digit < base { Some(digit) } else { None }
 }
 
-/// The digit of the local label that a word means, and whether it is the nearest one before, as in
-/// `1b`, or behind, as in `1f`.
-pub fn local_label(word: &[u8]) -> Option<(u8, bool)> {
-    match word {
-        [digit @ b'0'..=b'9', b'b'] => Some((*digit - b'0', true)),
-        [digit @ b'0'..=b'9', b'f'] => Some((*digit - b'0', false)),
-        _ => None,
-    }
-}
-
 /// The byte that a backslash and this byte stand for.
 pub fn escaped(byte: u8) -> Option<u8> {
     match byte {

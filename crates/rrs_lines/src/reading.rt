@@ -1,11 +1,11 @@
 //! Reading a statement: its words, its registers and its values.
 
-ghost use Rattle.std.specs.Prelude.{◌≡◌, ◌+◌, ◌*◌, ◌/◌, ◌%◌, ◌^◌, pos, ◌<ℤ◌};
+ghost use Rattle.std.specs.Prelude.{◌≡◌, ◌+◌, ◌*◌, ◌/◌, ◌%◌, ◌^◌};
 
 use crate::errors::{LineError, SourceErrorKind};
-use crate::expressions::{LOOSEST, Operator, Waiting, operator_between};
+use crate::expressions::{LOOSEST, Operator, Waiting, operator_before, operator_between};
 use crate::lexing::{behind_blanks, is_name, split_word};
-use crate::literals::{digit_of, escaped, local_label, number_of};
+use crate::literals::{digit_of, escaped, number_of};
 use crate::registers::register_number;
 use crate::symbols::{Known, Symbols};
 use std::alloc::{AllocError, Allocator};
@@ -39,7 +39,28 @@ struct Wanted {
     is_wide: bool,
 }
 
+/// A value of 32 bits.
+const ANY: Wanted = Wanted {
+    is_known: false,
+    is_wide: false,
+};
+
+/// A value of 32 bits that is known here.
+const KNOWN: Wanted = Wanted {
+    is_known: true,
+    is_wide: false,
+};
+
+/// A value of 64 bits.
+const WIDE: Wanted = Wanted {
+    is_known: false,
+    is_wide: true,
+};
+
 /// What is left of a statement, and where it stands.
+///
+/// Where something else stands than what is wanted, that mistake is kept, all that is left is
+/// taken, and what is given is 0. So what follows finds no more, and the first mistake stays.
 pub struct Line<'a, 's, A: Allocator> {
     /// The text that is left.
     pub rest: &'a [u8],
@@ -50,6 +71,8 @@ pub struct Line<'a, 's, A: Allocator> {
     pub site: Site,
     /// What it asks beside its bytes.
     pub notes: Notes,
+    /// The first mistake in it.
+    pub mistake: Option<LineError>,
 }
 
 impl<A: Allocator> Clone for Line<'_, '_, A> {
@@ -73,37 +96,8 @@ impl<'a, 's, A: Allocator> Line<'a, 's, A> {
             symbols,
             site,
             notes,
+            mistake: None,
         }
-    }
-
-    /// Takes a digit below a base, if one is next.
-    pub fn next_digit(&mut self, base: u64) -> Option<u8> {
-        let byte = *self.rest.first()?;
-        let digit = digit_of(byte, base)?;
-        let _ = self.next_byte();
-        u8::try_from(digit).ok()
-    }
-
-    /// Takes a symbol, with what is added to it, and no register in parentheses behind it: how far
-    /// it is from the statement, modulo 2^32. None where something else stands there, which is
-    /// left.
-    pub fn distance_alone(&mut self) -> Option<u32> {
-        let before = self.rest;
-        let (word, _) = split_word(before);
-        if is_name(word) {
-            if let Ok(value) = self.value() {
-                if !self.take(b'(') {
-                    return Some(value.wrapping_sub(self.site.here));
-                }
-            }
-        }
-        self.rest = before;
-        None
-    }
-
-    /// Takes whatever is left.
-    pub fn skip_all(&mut self) {
-        self.rest = &self.rest[self.rest.len()..];
     }
 
     /// A mistake at this place.
@@ -112,6 +106,26 @@ impl<'a, 's, A: Allocator> Line<'a, 's, A> {
             kind,
             left: self.rest.len().saturating_add(self.behind),
         }
+    }
+
+    /// Keeps a mistake, if it is the first one, and takes all that is left.
+    pub fn fail(&mut self, error: LineError) {
+        if self.mistake.is_none() {
+            self.mistake = Some(error);
+        }
+        self.skip_all();
+    }
+
+    /// Keeps a mistake at this place where something is not as it has to be.
+    pub fn want(&mut self, is_right: bool, kind: SourceErrorKind) {
+        if !is_right {
+            self.fail(self.error(kind));
+        }
+    }
+
+    /// Takes whatever is left.
+    pub fn skip_all(&mut self) {
+        self.rest = &self.rest[self.rest.len()..];
     }
 
     /// Goes on to the next byte that is no blank.
@@ -130,9 +144,15 @@ impl<'a, 's, A: Allocator> Line<'a, 's, A> {
         }
     }
 
-    /// Takes a byte, if it is the next one behind blanks.
-    pub fn take(&mut self, wanted: u8) -> bool {
-        self.skip_blanks();
+    /// Takes a digit below a base, if one is next.
+    pub fn next_digit(&mut self, base: u64) -> Option<u8> {
+        let digit = digit_of(*self.rest.first()?, base)?;
+        let _ = self.next_byte();
+        u8::try_from(digit).ok()
+    }
+
+    /// Takes a byte, if it is the next one.
+    fn take_next(&mut self, wanted: u8) -> bool {
         match self.rest {
             [byte, rest @ ..] if *byte == wanted => {
                 self.rest = rest;
@@ -142,18 +162,21 @@ impl<'a, 's, A: Allocator> Line<'a, 's, A> {
         }
     }
 
+    /// Takes a byte, if it is the next one behind blanks.
+    pub fn take(&mut self, wanted: u8) -> bool {
+        self.skip_blanks();
+        self.take_next(wanted)
+    }
+
     /// Takes a byte that has to be there, behind blanks.
-    pub fn expect(&mut self, wanted: u8, kind: SourceErrorKind) -> Result<(), LineError> {
-        if self.take(wanted) {
-            Ok(())
-        } else {
-            Err(self.error(kind))
-        }
+    pub fn expect(&mut self, wanted: u8, kind: SourceErrorKind) {
+        let is_there = self.take(wanted);
+        self.want(is_there, kind);
     }
 
     /// Takes a comma.
-    pub fn comma(&mut self) -> Result<(), LineError> {
-        self.expect(b',', SourceErrorKind::Comma)
+    pub fn comma(&mut self) {
+        self.expect(b',', SourceErrorKind::Comma);
     }
 
     /// Takes a word, behind blanks. It is empty where none stands there.
@@ -170,98 +193,94 @@ impl<'a, 's, A: Allocator> Line<'a, 's, A> {
     }
 
     /// Takes a register.
-    pub fn register(&mut self) -> Result<usize, LineError> {
+    pub fn register(&mut self) -> usize {
         self.skip_blanks();
         let error = self.error(SourceErrorKind::Register);
-        register_number(self.word()).ok_or(error)
-    }
-
-    /// Takes a register and a comma.
-    pub fn register_before_comma(&mut self) -> Result<usize, LineError> {
-        let register = self.register()?;
-        self.comma()?;
-        Ok(register)
+        match register_number(self.word()) {
+            Some(register) => register,
+            None => {
+                self.fail(error);
+                0
+            }
+        }
     }
 
     /// Takes a value. It is taken modulo 2^32.
-    pub fn value(&mut self) -> Result<u32, LineError> {
-        self.word_of(false)
+    pub fn value(&mut self) -> u32 {
+        (self.expression(ANY) % 0x1_0000_0000) as u32
     }
 
     /// Takes a value that is known here: none of its symbols is defined further on.
-    pub fn known_value(&mut self) -> Result<u32, LineError> {
-        self.word_of(true)
-    }
-
-    /// Takes a value modulo 2^32.
-    fn word_of(&mut self, is_known: bool) -> Result<u32, LineError> {
-        let wanted = Wanted {
-            is_known,
-            is_wide: false,
-        };
-        Ok((self.expression(wanted)? % 0x1_0000_0000) as u32)
+    pub fn known_value(&mut self) -> u32 {
+        (self.expression(KNOWN) % 0x1_0000_0000) as u32
     }
 
     /// Takes a value of 64 bits.
-    pub fn wide_value(&mut self) -> Result<u64, LineError> {
-        self.expression(Wanted {
-            is_known: false,
-            is_wide: true,
-        })
+    pub fn wide_value(&mut self) -> u64 {
+        self.expression(WIDE)
     }
 
     /// Takes values with operators and parentheses.
-    fn expression(&mut self, wanted: Wanted) -> Result<u64, LineError> {
+    fn expression(&mut self, wanted: Wanted) -> u64 {
         let mut waiting = Waiting::new();
         for _ in 0..u64::MAX {
-            self.operators_before(&mut waiting)?;
-            let term = self.term(wanted, waiting.is_negated())?;
-            let value = self.parentheses_behind(term, &mut waiting)?;
-            let error = self.error(SourceErrorKind::Deep);
-            match self.operator() {
-                Some(operator) => waiting.push_between(operator, value, error)?,
-                None if waiting.is_open() => {
-                    return Err(error.with_kind(SourceErrorKind::Parenthesis));
-                }
-                None => return waiting.applied(LOOSEST, value, error),
-            }
+            self.operators_before(&mut waiting);
+            let term = self.term(wanted, waiting.is_negated());
+            let value = self.parentheses_behind(term, &mut waiting);
+            let place = self.error(SourceErrorKind::Parenthesis);
+            let Some(operator) = self.operator() else {
+                return self.ended(value, place, &mut waiting);
+            };
+            waiting.push_between(operator, value);
+            self.check(waiting.fault, place);
         }
-        Err(self.error(SourceErrorKind::Value))
+        0
+    }
+
+    /// The value of what ends with this one.
+    fn ended(&mut self, value: u64, place: LineError, waiting: &mut Waiting) -> u64 {
+        if waiting.is_open() {
+            self.fail(place);
+            return 0;
+        }
+        let value = waiting.applied(LOOSEST, value);
+        self.check(waiting.fault, place);
+        value
+    }
+
+    /// Keeps what went wrong with the operators, if something did.
+    fn check(&mut self, fault: Option<SourceErrorKind>, place: LineError) {
+        if let Some(kind) = fault {
+            self.fail(place.with_kind(kind));
+        }
     }
 
     /// Takes the operators before a value, and opening parentheses.
-    fn operators_before(&mut self, waiting: &mut Waiting) -> Result<(), LineError> {
+    fn operators_before(&mut self, waiting: &mut Waiting) {
         for _ in 0..u64::MAX {
-            let operator = if self.take(b'-') {
-                Operator::Negate
-            } else if self.take(b'~') {
-                Operator::Complement
-            } else if self.take(b'!') {
-                Operator::IsZero
-            } else if self.take(b'(') {
-                Operator::Open
-            } else if self.take(b'+') {
-                continue;
-            } else {
+            self.skip_blanks();
+            let Some(operator) = self.rest.first().copied().and_then(operator_before) else {
                 break;
             };
-            let error = self.error(SourceErrorKind::Deep);
-            waiting.push(operator, 0, error)?;
+            let _ = self.next_byte();
+            if let Some(operator) = operator {
+                waiting.push(operator, 0);
+            }
+            self.check(waiting.fault, self.error(SourceErrorKind::Deep));
         }
-        Ok(())
     }
 
     /// Takes the closing parentheses behind a value.
-    fn parentheses_behind(&mut self, value: u64, waiting: &mut Waiting) -> Result<u64, LineError> {
+    fn parentheses_behind(&mut self, value: u64, waiting: &mut Waiting) -> u64 {
         let mut value = value;
         for _ in 0..u64::MAX {
             if !waiting.is_open() || !self.take(b')') {
                 break;
             }
-            let error = self.error(SourceErrorKind::Deep);
-            value = waiting.closed(value, error)?;
+            value = waiting.closed(value);
+            self.check(waiting.fault, self.error(SourceErrorKind::Division));
         }
-        Ok(value)
+        value
     }
 
     /// Takes an operator between two values, if one is next.
@@ -281,199 +300,219 @@ impl<'a, 's, A: Allocator> Line<'a, 's, A> {
 
     /// Takes a term: a number, a character constant, a symbol, or `.`, the address of the
     /// statement. A number of 32 bits behind a minus is at most 2^31.
-    fn term(&mut self, wanted: Wanted, is_negated: bool) -> Result<u64, LineError> {
+    fn term(&mut self, wanted: Wanted, is_negated: bool) -> u64 {
         if self.take(b'\'') {
-            return Ok(u64::from(self.character()?));
+            return self.character();
         }
-        self.skip_blanks();
         let error = self.error(SourceErrorKind::Value);
         let word = self.word();
-        if let Some((digit, is_before)) = local_label(word) {
-            let known = self.symbols.local_value(digit, is_before);
-            return Ok(u64::from(self.known(known, wanted.is_known, error)?));
-        }
-        match word {
-            [b'0'..=b'9', ..] => number(word, wanted.is_wide, is_negated, error),
-            _ => Ok(u64::from(self.value_of_word(word, wanted.is_known, error)?)),
+        match self.known_of(word) {
+            Some(known) => u64::from(self.value_known(known, wanted.is_known, error)),
+            None => self.number(word, wanted.is_wide, is_negated, error),
         }
     }
 
-    /// The value of a symbol, or of `.`.
-    fn value_of_word(
-        &self,
-        word: &[u8],
-        is_known: bool,
-        error: LineError,
-    ) -> Result<u32, LineError> {
+    /// What is known of a symbol, of a local label, or of `.`. None where the word is a number, or
+    /// empty.
+    fn known_of(&self, word: &[u8]) -> Option<Known> {
         match word {
-            [] => Err(error),
-            [b'.'] => Ok(self.site.here),
-            _ => self.known(self.symbols.value_of(word), is_known, error),
+            [] => None,
+            [b'.'] => Some(Known::Now(self.site.here)),
+            [digit @ b'0'..=b'9', b'b'] => Some(self.symbols.local_value(*digit - b'0', true)),
+            [digit @ b'0'..=b'9', b'f'] => Some(self.symbols.local_value(*digit - b'0', false)),
+            [b'0'..=b'9', ..] => None,
+            _ => Some(self.symbols.value_of(word)),
         }
     }
 
     /// The value of a symbol of which this is known; where it is not known yet, before the last
     /// reading, the address of the statement.
-    fn known(&self, known: Known, is_known: bool, error: LineError) -> Result<u32, LineError> {
+    fn value_known(&mut self, known: Known, is_known: bool, error: LineError) -> u32 {
         let kind = match known {
-            Known::Now(value) => return Ok(value),
-            Known::Later(value) if !is_known => return Ok(value),
-            Known::Perhaps if !is_known => return Ok(self.site.here),
+            Known::Now(value) => return value,
+            Known::Later(value) if !is_known => return value,
+            Known::Perhaps if !is_known => return self.site.here,
             Known::Later(_) | Known::Perhaps => SourceErrorKind::Later,
             Known::Never => SourceErrorKind::Undefined,
         };
-        Err(LineError { kind, ..error })
+        self.fail(error.with_kind(kind));
+        0
+    }
+
+    /// The value of a number. One of 32 bits behind a minus is at most 2^31.
+    fn number(&mut self, word: &[u8], is_wide: bool, is_negated: bool, error: LineError) -> u64 {
+        let most = if is_negated { 0x8000_0000 } else { 0xffff_ffff };
+        let kind = match number_of(word) {
+            Some(value) if is_wide || value <= most => return value,
+            Some(value) if value <= 0xffff_ffff => SourceErrorKind::Range,
+            None if word.is_empty() => SourceErrorKind::Value,
+            _ => SourceErrorKind::Number,
+        };
+        self.fail(error.with_kind(kind));
+        0
     }
 
     /// Takes what follows the quotation mark of a character constant.
-    fn character(&mut self) -> Result<u32, LineError> {
+    fn character(&mut self) -> u64 {
         let (byte, rest) = match self.rest {
-            [b'\\', byte, rest @ ..] => {
-                let value = escaped(*byte).ok_or(self.error(SourceErrorKind::Escape))?;
-                (value, rest)
-            }
-            [byte, rest @ ..] => (*byte, rest),
-            [] => return Err(self.error(SourceErrorKind::Quote)),
+            [b'\\', byte, rest @ ..] => (escaped(*byte), rest),
+            [byte, rest @ ..] => (Some(*byte), rest),
+            [] => (Some(0), self.rest),
         };
-        self.rest = rest;
-        match self.rest {
-            [b'\'', rest @ ..] => {
-                self.rest = rest;
-                Ok(u32::from(byte))
-            }
-            _ => Err(self.error(SourceErrorKind::Quote)),
+        self.want(byte.is_some(), SourceErrorKind::Escape);
+        if self.mistake.is_none() {
+            self.rest = rest;
         }
+        let is_ended = self.take_next(b'\'');
+        self.want(is_ended, SourceErrorKind::Quote);
+        u64::from(byte.unwrap_or(0))
     }
 
     /// Takes a value in parentheses.
-    fn enclosed(&mut self) -> Result<u32, LineError> {
-        self.expect(b'(', SourceErrorKind::Parenthesis)?;
-        let value = self.value()?;
-        self.expect(b')', SourceErrorKind::Parenthesis)?;
-        Ok(value)
+    fn enclosed(&mut self) -> u32 {
+        self.expect(b'(', SourceErrorKind::Parenthesis);
+        let value = self.value();
+        self.expect(b')', SourceErrorKind::Parenthesis);
+        value
     }
 
     /// Takes a value, or the part of one that a modifier names: its lower 12 bits or its upper 20.
-    fn part(&mut self, is_low: bool) -> Result<u32, LineError> {
+    fn part(&mut self, is_low: bool) -> u32 {
         if !self.take(b'%') {
             return self.value();
         }
         let error = self.error(SourceErrorKind::Value);
-        let modifier = modifier_named(self.word()).ok_or(error)?;
-        if modifier.is_low != is_low {
-            return Err(error.with_kind(modifier.misplaced()));
+        let modifier = modifier_named(self.word());
+        match modifier {
+            Some(modifier) if modifier.is_low == is_low => self.part_meant(modifier, error),
+            _ => {
+                self.fail(error.with_kind(misplaced(modifier)));
+                0
+            }
         }
-        let value = self.enclosed()?;
+    }
+
+    /// Takes a value in parentheses: the part of it that a modifier, which stands at `error`, names.
+    fn part_meant(&mut self, modifier: Modifier, error: LineError) -> u32 {
+        let value = self.enclosed();
         let whole = if modifier.is_relative {
-            self.distance(value, is_low, error)?
+            self.distance(value, modifier.is_low, error)
         } else {
             value
         };
-        Ok(part_of(whole, is_low))
+        part_of(whole, modifier.is_low)
     }
 
     /// How far a `%pcrel_hi` of this value reaches, which is kept, or the one at this address did.
-    fn distance(&mut self, value: u32, is_low: bool, error: LineError) -> Result<u32, LineError> {
+    fn distance(&mut self, value: u32, is_low: bool, error: LineError) -> u32 {
         if is_low {
             let known = self.symbols.distance_at(value);
             let missing = error.with_kind(SourceErrorKind::Distance);
-            return self.fitting(known.unwrap_or(0), 0, known.is_some(), missing);
+            return self.fitting(known.unwrap_or(0), known.is_some(), missing);
         }
         let distance = value.wrapping_sub(self.site.here);
         self.notes.distance = Some(distance);
-        Ok(distance)
+        distance
     }
 
-    /// A value, if it fits. Before the last reading, where a symbol may be unknown, 0 where it does
-    /// not.
-    fn fitting<T>(&self, value: T, zero: T, fits: bool, error: LineError) -> Result<T, LineError>
-    where
-        T: Copy,
-    {
+    /// A value, if it fits. Otherwise it is 0, and a mistake in the last reading: before it a
+    /// symbol may be unknown.
+    fn fitting(&mut self, value: u32, fits: bool, error: LineError) -> u32 {
         if fits {
-            Ok(value)
-        } else if self.symbols.is_last() {
-            Err(error)
-        } else {
-            Ok(zero)
+            return value;
         }
+        if self.symbols.is_last() {
+            self.fail(error);
+        }
+        0
     }
 
     /// Takes an immediate of 12 bits.
-    pub fn immediate(&mut self) -> Result<i32, LineError> {
+    pub fn immediate(&mut self) -> i32 {
         self.skip_blanks();
         let error = self.error(SourceErrorKind::Range);
-        let value = self.part(true)?.cast_signed();
-        self.fitting(value, 0, -2048 <= value && value <= 2047, error)
-    }
-
-    /// Takes a number below a limit.
-    pub fn below(&mut self, limit: u32) -> Result<u32, LineError> {
-        self.skip_blanks();
-        let error = self.error(SourceErrorKind::Range);
-        let value = self.value()?;
-        self.fitting(value, 0, value < limit, error)
+        let value = self.part(true);
+        let fits = value.wrapping_add(0x800) < 0x1000;
+        self.fitting(value, fits, error).cast_signed()
     }
 
     /// Takes the upper 20 bits of a word.
-    pub fn upper(&mut self) -> Result<u32, LineError> {
+    pub fn upper(&mut self) -> u32 {
         self.skip_blanks();
         let error = self.error(SourceErrorKind::Range);
-        let value = self.part(false)?;
-        self.fitting(value, 0, value < 0x10_0000, error)
+        let value = self.part(false);
+        self.fitting(value, value < 0x10_0000, error)
+    }
+
+    /// Takes a number below a limit, or one that is negative, and no lower than minus `negative`.
+    pub fn below(&mut self, limit: u32, negative: u32) -> u32 {
+        self.skip_blanks();
+        let error = self.error(SourceErrorKind::Range);
+        let value = self.value();
+        let fits = value < limit || 0u32.wrapping_sub(value) <= negative;
+        self.fitting(value, fits, error)
     }
 
     /// Takes a target: the offset to it, which is even, from `-reach` to below `reach`.
-    pub fn offset(&mut self, reach: i32) -> Result<i32, LineError>
-        requires { pos 0 <ℤ reach }
-    {
+    pub fn offset(&mut self, reach: u32) -> i32 {
         self.skip_blanks();
         let error = self.error(SourceErrorKind::Range);
-        let offset = self.value()?.wrapping_sub(self.site.here).cast_signed();
-        let fits = -reach <= offset && offset < reach;
-        let offset = self.fitting(offset, 0, fits, error)?;
+        let offset = self.value().wrapping_sub(self.site.here);
+        let fits = offset.wrapping_add(reach) < reach.wrapping_mul(2);
+        let offset = self.fitting(offset, fits, error);
         let unaligned = error.with_kind(SourceErrorKind::Unaligned);
-        self.fitting(offset, 0, offset.rem_euclid(2) == 0, unaligned)
+        self.fitting(offset, offset % 2 == 0, unaligned)
+            .cast_signed()
     }
 
     /// Takes a number of so many bits, signed or not.
-    pub fn datum(&mut self, bits: u32) -> Result<u32, LineError> {
-        self.skip_blanks();
-        let error = self.error(SourceErrorKind::Range);
-        let value = self.value()?;
-        let fits = match bits {
-            8 => value < 0x100 || 0xffff_ff80 <= value,
-            16 => value < 0x1_0000 || 0xffff_8000 <= value,
-            _ => true,
-        };
-        self.fitting(value, 0, fits, error)
+    pub fn datum(&mut self, bits: u32) -> u32 {
+        match bits {
+            8 => self.below(0x100, 0x80),
+            16 => self.below(0x1_0000, 0x8000),
+            _ => self.value(),
+        }
     }
 
     /// Takes a register in parentheses.
-    pub fn register_in_parentheses(&mut self) -> Result<usize, LineError> {
-        self.expect(b'(', SourceErrorKind::Parenthesis)?;
-        let register = self.register()?;
-        self.expect(b')', SourceErrorKind::Parenthesis)?;
-        Ok(register)
+    fn register_in_parentheses(&mut self) -> usize {
+        self.expect(b'(', SourceErrorKind::Parenthesis);
+        let register = self.register();
+        self.expect(b')', SourceErrorKind::Parenthesis);
+        register
     }
 
     /// Takes an immediate and a register in parentheses: `-4(x1)`. With no immediate it is 0.
-    pub fn address(&mut self) -> Result<(i32, usize), LineError> {
+    pub fn address(&mut self) -> (i32, usize) {
         let imm = if self.is_register_enclosed() {
             0
         } else {
-            self.immediate()?
+            self.immediate()
         };
-        let register = self.register_in_parentheses()?;
-        Ok((imm, register))
+        (imm, self.register_in_parentheses())
     }
 
-    /// Whether a register in parentheses is next, which is left.
-    fn is_register_enclosed(&mut self) -> bool {
-        let before = self.rest;
-        let is_enclosed = self.take(b'(') && self.register().is_ok();
-        self.rest = before;
-        is_enclosed
+    /// Whether a register in parentheses is next.
+    fn is_register_enclosed(&self) -> bool {
+        let mut ahead = *self;
+        ahead.take(b'(') && register_number(ahead.word()).is_some()
+    }
+
+    /// Takes a symbol, with what is added to it, and no register in parentheses behind it: how far
+    /// it is from the statement, modulo 2^32. None where something else stands there, which is
+    /// left.
+    pub fn distance_alone(&mut self) -> Option<u32> {
+        let mut ahead = *self;
+        let (word, _) = split_word(ahead.rest);
+        if !is_name(word) {
+            return None;
+        }
+        let value = ahead.value();
+        if ahead.mistake.is_some() || ahead.take(b'(') {
+            return None;
+        }
+        self.rest = ahead.rest;
+        Some(value.wrapping_sub(self.site.here))
     }
 }
 
@@ -486,14 +525,12 @@ struct Modifier {
     is_relative: bool,
 }
 
-impl Modifier {
-    /// The mistake where the other part is wanted.
-    fn misplaced(self) -> SourceErrorKind {
-        if self.is_low {
-            SourceErrorKind::Low
-        } else {
-            SourceErrorKind::High
-        }
+/// The mistake where a modifier means the other part, or is none.
+fn misplaced(modifier: Option<Modifier>) -> SourceErrorKind {
+    match modifier {
+        None => SourceErrorKind::Value,
+        Some(modifier) if modifier.is_low => SourceErrorKind::Low,
+        Some(_) => SourceErrorKind::High,
     }
 }
 
@@ -531,24 +568,4 @@ fn halves(word: u32) -> (u32, u32)
 {
     let high = word.wrapping_add(2048) / 4096;
     (high, word.wrapping_sub(high * 4096))
-}
-
-/// The value of a number. One of 32 bits behind a minus is at most 2^31.
-fn number(
-    word: &[u8],
-    is_wide: bool,
-    is_negated: bool,
-    error: LineError,
-) -> Result<u64, LineError> {
-    let wrong = error.with_kind(SourceErrorKind::Number);
-    let value = number_of(word).ok_or(wrong)?;
-    if is_wide || value <= 0x8000_0000 {
-        Ok(value)
-    } else if value > 0xffff_ffff {
-        Err(wrong)
-    } else if is_negated {
-        Err(error.with_kind(SourceErrorKind::Range))
-    } else {
-        Ok(value)
-    }
 }
