@@ -73,7 +73,7 @@ pub fn assemble_source_in<A: Allocator + Copy>(
 }
 
 /// The program that a source is, read three times: for the sizes of the sections, for what symbols
-/// stand for, and for the statements.
+/// stand for, and for the statements. Before the last, a source with `%pcrel_hi` is read once more.
 fn program_of<A: Allocator + Copy>(
     alloc: A,
     source: &[u8],
@@ -87,6 +87,7 @@ fn program_of<A: Allocator + Copy>(
     let (first, _) = read_source(alloc, source, &mut symbols, sections)?;
     let first = first.sections;
     let (second, _) = read_again(alloc, source, &mut symbols, Pass::Second, &first, layout)?;
+    read_distances(alloc, source, &mut symbols, &first, layout)?;
     let (last, errors) = read_again(alloc, source, &mut symbols, Pass::Last, &first, layout)?;
     let is_settled = is_settled(&second.sections, &last.sections);
     if has_none(&errors) && is_settled && are_placed(&last.sections, layout) {
@@ -112,6 +113,21 @@ fn read_again<'a, A: Allocator + Copy>(
     symbols.begin(pass);
     let sections = placed_again(alloc, first, layout)?;
     read_source(alloc, source, symbols, sections)
+}
+
+/// Reads all lines for how far each `%pcrel_hi` reaches, if there is one: a `%pcrel_lo` may stand
+/// before it. Only now each symbol has its address, in whichever section it is.
+fn read_distances<'a, A: Allocator + Copy>(
+    alloc: A,
+    source: &'a [u8],
+    symbols: &mut Symbols<'a, A>,
+    first: &[Section<'a, A>],
+    layout: Layout,
+) -> Result<(), SourceFault<A>> {
+    if symbols.has_distances() {
+        let _ = read_again(alloc, source, symbols, Pass::Third, first, layout)?;
+    }
+    Ok(())
 }
 
 /// The fault that these mistakes are. Where there is none, the last reading ends at another address

@@ -14,6 +14,8 @@ pub enum Pass {
     First,
     /// For what symbols stand for.
     Second,
+    /// For how far each `%pcrel_hi` reaches, where there is one.
+    Third,
     /// For the statements.
     Last,
 }
@@ -128,6 +130,11 @@ impl<'a, A: Allocator> Symbols<'a, A> {
         matches!(self.pass, Pass::Last)
     }
 
+    /// Whether a `%pcrel_hi` was met.
+    pub fn has_distances(&self) -> bool {
+        !self.distances.is_empty()
+    }
+
     /// How far the `%pcrel_hi` of the statement at an address reaches.
     pub fn distance_at(&self, address: u32) -> Option<u32> {
         self.distances.get(&address).copied()
@@ -145,8 +152,8 @@ impl<'a, A: Allocator> Symbols<'a, A> {
     /// What is known where nothing is found.
     fn absent(&self) -> Known {
         match self.pass {
-            Pass::First | Pass::Second => Known::Perhaps,
             Pass::Last => Known::Never,
+            _ => Known::Perhaps,
         }
     }
 
