@@ -1,6 +1,7 @@
 //! What is made of a source.
 
-ghost use Rattle.std.specs.Prelude.{◌≡◌, ◌≤◌, ◌+◌, ◌^◌, ℕ, List, [], ◌∷◌, ◌++◌, OnOk, IfOk, length, replicate};
+ghost use Rattle.std.specs.Prelude.{◌≡◌, ◌≤◌, ◌+◌, ◌^◌, ℕ, List, [], ◌∷◌, ◌++◌, OnOk, IfOk, length, replicate, take};
+ghost use Rattle.rrs_asm.specs.declared.statements.Statement.{Statement};
 ghost use Rattle.rrs_asm.specs.Statements.{AreWords, AreBytes, AddsPlaced};
 ghost use Rattle.rrs_asm.specs.Pseudo.{listed};
 
@@ -75,6 +76,8 @@ impl<'a, A: Allocator + Copy> Assembled<'a, A> {
     ) -> Result<(), Halt>
         ensures placed { OnOk result (AddsPlaced base line statement self.old.placed.items
             self.new.placed.items self.old.bytes.items self.new.bytes.items) }
+        ensures data { (count : ℕ) → statement ≡ Statement.Data count → OnOk result
+            (self.new.bytes.items ≡ self.old.bytes.items ++ take count data.now) }
         ensures labels { self.new.labels.items ≡ self.old.labels.items }
     {
         let address = address_behind(base, &self.bytes)?;
@@ -114,8 +117,10 @@ fn append<A: Allocator + Copy>(
     statement: &Statement,
     data: &[u8],
 ) -> Result<(), Halt>
-    ensures { OnOk result ((own : List ℕ) × AreBytes statement.now own
+    ensures own { OnOk result ((own : List ℕ) × AreBytes statement.now own
         × (bytes.new.items ≡ bytes.old.items ++ own)) }
+    ensures data { (count : ℕ) → statement.now ≡ Statement.Data count
+        → OnOk result (bytes.new.items ≡ bytes.old.items ++ take count data.now) }
 {
     match statement {
         Statement::Instruction(instruction) => append_instruction(bytes, instruction),
@@ -132,8 +137,8 @@ fn append_data<A: Allocator + Copy>(
     data: &[u8],
     count: usize,
 ) -> Result<(), Halt>
-    ensures { OnOk result ((own : List ℕ) × (length own ≡ count)
-        × (bytes.new.items ≡ bytes.old.items ++ own)) }
+    ensures count { OnOk result (length (take count data.now) ≡ count) }
+    ensures data { OnOk result (bytes.new.items ≡ bytes.old.items ++ take count data.now) }
 {
     match data.get(..count) {
         Some(own) => Ok(bytes.extend_from_slice(own)?),

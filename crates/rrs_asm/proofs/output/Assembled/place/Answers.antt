@@ -4,4 +4,4 @@ use Rattle.rrs_asm.proofs.output.Assembled.place.Goals as goal
 
 -- the statement stands behind the others
 pub returns-clause-placed : goal.returns-clause-placed
-returns-clause-placed g c = adds-placed _ _ _ _ _ _ _ _ c.in_ok-push.ensures.items refl c.in_ok-address.ensures refl c.in_ok-append.ensures
+returns-clause-placed g c = adds-placed _ _ _ _ _ _ _ _ c.in_ok-push.ensures.items refl c.in_ok-address.ensures refl c.in_ok-append.ensures.own
