@@ -1,3 +1,4 @@
+pub mod Finding
 pub mod Halves
 pub mod Images
 pub mod Made

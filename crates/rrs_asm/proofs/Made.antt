@@ -468,6 +468,6 @@ counted None number limit text shorter fits = omega arith
 counted (Some rest) number limit text shorter fits = omega arith
 
 -- a list with one more is not empty
-pub push-some : {A : Type 0} (xs : List A) (x : A) → xs ++ x ∷ [] ≡ [] → ⊥
-push-some [] x e = cc
-push-some (y ∷ ys) x e = cc
+pub push-some : {A : Type 0} (xs : List A) (x : A) (ys : List A) → ys ≡ xs ++ x ∷ [] → ys ≡ [] → ⊥
+push-some [] x ys is none = cc
+push-some (y ∷ xs) x ys is none = cc

@@ -89,13 +89,23 @@ fn program_of<A: Allocator + Copy>(
     let (second, _) = read_again(alloc, source, &mut symbols, Pass::Second, &first, layout)?;
     read_distances(alloc, source, &mut symbols, &first, layout)?;
     let (last, errors) = read_again(alloc, source, &mut symbols, Pass::Last, &first, layout)?;
-    let is_settled = is_settled(&second.sections, &last.sections);
-    if has_none(&errors) && is_settled && are_placed(&last.sections, layout) {
+    if has_none(&errors) && is_right(&second.sections, &last.sections, layout) {
         return Ok(Program {
             sections: last.sections,
         });
     }
     Err(fault_of(errors))
+}
+
+/// Whether each section has the same size as in another reading and lies where the layout says, and
+/// `.text` is one of them.
+fn is_right<A: Allocator>(others: &[Section<A>], sections: &[Section<A>], layout: Layout) -> bool
+    ensures found { result ≡ true → first_open (names_of sections.now) < length sections.now }
+    ensures placed { result ≡ true → ArePlaced layout sections.now }
+{
+    section_named(sections, b".text") < sections.len()
+        && are_as_long(others, sections)
+        && are_placed(sections, layout)
 }
 
 /// Reads all lines again, where the sections have the sizes that they have after the first reading.
@@ -166,22 +176,14 @@ fn placed_again<'a, A: Allocator + Copy>(
     }
 }
 
-/// Whether each section has the same size as in another reading, and `.text` is one of them.
-fn is_settled<A: Allocator + Copy>(others: &[Section<A>], sections: &[Section<A>]) -> bool
-    ensures { result ≡ true → first_open (names_of sections.now) < length sections.now }
-{
-    section_named(sections, b".text") < sections.len() && are_as_long(others, sections)
-}
-
 /// Whether each section has the same size as in another reading.
-fn are_as_long<A: Allocator + Copy>(others: &[Section<A>], sections: &[Section<A>]) -> bool {
-    for (index, section) in sections.iter().enumerate() {
-        match others.get(index) {
-            Some(other) if other.size() == section.size() => (),
-            _ => return false,
+fn are_as_long<A: Allocator>(others: &[Section<A>], sections: &[Section<A>]) -> bool {
+    for (other, section) in others.iter().zip(sections) {
+        if other.size() != section.size() {
+            return false;
         }
     }
-    sections.len() == others.len()
+    others.len() == sections.len()
 }
 
 /// The mistake where the last reading ends at another address than the one before.
@@ -202,7 +204,7 @@ pub struct Reading<'a, A: Allocator = Global> {
     total: usize,
 }
 
-impl<'a, A: Allocator + Copy> Reading<'a, A> {
+impl<'a, A: Allocator> Reading<'a, A> {
     /// Where the next statement stands.
     fn site(&self) -> Site {
         match self.sections.get(self.current) {
@@ -218,10 +220,17 @@ impl<'a, A: Allocator + Copy> Reading<'a, A> {
             },
         }
     }
+
+    /// Asks for an alignment of a section, if there is one with this number.
+    fn align(&mut self, index: usize, alignment: u32) {
+        if let Some(section) = self.sections.get_mut(index) {
+            section.align(alignment);
+        }
+    }
 }
 
 /// Which of the sections has a name: as many as there are where none has it.
-fn section_named<A: Allocator + Copy>(sections: &[Section<A>], name: &[u8]) -> usize
+fn section_named<A: Allocator>(sections: &[Section<A>], name: &[u8]) -> usize
     ensures { result ≡ index_of name.now (names_of sections.now) }
 {
     for (index, section) in sections.iter().enumerate() {
@@ -272,7 +281,7 @@ fn read_source<'a, A: Allocator + Copy>(
 
 /// Goes on behind a mistake: behind an instruction at a wrong address at a right one, so that not
 /// every instruction from there on is a mistake.
-fn recover<A: Allocator + Copy>(reading: &mut Reading<A>, kind: SourceErrorKind) {
+fn recover<A: Allocator>(reading: &mut Reading<A>, kind: SourceErrorKind) {
     if kind == SourceErrorKind::Misplaced {
         if let Some(section) = reading.sections.get_mut(reading.current) {
             section.realign();
@@ -324,7 +333,7 @@ fn error_before(text: &[u8], behind: usize) -> LineError {
 }
 
 /// Reads a part of a line, with so many bytes of the line behind it.
-fn read_part<'a, A: Allocator + Copy>(
+fn read_part<'a, A: Allocator>(
     part: Part<'a>,
     behind: usize,
     symbols: &Symbols<'a, A>,
@@ -365,7 +374,7 @@ fn label_name(text: &[u8], behind: usize) -> Result<&[u8], LineError>
 }
 
 /// Reads a statement.
-fn read_statement<'a, A: Allocator + Copy>(
+fn read_statement<'a, A: Allocator>(
     text: &'a [u8],
     behind: usize,
     symbols: &Symbols<'a, A>,
@@ -393,7 +402,7 @@ fn read_statement<'a, A: Allocator + Copy>(
 
 /// Reads what stands behind the first word of a statement: the value of a constant of this name, or
 /// the operands of a statement.
-fn read_behind<'a, A: Allocator + Copy>(
+fn read_behind<'a, A: Allocator>(
     line: &mut Line<'a, '_, A>,
     name: &'a [u8],
     rest: &'a [u8],
@@ -415,11 +424,7 @@ fn read_behind<'a, A: Allocator + Copy>(
 }
 
 /// Reads the equals sign and the value of a constant of this name.
-fn read_value<'a, A: Allocator + Copy>(
-    name: &'a [u8],
-    error: LineError,
-    line: &mut Line<A>,
-) -> Read<'a>
+fn read_value<'a, A: Allocator>(name: &'a [u8], error: LineError, line: &mut Line<A>) -> Read<'a>
     ensures items { (number : ℕ) → items_of_read number result ≡ [] }
     ensures name { HasItsName result }
 {
@@ -431,7 +436,7 @@ fn read_value<'a, A: Allocator + Copy>(
 }
 
 /// Reads the operands of a statement of this name.
-fn read_named<'a, A: Allocator + Copy>(
+fn read_named<'a, A: Allocator>(
     line: &mut Line<'a, '_, A>,
     name: &'a [u8],
     operands: &'a [u8],
@@ -492,10 +497,7 @@ fn perform<'a, A: Allocator + Copy>(
 }
 
 /// Sees that no section is open where something is left out.
-fn check_skipped<A: Allocator + Copy>(
-    start: LineError,
-    reading: &mut Reading<A>,
-) -> Result<(), Halt>
+fn check_skipped<A: Allocator>(start: LineError, reading: &mut Reading<A>) -> Result<(), Halt>
     ensures { OnOk result ((item : Item) → IsNoSection item
         → ReadsOn (item ∷ []) reading.old reading.new) }
 {
@@ -530,7 +532,7 @@ fn open<'a, A: Allocator + Copy>(
 }
 
 /// Whether a section is laid out, and is none of these.
-fn is_missing<A: Allocator + Copy>(sections: &[Section<A>], name: &[u8], index: usize) -> bool
+fn is_missing<A: Allocator>(sections: &[Section<A>], name: &[u8], index: usize) -> bool
     ensures { result ≡ false → is_laid_out name.now ≡ true → index < length sections.now }
 {
     index >= sections.len() && is_laid_out(name)
@@ -577,9 +579,7 @@ fn keep_notes<A: Allocator + Copy>(
         symbols.keep_distance(reading.site().here, distance)?;
     }
     if !symbols.is_last() {
-        if let Some(section) = reading.sections.get_mut(reading.current) {
-            section.align(notes.alignment);
-        }
+        reading.align(reading.current, notes.alignment);
     }
     Ok(())
 }
@@ -700,17 +700,13 @@ fn put_symbol<'a, A: Allocator + Copy>(
 
 /// How many bytes the open section takes up to an alignment. Before the last reading the section is
 /// aligned, and `.bss` too, of which `COMMON` is a part in GNU `as`.
-fn align_common<A: Allocator + Copy>(alignment: u32, is_last: bool, reading: &mut Reading<A>) -> u32
+fn align_common<A: Allocator>(alignment: u32, is_last: bool, reading: &mut Reading<A>) -> u32
     ensures { is_last ≡ true → reading.new ≡ reading.old }
 {
-    let bss = section_named(&reading.sections, b".bss");
     if !is_last {
-        if let Some(section) = reading.sections.get_mut(bss) {
-            section.align(alignment);
-        }
-        if let Some(section) = reading.sections.get_mut(reading.current) {
-            section.align(alignment);
-        }
+        let bss = section_named(&reading.sections, b".bss");
+        reading.align(bss, alignment);
+        reading.align(reading.current, alignment);
     }
     match reading.sections.get(reading.current) {
         Some(section) => section.padding(alignment),
@@ -719,7 +715,7 @@ fn align_common<A: Allocator + Copy>(alignment: u32, is_last: bool, reading: &mu
 }
 
 /// Puts a statement with its data behind what is in the open section.
-fn put<A: Allocator + Copy>(
+fn put<A: Allocator>(
     statement: Statement,
     data: &[u8],
     number: usize,

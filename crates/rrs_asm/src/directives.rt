@@ -46,7 +46,7 @@ pub enum Read<'a> {
 
 /// Reads the operands of a directive of this name, which begins with a dot. Its name stands at
 /// `error`. Its data, if it has some, are put in the place of those that were there.
-pub fn read_directive<'a, A: Allocator + Copy>(
+pub fn read_directive<'a, A: Allocator>(
     line: &mut Line<'a, '_, A>,
     name: &'a [u8],
     operands: &'a [u8],
@@ -83,7 +83,7 @@ fn unknown(name: &[u8], error: LineError) -> LineError {
 }
 
 /// Reads the operands of a directive of this name and form, which puts nothing at its address.
-fn read_said<'a, A: Allocator + Copy>(
+fn read_said<'a, A: Allocator>(
     line: &mut Line<'a, '_, A>,
     form: DirectiveForm,
     name: &'a [u8],
@@ -112,7 +112,7 @@ fn read_said<'a, A: Allocator + Copy>(
 }
 
 /// Reads which section follows, by the name of the directive and its operands.
-fn read_section<'a, A: Allocator + Copy>(
+fn read_section<'a, A: Allocator>(
     line: &mut Line<'a, '_, A>,
     name: &'a [u8],
     operands: &'a [u8],
@@ -140,7 +140,7 @@ fn read_section<'a, A: Allocator + Copy>(
 
 /// Reads a symbol in `COMMON`, with its size and its alignment. Where there is no alignment, it is
 /// that of GNU `as`.
-fn read_common<'a, A: Allocator + Copy>(
+fn read_common<'a, A: Allocator>(
     line: &mut Line<'a, '_, A>,
     name: &'a [u8],
     operands: &'a [u8],
@@ -228,7 +228,7 @@ fn flags_in(text: &[u8]) -> Flags {
 const OPTIONS: [&[u8]; 6] = [b"norvc", b"relax", b"norelax", b"push", b"pop", b"nopic"];
 
 /// Reads an option. Those that would allow other instructions are refused.
-fn read_option<'a, A: Allocator + Copy>(line: &mut Line<'a, '_, A>) -> Read<'a>
+fn read_option<'a, A: Allocator>(line: &mut Line<'a, '_, A>) -> Read<'a>
     ensures items { (number : ℕ) → items_of_read number result ≡ [] }
     ensures name { HasItsName result }
 {
@@ -242,7 +242,7 @@ fn read_option<'a, A: Allocator + Copy>(line: &mut Line<'a, '_, A>) -> Read<'a>
 }
 
 /// Reads the operands of a directive of this name that puts something at its address.
-fn read_placed<A: Allocator + Copy>(
+fn read_placed<A: Allocator>(
     line: &mut Line<A>,
     name: &[u8],
     form: PlacedForm,
@@ -266,7 +266,7 @@ fn read_placed<A: Allocator + Copy>(
 }
 
 /// Reads the operands of a directive that puts bytes at its address, and appends these.
-fn read_bytes<A: Allocator + Copy>(
+fn read_bytes<A: Allocator>(
     line: &mut Line<A>,
     form: DataForm,
     bytes: &mut Vec<u8, A>,
@@ -283,7 +283,7 @@ fn read_bytes<A: Allocator + Copy>(
 }
 
 /// Reads the name and the value of a constant.
-fn read_constant<'a, A: Allocator + Copy>(line: &mut Line<'a, '_, A>) -> Read<'a>
+fn read_constant<'a, A: Allocator>(line: &mut Line<'a, '_, A>) -> Read<'a>
     ensures items { (number : ℕ) → items_of_read number result ≡ [] }
     ensures name { HasItsName result }
 {
@@ -298,7 +298,7 @@ fn read_constant<'a, A: Allocator + Copy>(line: &mut Line<'a, '_, A>) -> Read<'a
 }
 
 /// Reads numbers of so many bits each, with commas between them.
-fn read_data<A: Allocator + Copy>(
+fn read_data<A: Allocator>(
     line: &mut Line<A>,
     bits: u32,
     bytes: &mut Vec<u8, A>,
@@ -314,7 +314,7 @@ fn read_data<A: Allocator + Copy>(
 }
 
 /// Reads a number of so many bits.
-fn datum<A: Allocator + Copy>(line: &mut Line<A>, bits: u32) -> u64 {
+fn datum<A: Allocator>(line: &mut Line<A>, bits: u32) -> u64 {
     if bits == 64 {
         line.wide_value()
     } else {
@@ -335,7 +335,7 @@ fn bytes_in(bits: u32) -> usize
 }
 
 /// Reads how often a number stands, how many bytes it has, and the number.
-fn read_pattern<A: Allocator + Copy>(
+fn read_pattern<A: Allocator>(
     line: &mut Line<A>,
     bytes: &mut Vec<u8, A>,
 ) -> Result<(), AllocError> {
@@ -354,7 +354,7 @@ fn read_pattern<A: Allocator + Copy>(
 
 /// Reads how many bytes a number has, at most 8 and 1 where none is said, and the number, which is 0
 /// where none is said.
-fn read_pattern_item<A: Allocator + Copy>(line: &mut Line<A>) -> (u32, u32)
+fn read_pattern_item<A: Allocator>(line: &mut Line<A>) -> (u32, u32)
     ensures { result.0 ≤ 8 }
 {
     if !line.take(b',') {
@@ -366,7 +366,7 @@ fn read_pattern_item<A: Allocator + Copy>(line: &mut Line<A>) -> (u32, u32)
 }
 
 /// Reads strings with commas between them, and puts a zero byte behind each if that is asked.
-fn read_strings<A: Allocator + Copy>(
+fn read_strings<A: Allocator>(
     line: &mut Line<A>,
     is_ended: bool,
     bytes: &mut Vec<u8, A>,
@@ -384,10 +384,7 @@ fn read_strings<A: Allocator + Copy>(
 }
 
 /// Reads a string, and appends its bytes.
-fn read_string<A: Allocator + Copy>(
-    line: &mut Line<A>,
-    bytes: &mut Vec<u8, A>,
-) -> Result<(), AllocError> {
+fn read_string<A: Allocator>(line: &mut Line<A>, bytes: &mut Vec<u8, A>) -> Result<(), AllocError> {
     line.expect(b'"', SourceErrorKind::Quote);
     for _ in 0..u64::MAX {
         let Some(byte) = next_in_string(line) else {
@@ -399,7 +396,7 @@ fn read_string<A: Allocator + Copy>(
 }
 
 /// Takes the next byte of a string, or its end, where there is none.
-fn next_in_string<A: Allocator + Copy>(line: &mut Line<A>) -> Option<u8> {
+fn next_in_string<A: Allocator>(line: &mut Line<A>) -> Option<u8> {
     match line.next_byte() {
         Some(b'"') => None,
         Some(b'\\') => next_escaped(line),
@@ -413,7 +410,7 @@ fn next_in_string<A: Allocator + Copy>(line: &mut Line<A>) -> Option<u8> {
 
 /// Takes what follows a backslash: the byte that it stands for. It may be written by up to three octal
 /// digits, as `\101`, or by hexadecimal ones, of which the last two count, as `\x41`.
-fn next_escaped<A: Allocator + Copy>(line: &mut Line<A>) -> Option<u8> {
+fn next_escaped<A: Allocator>(line: &mut Line<A>) -> Option<u8> {
     let error = line.error(SourceErrorKind::Escape);
     let value = match line.next_byte() {
         Some(digit @ b'0'..=b'7') => Some(digits_behind(line, digit - b'0', 8, 2)),
@@ -432,7 +429,7 @@ fn next_escaped<A: Allocator + Copy>(line: &mut Line<A>) -> Option<u8> {
 
 /// Takes so many further digits of an escape at most, as far as they stand there. The value is taken
 /// modulo 256.
-fn digits_behind<A: Allocator + Copy>(line: &mut Line<A>, first: u8, base: u8, most: u64) -> u8 {
+fn digits_behind<A: Allocator>(line: &mut Line<A>, first: u8, base: u8, most: u64) -> u8 {
     let mut value = first;
     for _ in 0..most {
         match line.next_digit(u64::from(base)) {
@@ -444,20 +441,20 @@ fn digits_behind<A: Allocator + Copy>(line: &mut Line<A>, first: u8, base: u8, m
 }
 
 /// Reads how many bytes, and which byte where another than zero is meant.
-fn read_space<A: Allocator + Copy>(line: &mut Line<A>) -> (u32, u8) {
+fn read_space<A: Allocator>(line: &mut Line<A>) -> (u32, u8) {
     let count = read_count(line);
     let byte = if line.take(b',') { line.datum(8) } else { 0 };
     (count, (byte % 256) as u8)
 }
 
 /// Reads a number of bytes that is known here.
-fn read_count<A: Allocator + Copy>(line: &mut Line<A>) -> u32 {
+fn read_count<A: Allocator>(line: &mut Line<A>) -> u32 {
     known_up_to(line, MOST_BYTES as u32, SourceErrorKind::TooLong)
 }
 
 /// Reads a number that is known here, and is at most another one. One that is greater is a mistake
 /// of this kind.
-fn known_up_to<A: Allocator + Copy>(line: &mut Line<A>, most: u32, kind: SourceErrorKind) -> u32
+fn known_up_to<A: Allocator>(line: &mut Line<A>, most: u32, kind: SourceErrorKind) -> u32
     ensures { result ≤ most }
 {
     line.skip_blanks();
@@ -472,7 +469,7 @@ fn known_up_to<A: Allocator + Copy>(line: &mut Line<A>, most: u32, kind: SourceE
 
 /// Reads the address of what follows, which is no lower than that of the directive: how many bytes
 /// it is behind.
-fn read_origin<A: Allocator + Copy>(line: &mut Line<A>) -> u32 {
+fn read_origin<A: Allocator>(line: &mut Line<A>) -> u32 {
     line.skip_blanks();
     let error = line.error(SourceErrorKind::Backward);
     match line.known_value().checked_sub(line.site.here) {
@@ -484,7 +481,7 @@ fn read_origin<A: Allocator + Copy>(line: &mut Line<A>) -> u32 {
 }
 
 /// Reads how many bytes an alignment has: a power of 2, which may be said by its exponent.
-fn alignment<A: Allocator + Copy>(line: &mut Line<A>, is_power: bool) -> u32
+fn alignment<A: Allocator>(line: &mut Line<A>, is_power: bool) -> u32
     ensures { 0 < result }
 {
     line.skip_blanks();
@@ -504,7 +501,7 @@ fn power_of_two(exponent: u32) -> u32 {
 }
 
 /// Reads which byte fills up to an alignment, and how many at most: otherwise nothing is filled.
-fn read_padding<A: Allocator + Copy>(
+fn read_padding<A: Allocator>(
     line: &mut Line<A>,
     alignment: u32,
     bytes: &mut Vec<u8, A>,
@@ -524,7 +521,7 @@ fn read_padding<A: Allocator + Copy>(
 }
 
 /// Reads which byte fills, if one is said, and how many at most.
-fn read_fill<A: Allocator + Copy>(line: &mut Line<A>) -> (Option<u8>, u32) {
+fn read_fill<A: Allocator>(line: &mut Line<A>) -> (Option<u8>, u32) {
     if !line.take(b',') {
         return (None, u32::MAX);
     }
@@ -543,7 +540,7 @@ fn read_fill<A: Allocator + Copy>(line: &mut Line<A>) -> (Option<u8>, u32) {
 }
 
 /// Appends so many bytes between instructions: zeros up to a multiple of 4, and then `nop`s.
-fn push_padding<A: Allocator + Copy>(bytes: &mut Vec<u8, A>, count: u32) -> Result<(), AllocError> {
+fn push_padding<A: Allocator>(bytes: &mut Vec<u8, A>, count: u32) -> Result<(), AllocError> {
     bytes.resize((count % 4) as usize, 0)?;
     for _ in 0..count / 4 {
         bytes.extend_from_slice(&[0x13, 0, 0, 0])?;

@@ -64,7 +64,9 @@ impl<'a, A: Allocator + Copy> Assembled<'a, A> {
             bytes: Vec::new(alloc),
         }
     }
+}
 
+impl<'a, A: Allocator> Assembled<'a, A> {
     /// Puts a statement of a line behind the others, the first of which stands at `base`. Its data
     /// are given, if it has some.
     pub fn place(
@@ -72,16 +74,16 @@ impl<'a, A: Allocator + Copy> Assembled<'a, A> {
         base: u32,
         line: usize,
         statement: Statement,
-        data: &[u8],
+        given: &[u8],
     ) -> Result<(), Halt>
         ensures placed { OnOk result (AddsPlaced base line statement self.old.placed.items
             self.new.placed.items self.old.bytes.items self.new.bytes.items) }
-        ensures data { (count : ℕ) → statement ≡ Statement.Data count → OnOk result
-            (self.new.bytes.items ≡ self.old.bytes.items ++ take count data.now) }
+        ensures given { (count : ℕ) → statement ≡ Statement.Data count → OnOk result
+            (self.new.bytes.items ≡ self.old.bytes.items ++ take count given.now) }
         ensures labels { self.new.labels.items ≡ self.old.labels.items }
     {
         let address = address_behind(base, &self.bytes)?;
-        append(&mut self.bytes, &statement, data)?;
+        append(&mut self.bytes, &statement, given)?;
         self.placed.push(Placed {
             line,
             address,
@@ -92,7 +94,7 @@ impl<'a, A: Allocator + Copy> Assembled<'a, A> {
 }
 
 /// The address behind bytes, the first of which stands at `base`.
-fn address_behind<A: Allocator + Copy>(base: u32, bytes: &Vec<u8, A>) -> Result<u32, Halt>
+fn address_behind<A: Allocator>(base: u32, bytes: &Vec<u8, A>) -> Result<u32, Halt>
     ensures { IfOk result (λ address. address ≡ base + length bytes.now.items) }
 {
     let length = bytes.len();
@@ -112,46 +114,38 @@ pub fn too_long() -> Halt {
 }
 
 /// Appends the bytes of a statement, whose data are given.
-fn append<A: Allocator + Copy>(
+fn append<A: Allocator>(
     bytes: &mut Vec<u8, A>,
     statement: &Statement,
-    data: &[u8],
+    given: &[u8],
 ) -> Result<(), Halt>
     ensures own { OnOk result ((own : List ℕ) × AreBytes statement.now own
         × (bytes.new.items ≡ bytes.old.items ++ own)) }
-    ensures data { (count : ℕ) → statement.now ≡ Statement.Data count
-        → OnOk result (bytes.new.items ≡ bytes.old.items ++ take count data.now) }
+    ensures given { (count : ℕ) → statement.now ≡ Statement.Data count
+        → OnOk result (bytes.new.items ≡ bytes.old.items ++ take count given.now) }
 {
     match statement {
         Statement::Instruction(instruction) => append_instruction(bytes, instruction),
         Statement::Pseudo(pseudo) => append_expansion(bytes, &pseudo.expand()),
-        Statement::Data(count) => append_data(bytes, data, *count),
+        Statement::Data(count) => append_data(bytes, given, *count),
         Statement::Fill(count, byte) => append_fill(bytes, *count, *byte),
         Statement::Unimp => Ok(bytes.extend_from_slice(&UNIMP.to_le_bytes())?),
     }
 }
 
 /// Appends the first so many bytes of data.
-fn append_data<A: Allocator + Copy>(
-    bytes: &mut Vec<u8, A>,
-    data: &[u8],
-    count: usize,
-) -> Result<(), Halt>
-    ensures count { OnOk result (length (take count data.now) ≡ count) }
-    ensures data { OnOk result (bytes.new.items ≡ bytes.old.items ++ take count data.now) }
+fn append_data<A: Allocator>(bytes: &mut Vec<u8, A>, given: &[u8], count: usize) -> Result<(), Halt>
+    ensures count { OnOk result (length (take count given.now) ≡ count) }
+    ensures given { OnOk result (bytes.new.items ≡ bytes.old.items ++ take count given.now) }
 {
-    match data.get(..count) {
+    match given.get(..count) {
         Some(own) => Ok(bytes.extend_from_slice(own)?),
         None => Err(too_long()),
     }
 }
 
 /// Appends so many of a byte.
-fn append_fill<A: Allocator + Copy>(
-    bytes: &mut Vec<u8, A>,
-    count: u32,
-    byte: u8,
-) -> Result<(), Halt>
+fn append_fill<A: Allocator>(bytes: &mut Vec<u8, A>, count: u32, byte: u8) -> Result<(), Halt>
     ensures { OnOk result (bytes.new.items ≡ bytes.old.items ++ replicate count byte) }
 {
     let length = bytes.len().checked_add(count as usize).ok_or(too_long())?;
@@ -159,10 +153,7 @@ fn append_fill<A: Allocator + Copy>(
 }
 
 /// Appends the words of one or two instructions.
-fn append_expansion<A: Allocator + Copy>(
-    bytes: &mut Vec<u8, A>,
-    expansion: &Expansion,
-) -> Result<(), Halt>
+fn append_expansion<A: Allocator>(bytes: &mut Vec<u8, A>, expansion: &Expansion) -> Result<(), Halt>
     ensures { OnOk result ((own : List ℕ) × AreWords (listed expansion.now) own
         × (bytes.new.items ≡ bytes.old.items ++ own)) }
 {
@@ -174,7 +165,7 @@ fn append_expansion<A: Allocator + Copy>(
 }
 
 /// Appends the word of an instruction, its lowest byte first.
-fn append_instruction<A: Allocator + Copy>(
+fn append_instruction<A: Allocator>(
     bytes: &mut Vec<u8, A>,
     instruction: &Instruction,
 ) -> Result<(), Halt>

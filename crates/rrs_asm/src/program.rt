@@ -37,7 +37,7 @@ pub fn image<A: Allocator + Copy>(
 }
 
 /// Appends the bytes of a section behind zeros up to its address, if it has any.
-fn append_section<A: Allocator + Copy>(
+fn append_section<A: Allocator>(
     bytes: &mut Vec<u8, A>,
     section: &Section<A>,
     base: u32,

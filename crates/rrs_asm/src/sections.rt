@@ -96,7 +96,9 @@ impl<'a, A: Allocator + Copy> Section<'a, A> {
             size: 0,
         }
     }
+}
 
+impl<'a, A: Allocator> Section<'a, A> {
     /// How many bytes its statements take.
     pub fn size(&self) -> usize {
         self.size
@@ -283,10 +285,7 @@ fn is_data(kind: SectionKind) -> bool
 }
 
 /// Whether sections lie as a layout says.
-pub fn are_placed<'a, 'b, A: Allocator + Copy>(
-    sections: &'b [Section<'a, A>],
-    layout: Layout,
-) -> bool
+pub fn are_placed<'a, 'b, A: Allocator>(sections: &'b [Section<'a, A>], layout: Layout) -> bool
     ensures { result ≡ true → ArePlaced layout sections.now }
 {
     match sections {
@@ -298,25 +297,23 @@ pub fn are_placed<'a, 'b, A: Allocator + Copy>(
 }
 
 /// Whether each section lies behind the one before it as a layout says, the first behind another.
-fn are_behind<'a, 'b, A: Allocator + Copy>(
+fn are_behind<'a, 'b, A: Allocator>(
     first: &'b Section<'a, A>,
     others: &'b [Section<'a, A>],
     layout: Layout,
 ) -> bool
     ensures { result ≡ true → AreBehind layout first.now others.now }
 {
-    let mut before = first;
-    for section in others {
-        if !is_behind(before, section, layout) {
-            return false;
+    match others {
+        [section, others @ ..] => {
+            is_behind(first, section, layout) && are_behind(section, others, layout)
         }
-        before = section;
+        [] => true,
     }
-    true
 }
 
 /// Whether a section lies behind another as a layout says.
-fn is_behind<A: Allocator + Copy>(before: &Section<A>, section: &Section<A>, layout: Layout) -> bool
+fn is_behind<A: Allocator>(before: &Section<A>, section: &Section<A>, layout: Layout) -> bool
     ensures { result ≡ true → IsBehind layout before.now section.now }
 {
     let end = u64::from(before.address).saturating_add(before.made.bytes.len() as u64);

@@ -1,4 +1,4 @@
-use Rattle.std.proofs.Common.{◌≡◌, ℕ, ◌<◌, List, [], ◌∷◌, length, subst, rules, arith, refl}
+use Rattle.std.proofs.Common.{[], ◌∷◌, subst, rules, refl}
 use Rattle.rrs_asm.proofs.Made.{on-ok, ReadsOn-at}
 use Rattle.rrs_asm.specs.declared.sections.Section.{Section}
 use Rattle.rrs_asm.specs.Source.{Item}

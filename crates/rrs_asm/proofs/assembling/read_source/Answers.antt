@@ -40,7 +40,7 @@ loop-rest-preserved g c =
     let Fits : Option (Bor (List ℕ)) → Type 0 = λ r. option_map_or (λ rest. c.loop-rest.number + length rest.now) r 0 ≤ length c.args.source.now in (
       counted c.first_line.result.1 c.loop-rest.number (length c.args.source.now) c.in-Some.text.now c.first_line.ensures.shorter (subst Fits c.in-Some.is c.loop-rest.invariant.0),
       c.in-Err-Error.ensures.pass ∙ c.loop-rest.invariant.1,
-      λ second all none. absurd (push-some _ _ (sym c.in_ok-push-in-Err-Error.ensures.items ∙ none)),
+      λ second all none. absurd (push-some _ _ _ c.in_ok-push-in-Err-Error.ensures.items none),
     )
 
 -- nothing is left
