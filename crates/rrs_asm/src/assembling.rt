@@ -18,8 +18,8 @@ use crate::sections::{
 };
 use crate::statements::Statement;
 use rrs_lines::{
-    Halt, Known, Line, LineError, Notes, Part, Pass, Site, SourceErrorKind, Symbols, begins_with,
-    behind_blanks, first_line, first_part, is_name, register_number, split_word,
+    Halt, Known, Line, LineError, Notes, Part, Pass, Scope, Site, SourceErrorKind, Symbols,
+    begins_with, behind_blanks, first_line, first_part, is_name, register_number, split_word,
 };
 use std::alloc::{Allocator, Global};
 
@@ -316,7 +316,7 @@ fn read_line<'a, A: Allocator + Copy>(
     while let Some(text) = rest {
         let (part, others) = first_part(text);
         let behind = text.len().saturating_sub(part.text().len());
-        let read = read_part(part, behind, symbols, reading.site(), data)?;
+        let read = read_part(part, behind, &symbols.scope(), reading.site(), data)?;
         let start = error_before(part.text(), behind);
         perform(alloc, read, data, number, start, symbols, reading)?;
         rest = others;
@@ -336,7 +336,7 @@ fn error_before(text: &[u8], behind: usize) -> LineError {
 fn read_part<'a, A: Allocator>(
     part: Part<'a>,
     behind: usize,
-    symbols: &Symbols<'a, A>,
+    symbols: &Scope<'a, '_>,
     site: Site,
     data: &mut Vec<u8, A>,
 ) -> Result<Read<'a>, Halt>
@@ -377,7 +377,7 @@ fn label_name(text: &[u8], behind: usize) -> Result<&[u8], LineError>
 fn read_statement<'a, A: Allocator>(
     text: &'a [u8],
     behind: usize,
-    symbols: &Symbols<'a, A>,
+    symbols: &Scope<'a, '_>,
     site: Site,
     data: &mut Vec<u8, A>,
 ) -> Result<Read<'a>, Halt>
@@ -403,7 +403,7 @@ fn read_statement<'a, A: Allocator>(
 /// Reads what stands behind the first word of a statement: the value of a constant of this name, or
 /// the operands of a statement.
 fn read_behind<'a, A: Allocator>(
-    line: &mut Line<'a, '_, A>,
+    line: &mut Line<'a, '_>,
     name: &'a [u8],
     rest: &'a [u8],
     error: LineError,
@@ -424,7 +424,7 @@ fn read_behind<'a, A: Allocator>(
 }
 
 /// Reads the equals sign and the value of a constant of this name.
-fn read_value<'a, A: Allocator>(name: &'a [u8], error: LineError, line: &mut Line<A>) -> Read<'a>
+fn read_value<'a>(name: &'a [u8], error: LineError, line: &mut Line) -> Read<'a>
     ensures items { (number : ℕ) → items_of_read number result ≡ [] }
     ensures name { HasItsName result }
 {
@@ -437,7 +437,7 @@ fn read_value<'a, A: Allocator>(name: &'a [u8], error: LineError, line: &mut Lin
 
 /// Reads the operands of a statement of this name.
 fn read_named<'a, A: Allocator>(
-    line: &mut Line<'a, '_, A>,
+    line: &mut Line<'a, '_>,
     name: &'a [u8],
     operands: &'a [u8],
     error: LineError,
@@ -487,11 +487,20 @@ fn perform<'a, A: Allocator + Copy>(
         Read::Constant(name, value) => define(name, value, false, start, symbols),
         Read::Label(name) => put_label(name, number, start, symbols, reading),
         Read::Skipped(_, _) => check_skipped(start, reading),
-        Read::Section(name, kind) => { open(alloc, name, kind, start, symbols.is_last(), reading) }
+        Read::Section(name, kind) => {
+            open(alloc, name, kind, start, symbols.pass.is_last(), reading)
+        }
         Read::Common(_, name, common) => put_common(name, common, number, start, symbols, reading),
         Read::Laid(_, statement, notes) => {
             keep_notes(notes, symbols, reading)?;
-            put(statement, data, number, start, symbols.is_last(), reading)
+            put(
+                statement,
+                data,
+                number,
+                start,
+                symbols.pass.is_last(),
+                reading,
+            )
         }
     }
 }
@@ -578,7 +587,7 @@ fn keep_notes<A: Allocator + Copy>(
     if let Some(distance) = notes.distance {
         symbols.keep_distance(reading.site().here, distance)?;
     }
-    if !symbols.is_last() {
+    if !symbols.pass.is_last() {
         reading.align(reading.current, notes.alignment);
     }
     Ok(())
@@ -618,11 +627,11 @@ fn define_label<'a, A: Allocator + Copy>(
         [digit @ b'0'..=b'9'] => {
             let digit = *digit - b'0';
             symbols.define_local(digit, here)?;
-            Ok(symbols.local_value(digit, true))
+            Ok(symbols.scope().local_value(digit, true))
         }
         _ => {
             define(name, here, true, start, symbols)?;
-            Ok(symbols.value_of(name))
+            Ok(symbols.scope().value_of(name))
         }
     }
 }
@@ -641,7 +650,7 @@ fn put_label<'a, A: Allocator + Copy>(
 {
     let here = reading.site().here;
     let known = define_label(name, here, start, symbols)?;
-    if !symbols.is_last() {
+    if !symbols.pass.is_last() {
         return Ok(());
     }
     match reading.sections.get_mut(reading.current) {
@@ -691,11 +700,11 @@ fn put_symbol<'a, A: Allocator + Copy>(
     if reading.current >= reading.sections.len() {
         return Err(Halt::Error(start.with_kind(SourceErrorKind::Sections)));
     }
-    let padding = align_common(common.alignment, symbols.is_last(), reading);
+    let padding = align_common(common.alignment, symbols.pass.is_last(), reading);
     let (before, own) = (Statement::Fill(padding, 0), Statement::Fill(common.size, 0));
-    put(before, &[], number, start, symbols.is_last(), reading)?;
+    put(before, &[], number, start, symbols.pass.is_last(), reading)?;
     put_label(name, number, start, symbols, reading)?;
-    put(own, &[], number, start, symbols.is_last(), reading)
+    put(own, &[], number, start, symbols.pass.is_last(), reading)
 }
 
 /// How many bytes the open section takes up to an alignment. Before the last reading the section is

@@ -47,7 +47,7 @@ pub enum Read<'a> {
 /// Reads the operands of a directive of this name, which begins with a dot. Its name stands at
 /// `error`. Its data, if it has some, are put in the place of those that were there.
 pub fn read_directive<'a, A: Allocator>(
-    line: &mut Line<'a, '_, A>,
+    line: &mut Line<'a, '_>,
     name: &'a [u8],
     operands: &'a [u8],
     error: LineError,
@@ -83,8 +83,8 @@ fn unknown(name: &[u8], error: LineError) -> LineError {
 }
 
 /// Reads the operands of a directive of this name and form, which puts nothing at its address.
-fn read_said<'a, A: Allocator>(
-    line: &mut Line<'a, '_, A>,
+fn read_said<'a>(
+    line: &mut Line<'a, '_>,
     form: DirectiveForm,
     name: &'a [u8],
     operands: &'a [u8],
@@ -112,8 +112,8 @@ fn read_said<'a, A: Allocator>(
 }
 
 /// Reads which section follows, by the name of the directive and its operands.
-fn read_section<'a, A: Allocator>(
-    line: &mut Line<'a, '_, A>,
+fn read_section<'a>(
+    line: &mut Line<'a, '_>,
     name: &'a [u8],
     operands: &'a [u8],
     error: LineError,
@@ -140,11 +140,7 @@ fn read_section<'a, A: Allocator>(
 
 /// Reads a symbol in `COMMON`, with its size and its alignment. Where there is no alignment, it is
 /// that of GNU `as`.
-fn read_common<'a, A: Allocator>(
-    line: &mut Line<'a, '_, A>,
-    name: &'a [u8],
-    operands: &'a [u8],
-) -> Read<'a>
+fn read_common<'a>(line: &mut Line<'a, '_>, name: &'a [u8], operands: &'a [u8]) -> Read<'a>
     ensures items { (number : ℕ) →
         items_of_read number result ≡ Item.Common number name.now (word operands.now) ∷ [] }
     ensures name { is_one_of fill_names name.now ≡ true → HasItsName result }
@@ -228,7 +224,7 @@ fn flags_in(text: &[u8]) -> Flags {
 const OPTIONS: [&[u8]; 6] = [b"norvc", b"relax", b"norelax", b"push", b"pop", b"nopic"];
 
 /// Reads an option. Those that would allow other instructions are refused.
-fn read_option<'a, A: Allocator>(line: &mut Line<'a, '_, A>) -> Read<'a>
+fn read_option<'a>(line: &mut Line<'a, '_>) -> Read<'a>
     ensures items { (number : ℕ) → items_of_read number result ≡ [] }
     ensures name { HasItsName result }
 {
@@ -243,7 +239,7 @@ fn read_option<'a, A: Allocator>(line: &mut Line<'a, '_, A>) -> Read<'a>
 
 /// Reads the operands of a directive of this name that puts something at its address.
 fn read_placed<A: Allocator>(
-    line: &mut Line<A>,
+    line: &mut Line,
     name: &[u8],
     form: PlacedForm,
     data: &mut Vec<u8, A>,
@@ -267,7 +263,7 @@ fn read_placed<A: Allocator>(
 
 /// Reads the operands of a directive that puts bytes at its address, and appends these.
 fn read_bytes<A: Allocator>(
-    line: &mut Line<A>,
+    line: &mut Line,
     form: DataForm,
     bytes: &mut Vec<u8, A>,
 ) -> Result<(), AllocError> {
@@ -283,7 +279,7 @@ fn read_bytes<A: Allocator>(
 }
 
 /// Reads the name and the value of a constant.
-fn read_constant<'a, A: Allocator>(line: &mut Line<'a, '_, A>) -> Read<'a>
+fn read_constant<'a>(line: &mut Line<'a, '_>) -> Read<'a>
     ensures items { (number : ℕ) → items_of_read number result ≡ [] }
     ensures name { HasItsName result }
 {
@@ -299,7 +295,7 @@ fn read_constant<'a, A: Allocator>(line: &mut Line<'a, '_, A>) -> Read<'a>
 
 /// Reads numbers of so many bits each, with commas between them.
 fn read_data<A: Allocator>(
-    line: &mut Line<A>,
+    line: &mut Line,
     bits: u32,
     bytes: &mut Vec<u8, A>,
 ) -> Result<(), AllocError> {
@@ -314,7 +310,7 @@ fn read_data<A: Allocator>(
 }
 
 /// Reads a number of so many bits.
-fn datum<A: Allocator>(line: &mut Line<A>, bits: u32) -> u64 {
+fn datum(line: &mut Line, bits: u32) -> u64 {
     if bits == 64 {
         line.wide_value()
     } else {
@@ -335,10 +331,7 @@ fn bytes_in(bits: u32) -> usize
 }
 
 /// Reads how often a number stands, how many bytes it has, and the number.
-fn read_pattern<A: Allocator>(
-    line: &mut Line<A>,
-    bytes: &mut Vec<u8, A>,
-) -> Result<(), AllocError> {
+fn read_pattern<A: Allocator>(line: &mut Line, bytes: &mut Vec<u8, A>) -> Result<(), AllocError> {
     let count = read_count(line);
     let (size, value) = read_pattern_item(line);
     if count as usize * size as usize > MOST_BYTES {
@@ -354,7 +347,7 @@ fn read_pattern<A: Allocator>(
 
 /// Reads how many bytes a number has, at most 8 and 1 where none is said, and the number, which is 0
 /// where none is said.
-fn read_pattern_item<A: Allocator>(line: &mut Line<A>) -> (u32, u32)
+fn read_pattern_item(line: &mut Line) -> (u32, u32)
     ensures { result.0 ≤ 8 }
 {
     if !line.take(b',') {
@@ -367,7 +360,7 @@ fn read_pattern_item<A: Allocator>(line: &mut Line<A>) -> (u32, u32)
 
 /// Reads strings with commas between them, and puts a zero byte behind each if that is asked.
 fn read_strings<A: Allocator>(
-    line: &mut Line<A>,
+    line: &mut Line,
     is_ended: bool,
     bytes: &mut Vec<u8, A>,
 ) -> Result<(), AllocError> {
@@ -384,7 +377,7 @@ fn read_strings<A: Allocator>(
 }
 
 /// Reads a string, and appends its bytes.
-fn read_string<A: Allocator>(line: &mut Line<A>, bytes: &mut Vec<u8, A>) -> Result<(), AllocError> {
+fn read_string<A: Allocator>(line: &mut Line, bytes: &mut Vec<u8, A>) -> Result<(), AllocError> {
     line.expect(b'"', SourceErrorKind::Quote);
     for _ in 0..u64::MAX {
         let Some(byte) = next_in_string(line) else {
@@ -396,7 +389,7 @@ fn read_string<A: Allocator>(line: &mut Line<A>, bytes: &mut Vec<u8, A>) -> Resu
 }
 
 /// Takes the next byte of a string, or its end, where there is none.
-fn next_in_string<A: Allocator>(line: &mut Line<A>) -> Option<u8> {
+fn next_in_string(line: &mut Line) -> Option<u8> {
     match line.next_byte() {
         Some(b'"') => None,
         Some(b'\\') => next_escaped(line),
@@ -410,7 +403,7 @@ fn next_in_string<A: Allocator>(line: &mut Line<A>) -> Option<u8> {
 
 /// Takes what follows a backslash: the byte that it stands for. It may be written by up to three octal
 /// digits, as `\101`, or by hexadecimal ones, of which the last two count, as `\x41`.
-fn next_escaped<A: Allocator>(line: &mut Line<A>) -> Option<u8> {
+fn next_escaped(line: &mut Line) -> Option<u8> {
     let error = line.error(SourceErrorKind::Escape);
     let value = match line.next_byte() {
         Some(digit @ b'0'..=b'7') => Some(digits_behind(line, digit - b'0', 8, 2)),
@@ -429,7 +422,7 @@ fn next_escaped<A: Allocator>(line: &mut Line<A>) -> Option<u8> {
 
 /// Takes so many further digits of an escape at most, as far as they stand there. The value is taken
 /// modulo 256.
-fn digits_behind<A: Allocator>(line: &mut Line<A>, first: u8, base: u8, most: u64) -> u8 {
+fn digits_behind(line: &mut Line, first: u8, base: u8, most: u64) -> u8 {
     let mut value = first;
     for _ in 0..most {
         match line.next_digit(u64::from(base)) {
@@ -441,20 +434,20 @@ fn digits_behind<A: Allocator>(line: &mut Line<A>, first: u8, base: u8, most: u6
 }
 
 /// Reads how many bytes, and which byte where another than zero is meant.
-fn read_space<A: Allocator>(line: &mut Line<A>) -> (u32, u8) {
+fn read_space(line: &mut Line) -> (u32, u8) {
     let count = read_count(line);
     let byte = if line.take(b',') { line.datum(8) } else { 0 };
     (count, (byte % 256) as u8)
 }
 
 /// Reads a number of bytes that is known here.
-fn read_count<A: Allocator>(line: &mut Line<A>) -> u32 {
+fn read_count(line: &mut Line) -> u32 {
     known_up_to(line, MOST_BYTES as u32, SourceErrorKind::TooLong)
 }
 
 /// Reads a number that is known here, and is at most another one. One that is greater is a mistake
 /// of this kind.
-fn known_up_to<A: Allocator>(line: &mut Line<A>, most: u32, kind: SourceErrorKind) -> u32
+fn known_up_to(line: &mut Line, most: u32, kind: SourceErrorKind) -> u32
     ensures { result ≤ most }
 {
     line.skip_blanks();
@@ -469,7 +462,7 @@ fn known_up_to<A: Allocator>(line: &mut Line<A>, most: u32, kind: SourceErrorKin
 
 /// Reads the address of what follows, which is no lower than that of the directive: how many bytes
 /// it is behind.
-fn read_origin<A: Allocator>(line: &mut Line<A>) -> u32 {
+fn read_origin(line: &mut Line) -> u32 {
     line.skip_blanks();
     let error = line.error(SourceErrorKind::Backward);
     match line.known_value().checked_sub(line.site.here) {
@@ -481,7 +474,7 @@ fn read_origin<A: Allocator>(line: &mut Line<A>) -> u32 {
 }
 
 /// Reads how many bytes an alignment has: a power of 2, which may be said by its exponent.
-fn alignment<A: Allocator>(line: &mut Line<A>, is_power: bool) -> u32
+fn alignment(line: &mut Line, is_power: bool) -> u32
     ensures { 0 < result }
 {
     line.skip_blanks();
@@ -502,7 +495,7 @@ fn power_of_two(exponent: u32) -> u32 {
 
 /// Reads which byte fills up to an alignment, and how many at most: otherwise nothing is filled.
 fn read_padding<A: Allocator>(
-    line: &mut Line<A>,
+    line: &mut Line,
     alignment: u32,
     bytes: &mut Vec<u8, A>,
 ) -> Result<(), AllocError>
@@ -521,7 +514,7 @@ fn read_padding<A: Allocator>(
 }
 
 /// Reads which byte fills, if one is said, and how many at most.
-fn read_fill<A: Allocator>(line: &mut Line<A>) -> (Option<u8>, u32) {
+fn read_fill(line: &mut Line) -> (Option<u8>, u32) {
     if !line.take(b',') {
         return (None, u32::MAX);
     }

@@ -12,7 +12,6 @@ use crate::statements::Statement;
 use rrs_encode::{Operands, instruction_named, with_operands};
 use rrs_instruction::instruction::{Instruction, InstructionFields};
 use rrs_lines::{Line, LineError, SourceErrorKind};
-use std::alloc::Allocator;
 
 /// How far a branch reaches, in bytes: so many backward, and fewer forward.
 const BRANCH_REACH: u32 = 0x1000;
@@ -30,8 +29,8 @@ const NONE: Operands = Operands {
 
 /// Reads the operands of an instruction or a pseudo-instruction of this name. Its name stands at
 /// `error`.
-pub fn read_instruction<A: Allocator>(
-    line: &mut Line<A>,
+pub fn read_instruction(
+    line: &mut Line,
     name: &[u8],
     error: LineError,
 ) -> Result<Statement, LineError>
@@ -51,7 +50,7 @@ pub fn read_instruction<A: Allocator>(
 }
 
 /// Reads the operands of a row.
-fn read_row<A: Allocator>(line: &mut Line<A>, template: Instruction) -> Statement
+fn read_row(line: &mut Line, template: Instruction) -> Statement
     ensures { IsNamed (table (row_of template)).name result }
 {
     match row_form(template) {
@@ -104,7 +103,7 @@ fn row_form(template: Instruction) -> RowForm
 }
 
 /// Reads `rd, immediate(rs1)`, or `rd, symbol`.
-fn read_load<A: Allocator>(line: &mut Line<A>, template: Instruction, load: Load) -> Statement
+fn read_load(line: &mut Line, template: Instruction, load: Load) -> Statement
     requires { load_name load ≡ (table (row_of template)).name }
     ensures { IsNamed (table (row_of template)).name result }
 {
@@ -124,7 +123,7 @@ fn read_load<A: Allocator>(line: &mut Line<A>, template: Instruction, load: Load
 }
 
 /// Reads `rs2, immediate(rs1)`, or `rs2, symbol, rt`.
-fn read_store<A: Allocator>(line: &mut Line<A>, template: Instruction, store: Store) -> Statement
+fn read_store(line: &mut Line, template: Instruction, store: Store) -> Statement
     requires { store_name store ≡ (table (row_of template)).name }
     ensures { IsNamed (table (row_of template)).name result }
 {
@@ -146,11 +145,7 @@ fn read_store<A: Allocator>(line: &mut Line<A>, template: Instruction, store: St
 }
 
 /// The statement that is an instruction with these operands, whose ranges the readers saw to.
-fn statement_of<A: Allocator>(
-    line: &mut Line<A>,
-    template: Instruction,
-    operands: Operands,
-) -> Statement
+fn statement_of(line: &mut Line, template: Instruction, operands: Operands) -> Statement
     ensures { IsNamed (table (row_of template)).name result }
 {
     match with_operands(&template, operands) {
@@ -225,7 +220,7 @@ fn operands_of(fields: InstructionFields) -> &'static [Operand] {
 }
 
 /// Reads operands with commas between them.
-fn read_operands<A: Allocator>(line: &mut Line<A>, wanted: &[Operand]) -> Operands {
+fn read_operands(line: &mut Line, wanted: &[Operand]) -> Operands {
     let mut operands = NONE;
     for (number, operand) in wanted.iter().enumerate() {
         if number > 0 {
@@ -237,7 +232,7 @@ fn read_operands<A: Allocator>(line: &mut Line<A>, wanted: &[Operand]) -> Operan
 }
 
 /// Reads an operand, and puts it where it goes.
-fn read_operand<A: Allocator>(line: &mut Line<A>, operand: Operand, operands: &mut Operands) {
+fn read_operand(line: &mut Line, operand: Operand, operands: &mut Operands) {
     match operand {
         Operand::Rd => operands.rd = line.register(),
         Operand::Rs1 => operands.rs1 = line.register(),
@@ -248,7 +243,7 @@ fn read_operand<A: Allocator>(line: &mut Line<A>, operand: Operand, operands: &m
 }
 
 /// Reads a number that goes where an immediate does. A word is taken as a signed one.
-fn read_number<A: Allocator>(line: &mut Line<A>, number: Number) -> i32 {
+fn read_number(line: &mut Line, number: Number) -> i32 {
     match number {
         Number::Immediate => line.immediate(),
         Number::Branch => line.offset(BRANCH_REACH),
@@ -261,7 +256,7 @@ fn read_number<A: Allocator>(line: &mut Line<A>, number: Number) -> i32 {
 }
 
 /// Reads `rd, target`, or `target` alone.
-fn read_jal<A: Allocator>(line: &mut Line<A>, template: Instruction) -> Statement
+fn read_jal(line: &mut Line, template: Instruction) -> Statement
     requires { (table (row_of template)).name ≡ codes "jal" }
     ensures { IsNamed (table (row_of template)).name result }
 {
@@ -278,7 +273,7 @@ fn read_jal<A: Allocator>(line: &mut Line<A>, template: Instruction) -> Statemen
 }
 
 /// Reads `rd, immediate(rs1)`, `rd, rs1, immediate`, `rd, rs1`, or `rs1` alone.
-fn read_jalr<A: Allocator>(line: &mut Line<A>, template: Instruction) -> Statement
+fn read_jalr(line: &mut Line, template: Instruction) -> Statement
     requires { (table (row_of template)).name ≡ codes "jalr" }
     ensures { IsNamed (table (row_of template)).name result }
 {
@@ -305,7 +300,7 @@ fn read_jalr<A: Allocator>(line: &mut Line<A>, template: Instruction) -> Stateme
 }
 
 /// Reads two sets of accesses, or nothing.
-fn read_fence<A: Allocator>(line: &mut Line<A>, template: Instruction) -> Statement
+fn read_fence(line: &mut Line, template: Instruction) -> Statement
     requires { (table (row_of template)).name ≡ codes "fence" }
     ensures { IsNamed (table (row_of template)).name result }
 {
@@ -321,7 +316,7 @@ fn read_fence<A: Allocator>(line: &mut Line<A>, template: Instruction) -> Statem
 }
 
 /// Reads a set of accesses: some of the letters `iorw`, in this order.
-fn read_accesses<A: Allocator>(line: &mut Line<A>) -> u32
+fn read_accesses(line: &mut Line) -> u32
     ensures { result < 16 }
 {
     line.skip_blanks();
@@ -354,7 +349,7 @@ fn accesses_of(word: &[u8]) -> Option<u32>
 }
 
 /// Reads the operands of a pseudo-instruction.
-fn read_pseudo<A: Allocator>(line: &mut Line<A>, form: PseudoForm) -> Pseudo
+fn read_pseudo(line: &mut Line, form: PseudoForm) -> Pseudo
     ensures { pseudo_name result ≡ form_name form }
 {
     pseudo_of(form, read_operands(line, operands_of_pseudo(form)))

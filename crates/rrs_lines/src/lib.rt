@@ -2,7 +2,7 @@
 //!
 //! [first_line] and [first_part] cut a source into lines, and a line into labels and statements.
 //! [Line] reads the operands of a statement: registers, numbers, symbols and values with operators.
-//! [Symbols] has what the symbols of a source stand for. What is made of all this is the work of
+//! [Symbols] has what the symbols of a source stand for, and [Scope] is how a line sees them. What is made of all this is the work of
 //! the crate `rrs_asm`.
 //!
 //! Which lines a source has, which parts a line has, and which word a part begins with is written
@@ -23,4 +23,4 @@ pub use lexing::{Part, begins_with, behind_blanks, first_line, first_part, is_na
 pub use literals::escaped;
 pub use reading::{Line, Notes, Site};
 pub use registers::register_number;
-pub use symbols::{Known, Pass, Symbols};
+pub use symbols::{Known, Pass, Scope, Symbols};

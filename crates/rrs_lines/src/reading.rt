@@ -7,8 +7,7 @@ use crate::expressions::{LOOSEST, Operator, Waiting, operator_before, operator_b
 use crate::lexing::{behind_blanks, is_name, split_word};
 use crate::literals::{digit_of, escaped, number_of};
 use crate::registers::register_number;
-use crate::symbols::{Known, Symbols};
-use std::alloc::{AllocError, Allocator};
+use crate::symbols::{Known, Scope};
 
 /// Where a statement stands.
 #[derive(Clone, Copy)]
@@ -61,12 +60,13 @@ const WIDE: Wanted = Wanted {
 ///
 /// Where something else stands than what is wanted, that mistake is kept, all that is left is
 /// taken, and what is given is 0. So what follows finds no more, and the first mistake stays.
-pub struct Line<'a, 's, A: Allocator> {
+#[derive(Clone, Copy)]
+pub struct Line<'a, 's> {
     /// The text that is left.
     pub rest: &'a [u8],
     /// How many bytes of the line are behind the statement.
     behind: usize,
-    symbols: &'s Symbols<'a, A>,
+    symbols: &'s Scope<'a, 's>,
     /// Where it stands.
     pub site: Site,
     /// What it asks beside its bytes.
@@ -75,17 +75,9 @@ pub struct Line<'a, 's, A: Allocator> {
     pub mistake: Option<LineError>,
 }
 
-impl<A: Allocator> Clone for Line<'_, '_, A> {
-    fn clone(&self) -> Result<Self, AllocError> {
-        Ok(*self)
-    }
-}
-
-impl<A: Allocator> Copy for Line<'_, '_, A> {}
-
-impl<'a, 's, A: Allocator> Line<'a, 's, A> {
+impl<'a, 's> Line<'a, 's> {
     /// The rest of a statement at a place, with so many bytes of the line behind it.
-    pub fn new(rest: &'a [u8], behind: usize, symbols: &'s Symbols<'a, A>, site: Site) -> Self {
+    pub fn new(rest: &'a [u8], behind: usize, symbols: &'s Scope<'a, 's>, site: Site) -> Self {
         let notes = Notes {
             alignment: 1,
             distance: None,
@@ -421,7 +413,7 @@ impl<'a, 's, A: Allocator> Line<'a, 's, A> {
         if fits {
             return value;
         }
-        if self.symbols.is_last() {
+        if self.symbols.pass.is_last() {
             self.fail(error);
         }
         0

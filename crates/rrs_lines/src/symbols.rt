@@ -1,11 +1,12 @@
-//! Symbols: labels, local labels and constants.
+//! Symbols: labels, local labels and constants, and how far each `%pcrel_hi` reaches.
+//!
+//! All are entries of one table, found by a hash of their name or number.
 
 ghost use Rattle.std.specs.Prelude.{◌≡◌, true};
 ghost use Rattle.rrs_lines.specs.declared.symbols.Pass.{Pass};
 
-use crate::errors::{Halt, SourceErrorKind};
+use crate::errors::SourceErrorKind;
 use std::alloc::{AllocError, Allocator, Global};
-use std::collections::BTreeMap;
 
 /// A reading of the source.
 #[derive(Clone, Copy, PartialEq)]
@@ -20,28 +21,13 @@ pub enum Pass {
     Last,
 }
 
-/// What a symbol stands for.
-#[derive(Clone, Copy)]
-struct Definition {
-    value: u32,
-    /// Whether it is a label, and no constant, which can be defined again.
-    is_label: bool,
-    /// The latest reading in which its definition was met.
-    met: Pass,
-}
-
-/// The symbols of a source.
-#[derive(Drop)]
-pub struct Symbols<'a, A: Allocator = Global> {
-    names: BTreeMap<&'a [u8], Definition, A>,
-    /// The addresses of local labels, by their digit and how many of it stand before.
-    locals: BTreeMap<(u8, u32), u32, A>,
-    /// How many local labels of each digit were met in this reading.
-    counts: [u32; 10],
-    /// How far each `%pcrel_hi` reaches, by the address of its statement.
-    distances: BTreeMap<u32, u32, A>,
-    /// Which reading it is.
-    pub pass: Pass,
+impl Pass {
+    /// Whether the source is read for the last time.
+    pub fn is_last(self) -> bool
+        ensures { self ≡ Pass.Last → result ≡ true }
+    {
+        matches!(self, Pass::Last)
+    }
 }
 
 /// What is known of a symbol at a place.
@@ -57,18 +43,155 @@ pub enum Known {
     Never,
 }
 
-impl<'a, A: Allocator + Copy> Symbols<'a, A> {
-    /// No symbols, before the first reading.
-    pub fn new(alloc: A) -> Self {
-        Symbols {
-            names: BTreeMap::new(alloc),
-            locals: BTreeMap::new(alloc),
-            counts: [0; 10],
-            distances: BTreeMap::new(alloc),
-            pass: Pass::First,
+/// What an entry is found by.
+#[derive(Clone, Copy)]
+enum Key<'a> {
+    /// A label or a constant: its name.
+    Name(&'a [u8]),
+    /// A local label: its digit, and how many of it stand before. Or, behind `DISTANCE`, the address
+    /// of a statement with `%pcrel_hi`.
+    Number(u8, u32),
+}
+
+/// What stands in the place of a digit in the key of a distance.
+const DISTANCE: u8 = 10;
+
+impl Key<'_> {
+    /// Whether it is another one.
+    fn is(self, other: Key) -> bool {
+        match (self, other) {
+            (Key::Name(own), Key::Name(name)) => own == name,
+            (Key::Number(kind, own), Key::Number(other, number)) => kind == other && own == number,
+            _ => false,
         }
     }
 
+    /// Its hash.
+    fn hash(self) -> usize {
+        match self {
+            Key::Name(name) => hash_of(name, 0),
+            Key::Number(kind, number) => hash_of(&number.to_le_bytes(), kind),
+        }
+    }
+}
+
+/// A hash of bytes behind one more: that of Fowler, Noll and Vo (FNV-1a), of 32 bits.
+fn hash_of(bytes: &[u8], before: u8) -> usize {
+    let mut hash = 0x811c_9dc5u32 ^ u32::from(before);
+    for byte in bytes {
+        hash = (hash ^ u32::from(*byte)).wrapping_mul(0x0100_0193);
+    }
+    hash as usize
+}
+
+/// What a symbol stands for.
+#[derive(Clone, Copy)]
+struct Entry<'a> {
+    key: Key<'a>,
+    value: u32,
+    /// Whether it is a label, and no constant, which can be defined again.
+    is_label: bool,
+    /// The latest reading in which its definition was met.
+    met: Pass,
+    /// Which entry comes next of those in the same slot. None of them: it is the last.
+    next: usize,
+}
+
+/// Where there is no entry.
+const NONE: usize = usize::MAX;
+
+/// The symbols of a source.
+#[derive(Drop)]
+pub struct Symbols<'a, A: Allocator = Global> {
+    entries: Vec<Entry<'a>, A>,
+    /// The first entry of each hash, modulo how many these are.
+    slots: Vec<usize, A>,
+    /// How many local labels of each digit were met in this reading.
+    counts: [u32; 10],
+    /// How many statements with `%pcrel_hi` were met.
+    distances: usize,
+    /// Which reading it is.
+    pub pass: Pass,
+}
+
+/// The symbols of a source, to look them up.
+#[derive(Clone, Copy)]
+pub struct Scope<'a, 's> {
+    entries: &'s [Entry<'a>],
+    slots: &'s [usize],
+    counts: [u32; 10],
+    /// Which reading it is.
+    pub pass: Pass,
+}
+
+impl Scope<'_, '_> {
+    /// Which entry has a key.
+    fn find(&self, key: Key) -> Option<usize> {
+        let slot = key.hash().checked_rem(self.slots.len())?;
+        let mut index = *self.slots.get(slot)?;
+        for _ in 0..self.entries.len() {
+            let entry = self.entries.get(index)?;
+            if entry.key.is(key) {
+                return Some(index);
+            }
+            index = entry.next;
+        }
+        None
+    }
+
+    /// The entry with a key.
+    fn entry(&self, key: Key) -> Option<Entry<'_>> {
+        self.entries.get(self.find(key)?).copied()
+    }
+
+    /// How far the `%pcrel_hi` of the statement at an address reaches.
+    pub fn distance_at(&self, address: u32) -> Option<u32> {
+        Some(self.entry(Key::Number(DISTANCE, address))?.value)
+    }
+
+    /// What is known of a symbol.
+    pub fn value_of(&self, name: &[u8]) -> Known {
+        match self.entry(Key::Name(name)) {
+            Some(entry) if entry.met == self.pass => Known::Now(entry.value),
+            Some(entry) => Known::Later(entry.value),
+            None => self.absent(),
+        }
+    }
+
+    /// What is known where nothing is found.
+    fn absent(&self) -> Known {
+        if self.pass.is_last() {
+            Known::Never
+        } else {
+            Known::Perhaps
+        }
+    }
+
+    /// What is known of the nearest local label of a digit, before or behind.
+    pub fn local_value(&self, digit: u8, is_before: bool) -> Known {
+        let count = self.count_of(digit);
+        if !is_before {
+            return match self.entry(Key::Number(digit, count)) {
+                Some(entry) => Known::Later(entry.value),
+                None => self.absent(),
+            };
+        }
+        match count.checked_sub(1) {
+            None => Known::Never,
+            Some(last) => match self.entry(Key::Number(digit, last)) {
+                Some(entry) => Known::Now(entry.value),
+                None => Known::Never,
+            },
+        }
+    }
+
+    /// How many local labels of a digit were met.
+    fn count_of(&self, digit: u8) -> u32 {
+        self.counts.get(usize::from(digit)).copied().unwrap_or(0)
+    }
+}
+
+impl<'a, A: Allocator> Symbols<'a, A> {
     /// Begins another reading.
     pub fn begin(&mut self, pass: Pass)
         ensures { self.new.pass ≡ pass }
@@ -77,24 +200,39 @@ impl<'a, A: Allocator + Copy> Symbols<'a, A> {
         self.pass = pass;
     }
 
+    /// The symbols as they are, to look them up.
+    pub fn scope(&self) -> Scope<'a, '_> {
+        Scope {
+            entries: &self.entries,
+            slots: &self.slots,
+            counts: self.counts,
+            pass: self.pass,
+        }
+    }
+
+    /// Whether a `%pcrel_hi` was met.
+    pub fn has_distances(&self) -> bool {
+        self.distances > 0
+    }
+
     /// Keeps how far a `%pcrel_hi` reaches.
     pub fn keep_distance(&mut self, address: u32, distance: u32) -> Result<(), AllocError>
         ensures { self.new.pass ≡ self.old.pass }
     {
-        let _ = self.distances.insert(address, distance)?;
-        Ok(())
+        self.distances = self.distances.saturating_add(1);
+        self.put(Key::Number(DISTANCE, address), distance, false)
     }
 
     /// Defines a local label of a digit.
-    pub fn define_local(&mut self, digit: u8, address: u32) -> Result<(), Halt>
+    pub fn define_local(&mut self, digit: u8, address: u32) -> Result<(), AllocError>
         ensures { self.new.pass ≡ self.old.pass }
     {
-        let count = self.count_of(digit);
-        self.locals.insert((digit, count), address)?;
-        if let Some(slot) = self.counts.get_mut(usize::from(digit)) {
-            *slot = count.saturating_add(1);
-        }
-        Ok(())
+        let Some(count) = self.counts.get_mut(usize::from(digit)) else {
+            return Ok(());
+        };
+        let key = Key::Number(digit, *count);
+        *count = count.saturating_add(1);
+        self.put(key, address, true)
     }
 
     /// Defines a label, or a constant. Tells what is wrong with it.
@@ -106,78 +244,86 @@ impl<'a, A: Allocator + Copy> Symbols<'a, A> {
     ) -> Result<Option<SourceErrorKind>, AllocError>
         ensures { self.new.pass ≡ self.old.pass }
     {
-        if let Some(old) = self.names.get(name).copied() {
+        if let Some(old) = self.scope().entry(Key::Name(name)) {
             if (is_label || old.is_label) && (old.met == self.pass || old.is_label != is_label) {
                 return Ok(Some(SourceErrorKind::Duplicate));
             }
         }
+        self.put(Key::Name(name), value, is_label)?;
+        Ok(None)
+    }
+
+    /// Puts a value in the place of the one with this key, or behind all.
+    fn put(&mut self, key: Key<'a>, value: u32, is_label: bool) -> Result<(), AllocError>
+        ensures { self.new.pass ≡ self.old.pass }
+    {
         let met = self.pass;
-        let definition = Definition {
+        if let Some(index) = self.scope().find(key) {
+            if let Some(entry) = self.entries.get_mut(index) {
+                entry.value = value;
+                entry.is_label = is_label;
+                entry.met = met;
+            }
+            return Ok(());
+        }
+        let index = self.entries.len();
+        if index >= self.slots.len() {
+            self.grow()?;
+        }
+        self.entries.push(Entry {
+            key,
             value,
             is_label,
             met,
-        };
-        self.names.insert(name, definition)?;
-        Ok(None)
+            next: NONE,
+        })?;
+        link(&mut self.entries, &mut self.slots, index);
+        Ok(())
+    }
+
+    /// Makes twice as many slots.
+    fn grow(&mut self) -> Result<(), AllocError>
+        ensures { self.new.pass ≡ self.old.pass }
+    {
+        let count = self.slots.len().saturating_mul(2).saturating_add(FEWEST);
+        self.slots.clear();
+        self.slots.resize(count, NONE)?;
+        link_all(&mut self.entries, &mut self.slots);
+        Ok(())
     }
 }
 
-impl<'a, A: Allocator> Symbols<'a, A> {
-    /// Whether the source is read for the last time.
-    pub fn is_last(&self) -> bool
-        ensures { self.now.pass ≡ Pass.Last → result ≡ true }
-    {
-        matches!(self.pass, Pass::Last)
-    }
+/// How many slots there are at least.
+const FEWEST: usize = 64;
 
-    /// Whether a `%pcrel_hi` was met.
-    pub fn has_distances(&self) -> bool {
-        !self.distances.is_empty()
+/// Puts each entry in its slot.
+fn link_all(entries: &mut [Entry], slots: &mut [usize]) {
+    for index in 0..entries.len() {
+        link(entries, slots, index);
     }
+}
 
-    /// How far the `%pcrel_hi` of the statement at an address reaches.
-    pub fn distance_at(&self, address: u32) -> Option<u32> {
-        self.distances.get(&address).copied()
+/// Puts an entry first in its slot.
+fn link(entries: &mut [Entry], slots: &mut [usize], index: usize) {
+    let Some(entry) = entries.get_mut(index) else {
+        return;
+    };
+    let slot = entry.key.hash().checked_rem(slots.len()).unwrap_or(0);
+    if let Some(first) = slots.get_mut(slot) {
+        entry.next = *first;
+        *first = index;
     }
+}
 
-    /// What is known of a symbol.
-    pub fn value_of(&self, name: &[u8]) -> Known {
-        match self.names.get(name) {
-            Some(definition) if definition.met == self.pass => Known::Now(definition.value),
-            Some(definition) => Known::Later(definition.value),
-            None => self.absent(),
+impl<'a, A: Allocator + Copy> Symbols<'a, A> {
+    /// No symbols, before the first reading.
+    pub fn new(alloc: A) -> Self {
+        Symbols {
+            entries: Vec::new(alloc),
+            slots: Vec::new(alloc),
+            counts: [0; 10],
+            distances: 0,
+            pass: Pass::First,
         }
-    }
-
-    /// What is known where nothing is found.
-    fn absent(&self) -> Known {
-        match self.pass {
-            Pass::Last => Known::Never,
-            _ => Known::Perhaps,
-        }
-    }
-
-    /// What is known of the nearest local label of a digit, before or behind.
-    pub fn local_value(&self, digit: u8, is_before: bool) -> Known {
-        let count = self.count_of(digit);
-        if is_before {
-            let Some(last) = count.checked_sub(1) else {
-                return Known::Never;
-            };
-            match self.locals.get(&(digit, last)) {
-                Some(value) => Known::Now(*value),
-                None => Known::Never,
-            }
-        } else {
-            match self.locals.get(&(digit, count)) {
-                Some(value) => Known::Later(*value),
-                None => self.absent(),
-            }
-        }
-    }
-
-    /// How many local labels of a digit were met.
-    fn count_of(&self, digit: u8) -> u32 {
-        self.counts.get(usize::from(digit)).copied().unwrap_or(0)
     }
 }
