@@ -11,7 +11,7 @@ use crate::directives::is_directive;
 
 /// Where a byte of a line stands.
 #[derive(Clone, Copy)]
-enum Place {
+pub enum Place {
     /// In no string, no character constant and no comment.
     Plain,
     /// In a string.
@@ -29,8 +29,14 @@ enum Place {
 }
 
 impl Place {
+    /// Whether a backslash and a name behind it are a parameter there. In a character constant they
+    /// are no name.
+    pub fn has_parameters(self) -> bool {
+        !matches!(self, Place::Character | Place::CharacterEscape)
+    }
+
     /// Where the byte behind this one stands.
-    fn behind(self, byte: u8, next: Option<u8>) -> Place {
+    pub fn behind(self, byte: u8, next: Option<u8>) -> Place {
         match self {
             Place::Plain => plain_behind(byte, next),
             Place::Text => match byte {

@@ -1,11 +1,11 @@
 //! A macro's body with arguments in the places of its parameters.
 
 use crate::arguments::{Parameter, index_of};
-use crate::scanning::{first_statement, split_word};
+use crate::scanning::{Place, first_statement, split_word};
 use std::alloc::{AllocError, Allocator};
 
 /// Appends a body with the values of the parameters in their places, and the number of the call in
-/// that of `\@`.
+/// that of `\@`. In a character constant nothing is replaced: `'\n'` is one byte.
 pub fn substitute<A: Allocator + Copy>(
     alloc: A,
     body: &[u8],
@@ -16,12 +16,23 @@ pub fn substitute<A: Allocator + Copy>(
 ) -> Result<(), AllocError> {
     let number = format!(in alloc; "{call}")?;
     let mut rest = body;
+    let mut place = Place::Plain;
     for _ in 0..body.len() {
         rest = match rest {
             [] => break,
-            [b'\\', others @ ..] => escaped(others, parameters, values, number.as_bytes(), out)?,
+            [b'\\', others @ ..] if place.has_parameters() => {
+                let behind = escaped(others, parameters, values, number.as_bytes(), out)?;
+                if behind.len() == others.len() {
+                    place = place.behind(b'\\', None);
+                }
+                behind
+            }
             [byte, others @ ..] => {
                 out.push(*byte)?;
+                place = match *byte {
+                    b'\n' => Place::Plain,
+                    byte => place.behind(byte, others.first().copied()),
+                };
                 others
             }
         };

@@ -4,7 +4,7 @@ use crate::expansions::bytes_of;
 use std::test::Fail;
 
 /// Sources with macros, conditions and repetitions, and their bytes.
-static ROWS: [(&str, &[u8]); 41] = [
+static ROWS: [(&str, &[u8]); 42] = [
     (".rept 3\n.byte 1\n.endr\n.byte 2", &[1, 1, 1, 2]),
     (".REPT 2; .byte 1; .ENDR; .byte 2", &[1, 1, 2]),
     (
@@ -77,6 +77,10 @@ static ROWS: [(&str, &[u8]); 41] = [
     (
         ".macro nop\n.word 9\n.endm\nnop\n.purgem nop\nnop",
         &[9, 0, 0, 0, 19, 0, 0, 0],
+    ),
+    (
+        ".macro put n\n.byte '\\n', \\n\n.ascii \"\\n'\\n\"\n.endm\nput 5",
+        b"\n\x055'5",
     ),
     (".macro .short_name\n.byte 9\n.endm\n.short_name", &[9]),
     (
