@@ -432,7 +432,7 @@ fn read_value<'a>(name: &'a [u8], error: LineError, line: &mut Line) -> Read<'a>
         line.fail(error.with_kind(SourceErrorKind::Character));
     }
     let _equals = line.next_byte();
-    Read::Constant(name, line.known_value())
+    Read::Constant(name, line.constant())
 }
 
 /// Reads the operands of a statement of this name.
@@ -596,7 +596,7 @@ fn keep_notes<A: Allocator + Copy>(
 /// Defines a symbol.
 fn define<'a, A: Allocator + Copy>(
     name: &'a [u8],
-    value: u32,
+    value: u64,
     is_label: bool,
     start: LineError,
     symbols: &mut Symbols<'a, A>,
@@ -605,6 +605,8 @@ fn define<'a, A: Allocator + Copy>(
 {
     let kind = if register_number(name).is_some() {
         Some(SourceErrorKind::Reserved)
+    } else if name == b".".as_slice() {
+        Some(SourceErrorKind::Unsupported)
     } else {
         symbols.define(name, value, is_label)?
     };
@@ -630,7 +632,7 @@ fn define_label<'a, A: Allocator + Copy>(
             Ok(symbols.scope().local_value(digit, true))
         }
         _ => {
-            define(name, here, true, start, symbols)?;
+            define(name, u64::from(here), true, start, symbols)?;
             Ok(symbols.scope().value_of(name))
         }
     }

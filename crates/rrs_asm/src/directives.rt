@@ -33,7 +33,7 @@ pub enum Read<'a> {
     /// A statement of this name is laid out here.
     Laid(&'a [u8], Statement, Notes),
     /// A constant has this value.
-    Constant(&'a [u8], u32),
+    Constant(&'a [u8], u64),
     /// By a directive of this name a symbol of the other has bytes in `COMMON`.
     Common(&'a [u8], &'a [u8], Common),
     /// A section of this name follows. No kind: it is not laid out.
@@ -183,7 +183,7 @@ fn kind_of_flags(text: &[u8]) -> Option<SectionKind> {
         Some(SectionKind::Code)
     } else if !flags.is_laid_out {
         None
-    } else if text.ends_with(b"nobits") {
+    } else if flags.is_zero {
         Some(SectionKind::Zero)
     } else if flags.is_written {
         Some(SectionKind::Data)
@@ -192,12 +192,13 @@ fn kind_of_flags(text: &[u8]) -> Option<SectionKind> {
     }
 }
 
-/// The flags of a section: the letters `x`, `a` and `w` between quotation marks.
+/// The flags of a section: the letters `x`, `a` and `w` between quotation marks, and `@nobits`.
 #[derive(Clone, Copy)]
 struct Flags {
     is_code: bool,
     is_laid_out: bool,
     is_written: bool,
+    is_zero: bool,
 }
 
 /// The flags that stand behind the name of a section.
@@ -206,11 +207,15 @@ fn flags_in(text: &[u8]) -> Flags {
         is_code: false,
         is_laid_out: false,
         is_written: false,
+        is_zero: false,
     };
     let mut is_quoted = false;
-    for byte in text {
+    for (index, byte) in text.iter().enumerate() {
         match *byte {
             b'"' => is_quoted = !is_quoted,
+            b'@' | b'%' if !is_quoted => {
+                flags.is_zero = split_word(&text[index + 1..]).0 == b"nobits".as_slice();
+            }
             b'x' if is_quoted => flags.is_code = true,
             b'a' if is_quoted => flags.is_laid_out = true,
             b'w' if is_quoted => flags.is_written = true,
@@ -290,7 +295,7 @@ fn read_constant<'a>(line: &mut Line<'a, '_>) -> Read<'a>
         line.fail(error);
     }
     line.comma();
-    Read::Constant(name, line.known_value())
+    Read::Constant(name, line.constant())
 }
 
 /// Reads numbers of so many bits each, with commas between them.

@@ -187,7 +187,7 @@ impl<'a, A: Allocator> Section<'a, A> {
 /// The value of a symbol that is defined before.
 fn address_of(known: Known) -> Option<u32> {
     match known {
-        Known::Now(address) => Some(address),
+        Known::Now(address) => u32::try_from(address).ok(),
         Known::Later(_) | Known::Perhaps | Known::Never => None,
     }
 }

@@ -6,7 +6,7 @@ use std::alloc::Global;
 use std::test::Fail;
 
 /// Sources, each with the line and the column of its mistake.
-static MISTAKES: [(&str, usize, usize, SourceErrorKind); 37] = [
+static MISTAKES: [(&str, usize, usize, SourceErrorKind); 40] = [
     ("nop\n  addx a0, a1", 2, 3, SourceErrorKind::Unknown),
     (".wrod 1", 1, 1, SourceErrorKind::Unknown),
     ("addi-1", 1, 1, SourceErrorKind::Unknown),
@@ -45,6 +45,19 @@ static MISTAKES: [(&str, usize, usize, SourceErrorKind); 37] = [
         2,
         1,
         SourceErrorKind::Unsupported,
+    ),
+    (". = . + 4", 1, 1, SourceErrorKind::Unsupported),
+    (
+        "1: auipc a0, %pcrel_hi(x)\nx: addi a0, a0, %pcrel_lo(1b + 0)",
+        2,
+        18,
+        SourceErrorKind::Distance,
+    ),
+    (
+        "nop\n1: nop\naddi a0, a0, %pcrel_lo(1b)\n.section .text.x\nnop\nauipc a0, %pcrel_hi(.)",
+        3,
+        15,
+        SourceErrorKind::Distance,
     ),
     ("nop\n.org 2", 2, 6, SourceErrorKind::Backward),
     (".byte 1\nnop\nnop", 2, 1, SourceErrorKind::Misplaced),

@@ -6,7 +6,7 @@ use rrs_asm::{SourceError, SourceErrorKind};
 use std::test::Fail;
 
 /// Statements at 0x100, each with its words.
-static STATEMENTS: [(&str, &[u32]); 13] = [
+static STATEMENTS: [(&str, &[u32]); 15] = [
     ("sgt a0, a1, a2", &[0x00b62533]),
     ("sgtu a0, a1, a2", &[0x00b63533]),
     ("zext.b a0, a1", &[0x0ff5f513]),
@@ -24,6 +24,16 @@ static STATEMENTS: [(&str, &[u32]); 13] = [
         "j 2f\n1: addi a0, a0, %pcrel_lo(2f)\n2: auipc a0, %pcrel_hi(x)\nj 1b\n.section .rodata\n\
         .zero 4\nx: .word 1",
         &[0x0080006f, 0x00c50513, 0x00000517, 0xff9ff06f, 0, 1],
+    ),
+    (
+        ".equ f, -32\n.word f / 4, f % 12, f < 0, f >> 60\n.dword f\n.set g, 1 << 33\n.word g >> 30",
+        &[
+            0xfffffff8, 0xfffffff8, 0xffffffff, 15, 0xffffffe0, 0xffffffff, 8,
+        ],
+    ),
+    (
+        ".section .x, \"aw\", @nobits # zeros\nv: .zero 4\n.bss\nw: .zero 8\n.data\n.word v, w",
+        &[0x110, 0x108, 0, 0, 0],
     ),
     (
         ".word 2+3*4, (2+3)*4, 1<<4|3, ~5, 7-10/3, 017, 6&3^1, 5==5, 4<3, 1&&2, 0||0, 10%4, 3!=4, !0",

@@ -204,7 +204,12 @@ impl<'a, 's> Line<'a, 's> {
 
     /// Takes a value that is known here: none of its symbols is defined further on.
     pub fn known_value(&mut self) -> u32 {
-        (self.expression(KNOWN) % 0x1_0000_0000) as u32
+        (self.constant() % 0x1_0000_0000) as u32
+    }
+
+    /// Takes the value of a constant, which is known here. It has 64 bits, since it may be negative.
+    pub fn constant(&mut self) -> u64 {
+        self.expression(KNOWN)
     }
 
     /// Takes a value of 64 bits.
@@ -299,7 +304,7 @@ impl<'a, 's> Line<'a, 's> {
         let error = self.error(SourceErrorKind::Value);
         let word = self.word();
         match self.known_of(word) {
-            Some(known) => u64::from(self.value_known(known, wanted.is_known, error)),
+            Some(known) => self.value_known(known, wanted.is_known, error),
             None => self.number(word, wanted.is_wide, is_negated, error),
         }
     }
@@ -309,7 +314,7 @@ impl<'a, 's> Line<'a, 's> {
     fn known_of(&self, word: &[u8]) -> Option<Known> {
         match word {
             [] => None,
-            [b'.'] => Some(Known::Now(self.site.here)),
+            [b'.'] => Some(Known::Now(u64::from(self.site.here))),
             [digit @ b'0'..=b'9', b'b'] => Some(self.symbols.local_value(*digit - b'0', true)),
             [digit @ b'0'..=b'9', b'f'] => Some(self.symbols.local_value(*digit - b'0', false)),
             [b'0'..=b'9', ..] => None,
@@ -319,11 +324,11 @@ impl<'a, 's> Line<'a, 's> {
 
     /// The value of a symbol of which this is known; where it is not known yet, before the last
     /// reading, the address of the statement.
-    fn value_known(&mut self, known: Known, is_known: bool, error: LineError) -> u32 {
+    fn value_known(&mut self, known: Known, is_known: bool, error: LineError) -> u64 {
         let kind = match known {
             Known::Now(value) => return value,
             Known::Later(value) if !is_known => return value,
-            Known::Perhaps if !is_known => return self.site.here,
+            Known::Perhaps if !is_known => return u64::from(self.site.here),
             Known::Later(_) | Known::Perhaps => SourceErrorKind::Later,
             Known::Never => SourceErrorKind::Undefined,
         };
@@ -386,7 +391,11 @@ impl<'a, 's> Line<'a, 's> {
 
     /// Takes a value in parentheses: the part of it that a modifier, which stands at `error`, names.
     fn part_meant(&mut self, modifier: Modifier, error: LineError) -> u32 {
+        let is_plain = self.is_word_enclosed();
         let value = self.enclosed();
+        if modifier.is_low && modifier.is_relative && !is_plain {
+            self.fail(error.with_kind(SourceErrorKind::Distance));
+        }
         let whole = if modifier.is_relative {
             self.distance(value, modifier.is_low, error)
         } else {
@@ -488,6 +497,12 @@ impl<'a, 's> Line<'a, 's> {
     fn is_register_enclosed(&self) -> bool {
         let mut ahead = *self;
         ahead.take(b'(') && register_number(ahead.word()).is_some()
+    }
+
+    /// Whether a word in parentheses is next, and nothing else in them.
+    fn is_word_enclosed(&self) -> bool {
+        let mut ahead = *self;
+        ahead.take(b'(') && !ahead.word().is_empty() && ahead.take(b')')
     }
 
     /// Takes a symbol, with what is added to it, and no register in parentheses behind it: how far

@@ -34,9 +34,9 @@ impl Pass {
 #[derive(Clone, Copy)]
 pub enum Known {
     /// Its value, and its definition stands before.
-    Now(u32),
+    Now(u64),
     /// Its value in the reading before, and its definition stands further on.
-    Later(u32),
+    Later(u64),
     /// The source is read for the last time later, and its definition may stand further on.
     Perhaps,
     /// There is no definition.
@@ -88,7 +88,8 @@ fn hash_of(bytes: &[u8], before: u8) -> usize {
 #[derive(Clone, Copy)]
 struct Entry<'a> {
     key: Key<'a>,
-    value: u32,
+    /// Its value, in 64 bits: a constant may be negative.
+    value: u64,
     /// Whether it is a label, and no constant, which can be defined again.
     is_label: bool,
     /// The latest reading in which its definition was met.
@@ -144,9 +145,14 @@ impl Scope<'_, '_> {
         self.entries.get(self.find(key)?).copied()
     }
 
-    /// How far the `%pcrel_hi` of the statement at an address reaches.
+    /// How far the `%pcrel_hi` of the statement at an address reaches, once all symbols have their
+    /// addresses.
     pub fn distance_at(&self, address: u32) -> Option<u32> {
-        Some(self.entry(Key::Number(DISTANCE, address))?.value)
+        let entry = self.entry(Key::Number(DISTANCE, address))?;
+        match entry.met {
+            Pass::Third | Pass::Last => u32::try_from(entry.value).ok(),
+            Pass::First | Pass::Second => None,
+        }
     }
 
     /// What is known of a symbol.
@@ -220,7 +226,7 @@ impl<'a, A: Allocator> Symbols<'a, A> {
         ensures { self.new.pass ≡ self.old.pass }
     {
         self.distances = self.distances.saturating_add(1);
-        self.put(Key::Number(DISTANCE, address), distance, false)
+        self.put(Key::Number(DISTANCE, address), u64::from(distance), false)
     }
 
     /// Defines a local label of a digit.
@@ -232,14 +238,14 @@ impl<'a, A: Allocator> Symbols<'a, A> {
         };
         let key = Key::Number(digit, *count);
         *count = count.saturating_add(1);
-        self.put(key, address, true)
+        self.put(key, u64::from(address), true)
     }
 
     /// Defines a label, or a constant. Tells what is wrong with it.
     pub fn define(
         &mut self,
         name: &'a [u8],
-        value: u32,
+        value: u64,
         is_label: bool,
     ) -> Result<Option<SourceErrorKind>, AllocError>
         ensures { self.new.pass ≡ self.old.pass }
@@ -254,7 +260,7 @@ impl<'a, A: Allocator> Symbols<'a, A> {
     }
 
     /// Puts a value in the place of the one with this key, or behind all.
-    fn put(&mut self, key: Key<'a>, value: u32, is_label: bool) -> Result<(), AllocError>
+    fn put(&mut self, key: Key<'a>, value: u64, is_label: bool) -> Result<(), AllocError>
         ensures { self.new.pass ≡ self.old.pass }
     {
         let met = self.pass;
