@@ -14,6 +14,7 @@ use Rattle.rrs_asm.specs.Source.{items_of}
 use Rattle.rrs_asm.specs.Sections.{flat, AreSectionsOf, IsImage}
 use Rattle.rrs_assembly.specs.Executables.{IsExecutableOf}
 use Rattle.rrs_cli.specs.declared.command.Failure.TheVariants.{Usage}
+use Rattle.rrs_macros.specs.Comments.{without_comments}
 use Rattle.rrs_macros.specs.Expansion.{Becomes}
 use Rattle.rrs_requests.specs.Words.{RefusesNoWord, Asks}
 use Rattle.rrs_requests.specs.declared.refusal.Refusal.{Refusal}
@@ -158,18 +159,18 @@ layout_of wanted = record {
   page = (usual_layout wanted.output).page;
 }
 
--- The file is an executable of the source: its segments are the sections of what it becomes, each
--- where the layout says.
+-- The file is an executable of the source: its segments are the sections of what it becomes, with
+-- blanks for its block comments, each where the layout says.
 abbrev pub IsExecutableFrom : Layout → List ℕ → List ℕ → Type 0
 IsExecutableFrom layout source file =
-    (text : List ℕ) × Becomes source text
+    (text : List ℕ) × Becomes (without_comments source) text
     × (sections : List (Section Global)) × AreSectionsOf layout (items_of text) sections
     × IsExecutableOf sections file
 
--- The bytes are those of the sections of what the source becomes, each where the layout says, from
--- the address of the first on, with zeros between them.
+-- The bytes are those of the sections of what the source becomes, with blanks for its block
+-- comments, each where the layout says, from the address of the first on, with zeros between them.
 abbrev pub IsImageFrom : Layout → List ℕ → List ℕ → Type 0
 IsImageFrom layout source bytes =
-    (text : List ℕ) × Becomes source text
+    (text : List ℕ) × Becomes (without_comments source) text
     × (sections : List (Section Global)) × AreSectionsOf layout (items_of text) sections
     × IsImage layout.text_start sections bytes

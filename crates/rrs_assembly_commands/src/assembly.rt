@@ -5,6 +5,7 @@ ghost use Rattle.rrs_asm.specs.declared.sections.Layout.{Layout};
 ghost use Rattle.rrs_asm.specs.Source.{items_of};
 ghost use Rattle.rrs_asm.specs.Sections.{AreSectionsOf, ArePlaced, IsImage};
 ghost use Rattle.rrs_assembly.specs.Executables.{IsExecutableOf};
+ghost use Rattle.rrs_macros.specs.Comments.{without_comments};
 ghost use Rattle.rrs_macros.specs.Expansion.{Becomes};
 ghost use Rattle.rrs_assembly_commands.specs.Assembly.{IsExecutableFrom, IsImageFrom, layout_of, wanted_of};
 
@@ -13,7 +14,7 @@ use rrs_asm::{Layout, MOST_BYTES, Program, SourceError, SourceFault, assemble_so
 use rrs_assembly::{ExecutableError, executable_of, gnu_text, listing_of, mistakes_of, number_of};
 use rrs_cli::command::Failure;
 use rrs_cli::report::{flush, write_text};
-use rrs_macros::{Expanded, MacroFault, expand};
+use rrs_macros::{Expanded, MacroFault, expand, without_block_comments};
 use rrs_requests::files::created;
 use rrs_requests::refusal::{Refusal, failed, out_of_memory};
 use std::alloc::Global;
@@ -69,8 +70,8 @@ pub fn products_of<H: Eprint + AllocGlobal>(
     Ok(Products { text, executable })
 }
 
-/// The text that a source becomes without its macros, conditions and repetitions. Mistakes in these
-/// are printed.
+/// The text that a source becomes without its block comments, macros, conditions and repetitions.
+/// Mistakes in these are printed.
 ///
 /// # Errors
 ///
@@ -80,9 +81,13 @@ fn expanded_of<H: Eprint + AllocGlobal>(
     path: &str,
     source: &[u8],
 ) -> Result<Expanded, Refusal>
-    ensures { IfOk result (λ expanded. Becomes source.now expanded.text.items) }
+    ensures { IfOk result (λ expanded.
+        Becomes (without_comments source.now) expanded.text.items) }
 {
-    match expand(rt.alloc(), source) {
+    let Ok(plain) = without_block_comments(rt.alloc(), source) else {
+        return Err(out_of_memory());
+    };
+    match expand(rt.alloc(), &plain) {
         Ok(expanded) => Ok(expanded),
         Err(MacroFault::OutOfMemory) => Err(out_of_memory()),
         Err(MacroFault::Mistakes(mistakes)) => {

@@ -11,6 +11,7 @@ use Rattle.rrs_asm.specs.Statements.{AreBytes}
 use Rattle.rrs_asm.specs.Sections.{flat, AreSectionsOf, IsImage}
 use Rattle.rrs_assembly.specs.Executables.{entry_of}
 use Rattle.rrs_macros.specs.declared.output.Expanded.{Expanded}
+use Rattle.rrs_macros.specs.Comments.{without_comments}
 use Rattle.rrs_macros.specs.Directives.{has_directives}
 use Rattle.rrs_macros.specs.Expansion.{Becomes}
 use Rattle.rrs_macros.specs.Lines.{IsMapped, IsSame}
@@ -88,13 +89,14 @@ all_symbols_from numbers at (s ∷ others) =
 
 -- ---- a program
 
--- The sections are those of the text that the source becomes, the first at an address. What is told
+-- The sections are those of the text that the source becomes, which has blanks for its block
+-- comments, the first at an address. What is told
 -- are their bytes from this address on, their statements, their labels with their names, and where
 -- the program begins: without any byte at this address.
 pub record TellsProgram {A : Type 0} (source : List ℕ) (start entry : ℕ) (bytes : List ℕ)
     (statements : List RrsStatement) (symbols : List RrsSymbol) (texts : List ℕ)
     (expanded : Expanded A) (sections : List (Section A)) : Type 0 where
-  pub text_of : IsTextOf source expanded
+  pub text_of : IsTextOf (without_comments source) expanded
   pub sections_of : AreSectionsOf (flat start) (items_of expanded.text.items) sections
   pub image : IsImage start sections bytes
   pub statements_of : TellAll expanded.lines.items sections statements

@@ -3,6 +3,7 @@
 ghost use Rattle.std.specs.Prelude.{◌≡◌, ◌≤◌, All, IfOk, length};
 ghost use Rattle.rrs_asm.specs.Source.{items_of};
 ghost use Rattle.rrs_asm.specs.Sections.{flat, AreSectionsOf, AreLaidOut};
+ghost use Rattle.rrs_macros.specs.Comments.{without_comments};
 ghost use Rattle.rrs_lent.specs.Telling.{IsTextOf};
 ghost use Rattle.rrs_lent.specs.Steps.{IsShort, IsTold};
 
@@ -14,7 +15,7 @@ use rrs_asm::{
     Layout, Program, SourceError, SourceErrorKind, SourceFault, assemble_source_in, image,
 };
 use rrs_assembly::{Mistake, entry_of, mistakes_of};
-use rrs_macros::{Expanded, MacroFault, expand_in};
+use rrs_macros::{Expanded, MacroFault, expand_in, without_block_comments};
 use std::alloc::{AllocError, Allocator};
 
 /// What is told of a source.
@@ -51,20 +52,23 @@ pub(crate) fn told_of<A: Allocator + Copy>(
 ) -> Result<Told<A>, AllocError>
     ensures { IfOk result (IsTold source.now start) }
 {
-    match expand_in(alloc, source) {
+    let plain = without_block_comments(alloc, source)?;
+    match expand_in(alloc, &plain) {
         Ok(expanded) => told_of_text(alloc, &expanded, start),
         Err(MacroFault::OutOfMemory) => Err(AllocError),
         Err(MacroFault::Mistakes(errors)) => told_refused(alloc, &of_macros(alloc, &errors)?),
     }
 }
 
-/// What is told of a source that became a text without macros, conditions and repetitions.
+/// What is told of a source that became a text without block comments, macros, conditions and
+/// repetitions.
 fn told_of_text<A: Allocator + Copy>(
     alloc: A,
     expanded: &Expanded<A>,
     start: u32,
 ) -> Result<Told<A>, AllocError>
-    ensures { (source : _) → IsTextOf source expanded.now → IfOk result (IsTold source start) }
+    ensures { (source : _) → IsTextOf (without_comments source) expanded.now
+        → IfOk result (IsTold source start) }
 {
     match assemble_source_in(alloc, &expanded.text, Layout::flat(start)) {
         Ok(program) if has_long(&program.sections) => refused(alloc, expanded, &[TOO_LONG]),
@@ -86,7 +90,7 @@ fn made<A: Allocator + Copy>(
 ) -> Result<Told<A>, AllocError>
     requires short { All IsShort program.now.sections.items }
     requires laid_out { AreLaidOut program.now.sections.items }
-    ensures { (source : _) → IsTextOf source expanded.now
+    ensures { (source : _) → IsTextOf (without_comments source) expanded.now
         → AreSectionsOf (flat start) (items_of expanded.now.text.items) program.now.sections.items
         → IfOk result (IsTold source start) }
 {

@@ -8,6 +8,7 @@
 
 mod arguments;
 mod blocks;
+mod comments;
 mod conditions;
 mod cursor;
 mod directives;
@@ -28,6 +29,7 @@ mod tables;
 mod values;
 mod words;
 
+pub use comments::without_block_comments;
 pub use errors::{MacroError, MacroErrorKind, MacroFault};
 pub use expanding::{MOST_MADE, expand, expand_in};
 pub use output::Expanded;

@@ -24,14 +24,14 @@ room: .space size
 end: ret
 ";
 
-/// A statement that is made twice, and one that is made of an argument.
-const MACROS: &str = ".macro one byte
+/// A statement that is made twice, and one that is made of an argument, with block comments.
+const MACROS: &str = ".macro one byte /* a byte */
     .byte \\byte
 .endm
-.rept 2
-    nop
+.rept /*/ twice \" **/ 2
+    nop /* \" ' # */
 .endr
-x:  one 3
+x:  one 3 # /*
 ";
 
 /// Buffers with room for what these sources are.
@@ -239,13 +239,15 @@ fn mistakes_are_told_in_texts(rt: HostRuntime) -> Result<(), Fail> {
     assert_eq!(rt;
         (
             mistakes_in(alloc, "addi a0, a1, a2\nj there\nsub a0, a0, 1")?.as_str(),
-            mistakes_in(alloc, "nop\n.endr")?.as_str()
+            mistakes_in(alloc, "nop\n.endr")?.as_str(),
+            mistakes_in(alloc, "li a0, '/' /* \n nop")?.as_str()
         ),
         (
             "1:14: a number is wanted here: add takes three registers;\
              2:3: symbol is not defined: there;\
              3:13: a register is wanted here: addi takes a number, here the negative one;",
-            "2:1: this ends no macro and no repetition;"
+            "2:1: this ends no macro and no repetition;",
+            "2:5: unexpected character;"
         )
     );
     Ok(())
