@@ -3,6 +3,15 @@
 // A source of assembly, which the kit assembles (docs/ASSEMBLY.md), and what of its text stands
 // where. Nothing here knows the page.
 
+/* ---- block comments */
+
+/* What hides `/*`, and what begins with it. */
+const HIDDEN = /"(?:[^"\\\n]|\\.)*"?|'(?:[^'\\\n]|\\.)'?|(?:#|\/\/)[^\n]*|\/\*[^]*?(?:\*\/|$)/g;
+
+/* A source with blanks in the place of its block comments, as the kit reads it. */
+const withoutBlocks = (text) => text.replace(HIDDEN, (part) =>
+  (part.startsWith("/*") ? part.replace(/[^\n]/g, " ") : part));
+
 /* ---- lines and their parts */
 
 /* A line down to its labels and statements: `{ isLabel, start, end, until }`, where the text of one
@@ -86,7 +95,8 @@ function assemble(text, base, kit, mostRoom) {
   const lines = text.split("\n");
   return {
     ...made,
-    statements: withTexts(made.statements, lines).filter(({ size }) => size > 0),
+    statements: withTexts(made.statements, withoutBlocks(text).split("\n"))
+      .filter(({ size }) => size > 0),
     labels: made.labels.filter(({ name }) => !/^[0-9]/.test(name)),
     mistakes: made.mistakes.map(({ line, column, text: what }) =>
       ({ line, column: columnOf(lines[line - 1], column), text: what })),

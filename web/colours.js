@@ -31,7 +31,8 @@ function isAssembly(text, kit) {
 
 /* What is coloured in a source: comments, strings, labels, directives, and numbers. */
 const COLOURED = new RegExp([
-  /(?<comment>(?:#|\/\/)[^\n]*)/, /(?<string>"(?:[^"\\\n]|\\.)*"?|'(?:[^'\\\n]|\\.)'?)/,
+  /(?<comment>\/\*[^]*?(?:\*\/|$)|(?:#|\/\/)[^\n]*)/,
+  /(?<string>"(?:[^"\\\n]|\\.)*"?|'(?:[^'\\\n]|\\.)'?)/,
   /(?<label>[\w.$]+:)/, /(?<directive>\.[A-Za-z][\w.]*)/, /(?<word>[A-Za-z_$][\w.$]*)/,
   /(?<number>\d\w*)/,
 ].map(({ source }) => source).join("|"), "g");
