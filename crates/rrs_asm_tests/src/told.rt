@@ -6,7 +6,7 @@ use std::alloc::{AllocError, Global};
 use std::test::Fail;
 
 /// Sources, each with what is told of it.
-static TOLD: [(&str, &str); 21] = [
+static TOLD: [(&str, &str); 22] = [
     (
         "addi a0, a1, a2",
         "1:14: a number is wanted here: add takes three registers\n",
@@ -74,6 +74,7 @@ static TOLD: [(&str, &str); 21] = [
         "mv a0, a1, a2",
         "1:10: more than the statement takes: it is written mv rd, rs\n",
     ),
+    (".uleb128 3", "1:1: not implemented: .uleb128\n"),
     ("size = 1 +\nli a0, size", "1:11: a value is wanted here\n"),
     (
         "nop\nli a0,",

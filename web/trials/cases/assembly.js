@@ -86,7 +86,7 @@ const MISTAKES = [
   ["¦sp: nop", "the name of a register can't be a symbol"],
   ["¦.section foo", "a section needs a name, and flags where its name says nothing"],
   [".bss\n¦.word 1", "this section holds zeros only"],
-  [".option ¦rvc", "not implemented"],
+  [".option ¦rvc", "not implemented: rvc"],
   ["addi a0, a0, %¦hi(4)", "12 bits are wanted here, as %lo"],
   ["lui a0, %¦lo(4)", "the upper 20 bits are wanted here, as %hi"],
   ["addi a0, a0, %¦pcrel_lo(x)\nx: nop", "no statement with %pcrel_hi is at this label"],
