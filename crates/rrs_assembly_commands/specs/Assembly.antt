@@ -19,6 +19,7 @@ use Rattle.rrs_macros.specs.Expansion.{Becomes}
 use Rattle.rrs_requests.specs.Words.{RefusesNoWord, Asks}
 use Rattle.rrs_requests.specs.declared.refusal.Refusal.{Refusal}
 use Rattle.rrs_requests.specs.declared.refusal.Refusal.TheVariants.{WrongAddress, Failed}
+use Rattle.rrs_assembly_commands.specs.Files.{Includes}
 use Rattle.rrs_assembly_commands.specs.declared.assembly_requests.Form.{Form}
 use Rattle.rrs_assembly_commands.specs.declared.assembly_requests.AssemblyOption.{AssemblyOption}
 use Rattle.rrs_assembly_commands.specs.declared.assembly_requests.AssemblyOption.TheVariants.{Gnu, Listed, Rars, Text, Data, Output}
@@ -160,17 +161,20 @@ layout_of wanted = record {
 }
 
 -- The file is an executable of the source: its segments are the sections of what it becomes, with
--- blanks for its block comments, each where the layout says.
+-- blanks for its block comments and with its files, each where the layout says.
 abbrev pub IsExecutableFrom : Layout → List ℕ → List ℕ → Type 0
 IsExecutableFrom layout source file =
     (text : List ℕ) × Becomes (without_comments source) text
-    × (sections : List (Section Global)) × AreSectionsOf layout (items_of text) sections
+    × (whole : List ℕ) × Includes text whole
+    × (sections : List (Section Global)) × AreSectionsOf layout (items_of whole) sections
     × IsExecutableOf sections file
 
--- The bytes are those of the sections of what the source becomes, with blanks for its block
--- comments, each where the layout says, from the address of the first on, with zeros between them.
+-- The bytes are those of the sections of what the source becomes, with blanks for its block comments
+-- and with its files, each where the layout says, from the address of the first on, with zeros
+-- between them.
 abbrev pub IsImageFrom : Layout → List ℕ → List ℕ → Type 0
 IsImageFrom layout source bytes =
     (text : List ℕ) × Becomes (without_comments source) text
-    × (sections : List (Section Global)) × AreSectionsOf layout (items_of text) sections
+    × (whole : List ℕ) × Includes text whole
+    × (sections : List (Section Global)) × AreSectionsOf layout (items_of whole) sections
     × IsImage layout.text_start sections bytes

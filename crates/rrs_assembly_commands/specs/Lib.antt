@@ -1,2 +1,3 @@
 -- What rrs as is asked, and what it makes of a source.
 pub mod Assembly
+pub mod Files

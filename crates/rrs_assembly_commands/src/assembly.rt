@@ -10,6 +10,7 @@ ghost use Rattle.rrs_macros.specs.Expansion.{Becomes};
 ghost use Rattle.rrs_assembly_commands.specs.Assembly.{IsExecutableFrom, IsImageFrom, layout_of, wanted_of};
 
 use crate::assembly_requests::{AssemblyRequest, Form};
+use crate::files::with_files;
 use rrs_asm::{Layout, MOST_BYTES, Program, SourceError, SourceFault, assemble_source, image};
 use rrs_assembly::{ExecutableError, executable_of, gnu_text, listing_of, mistakes_of, number_of};
 use rrs_cli::command::Failure;
@@ -35,8 +36,8 @@ pub struct Products {
 }
 
 /// What is asked for of a source, all of it made of the same sections: those of the text that the
-/// source becomes without its macros, conditions and repetitions, each where the request's layout
-/// says. An executable has these sections as its segments. Where none is asked for, and neither a
+/// source becomes without its macros, conditions and repetitions and with its files, each where the
+/// request's layout says. An executable has these sections as its segments. Where none is asked for, and neither a
 /// listing nor a source for GNU `as`, the text is the bytes of all sections, from the address of the
 /// first on. Mistakes are printed on standard error, behind the path.
 ///
@@ -46,7 +47,7 @@ pub struct Products {
 /// `Refusal::EmptyProgram`, `Refusal::WrongEntry` or `Refusal::NoExecutable` where an executable is
 /// asked for and the program has none; `Refusal::LargeImage` where its bytes are more than 64 MiB;
 /// out of memory as a failure.
-pub fn products_of<H: Eprint + AllocGlobal>(
+pub fn products_of<H: Files + Eprint + AllocGlobal>(
     rt: &H,
     path: &str,
     source: &[u8],
@@ -64,9 +65,10 @@ pub fn products_of<H: Eprint + AllocGlobal>(
 {
     let layout = request.layout();
     let expanded = expanded_of(rt, path, source)?;
-    let program = program_of(rt, path, request, &expanded, layout)?;
+    let whole = with_files(rt, path, expanded)?;
+    let program = program_of(rt, path, request, &whole, layout)?;
     let executable = executable_for(rt.alloc(), request, &program)?;
-    let text = text_of(rt.alloc(), request, &expanded, &program, layout.text_start)?;
+    let text = text_of(rt.alloc(), request, &whole, &program, layout.text_start)?;
     Ok(Products { text, executable })
 }
 
@@ -295,7 +297,7 @@ pub fn assemble_file<H: Files + Print + Eprint + AllocGlobal>(
 /// # Errors
 ///
 /// `Failure::CannotOpen` where the file can't be opened, and what `read_source` refuses.
-fn read_file<H: Files + AllocGlobal>(rt: &H, path: &str) -> Result<Vec<u8>, Refusal> {
+pub(crate) fn read_file<H: Files + AllocGlobal>(rt: &H, path: &str) -> Result<Vec<u8>, Refusal> {
     match fs::open(rt, path) {
         Ok(file) => read_source(rt.alloc(), file),
         Err(_) => Err(Refusal::Failed(Failure::CannotOpen)),

@@ -4,3 +4,4 @@
 
 pub mod assembly;
 pub mod assembly_requests;
+mod files;

@@ -1,0 +1,270 @@
+//! The files that a source names by `.incbin`.
+//!
+//! A statement `.incbin "NAME", SKIP, COUNT` becomes a `.byte` with the bytes of the file, in the same
+//! line. The file is looked for beside the source.
+
+ghost use Rattle.std.specs.Prelude.{◌≡◌, true, IfOk};
+ghost use Rattle.rrs_assembly_commands.specs.Files.{Includes, NamesFile};
+
+use crate::assembly::read_file;
+use rrs_assembly::number_of;
+use rrs_lines::{Part, begins_with, behind_blanks, first_line, first_part, split_word};
+use rrs_macros::Expanded;
+use rrs_requests::refusal::{Refusal, out_of_memory};
+use std::alloc::{AllocError, Global};
+use std::rt::Files;
+
+/// The name of the directive.
+const NAME: &[u8] = b".incbin";
+
+/// What a statement asks for.
+#[derive(Clone, Copy)]
+struct Request<'a> {
+    /// The name of the file.
+    name: &'a [u8],
+    /// How many of its bytes are left out.
+    skip: usize,
+    /// How many of the others are taken, if not all.
+    count: Option<usize>,
+}
+
+/// Where a line of a source is told.
+#[derive(Clone, Copy)]
+struct Place<'a> {
+    /// The path of the source.
+    path: &'a str,
+    /// The number of the line.
+    line: usize,
+    /// The column of the statement.
+    column: usize,
+}
+
+/// A text with the bytes of the files that it names. One that names none is as it was. Mistakes are
+/// printed.
+///
+/// # Errors
+///
+/// `Refusal::SourceErrors` where a file can't be read, or is not named as it has to be, and out of
+/// memory as a failure.
+pub fn with_files<H: Files + Eprint + AllocGlobal>(
+    rt: &H,
+    path: &str,
+    expanded: Expanded,
+) -> Result<Expanded, Refusal>
+    ensures { IfOk result (λ made. Includes expanded.text.items made.text.items) }
+{
+    if !names_file(&expanded.text) {
+        return Ok(expanded);
+    }
+    let text = text_with_files(rt, path, &expanded)?;
+    let lines = expanded.lines;
+    Ok(Expanded { text, lines })
+}
+
+/// The text with the bytes of its files.
+fn text_with_files<H: Files + Eprint + AllocGlobal>(
+    rt: &H,
+    path: &str,
+    expanded: &Expanded,
+) -> Result<Vec<u8>, Refusal> {
+    let mut text = Vec::new(rt.alloc());
+    let mut rest = Some(expanded.text.as_slice());
+    for number in 1..=expanded.lines.len() {
+        let Some(left) = rest else {
+            break;
+        };
+        let (line, others) = first_line(left);
+        put_line(
+            rt,
+            path,
+            number_of(&expanded.lines, number),
+            line,
+            &mut text,
+        )?;
+        if others.is_some() {
+            push(&mut text, b"\n")?;
+        }
+        rest = others;
+    }
+    Ok(text)
+}
+
+/// Whether a text has the name of the directive somewhere.
+fn names_file(text: &[u8]) -> bool
+    ensures { result ≡ true → NamesFile text.now }
+{
+    for index in 0..text.len() {
+        if text[index..].starts_with(NAME) {
+            return true;
+        }
+    }
+    false
+}
+
+/// Appends bytes.
+fn push(text: &mut Vec<u8>, bytes: &[u8]) -> Result<(), Refusal> {
+    match text.extend_from_slice(bytes) {
+        Ok(()) => Ok(()),
+        Err(_) => Err(out_of_memory()),
+    }
+}
+
+/// Appends a line, with the bytes of the files that its statements name.
+fn put_line<H: Files + Eprint + AllocGlobal>(
+    rt: &H,
+    path: &str,
+    number: usize,
+    line: &[u8],
+    text: &mut Vec<u8>,
+) -> Result<(), Refusal> {
+    let mut rest = Some(line);
+    for _ in 0..=line.len() {
+        let Some(left) = rest else {
+            break;
+        };
+        let (part, others) = first_part(left);
+        let own = part.text().len();
+        let taken = left
+            .len()
+            .saturating_sub(others.map_or(0, |others| others.len()));
+        let place = Place {
+            path,
+            line: number,
+            column: column_of(line, left),
+        };
+        put_part(rt, place, part, text)?;
+        push(text, left.get(own..taken).unwrap_or(&[]))?;
+        rest = others;
+    }
+    Ok(())
+}
+
+/// The column of what stands behind the blanks of the rest of a line.
+fn column_of(line: &[u8], left: &[u8]) -> usize {
+    line.len()
+        .saturating_sub(behind_blanks(left).len())
+        .saturating_add(1)
+}
+
+/// Appends a label or a statement, or the bytes of the file that it names.
+fn put_part<H: Files + Eprint + AllocGlobal>(
+    rt: &H,
+    place: Place<'_>,
+    part: Part<'_>,
+    text: &mut Vec<u8>,
+) -> Result<(), Refusal> {
+    let Part::Statement(own) = part else {
+        return push(text, part.text());
+    };
+    let (name, operands) = split_word(own);
+    if name != NAME {
+        return push(text, own);
+    }
+    let Some(request) = request_of(operands) else {
+        return refuse(
+            rt,
+            place,
+            "a file is named here, as .incbin \"NAME\", SKIP, COUNT",
+        );
+    };
+    put_file(rt, place, request, text)
+}
+
+/// Prints what is wrong at a place.
+fn refuse<H: Eprint>(rt: &H, place: Place<'_>, what: &str) -> Result<(), Refusal> {
+    let Place { path, line, column } = place;
+    let _ = eprintln!(rt; "{path}:{line}:{column}: {what}");
+    Err(Refusal::SourceErrors)
+}
+
+/// Appends the bytes of a file as the operands of `.byte`.
+fn put_file<H: Files + Eprint + AllocGlobal>(
+    rt: &H,
+    place: Place<'_>,
+    request: Request<'_>,
+    text: &mut Vec<u8>,
+) -> Result<(), Refusal> {
+    let Ok(path) = beside(rt.alloc(), place.path, request.name) else {
+        return Err(out_of_memory());
+    };
+    let bytes = match read_file(rt, &path) {
+        Ok(bytes) => bytes,
+        Err(Refusal::LargeSource) => return refuse(rt, place, "the file is too large"),
+        Err(_) => return refuse(rt, place, "the file can't be read"),
+    };
+    let end = match request.count {
+        Some(count) => request.skip.saturating_add(count),
+        None => bytes.len(),
+    };
+    let Some(bytes) = bytes.get(request.skip..end) else {
+        return refuse(rt, place, "the file has fewer bytes");
+    };
+    match push_numbers(text, bytes) {
+        Ok(()) => Ok(()),
+        Err(_) => Err(out_of_memory()),
+    }
+}
+
+/// The path of a file beside another.
+fn beside(alloc: Global, path: &str, name: &[u8]) -> Result<String, AllocError> {
+    let mut beside = String::new(alloc);
+    if !name.starts_with(b"/") {
+        if let Some(at) = path.rfind('/') {
+            beside.push_str(&path[..=at])?;
+        }
+    }
+    beside.push_str(std::str::from_utf8(name).unwrap_or(""))?;
+    Ok(beside)
+}
+
+/// Appends bytes as the operands of `.byte`, or no byte.
+fn push_numbers(text: &mut Vec<u8>, bytes: &[u8]) -> Result<(), AllocError> {
+    let mut before = b".byte 0x".as_slice();
+    for byte in bytes {
+        text.extend_from_slice(before)?;
+        text.extend_from_slice(&[digit(byte / 16), digit(byte % 16)])?;
+        before = b",0x";
+    }
+    Ok(())
+}
+
+/// A hexadecimal digit.
+fn digit(value: u8) -> u8 {
+    b"0123456789abcdef"
+        .get(usize::from(value))
+        .copied()
+        .unwrap_or(b'0')
+}
+
+/// What the operands of a statement ask for.
+fn request_of(operands: &[u8]) -> Option<Request<'_>> {
+    let text = behind_blanks(operands).strip_prefix(b"\"")?;
+    let end = text.iter().position(|byte| *byte == b'"')?;
+    let (name, rest) = (&text[..end], &text[end + 1..]);
+    let (skip, rest) = number_behind(rest)?;
+    let (count, rest) = number_behind(rest)?;
+    behind_blanks(rest).is_empty().then_some(Request {
+        name,
+        skip: skip.unwrap_or(0),
+        count,
+    })
+}
+
+/// The number behind a comma, if there is a comma, and what is behind it.
+fn number_behind(text: &[u8]) -> Option<(Option<usize>, &[u8])> {
+    let text = behind_blanks(text);
+    if !begins_with(text, b',') {
+        return Some((None, text));
+    }
+    let (word, rest) = split_word(&text[1..]);
+    Some((Some(number(word)?), rest))
+}
+
+/// A number in decimal digits, or in hexadecimal ones behind `0x`.
+fn number(word: &[u8]) -> Option<usize> {
+    let (digits, base) = match word {
+        [b'0', b'x' | b'X', digits @ ..] => (digits, 16),
+        _ => (word, 10),
+    };
+    usize::from_str_radix(std::str::from_utf8(digits).ok()?, base).ok()
+}
