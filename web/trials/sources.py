@@ -58,10 +58,15 @@ def as_proved(path, text):
     return {"bytes": made.stdout.hex(), "rows": sorted(rows), "mistakes": mistakes}
 
 
+def of_folders():
+    """The examples in folders, but for those that name files, which the page has not."""
+    return [path for path in sorted(ASSEMBLY.glob("*/*.s")) if path.parent.name != "files"]
+
+
 def texts():
     """Sources by their names: those of the examples, in both forms of ends of lines, statements of
     every kind, and lines that are changed."""
-    for path in [*sorted(ASSEMBLY.glob("*.s")), *sorted(ASSEMBLY.glob("*/*.s"))]:
+    for path in [*sorted(ASSEMBLY.glob("*.s")), *of_folders()]:
         text = path.read_text(encoding="utf-8")
         name = f"{path.parent.name}-{path.name}"
         yield name, text
@@ -94,8 +99,7 @@ def sources():
 
 def classroom():
     """programs as classes have them print and end in the page as they do under rrs exec"""
-    paths = [path for path in sorted(ASSEMBLY.glob("*/*.s"))
-             if not path.with_suffix(".in").exists()]
+    paths = [path for path in of_folders() if not path.with_suffix(".in").exists()]
     status, said = node("classroom.js", *paths)
     if status:
         raise Differs(said)
