@@ -169,9 +169,9 @@ IsExecutableFrom layout source file =
     × (sections : List (Section Global)) × AreSectionsOf layout (items_of whole) sections
     × IsExecutableOf sections file
 
--- The bytes are those of the sections of what the source becomes, with blanks for its block comments
--- and with its files, each where the layout says, from the address of the first on, with zeros
--- between them.
+-- The bytes are those of the sections of what the source becomes, with blanks for its block
+-- comments and with its files, each where the layout says, from the address of the first on, with
+-- zeros between them.
 abbrev pub IsImageFrom : Layout → List ℕ → List ℕ → Type 0
 IsImageFrom layout source bytes =
     (text : List ℕ) × Becomes (without_comments source) text

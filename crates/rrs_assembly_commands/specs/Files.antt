@@ -1,5 +1,5 @@
--- Files that a source names by `.incbin` (GNU assembler manual, ".incbin"): "The `.incbin` directive
--- includes `file` verbatim at the current location."
+-- Files that a source names by `.incbin` (GNU assembler manual, ".incbin"): "The `.incbin`
+-- directive includes `file` verbatim at the current location."
 use Rattle.std.specs.Prelude.{ℕ, ◌≡◌, ◌⊎◌, true, ◌==◌, List, drop, codes}
 use Rattle.std.specs.List.{starts_with}
 

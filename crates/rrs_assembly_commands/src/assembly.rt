@@ -36,10 +36,11 @@ pub struct Products {
 }
 
 /// What is asked for of a source, all of it made of the same sections: those of the text that the
-/// source becomes without its macros, conditions and repetitions and with its files, each where the
-/// request's layout says. An executable has these sections as its segments. Where none is asked for, and neither a
-/// listing nor a source for GNU `as`, the text is the bytes of all sections, from the address of the
-/// first on. Mistakes are printed on standard error, behind the path.
+/// source becomes without its block comments, macros, conditions and repetitions and with its files,
+/// each where the request's layout says. An executable has these sections as its segments. Where
+/// none is asked for, and neither a listing nor a source for GNU `as`, the text is the bytes of all
+/// sections, from the address of the first on. Mistakes are printed on standard error, behind the
+/// path.
 ///
 /// # Errors
 ///

@@ -1,7 +1,7 @@
 //! The files that a source names by `.incbin`.
 //!
-//! A statement `.incbin "NAME", SKIP, COUNT` becomes a `.byte` with the bytes of the file, in the same
-//! line. The file is looked for beside the source.
+//! A statement `.incbin "NAME", SKIP, COUNT` becomes a `.byte` with the bytes of the file, in the
+//! same line. The file is looked for beside the source.
 
 ghost use Rattle.std.specs.Prelude.{◌≡◌, true, IfOk};
 ghost use Rattle.rrs_assembly_commands.specs.Files.{Includes, NamesFile};

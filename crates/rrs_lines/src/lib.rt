@@ -2,8 +2,8 @@
 //!
 //! [first_line] and [first_part] cut a source into lines, and a line into labels and statements.
 //! [Line] reads the operands of a statement: registers, numbers, symbols and values with operators.
-//! [Symbols] has what the symbols of a source stand for, and [Scope] is how a line sees them. What is made of all this is the work of
-//! the crate `rrs_asm`.
+//! [Symbols] has what the symbols of a source stand for, and [Scope] is how a line sees them. What
+//! is made of all this is the work of the crate `rrs_asm`.
 //!
 //! Which lines a source has, which parts a line has, and which word a part begins with is written
 //! in `specs/Lines.antt`. What the operands are is not proved.

@@ -207,7 +207,8 @@ impl<'a, 's> Line<'a, 's> {
         (self.constant() % 0x1_0000_0000) as u32
     }
 
-    /// Takes the value of a constant, which is known here. It has 64 bits, since it may be negative.
+    /// Takes the value of a constant, which is known here. It has 64 bits, since it may be
+    /// negative.
     pub fn constant(&mut self) -> u64 {
         self.expression(KNOWN)
     }
@@ -389,7 +390,8 @@ impl<'a, 's> Line<'a, 's> {
         }
     }
 
-    /// Takes a value in parentheses: the part of it that a modifier, which stands at `error`, names.
+    /// Takes a value in parentheses: the part of it that a modifier names, which stands at
+    /// `error`.
     fn part_meant(&mut self, modifier: Modifier, error: LineError) -> u32 {
         let is_plain = self.is_word_enclosed();
         let value = self.enclosed();

@@ -48,8 +48,8 @@ pub enum Known {
 enum Key<'a> {
     /// A label or a constant: its name.
     Name(&'a [u8]),
-    /// A local label: its digit, and how many of it stand before. Or, behind `DISTANCE`, the address
-    /// of a statement with `%pcrel_hi`.
+    /// A local label: its digit, and how many of it stand before. Or, behind `DISTANCE`, the
+    /// address of a statement with `%pcrel_hi`.
     Number(u8, u32),
 }
 
