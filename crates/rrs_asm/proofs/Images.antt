@@ -1,10 +1,10 @@
 -- Sections that lie as a layout says, and their bytes one behind the other.
-use Rattle.std.proofs.Common.{◌≡◌, ℕ, Bool, true, false, ◌+◌, ◌-◌, ◌++◌, List, [], ◌∷◌, length, replicate, ◌≤◌, refl, sym, subst, ap, ◌∙◌, arith}
+use Rattle.std.proofs.Common.{◌≡◌, ◌<◌, ℕ, zero, suc, get_or, drop, Bool, true, false, ◌+◌, ◌-◌, ◌++◌, List, [], ◌∷◌, length, replicate, ◌≤◌, refl, sym, subst, ap, ◌∙◌, arith}
 use Rattle.std.proofs.lemmas.List.{append_assoc, append-nil, length-append, length-replicate}
 use Rattle.rrs_asm.specs.declared.sections.Section.{Section}
 use Rattle.rrs_asm.specs.declared.sections.Layout.{Layout}
 use Rattle.rrs_asm.specs.Source.{is_empty}
-use Rattle.rrs_asm.specs.Sections.{end_of, AreBehind, ArePlaced, flat_behind, laid_flat, with_bytes, AreBytesFrom, IsImage}
+use Rattle.rrs_asm.specs.Sections.{end_of, AreBehind, ArePlaced, with_section, flat_behind, laid_flat, with_bytes, AreBytesFrom, IsImage}
 
 -- what sections add behind bytes, and where
 abbrev Rest : {A : Type 0} → ℕ → List ℕ → List (Section A) → Type 0
@@ -62,3 +62,22 @@ is-image layout base [] text placed = refl
 is-image layout base (s ∷ others) text (first, more) =
     image-of-rest base (s ∷ others)
     (choose base [] s others (is_empty s.made.bytes.items) refl (omega (arith, text, first)) (λ bytes ends. rest-of base layout s bytes others ends more))
+
+-- one section more is laid behind what was
+pub laid-next : {A : Type 0} (base : ℕ) (bytes after all : List ℕ) (i n : ℕ) (sections : List (Section A)) (d : Section A) → n ≡ i + 1 → i < length sections
+    → after ≡ with_section base bytes (get_or sections i d) → flat_behind base bytes (drop i sections) ≡ all
+    → flat_behind base after (drop n sections) ≡ all
+laid-next base bytes after all i n [] d one below next laid = absurd (omega arith)
+laid-next base bytes after all zero (suc zero) (s ∷ sections) d one below next laid = rw next laid
+laid-next base bytes after all zero zero (s ∷ sections) d one below next laid = absurd (omega arith)
+laid-next base bytes after all zero (suc (suc n)) (s ∷ sections) d one below next laid = absurd (omega arith)
+laid-next base bytes after all (suc i) zero (s ∷ sections) d one below next laid = absurd (omega arith)
+laid-next base bytes after all (suc i) (suc n) (s ∷ sections) d one below next laid = laid-next base bytes after all i n sections d (omega arith) (omega arith) next laid
+
+-- no section is left
+pub laid-last : {A : Type 0} (base : ℕ) (bytes all : List ℕ) (i : ℕ) (sections : List (Section A)) → length sections ≤ i
+    → flat_behind base bytes (drop i sections) ≡ all → bytes ≡ all
+laid-last base bytes all zero [] below laid = laid
+laid-last base bytes all (suc i) [] below laid = laid
+laid-last base bytes all zero (s ∷ sections) below laid = absurd (omega arith)
+laid-last base bytes all (suc i) (s ∷ sections) below laid = laid-last base bytes all i sections (omega arith) laid

@@ -1,5 +1,5 @@
 -- What is made of items, one item more, and what is read of parts and lines, one more.
-use Rattle.std.proofs.Common.{◌≡◌, ◌≢◌, ℕ, zero, suc, get_or, drop, add-one, Bool, true, false, ◌==◌, if◌then◌else◌, ◌+◌, ◌%◌, ◌^◌, ◌++◌, List, [], ◌∷◌, length, codes, ◌<◌, ◌≤◌, Option, Some, None, IfSome, Result, Ok, Err, OnOk, IfOk, All, Bor, refl, sym, subst, ap, ◌∙◌, arith}
+use Rattle.std.proofs.Common.{◌≡◌, ◌≢◌, ℕ, zero, suc, get_or, take, drop, add-one, Bool, true, false, ◌==◌, if◌then◌else◌, ◌+◌, ◌%◌, ◌^◌, ◌++◌, List, [], ◌∷◌, length, codes, ◌<◌, ◌≤◌, Option, Some, None, IfSome, Result, Ok, Err, OnOk, IfOk, All, Bor, refl, sym, subst, ap, ◌∙◌, arith}
 use Rattle.std.proofs.Math.ListN.{set}
 use Rattle.std.specs.Option.{option_map_or}
 use Rattle.std.proofs.lemmas.List.{append_assoc, append-nil}
@@ -15,11 +15,13 @@ use Rattle.rrs_asm.specs.declared.output.Label.{Label}
 use Rattle.rrs_asm.specs.declared.output.Placed.{Placed}
 use Rattle.rrs_asm.specs.declared.statements.Statement.{Statement}
 use Rattle.rrs_asm.specs.Names.{IsNamed}
-use Rattle.rrs_lines.specs.Lines.{Part, lines, parts}
-use Rattle.rrs_asm.specs.Source.{Item, items_in, items_of_parts, items_from, is_laid_out}
-use Rattle.rrs_asm.specs.Sections.{names_of, index_of, open_behind, if_open, in_section, first_open, common, in_common, if_in, AreMadeFrom, AreMade, AreLaidOut, AllFound}
+use Rattle.rrs_asm.specs.declared.directives.Read.{Read}
+use Rattle.rrs_lines.specs.Lines.{Part, lines, parts, begins_with, behind_blanks}
+use Rattle.rrs_asm.specs.Source.{Item, items_in, items_named, items_behind, items_of_parts, items_from, is_laid_out}
+use Rattle.rrs_asm.specs.Sections.{names_of, index_of, open_behind, if_open, in_section, first_open, common, in_common, if_in, AreMadeFrom, AreMade, AreLaidOut, AllFound, IsBehind, AreBehind, ArePlaced}
+use Rattle.rrs_asm.specs.declared.sections.Layout.{Layout}
 use Rattle.rrs_asm.specs.Statements.{AreBytes, LaysOut, IsLabelAt, IsPlacedAt, IsMade, AddsPlaced}
-use Rattle.rrs_asm.specs.Forms.{skipped, IsNoSection, IsNew, IsSectionRead, Grows, AreReadFrom, IsRead, ReadsOn, left_in_line, left_in_source}
+use Rattle.rrs_asm.specs.Forms.{skipped, items_of_read, IsNoSection, IsNew, IsSectionRead, Grows, AreReadFrom, IsRead, IsGood, AreAssembled, ReadsFrom, ReadsOn, left_in_line, left_in_source}
 
 -- ---- one item more
 
@@ -78,39 +80,39 @@ laid-out base (Item.Laid line name ∷ items) labels placed bytes (p, others, ow
 
 -- a label
 pub Grows-label : {A : Type 0} (line : ℕ) (name : List ℕ) (l : Label) (old new : Section A)
-    → new.name ≡ old.name → new.address ≡ old.address → new.size ≡ old.size
+    → new.name ≡ old.name → new.address ≡ old.address
     → new.made.labels.items ≡ old.made.labels.items ++ l ∷ []
     → new.made.placed.items ≡ old.made.placed.items → new.made.bytes.items ≡ old.made.bytes.items
-    → l.line ≡ line → l.name.now ≡ name → l.address ≡ (old.address + old.size) % 2 ^ 32
+    → l.line ≡ line → l.name.now ≡ name → l.address ≡ (old.address + length old.made.bytes.items) % 2 ^ 32
     → Grows (Item.Label line name ∷ []) old new
-Grows-label line name l old new named start size labels placed bytes at_line own address = record {
+Grows-label line name l old new named start labels placed bytes at_line own address = record {
   name = named;
-  reads = λ items read. record {
-    made = rw (start, labels, placed, bytes) (IsMade-label old.address items old.made.labels.items old.made.placed.items old.made.bytes.items line name l read.made
-        (record { line = at_line; name = own; address = address ∙ ap (λ n. (old.address + n) % 2 ^ 32) read.size }));
-    size = size ∙ read.size ∙ ap length (sym bytes);
-  };
+  reads = λ items read. rw (start, labels, placed, bytes) (IsMade-label old.address items old.made.labels.items old.made.placed.items old.made.bytes.items line name l read
+      (record { line = at_line; name = own; address = address }));
 }
 
--- a statement, of so many bytes
-pub Grows-laid : {A : Type 0} (line count : ℕ) (name : List ℕ) (statement : Statement) (old new : Section A)
-    → IsNamed name statement → ((own : List ℕ) → AreBytes statement own → count ≡ length own)
-    → new.name ≡ old.name → new.address ≡ old.address
+-- a statement
+pub Grows-laid : {A : Type 0} (line : ℕ) (name : List ℕ) (statement : Statement) (old new : Section A)
+    → IsNamed name statement → new.name ≡ old.name → new.address ≡ old.address
     → AddsPlaced old.address line statement old.made.placed.items new.made.placed.items old.made.bytes.items new.made.bytes.items
-    → new.made.labels.items ≡ old.made.labels.items → new.size ≡ old.size + count
+    → new.made.labels.items ≡ old.made.labels.items
     → Grows (Item.Laid line name ∷ []) old new
-Grows-laid line count name statement old new named counts same start adds labels size = record {
+Grows-laid line name statement old new named same start adds labels = record {
   name = same;
   reads = λ items read.
       let Bytes : Statement → Type 0 = λ s. AreBytes s adds.own in
-      let length_own : count ≡ length adds.own = counts adds.own adds.bytes in
-      let same_size : old.size ≡ length old.made.bytes.items = read.size in
-      let behind : new.made.bytes.items ≡ old.made.bytes.items ++ adds.own = adds.bytes_behind in
-      record {
-        made = rw (start, labels, adds.behind, behind) (IsMade-laid old.address items old.made.labels.items old.made.placed.items old.made.bytes.items line name adds.placed adds.own read.made
-            (record { line = adds.line; address = adds.address; name = subst (IsNamed name) (sym adds.statement) named; bytes = subst Bytes (sym adds.statement) adds.bytes }));
-        size = rw behind (grind (arith, common_steps));
-      };
+      rw (start, labels, adds.behind, adds.bytes_behind) (IsMade-laid old.address items old.made.labels.items old.made.placed.items old.made.bytes.items line name adds.placed adds.own read
+      (record { line = adds.line; address = adds.address; name = subst (IsNamed name) (sym adds.statement) named; bytes = subst Bytes (sym adds.statement) adds.bytes }));
+}
+
+-- nothing
+pub Grows-nothing : {A : Type 0} (old new : Section A)
+    → new.name ≡ old.name → new.address ≡ old.address → new.made ≡ old.made → Grows [] old new
+Grows-nothing old new named start made = record {
+  name = named;
+  reads = λ items read.
+      let P : List Item → Type 0 = λ its. IsSectionRead its new in
+      subst P (sym (append-nil items)) (rw (start, made) read);
 }
 
 -- ---- the items of a section, one more
@@ -241,7 +243,7 @@ pub AreReadFrom-at : {A : Type 0} (names : List (List ℕ)) (k i : ℕ) (items m
 AreReadFrom-at names k i items more own_items [] d new same own below grows read = absurd (omega arith)
 AreReadFrom-at names k zero items more own_items (s ∷ sections) d new same own below grows (first, read) =
     let P : List Item → Type 0 = λ its. IsSectionRead its new in (
-      subst P (sym (own k (omega arith))) (grows.reads _ first),
+      subst P (sym (own k (omega arith))) (grows.reads (in_section names k (first_open names) items) first),
       AreReadFrom-same names (k + 1) items more sections (λ n least most. same n (λ e. absurd (omega arith))) read,
     )
 AreReadFrom-at names k (suc i) items more own_items (s ∷ sections) d new same own below grows (first, read) =
@@ -301,49 +303,101 @@ names-length (s ∷ sections) = ap suc (names-length sections)
 
 -- ---- readings
 
+-- something is wrong
+pub ReadsOn-wrong : {A : Type 0} (more : List Item) (old new : Reading A) → (IsGood new → ⊥) → ReadsOn more old new
+ReadsOn-wrong more old new wrong good = absurd (wrong good)
+
+-- what one reading came to is kept
+pub ReadsOn-kept : {A : Type 0} (more : List Item) (old kept new : Reading A) → (IsGood new → new ≡ kept) → ReadsOn more old kept → ReadsOn more old new
+ReadsOn-kept more old kept new same reads good =
+    let P : Reading _ → Type 0 = λ r. IsGood r → ReadsFrom more old r in
+    subst P (sym (same good)) reads good
+
+-- what was kept is read on from
+pub ReadsOn-from : {A : Type 0} (more : List Item) (kept new end : Reading A) → (IsGood new → new ≡ kept) → ReadsOn more new end → ReadsOn more kept end
+ReadsOn-from more kept new end same reads good =
+    let read : ReadsFrom more new end = reads good in
+    let P : Reading _ → Type 0 = λ r. ReadsFrom more r end in
+    subst P (same read.good) read
+
 -- nothing is read
 pub ReadsOn-nothing : {A : Type 0} (r : Reading A) → ReadsOn [] r r
-ReadsOn-nothing r names items read = let P : List Item → Type 0 = λ all. IsRead names all r in subst P (sym (append-nil items)) read
+ReadsOn-nothing r good = record {
+  good = good;
+  reads = λ names items read. let P : List Item → Type 0 = λ all. IsRead names all r in subst P (sym (append-nil items)) read;
+}
 
 -- one reads on, and then another
 pub ReadsOn-then : {A : Type 0} (a b : List Item) (x y z : Reading A) → ReadsOn a x y → ReadsOn b y z → ReadsOn (a ++ b) x z
-ReadsOn-then a b x y z first second names items read =
-    let P : List Item → Type 0 = λ all. IsRead names all z in
-    subst P (append_assoc items a b) (second names (items ++ a) (first names items read))
+ReadsOn-then a b x y z first second good =
+    let behind : ReadsFrom b y z = second good in
+    let before : ReadsFrom a x y = first behind.good in
+    record {
+      good = before.good;
+      reads = λ names items read.
+          let P : List Item → Type 0 = λ all. IsRead names all z in
+          subst P (append_assoc items a b) (behind.reads names (items ++ a) (before.reads names items read));
+    }
 
 -- the open section grew
-pub ReadsOn-at : {A : Type 0} (item : Item) (old new : Reading A) (d s : Section A) → IsNoSection item
+pub ReadsOn-at : {A : Type 0} (item : Item) (old new : Reading A) (d s : Section A) → (IsGood new → IsGood old) → IsNoSection item
     → old.current < length old.sections.items → Grows (item ∷ []) (get_or old.sections.items old.current d) s
     → new.sections.items ≡ set old.sections.items old.current s → new.current ≡ old.current
     → ReadsOn (item ∷ []) old new
-ReadsOn-at item old new d s plain below grows sections current names items read =
-    let is_open : old.current ≡ open_behind names (first_open names) items = read.current in
-    record {
-      named = ap names_of sections ∙ names-at old.current old.sections.items d s below grows.name ∙ read.named;
-      current = current ∙ is_open ∙ sym (open-behind-more names (first_open names) items item plain);
-      read = rw sections (AreReadFrom-at names 0 old.current items (items ++ item ∷ []) (item ∷ []) old.sections.items d s
-          (λ n other. more-other names n items item plain (λ e. other (omega arith)))
-          (λ n own. more-own names n items item plain (omega arith))
-          below grows read.read);
-      found = found-more names items item plain read.found;
-    }
+ReadsOn-at item old new d s was plain below grows sections current good = record {
+  good = was good;
+  reads = λ names items read.
+      let is_open : old.current ≡ open_behind names (first_open names) items = read.current in
+      record {
+        named = ap names_of sections ∙ names-at old.current old.sections.items d s below grows.name ∙ read.named;
+        current = current ∙ is_open ∙ sym (open-behind-more names (first_open names) items item plain);
+        read = rw sections (AreReadFrom-at names 0 old.current items (items ++ item ∷ []) (item ∷ []) old.sections.items d s
+            (λ n other. more-other names n items item plain (λ e. other (omega arith)))
+            (λ n own. more-own names n items item plain (omega arith))
+            below grows read.read);
+        found = found-more names items item plain read.found;
+      };
+}
+
+-- a section was aligned
+pub ReadsOn-aligned : {A : Type 0} (index : ℕ) (old new : Reading A) (d s : Section A) → (IsGood new → IsGood old)
+    → index < length old.sections.items → Grows [] (get_or old.sections.items index d) s
+    → new.sections.items ≡ set old.sections.items index s → new.current ≡ old.current
+    → ReadsOn [] old new
+ReadsOn-aligned index old new d s was below grows sections current good = record {
+  good = was good;
+  reads = λ names items read.
+      let P : List Item → Type 0 = λ all. IsRead names all new in
+      subst P (sym (append-nil items)) (record {
+        named = ap names_of sections ∙ names-at index old.sections.items d s below grows.name ∙ read.named;
+        current = current ∙ read.current;
+        read = rw sections (AreReadFrom-at names 0 index items items [] old.sections.items d s
+            (λ n other. refl)
+            (λ n own. sym (append-nil (in_section names n (first_open names) items)))
+            below grows read.read);
+        found = read.found;
+      });
+}
 
 -- no section is open
 pub ReadsOn-skipped : {A : Type 0} (item : Item) (old : Reading A) → IsNoSection item → length old.sections.items ≤ old.current → ReadsOn (item ∷ []) old old
-ReadsOn-skipped item old plain above names items read = record {
-  named = read.named;
-  current = read.current ∙ sym (open-behind-more names (first_open names) items item plain);
-  read = AreReadFrom-same names 0 items (items ++ item ∷ []) old.sections.items
-      (λ n least most. more-other names n items item plain (λ e. absurd (omega (arith, read.current)))) read.read;
-  found = found-more names items item plain read.found;
+ReadsOn-skipped item old plain above good = record {
+  good = good;
+  reads = λ names items read. record {
+    named = read.named;
+    current = read.current ∙ sym (open-behind-more names (first_open names) items item plain);
+    read = AreReadFrom-same names 0 items (items ++ item ∷ []) old.sections.items
+        (λ n least most. more-other names n items item plain (λ e. absurd (omega (arith, read.current)))) read.read;
+    found = found-more names items item plain read.found;
+  };
 }
 
 -- a section is opened
-pub ReadsOn-opened : {A : Type 0} (name : List ℕ) (old new : Reading A)
+pub IsRead-opened : {A : Type 0} (name : List ℕ) (old new : Reading A)
     → new.sections.items ≡ old.sections.items → new.current ≡ index_of name (names_of old.sections.items)
     → (is_laid_out name ≡ true → index_of name (names_of old.sections.items) < length (names_of old.sections.items))
-    → ReadsOn (Item.Section name ∷ []) old new
-ReadsOn-opened name old new sections current is names items read =
+    → (names : List (List ℕ)) (items : List Item) → IsRead names items old → IsRead names (items ++ Item.Section name ∷ []) new
+IsRead-opened name old new sections current is names items read =
     let Found : List (List ℕ) → Type 0 = λ own. is_laid_out name ≡ true → index_of name own < length own in
     record {
       named = ap names_of sections ∙ read.named;
@@ -355,25 +409,37 @@ ReadsOn-opened name old new sections current is names items read =
 
 -- `COMMON` grew while it was open
 pub ReadsOn-common : {A : Type 0} (line : ℕ) (directive symbol : List ℕ) (old inside behind new : Reading A)
+    → (IsGood new → IsGood behind) → (IsGood inside → IsGood old)
     → inside.sections.items ≡ old.sections.items → inside.current ≡ common (names_of old.sections.items)
-    → inside.current < length inside.sections.items → ReadsOn (in_common line directive symbol) inside behind
+    → (IsGood behind → inside.current < length inside.sections.items) → ReadsOn (in_common line directive symbol) inside behind
     → new.sections.items ≡ behind.sections.items → new.current ≡ old.current
     → ReadsOn (Item.Common line directive symbol ∷ []) old new
-ReadsOn-common line directive symbol old inside behind new sections at below reads same current names items read =
-    let long : length names ≡ length inside.sections.items = ap length (sym read.named) ∙ names-length old.sections.items ∙ ap length (sym sections) in
-    let own : inside.current ≡ common names = at ∙ ap common read.named in
-    let found : common (names_of old.sections.items) < length (names_of old.sections.items) = omega (arith, at, below, names-length old.sections.items, ap length sections) in
-    let opened : IsRead names (items ++ Item.Section (codes "COMMON") ∷ []) inside = ReadsOn-opened (codes "COMMON") old inside sections at (λ laid. found) names items read in
-    let put : IsRead names ((items ++ Item.Section (codes "COMMON") ∷ []) ++ in_common line directive symbol) behind = reads names _ opened in
+ReadsOn-common line directive symbol old inside behind new end start sections at is_there reads same current good =
+    let below : inside.current < length inside.sections.items = is_there (end good) in
+    let inner : ReadsFrom (in_common line directive symbol) inside behind = reads (end good) in
     record {
-      named = ap names_of same ∙ put.named;
-      current = current ∙ read.current ∙ sym (open-behind-common names (first_open names) items line directive symbol);
-      read = rw same (AreReadFrom-same names 0 _ (items ++ Item.Common line directive symbol ∷ []) behind.sections.items
-          (λ n least most. in-section-common names n (first_open names) items line directive symbol) put.read);
-      found = found-common names items line directive symbol (omega (arith, own, long, below)) read.found;
+      good = start inner.good;
+      reads = λ names items read.
+          let long : length names ≡ length inside.sections.items = ap length (sym read.named) ∙ names-length old.sections.items ∙ ap length (sym sections) in
+          let own : inside.current ≡ common names = at ∙ ap common read.named in
+          let found : common (names_of old.sections.items) < length (names_of old.sections.items) = omega (arith, at, below, names-length old.sections.items, ap length sections) in
+          let opened : IsRead names (items ++ Item.Section (codes "COMMON") ∷ []) inside = IsRead-opened (codes "COMMON") old inside sections at (λ laid. found) names items read in
+          let put : IsRead names ((items ++ Item.Section (codes "COMMON") ∷ []) ++ in_common line directive symbol) behind = inner.reads names _ opened in
+          record {
+            named = ap names_of same ∙ put.named;
+            current = current ∙ read.current ∙ sym (open-behind-common names (first_open names) items line directive symbol);
+            read = rw same (AreReadFrom-same names 0 _ (items ++ Item.Common line directive symbol ∷ []) behind.sections.items
+                (λ n least most. in-section-common names n (first_open names) items line directive symbol) put.read);
+            found = found-common names items line directive symbol (omega (arith, own, long, below)) read.found;
+          };
     }
 
 -- ---- what is left
+
+-- what stands behind the first word is no constant
+pub behind-named : {E : Type 0} (number : ℕ) (name rest : List ℕ) (r : Result Read E) → begins_with 61 (behind_blanks rest) ≡ false
+    → IfOk r (λ read. items_of_read number read ≡ items_named number name rest) → IfOk r (λ read. items_of_read number read ≡ items_behind number name rest)
+behind-named number name rest r other said = rw other said
 
 -- a part of a line, and what is left of the line
 pub ReadsOn-part : {A : Type 0} (number : ℕ) (text : List ℕ) (part : Part) (others : Option (Bor (List ℕ))) (x y z : Reading A)
@@ -406,9 +472,25 @@ pub on-ok : {T E P Q : Type 0} (r : Result T E) → OnOk r P → (P → Q) → O
 on-ok (Ok x) p follows = follows p
 on-ok (Err e) p follows = tt
 
+pub of-ok : {T E P : Type 0} (r : Result T E) (x : T) → OnOk r P → r ≡ Ok x → P
+of-ok (Ok y) x p is = p
+of-ok (Err e) x p is = absurd cc
+
+pub no-false : (t : Bool) → t ≡ false → t ≡ true → ⊥
+no-false t is_false is_true = cc
+
+pub no-ok : {T E : Type 0} (e : E) (x : T) (r : Result T E) → r ≡ Err e → r ≡ Ok x → ⊥
+no-ok e x r is ok = cc
+
 pub if-ok : {T E : Type 0} (r : Result T E) (P Q : T → Type 0) → IfOk r P → ((x : T) → P x → Q x) → IfOk r Q
 if-ok (Ok x) P Q p follows = follows x p
 if-ok (Err e) P Q p follows = tt
+
+-- what was read without a mistake is the program
+pub assembled : {A : Type 0} (layout : Layout) (items : List Item) (r : Reading A) (sections : List (Section A))
+    → (IsGood r → AreAssembled layout items r.sections.items) → IsGood r × (sections ≡ r.sections.items)
+    → AreAssembled layout items sections
+assembled layout items r sections all (good, same) = let P : List (Section _) → Type 0 = λ xs. AreAssembled layout items xs in subst P (sym same) (all good)
 
 -- ---- what is placed
 
@@ -420,12 +502,51 @@ adds-placed base number s p old new before after behind line address statement (
 
 -- ---- the loops
 
+-- the others of a list that is not empty
+others-of : {T : Type 0} (x : T) (xs : List T) (n : ℕ) → n + 1 ≡ length (x ∷ xs) → take n (drop 1 (x ∷ xs)) ≡ xs
+others-of x [] zero long = refl
+others-of x [] (suc n) long = absurd (omega arith)
+others-of x (y ∷ xs) zero long = absurd (omega arith)
+others-of x (y ∷ xs) (suc n) long = ap (λ rest. y ∷ rest) (others-of y xs n (omega arith))
+
+-- the first of the others lies behind, and all others behind it
+pub are-behind : {A : Type 0} (layout : Layout) (first s : Section A) (others : List (Section A)) (n : ℕ)
+    → n + 1 ≡ length others → s ≡ get_or others 0 s → IsBehind layout first s → AreBehind layout s (take n (drop 1 others))
+    → AreBehind layout first others
+are-behind layout first s [] n long is behind more = absurd (omega arith)
+are-behind layout first s (x ∷ xs) n long is behind more =
+    let Is : Section _ → Type 0 = λ y. IsBehind layout first y in
+    let More : Section _ → Type 0 = λ y. AreBehind layout y (take n (drop 1 (x ∷ xs))) in
+    let Rest : List (Section _) → Type 0 = λ ys. AreBehind layout x ys in
+    (subst Is is behind, subst Rest (others-of x xs n long) (subst More is more))
+
+-- the first lies where the layout says, and all others behind it
+pub are-placed : {A : Type 0} (layout : Layout) (s : Section A) (sections : List (Section A)) (n : ℕ)
+    → n + 1 ≡ length sections → s ≡ get_or sections 0 s → s.address ≡ layout.text_start → AreBehind layout s (take n (drop 1 sections))
+    → ArePlaced layout sections
+are-placed layout s [] n long is first more = absurd (omega arith)
+are-placed layout s (x ∷ xs) n long is first more =
+    let At : Section _ → Type 0 = λ y. y.address ≡ layout.text_start in
+    let More : Section _ → Type 0 = λ y. AreBehind layout y (take n (drop 1 (x ∷ xs))) in
+    let Rest : List (Section _) → Type 0 = λ ys. AreBehind layout x ys in
+    (subst At is first, subst Rest (others-of x xs n long) (subst More is more))
+
+-- one section more is new
+pub New-more : {A : Type 0} (i : ℕ) (sections : List (Section A)) (new : Section A) → IsNew new → i < length sections
+    → ((k : ℕ) (d : Section A) → k < i → IsNew (get_or sections k d)) → (k : ℕ) (d : Section A) → k < i + 1 → IsNew (get_or (set sections i new) k d)
+New-more i [] new is below before k d least = absurd (omega arith)
+New-more zero (s ∷ sections) new is below before zero d least = is
+New-more zero (s ∷ sections) new is below before (suc k) d least = absurd (omega arith)
+New-more (suc i) (s ∷ sections) new is below before zero d least = before zero d (omega arith)
+New-more (suc i) (s ∷ sections) new is below before (suc k) d least =
+    New-more i sections new is (omega arith) (λ n e small. before (suc n) e (omega arith)) k d (omega arith)
+
 -- nothing of new sections was read
 AreReadFrom-new : {A : Type 0} (names : List (List ℕ)) (k : ℕ) (sections : List (Section A)) → All IsNew sections → AreReadFrom names k [] sections
 AreReadFrom-new names k [] all = tt
 AreReadFrom-new names k (s ∷ sections) all =
     let new : IsNew s = All-head IsNew s sections all in (
-      record { made = (new.labels, new.placed, new.bytes); size = new.size ∙ sym (ap length new.bytes) },
+      (new.labels, new.placed, new.bytes),
       AreReadFrom-new names (k + 1) sections (All-tail IsNew s sections all),
     )
 
@@ -435,7 +556,7 @@ IsRead-nothing r all current = record { named = refl; current = current; read = 
 -- what is made of each section
 AreMadeFrom-read : {A : Type 0} (names : List (List ℕ)) (k : ℕ) (items : List Item) (sections : List (Section A)) → AreReadFrom names k items sections → AreMadeFrom names k items sections
 AreMadeFrom-read names k items [] read = tt
-AreMadeFrom-read names k items (s ∷ sections) (first, read) = (first.made, AreMadeFrom-read names (k + 1) items sections read)
+AreMadeFrom-read names k items (s ∷ sections) (first, read) = (first, AreMadeFrom-read names (k + 1) items sections read)
 
 pub are-made : {A : Type 0} (names : List (List ℕ)) (items : List Item) (r : Reading A) → IsRead names items r → AreMade items r.sections.items
 are-made names items r read =
@@ -450,7 +571,7 @@ all-found names items r read =
 are-laid-out-from : {A : Type 0} (names : List (List ℕ)) (k : ℕ) (items : List Item) (sections : List (Section A)) → AreReadFrom names k items sections → AreLaidOut sections
 are-laid-out-from names k items [] read = tt
 are-laid-out-from names k items (s ∷ sections) (first, read) = (
-  laid-out s.address (in_section names k (first_open names) items) _ _ _ first.made,
+  laid-out s.address (in_section names k (first_open names) items) _ _ _ first,
   are-laid-out-from names (k + 1) items sections read,
 )
 

@@ -1,6 +1,6 @@
 -- The names of the tables by which the assembler reads operands, and what was read of a part. No
 -- public contract cites these.
-use Rattle.std.specs.Prelude.{◌≡◌, ℕ, ◌+◌, Bool, true, false, not, ◌&&◌, if◌then◌else◌, List, [], ◌∷◌, ◌++◌, length, codes, Option, Some, None}
+use Rattle.std.specs.Prelude.{◌≡◌, ℕ, ◌+◌, Bool, true, false, not, ◌&&◌, if◌then◌else◌, List, [], ◌∷◌, ◌++◌, codes, Option, Some, None}
 use Rattle.std.specs.Borrow.{Bor}
 use Rattle.std.specs.Str.{bytes_eq}
 use Rattle.rrs_asm.specs.declared.names.PseudoForm.{PseudoForm}
@@ -120,13 +120,11 @@ pub record IsNew {A : Type 0} (section : Section A) : Type 0 where
   pub labels : section.made.labels.items ≡ []
   pub placed : section.made.placed.items ≡ []
   pub bytes : section.made.bytes.items ≡ []
-  pub size : section.size ≡ 0
 
--- these items were read in a section
-pub record IsSectionRead {A : Type 0} (items : List Item) (section : Section A) : Type 0 where
-  pub made :
-      IsMade section.address items section.made.labels.items section.made.placed.items section.made.bytes.items
-  pub size : section.size ≡ length section.made.bytes.items
+-- a section is made of these items
+abbrev pub IsSectionRead : {A : Type 0} → List Item → Section A → Type 0
+IsSectionRead items section =
+    IsMade section.address items section.made.labels.items section.made.placed.items section.made.bytes.items
 
 -- these items more were read in a section
 pub record Grows {A : Type 0} (more : List Item) (old new : Section A) : Type 0 where
@@ -155,11 +153,20 @@ pub record IsRead {A : Type 0} (names : List (List ℕ)) (items : List Item) (re
   pub read : AreReadFrom names 0 items reading.sections.items
   pub found : AllFound names items
 
--- these were read behind all those before
+-- nothing is wrong with the source so far, and each section was there before
+pub record IsGood {A : Type 0} (reading : Reading A) : Type 0 where
+  pub halt : reading.halt ≡ None
+  pub errors : reading.errors.items ≡ []
+  pub is_first : reading.is_first ≡ false
+
+-- These were read behind all those before, if nothing is wrong then. Nothing was wrong before, then.
+pub record ReadsFrom {A : Type 0} (more : List Item) (old new : Reading A) : Type 0 where
+  pub good : IsGood old
+  pub reads : (names : List (List ℕ)) (items : List Item) → IsRead names items old
+      → IsRead names (items ++ more) new
+
 abbrev pub ReadsOn : {A : Type 0} → List Item → Reading A → Reading A → Type 0
-ReadsOn more old new =
-    (names : List (List ℕ)) (items : List Item) → IsRead names items old
-    → IsRead names (items ++ more) new
+ReadsOn more old new = IsGood new → ReadsFrom more old new
 
 -- the items of what is left of a line, and of what is left of a source
 abbrev pub left_in_line : ℕ → Option (Bor (List ℕ)) → List Item

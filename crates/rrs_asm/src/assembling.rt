@@ -1,12 +1,11 @@
 //! The readings of a source.
 
-ghost use Rattle.std.specs.Prelude.{◌≡◌, ◌<◌, ℕ, List, [], ◌∷◌, All, IfOk, OnOk, true, false, length, codes};
-ghost use Rattle.rrs_lines.specs.declared.symbols.Pass.{Pass};
+ghost use Rattle.std.specs.Prelude.{◌≡◌, ◌<◌, ℕ, List, [], ◌∷◌, All, IfOk, Ok, true, false, length, codes};
 ghost use Rattle.rrs_lines.specs.Lines.{Part, shown, word, parts};
 ghost use Rattle.rrs_asm.specs.Names.{is_one_of, fill_names, IsNamed};
 ghost use Rattle.rrs_asm.specs.Source.{Item, is_laid_out, items_of, items_in, items_named, items_behind, items_in_statement, items_of_parts};
 ghost use Rattle.rrs_asm.specs.Sections.{names_of, index_of, first_open, in_common, AreMade, AreLaidOut, AllFound, ArePlaced};
-ghost use Rattle.rrs_asm.specs.Forms.{items_of_read, HasItsName, IsNoSection, IsNew, IsRead, ReadsOn, AreAssembled};
+ghost use Rattle.rrs_asm.specs.Forms.{items_of_read, HasItsName, IsNoSection, IsNew, IsGood, IsRead, ReadsOn, AreAssembled};
 
 use crate::directives::{Common, Read, read_directive};
 use crate::errors::{SourceError, SourceFault};
@@ -14,7 +13,8 @@ use crate::instructions::read_instruction;
 use crate::output::MOST_BYTES;
 use crate::program::Program;
 use crate::sections::{
-    Layout, Section, SectionKind, are_placed, first_sections, is_laid_out, laid_out,
+    Layout, Section, SectionKind, are_placed, are_steady, clear_all, insert, insert_first,
+    is_laid_out, place,
 };
 use crate::statements::Statement;
 use rrs_lines::{
@@ -30,35 +30,15 @@ const MOST_SECTIONS: usize = 256;
 ///
 /// A source is a list of items: directives that open a section, labels, and statements that lay
 /// bytes out (`items_of`). What is made of each section is made of the items in it, in their order:
-/// of each label and of each statement, with its line, its name and its address, from the address
-/// of the section on (`items`). The statements stand one behind the other (`laid_out`). Each section
-/// that is opened is there, but for those with debugging data and notes (`all_found`). Each begins
-/// where the layout says: the first at its address, and each other behind the one before
-/// (`placed`).
+/// of each label and of each statement, with its line, its name and its address, from the address of
+/// the section on (`items`). The statements stand one behind the other (`laid_out`). Each section that
+/// is opened is there, but for those with debugging data and notes (`all_found`). Each begins where
+/// the layout says: the first at its address, and each other behind the one before (`placed`).
 ///
 /// # Errors
 ///
 /// `SourceFault::Errors`, each with its line and column, and `SourceFault::OutOfMemory`.
-pub fn assemble_source(
-    alloc: Global,
-    source: &[u8],
-    layout: Layout,
-) -> Result<Program<'_>, SourceFault>
-    ensures items { IfOk result (λ program. AreMade (items_of source.now) program.sections.items) }
-    ensures laid_out { IfOk result (λ program. AreLaidOut program.sections.items) }
-    ensures all_found { IfOk result (λ program. AllFound (names_of program.sections.items)
-        (Item.Section (codes ".text") ∷ items_of source.now)) }
-    ensures placed { IfOk result (λ program. ArePlaced layout program.sections.items) }
-{
-    assemble_source_in(alloc, source, layout)
-}
-
-/// Does what [assemble_source] does, with any allocator: in memory that a caller lends, say.
-///
-/// # Errors
-///
-/// `SourceFault::Errors`, each with its line and column, and `SourceFault::OutOfMemory`.
-pub fn assemble_source_in<A: Allocator + Copy>(
+pub fn assemble_source<A: Allocator + Copy>(
     alloc: A,
     source: &[u8],
     layout: Layout,
@@ -68,122 +48,65 @@ pub fn assemble_source_in<A: Allocator + Copy>(
     ensures all_found { IfOk result (λ program. AllFound (names_of program.sections.items)
         (Item.Section (codes ".text") ∷ items_of source.now)) }
     ensures placed { IfOk result (λ program. ArePlaced layout program.sections.items) }
-{
-    program_of(alloc, source, layout)
-}
-
-/// The program that a source is, read three times: for the sizes of the sections, for what symbols
-/// stand for, and for the statements. Before the last, a source with `%pcrel_hi` is read once more.
-fn program_of<A: Allocator + Copy>(
-    alloc: A,
-    source: &[u8],
-    layout: Layout,
-) -> Result<Program<'_, A>, SourceFault<A>>
-    ensures { IfOk result (λ program.
-        AreAssembled layout (items_of source.now) program.sections.items) }
 {
     let mut symbols = Symbols::new(alloc);
-    let sections = first_sections(alloc, layout)?;
-    let (first, _) = read_source(alloc, source, &mut symbols, sections)?;
-    let first = first.sections;
-    let (second, _) = read_again(alloc, source, &mut symbols, Pass::Second, &first, layout)?;
-    read_distances(alloc, source, &mut symbols, &first, layout)?;
-    let (last, errors) = read_again(alloc, source, &mut symbols, Pass::Last, &first, layout)?;
-    if has_none(&errors) && is_right(&second.sections, &last.sections, layout) {
-        return Ok(Program {
-            sections: last.sections,
-        });
-    }
-    Err(fault_of(errors))
+    let mut reading = Reading::new(alloc);
+    read_all(source, layout, &mut symbols, &mut reading);
+    reading.outcome()
 }
 
-/// Whether each section has the same size as in another reading and lies where the layout says, and
-/// `.text` is one of them.
-fn is_right<A: Allocator>(others: &[Section<A>], sections: &[Section<A>], layout: Layout) -> bool
+/// Reads a source three times: for the sizes of the sections, for what symbols stand for, and for the
+/// statements. One with `%pcrel_hi` is read once more before the last time, for how far each of them
+/// reaches: a `%pcrel_lo` may stand before it.
+fn read_all<'a, A: Allocator + Copy>(
+    source: &'a [u8],
+    layout: Layout,
+    symbols: &mut Symbols<'a, A>,
+    reading: &mut Reading<'a, A>,
+)
+    ensures { IsGood reading.new
+        → AreAssembled layout (items_of source.now) reading.new.sections.items }
+{
+    reading.begin_first(layout);
+    read_source(source, symbols, reading);
+    if !place(&mut reading.sections, layout) {
+        reading.errors.clear();
+        return reading.tell(TOO_LONG);
+    }
+    read_again(source, Pass::Second, symbols, reading);
+    if symbols.has_distances() {
+        read_again(source, Pass::Third, symbols, reading);
+    }
+    read_again(source, Pass::Last, symbols, reading);
+    if reading.errors.is_empty() && !is_right(&reading.sections, layout) {
+        reading.tell(MOVED_END);
+    }
+}
+
+/// Whether each section has as many bytes as in the reading before and lies where the layout says,
+/// and `.text` is one of them.
+fn is_right<A: Allocator>(sections: &[Section<A>], layout: Layout) -> bool
     ensures found { result ≡ true → first_open (names_of sections.now) < length sections.now }
     ensures placed { result ≡ true → ArePlaced layout sections.now }
 {
     section_named(sections, b".text") < sections.len()
-        && are_as_long(others, sections)
+        && are_steady(sections)
         && are_placed(sections, layout)
 }
 
-/// Reads all lines again, where the sections have the sizes that they have after the first reading.
+/// Reads all lines once more.
 fn read_again<'a, A: Allocator + Copy>(
-    alloc: A,
     source: &'a [u8],
-    symbols: &mut Symbols<'a, A>,
     pass: Pass,
-    first: &[Section<'a, A>],
-    layout: Layout,
-) -> Result<(Reading<'a, A>, Vec<SourceError, A>), SourceFault<A>>
-    ensures { pass ≡ Pass.Last → IfOk result (λ read. read.1.items ≡ []
-        → (names : List (List ℕ)) × IsRead names (items_of source.now) read.0) }
+    symbols: &mut Symbols<'a, A>,
+    reading: &mut Reading<'a, A>,
+)
+    ensures { IsGood reading.new
+        → (names : List (List ℕ)) × IsRead names (items_of source.now) reading.new }
 {
     symbols.begin(pass);
-    let sections = placed_again(alloc, first, layout)?;
-    read_source(alloc, source, symbols, sections)
-}
-
-/// Reads all lines for how far each `%pcrel_hi` reaches, if there is one: a `%pcrel_lo` may stand
-/// before it. Only now each symbol has its address, in whichever section it is.
-fn read_distances<'a, A: Allocator + Copy>(
-    alloc: A,
-    source: &'a [u8],
-    symbols: &mut Symbols<'a, A>,
-    first: &[Section<'a, A>],
-    layout: Layout,
-) -> Result<(), SourceFault<A>> {
-    if symbols.has_distances() {
-        let _ = read_again(alloc, source, symbols, Pass::Third, first, layout)?;
-    }
-    Ok(())
-}
-
-/// The fault that these mistakes are. Where there is none, the last reading ends at another address
-/// than the one before.
-fn fault_of<A: Allocator + Copy>(errors: Vec<SourceError, A>) -> SourceFault<A> {
-    let mut errors = errors;
-    if errors.is_empty() && errors.push(MOVED_END).is_err() {
-        return SourceFault::OutOfMemory;
-    }
-    SourceFault::Errors(errors)
-}
-
-/// Whether there is no mistake.
-fn has_none<A: Allocator>(errors: &Vec<SourceError, A>) -> bool
-    ensures { result ≡ true → errors.now.items ≡ [] }
-{
-    errors.is_empty()
-}
-
-/// The sections, empty again, each at its address by the sizes that they have.
-fn placed_again<'a, A: Allocator + Copy>(
-    alloc: A,
-    sections: &[Section<'a, A>],
-    layout: Layout,
-) -> Result<Vec<Section<'a, A>, A>, SourceFault<A>>
-    ensures { IfOk result (λ placed. All IsNew placed.items) }
-{
-    match laid_out(alloc, sections, layout) {
-        Ok(placed) => Ok(placed),
-        Err(Halt::OutOfMemory) => Err(SourceFault::OutOfMemory),
-        Err(Halt::Error(error)) => {
-            let mut errors = Vec::new(alloc);
-            errors.push(error_at(b"", 1, error))?;
-            Err(SourceFault::Errors(errors))
-        }
-    }
-}
-
-/// Whether each section has the same size as in another reading.
-fn are_as_long<A: Allocator>(others: &[Section<A>], sections: &[Section<A>]) -> bool {
-    for (other, section) in others.iter().zip(sections) {
-        if other.size() != section.size() {
-            return false;
-        }
-    }
-    others.len() == sections.len()
+    reading.begin();
+    read_source(source, symbols, reading);
 }
 
 /// The mistake where the last reading ends at another address than the one before.
@@ -193,18 +116,102 @@ const MOVED_END: SourceError = SourceError {
     kind: SourceErrorKind::Moved,
 };
 
-/// How far a reading of the source has come.
+/// The mistake where the sections don't end within the addresses.
+const TOO_LONG: SourceError = SourceError {
+    line: 1,
+    column: 1,
+    kind: SourceErrorKind::TooLong,
+};
+
+/// How far a reading of the source has come, and what is wrong with the source.
 #[derive(Drop)]
 pub struct Reading<'a, A: Allocator = Global> {
-    /// The sections, as far as they were read.
+    /// Where its memory is from.
+    alloc: A,
+    /// The sections, in the order of their kinds, as far as they were read.
     sections: Vec<Section<'a, A>, A>,
     /// Which of them is open. None of them: what follows is not laid out.
     current: usize,
     /// How many bytes all statements so far take.
     total: usize,
+    /// Whether it is the first one, in which sections are opened that were not there.
+    is_first: bool,
+    /// The first mistake of the line that is read, or that memory is missing.
+    halt: Option<Halt>,
+    /// The mistakes of the lines before, the first one of each.
+    errors: Vec<SourceError, A>,
+}
+
+impl<'a, A: Allocator + Copy> Reading<'a, A> {
+    /// Nothing.
+    fn new(alloc: A) -> Self {
+        Reading {
+            alloc,
+            sections: Vec::new(alloc),
+            current: 0,
+            total: 0,
+            is_first: true,
+            halt: None,
+            errors: Vec::new(alloc),
+        }
+    }
+
+    /// Begins the first reading.
+    fn begin_first(&mut self, layout: Layout) {
+        if insert_first(self.alloc, layout, &mut self.sections).is_err() {
+            self.halt = Some(Halt::OutOfMemory);
+        }
+    }
+
+    /// Opens a section that is not there, behind those of its kind. In the first reading that is a
+    /// new one, and later one that was left behind the last address.
+    fn open_new(&mut self, name: &'a [u8], kind: Option<SectionKind>, start: LineError)
+        ensures { IsGood self.new → ⊥ }
+    {
+        if !self.is_first {
+            return self.fail(start.with_kind(SourceErrorKind::TooLong));
+        }
+        match kind {
+            Some(kind) if self.sections.len() < MOST_SECTIONS => {
+                match insert(self.alloc, name, kind, 0, &mut self.sections) {
+                    Ok(index) => self.current = index,
+                    Err(_) => self.halt = Some(Halt::OutOfMemory),
+                }
+            }
+            _ => self.fail(start.with_kind(SourceErrorKind::Sections)),
+        }
+    }
 }
 
 impl<'a, A: Allocator> Reading<'a, A> {
+    /// Begins another reading: nothing is made of the sections, and `.text` is open.
+    fn begin(&mut self)
+        ensures sections { All IsNew self.new.sections.items }
+        ensures current { self.new.current ≡ first_open (names_of self.new.sections.items) }
+    {
+        clear_all(&mut self.sections);
+        self.current = section_named(&self.sections, b".text");
+        self.total = 0;
+        self.is_first = false;
+        self.errors.clear();
+    }
+
+    /// What the readings come to: the sections, or what is wrong with the source.
+    fn outcome(self) -> Result<Program<'a, A>, SourceFault<A>>
+        ensures { IfOk result (λ program. IsGood self.entry
+            × (program.sections.items ≡ self.entry.sections.items)) }
+    {
+        if self.halt.is_some() {
+            return Err(SourceFault::OutOfMemory);
+        }
+        if self.is_first || !self.errors.is_empty() {
+            return Err(SourceFault::Errors(self.errors));
+        }
+        Ok(Program {
+            sections: self.sections,
+        })
+    }
+
     /// Where the next statement stands.
     fn site(&self) -> Site {
         match self.sections.get(self.current) {
@@ -221,11 +228,64 @@ impl<'a, A: Allocator> Reading<'a, A> {
         }
     }
 
+    /// Keeps a mistake of the line, if it is the first one.
+    fn fail(&mut self, error: LineError)
+        ensures { IsGood self.new → ⊥ }
+    {
+        self.keep(Err(Halt::Error(error)));
+    }
+
+    /// Keeps what went wrong, if nothing did before.
+    fn keep(&mut self, done: Result<(), Halt>)
+        ensures { IsGood self.new → (done ≡ Ok tt) × (self.new ≡ self.old) }
+    {
+        if let (Err(halt), None) = (done, self.halt) {
+            self.halt = Some(halt);
+        }
+    }
+
+    /// Keeps a mistake with its place in the source.
+    fn tell(&mut self, error: SourceError)
+        ensures { IsGood self.new → ⊥ }
+    {
+        if self.errors.push(error).is_err() {
+            self.halt = Some(Halt::OutOfMemory);
+        }
+    }
+
+    /// Ends a line, and keeps its mistake. Behind an instruction at a wrong address it goes on at a
+    /// right one, so that not every instruction from there on is a mistake.
+    fn end_line(&mut self, line: &[u8], number: usize)
+        ensures { IsGood self.new → self.new ≡ self.old }
+    {
+        let Some(Halt::Error(error)) = self.halt else {
+            return;
+        };
+        self.halt = None;
+        if error.kind == SourceErrorKind::Misplaced {
+            if let Some(section) = self.sections.get_mut(self.current) {
+                section.realign();
+            }
+        }
+        self.tell(error_at(line, number, error));
+    }
+
     /// Asks for an alignment of a section, if there is one with this number.
-    fn align(&mut self, index: usize, alignment: u32) {
+    fn align(&mut self, index: usize, alignment: u32)
+        ensures { ReadsOn [] self.old self.new }
+    {
         if let Some(section) = self.sections.get_mut(index) {
             section.align(alignment);
         }
+    }
+}
+
+/// A mistake with its place in the source.
+fn error_at(text: &[u8], line: usize, error: LineError) -> SourceError {
+    SourceError {
+        line,
+        column: text.len().saturating_sub(error.left).saturating_add(1),
+        kind: error.kind,
     }
 }
 
@@ -241,87 +301,51 @@ fn section_named<A: Allocator>(sections: &[Section<A>], name: &[u8]) -> usize
     sections.len()
 }
 
-/// Reads all lines. Gives what was made of them, which is nothing before the last reading, and the
-/// mistakes.
+/// Reads all lines.
 fn read_source<'a, A: Allocator + Copy>(
-    alloc: A,
     source: &'a [u8],
     symbols: &mut Symbols<'a, A>,
-    sections: Vec<Section<'a, A>, A>,
-) -> Result<(Reading<'a, A>, Vec<SourceError, A>), SourceFault<A>>
-    ensures { symbols.old.pass ≡ Pass.Last → All IsNew sections.entry.items
-        → IfOk result (λ read. read.1.items ≡ []
-        → IsRead (names_of sections.entry.items) (items_of source.now) read.0) }
+    reading: &mut Reading<'a, A>,
+)
+    ensures { ReadsOn (items_of source.now) reading.old reading.new }
 {
-    let current = section_named(&sections, b".text");
-    let mut reading = Reading {
-        sections,
-        current,
-        total: 0,
-    };
-    let mut errors = Vec::new(alloc);
-    let mut data = Vec::new(alloc);
+    let mut data = Vec::new(reading.alloc);
     let mut number = 0usize;
     let mut rest = Some(source);
     while let Some(text) = rest {
         let (line, others) = first_line(text);
         rest = others;
         number += 1;
-        match read_line(alloc, line, number, symbols, &mut reading, &mut data) {
-            Ok(()) => (),
-            Err(Halt::OutOfMemory) => return Err(SourceFault::OutOfMemory),
-            Err(Halt::Error(error)) => {
-                errors.push(error_at(line, number, error))?;
-                recover(&mut reading, error.kind);
-            }
-        }
+        read_line(line, number, symbols, reading, &mut data);
+        reading.end_line(line, number);
     }
-    Ok((reading, errors))
-}
-
-/// Goes on behind a mistake: behind an instruction at a wrong address at a right one, so that not
-/// every instruction from there on is a mistake.
-fn recover<A: Allocator>(reading: &mut Reading<A>, kind: SourceErrorKind) {
-    if kind == SourceErrorKind::Misplaced {
-        if let Some(section) = reading.sections.get_mut(reading.current) {
-            section.realign();
-        }
-    }
-}
-
-/// A mistake with its place in the source.
-fn error_at(text: &[u8], line: usize, error: LineError) -> SourceError {
-    SourceError {
-        line,
-        column: text.len().saturating_sub(error.left).saturating_add(1),
-        kind: error.kind,
+    if symbols.is_full() {
+        reading.halt = Some(Halt::OutOfMemory);
     }
 }
 
 /// Reads the labels and the statements of a line. The data of a statement are put in the place of
 /// those that were there.
 fn read_line<'a, A: Allocator + Copy>(
-    alloc: A,
     line: &'a [u8],
     number: usize,
     symbols: &mut Symbols<'a, A>,
     reading: &mut Reading<'a, A>,
     data: &mut Vec<u8, A>,
-) -> Result<(), Halt>
-    ensures pass { symbols.new.pass ≡ symbols.old.pass }
-    ensures items { OnOk result (symbols.old.pass ≡ Pass.Last
-        → ReadsOn (items_of_parts number (parts line.now)) reading.old reading.new) }
+)
+    ensures { ReadsOn (items_of_parts number (parts line.now)) reading.old reading.new }
 {
     let mut rest = Some(line);
     while let Some(text) = rest {
         let (part, others) = first_part(text);
         let behind = text.len().saturating_sub(part.text().len());
-        let read = read_part(part, behind, &symbols.scope(), reading.site(), data)?;
         let start = error_before(part.text(), behind);
-        perform(alloc, read, data, number, start, symbols, reading)?;
+        match read_part(part, behind, &symbols.scope(), reading.site(), data) {
+            Ok(read) => perform(read, data, number, start, symbols, reading),
+            Err(halt) => reading.keep(Err(halt)),
+        }
         rest = others;
     }
-    Ok(())
 }
 
 /// A mistake where a text begins, behind blanks, with so many bytes of the line behind it.
@@ -396,7 +420,7 @@ fn read_statement<'a, A: Allocator>(
     line.want(is_over, SourceErrorKind::More);
     match line.mistake {
         None => Ok(read),
-        Some(mistake) => Err(Halt::Error(mistake)),
+        Some(halt) => Err(halt),
     }
 }
 
@@ -469,75 +493,53 @@ fn unexpected(word: &[u8], error: LineError) -> LineError {
 
 /// Does what a part says.
 fn perform<'a, A: Allocator + Copy>(
-    alloc: A,
     read: Read<'a>,
     data: &[u8],
     number: usize,
     start: LineError,
     symbols: &mut Symbols<'a, A>,
     reading: &mut Reading<'a, A>,
-) -> Result<(), Halt>
+)
     requires { HasItsName read }
-    ensures pass { symbols.new.pass ≡ symbols.old.pass }
-    ensures items { OnOk result (symbols.old.pass ≡ Pass.Last
-        → ReadsOn (items_of_read number read.entry) reading.old reading.new) }
+    ensures { ReadsOn (items_of_read number read.entry) reading.old reading.new }
 {
     match read {
-        Read::Nothing => Ok(()),
-        Read::Constant(name, value) => define(name, value, false, start, symbols),
+        Read::Nothing => (),
+        Read::Constant(name, value) => define_constant(name, value, start, symbols, reading),
         Read::Label(name) => put_label(name, number, start, symbols, reading),
         Read::Skipped(_, _) => check_skipped(start, reading),
-        Read::Section(name, kind) => {
-            open(alloc, name, kind, start, symbols.pass.is_last(), reading)
-        }
+        Read::Section(name, kind) => open(name, kind, start, reading),
         Read::Common(_, name, common) => put_common(name, common, number, start, symbols, reading),
         Read::Laid(_, statement, notes) => {
-            keep_notes(notes, symbols, reading)?;
-            put(
-                statement,
-                data,
-                number,
-                start,
-                symbols.pass.is_last(),
-                reading,
-            )
+            keep_notes(notes, symbols, reading);
+            put(statement, data, number, start, reading);
         }
     }
 }
 
 /// Sees that no section is open where something is left out.
-fn check_skipped<A: Allocator>(start: LineError, reading: &mut Reading<A>) -> Result<(), Halt>
-    ensures { OnOk result ((item : Item) → IsNoSection item
-        → ReadsOn (item ∷ []) reading.old reading.new) }
+fn check_skipped<A: Allocator>(start: LineError, reading: &mut Reading<A>)
+    ensures { (item : Item) → IsNoSection item → ReadsOn (item ∷ []) reading.old reading.new }
 {
     if reading.current < reading.sections.len() {
-        Err(Halt::Error(start.with_kind(SourceErrorKind::Moved)))
-    } else {
-        Ok(())
+        reading.fail(start.with_kind(SourceErrorKind::Moved));
     }
 }
 
-/// Opens a section: in the last reading one that was met before.
+/// Opens a section. One that is laid out has to be there in the last reading.
 fn open<'a, A: Allocator + Copy>(
-    alloc: A,
     name: &'a [u8],
     kind: Option<SectionKind>,
     start: LineError,
-    is_last: bool,
     reading: &mut Reading<'a, A>,
-) -> Result<(), Halt>
-    ensures { OnOk result (is_last ≡ true
-        → ReadsOn (Item.Section name.now ∷ []) reading.old reading.new) }
+)
+    ensures { ReadsOn (Item.Section name.now ∷ []) reading.old reading.new }
 {
-    if !is_last {
-        return open_early(alloc, name, kind, start, reading);
-    }
     let index = section_named(&reading.sections, name);
-    if is_missing(&reading.sections, name, index) {
-        return Err(Halt::Error(start.with_kind(SourceErrorKind::Sections)));
-    }
     reading.current = index;
-    Ok(())
+    if is_missing(&reading.sections, name, index) {
+        reading.open_new(name, kind, start);
+    }
 }
 
 /// Whether a section is laid out, and is none of these.
@@ -547,178 +549,139 @@ fn is_missing<A: Allocator>(sections: &[Section<A>], name: &[u8], index: usize) 
     index >= sections.len() && is_laid_out(name)
 }
 
-/// Opens a section before the last reading, which may be a new one.
-fn open_early<'a, A: Allocator + Copy>(
-    alloc: A,
-    name: &'a [u8],
-    kind: Option<SectionKind>,
-    start: LineError,
-    reading: &mut Reading<'a, A>,
-) -> Result<(), Halt> {
-    let index = section_named(&reading.sections, name);
-    reading.current = index;
-    let Some(kind) = kind else {
-        return Ok(());
-    };
-    if index >= MOST_SECTIONS {
-        return Err(Halt::Error(start.with_kind(SourceErrorKind::Sections)));
-    }
-    if index >= reading.sections.len() {
-        let alignment = if matches!(kind, SectionKind::Code) {
-            4
-        } else {
-            1
-        };
-        let section = Section::new(alloc, name, kind, alignment, 0);
-        reading.sections.push(section)?;
-    }
-    Ok(())
-}
-
-/// Keeps what a statement asks beside its bytes. In the last reading the sections are aligned.
-fn keep_notes<A: Allocator + Copy>(
-    notes: Notes,
-    symbols: &mut Symbols<A>,
-    reading: &mut Reading<A>,
-) -> Result<(), Halt>
-    ensures pass { symbols.new.pass ≡ symbols.old.pass }
-    ensures same { symbols.old.pass ≡ Pass.Last → reading.new ≡ reading.old }
+/// Keeps what a statement asks beside its bytes.
+fn keep_notes<A: Allocator>(notes: Notes, symbols: &mut Symbols<A>, reading: &mut Reading<A>)
+    ensures { ReadsOn [] reading.old reading.new }
 {
     if let Some(distance) = notes.distance {
-        symbols.keep_distance(reading.site().here, distance)?;
+        symbols.keep_distance(reading.site().here, distance);
     }
-    if !symbols.pass.is_last() {
-        reading.align(reading.current, notes.alignment);
-    }
-    Ok(())
+    reading.align(reading.current, notes.alignment);
 }
 
-/// Defines a symbol.
-fn define<'a, A: Allocator + Copy>(
+/// Defines a constant.
+fn define_constant<'a, A: Allocator>(
+    name: &'a [u8],
+    value: u64,
+    start: LineError,
+    symbols: &mut Symbols<'a, A>,
+    reading: &mut Reading<'a, A>,
+)
+    ensures { ReadsOn [] reading.old reading.new }
+{
+    if let Some(kind) = define(name, value, false, symbols) {
+        reading.fail(start.with_kind(kind));
+    }
+}
+
+/// Defines a symbol. Tells what is wrong with it.
+fn define<'a, A: Allocator>(
     name: &'a [u8],
     value: u64,
     is_label: bool,
-    start: LineError,
     symbols: &mut Symbols<'a, A>,
-) -> Result<(), Halt>
-    ensures { symbols.new.pass ≡ symbols.old.pass }
-{
-    let kind = if register_number(name).is_some() {
+) -> Option<SourceErrorKind> {
+    if register_number(name).is_some() {
         Some(SourceErrorKind::Reserved)
     } else if name == b".".as_slice() {
         Some(SourceErrorKind::Unsupported)
     } else {
-        symbols.define(name, value, is_label)?
-    };
-    match kind {
-        None => Ok(()),
-        Some(kind) => Err(Halt::Error(LineError { kind, ..start })),
+        symbols.define(name, value, is_label)
     }
 }
 
-/// Defines a label, and gives what is known of it then.
-fn define_label<'a, A: Allocator + Copy>(
+/// Defines a label. Tells what is wrong with it, and what is known of it then.
+fn define_label<'a, A: Allocator>(
     name: &'a [u8],
     here: u32,
-    start: LineError,
     symbols: &mut Symbols<'a, A>,
-) -> Result<Known, Halt>
-    ensures { symbols.new.pass ≡ symbols.old.pass }
-{
+) -> (Option<SourceErrorKind>, Known) {
     match name {
         [digit @ b'0'..=b'9'] => {
             let digit = *digit - b'0';
-            symbols.define_local(digit, here)?;
-            Ok(symbols.scope().local_value(digit, true))
+            symbols.define_local(digit, here);
+            (None, symbols.scope().local_value(digit, true))
         }
         _ => {
-            define(name, u64::from(here), true, start, symbols)?;
-            Ok(symbols.scope().value_of(name))
+            let wrong = define(name, u64::from(here), true, symbols);
+            (wrong, symbols.scope().value_of(name))
         }
     }
 }
 
 /// Puts a label behind what is in the open section, if its address is what its name stands for.
-fn put_label<'a, A: Allocator + Copy>(
+fn put_label<'a, A: Allocator>(
     name: &'a [u8],
     number: usize,
     start: LineError,
     symbols: &mut Symbols<'a, A>,
     reading: &mut Reading<'a, A>,
-) -> Result<(), Halt>
-    ensures pass { symbols.new.pass ≡ symbols.old.pass }
-    ensures items { OnOk result (symbols.old.pass ≡ Pass.Last
-        → ReadsOn (Item.Label number name.now ∷ []) reading.old reading.new) }
+)
+    ensures { ReadsOn (Item.Label number name.now ∷ []) reading.old reading.new }
 {
-    let here = reading.site().here;
-    let known = define_label(name, here, start, symbols)?;
-    if !symbols.pass.is_last() {
-        return Ok(());
+    let (wrong, known) = define_label(name, reading.site().here, symbols);
+    if let Some(kind) = wrong {
+        return reading.fail(start.with_kind(kind));
     }
     match reading.sections.get_mut(reading.current) {
-        Some(section) => section.put_label(number, name, known, start),
-        None => Err(Halt::Error(start.with_kind(SourceErrorKind::Moved))),
+        Some(section) => {
+            let put = section.put_label(number, name, known, start);
+            reading.keep(put);
+        }
+        None => reading.fail(start.with_kind(SourceErrorKind::Moved)),
     }
 }
 
 /// Puts a symbol, with bytes that are zero, behind what is in `COMMON`. The section that is open
 /// stays open.
-fn put_common<'a, A: Allocator + Copy>(
+fn put_common<'a, A: Allocator>(
     name: &'a [u8],
     common: Common,
     number: usize,
     start: LineError,
     symbols: &mut Symbols<'a, A>,
     reading: &mut Reading<'a, A>,
-) -> Result<(), Halt>
-    ensures pass { symbols.new.pass ≡ symbols.old.pass }
-    ensures items { OnOk result (symbols.old.pass ≡ Pass.Last → (directive : List ℕ)
-        → is_one_of fill_names directive ≡ true
-        → ReadsOn (Item.Common number directive name.now ∷ []) reading.old reading.new) }
+)
+    ensures { (directive : List ℕ) → is_one_of fill_names directive ≡ true
+        → ReadsOn (Item.Common number directive name.now ∷ []) reading.old reading.new }
 {
     let current = reading.current;
     reading.current = section_named(&reading.sections, b"COMMON");
-    let put = put_symbol(name, common, number, start, symbols, reading);
+    put_symbol(name, common, number, start, symbols, reading);
     reading.current = current;
-    put
 }
 
 /// Puts a symbol, behind zeros up to its alignment and before those that are its bytes, behind what
 /// is in the open section.
-fn put_symbol<'a, A: Allocator + Copy>(
+fn put_symbol<'a, A: Allocator>(
     name: &'a [u8],
     common: Common,
     number: usize,
     start: LineError,
     symbols: &mut Symbols<'a, A>,
     reading: &mut Reading<'a, A>,
-) -> Result<(), Halt>
-    ensures pass { symbols.new.pass ≡ symbols.old.pass }
-    ensures items { OnOk result (symbols.old.pass ≡ Pass.Last → (directive : List ℕ)
-        → is_one_of fill_names directive ≡ true
-        → (reading.old.current < length reading.old.sections.items)
-        × ReadsOn (in_common number directive name.now) reading.old reading.new) }
+)
+    ensures open { IsGood reading.new → reading.old.current < length reading.old.sections.items }
+    ensures items { (directive : List ℕ) → is_one_of fill_names directive ≡ true
+        → ReadsOn (in_common number directive name.now) reading.old reading.new }
 {
     if reading.current >= reading.sections.len() {
-        return Err(Halt::Error(start.with_kind(SourceErrorKind::Sections)));
+        return reading.fail(start.with_kind(SourceErrorKind::Sections));
     }
-    let padding = align_common(common.alignment, symbols.pass.is_last(), reading);
-    let (before, own) = (Statement::Fill(padding, 0), Statement::Fill(common.size, 0));
-    put(before, &[], number, start, symbols.pass.is_last(), reading)?;
-    put_label(name, number, start, symbols, reading)?;
-    put(own, &[], number, start, symbols.pass.is_last(), reading)
+    let padding = align_common(common.alignment, reading);
+    put(Statement::Fill(padding, 0), &[], number, start, reading);
+    put_label(name, number, start, symbols, reading);
+    put(Statement::Fill(common.size, 0), &[], number, start, reading);
 }
 
-/// How many bytes the open section takes up to an alignment. Before the last reading the section is
-/// aligned, and `.bss` too, of which `COMMON` is a part in GNU `as`.
-fn align_common<A: Allocator>(alignment: u32, is_last: bool, reading: &mut Reading<A>) -> u32
-    ensures { is_last ≡ true → reading.new ≡ reading.old }
+/// How many bytes the open section takes up to an alignment. The section is aligned, and `.bss` too,
+/// of which `COMMON` is a part in GNU `as`.
+fn align_common<A: Allocator>(alignment: u32, reading: &mut Reading<A>) -> u32
+    ensures { ReadsOn [] reading.old reading.new }
 {
-    if !is_last {
-        let bss = section_named(&reading.sections, b".bss");
-        reading.align(bss, alignment);
-        reading.align(reading.current, alignment);
-    }
+    let bss = section_named(&reading.sections, b".bss");
+    reading.align(bss, alignment);
+    reading.align(reading.current, alignment);
     match reading.sections.get(reading.current) {
         Some(section) => section.padding(alignment),
         None => 0,
@@ -731,19 +694,20 @@ fn put<A: Allocator>(
     data: &[u8],
     number: usize,
     start: LineError,
-    is_last: bool,
     reading: &mut Reading<A>,
-) -> Result<(), Halt>
-    ensures { OnOk result (is_last ≡ true → (name : List ℕ) → IsNamed name statement
-        → ReadsOn (Item.Laid number name ∷ []) reading.old reading.new) }
+)
+    ensures { (name : List ℕ) → IsNamed name statement
+        → ReadsOn (Item.Laid number name ∷ []) reading.old reading.new }
 {
-    let total = reading.total.saturating_add(statement.size());
-    if total > MOST_BYTES {
-        return Err(Halt::Error(start.with_kind(SourceErrorKind::TooLong)));
+    reading.total = reading.total.saturating_add(statement.size());
+    if reading.total > MOST_BYTES {
+        return reading.fail(start.with_kind(SourceErrorKind::TooLong));
     }
-    reading.total = total;
     match reading.sections.get_mut(reading.current) {
-        Some(section) => section.put(number, statement, data, is_last, start),
-        None => Err(Halt::Error(start.with_kind(SourceErrorKind::Moved))),
+        Some(section) => {
+            let put = section.put(number, statement, data, start);
+            reading.keep(put);
+        }
+        None => reading.fail(start.with_kind(SourceErrorKind::Moved)),
     }
 }

@@ -11,7 +11,7 @@ use crate::output::MOST_BYTES;
 use crate::sections::{SectionKind, is_laid_out, kind_of_name};
 use crate::statements::Statement;
 use rrs_lines::{Halt, Line, LineError, Notes, SourceErrorKind, escaped, is_name, split_word};
-use std::alloc::{AllocError, Allocator};
+use std::alloc::Allocator;
 
 /// The greatest alignment, as a power of 2.
 const MOST_ALIGNED: u32 = 16;
@@ -66,7 +66,7 @@ pub fn read_directive<'a, A: Allocator>(
             Ok(Read::Skipped(name, false))
         }
         DirectiveForm::Place(form) => {
-            let statement = read_placed(line, name, form, data)?;
+            let statement = read_placed(line, name, form, data);
             Ok(Read::Laid(name, statement, line.notes))
         }
         _ => Ok(read_said(line, form, name, operands, error)),
@@ -248,30 +248,26 @@ fn read_placed<A: Allocator>(
     name: &[u8],
     form: PlacedForm,
     data: &mut Vec<u8, A>,
-) -> Result<Statement, AllocError>
+) -> Statement
     requires { fits_placed name.now form ≡ true }
-    ensures { IfOk result (IsNamed name.now) }
+    ensures { IsNamed name.now result }
 {
     match form {
         PlacedForm::Data(form) => {
             data.clear();
-            read_bytes(line, form, data)?;
-            Ok(Statement::Data(data.len()))
+            read_bytes(line, form, data);
+            Statement::Data(data.len())
         }
         PlacedForm::Space => {
             let (count, byte) = read_space(line);
-            Ok(Statement::Fill(count, byte))
+            Statement::Fill(count, byte)
         }
-        PlacedForm::Origin => Ok(Statement::Fill(read_origin(line), 0)),
+        PlacedForm::Origin => Statement::Fill(read_origin(line), 0),
     }
 }
 
 /// Reads the operands of a directive that puts bytes at its address, and appends these.
-fn read_bytes<A: Allocator>(
-    line: &mut Line,
-    form: DataForm,
-    bytes: &mut Vec<u8, A>,
-) -> Result<(), AllocError> {
+fn read_bytes<A: Allocator>(line: &mut Line, form: DataForm, bytes: &mut Vec<u8, A>) {
     match form {
         DataForm::Numbers(bits) => read_data(line, bits, bytes),
         DataForm::Strings(is_ended) => read_strings(line, is_ended, bytes),
@@ -299,19 +295,14 @@ fn read_constant<'a>(line: &mut Line<'a, '_>) -> Read<'a>
 }
 
 /// Reads numbers of so many bits each, with commas between them.
-fn read_data<A: Allocator>(
-    line: &mut Line,
-    bits: u32,
-    bytes: &mut Vec<u8, A>,
-) -> Result<(), AllocError> {
+fn read_data<A: Allocator>(line: &mut Line, bits: u32, bytes: &mut Vec<u8, A>) {
     for _ in 0..u64::MAX {
         let own = datum(line, bits).to_le_bytes();
-        bytes.extend_from_slice(&own[..bytes_in(bits)])?;
+        line.keep(bytes.extend_from_slice(&own[..bytes_in(bits)]));
         if !line.take(b',') {
             break;
         }
     }
-    Ok(())
 }
 
 /// Reads a number of so many bits.
@@ -336,18 +327,17 @@ fn bytes_in(bits: u32) -> usize
 }
 
 /// Reads how often a number stands, how many bytes it has, and the number.
-fn read_pattern<A: Allocator>(line: &mut Line, bytes: &mut Vec<u8, A>) -> Result<(), AllocError> {
+fn read_pattern<A: Allocator>(line: &mut Line, bytes: &mut Vec<u8, A>) {
     let count = read_count(line);
     let (size, value) = read_pattern_item(line);
     if count as usize * size as usize > MOST_BYTES {
         line.want(false, SourceErrorKind::TooLong);
-        return Ok(());
+        return;
     }
     let own = u64::from(value).to_le_bytes();
     for _ in 0..count {
-        bytes.extend_from_slice(&own[..size as usize])?;
+        line.keep(bytes.extend_from_slice(&own[..size as usize]));
     }
-    Ok(())
 }
 
 /// Reads how many bytes a number has, at most 8 and 1 where none is said, and the number, which is 0
@@ -364,33 +354,27 @@ fn read_pattern_item(line: &mut Line) -> (u32, u32)
 }
 
 /// Reads strings with commas between them, and puts a zero byte behind each if that is asked.
-fn read_strings<A: Allocator>(
-    line: &mut Line,
-    is_ended: bool,
-    bytes: &mut Vec<u8, A>,
-) -> Result<(), AllocError> {
+fn read_strings<A: Allocator>(line: &mut Line, is_ended: bool, bytes: &mut Vec<u8, A>) {
     for _ in 0..u64::MAX {
-        read_string(line, bytes)?;
+        read_string(line, bytes);
         if is_ended {
-            bytes.push(0)?;
+            line.keep(bytes.extend_from_slice(&[0]));
         }
         if !line.take(b',') {
             break;
         }
     }
-    Ok(())
 }
 
 /// Reads a string, and appends its bytes.
-fn read_string<A: Allocator>(line: &mut Line, bytes: &mut Vec<u8, A>) -> Result<(), AllocError> {
+fn read_string<A: Allocator>(line: &mut Line, bytes: &mut Vec<u8, A>) {
     line.expect(b'"', SourceErrorKind::Quote);
     for _ in 0..u64::MAX {
         let Some(byte) = next_in_string(line) else {
             break;
         };
-        bytes.push(byte)?;
+        line.keep(bytes.extend_from_slice(&[byte]));
     }
-    Ok(())
 }
 
 /// Takes the next byte of a string, or its end, where there is none.
@@ -499,22 +483,23 @@ fn power_of_two(exponent: u32) -> u32 {
 }
 
 /// Reads which byte fills up to an alignment, and how many at most: otherwise nothing is filled.
-fn read_padding<A: Allocator>(
-    line: &mut Line,
-    alignment: u32,
-    bytes: &mut Vec<u8, A>,
-) -> Result<(), AllocError>
+/// Between instructions there are `nop`s behind zeros up to a multiple of 4, if no byte is said.
+fn read_padding<A: Allocator>(line: &mut Line, alignment: u32, bytes: &mut Vec<u8, A>)
     requires { 0 < alignment }
 {
     line.notes.alignment = alignment;
     let count = 0u32.wrapping_sub(line.site.here) % alignment;
     let (fill, most) = read_fill(line);
     if most < count {
-        return Ok(());
+        return;
     }
-    match fill {
-        None if line.site.is_code => push_padding(bytes, count),
-        _ => bytes.resize(count as usize, fill.unwrap_or(0)),
+    let has_nops = fill.is_none() && line.site.is_code;
+    let filled = if has_nops { count % 4 } else { count };
+    line.keep(bytes.resize(filled as usize, fill.unwrap_or(0)));
+    if has_nops {
+        for _ in 0..count / 4 {
+            line.keep(bytes.extend_from_slice(&[0x13, 0, 0, 0]));
+        }
     }
 }
 
@@ -535,13 +520,4 @@ fn read_fill(line: &mut Line) -> (Option<u8>, u32) {
         u32::MAX
     };
     (fill, most)
-}
-
-/// Appends so many bytes between instructions: zeros up to a multiple of 4, and then `nop`s.
-fn push_padding<A: Allocator>(bytes: &mut Vec<u8, A>, count: u32) -> Result<(), AllocError> {
-    bytes.resize((count % 4) as usize, 0)?;
-    for _ in 0..count / 4 {
-        bytes.extend_from_slice(&[0x13, 0, 0, 0])?;
-    }
-    Ok(())
 }

@@ -25,7 +25,7 @@ mod pseudo;
 mod sections;
 mod statements;
 
-pub use assembling::{assemble_source, assemble_source_in};
+pub use assembling::assemble_source;
 pub use errors::{SourceError, SourceFault};
 pub use output::{Assembled, Label, MOST_BYTES, Placed};
 pub use program::{Program, image};

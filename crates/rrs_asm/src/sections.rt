@@ -1,12 +1,12 @@
 //! Sections: their kinds, what was made of each, and where they lie.
 
-ghost use Rattle.std.specs.Prelude.{◌≡◌, ◌+◌, ◌%◌, ◌^◌, ℕ, List, [], ◌∷◌, true, false, OnOk, IfOk, IfSome, All, length};
+ghost use Rattle.std.specs.Prelude.{◌≡◌, ◌≤◌, ◌+◌, ◌%◌, ◌^◌, ℕ, List, [], ◌∷◌, true, false, OnOk, IfOk, IfSome, All, length};
 ghost use Rattle.rrs_asm.specs.Source.{Item, is_laid_out};
 ghost use Rattle.rrs_asm.specs.Names.{IsNamed};
 ghost use Rattle.rrs_asm.specs.Sections.{flat, is_data, data_address, filled_end, start_behind, IsBehind, AreBehind, ArePlaced};
 ghost use Rattle.rrs_asm.specs.Forms.{Grows, IsNew};
 
-use crate::output::{Assembled, Label, MOST_BYTES, too_long};
+use crate::output::{Assembled, Label};
 use crate::statements::Statement;
 use rrs_lines::{Halt, Known, LineError, SourceErrorKind};
 use std::alloc::{AllocError, Allocator, Global};
@@ -24,9 +24,6 @@ pub enum SectionKind {
     /// Data that is zero at first.
     Zero,
 }
-
-/// How many kinds there are.
-const KINDS: u8 = 4;
 
 impl SectionKind {
     /// How many kinds lie before it.
@@ -78,42 +75,37 @@ pub struct Section<'a, A: Allocator = Global> {
     pub alignment: u32,
     /// What is made of the items in it.
     pub made: Assembled<'a, A>,
-    /// How many bytes the statements so far take.
-    size: usize,
+    /// How many bytes it had in the reading before.
+    before: usize,
 }
 
 impl<'a, A: Allocator + Copy> Section<'a, A> {
     /// An empty section at an address.
-    pub fn new(alloc: A, name: &'a [u8], kind: SectionKind, alignment: u32, address: u32) -> Self
-        ensures { IsNew result }
-    {
+    pub fn new(alloc: A, name: &'a [u8], kind: SectionKind, alignment: u32, address: u32) -> Self {
         Section {
             name,
             kind,
             address,
             alignment,
             made: Assembled::new(alloc),
-            size: 0,
+            before: 0,
         }
     }
 }
 
 impl<'a, A: Allocator> Section<'a, A> {
-    /// How many bytes its statements take.
-    pub fn size(&self) -> usize {
-        self.size
-    }
-
     /// The address of what comes next in it.
     pub fn here(&self) -> u32
-        ensures { result ≡ (self.now.address + self.now.size) % 2 ^ 32 }
+        ensures { result ≡ (self.now.address + length self.now.made.bytes.items) % 2 ^ 32 }
     {
         self.address
-            .wrapping_add((self.size % 0x1_0000_0000) as u32)
+            .wrapping_add((self.made.bytes.len() % 0x1_0000_0000) as u32)
     }
 
     /// Asks for an alignment.
-    pub fn align(&mut self, alignment: u32) {
+    pub fn align(&mut self, alignment: u32)
+        ensures { Grows [] self.old self.new }
+    {
         if alignment > self.alignment {
             self.alignment = alignment;
         }
@@ -121,7 +113,23 @@ impl<'a, A: Allocator> Section<'a, A> {
 
     /// Goes on at the next multiple of 4.
     pub fn realign(&mut self) {
-        self.size = self.size.saturating_add(3) / 4 * 4;
+        let length = self.made.bytes.len().saturating_add(3) / 4 * 4;
+        let _ = self.made.bytes.resize(length, 0);
+    }
+
+    /// Takes what was made out again, before the source is read once more.
+    pub fn clear(&mut self)
+        ensures { IsNew self.new }
+    {
+        self.before = self.made.bytes.len();
+        self.made.labels.clear();
+        self.made.placed.clear();
+        self.made.bytes.clear();
+    }
+
+    /// Whether it has as many bytes as in the reading before.
+    fn is_steady(&self) -> bool {
+        self.made.bytes.len() == self.before
     }
 
     /// Puts a label of a line behind what is there, if its name stands for this address.
@@ -134,46 +142,42 @@ impl<'a, A: Allocator> Section<'a, A> {
     ) -> Result<(), Halt>
         ensures { OnOk result (Grows (Item.Label line name.now ∷ []) self.old self.new) }
     {
-        let moved = Halt::Error(start.with_kind(SourceErrorKind::Moved));
-        let here = self.here();
-        let address = address_of(known).ok_or(moved)?;
-        if address != here {
-            return Err(moved);
+        let address = self.here();
+        if address_of(known) != Some(address) {
+            return Err(Halt::Error(start.with_kind(SourceErrorKind::Moved)));
         }
-        self.made.labels.push(Label {
+        let label = Label {
             line,
             name,
-            address: here,
-        })?;
-        Ok(())
+            address,
+        };
+        Ok(self.made.labels.push(label)?)
     }
 
-    /// Counts the bytes of a statement, and puts it behind what is there if it is the last reading.
-    /// Its data are given, if it has some.
+    /// Puts a statement behind what is there. Its data are given, if it has some.
     pub fn put(
         &mut self,
         line: usize,
         statement: Statement,
         data: &[u8],
-        is_last: bool,
         start: LineError,
     ) -> Result<(), Halt>
-        ensures { OnOk result (is_last ≡ true → (name : List ℕ) → IsNamed name statement
+        ensures { OnOk result ((name : List ℕ) → IsNamed name statement
             → Grows (Item.Laid line name ∷ []) self.old self.new) }
     {
-        let size = self.size.saturating_add(statement.size());
-        if size > MOST_BYTES || size as u64 + u64::from(self.address) > 1 << 32 {
-            return Err(Halt::Error(start.with_kind(SourceErrorKind::TooLong)));
-        }
         if matches!(self.kind, SectionKind::Zero) && !statement.is_zero(data) {
             return Err(Halt::Error(start.with_kind(SourceErrorKind::Zeros)));
         }
-        self.size = size;
-        if is_last {
-            self.made.place(self.address, line, statement, data)
-        } else {
-            Ok(())
+        if self.end_with(&statement) > 1 << 32 {
+            return Err(Halt::Error(start.with_kind(SourceErrorKind::TooLong)));
         }
+        self.made.place(self.address, line, statement, data)
+    }
+
+    /// Where the section would end with a statement more.
+    fn end_with(&self, statement: &Statement) -> u64 {
+        let size = self.made.bytes.len().saturating_add(statement.size());
+        u64::from(self.address).saturating_add(size as u64)
     }
 
     /// How many bytes the next multiple of an alignment is away.
@@ -181,6 +185,26 @@ impl<'a, A: Allocator> Section<'a, A> {
         0u32.wrapping_sub(self.here())
             .checked_rem(alignment)
             .unwrap_or(0)
+    }
+
+    /// Gives it its address behind another one. None: it does not end within the addresses.
+    fn place_behind(&mut self, before: Option<Extent>, layout: Layout) -> Option<Extent> {
+        let (kind, alignment) = (self.kind, self.alignment);
+        let start = match before {
+            None => u64::from(layout.text_start),
+            Some(extent) => extent.start_behind(kind, alignment, layout)?,
+        };
+        let end = start.checked_add(self.made.bytes.len() as u64)?;
+        if end > 1 << 32 {
+            return None;
+        }
+        self.address = (start % 0x1_0000_0000) as u32;
+        Some(Extent {
+            kind,
+            alignment,
+            start,
+            end,
+        })
     }
 }
 
@@ -235,6 +259,8 @@ struct Extent {
     kind: SectionKind,
     /// Its alignment.
     alignment: u32,
+    /// Where it begins.
+    start: u64,
     /// Where it ends.
     end: u64,
 }
@@ -316,10 +342,12 @@ fn are_behind<'a, 'b, A: Allocator>(
 fn is_behind<A: Allocator>(before: &Section<A>, section: &Section<A>, layout: Layout) -> bool
     ensures { result ≡ true → IsBehind layout before.now section.now }
 {
-    let end = u64::from(before.address).saturating_add(before.made.bytes.len() as u64);
+    let start = u64::from(before.address);
+    let end = start.saturating_add(before.made.bytes.len() as u64);
     let extent = Extent {
         kind: before.kind,
         alignment: before.alignment,
+        start,
         end,
     };
     match extent.start_behind(section.kind, section.alignment, layout) {
@@ -328,85 +356,95 @@ fn is_behind<A: Allocator>(before: &Section<A>, section: &Section<A>, layout: La
     }
 }
 
-/// The sections, empty again, each at its address by the sizes that they have.
-pub fn laid_out<'a, A: Allocator + Copy>(
-    alloc: A,
-    sections: &[Section<'a, A>],
-    layout: Layout,
-) -> Result<Vec<Section<'a, A>, A>, Halt>
-    ensures { IfOk result (λ laid. All IsNew laid.items) }
-{
-    let mut laid = Vec::new(alloc);
+/// Gives each section its address, by the bytes that it has. Those that are left empty behind the
+/// last address are taken out. Whether all others end within the addresses.
+pub fn place<'a, A: Allocator>(sections: &mut Vec<Section<'a, A>, A>, layout: Layout) -> bool {
     let mut before = None;
-    for order in 0..KINDS {
-        for section in sections {
-            add_new(alloc, section, order, layout, &mut before, &mut laid)?;
+    let mut count = 0;
+    for (index, section) in sections.iter_mut().enumerate() {
+        match section.place_behind(before, layout) {
+            Some(extent) if extent.start < 1 << 32 => {
+                before = Some(extent);
+                count = index + 1;
+            }
+            Some(_) => (),
+            None => return false,
         }
     }
-    Ok(laid)
+    sections.truncate(count);
+    true
 }
 
-/// Adds a section of the kind with this place in the order, empty again, behind the others. One of
-/// another kind is none, and neither is one that is left empty behind the last address.
-fn add_new<'a, A: Allocator + Copy>(
-    alloc: A,
-    section: &Section<'a, A>,
-    order: u8,
-    layout: Layout,
-    before: &mut Option<Extent>,
-    laid: &mut Vec<Section<'a, A>, A>,
-) -> Result<(), Halt>
-    ensures { OnOk result (All IsNew laid.old.items → All IsNew laid.new.items) }
+/// Whether each section has as many bytes as in the reading before.
+pub fn are_steady<A: Allocator>(sections: &[Section<A>]) -> bool {
+    for section in sections {
+        if !section.is_steady() {
+            return false;
+        }
+    }
+    true
+}
+
+/// Takes out what was made of each section.
+pub fn clear_all<A: Allocator>(sections: &mut Vec<Section<A>, A>)
+    ensures { All IsNew sections.new.items }
 {
-    if section.kind.order() != order {
-        return Ok(());
+    for index in 0..sections.len() {
+        if let Some(section) = sections.get_mut(index) {
+            section.clear();
+        }
     }
-    let (kind, alignment) = (section.kind, section.alignment);
-    let start = match *before {
-        None => Some(u64::from(layout.text_start)),
-        Some(extent) => extent.start_behind(kind, alignment, layout),
-    };
-    let start = start.ok_or(too_long())?;
-    if start > u64::from(u32::MAX) && section.size == 0 {
-        return Ok(());
-    }
-    let Ok(address) = u32::try_from(start) else {
-        return Err(too_long());
-    };
-    let end = start.saturating_add(section.size as u64);
-    if end > 1 << 32 {
-        return Err(too_long());
-    }
-    *before = Some(Extent {
-        kind,
-        alignment,
-        end,
-    });
-    let fresh = Section::new(alloc, section.name, kind, alignment, address);
-    laid.push(fresh)?;
-    Ok(())
 }
 
-/// The name, the kind and the alignment of each section that every source has.
-const FIRST_SECTIONS: [(&[u8], SectionKind, u32); 4] = [
-    (b".text", SectionKind::Code, 4),
-    (b".data", SectionKind::Data, 1),
-    (b".bss", SectionKind::Zero, 1),
-    (b"COMMON", SectionKind::Zero, 1),
+/// Puts an empty section at an address behind those of its kind and of the kinds before. Which one
+/// of them it is then.
+pub fn insert<'a, A: Allocator + Copy>(
+    alloc: A,
+    name: &'a [u8],
+    kind: SectionKind,
+    address: u32,
+    sections: &mut Vec<Section<'a, A>, A>,
+) -> Result<usize, AllocError> {
+    let index = index_behind(kind, sections);
+    let alignment = match kind {
+        SectionKind::Code => 4,
+        _ => 1,
+    };
+    let section = Section::new(alloc, name, kind, alignment, address);
+    sections.insert(index, section)?;
+    Ok(index)
+}
+
+/// Which section is the first one of a kind behind a kind: as many as there are where none is.
+fn index_behind<A: Allocator>(kind: SectionKind, sections: &[Section<A>]) -> usize
+    ensures { result ≤ length sections.now }
+{
+    for (index, section) in sections.iter().enumerate() {
+        if section.kind.order() > kind.order() {
+            return index;
+        }
+    }
+    sections.len()
+}
+
+/// The name and the kind of each section that every source has.
+const FIRST_SECTIONS: [(&[u8], SectionKind); 4] = [
+    (b".text", SectionKind::Code),
+    (b".data", SectionKind::Data),
+    (b".bss", SectionKind::Zero),
+    (b"COMMON", SectionKind::Zero),
 ];
 
-/// The sections that every source has, at the addresses that are said.
-pub fn first_sections<'a, A: Allocator + Copy>(
+/// Puts the sections that every source has, at the addresses that are said.
+pub fn insert_first<'a, A: Allocator + Copy>(
     alloc: A,
     layout: Layout,
-) -> Result<Vec<Section<'a, A>, A>, AllocError> {
-    let mut sections = Vec::new(alloc);
-    for (name, kind, alignment) in &FIRST_SECTIONS {
-        let address = first_address(*kind, layout);
-        let section = Section::new(alloc, *name, *kind, *alignment, address);
-        sections.push(section)?;
+    sections: &mut Vec<Section<'a, A>, A>,
+) -> Result<(), AllocError> {
+    for (name, kind) in &FIRST_SECTIONS {
+        let _ = insert(alloc, *name, *kind, first_address(*kind, layout), sections)?;
     }
-    Ok(sections)
+    Ok(())
 }
 
 /// Where a section of a kind lies before its address is known.

@@ -106,7 +106,7 @@ fn every_line_with_a_mistake_is_told(rt: HostRuntime) -> Result<(), Fail> {
     Ok(())
 }
 
-/// The last statement ends at the end of addresses, and none follows it.
+/// The last statement ends at the end of addresses, and no statement and no section follows it.
 #[test]
 fn addresses_end(rt: HostRuntime) -> Result<(), Fail> {
     same_words(&rt, rt.alloc(), ".word .", 0xffff_fffc, &[0xffff_fffc])?;
@@ -116,6 +116,7 @@ fn addresses_end(rt: HostRuntime) -> Result<(), Fail> {
         kind: SourceErrorKind::TooLong,
     };
     same_mistakes(&rt, rt.alloc(), "nop\nnop", 0xffff_fffc, &[error])?;
+    same_mistakes(&rt, rt.alloc(), "nop\n.data", 0xffff_fffc, &[error])?;
     Ok(())
 }
 

@@ -11,9 +11,7 @@ use crate::mistakes::{of_macros, told_of_mistakes};
 use crate::outcome::{ASSEMBLED, MISTAKES, RrsMistake, RrsStatement, RrsSymbol};
 use crate::statements::{has_long, statements_of};
 use crate::symbols::symbols_of;
-use rrs_asm::{
-    Layout, Program, SourceError, SourceErrorKind, SourceFault, assemble_source_in, image,
-};
+use rrs_asm::{Layout, Program, SourceError, SourceErrorKind, SourceFault, assemble_source, image};
 use rrs_assembly::{Mistake, entry_of, mistakes_of};
 use rrs_macros::{Expanded, MacroFault, expand_in, without_block_comments};
 use std::alloc::{AllocError, Allocator};
@@ -70,7 +68,7 @@ fn told_of_text<A: Allocator + Copy>(
     ensures { (source : _) → IsTextOf (without_comments source) expanded.now
         → IfOk result (IsTold source start) }
 {
-    match assemble_source_in(alloc, &expanded.text, Layout::flat(start)) {
+    match assemble_source(alloc, &expanded.text, Layout::flat(start)) {
         Ok(program) if has_long(&program.sections) => refused(alloc, expanded, &[TOO_LONG]),
         Ok(program) => made(alloc, expanded, &program, start),
         Err(SourceFault::OutOfMemory) => Err(AllocError),

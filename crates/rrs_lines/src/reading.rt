@@ -2,12 +2,13 @@
 
 ghost use Rattle.std.specs.Prelude.{◌≡◌, ◌+◌, ◌*◌, ◌/◌, ◌%◌, ◌^◌};
 
-use crate::errors::{LineError, SourceErrorKind};
+use crate::errors::{Halt, LineError, SourceErrorKind};
 use crate::expressions::{LOOSEST, Operator, Waiting, operator_before, operator_between};
 use crate::lexing::{behind_blanks, is_name, split_word};
 use crate::literals::{digit_of, escaped, number_of};
 use crate::registers::register_number;
 use crate::symbols::{Known, Scope};
+use std::alloc::AllocError;
 
 /// Where a statement stands.
 #[derive(Clone, Copy)]
@@ -71,8 +72,8 @@ pub struct Line<'a, 's> {
     pub site: Site,
     /// What it asks beside its bytes.
     pub notes: Notes,
-    /// The first mistake in it.
-    pub mistake: Option<LineError>,
+    /// The first mistake in it, or that memory is missing.
+    pub mistake: Option<Halt>,
 }
 
 impl<'a, 's> Line<'a, 's> {
@@ -103,9 +104,17 @@ impl<'a, 's> Line<'a, 's> {
     /// Keeps a mistake, if it is the first one, and takes all that is left.
     pub fn fail(&mut self, error: LineError) {
         if self.mistake.is_none() {
-            self.mistake = Some(error);
+            self.mistake = Some(Halt::Error(error));
         }
         self.skip_all();
+    }
+
+    /// Keeps that memory is missing where something could not be kept.
+    pub fn keep(&mut self, kept: Result<(), AllocError>) {
+        if kept.is_err() {
+            self.mistake = Some(Halt::OutOfMemory);
+            self.skip_all();
+        }
     }
 
     /// Keeps a mistake at this place where something is not as it has to be.

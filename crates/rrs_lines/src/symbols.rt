@@ -2,11 +2,8 @@
 //!
 //! All are entries of one table, found by a hash of their name or number.
 
-ghost use Rattle.std.specs.Prelude.{◌≡◌, true};
-ghost use Rattle.rrs_lines.specs.declared.symbols.Pass.{Pass};
-
 use crate::errors::SourceErrorKind;
-use std::alloc::{AllocError, Allocator, Global};
+use std::alloc::{Allocator, Global};
 
 /// A reading of the source.
 #[derive(Clone, Copy, PartialEq)]
@@ -23,9 +20,7 @@ pub enum Pass {
 
 impl Pass {
     /// Whether the source is read for the last time.
-    pub fn is_last(self) -> bool
-        ensures { self ≡ Pass.Last → result ≡ true }
-    {
+    pub fn is_last(self) -> bool {
         matches!(self, Pass::Last)
     }
 }
@@ -109,8 +104,10 @@ pub struct Symbols<'a, A: Allocator = Global> {
     slots: Vec<usize, A>,
     /// How many local labels of each digit were met in this reading.
     counts: [u32; 10],
-    /// How many statements with `%pcrel_hi` were met.
-    distances: usize,
+    /// Whether a statement with `%pcrel_hi` was met.
+    has_distances: bool,
+    /// Whether memory was missing for an entry.
+    is_full: bool,
     /// Which reading it is.
     pub pass: Pass,
 }
@@ -199,9 +196,7 @@ impl Scope<'_, '_> {
 
 impl<'a, A: Allocator> Symbols<'a, A> {
     /// Begins another reading.
-    pub fn begin(&mut self, pass: Pass)
-        ensures { self.new.pass ≡ pass }
-    {
+    pub fn begin(&mut self, pass: Pass) {
         self.counts = [0; 10];
         self.pass = pass;
     }
@@ -218,27 +213,27 @@ impl<'a, A: Allocator> Symbols<'a, A> {
 
     /// Whether a `%pcrel_hi` was met.
     pub fn has_distances(&self) -> bool {
-        self.distances > 0
+        self.has_distances
+    }
+
+    /// Whether memory was missing for a symbol or a distance, which is then not there.
+    pub fn is_full(&self) -> bool {
+        self.is_full
     }
 
     /// Keeps how far a `%pcrel_hi` reaches.
-    pub fn keep_distance(&mut self, address: u32, distance: u32) -> Result<(), AllocError>
-        ensures { self.new.pass ≡ self.old.pass }
-    {
-        self.distances = self.distances.saturating_add(1);
-        self.put(Key::Number(DISTANCE, address), u64::from(distance), false)
+    pub fn keep_distance(&mut self, address: u32, distance: u32) {
+        self.has_distances = true;
+        self.put(Key::Number(DISTANCE, address), u64::from(distance), false);
     }
 
     /// Defines a local label of a digit.
-    pub fn define_local(&mut self, digit: u8, address: u32) -> Result<(), AllocError>
-        ensures { self.new.pass ≡ self.old.pass }
-    {
-        let Some(count) = self.counts.get_mut(usize::from(digit)) else {
-            return Ok(());
-        };
-        let key = Key::Number(digit, *count);
-        *count = count.saturating_add(1);
-        self.put(key, u64::from(address), true)
+    pub fn define_local(&mut self, digit: u8, address: u32) {
+        if let Some(count) = self.counts.get_mut(usize::from(digit)) {
+            let key = Key::Number(digit, *count);
+            *count = count.saturating_add(1);
+            self.put(key, u64::from(address), true);
+        }
     }
 
     /// Defines a label, or a constant. Tells what is wrong with it.
@@ -247,22 +242,18 @@ impl<'a, A: Allocator> Symbols<'a, A> {
         name: &'a [u8],
         value: u64,
         is_label: bool,
-    ) -> Result<Option<SourceErrorKind>, AllocError>
-        ensures { self.new.pass ≡ self.old.pass }
-    {
+    ) -> Option<SourceErrorKind> {
         if let Some(old) = self.scope().entry(Key::Name(name)) {
             if (is_label || old.is_label) && (old.met == self.pass || old.is_label != is_label) {
-                return Ok(Some(SourceErrorKind::Duplicate));
+                return Some(SourceErrorKind::Duplicate);
             }
         }
-        self.put(Key::Name(name), value, is_label)?;
-        Ok(None)
+        self.put(Key::Name(name), value, is_label);
+        None
     }
 
     /// Puts a value in the place of the one with this key, or behind all.
-    fn put(&mut self, key: Key<'a>, value: u64, is_label: bool) -> Result<(), AllocError>
-        ensures { self.new.pass ≡ self.old.pass }
-    {
+    fn put(&mut self, key: Key<'a>, value: u64, is_label: bool) {
         let met = self.pass;
         if let Some(index) = self.scope().find(key) {
             if let Some(entry) = self.entries.get_mut(index) {
@@ -270,32 +261,37 @@ impl<'a, A: Allocator> Symbols<'a, A> {
                 entry.is_label = is_label;
                 entry.met = met;
             }
-            return Ok(());
+            return;
         }
-        let index = self.entries.len();
-        if index >= self.slots.len() {
-            self.grow()?;
-        }
-        self.entries.push(Entry {
+        self.add(Entry {
             key,
             value,
             is_label,
             met,
             next: NONE,
-        })?;
-        link(&mut self.entries, &mut self.slots, index);
-        Ok(())
+        });
     }
 
-    /// Makes twice as many slots.
-    fn grow(&mut self) -> Result<(), AllocError>
-        ensures { self.new.pass ≡ self.old.pass }
-    {
+    /// Puts an entry behind all.
+    fn add(&mut self, entry: Entry<'a>) {
+        let index = self.entries.len();
+        if self.entries.push(entry).is_err() {
+            self.is_full = true;
+        } else if index < self.slots.len() {
+            link(&mut self.entries, &mut self.slots, index);
+        } else {
+            self.grow();
+        }
+    }
+
+    /// Makes twice as many slots, and puts each entry in its slot.
+    fn grow(&mut self) {
         let count = self.slots.len().saturating_mul(2).saturating_add(FEWEST);
         self.slots.clear();
-        self.slots.resize(count, NONE)?;
+        if self.slots.resize(count, NONE).is_err() {
+            self.is_full = true;
+        }
         link_all(&mut self.entries, &mut self.slots);
-        Ok(())
     }
 }
 
@@ -328,7 +324,8 @@ impl<'a, A: Allocator + Copy> Symbols<'a, A> {
             entries: Vec::new(alloc),
             slots: Vec::new(alloc),
             counts: [0; 10],
-            distances: 0,
+            has_distances: false,
+            is_full: false,
             pass: Pass::First,
         }
     }

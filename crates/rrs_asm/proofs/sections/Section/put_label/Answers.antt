@@ -4,4 +4,4 @@ use Rattle.rrs_asm.proofs.sections.Section.put_label.Goals as goal
 
 -- the label stands behind the others
 pub returns : goal.returns
-returns g c = Grows-label c.args.line c.args.name.now _ c.args.self.now _ refl refl refl c.in_ok-push.ensures.items refl refl refl refl c.here-here.ensures
+returns g c = Grows-label c.args.line c.args.name.now _ c.args.self.now _ refl refl c.in_ok-push.ensures.items refl refl refl refl c.here-address.ensures
