@@ -13,7 +13,7 @@ use crate::statements::{has_long, statements_of};
 use crate::symbols::symbols_of;
 use rrs_asm::{Layout, Program, SourceError, SourceErrorKind, SourceFault, assemble_source, image};
 use rrs_assembly::{Mistake, entry_of, mistakes_of};
-use rrs_macros::{Expanded, MacroFault, expand_in, without_block_comments};
+use rrs_macros::{Expanded, MacroFault, expand, without_block_comments};
 use std::alloc::{AllocError, Allocator};
 
 /// What is told of a source.
@@ -51,7 +51,7 @@ pub(crate) fn told_of<A: Allocator + Copy>(
     ensures { IfOk result (IsTold source.now start) }
 {
     let plain = without_block_comments(alloc, source)?;
-    match expand_in(alloc, &plain) {
+    match expand(alloc, &plain) {
         Ok(expanded) => told_of_text(alloc, &expanded, start),
         Err(MacroFault::OutOfMemory) => Err(AllocError),
         Err(MacroFault::Mistakes(errors)) => told_refused(alloc, &of_macros(alloc, &errors)?),

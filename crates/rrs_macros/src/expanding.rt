@@ -16,7 +16,7 @@ use crate::performing::{Span, Step, Turn, read_step};
 use crate::scanning::begins_directive;
 use crate::tables::Tables;
 use crate::words::has_directives;
-use std::alloc::{AllocError, Allocator, Global};
+use std::alloc::{AllocError, Allocator};
 
 /// The most macros and repetitions in one another, with the source.
 const MOST_DEPTH: usize = 100;
@@ -118,27 +118,7 @@ impl<A: Allocator + Copy> Expansion<A> {
 ///
 /// `MacroFault::Mistakes` with the first 20 mistakes, in the order in which they are met, and
 /// `MacroFault::OutOfMemory`.
-pub fn expand(alloc: Global, source: &[u8]) -> Result<Expanded, MacroFault>
-    ensures same { has_directives source.now ≡ false → IfOk result (IsSame source.now) }
-    ensures taken { has_directives source.now ≡ false
-        → IfErr result (λ fault. fault ≡ MacroFault.OutOfMemory) }
-    ensures gone { has_directives source.now ≡ true → IfOk result (λ expanded.
-        list_any begins_one (lines expanded.text.items) ≡ false) }
-    ensures mapped { IfOk result (IsMapped source.now) }
-    ensures above { has_directives source.now ≡ true → IfOk result (KeepsAbove source.now) }
-    ensures becomes { has_directives source.now ≡ true
-        → IfOk result (λ expanded. IsExpansion source.now expanded.text.items) }
-{
-    expand_in(alloc, source)
-}
-
-/// Does what [expand] does, with any allocator: in memory that a caller lends, say.
-///
-/// # Errors
-///
-/// `MacroFault::Mistakes` with the first 20 mistakes, in the order in which they are met, and
-/// `MacroFault::OutOfMemory`.
-pub fn expand_in<A: Allocator + Copy>(alloc: A, source: &[u8]) -> Result<Expanded<A>, MacroFault<A>>
+pub fn expand<A: Allocator + Copy>(alloc: A, source: &[u8]) -> Result<Expanded<A>, MacroFault<A>>
     ensures same { has_directives source.now ≡ false → IfOk result (IsSame source.now) }
     ensures taken { has_directives source.now ≡ false
         → IfErr result (λ fault. fault ≡ MacroFault.OutOfMemory) }

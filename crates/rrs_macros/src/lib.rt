@@ -31,5 +31,5 @@ mod words;
 
 pub use comments::without_block_comments;
 pub use errors::{MacroError, MacroErrorKind, MacroFault};
-pub use expanding::{MOST_MADE, expand, expand_in};
+pub use expanding::{MOST_MADE, expand};
 pub use output::Expanded;
