@@ -1,8 +1,8 @@
 -- The names of statements: of instructions, which are those of the table, of pseudo-instructions
 -- (RISC-V unprivileged specification, "RISC-V Assembly Programmer's Handbook"), and of directives
 -- (GNU assembler manual, "Assembler Directives").
-use Rattle.std.specs.Prelude.{◌≡◌, ℕ, Bool, true, false, ◌&&◌, ◌==◌, List, [], ◌∷◌, codes}
-use Rattle.std.specs.List.{list_any}
+use Rattle.std.specs.Prelude.{◌≡◌, ℕ, Bool, true, false, ◌&&◌, ◌||◌, ◌==◌, List, [], ◌∷◌, codes}
+use Rattle.std.specs.List.{list_any, starts_with}
 use Rattle.std.specs.Str.{bytes_eq}
 use Rattle.rrs_instruction.specs.Table.{table}
 use Rattle.rrs_instruction.specs.Instructions.{row_of}
@@ -103,13 +103,7 @@ silent_names =
     codes ".equ" ∷ codes ".set" ∷ codes ".globl" ∷ codes ".global" ∷ codes ".local"
     ∷ codes ".weak" ∷ codes ".hidden" ∷ codes ".internal" ∷ codes ".protected" ∷ codes ".extern"
     ∷ codes ".type" ∷ codes ".size" ∷ codes ".file" ∷ codes ".ident" ∷ codes ".option"
-    ∷ codes ".attribute" ∷ codes ".loc" ∷ codes ".cfi_startproc" ∷ codes ".cfi_endproc"
-    ∷ codes ".cfi_sections" ∷ codes ".cfi_def_cfa" ∷ codes ".cfi_def_cfa_offset"
-    ∷ codes ".cfi_def_cfa_register" ∷ codes ".cfi_adjust_cfa_offset" ∷ codes ".cfi_offset"
-    ∷ codes ".cfi_rel_offset" ∷ codes ".cfi_register" ∷ codes ".cfi_restore"
-    ∷ codes ".cfi_undefined" ∷ codes ".cfi_same_value" ∷ codes ".cfi_remember_state"
-    ∷ codes ".cfi_restore_state" ∷ codes ".cfi_return_column" ∷ codes ".cfi_signal_frame"
-    ∷ codes ".cfi_personality" ∷ codes ".cfi_lsda" ∷ codes ".cfi_escape" ∷ []
+    ∷ codes ".attribute" ∷ codes ".loc" ∷ []
 
 -- the directives that open a section
 unfoldable pub section_names : List (List ℕ)
@@ -125,8 +119,11 @@ abbrev pub begins_with_dot : List ℕ → Bool
 begins_with_dot [] = false
 begins_with_dot (b ∷ bs) = b == 46
 
+-- Those with `.cfi_` speak to debuggers.
 abbrev pub is_silent_name : List ℕ → Bool
-is_silent_name name = begins_with_dot name && is_one_of silent_names name
+is_silent_name name =
+    begins_with_dot name
+    && (starts_with (λ a b. a == b) name (codes ".cfi_") || is_one_of silent_names name)
 
 abbrev pub is_section_name : List ℕ → Bool
 is_section_name name = begins_with_dot name && is_one_of section_names name
