@@ -33,12 +33,16 @@ pub enum Form {
     Register,
     /// A register and an address that is jumped to.
     LinkRegister,
+    /// A label, and a register that is overwritten.
+    FarJump,
+    /// Two sets of accesses.
+    Fence,
     /// None.
     Alone,
 }
 
 /// The instructions and pseudo-instructions.
-pub static NAMES: [(&str, Form); 78] = [
+pub static NAMES: [(&str, Form); 79] = [
     ("add", Form::Registers),
     ("sub", Form::Registers),
     ("sll", Form::Registers),
@@ -108,12 +112,13 @@ pub static NAMES: [(&str, Form); 78] = [
     ("j", Form::Jump),
     ("call", Form::Jump),
     ("tail", Form::Jump),
+    ("jump", Form::FarJump),
     ("jal", Form::Link),
     ("jr", Form::Register),
     ("jalr", Form::LinkRegister),
     ("ecall", Form::Alone),
     ("ebreak", Form::Alone),
-    ("fence", Form::Alone),
+    ("fence", Form::Fence),
     ("nop", Form::Alone),
     ("ret", Form::Alone),
     ("unimp", Form::Alone),
@@ -133,16 +138,108 @@ pub static PAIRS: [(&str, &str); 10] = [
     ("li", "mv"),
 ];
 
+/// The directives, and how what follows them is written.
+pub static DIRECTIVES: [(&str, &str); 44] = [
+    (".text", ""),
+    (".data", ""),
+    (".bss", ""),
+    (".rodata", ""),
+    (".section", " name"),
+    (".word", " number, number"),
+    (".half", " number, number"),
+    (".byte", " number, number"),
+    (".dword", " number, number"),
+    (".long", " number, number"),
+    (".int", " number, number"),
+    (".short", " number, number"),
+    (".hword", " number, number"),
+    (".quad", " number, number"),
+    (".2byte", " number, number"),
+    (".4byte", " number, number"),
+    (".8byte", " number, number"),
+    (".string", " \"text\""),
+    (".asciz", " \"text\""),
+    (".ascii", " \"text\""),
+    (".space", " bytes"),
+    (".zero", " bytes"),
+    (".skip", " bytes"),
+    (".fill", " count, size, number"),
+    (".align", " power"),
+    (".p2align", " power"),
+    (".balign", " bytes"),
+    (".org", " address"),
+    (".equ", " name, number"),
+    (".set", " name, number"),
+    (".comm", " name, bytes, alignment"),
+    (".lcomm", " name, bytes"),
+    (".globl", " name"),
+    (".global", " name"),
+    (".extern", " name"),
+    (".macro", " name a, b"),
+    (".endm", ""),
+    (".rept", " count"),
+    (".irp", " a, 1, 2"),
+    (".endr", ""),
+    (".if", " number"),
+    (".ifdef", " name"),
+    (".else", ""),
+    (".endif", ""),
+];
+
+/// Names that other assemblers have, and what is written here.
+static ELSEWHERE: [(&str, &str); 24] = [
+    ("move", "mv"),
+    ("mov", "mv"),
+    ("addiu", "addi"),
+    ("subi", "addi"),
+    ("addu", "add"),
+    ("subu", "sub"),
+    ("mult", "mul"),
+    ("b", "j"),
+    ("bal", "jal"),
+    ("jmp", "j"),
+    ("goto", "j"),
+    ("return", "ret"),
+    ("syscall", "ecall"),
+    ("int", "ecall"),
+    ("ld", "lw"),
+    ("ldr", "lw"),
+    ("lwu", "lw"),
+    ("sd", "sw"),
+    ("str", "sw"),
+    (".asciiz", ".asciz"),
+    (".eqv", ".equ"),
+    (".equiv", ".equ"),
+    (".db", ".byte"),
+    (".dw", ".word"),
+];
+
 /// The directives whose numbers have a range.
-static RANGES: [(&str, &str); 8] = [
+static RANGES: [(&str, &str); 24] = [
     (".byte", " takes -128 to 255"),
     (".half", " takes -32768 to 65535"),
     (".short", " takes -32768 to 65535"),
     (".2byte", " takes -32768 to 65535"),
     (".hword", " takes -32768 to 65535"),
+    (".word", " takes -2147483648 to 4294967295"),
+    (".long", " takes -2147483648 to 4294967295"),
+    (".int", " takes -2147483648 to 4294967295"),
+    (".4byte", " takes -2147483648 to 4294967295"),
+    (".equ", " takes -2147483648 to 4294967295"),
+    (".set", " takes -2147483648 to 4294967295"),
+    (".dword", " takes 64 bits"),
+    (".quad", " takes 64 bits"),
+    (".8byte", " takes 64 bits"),
     (".align", " takes 0 to 16, the power of 2"),
     (".p2align", " takes 0 to 16, the power of 2"),
     (".balign", " takes a power of 2, 65536 at most"),
+    (".fill", " takes numbers of 0 to 8 bytes"),
+    (".org", " takes 0 to 4294967295"),
+    (".space", " takes 0 to 67108864 bytes"),
+    (".zero", " takes 0 to 67108864 bytes"),
+    (".skip", " takes 0 to 67108864 bytes"),
+    (".comm", " takes 0 to 67108864 bytes"),
+    (".lcomm", " takes 0 to 67108864 bytes"),
 ];
 
 /// The form of an instruction.
@@ -155,8 +252,31 @@ pub fn form_of(name: &[u8]) -> Option<Form> {
     None
 }
 
+/// How what follows an instruction or a directive is written.
+pub fn usage_of(name: &[u8]) -> Option<&'static str> {
+    match form_of(name) {
+        Some(form) => Some(operands_of(form)),
+        None => beside(&DIRECTIVES, name),
+    }
+}
+
+/// What is written here for a name that other assemblers have.
+pub fn own_name_of(name: &[u8]) -> Option<&'static str> {
+    beside(&ELSEWHERE, name)
+}
+
+/// What stands beside a name in a table.
+fn beside(table: &[(&'static str, &'static str)], name: &[u8]) -> Option<&'static str> {
+    for (own, other) in table {
+        if own.as_bytes() == name {
+            return Some(*other);
+        }
+    }
+    None
+}
+
 /// The operands as one writes them.
-pub fn operands_of(form: Form) -> &'static str {
+fn operands_of(form: Form) -> &'static str {
     match form {
         Form::Registers => " rd, rs1, rs2",
         Form::Immediate | Form::Shift => " rd, rs1, number",
@@ -171,6 +291,8 @@ pub fn operands_of(form: Form) -> &'static str {
         Form::Link => " rd, label",
         Form::Register => " rs",
         Form::LinkRegister => " rd, offset(rs1)",
+        Form::FarJump => " label, rt",
+        Form::Fence => " rw, rw",
         Form::Alone => "",
     }
 }
@@ -185,28 +307,13 @@ pub fn range_of(name: &[u8]) -> &'static str {
         Some(Form::Branch | Form::ZeroBranch) => " reaches 4096 bytes back and 4094 forward",
         Some(Form::Jump | Form::Link) => " reaches 1048576 bytes back and 1048574 forward",
         Some(Form::Number) => " takes -2147483648 to 4294967295",
-        _ => range_of_data(name),
+        _ => beside(&RANGES, name).unwrap_or(""),
     }
-}
-
-/// The range of the numbers of a directive.
-fn range_of_data(name: &[u8]) -> &'static str {
-    for (own, range) in &RANGES {
-        if own.as_bytes() == name {
-            return *range;
-        }
-    }
-    ""
 }
 
 /// The instruction that takes a register where one takes a number.
 pub fn with_register(name: &[u8]) -> Option<&'static str> {
-    for (number, register) in &PAIRS {
-        if number.as_bytes() == name {
-            return Some(*register);
-        }
-    }
-    None
+    beside(&PAIRS, name)
 }
 
 /// The instruction that takes a number where one takes a register.

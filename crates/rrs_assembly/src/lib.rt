@@ -13,6 +13,7 @@ mod executable;
 mod files;
 mod forms;
 mod gnu;
+mod hints;
 mod listing;
 mod mistakes;
 mod words;

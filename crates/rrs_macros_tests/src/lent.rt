@@ -240,14 +240,16 @@ fn mistakes_are_told_in_texts(rt: HostRuntime) -> Result<(), Fail> {
         (
             mistakes_in(alloc, "addi a0, a1, a2\nj there\nsub a0, a0, 1")?.as_str(),
             mistakes_in(alloc, "nop\n.endr")?.as_str(),
-            mistakes_in(alloc, "li a0, '/' /* \n nop")?.as_str()
+            mistakes_in(alloc, "li a0, '/' /* \n nop")?.as_str(),
+            mistakes_in(alloc, ".macro m\nx: nop\n.endm\nm\nm")?.as_str()
         ),
         (
             "1:14: a number is wanted here: add takes three registers;\
              2:3: symbol is not defined: there;\
              3:13: a register is wanted here: addi takes a number, here the negative one;",
             "2:1: this ends no macro and no repetition;",
-            "2:5: unexpected character;"
+            "2:5: a comment that begins with /* does not end;",
+            "2:1: symbol is defined already: x; in a macro, \\@ makes it another one in each call;"
         )
     );
     Ok(())

@@ -65,27 +65,28 @@ function statements(report, page, kit) {
 
 /* A source in which ¦ stands where its one mistake is, and its words. */
 const MISTAKES = [
-  ["¦xyzzy", "no such instruction or directive: xyzzy"],
+  ["¦xyzzy", "no such instruction or directive: xyzzy; a label is written xyzzy:"],
   ["¦adi a0, a0, 1", "no such instruction or directive: adi; is add meant?"],
-  ["a ¦b: nop", "unexpected character"],
+  ["a ¦b: nop", "unexpected character: a label is one word of letters, digits, _, . and $"],
   ["mv a0, ¦5", "a register is wanted here: li takes a number"],
   ["li a0,¦", "a value is wanted here: it is written li rd, number"],
   ["addi a0, a1, ¦a2", "a number is wanted here: add takes three registers"],
-  ["li a0, ¦08", "not a number of 32 bits"],
+  ["li a0, ¦08", "not a number: 08; one that begins with 0 is octal"],
   ["slli a0, a0, ¦32", "value out of range: slli takes 0 to 31"],
-  ["beqz a0, ¦. + 3", "not a multiple of what is wanted here"],
+  ["beqz a0, ¦. + 3", "a label or an even address is wanted here"],
   ["add a0 ¦a1", "a comma is wanted here: it is written add rd, rs1, rs2"],
   ["lw a0, 4¦", "a parenthesis is wanted here: it is written lw rd, offset(rs1)"],
-  ['.ascii "a¦', "a quotation mark is wanted here"],
-  ['.ascii "a\\¦q"', "no such escape"],
+  ['.ascii "a¦', 'a quotation mark is wanted here: it is written .ascii "text"'],
+  ['.ascii "a\\¦q"', String.raw`no such escape: there are \n, \t, \r, \b, \f, \0, \\, \" and \'`],
   ["nop ¦nop", "more than the statement takes: it is written nop"],
-  ["j ¦1f", "symbol is not defined: 1f"],
+  ["j ¦1f", "symbol is not defined: 1f; no 1: stands below"],
   ["la a0, ¦mesage\nmessage: nop", "symbol is not defined: mesage; is message meant?"],
-  ["li a0, ¦x\nx = 3", "symbol is defined later, and its value is wanted here"],
-  ["a: nop\n¦a: nop", "symbol is defined already"],
-  ["¦sp: nop", "the name of a register can't be a symbol"],
+  ["li a0, ¦x\nx = 3", "symbol is defined later, and its value is wanted here: x"],
+  ["a: nop\n¦a: nop", "symbol is defined already: a, in line 1"],
+  ["¦sp: nop", "the name of a register can't be a symbol: sp"],
   ["¦.section foo", "a section needs a name, and flags where its name says nothing"],
-  [".bss\n¦.word 1", "this section holds zeros only"],
+  [".bss\n¦.word 1",
+    "this section holds zeros only; .space is written here, and .data before numbers"],
   [".option ¦rvc", "not implemented: rvc"],
   ["addi a0, a0, %¦hi(4)", "12 bits are wanted here, as %lo"],
   ["lui a0, %¦lo(4)", "the upper 20 bits are wanted here, as %hi"],
@@ -93,10 +94,11 @@ const MISTAKES = [
   ["li a0, 1 / 0¦", "division by zero"],
   [`li a0, ${"(".repeat(65)}¦`, "too many operators and parentheses"],
   [".org 400\n.org ¦40", "the address goes back"],
-  [".byte 1\n¦nop", "the address of an instruction is misaligned"],
-  [".space ¦100000000", "the program is too long"],
+  [".byte 1\n¦nop", "the address of an instruction is misaligned; .align 2 stands before it, "
+    + "or .data before what is data"],
+  [".space ¦100000000", "value out of range: .space takes 0 to 67108864 bytes"],
   ["¦.rept 2\nnop", "there is no end of this macro or repetition"],
-  [".macro m a\nli a0, ¦\\a\n.endm\nm 08", "not a number of 32 bits"],
+  [".macro m a\nli a0, ¦\\a\n.endm\nm 08", "not a number: 08; one that begins with 0 is octal"],
 ];
 
 /* The mistakes of a marked source, each as the source with the mark at its place. A carriage return
@@ -112,7 +114,8 @@ function mistakesAt(page, kit, marked) {
 function mistakes(report, page, kit) {
   for (const [marked, what] of MISTAKES) {
     for (const source of [marked, `.ascii "é😀";;.align 2;${marked}`, `# ü\r\n${marked}\r\n# 😀`]) {
-      report.same(`what is wrong in ${source}`, [[source, what]], mistakesAt(page, kit, source));
+      const told = source.startsWith("#") ? what.replace("line 1", "line 2") : what;
+      report.same(`what is wrong in ${source}`, [[source, told]], mistakesAt(page, kit, source));
     }
   }
   report.same("how many are told", 20, made(page, kit, "foo\n".repeat(30)).length);
@@ -176,7 +179,7 @@ function programs(report, page, kit) {
     [".data\nmain: .word 1", 0], ["nop\n.data\n.byte 1\nmain: .byte 1", 0], [".word 1", 0],
   ], (source) => read(source, 0x1000).entry);
   report.cases("why a source is no program", [
-    ["nop\nfoo", "Line 2: no such instruction or directive: foo"],
+    ["nop\nfoo", "Line 2: no such instruction or directive: foo; a label is written foo:"],
     ["", "There is no statement in it."],
     ["# nop", "There is no statement in it."], ["x = 1", "There is no statement in it."],
     [".space 65537", "It has 65,537 bytes, and the memory has 65,536."],
