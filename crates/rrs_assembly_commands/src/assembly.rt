@@ -12,7 +12,10 @@ ghost use Rattle.rrs_assembly_commands.specs.Assembly.{IsExecutableFrom, IsImage
 use crate::assembly_requests::{AssemblyRequest, Form};
 use crate::files::with_files;
 use rrs_asm::{Layout, MOST_BYTES, Program, SourceError, SourceFault, assemble_source, image};
-use rrs_assembly::{ExecutableError, executable_of, gnu_text, listing_of, mistakes_of, number_of};
+use rrs_assembly::{
+    ExecutableError, MOST_MISTAKES, Mistake, executable_of, gnu_text, listing_of, mistakes_of,
+    number_of,
+};
 use rrs_cli::command::Failure;
 use rrs_cli::report::{flush, write_text};
 use rrs_macros::{Expanded, MacroFault, expand, without_block_comments};
@@ -232,8 +235,8 @@ fn size_from(program: &Program, start: u32) -> u64 {
     size
 }
 
-/// Prints the first mistakes, with what was wanted and what was probably meant, each as a line. Where
-/// one can't be printed the others are tried too.
+/// Prints the first mistakes, with what was wanted and what was probably meant, each as a line, and
+/// behind 20 how many other lines have some. Where one can't be printed the others are tried too.
 ///
 /// # Errors
 ///
@@ -250,9 +253,38 @@ fn print_mistakes<H: Eprint + AllocGlobal>(
                 let (line, column, text) = (mistake.line, mistake.column, mistake.text.as_str());
                 let _ = eprintln!(rt; "{path}:{line}:{column}: {text}");
             }
+            print_count(rt, path, expanded, errors, &mistakes);
             Ok(())
         }
         Err(_) => Err(out_of_memory()),
+    }
+}
+
+/// Prints how many lines behind the last of the most mistakes have others.
+fn print_count<H: Eprint>(
+    rt: &H,
+    path: &str,
+    expanded: &Expanded,
+    errors: &[SourceError],
+    mistakes: &[Mistake],
+) {
+    let Some(last) = mistakes.last() else {
+        return;
+    };
+    if mistakes.len() < MOST_MISTAKES {
+        return;
+    }
+    let mut is_behind = false;
+    let mut count = 0usize;
+    for error in errors {
+        if is_behind {
+            count = count.saturating_add(1);
+        }
+        let line = number_of(&expanded.lines, error.line);
+        is_behind = is_behind || line == last.line && error.column == last.column;
+    }
+    if count > 0 {
+        let _ = eprintln!(rt; "{path}: lines with further mistakes: {count}");
     }
 }
 
