@@ -3,7 +3,7 @@
 use crate::arguments::{take_all, take_string};
 use crate::cursor::Cursor;
 use crate::directives::{Comparison, Directive, Test};
-use crate::errors::{Halt, MacroError, MacroErrorKind};
+use crate::errors::{Halt, MacroError, MacroErrorKind, Slip};
 use crate::frames::{Condition, Reader};
 use crate::tables::Tables;
 use crate::values::value;
@@ -39,22 +39,24 @@ fn go_on<A: Allocator + Copy>(
     }
 }
 
-/// Ends the innermost condition, or goes on with `.else` or `.elseif`.
+/// Ends the innermost condition, or goes on with `.else` or `.elseif`, by a directive that begins at
+/// a place.
 pub fn conclude<A: Allocator + Copy>(
     tables: &Tables<A>,
     directive: Directive,
+    start: Slip,
     cursor: &mut Cursor,
     reader: &mut Reader<A>,
 ) -> Result<(), Halt> {
     let Some(condition) = reader.conditions.pop() else {
-        return Err(Halt::Slip(cursor.slip(MacroErrorKind::NoCondition)));
+        return Err(Halt::Slip(start.with_kind(MacroErrorKind::NoCondition)));
     };
     if let Directive::EndIf = directive {
         return Ok(cursor.end()?);
     }
     if condition.is_behind_else {
         reader.conditions.push(condition)?;
-        return Err(Halt::Slip(cursor.slip(MacroErrorKind::SecondElse)));
+        return Err(Halt::Slip(start.with_kind(MacroErrorKind::SecondElse)));
     }
     let is_else = matches!(directive, Directive::Else);
     let asked = if is_else || condition.is_done {

@@ -126,15 +126,15 @@ fn skip<A: Allocator + Copy>(
     reader: &mut Reader<A>,
 ) -> Result<Step<A>, Halt> {
     let (word, operands) = split_word(code);
+    let start = Cursor::new(code, site.behind).slip(MacroErrorKind::UnendedCondition);
     let cursor = &mut Cursor::new(operands, site.behind);
     match directive_named(word) {
         Some(Directive::If(_)) => {
-            let start = Cursor::new(code, site.behind).slip(MacroErrorKind::UnendedCondition);
             let place = place(site, start);
             reader.conditions.push(Condition::new(place, true))?;
         }
         Some(directive @ (Directive::ElseIf | Directive::Else | Directive::EndIf)) => {
-            conclude(tables, directive, cursor, reader)?;
+            conclude(tables, directive, start, cursor, reader)?;
         }
         _ => (),
     }
@@ -245,7 +245,7 @@ fn note<A: Allocator + Copy>(
         Directive::Purge => tables.purge(cursor),
         Directive::If(test) => begin(tables, test, cursor, place(site, start), reader),
         Directive::ElseIf | Directive::Else | Directive::EndIf => {
-            conclude(tables, directive, cursor, reader)
+            conclude(tables, directive, start, cursor, reader)
         }
         Directive::Macro => {
             let block = block(tables, BlockKind::Macro, site, start, reader)?;
