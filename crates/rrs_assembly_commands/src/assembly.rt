@@ -24,7 +24,7 @@ use rrs_requests::refusal::{Refusal, failed, out_of_memory};
 use std::alloc::Global;
 use std::io::{ErrorKind, Read};
 use std::rt::Files;
-use std::{fs, io};
+use std::{fs, io, str};
 
 /// The most bytes of a source, 64 MiB. A device may have bytes without an end.
 const SOURCE_BYTES: u64 = 1 << 26;
@@ -98,7 +98,11 @@ fn expanded_of<H: Eprint + AllocGlobal>(
         Err(MacroFault::OutOfMemory) => Err(out_of_memory()),
         Err(MacroFault::Mistakes(mistakes)) => {
             for mistake in &mistakes {
-                let _ = eprintln!(rt; "{path}:{mistake}");
+                let word = mistake.word(&plain).unwrap_or(&[]);
+                let _ = match str::from_utf8(word) {
+                    Ok(word) if !word.is_empty() => eprintln!(rt; "{path}:{mistake}: {word}"),
+                    _ => eprintln!(rt; "{path}:{mistake}"),
+                };
             }
             Err(Refusal::SourceErrors)
         }

@@ -7,6 +7,7 @@ use crate::outcome::RrsMistake;
 use rrs_assembly::{MOST_MISTAKES, Mistake};
 use rrs_macros::{MacroError, MacroErrorKind};
 use std::alloc::{AllocError, Allocator};
+use std::str;
 
 /// Mistakes, and what is told of them one behind the other.
 pub(crate) fn told_of_mistakes<A: Allocator + Copy>(
@@ -39,9 +40,10 @@ const LEFT_OVER: MacroError = MacroError {
     kind: MacroErrorKind::LeftOver,
 };
 
-/// The first mistakes in macros, conditions and repetitions, as they are told.
+/// The first mistakes in macros, conditions and repetitions of a source, as they are told.
 pub(crate) fn of_macros<A: Allocator + Copy>(
     alloc: A,
+    source: &[u8],
     errors: &[MacroError],
 ) -> Result<Vec<Mistake<A>, A>, AllocError>
     ensures some { IfOk result (λ own. 1 ≤ length own.items) }
@@ -50,21 +52,30 @@ pub(crate) fn of_macros<A: Allocator + Copy>(
     let mut own = Vec::new(alloc);
     for error in errors {
         if own.len() < MOST_MISTAKES {
-            own.push(of_macro(alloc, error)?)?;
+            own.push(of_macro(alloc, source, error)?)?;
         }
     }
     if own.is_empty() {
-        own.push(of_macro(alloc, &LEFT_OVER)?)?;
+        own.push(of_macro(alloc, source, &LEFT_OVER)?)?;
     }
     Ok(own)
 }
 
 /// A mistake in macros, conditions and repetitions, as it is told.
-fn of_macro<A: Allocator + Copy>(alloc: A, error: &MacroError) -> Result<Mistake<A>, AllocError> {
+fn of_macro<A: Allocator + Copy>(
+    alloc: A,
+    source: &[u8],
+    error: &MacroError,
+) -> Result<Mistake<A>, AllocError> {
     let kind = error.kind;
+    let word = error.word(source).unwrap_or(&[]);
+    let text = match str::from_utf8(word) {
+        Ok(word) if !word.is_empty() => format!(in alloc; "{kind}: {word}")?,
+        _ => format!(in alloc; "{kind}")?,
+    };
     Ok(Mistake {
         line: error.line,
         column: error.column,
-        text: format!(in alloc; "{kind}")?,
+        text,
     })
 }

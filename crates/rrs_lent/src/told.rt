@@ -54,7 +54,10 @@ pub(crate) fn told_of<A: Allocator + Copy>(
     match expand(alloc, &plain) {
         Ok(expanded) => told_of_text(alloc, &expanded, start),
         Err(MacroFault::OutOfMemory) => Err(AllocError),
-        Err(MacroFault::Mistakes(errors)) => told_refused(alloc, &of_macros(alloc, &errors)?),
+        Err(MacroFault::Mistakes(errors)) => told_refused(
+            alloc,
+            &of_macros(alloc, &plain, &errors)?,
+        ),
     }
 }
 

@@ -1,5 +1,6 @@
 //! What can be wrong with macros, conditions and repetitions.
 
+use crate::scanning::split_word;
 use std::alloc::{AllocError, AllocFailed, Allocator, Global};
 use std::error::Error;
 use std::fmt;
@@ -72,12 +73,25 @@ impl MacroErrorKind {
     pub fn is_last(self) -> bool {
         matches!(self, MacroErrorKind::Deep | MacroErrorKind::Much)
     }
+
+    /// Whether it is wrong of the word at its place.
+    fn is_of_word(self) -> bool {
+        matches!(
+            self,
+            MacroErrorKind::Duplicate
+                | MacroErrorKind::DuplicateParameter
+                | MacroErrorKind::NoMacro
+                | MacroErrorKind::NoParameter
+                | MacroErrorKind::Number
+                | MacroErrorKind::NotConstant
+        )
+    }
 }
 
 impl fmt::Display for MacroErrorKind {
     fn fmt<W: fmt::Write>(&self, f: &mut fmt::Formatter<W>) -> fmt::Result {
         f.write_str(match self {
-            MacroErrorKind::Unended => "there is no end of this macro or repetition",
+            MacroErrorKind::Unended => "there is no .endm or .endr of this macro or repetition",
             MacroErrorKind::UnendedCondition => "there is no .endif for this condition",
             MacroErrorKind::EndAlone => "this ends no macro and no repetition",
             MacroErrorKind::NoCondition => "there is no .if before",
@@ -129,6 +143,33 @@ impl fmt::Display for MacroError {
         let kind = self.kind;
         write!(f, "{line}:{column}: {kind}")
     }
+}
+
+impl MacroError {
+    /// The word of a source that is wrong, where the mistake is in one. None where the line may
+    /// have arguments, since the mistake stands in it as they make it.
+    pub fn word<'a>(&self, source: &'a [u8]) -> Option<&'a [u8]> {
+        if !self.kind.is_of_word() {
+            return None;
+        }
+        let mut number = 0usize;
+        for line in source.split(|byte| *byte == b'\n') {
+            number = number.saturating_add(1);
+            if number == self.line {
+                return word_from(line, self.column);
+            }
+        }
+        None
+    }
+}
+
+/// The word of a line without arguments that begins at a column.
+fn word_from(line: &[u8], column: usize) -> Option<&[u8]> {
+    if line.contains(&b'\\') {
+        return None;
+    }
+    let (word, _) = split_word(line.get(column.saturating_sub(1)..)?);
+    if word.is_empty() { None } else { Some(word) }
 }
 
 /// Why a source is not expanded.

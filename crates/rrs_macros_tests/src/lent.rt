@@ -241,7 +241,12 @@ fn mistakes_are_told_in_texts(rt: HostRuntime) -> Result<(), Fail> {
             mistakes_in(alloc, "addi a0, a1, a2\nj there\nsub a0, a0, 1")?.as_str(),
             mistakes_in(alloc, "nop\n.endr")?.as_str(),
             mistakes_in(alloc, "li a0, '/' /* \n nop")?.as_str(),
-            mistakes_in(alloc, ".macro m\nx: nop\n.endm\nm\nm")?.as_str()
+            mistakes_in(alloc, ".macro m\nx: nop\n.endm\nm\nm")?.as_str(),
+            mistakes_in(
+                alloc,
+                ".if there\n.endif\n.macro m a\n.if \\a\n.endif\n.endm\nm b"
+            )?
+            .as_str()
         ),
         (
             "1:14: a number is wanted here: add takes three registers;\
@@ -249,7 +254,9 @@ fn mistakes_are_told_in_texts(rt: HostRuntime) -> Result<(), Fail> {
              3:13: a register is wanted here: addi takes a number, here the negative one;",
             "2:1: this ends no macro and no repetition;",
             "2:5: a comment that begins with /* does not end;",
-            "2:1: symbol is defined already: x; in a macro, \\@ makes it another one in each call;"
+            "2:1: symbol is defined already: x; in a macro, \\@ makes it another one in each call;",
+            "1:5: the value has to be known here, and is not: there;\
+             4:5: the value has to be known here, and is not;"
         )
     );
     Ok(())

@@ -97,7 +97,7 @@ const MISTAKES = [
   [".byte 1\n¦nop", "the address of an instruction is misaligned; .align 2 stands before it, "
     + "or .data before what is data"],
   [".space ¦100000000", "value out of range: .space takes 0 to 67108864 bytes"],
-  ["¦.rept 2\nnop", "there is no end of this macro or repetition"],
+  ["¦.rept 2\nnop", "there is no .endm or .endr of this macro or repetition"],
   [".macro m a\nli a0, ¦\\a\n.endm\nm 08", "not a number: 08; one that begins with 0 is octal"],
 ];
 
