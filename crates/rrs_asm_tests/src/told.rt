@@ -6,7 +6,7 @@ use std::alloc::{AllocError, Global};
 use std::test::Fail;
 
 /// Sources, each with what is told of it.
-static TOLD: [(&str, &str); 37] = [
+static TOLD: [(&str, &str); 38] = [
     (
         "addi a0, a1, a2",
         "1:14: a number is wanted here: add takes three registers\n",
@@ -180,6 +180,10 @@ static TOLD: [(&str, &str); 37] = [
          4:1: symbol is defined already: b, in line 3\n\
          5:1: the name of a register can't be a symbol: a0\n\
          6:9: symbol is defined later, and its value is wanted here: d\n",
+    ),
+    (
+        ".section .text.a\n.space 0x4000000\nnop",
+        "3:1: the program is too long, or sections lie in one another\n",
     ),
     (
         ".dat\n.byte 1\n.text\nnop\nadd a0, a1",
