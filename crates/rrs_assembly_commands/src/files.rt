@@ -7,7 +7,7 @@ ghost use Rattle.std.specs.Prelude.{◌≡◌, true, IfOk};
 ghost use Rattle.rrs_assembly_commands.specs.Files.{Includes, NamesFile};
 
 use crate::assembly::read_file;
-use rrs_assembly::number_of;
+use rrs_assembly::{MOST_MISTAKES, number_of};
 use rrs_lines::{Part, begins_with, behind_blanks, first_line, first_part, split_word};
 use rrs_macros::Expanded;
 use rrs_requests::refusal::{Refusal, out_of_memory};
@@ -61,7 +61,7 @@ pub fn with_files<H: Files + Eprint + AllocGlobal>(
     Ok(Expanded { text, lines })
 }
 
-/// The text with the bytes of its files.
+/// The text with the bytes of its files. The first 20 lines with mistakes are told.
 fn text_with_files<H: Files + Eprint + AllocGlobal>(
     rt: &H,
     path: &str,
@@ -69,24 +69,31 @@ fn text_with_files<H: Files + Eprint + AllocGlobal>(
 ) -> Result<Vec<u8>, Refusal> {
     let mut text = Vec::new(rt.alloc());
     let mut rest = Some(expanded.text.as_slice());
+    let mut wrong = 0usize;
     for number in 1..=expanded.lines.len() {
         let Some(left) = rest else {
             break;
         };
         let (line, others) = first_line(left);
-        put_line(
-            rt,
-            path,
-            number_of(&expanded.lines, number),
-            line,
-            &mut text,
-        )?;
+        let number = number_of(&expanded.lines, number);
+        match put_line(rt, path, number, line, &mut text) {
+            Ok(()) => (),
+            Err(Refusal::SourceErrors) => wrong = wrong.saturating_add(1),
+            Err(refusal) => return Err(refusal),
+        }
+        if wrong >= MOST_MISTAKES {
+            break;
+        }
         if others.is_some() {
             push(&mut text, b"\n")?;
         }
         rest = others;
     }
-    Ok(text)
+    if wrong > 0 {
+        Err(Refusal::SourceErrors)
+    } else {
+        Ok(text)
+    }
 }
 
 /// Whether a text has the name of the directive somewhere.
@@ -177,6 +184,13 @@ fn refuse<H: Eprint>(rt: &H, place: Place<'_>, what: &str) -> Result<(), Refusal
     Err(Refusal::SourceErrors)
 }
 
+/// Prints what is wrong with a file that is named at a place.
+fn refuse_file<H: Eprint>(rt: &H, place: Place<'_>, what: &str, name: &str) -> Result<(), Refusal> {
+    let Place { path, line, column } = place;
+    let _ = eprintln!(rt; "{path}:{line}:{column}: {what}: {name}");
+    Err(Refusal::SourceErrors)
+}
+
 /// Appends the bytes of a file as the operands of `.byte`.
 fn put_file<H: Files + Eprint + AllocGlobal>(
     rt: &H,
@@ -189,15 +203,15 @@ fn put_file<H: Files + Eprint + AllocGlobal>(
     };
     let bytes = match read_file(rt, &path) {
         Ok(bytes) => bytes,
-        Err(Refusal::LargeSource) => return refuse(rt, place, "the file is too large"),
-        Err(_) => return refuse(rt, place, "the file can't be read"),
+        Err(Refusal::LargeSource) => return refuse_file(rt, place, "the file is too large", &path),
+        Err(_) => return refuse_file(rt, place, "the file can't be read", &path),
     };
     let end = match request.count {
         Some(count) => request.skip.saturating_add(count),
         None => bytes.len(),
     };
     let Some(bytes) = bytes.get(request.skip..end) else {
-        return refuse(rt, place, "the file has fewer bytes");
+        return refuse_file(rt, place, "the file has fewer bytes", &path);
     };
     match push_numbers(text, bytes) {
         Ok(()) => Ok(()),
