@@ -6,7 +6,7 @@ use std::alloc::{AllocError, Global};
 use std::test::Fail;
 
 /// Sources, each with what is told of it.
-static TOLD: [(&str, &str); 38] = [
+static TOLD: [(&str, &str); 39] = [
     (
         "addi a0, a1, a2",
         "1:14: a number is wanted here: add takes three registers\n",
@@ -129,7 +129,7 @@ static TOLD: [(&str, &str); 38] = [
          4:1: no such instruction or directive: move; is mv meant?\n\
          5:1: no such instruction or directive: subi; addi takes a number, here the negative one\n\
          6:1: no such instruction or directive: mret; it is not of RV32IM\n\
-         7:1: a blank is wanted behind li\n\
+         7:1: no comma stands behind li\n\
          8:1: no such instruction or directive: print; a label is written print:\n",
     ),
     (
@@ -139,7 +139,7 @@ static TOLD: [(&str, &str); 38] = [
          3:1: no such instruction or directive: .eqv; is .equ meant?\n\
          4:1: no such instruction or directive: .sectoin; is .section meant?\n\
          5:9: more than the statement takes: it is written .word number, number\n\
-         6:9: unexpected character: a label is one word of letters, digits, _, . and $\n",
+         6:9: unexpected character: a label begins a line, or stands behind a semicolon\n",
     ),
     (
         ".ascii \"a: b\n.ascii \"a; b\" \"c\"\nli a0, ':' 5",
@@ -180,6 +180,17 @@ static TOLD: [(&str, &str); 38] = [
          4:1: symbol is defined already: b, in line 3\n\
          5:1: the name of a register can't be a symbol: a0\n\
          6:9: symbol is defined later, and its value is wanted here: d\n",
+    ),
+    (
+        "addi\u{a0}a0, a0, 1\nadd a0, X5, a1\nmv a0, 4(sp)\n\
+         .section \".text\"\n.section .txt\n.org -4",
+        "1:1: a blank is wanted behind addi\n\
+         2:9: a register is wanted here, and X5 is none; registers are written in small letters\n\
+         3:8: a register is wanted here: an address in memory stands in loads and stores\n\
+         4:10: a section needs a name, and flags where its name says nothing: \
+         it stands in no quotation marks\n\
+         5:1: a section needs a name, and flags where its name says nothing; is .text meant?\n\
+         6:6: the program is too long\n",
     ),
     (
         ".section .text.a\n.space 0x4000000\nnop",

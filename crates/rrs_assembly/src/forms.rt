@@ -187,7 +187,7 @@ pub static DIRECTIVES: [(&str, &str); 44] = [
 ];
 
 /// Names that other assemblers have, and what is written here.
-static ELSEWHERE: [(&str, &str); 24] = [
+static ELSEWHERE: [(&str, &str); 27] = [
     ("move", "mv"),
     ("mov", "mv"),
     ("addiu", "addi"),
@@ -212,6 +212,9 @@ static ELSEWHERE: [(&str, &str); 24] = [
     (".equiv", ".equ"),
     (".db", ".byte"),
     (".dw", ".word"),
+    ("db", ".byte"),
+    ("dw", ".word"),
+    (".define", ".equ"),
 ];
 
 /// The directives whose numbers have a range.
