@@ -6,7 +6,7 @@ ghost use Rattle.rrs_assembly.specs.Executables.{entry_of, IsExecutableOf};
 use crate::accepting::are_segments;
 use crate::entries::entry_of;
 use crate::files::write_file;
-use rrs_asm::{Program, Section};
+use rrs_asm::{Program, Section, SectionKind};
 use rrs_elf::{ElfError, Executable};
 use std::alloc::{AllocError, AllocFailed, Global};
 use std::error::Error;
@@ -17,7 +17,7 @@ use std::fmt;
 pub enum ExecutableError {
     /// No section has bytes.
     Empty,
-    /// The entry is at no multiple of 4, or behind the last byte of a section.
+    /// The entry is at no multiple of 4, or in no section with instructions.
     Entry(u32),
     /// What was written is no executable of the program. This does not happen.
     Unlike,
@@ -66,9 +66,24 @@ pub fn executable_of(alloc: Global, program: &Program) -> Result<Vec<u8>, Execut
     let Some(entry) = entry_of(&program.sections) else {
         return Err(ExecutableError::Empty);
     };
+    if !is_in_code(&program.sections, entry) {
+        return Err(ExecutableError::Entry(entry));
+    }
     let file = write_file(alloc, &program.sections, entry)?;
     accept(&file, &program.sections, entry)?;
     Ok(file)
+}
+
+/// Whether an address is that of a byte in a section with instructions.
+fn is_in_code(sections: &[Section], address: u32) -> bool {
+    for section in sections {
+        let is_code = matches!(section.kind, SectionKind::Code);
+        match address.checked_sub(section.address) {
+            Some(offset) if is_code && (offset as usize) < section.made.bytes.len() => return true,
+            _ => (),
+        }
+    }
+    false
 }
 
 /// Accepts a file that is the executable of these sections.

@@ -22,7 +22,9 @@ use rrs_macros::{Expanded, MacroFault, expand, without_block_comments};
 use rrs_requests::files::created;
 use rrs_requests::refusal::{Refusal, failed, out_of_memory};
 use std::alloc::Global;
+use std::fs::Permissions;
 use std::io::{ErrorKind, Read};
+use std::os::unix::fs::PermissionsExt;
 use std::rt::Files;
 use std::{fs, io, str};
 
@@ -313,20 +315,57 @@ pub fn assemble_file<H: Files + Print + Eprint + AllocGlobal>(
     path: &str,
     request: AssemblyRequest<'_>,
 ) -> Result<(), Refusal> {
-    if request.output == Some(path) {
-        return Err(Refusal::CannotCreate);
-    }
     let source = read_file(rt, path)?;
     let products = products_of(rt, path, &source, request)?;
-    if let Some(executable) = &products.executable {
-        if let Some(mut file) = created(rt, request.output)? {
-            write_text(&mut file, executable).map_err(failed)?;
-            flush(&mut file).map_err(failed)?;
-        }
+    if let (Some(executable), Some(output)) = (&products.executable, request.output) {
+        write_executable(rt, path, executable, output)?;
     }
     let mut out = io::writer(rt);
     write_text(&mut out, &products.text).map_err(failed)?;
     flush(&mut out).map_err(failed)
+}
+
+/// Writes an executable into a file that is not the source.
+///
+/// # Errors
+///
+/// `Refusal::CannotCreate` where the file is the source, or can't be created, and `Refusal::Failed`
+/// for a write that fails.
+fn write_executable<H: Files + AllocGlobal>(
+    rt: &H,
+    path: &str,
+    executable: &[u8],
+    output: &str,
+) -> Result<(), Refusal> {
+    if is_same_file(rt, path, output) {
+        return Err(Refusal::CannotCreate);
+    }
+    let Some(mut file) = created(rt, Some(output))? else {
+        return Err(Refusal::CannotCreate);
+    };
+    write_text(&mut file, executable).map_err(failed)?;
+    flush(&mut file).map_err(failed)?;
+    let_run(rt, output);
+    Ok(())
+}
+
+/// Lets a file be run by those who may read it. Where that can't be, it stays as it is.
+fn let_run<H: Files>(rt: &H, path: &str) {
+    if let Ok(found) = fs::metadata(rt, path) {
+        if found.is_file() {
+            let mode = found.permissions().mode();
+            let runs = Permissions::from_mode(mode | (mode & 0o444) >> 2);
+            let _ = fs::set_permissions(rt, path, runs);
+        }
+    }
+}
+
+/// Whether two paths are those of one file.
+fn is_same_file<H: Files + AllocGlobal>(rt: &H, path: &str, other: &str) -> bool {
+    match (fs::canonicalize(rt, path), fs::canonicalize(rt, other)) {
+        (Ok(path), Ok(other)) => path == other,
+        _ => path == other,
+    }
 }
 
 /// The bytes of a source.
