@@ -129,6 +129,7 @@ class Page {
   setNames(choice) {
     this.session.names = NAMES[choice];
     $("names").value = choice;
+    if (this.lesson.exercise) this.lesson.show();
     this.render();
   }
 
@@ -467,7 +468,7 @@ class Page {
     const { session } = this;
     const { machine, notice } = session;
     setText($("heading"), notice.heading);
-    setText($("sentence"), notice.sentence);
+    setText($("sentence"), session.sentence);
     $("state").className = `state ${notice.kind}`;
     $("state").firstElementChild.setAttribute("aria-busy", session.isRunning);
     setText($("steps"), counted(machine.steps, "step"));

@@ -39,8 +39,8 @@ class Session {
 
   /** The text of a word at an address, with the names of registers that were chosen, and a target
    * by its label. */
-  disassemble(word, address) {
-    const text = withNames(this.machine.kit.disassemble(word, address), this.names);
+  disassemble(word, address, names = this.names) {
+    const text = withNames(this.machine.kit.disassemble(word, address), names);
     return isJumpToTarget(word) ? text.replace(/0x[0-9a-f]{8}$/, this.labelled) : text;
   }
 
@@ -130,8 +130,8 @@ class Session {
     this.say("Ready", [what, port, this.about].filter((part) => part).join(" "));
   }
 
-  /** Says what stands in the page's line of the state. `kind` is how it looks: "ready", "run",
-   * "wait", "done" or "end". */
+  /** Says what stands in the page's line of the state: a sentence, or one by each choice of names
+   * (`byNames`). `kind` is how it looks: "ready", "run", "wait", "done" or "end". */
   say(heading, sentence, kind = "ready") {
     this.notice = { heading, sentence, kind };
     const { machine } = this;
@@ -140,9 +140,9 @@ class Session {
   }
 
   sayEnd(end) {
-    const { heading, sentence, kind } = explain(end, this.machine, this.names);
+    const { heading, kind } = explain(end, this.machine, this.names);
     this.isWaiting = end.reason === "waiting";
-    this.say(heading, sentence, kind);
+    this.say(heading, byNames((names) => explain(end, this.machine, names).sentence), kind);
     if (!this.isWaiting) this.onEnd();
   }
 
@@ -157,10 +157,18 @@ class Session {
 
   sayStep() {
     const { machine } = this;
+  /** The sentence of the state, with the names of registers that are chosen. */
+  get sentence() {
+    const { sentence } = this.notice;
+    return typeof sentence === "string" ? sentence : sentence.get(this.names);
+  }
+
     const [record] = machine.history.latest(1);
-    const text = this.disassemble(record.word, record.pc);
-    const effect = this.effectOf(record);
-    this.say(`Step ${machine.steps.toLocaleString("en")}`, effect ? `${text}: ${effect}` : text);
+    this.say(`Step ${machine.steps.toLocaleString("en")}`, byNames((names) => {
+      const text = this.disassemble(record.word, record.pc, names);
+      const effect = effectOf(record, names);
+      return effect ? `${text}: ${effect}` : text;
+    }));
   }
 
   stepBack() {
@@ -170,10 +178,10 @@ class Session {
   }
 
   sayBack() {
-    const { steps } = this.machine;
+    const { steps, kit: { pc } } = this.machine;
     const word = this.machine.wordAtPc();
-    const text = word === undefined ? "" : this.disassemble(word, this.machine.kit.pc);
-    this.say(`Back at step ${steps.toLocaleString("en")}`, text && `Next: ${text}`);
+    this.say(`Back at step ${steps.toLocaleString("en")}`, byNames((names) =>
+      (word === undefined ? "" : `Next: ${this.disassemble(word, pc, names)}`)));
   }
 
   sayOldest() {
@@ -363,7 +371,8 @@ class Session {
     if (target.register !== undefined) machine.setRegister(target.register, value);
     else if (target.address === undefined) machine.setPc(value);
     else machine.setMemory(target.address, value, bytes);
-    this.say("Changed", `${target.name} = 0x${hexOf(value, 2 * target.bytes)}.`);
+    this.say("Changed", byNames((names) =>
+      `${names[target.register] ?? target.name} = 0x${hexOf(value, 2 * target.bytes)}.`));
     return "";
   }
 
@@ -372,8 +381,8 @@ class Session {
     const { kit } = this.machine;
     const register = registerNamed(place);
     if (register === 0) return `${place} is always 0.`;
-    if (register !== undefined) return { register, bytes: 4, name: this.names[register] };
-    if (place === "pc") return { bytes: 4, name: "pc" };
+    if (register !== undefined) return { register, bytes: 4 };
+    if (place.toLowerCase() === "pc") return { bytes: 4, name: "pc" };
     const address = this.addressOf(place) ?? parseHex(place);
     if (this.machine.indexOf(address) < 0) {
       return `${place || "That"} is no register, label or address. ${whereMemoryIs(this.machine)}`;

@@ -518,8 +518,8 @@ class LessonView {
   check() {
     const { exercise, session } = this;
     if (!exercise) return;
-    exercise.misses = missesOf(exercise, session.machine, session.names);
-    if (exercise.misses.length === 0) exercise.isSolved = true;
+    exercise.misses = byNames((names) => missesOf(exercise, session.machine, names));
+    if (exercise.misses.get(session.names).length === 0) exercise.isSolved = true;
     this.show();
   }
 
@@ -537,7 +537,7 @@ class LessonView {
     });
     setText($("exercise-title"), exercise.title);
     setText($("exercise-about"), [lesson.about, exercise.about].filter((part) => part).join(" "));
-    const { misses } = exercise;
+    const misses = exercise.misses?.get(this.session.names);
     const isSolved = misses?.length === 0;
     $("exercise-check").className = `check ${misses ? (isSolved ? "done" : "end") : ""}`;
     const untried = "Run the program: what comes out is compared when it ends.";

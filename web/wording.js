@@ -11,6 +11,11 @@ const ABI_NAMES = [
 /* How registers are called: by their names in calls, or by their numbers. */
 const NAMES = { abi: ABI_NAMES, number: ABI_NAMES.map((_, number) => `x${number}`) };
 
+/** What a function makes with each choice of names. */
+function byNames(make) {
+  return new Map(Object.values(NAMES).map((names) => [names, make(names)]));
+}
+
 /** A text of the disassembler, which has numbers, with other names of the registers. */
 function withNames(text, names) {
   return text.replace(/\bx(\d+)\b/g, (_, number) => names[number]);

@@ -121,7 +121,7 @@ def names(machine):
     by_name = ["add ra, sp, gp", "add ra, sp, gp", "ra = 0x05bc9000",
                "add ra, sp, gp: ra = 0x05bc9000", "ra", "x1"]
     same("by names", by_name, seen())
-    machine.keys("hbs")
+    machine.keys("h")
     same("by numbers", ["add x1, x2, x3", "add x1, x2, x3", "x1 = 0x05bc9000",
                         "add x1, x2, x3: x1 = 0x05bc9000", "x1", "ra"], seen())
     machine.choose("ecall")

@@ -89,7 +89,7 @@ function changesOfSessions(report, over) {
   ], ([place, text, bytes]) => {
     const before = session.notice;
     const mistake = session.change(place, text, bytes);
-    const { heading, sentence } = session.notice;
+    const { sentence, notice: { heading } } = session;
     if (mistake) return session.notice === before ? [mistake] : ["something was said"];
     return heading === "Changed" ? ["", sentence] : [heading];
   });
@@ -97,7 +97,7 @@ function changesOfSessions(report, over) {
     [kit.x[2], kit.x[5], kit.x[8], kit.pc, ...kit.words.subarray(1, 3), kit.words[4]]);
   session.names = over.page.NAMES.number;
   session.change("t0", "1", 4);
-  report.same("by the names that were chosen", "x5 = 0x00000001.", session.notice.sentence);
+  report.same("by the names that were chosen", "x5 = 0x00000001.", session.sentence);
   session.run();
   session.change("a0", "1", 4);
   report.same("a change pauses a run", [false, 1], [session.isRunning, kit.x[10]]);

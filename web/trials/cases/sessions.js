@@ -29,7 +29,7 @@ function opened({ page, kit, clock }, words, options = {}, milliseconds = 5) {
   return session;
 }
 
-const said = ({ notice: { heading, sentence, kind } }) => [heading, sentence, kind];
+const said = ({ notice: { heading, kind }, sentence }) => [heading, sentence, kind];
 
 async function untilOver(session, clock) {
   while (session.isRunning && clock.tasks.length > 0) await clock.next();
@@ -127,7 +127,7 @@ async function runsThereAndBack(report, over) {
   const session = opened(over, [...w.li(5, 20000), w.addi(5, 5, -1), w.b(1, 5, 0, -4), w.ebreak]);
   session.run();
   report.same("a run that begins: steps of a slice", [true, 4 * 4096, "16,384 steps.", "run"],
-    [session.isRunning, session.machine.steps, session.notice.sentence, session.notice.kind]);
+    [session.isRunning, session.machine.steps, session.sentence, session.notice.kind]);
   report.same("and when it goes on", 20, clock.tasks[0].at);
   await untilOver(session, clock);
   report.same("its end", ["Breakpoint instruction", false, 40002],
