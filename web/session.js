@@ -379,7 +379,8 @@ class Session {
   /* What is meant by a place that can be changed, or why it can't be. */
   targetOf(place, bytes) {
     const { kit } = this.machine;
-    const register = registerNamed(place);
+    // A0 is a register too, and not the address 0xa0
+    const register = registerNamed(place.toLowerCase());
     if (register === 0) return `${place} is always 0.`;
     if (register !== undefined) return { register, bytes: 4 };
     if (place.toLowerCase() === "pc") return { bytes: 4, name: "pc" };

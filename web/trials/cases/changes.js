@@ -81,7 +81,7 @@ function changesOfSessions(report, over) {
     [["1009", "7", 1], ["", "[0x00001009] = 0x07."]],
     [[" 0x1010 ", " 7 ", 4], ["", "[0x00001010] = 0x00000007."]],
     [["x0", "1", 4], ["x0 is always 0."]], [["zero", "1", 4], ["zero is always 0."]],
-    [["a0", "x", 4], [WORD]], [["1008", "256", 1], [BYTE]],
+    [["A0", "x", 4], [WORD]], [["a0", "x", 4], [WORD]], [["1008", "256", 1], [BYTE]],
     [["1009", "1", 4], ["A word has an address that is a multiple of 4."]],
     [["fff", "1", 4], [`fff is no register, label or address. ${where}`]],
     [["11000", "1", 4], [`11000 is no register, label or address. ${where}`]],
