@@ -176,6 +176,10 @@ class Page {
       event.preventDefault();
       this.take();
     });
+    $("exercises").addEventListener("click", ({ target }) => {
+      // the browser tells no change where the page has this address already
+      if (target.hash === location.hash) this.openLink();
+    });
     $("copy").addEventListener("click", () => this.copyLink());
     $("changing").addEventListener("submit", (event) => {
       event.preventDefault();
@@ -326,9 +330,10 @@ class Page {
 
   /* Opens the program again in another memory. */
   takePreset(choice) {
-    const { name, about, text, language, calls } = this.session;
+    const { name, about, text, language, calls, isDraft } = this.session;
     const { base, size, hasStack } = PRESETS[choice];
-    const program = { name, about, text, language, base, size, hasStack, calls, keepsStops: true };
+    const program =
+      { name, about, text, language, base, size, hasStack, calls, keepsStops: true, isDraft };
     this.open(program, $("examples").value);
   }
 
@@ -447,7 +452,9 @@ class Page {
     this.lesson.open(own, number, own.link);
     const { title, about, language, calls, size, hasStack, program, tried } = this.lesson.exercise;
     const name = title || "Exercise";
-    this.open({ name, about, text: program, language, calls, size, hasStack, ...tried });
+    // what a student has to begin with may be empty, or have mistakes to find
+    const isDraft = true;
+    this.open({ name, about, text: program, language, calls, size, hasStack, isDraft, ...tried });
   }
 
   /* Keeps the program of the exercise that is left. */

@@ -25,6 +25,12 @@ const PRESETS = [
  * auxiliary vector with no entry. */
 const NO_ARGUMENTS = 64;
 
+/* What a draft is that can't be read: a program of no words. */
+const NO_WORDS = {
+  words: [], labels: new Map(), places: new Map(), comments: new Map(), sources: new Map(),
+  entry: 0,
+};
+
 /** A machine with its program, breakpoints, and what was last said of it. */
 class Session {
   constructor(machine) {
@@ -58,11 +64,11 @@ class Session {
 
   /** Opens a program: `{ name, about, text, language, base, size, hasStack, calls }`, with one of
    * LANGUAGES and one of ENVIRONMENTS. With `keepsStops` breakpoints stay at their words, found by
-   * the label before them where it is still there. Throws a ProgramError, and then what was open
-   * stays. */
+   * the label before them where it is still there. The text of a draft may have mistakes, and is to
+   * be mended in the editor. Throws a ProgramError, and then what was open stays. */
   open({
     name, about = "", text, language = "words", base = 0, size = SIZES[0], hasStack = false,
-    calls = "linux", keepsStops = false,
+    calls = "linux", keepsStops = false, isDraft = false,
   }) {
     if (!Number.isInteger(base) || base < 0 || base > LARGEST_BASE || base % 4 !== 0) {
       throw new ProgramError(0, `Memory can start at a multiple of 4 up to ${hex(LARGEST_BASE)}.`);
@@ -75,11 +81,12 @@ class Session {
       throw new ProgramError(0, `The calls can be those of ${known}.`);
     }
     const { machine } = this;
-    const { words, labels, places, comments, sources, entry, isProcess } =
-      this.read(text, language, base, size);
+    const { words, labels, places, comments, sources, entry, isProcess, mistake = "" } =
+      isDraft ? this.readDraft(text, language, base, size) : this.read(text, language, base, size);
     this.stop();
     const stops = keepsStops ? this.stopsIn(places) : [];
-    Object.assign(this, { name, about, text, language, labels, places, comments, sources });
+    Object.assign(
+      this, { name, about, text, language, labels, places, comments, sources, isDraft, mistake });
     machine.environment = ENVIRONMENTS[calls];
     machine.load(words, base, size, hasStack, entry, isProcess ? NO_ARGUMENTS : 0);
     this.stops = new Uint8Array(size / 4);
@@ -95,6 +102,16 @@ class Session {
       throw new ProgramError(0, `A program can be ${Object.values(LANGUAGES).join(" or ")}.`);
     }
     return readProgram(text, language, base, size, this.machine.kit, mostRoom);
+  }
+
+  /* Reads a text that may have mistakes: then it is no words, and the first mistake. */
+  readDraft(text, language, base, size) {
+    try {
+      return this.read(text, language, base, size);
+    } catch (error) {
+      if (!(error instanceof ProgramError)) throw error;
+      return { ...NO_WORDS, mistake: error.message };
+    }
   }
 
   /* The words of another program at which breakpoints stand, by the places of its labels: as far
@@ -127,7 +144,8 @@ class Session {
       ? `Memory covers the port: a byte stored to ${hex(PORT_ADDRESS)} is not printed.` : "";
     this.lines = this.machine.program.length + 1;
     this.remember();
-    this.say("Ready", [what, port, this.about].filter((part) => part).join(" "));
+    if (this.mistake) this.say("To be edited", this.mistake, "wait");
+    else this.say("Ready", [what, port, this.about].filter((part) => part).join(" "));
   }
 
   /** Says what stands in the page's line of the state: a sentence, or one by each choice of names
@@ -137,6 +155,12 @@ class Session {
     const { machine } = this;
     this.lines = Math.max(this.lines, machine.indexOf(machine.kit.pc) + 1);
     this.onChange();
+  }
+
+  /** The sentence of the state, with the names of registers that are chosen. */
+  get sentence() {
+    const { sentence } = this.notice;
+    return typeof sentence === "string" ? sentence : sentence.get(this.names);
   }
 
   sayEnd(end) {
@@ -157,12 +181,6 @@ class Session {
 
   sayStep() {
     const { machine } = this;
-  /** The sentence of the state, with the names of registers that are chosen. */
-  get sentence() {
-    const { sentence } = this.notice;
-    return typeof sentence === "string" ? sentence : sentence.get(this.names);
-  }
-
     const [record] = machine.history.latest(1);
     this.say(`Step ${machine.steps.toLocaleString("en")}`, byNames((names) => {
       const text = this.disassemble(record.word, record.pc, names);

@@ -55,7 +55,18 @@ function lessons(report, page) {
     ["exercise: b\nlanguage: c", "Line 2: the language is assembly or words"],
     ["exercise: b\nmemory: 5", "Line 2: the memory is one of 64 KiB, 256 KiB, 1 MiB"],
     ["exercise: b\nstack: 5", "Line 2: the stack can start at the end"],
+    ["lesson: a\ncalls: rars",
+      "Line 2: calls: stands behind the line exercise: that it belongs to"],
+    ["exercise: b\nlesson: a", "Line 2: a lesson has one title, before its first exercise"],
+    ...["Output", "outptu", "outpu", "outputs", "autput", " output", "output "].map((word) =>
+      [`exercise: b\nregister: a0 = 1\n${word}: "5"`, `Line 3: "${word.trim()}" is almost `
+        + '"output:", which begins its line, in small letters. A text begins with another word']),
   ], (text) => Report.refused(() => page.parseLesson(text)));
+  report.cases("texts that say nothing", [
+    ["Task: print 5."], ["Note: see output: below."], ["The output: 5"], ["put: 5"], ["out: 5"],
+    ["oputtu: 5"], ["outputting: 5"], ["output"], ["s: 1"], [": 1"],
+  ].map(([text]) => [text, text]), (text) => page.parseLesson(
+    `exercise: b\n${text}\nregister: a0 = 1`).exercises[0].about);
   report.cases("whether a text is a lesson", [
     [LESSON, true], ["\n  lesson: a", true], ["# lesson: a", false], ["nop", false], ["", false],
     ["lesson", false],

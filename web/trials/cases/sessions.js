@@ -69,6 +69,46 @@ function opening(report, over) {
   report.same("the sizes of a memory", [65536, 262144, 1048576], page.SIZES);
 }
 
+/* A draft may have mistakes: then it is a program of no words, whose text is kept. */
+function drafts(report, over) {
+  const session = opened(over, [0x13]);
+  const lines = "li a0, 5\nfoo a0, 5\n";
+  const mistake = "Line 2: no such instruction or directive: foo";
+  for (const [text, sentence] of [[lines, mistake], ["# here\n", "There is no statement in it."]]) {
+    session.open({ name: "d", text, language: "assembly", isDraft: true });
+    report.same("a draft that can't be read", [["To be edited", sentence, "wait"], text, 0, 1],
+      [said(session), session.text, session.machine.kit.words[0], session.lines]);
+  }
+  session.step();
+  session.reset();
+  report.same("a reset of it", "To be edited", session.notice.heading);
+  session.open({ name: "d", text: "li a0, 5\n", language: "assembly", isDraft: true });
+  report.same("a draft that can", ["Ready", 0x00500513],
+    [session.notice.heading, session.machine.kit.words[0]]);
+}
+
+/* What was said has the names of registers that are chosen then. */
+function saidByNames(report, over) {
+  const { page } = over;
+  const session = opened(over, [w.addi(5, 0, 7), w.addi(10, 5, 0), w.ecall]);
+  const both = () => Object.values(page.NAMES).map((names) => {
+    session.names = names;
+    return session.sentence;
+  });
+  session.step();
+  report.same("of a step", ["addi t0, zero, 7: t0 = 0x00000007",
+    "addi x5, x0, 7: x5 = 0x00000007"], both());
+  session.step();
+  session.stepBack();
+  report.same("of a step back", ["Next: addi a0, t0, 0", "Next: addi x10, x5, 0"], both());
+  session.change("t0", "1", 4);
+  report.same("of a change", ["t0 = 0x00000001.", "x5 = 0x00000001."], both());
+  session.step();
+  session.step();
+  report.same("of an end", ["(a7)", "(x17)"],
+    both().map((sentence) => /\(\w+\)/.exec(sentence)[0]));
+}
+
 /* Branches and jumps by the label that they go to, and by its address where there is none. */
 function targets(report, over) {
   const words = [w.b(0, 5, 6, -4), w.jal(1, -8), w.jalr(0, 1, 0), w.jal(0, 2), w.lui(5, 0x1000)];
@@ -261,7 +301,8 @@ async function input(report, over) {
 async function trySessions(report, page, kit, clock) {
   report.begin("sessions");
   const over = { page, kit, clock };
-  for (const part of [opening, targets, singleSteps, runsThereAndBack, paces, stops, input]) {
+  for (const part of [opening, drafts, saidByNames, targets, singleSteps, runsThereAndBack, paces,
+    stops, input]) {
     await part(report, over);
   }
 }
