@@ -37,15 +37,28 @@ const COLOURED = new RegExp([
   /(?<number>\d\w*)/,
 ].map(({ source }) => source).join("|"), "g");
 
-/** The parts of a source that have a colour: `{ start, end, kind }`, in order. */
-function colouredIn(text, kit) {
+/* Where the block comment begins that a place of a source is in, or the place if it is in none. */
+function startOfBlock(text, place) {
+  for (const { index, 0: part } of text.matchAll(HIDDEN)) {
+    if (index >= place) break;
+    if (index + part.length > place) return index;
+  }
+  return place;
+}
+
+/** The parts of a source that have a colour: `{ start, end, kind }`, in order. Of those that lie
+ * between two places, each the beginning of a line. */
+function colouredIn(text, kit, from = 0, to = text.length) {
   const names = namesOf(kit);
   const found = [];
+  COLOURED.lastIndex = startOfBlock(text, from);
   for (const { index, 0: part, groups } of text.matchAll(COLOURED)) {
+    if (index >= to) break;
     const [[kind]] = Object.entries(groups).filter(([, value]) => value !== undefined);
     const own = kind !== "word" ? kind : names.has(part) ? "name"
       : registerNamed(part) !== undefined ? "register" : "";
     if (own) found.push({ start: index, end: index + part.length, kind: own });
   }
+  COLOURED.lastIndex = 0;
   return found;
 }

@@ -5,9 +5,11 @@
 /* How long one has not typed before the text is read. */
 const READ_AFTER_MS = 200;
 
-/* How many characters a text has at most that is read while one types, and one that is coloured. */
-const MOST_READ_LIVE = 1 << 17;
-const MOST_COLOURED = 1 << 15;
+/* How many characters a text has at most that is read while one types, and coloured. */
+const MOST_LIVE = 1 << 17;
+
+/* How many lines are coloured above and below those in view. */
+const COLOURED_AROUND = 50;
 
 /* How much room the assembler has while one types. Repetitions can make much of a short text. */
 const ROOM_LIVE = 1 << 24;
@@ -31,9 +33,14 @@ class EditorView {
   constructor(session) {
     this.session = session;
     this.mistakes = [];
+    this.colouredLines = [0, 0];
+    this.blocks = ["above", "in-view", "below"].map((name) => make("div", name));
+    $("colours").append(...this.blocks);
     for (const [id, name] of Object.entries(LANGUAGES)) $("language").append(new Option(name, id));
     $("text").addEventListener("input", () => this.changed());
     $("text").addEventListener("scroll", () => this.follow());
+    new ResizeObserver(() => this.follow()).observe($("text"));
+    $("language").addEventListener("change", () => { this.isChosen = true; });
     for (const id of ["language", "base", "size"]) {
       $(id).addEventListener("change", () => this.changed());
     }
@@ -49,6 +56,7 @@ class EditorView {
   open({ text, language, machine }) {
     $("text").value = text;
     $("language").value = language;
+    this.isChosen = false;
     $("base").value = hex(machine.kit.base);
     $("size").value = machine.kit.size;
     $("stack").checked = machine.hasStack;
@@ -75,15 +83,29 @@ class EditorView {
 
   read() {
     if (!$("editor").open) return;
+    if ($("text").value.length <= MOST_LIVE) this.settleLanguage();
     this.mistakes = this.mistakesNow();
     this.show();
     this.showMistakes();
   }
 
+  /** Has a text that is assembly, and no words, read so, as a file is, unless words were chosen. */
+  settleLanguage() {
+    const { value } = $("text");
+    if (this.isChosen || this.language !== "words") return;
+    if (!isAssembly(value, this.session.machine.kit)) return;
+    try {
+      parseWords(value);
+    } catch (error) {
+      if (!(error instanceof ProgramError)) throw error;
+      $("language").value = "assembly";
+    }
+  }
+
   /* The mistakes of the text. A long one is read when it is loaded, and so is what takes much room. */
   mistakesNow() {
     const { value } = $("text");
-    if (value.length > MOST_READ_LIVE || value.trim() === "") return [];
+    if (value.length > MOST_LIVE || value.trim() === "") return [];
     const base = parseHex($("base").value.trim());
     try {
       this.session.read(
@@ -100,16 +122,20 @@ class EditorView {
   show() {
     const { value } = $("text");
     setText($("language-note"), LANGUAGE_NOTES[this.language]);
-    const isLong = value.length > MOST_COLOURED;
-    $("code").classList.toggle("plain", isLong);
-    const starts = lineStartsOf(value);
-    this.showNumbers(starts.length);
-    $("colours").replaceChildren(...(isLong ? [] : this.coloured(value, starts)));
+    const isPlain = value.length > MOST_LIVE;
+    $("code").classList.toggle("plain", isPlain);
+    this.starts = lineStartsOf(value);
+    this.wrong = this.wrongIn(value, this.starts);
+    this.showNumbers(this.starts.length);
+    this.showColours();
     this.follow();
   }
 
   showNumbers(count) {
     const wrong = new Set(this.mistakes.map(({ line }) => line));
+    const shown = [count, ...wrong].join();
+    if (shown === this.numbersShown) return;
+    this.numbersShown = shown;
     const parts = [];
     let text = "";
     for (let line = 1; line <= count; line++) {
@@ -119,19 +145,33 @@ class EditorView {
     $("numbers").replaceChildren(...parts, text);
   }
 
-  /* The text in parts, each with its colour, and those at mistakes marked. */
-  coloured(text, starts) {
-    const parts = this.language === "assembly" ? colouredIn(text, this.session.machine.kit) : [];
-    const wrong = this.wrongIn(text, starts);
+  /* The first line that is in view, and the one below the last. */
+  linesInView() {
+    const { scrollTop, clientHeight } = $("text");
+    const height = parseFloat(getComputedStyle($("text")).lineHeight);
+    return [Math.floor(scrollTop / height), Math.ceil((scrollTop + clientHeight) / height)];
+  }
+
+  /* Shows the text below the one that is typed: with colours where it is in view and around there,
+   * and above and below as it stands. */
+  showColours() {
+    const { value } = $("text");
+    const text = value.length > MOST_LIVE ? "" : value;
+    const [first, last] = this.linesInView();
+    this.colouredLines = [Math.max(0, first - COLOURED_AROUND), last + COLOURED_AROUND];
+    const [from, to] = this.colouredLines.map((line) => this.starts[line] ?? text.length);
+    const [above, inView, below] = this.blocks;
+    setText(above, text.slice(0, from));
+    inView.replaceChildren(...this.coloured(text, from, to));
+    // a last line that is empty has its height too
+    setText(below, `${text.slice(to)}\n`);
+  }
+
+  /* What stands between two places of the text, in parts, each with its colour, and those at
+   * mistakes marked. */
+  coloured(text, from, to) {
     const nodes = [];
-    let at = 0;
-    const add = (end, kind) => {
-      for (const [from, to] of wrong) {
-        if (at < from && from < end) push(from, kind, false);
-        if (at >= from && at < to) push(Math.min(to, end), kind, true);
-      }
-      push(end, kind, false);
-    };
+    let at = from;
     const push = (end, kind, isWrong) => {
       if (end <= at) return;
       const className = `${kind ? `is-${kind}` : ""}${isWrong ? " is-wrong" : ""}`.trim();
@@ -139,13 +179,21 @@ class EditorView {
       nodes.push(className ? make("span", className, part) : part);
       at = end;
     };
+    const add = (until, kind) => {
+      const end = Math.min(until, to);
+      for (const [wrongFrom, wrongTo] of this.wrong) {
+        if (at < wrongFrom && wrongFrom < end) push(wrongFrom, kind, false);
+        if (at >= wrongFrom && at < wrongTo) push(Math.min(wrongTo, end), kind, true);
+      }
+      push(end, kind, false);
+    };
+    const { machine: { kit } } = this.session;
+    const parts = this.language === "assembly" ? colouredIn(text, kit, from, to) : [];
     for (const { start, end, kind } of parts) {
       add(start, "");
       add(end, kind);
     }
-    add(text.length, "");
-    // a last line that is empty has its height too
-    nodes.push("\n");
+    add(to, "");
     return nodes;
   }
 
@@ -178,9 +226,16 @@ class EditorView {
     $("text").scrollTop = Math.max(0, (line - 4) * height);
   }
 
-  /* Has the numbers and the colours stand where the text stands. */
+  /* Has the numbers and the colours stand where the text stands, beside its scroll bars, and
+   * colours what has come into view. */
   follow() {
-    const { scrollTop, scrollLeft } = $("text");
+    const { scrollTop, scrollLeft, offsetHeight, offsetWidth } = $("text");
+    const { clientHeight, clientWidth } = $("text");
+    $("code").style.setProperty("--bar-below", `${offsetHeight - clientHeight}px`);
+    $("code").style.setProperty("--bar-beside", `${offsetWidth - clientWidth}px`);
+    const [first, last] = this.linesInView();
+    const [from, to] = this.colouredLines;
+    if (first < from || last > to) this.showColours();
     $("numbers").scrollTop = $("colours").scrollTop = scrollTop;
     $("colours").scrollLeft = scrollLeft;
   }

@@ -382,6 +382,7 @@ class Page {
 
   /* Opens what stands in the editor, or says there what is wrong with it. */
   take() {
+    this.editor.settleLanguage();
     const program = {
       name: "Program",
       text: $("text").value,

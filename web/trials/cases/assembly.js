@@ -208,6 +208,12 @@ function known(report, page, kit) {
     ["j there", ["j name"]], ["li a0, 'a'", ["li name", "a0 register", "'a' string"]], ["", []],
   ], coloured);
   const text = "add a0, a1\nx\n";
+  const blocks = "/* a\nb */ li\nnop /* c\nnop */";
+  report.cases("the colours between two places", [
+    [[0, 5], ["/* a\nb */ comment"]], [[5, 13], ["/* a\nb */ comment", "li name"]],
+    [[13, 22], ["nop name", "/* c\nnop */ comment"]], [[22, 29], ["/* c\nnop */ comment"]],
+  ], ([from, to]) => page.colouredIn(blocks, kit, from, to)
+    .map(({ start, end, kind }) => `${blocks.slice(start, end)} ${kind}`));
   report.cases("the place of a mistake in a text", [
     [[1, 5], [4, 6]], [[1, 7], [6, 7]], [[1, 11], [9, 10]], [[2, 1], [11, 12]], [[3, 1], [13, 13]],
   ], ([line, column]) => page.EditorView.prototype.wrongIn
