@@ -58,8 +58,7 @@ class Convention {
     if (kind === "return") this.leave(pc);
     if (kind !== "call") return;
     this.called = { entry: pc, before: null, isPlain: (word >>> 7 & 31) === 1 };
-    this.frames.push(this.called);
-    if (this.frames.length > MOST_FRAMES) this.frames.shift();
+    addFrame(this.frames, this.called);
   }
 
   lookAtRead(pc, word, register) {

@@ -16,8 +16,15 @@ function kindOfJump(word) {
   return opcode === OPCODE.JALR && isLink(word >>> 15 & 31) ? "return" : "";
 }
 
-/* The most frames that are kept. A deeper recursion loses its outermost ones. */
-const MOST_FRAMES = 1000;
+/* How many frames are kept at least: as many as the largest memory has room for, of 16
+ * bytes each. A deeper recursion loses its outermost ones. */
+const FRAMES_KEPT = 1 << 16;
+
+/* Adds a frame. The outermost ones are dropped many at a time, which takes less. */
+function addFrame(frames, frame) {
+  frames.push(frame);
+  if (frames.length > 2 * FRAMES_KEPT) frames.splice(0, FRAMES_KEPT);
+}
 
 /* Calls `visit` with each kept record, oldest first: the words of memory, and its place there. */
 function eachRecord(history, visit) {
@@ -47,8 +54,7 @@ function framesOf({ kit, history }) {
     if (kind !== "call") return;
     called = { from: pc, entry: kit.pc, back: (pc + 4) % 2 ** 32, sp };
     if (sp === undefined) withoutSp.push(called);
-    frames.push(called);
-    if (frames.length > MOST_FRAMES) frames.shift();
+    addFrame(frames, called);
   });
   for (const frame of withoutSp) frame.sp = kit.x[REGISTER.SP];
   return frames.reverse();

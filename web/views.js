@@ -473,7 +473,7 @@ class FramesView {
     });
     const others = frames.length - shown.length;
     const remarks = remarksOf(session.machine);
-    const notes = [frames.length === 0 ? "none" : others > 0 ? `${others} more` : ""];
+    const notes = [frames.length === 0 ? "none" : others > 0 ? `${numbered(others)} more` : ""];
     if (remarks.length > 0) notes.push(counted(remarks.length, "remark"));
     setText($("frames-note"), notes.filter((note) => note).join(", "));
     const items = resize($("remarks"), remarks.length, () => make("li"));

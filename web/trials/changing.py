@@ -159,11 +159,9 @@ def calls_made(machine):
     machine.run()
     same("in a memory that begins elsewhere, with a long label",
          [[f"{60 * 'y'}…", "0x80000004", "00000000"]], machine.rows("frames"))
-    machine.edit("loop:\n000000ef # jal ra, loop")
-    machine.page.press("r")
-    page.wait("rrs.session.machine.steps > 2000")
-    machine.keys("p")
-    same("of very many calls", [100, "900 more"],
+    machine.edit("li t0, 3001\nloop: addi t0, t0, -1\nbeqz t0, done\njal loop\ndone: ebreak")
+    machine.run()
+    same("of very many calls", [100, "2,900 more"],
          [len(machine.rows("frames")), page.text("#frames-note")])
 
 

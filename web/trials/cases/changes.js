@@ -170,13 +170,19 @@ function frames(report, page, kit) {
   last.step();
   report.same("a call by the last word", [0xfffffffc, 0], [page.framesOf(last)[0]]
     .flatMap(({ from, back }) => [from, back]));
-  const deep = machineWith(page, kit, [call(0)]);
-  for (let made = 0; made < 1500; made++) deep.step();
-  report.same("a recursion without end", 1000, page.framesOf(deep).length);
-  const deeper = machineWith(page, kit, [push, call(-4)], 0, true);
-  for (let made = 0; made < 2 * 1203; made++) deeper.step();
-  const kept = page.framesOf(deeper);
-  report.same("the calls that are kept of it", [1000, top - 16 * 1203, top - 16 * 204],
+  deepCalls(report, page, kit);
+}
+
+/* Very many calls, of which the outermost are lost, and a deep recursion, which keeps each. */
+function deepCalls(report, page, kit) {
+  const endless = machineWith(page, kit, [w.jal(1, 0)]);
+  for (let made = 0; made < 150000; made++) endless.step();
+  report.same("a recursion without end", 150000 - 65536, page.framesOf(endless).length);
+  const deep = machineWith(page, kit, [w.addi(2, 2, -16), w.jal(1, -4)], 0, true);
+  for (let made = 0; made < 2 * 3000; made++) deep.step();
+  const kept = page.framesOf(deep);
+  const top = 0x10000;
+  report.same("the calls of a deep one", [3000, top - 16 * 3000, top - 16],
     [kept.length, kept[0].sp, kept.at(-1).sp]);
 }
 
