@@ -233,6 +233,10 @@ class RegistersView {
 
 const MEMORY_ROWS = 13;
 
+/* As many are on one screen with the registers where a window is low, as on 1366 x 768. */
+const MEMORY_ROWS_LOW = 7;
+const LOW_WINDOW = "(min-width: 1081px) and (max-height: 740px)";
+
 /* What the marks of memory mean. */
 const MARKS_OF_MEMORY = {
   stored: "the last store", since: SINCE, changed: "changed since the start",
@@ -272,6 +276,11 @@ class MemoryView {
     if (!choices.some(([value]) => value === this.around)) this.around = "sp";
   }
 
+  /* How many rows there are. */
+  get rows() {
+    return matchMedia(LOW_WINDOW).matches ? MEMORY_ROWS_LOW : MEMORY_ROWS;
+  }
+
   /* How many bytes a row has, by the room there is. */
   get rowBytes() {
     return $("memory").parentElement.clientWidth < (this.unit === 1 ? 580 : 440) ? 8 : 16;
@@ -293,10 +302,10 @@ class MemoryView {
   /* Moves the part that is shown so that the address is in it. */
   follow(address) {
     const { kit } = this.session.machine;
-    const { rowBytes } = this;
-    const most = kit.base + kit.size - MEMORY_ROWS * rowBytes;
+    const { rowBytes, rows } = this;
+    const most = kit.base + kit.size - rows * rowBytes;
     const row = address - address % rowBytes;
-    const isIn = row >= this.start && row < this.start + (MEMORY_ROWS - 1) * rowBytes;
+    const isIn = row >= this.start && row < this.start + (rows - 1) * rowBytes;
     const isExact = this.around === "address" || this.around.startsWith("label");
     if (isExact) this.start = row;
     else if (!isIn) this.start = row - 4 * rowBytes;
@@ -317,7 +326,7 @@ class MemoryView {
   /** Shows what lies some rows below or above. */
   page(rows) {
     const { kit } = this.session.machine;
-    const most = kit.base + kit.size - MEMORY_ROWS * this.rowBytes;
+    const most = kit.base + kit.size - this.rows * this.rowBytes;
     this.typed = Math.max(kit.base, Math.min(this.start + rows * this.rowBytes, most));
     this.around = "address";
     $("address").value = hex(this.typed);
@@ -329,10 +338,10 @@ class MemoryView {
     if (this.around === "store") this.storeShown = target;
     this.follow(target);
     $("around").value = this.around;
-    const rows = resize($("memory").tBodies[0], MEMORY_ROWS, () => make("tr"));
+    const rows = resize($("memory").tBodies[0], this.rows, () => make("tr"));
     const cells = this.rowBytes / this.unit;
     const stored = this.session.machine.history.latestStore();
-    for (let row = 0; row < MEMORY_ROWS; row++) {
+    for (let row = 0; row < rows.length; row++) {
       if (rows[row].children.length !== cells + 2) this.makeCells(rows[row], cells);
       this.fillRow(rows[row], this.start + row * this.rowBytes, target, stored);
     }

@@ -375,6 +375,12 @@ def boxes_of_a_lesson(machine):
         page.resize(width, height)
         page.ask("scrollTo(0, 0)")
         same(f"the boxes at {width}", ALL_IN_PLACE, page.ask(f"{SEEN}.boxes()"))
+        same(f"the instructions that are cut at {width}", [], page.ask(
+            "[...document.querySelectorAll('.line .instruction')].filter((part) =>"
+            " part.scrollWidth > part.clientWidth).map((part) => part.textContent)"))
+        same(f"what a step did, beside others, at {width}", [], page.ask(
+            "[...document.querySelectorAll('#log td:last-child')].filter((cell) =>"
+            " cell.getBoundingClientRect().right > innerWidth).map((cell) => cell.textContent)"))
         same(f"the source beside an instruction at {width}", ["li   a2, count", True], page.ask(
             "(({ textContent, clientWidth, scrollWidth }) => [textContent, clientWidth > 60 &&"
             " scrollWidth <= clientWidth])(document.querySelector('#line-2 .source'))"))
@@ -385,14 +391,17 @@ def boxes_of_a_lesson(machine):
 def one_screen(machine):
     """at 1366 x 768 registers, memory around sp and the listing are on one screen"""
     page = machine.page
-    page.resize(1366, 768)
-    for what, show in (("words", show_fibonacci), ("a source", show_source)):
-        show(machine)
-        page.ask("scrollTo(0, 0)")
-        same(f"what is not on the screen of {what}", [], page.ask(f"{SEEN}.notInView()"))
-        same(f"what scrolls sideways of {what}", [], page.ask(
-            "[...document.querySelectorAll('.scroll, #listing')].filter((panel) =>"
-            " panel.scrollWidth > panel.clientWidth).map((panel) => panel.firstElementChild.id)"))
+    for height in (768, 625):
+        page.resize(1366, height)
+        for what, show in (("words", show_fibonacci), ("a source", show_source)):
+            show(machine)
+            page.ask("scrollTo(0, 0)")
+            what = f"{what} at {height}"
+            same(f"what is not on the screen of {what}", [], page.ask(f"{SEEN}.notInView()"))
+            same(f"what scrolls sideways of {what}", [], page.ask(
+                "[...document.querySelectorAll('.scroll, #listing')].filter((panel) =>"
+                " panel.scrollWidth > panel.clientWidth)"
+                ".map((panel) => panel.firstElementChild.id)"))
     page.resize(*SIZE)
 
 
@@ -406,11 +415,15 @@ def nothing_moves(machine):
         tops, cut = set(), set()
         for example in examples:
             machine.choose(example)
+            page.choose("#calls", "rars")
+            machine.leave_fields()
             machine.run()
-            tops.add(page.ask("document.querySelector('main').offsetTop"))
+            tops.add(tuple(page.ask("['main', '#steps'].map((part) =>"
+                                    " document.querySelector(part).getBoundingClientRect().top)")))
             cut.update(page.ask(f"{SEEN}.cutBelow()"))
         examples.reverse()
-        same(f"the places of the panels, and what is cut off, at {width}", [1, set()], [len(tops), cut])
+        same(f"the places of the panels, and what is cut off, at {width}", [1, set()],
+             [len(tops), cut])
     page.resize(*SIZE)
 
 

@@ -210,7 +210,7 @@
 
   /* What of the listing's pc, the registers and the memory at sp does not lie in the window. */
   function notInView() {
-    const parts = ["section.registers", ".line.pc", "#memory .target", "section.memory .head"];
+    const parts = ["section.registers", ".line.pc", "section.memory"];
     return parts.filter((selector) => {
       const { top, bottom, left, right } = box(document.querySelector(selector));
       return top < 0 || bottom > innerHeight || left < 0 || right > innerWidth;

@@ -41,18 +41,20 @@ function numbers(report, page) {
   const kit = { base: 16, bytes: Uint8Array.of(0, 31, 32, 126, 127, 65) };
   report.same("letters of memory", "· ~·", page.MemoryView.prototype.lettersAt.call(
     { session: { machine: { kit } }, rowBytes: 4 }, 17));
-  // what is looked at is in one of the 13 rows, wherever they stood before
+  // what is looked at is in one of the rows, wherever they stood before
   const outside = [];
-  for (const [rowBytes, around] of [[8, "sp"], [16, "pc"], [16, "label x"], [8, "address"]]) {
+  for (const [rowBytes, around, rows] of [
+    [8, "sp", 13], [16, "pc", 13], [16, "label x", 7], [8, "address", 13], [16, "sp", 7],
+  ]) {
     const view = {
-      session: { machine: { kit: { base: 0x1000, size: 0x10000 } } }, rowBytes, around,
+      session: { machine: { kit: { base: 0x1000, size: 0x10000 } } }, rowBytes, around, rows,
     };
     for (let start = 0x1000; start < 0x1400; start += rowBytes) {
       for (let address = 0x1000; address < 0x1600; address += 4) {
         view.start = start;
         page.MemoryView.prototype.follow.call(view, address);
         const offset = address - view.start;
-        const isThere = offset >= 0 && offset < 13 * rowBytes && view.start % rowBytes === 0;
+        const isThere = offset >= 0 && offset < rows * rowBytes && view.start % rowBytes === 0;
         if (!isThere || view.start < 0x1000) outside.push([around, start, address, view.start]);
       }
     }
