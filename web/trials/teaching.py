@@ -150,8 +150,19 @@ def assembly_from_elsewhere(machine):
          [page.ask("rrs.session.language"), machine.register("x2")])
 
 
+# the classes of the colours that are in view
+IN_VIEW = """(() => {
+    const { top, bottom } = $("text").getBoundingClientRect();
+    const isIn = (at) => at.bottom > top && at.top < bottom;
+    const parts = [...document.querySelectorAll("#colours span")];
+    const shown = parts.filter((part) => [...part.getClientRects()].some(isIn));
+    return [...new Set(shown.map(({ className }) => className))].sort();
+})()"""
+UNDER_THE_TEXT = "$('colours').textContent === $('text').value + '\\n'"
+
+
 def long_sources(machine):
-    """a long source is not coloured, and a longer one, or what makes much, is read at Load alone"""
+    """a long source is coloured in view; a longer one, or what makes much, is read at Load alone"""
     page = machine.page
     machine.choose("three")
     machine.keys("e")
@@ -159,16 +170,86 @@ def long_sources(machine):
     seen = {length: page.ask(
         f"(() => {{ $('text').value = 'x'.repeat({length}); rrs.editor.changed();"
         " rrs.editor.read(); return [$('code').className, $('colours').textContent.length,"
-        " rrs.editor.mistakes.length]; })()") for length in (1 << 15, (1 << 15) + 1, 1 << 17, (1 << 17) + 1)}
+        " rrs.editor.mistakes.length]; })()") for length in (1 << 17, (1 << 17) + 1)}
     same("sources by their lengths", {
-        32768: ["code", 32769, 1], 32769: ["code plain", 0, 1], 131072: ["code plain", 0, 1],
-        131073: ["code plain", 0, 0]}, seen)
+        131072: ["code", 131073, 1], 131073: ["code plain", 1, 0]}, seen)
     page.choose("#language", "assembly")
+    # a comment of 2,000 lines, and instructions behind it
+    page.put("#text", "/*\n" + 1998 * "li a0, 5\n" + "*/\n" + 1000 * "li a0, 5\n")
+    for line, kinds in ((0, ["is-comment"]), (1000, ["is-comment"]),
+                        (2500, ["is-name", "is-number", "is-register"])):
+        page.ask(f"(async () => {{ $('text').scrollTop = {line}"
+                 " * parseFloat(getComputedStyle($('text')).lineHeight);"
+                 " await new Promise((done) =>"
+                 " requestAnimationFrame(() => setTimeout(done))); })()")
+        same(f"the colours at line {line}, few parts, and the text under them", [kinds, True, True],
+             page.ask(f"[{IN_VIEW}, document.querySelectorAll('#colours span').length < 600,"
+                      f" {UNDER_THE_TEXT}]"))
     took = page.ask(
         "(() => { $('text').value = '.rept 16777215\\nnop\\n.endr';"
-        " const begun = performance.now(); rrs.editor.read(); return performance.now() - begun; })()")
+        " const begun = performance.now(); rrs.editor.read();"
+        " return performance.now() - begun; })()")
     same("whether the page answers soon where a source makes much", True, took < 3000)
     machine.escape()
+
+
+PLACES = """['text', 'numbers', 'colours'].map((id) => {
+    const { scrollTop, scrollLeft } = document.getElementById(id);
+    return [Math.round(scrollTop), Math.round(scrollLeft)];
+})"""
+
+
+def beside_scroll_bars(machine):
+    """numbers and colours stand where the text stands, at its end and beside its scroll bars too"""
+    page = machine.page
+    machine.choose("three")
+    machine.keys("e")
+    page.put("#text", 60 * "nop\n" + "# " + 400 * "-" + "\nnop")
+    # borders take the room of the scroll bars, which this browser does not show
+    page.ask("""(() => {
+        const { style, offsetHeight } = $("text");
+        style.height = `${offsetHeight}px`;
+        style.border = "solid";
+        style.borderWidth = "0 15px 15px 0";
+    })()""")
+    page.ask("(async () => { const draw = () => new Promise((done) => requestAnimationFrame(() =>"
+             " setTimeout(done))); await draw(); $('text').scrollTop = $('text').scrollLeft = 9999;"
+             " await draw(); })()")
+    text, numbers, colours = page.ask(PLACES)
+    same("whether it is scrolled", [True, True], [text[0] > 500, text[1] > 500])
+    same("where the numbers and the colours are", [text[0], text], [numbers[0], colours])
+    same("whether the colours end where the text does", True, page.ask(
+        "['Width', 'Height'].every((side) => $('colours')[`offset${side}`]"
+        " === $('text')[`client${side}`])"))
+    page.ask("(() => { $('text').style.height = $('text').style.border = ''; })()")
+    machine.escape()
+
+
+LANGUAGE = "document.getElementById('language').value"
+
+
+def language_of_a_text(machine):
+    """a text that is assembly is read so in the place of words, unless these were chosen"""
+    page = machine.page
+    machine.choose("three")
+    machine.keys("e")
+    same("of the example", "words", page.ask(LANGUAGE))
+    page.put("#text", "13 # li a0, 5\n")
+    page.ask("rrs.editor.read()")
+    same("of words", "words", page.ask(LANGUAGE))
+    page.replace("#text", "main: li a0, 5\n")
+    page.wait(f"{LANGUAGE} === 'assembly'", 5)
+    same("its mistakes", [], page.ask(MISTAKES))
+    page.choose("#language", "words")
+    page.wait(f"{MISTAKES}.length === 1", 5)
+    same("where words are chosen", "words", page.ask(LANGUAGE))
+    machine.escape()
+    machine.keys("e")
+    page.ask("$('text').value = 'li a0, 5'; $('text').dispatchEvent(new Event('input')); null")
+    page.click("#take")
+    machine.wait_closed()
+    same("at Load, before it is read", ["assembly", "addi a0, zero, 5"],
+         [page.ask("rrs.session.language"), machine.line(0)[2]])
 
 
 CHECK = "document.getElementById('exercise-check').className"
@@ -258,6 +339,75 @@ def lesson(machine):
                 "document.getElementById('lesson').hidden"))
 
 
+DRAFTS = """lesson: Drafts
+exercise: Nothing yet
+output: "5"
+calls: rars
+program:
+exercise: A mistake
+register: a0 = 5
+program:
+main: foo a0, 5
+  ebreak
+"""
+
+
+def drafts(machine):
+    """an exercise may begin with no program, or one with a mistake, which the editor has"""
+    page = machine.page
+    machine.choose("gcd")
+    with tempfile.TemporaryDirectory() as name:
+        path = pathlib.Path(name) / "drafts.txt"
+        path.write_text(DRAFTS)
+        machine.give(path)
+        machine.says("To be edited", "There is no statement in it.")
+        same("no program of before", ["Nothing yet", "no instruction", "\n"], [
+            page.text("#program-title"), machine.line(0)[2], page.ask("rrs.session.text")])
+        machine.run()
+        same("a run of nothing", 'The output is "", and "5" is expected.',
+             page.text("#exercise-check"))
+        page.click("#exercises li:nth-child(2) a")
+        page.wait(f"{CURRENT} === 'A mistake'")
+        machine.says("To be edited", "Line 1: no such instruction or directive: foo")
+        page.choose("#preset", "1")
+        machine.leave_fields()
+        machine.says("To be edited", "Line 1: no such instruction or directive: foo")
+        machine.keys("e")
+        page.wait(f"{MISTAKES}.length === 1", 5)
+        page.replace("#text", page.ask("$('text').value.replace('foo', 'li')"))
+        page.click("#take")
+        machine.wait_closed()
+        machine.run()
+        same("mended", "Solved.", page.text("#exercise-check"))
+        page.click("#exercises li:nth-child(1) a")
+        page.wait(f"{CURRENT} === 'Nothing yet'")
+        same("the other is as it was", "\n", page.ask("rrs.session.text"))
+        page.click("#exercises li:nth-child(2) a")
+        page.wait(f"{CURRENT} === 'A mistake'")
+        machine.give(path)
+        page.wait(f"{CURRENT} === 'Nothing yet'")
+        # the page has the address of this link already
+        page.click("#exercises li:nth-child(2) a")
+        page.wait(f"{CURRENT} === 'A mistake'")
+    page.ask("history.replaceState(null, '', location.pathname)")
+    machine.keys("q")
+
+
+def misses_by_names(machine):
+    """what an exercise misses has the names of registers that are chosen"""
+    page = machine.page
+    machine.give(LESSON)
+    page.wait("!document.getElementById('lesson').hidden")
+    machine.run()
+    seen = [page.text("#exercise-check")]
+    machine.keys("h")
+    seen.append(page.text("#exercise-check"))
+    machine.keys("h")
+    same("what is missed", [f"{name} is 0 (0x00000000), and 14 (0x0000000e) is expected."
+                            for name in ("a0", "x10")], seen)
+    machine.keys("q")
+
+
 REMARKS = "[...document.querySelectorAll('#remarks li')].map((item) => item.textContent)"
 
 
@@ -283,4 +433,7 @@ def convention(machine):
     same("at the start", [], page.ask(REMARKS))
 
 
-TRIALS = [assembly, while_one_types, long_sources, assembly_from_elsewhere, lesson, convention]
+TRIALS = [
+    assembly, while_one_types, long_sources, beside_scroll_bars, language_of_a_text,
+    assembly_from_elsewhere, lesson, drafts, misses_by_names, convention,
+]
