@@ -19,7 +19,7 @@ function namesOf(kit) {
  * directive, or with the name of an instruction and operands. */
 function isAssembly(text, kit) {
   const names = namesOf(kit);
-  return text.split("\n").some((line) => {
+  return withoutBlocks(text).split("\n").some((line) => {
     const [, name, rest] = /^(?:\s*[\w.$]+:)*\s*([\w.$]*)\s*([^#;/]?)/.exec(line);
     if (name.startsWith(".")) return !name.endsWith(":");
     // a lone add is a word of three digits too

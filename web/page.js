@@ -369,7 +369,7 @@ class Page {
         this.closeLesson();
         return this.open({ name, ...program });
       }
-      const text = textOfFile(bytes, size);
+      const text = textOfFile(bytes, size, kit);
       if (isLesson(text)) return this.openLesson(parseLesson(text), 1);
       this.closeLesson();
       const language = isAssembly(text, kit) ? "assembly" : "words";

@@ -217,14 +217,27 @@ function readProgram(text, language, base, size, kit, mostRoom) {
 /* What a text has no byte of: control characters, but for tabs and the ends of lines and pages. */
 const NO_TEXT = /[\0-\x08\x0e-\x1f\x7f]/;
 
-/** The text that a file's bytes are, or null. They are one in UTF-8 with no control characters. */
-function textIn(bytes) {
+/* The text with no control characters that bytes are in an encoding, or null. */
+function decoded(bytes, encoding) {
   try {
-    const text = new TextDecoder("utf-8", { fatal: true }).decode(bytes);
+    const text = new TextDecoder(encoding, { fatal: true }).decode(bytes);
     return NO_TEXT.test(text) ? null : text;
   } catch {
     return null;
   }
+}
+
+/** The text that a file's bytes are, or null: in UTF-8, or in UTF-16 with its mark. */
+function textIn(bytes) {
+  const mark = bytes[0] << 8 | bytes[1];
+  return decoded(bytes, { 0xfffe: "utf-16le", 0xfeff: "utf-16be" }[mark] ?? "utf-8");
+}
+
+/* The text in the code page of western Windows that bytes are, where it is assembly or a lesson, or
+ * null. Other bytes can be read so too. */
+function westernIn(bytes, kit) {
+  const text = decoded(bytes, "windows-1252");
+  return text !== null && (isAssembly(text, kit) || isLesson(text)) ? text : null;
 }
 
 /** Why a file of some bytes is not even read, or "". */
@@ -236,8 +249,8 @@ function mistakeOfSize(size) {
 
 /** The text of the program that the bytes of a file that is no executable are, by what they hold: a
  * text of words, or else raw bytes for a memory of `room` bytes. Throws a ProgramError. */
-function textOfFile(bytes, room) {
-  const text = textIn(bytes);
+function textOfFile(bytes, room, kit) {
+  const text = textIn(bytes) ?? westernIn(bytes, kit);
   if (text !== null) return text;
   if (bytes.length > room) {
     throw new ProgramError(0, `It has ${numbered(bytes.length)} bytes, and the memory has `

@@ -193,6 +193,7 @@ function known(report, page, kit) {
     ["add a0, a1, a2", true], ["x: add a0, a1, a2", true], ["dead beef", false], [".data", true],
     [".start: 13", false], ["ret", true], ["nothing", false], ["loop: 13", false], ["", false],
     ["a:b: nop", true], ["1: nop", true], ["13\nmv a0, a1", true],
+    ["/* so */ li a0, 5", true], ["/* a\nli a0, 5\n*/ 13", false], ["# /*\nret", true],
   ], (text) => page.isAssembly(text, kit));
   report.same("names that are coloured and that the kit does not have", [],
     [...page.namesOf(kit)].filter((name) => made(page, kit, name).toString().includes("no such")));
@@ -207,13 +208,13 @@ function known(report, page, kit) {
     ["li a0, '\\''#", ["li name", "a0 register", "'\\'' string", "# comment"]],
     ["j there", ["j name"]], ["li a0, 'a'", ["li name", "a0 register", "'a' string"]], ["", []],
   ], coloured);
-  const text = "add a0, a1\nx\n";
   const blocks = "/* a\nb */ li\nnop /* c\nnop */";
   report.cases("the colours between two places", [
     [[0, 5], ["/* a\nb */ comment"]], [[5, 13], ["/* a\nb */ comment", "li name"]],
     [[13, 22], ["nop name", "/* c\nnop */ comment"]], [[22, 29], ["/* c\nnop */ comment"]],
   ], ([from, to]) => page.colouredIn(blocks, kit, from, to)
     .map(({ start, end, kind }) => `${blocks.slice(start, end)} ${kind}`));
+  const text = "add a0, a1\nx\n";
   report.cases("the place of a mistake in a text", [
     [[1, 5], [4, 6]], [[1, 7], [6, 7]], [[1, 11], [9, 10]], [[2, 1], [11, 12]], [[3, 1], [13, 13]],
   ], ([line, column]) => page.EditorView.prototype.wrongIn

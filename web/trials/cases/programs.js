@@ -63,7 +63,7 @@ function sizesOfTexts(report, page) {
   });
 }
 
-function files(report, page) {
+function files(report, page, kit) {
   const bytes = (...values) => Uint8Array.from(values);
   const written = (text) => new TextEncoder().encode(text);
   const tooLong = "It has 65,537 bytes, and the memory has 65,536. A larger memory can be chosen "
@@ -77,9 +77,14 @@ function files(report, page) {
     [bytes(0x7f, 0x45, 0x4c), "0x004c457f\n"],
     [new Uint8Array(65536), "0x00000000\n".repeat(16384)], [new Uint8Array(65537), tooLong],
     [written("# ".repeat(40000)), "# ".repeat(40000)],
+    [bytes(0xff, 0xfe, 0x31, 0, 0xe9, 0), "1é"], [bytes(0xfe, 0xff, 0, 0x31, 0, 0xe9), "1é"],
+    [bytes(0xff, 0xfe, 0x31, 0, 0, 0), "0x0031feff\n0x00000000\n"],
+    [Buffer.from("ret # \xe9", "latin1"), "ret # é"],
+    [Buffer.from("lesson: \xe9", "latin1"), "lesson: é"],
+    [Buffer.from("13 \xe9", "latin1"), "0xe9203331\n"],
   ], (content) => {
     let text;
-    const refused = Report.refused(() => { text = page.textOfFile(content, 65536); });
+    const refused = Report.refused(() => { text = page.textOfFile(content, 65536, kit); });
     return refused ?? text;
   });
   report.same("the control characters that a text may have", [9, 10, 11, 12, 13],
@@ -194,7 +199,7 @@ async function tryPrograms(report, page, kit) {
   report.begin("texts");
   for (const part of [texts, sizesOfTexts]) part(report, page);
   report.begin("files");
-  files(report, page);
+  files(report, page, kit);
   report.begin("links");
   await links(report, page);
   report.begin("examples");
