@@ -508,6 +508,7 @@ class LessonView {
   open(lesson, number, link) {
     this.lesson = lesson;
     this.number = number;
+    const hasFocus = $("exercises").contains(document.activeElement);
     setText($("lesson-title"), lesson.title || "Lesson");
     $("exercises").replaceChildren(...lesson.exercises.map(({ title }, at) => {
       const anchor = make("a", "", title || `Exercise ${at + 1}`);
@@ -516,6 +517,8 @@ class LessonView {
     }));
     $("lesson").hidden = false;
     this.show();
+    // a link that was followed by a key has the focus on
+    if (hasFocus) $("exercises").children[number - 1].firstChild.focus();
   }
 
   close() {

@@ -304,8 +304,13 @@ def lesson(machine):
     same("what was tried", True, page.ask("rrs.session.text.includes('bnez a2, 1b')"))
     same("and is solved", "check done", page.ask(CHECK))
     machine.keys("j")
-    same("the key of the exercises", "The sum of a list", page.ask(
-        "document.activeElement.textContent"))
+    focused = "document.activeElement.closest('#exercises a')?.textContent"
+    same("the key of the exercises", "The sum of a list", page.ask(focused))
+    for held, title in (((), "Count down"), (("Shift",), "The sum of a list")):
+        page.press("Tab", *held)
+        page.press("Enter")
+        page.wait(f"{CURRENT} === '{title}'")
+        same("the focus behind a link that a key follows", title, page.ask(focused))
     link = page.ask("document.querySelector('#exercises li:nth-child(3) a').href")
     page.click("[data-action=closeLesson]")
     same("closed", True, page.ask("document.getElementById('lesson').hidden"))
