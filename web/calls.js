@@ -84,6 +84,13 @@ const ENVIRONMENTS = {
   linux: {
     name: "Linux", number: REGISTER.A7,
     calls: {
+      29: {
+        name: "ioctl", about: "says that a stream is no terminal", serve: ofStream(NO_TERMINAL),
+      },
+      57: { name: "close", about: "leaves a stream open", serve: ofStream(0) },
+      62: {
+        name: "lseek", about: "says that a stream has no position", serve: ofStream(NO_POSITION),
+      },
       63: {
         name: "read", about: "reads x12 bytes at most to address x11, of file 0",
         serve: (machine, extra) => machine.readCall(extra),
@@ -92,11 +99,32 @@ const ENVIRONMENTS = {
         name: "write", about: "writes x12 bytes from address x11 on, to file 1 or 2",
         serve: (machine) => machine.writeCall(),
       },
+      66: {
+        name: "writev", serve: writePiecesCall,
+        about: "writes x12 pieces, whose addresses and lengths stand from x11 on, to file 1 or 2",
+      },
+      79: {
+        name: "newfstatat", about: "puts the status of a stream with an empty name at x12",
+        serve: namedStatusCall,
+      },
+      80: { name: "fstat", about: "puts the status of stream x10 at x11", serve: statusCall },
       93: { name: "exit", about: "ends, with status x10", serve: exitWith(REGISTER.A0) },
       94: { name: "exit_group", about: "ends, with status x10", serve: exitWith(REGISTER.A0) },
+      169: {
+        name: "gettimeofday", about: "puts the time since 1970 at x10", serve: timeOfDayCall,
+      },
+      172: { name: "getpid", about: "gives 1", serve: () => 1 },
       214: {
         name: "brk", about: "moves the end of the heap to x10",
         serve: (machine) => machine.breakCall(),
+      },
+      291: {
+        name: "statx", about: "puts the status of a stream with an empty name at x14",
+        serve: extendedStatusCall,
+      },
+      403: {
+        name: "clock_gettime64", about: "puts the time of clock x10, from 0 to 3, at x11",
+        serve: clockCall,
       },
     },
   },

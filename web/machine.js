@@ -3,7 +3,7 @@
 // The machine of the page: the proved steps of the kit, there and back, and around them what serves
 // the program's calls and the port, and what counts steps.
 
-const REGISTER = { SP: 2, A0: 10, A1: 11, A2: 12, A7: 17 };
+const REGISTER = { SP: 2, A0: 10, A1: 11, A2: 12, A3: 13, A4: 14, A7: 17 };
 
 /* The errors of Linux's calls. */
 const NO_SUCH_FILE = -9;
@@ -214,11 +214,16 @@ class Machine {
 
   /* write(a0, a1, a2): prints the bytes, and answers how many they are. */
   writeCall() {
-    const { kit } = this;
-    const file = kit.x[REGISTER.A0];
+    const { x } = this.kit;
+    const file = x[REGISTER.A0];
     if (file !== 1 && file !== 2) return NO_SUCH_FILE;
-    const address = kit.x[REGISTER.A1];
-    const most = mostTransferred(address, kit.x[REGISTER.A2]);
+    return this.write(x[REGISTER.A1], x[REGISTER.A2]);
+  }
+
+  /** Prints bytes from an address on, and answers how many they are, or an error. */
+  write(address, length) {
+    const { kit } = this;
+    const most = mostTransferred(address, length);
     if (most <= 0) return most;
     const count = this.countMapped(address, most);
     if (count === 0) return BAD_ADDRESS;

@@ -8,19 +8,29 @@ import subprocess
 import termios
 
 READ, WRITE, EXIT, BRK = 63, 64, 93, 214
-NAMES = {READ: "read", WRITE: "write", BRK: "brk"}
-EFAULT, EBADF = -14, -9
+IOCTL, CLOSE, LSEEK, WRITEV, GETPID = 29, 57, 62, 66, 172
+NEWFSTATAT, FSTAT, STATX, GETTIMEOFDAY, CLOCK_GETTIME = 79, 80, 291, 169, 403
+NAMES = {
+    READ: "read", WRITE: "write", BRK: "brk", IOCTL: "ioctl", CLOSE: "close", LSEEK: "lseek",
+    WRITEV: "writev", GETPID: "getpid", NEWFSTATAT: "newfstatat", FSTAT: "fstat", STATX: "statx",
+    GETTIMEOFDAY: "gettimeofday", CLOCK_GETTIME: "clock_gettime64",
+}
+EFAULT, EBADF, ENOENT, ENOTDIR, EINVAL, ENOTTY, ESPIPE = -14, -9, -2, -20, -22, -25, -29
 
 # sixteen letters to write, where reads put bytes, where the answers are kept, and the first address
 # behind the memory of `rrs exec`
 TEXT, BUFFER, ANSWERS, END = 0x7000, 0x8000, 0x9000, 0x100000
+# the pieces of a writev, a byte that is 0, where a status is put, and where a time is
+VECTOR, EMPTY, STATUS, TIME = 0x7100, 0x7200, 0xA000, 0xB000
+PIECES = (TEXT, 4, TEXT + 4, 2, END, 1, TEXT, 0x80000000)
+AT_FDCWD, AT_EMPTY_PATH = 0xFFFFFF9C, 0x1000
 LETTERS = "0123456789abcdef"
 
 # what is typed, line by line, before the input ends
 LONG = "x" * 299 + "\n"
 INPUT = f"abcdefgh\nij\n{LONG}"
 
-# the number of a call, its a0, a1 and a2, and its answer
+# the number of a call, its a0 and further arguments, and its answer
 CALLS = [
     # a buffer that passes the last address
     (WRITE, 1, 16, 0xFFFFFFFF, EFAULT),
@@ -67,16 +77,61 @@ CALLS = [
     (READ, 0, BUFFER, 100, 0),
     (READ, 0, END, 4, 0),
     (READ, 0, 0xFFFFFFFF, 2, EFAULT),
+    # pieces are written up to the first that is not whole
+    (WRITEV, 1, VECTOR, 2, 6),
+    (WRITEV, 2, VECTOR, 3, 6),
+    (WRITEV, 1, VECTOR, 0, 0),
+    (WRITEV, 1, VECTOR + 16, 1, EFAULT),
+    (WRITEV, 1, VECTOR + 16, 2, EINVAL),
+    (WRITEV, 1, VECTOR, 1025, EINVAL),
+    (WRITEV, 1, END - 8, 2, EFAULT),
+    (WRITEV, 1, 0xFFFFFFF8, 2, EFAULT),
+    (WRITEV, 0, VECTOR, 1, EBADF),
+    # the status of a stream, by its number and by an empty name
+    (FSTAT, 1, STATUS, 0),
+    (FSTAT, 3, STATUS, EBADF),
+    (FSTAT, 1, END - 100, EFAULT),
+    (FSTAT, 1, 0xFFFFFFF0, EFAULT),
+    (NEWFSTATAT, 1, EMPTY, STATUS, AT_EMPTY_PATH, 0),
+    (NEWFSTATAT, 1, EMPTY, STATUS, 0, ENOENT),
+    (NEWFSTATAT, 3, EMPTY, STATUS, AT_EMPTY_PATH, EBADF),
+    (NEWFSTATAT, 1, TEXT, STATUS, 0, ENOTDIR),
+    (NEWFSTATAT, AT_FDCWD, TEXT, STATUS, 0, ENOENT),
+    (NEWFSTATAT, 7, TEXT, STATUS, 0, EBADF),
+    (NEWFSTATAT, 1, END, STATUS, AT_EMPTY_PATH, EFAULT),
+    (NEWFSTATAT, 1, EMPTY, STATUS, 1, EINVAL),
+    (STATX, 2, EMPTY, AT_EMPTY_PATH, 0x7FF, STATUS + 104, 0),
+    (STATX, 2, EMPTY, 0x7000, 0x7FF, STATUS, EINVAL),
+    (STATX, 2, EMPTY, AT_EMPTY_PATH, 0x80000000, STATUS, EINVAL),
+    (STATX, 2, EMPTY, AT_EMPTY_PATH, 0x7FF, END, EFAULT),
+    # what does nothing, and the clocks
+    (IOCTL, 1, 0, 0, ENOTTY),
+    (IOCTL, 3, 0, 0, EBADF),
+    (LSEEK, 0, 0, 0, ESPIPE),
+    (CLOSE, 2, 0),
+    (CLOSE, 3, EBADF),
+    (GETPID, 9, 1),
+    (CLOCK_GETTIME, 0, TIME, 0),
+    (CLOCK_GETTIME, 3, TIME, 0),
+    (CLOCK_GETTIME, 4, TIME, EINVAL),
+    (CLOCK_GETTIME, 1, END, EFAULT),
+    (GETTIMEOFDAY, TIME, 0),
+    (GETTIMEOFDAY, 0xFFFFFFF8, EFAULT),
 ]
 
 # what the calls write, and what then stands at BUFFER
-WRITTEN = f"{LETTERS}123" + 7 * "\0"
+WRITTEN = f"{LETTERS}123" + 7 * "\0" + 2 * "012345"
 STORED = f"abcdgh\nij\n{LONG}"
+
+# the status of a stream, as fstat and as statx have it: its fields that are not 0, by their places
+STATUSES = bytearray(104 + 256)
+for place, field in {16: 0x1180, 20: 1, 56: 4096, 104: 0x7FF, 108: 4096, 120: 1, 132: 0x1180}.items():
+    struct.pack_into("<I", STATUSES, place, field)
 
 
 def make_call(number, *arguments):
     """The lines of a call."""
-    values = zip(("a7", "a0", "a1", "a2"), (number, *arguments))
+    values = zip(("a7", "a0", "a1", "a2", "a3", "a4"), (number, *arguments))
     return [f"li {register}, {value:#x}" for register, value in values] + ["ecall"]
 
 
@@ -86,9 +141,11 @@ def source():
     for *call, _ in CALLS:
         lines += make_call(*call) + ["sw a0, (s0)", "addi s0, s0, 4"]
     lines += make_call(WRITE, 1, BUFFER, len(STORED))
+    lines += make_call(WRITE, 1, STATUS, len(STATUSES))
     lines += make_call(WRITE, 1, ANSWERS, 4 * len(CALLS))
     lines += make_call(EXIT, 0)
-    return "\n".join([*lines, f".org {TEXT:#x}", f'.ascii "{LETTERS}"', ""])
+    return "\n".join([*lines, f".org {TEXT:#x}", f'.ascii "{LETTERS}"', f".org {VECTOR:#x}",
+                      f".word {', '.join(map(hex, PIECES))}", ""])
 
 
 def assemble(rrs, folder):
@@ -129,6 +186,6 @@ def differences(output):
         if wanted != got
     ]
     rest = output[:-len(answers)]
-    if not found and rest != (WRITTEN + STORED).encode():
+    if not found and rest != (WRITTEN + STORED).encode() + STATUSES:
         found.append(f"the calls wrote and stored {rest}")
     return found

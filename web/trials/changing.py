@@ -242,7 +242,10 @@ def calls_shown(machine):
     """the calls that can be chosen, each environment's in a table, by the registers' names"""
     page = machine.page
     machine.choose("three")
-    linux = [["63", "read"], ["64", "write"], ["93", "exit"], ["94", "exit_group"], ["214", "brk"]]
+    linux = [["29", "ioctl"], ["57", "close"], ["62", "lseek"], ["63", "read"], ["64", "write"],
+             ["66", "writev"], ["79", "newfstatat"], ["80", "fstat"], ["93", "exit"],
+             ["94", "exit_group"], ["169", "gettimeofday"], ["172", "getpid"], ["214", "brk"],
+             ["291", "statx"], ["403", "clock_gettime64"]]
     environments = {"Linux": ("a7", linux), **calls_in_the_docs()}
     for name, (register, calls) in environments.items():
         page.choose("#calls", name.lower())

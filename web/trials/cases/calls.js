@@ -153,13 +153,14 @@ function breaks(report, page, kit) {
 function tables(report, page) {
   const numbers = ({ calls }) => Object.keys(calls).map(Number);
   const { linux, rars: ofRars, venus: ofVenus } = page.ENVIRONMENTS;
-  report.same("the numbers of the calls", [[63, 64, 93, 94, 214],
+  report.same("the numbers of the calls", [[29, 57, 62, 63, 64, 66, 79, 80, 93, 94, 169, 172, 214, 291, 403],
     [1, 4, 5, 8, 9, 10, 11, 12, 34, 35, 36, 93], [1, 4, 9, 10, 11, 17, 34]],
   [linux, ofRars, ofVenus].map(numbers));
   report.same("the registers with the number", [A7, A7, A0],
     [linux, ofRars, ofVenus].map(({ number }) => number));
   report.same("calls in a sentence",
-    "63 (read), 64 (write), 93 (exit), 94 (exit_group) and 214 (brk)", page.callsOf(linux));
+    "1 (print_int), 4 (print_string), 9 (sbrk), 10 (exit), 11 (print_character), 17 (exit2) and "
+    + "34 (print_hex)", page.callsOf(ofVenus));
 }
 
 /* What the page says of a call that was refused, and of one that it does not know. */

@@ -6,7 +6,7 @@ const fs = require("node:fs");
 const path = require("node:path");
 
 const SCRIPTS = [
-  "kit", "terminal", "records", "actions", "machine", "calls", "frames", "convention", "assembly",
+  "kit", "terminal", "records", "actions", "machine", "linux", "calls", "frames", "convention", "assembly",
   "colours", "program", "executable", "lesson", "examples", "wording", "session", "views", "editor",
 ];
 const DEFINED = /^(?:const|class|function|async function) ([A-Za-z_]\w*)/gm;
