@@ -33,6 +33,7 @@ class EditorView {
   constructor(session) {
     this.session = session;
     this.mistakes = [];
+    this.starts = [0];
     this.colouredLines = [0, 0];
     this.blocks = ["above", "in-view", "below"].map((name) => make("div", name));
     $("colours").append(...this.blocks);
