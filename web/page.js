@@ -467,7 +467,9 @@ class Page {
   }
 
   closeLesson() {
+    if (!this.lesson.exercise) return;
     this.lesson.close();
+    this.memory.render();
   }
 
   /* ---- showing */

@@ -233,9 +233,10 @@ class RegistersView {
 
 const MEMORY_ROWS = 13;
 
-/* As many are on one screen with the registers where a window is low, as on 1366 x 768. */
+/* As many are on one screen with the registers where a window is low, as on 1366 x 768, and how
+ * high such a window is at most, with a lesson above and without. */
 const MEMORY_ROWS_LOW = 7;
-const LOW_WINDOW = "(min-width: 1081px) and (max-height: 740px)";
+const LOW = { withLesson: 890, alone: 740 };
 
 /* What the marks of memory mean. */
 const MARKS_OF_MEMORY = {
@@ -278,7 +279,9 @@ class MemoryView {
 
   /* How many rows there are. */
   get rows() {
-    return matchMedia(LOW_WINDOW).matches ? MEMORY_ROWS_LOW : MEMORY_ROWS;
+    const most = $("lesson").hidden ? LOW.alone : LOW.withLesson;
+    const isLow = matchMedia(`(min-width: 1081px) and (max-height: ${most}px)`).matches;
+    return isLow ? MEMORY_ROWS_LOW : MEMORY_ROWS;
   }
 
   /* How many bytes a row has, by the room there is. */

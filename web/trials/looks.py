@@ -329,6 +329,13 @@ def show_source(machine):
     machine.keys("s")
 
 
+def show_lesson(machine):
+    """Opens a lesson, and runs its first program."""
+    machine.give(LESSON)
+    machine.page.wait("!document.getElementById('lesson').hidden")
+    machine.run()
+
+
 def boxes(machine):
     """marks are seen, and nothing is cut off, covered, or wider than the page, at seven widths"""
     page = machine.page
@@ -391,17 +398,19 @@ def boxes_of_a_lesson(machine):
 def one_screen(machine):
     """at 1366 x 768 registers, memory around sp and the listing are on one screen"""
     page = machine.page
-    for height in (768, 625):
+    for height, shows in ((768, (show_fibonacci, show_source, show_lesson)),
+                          (625, (show_fibonacci, show_source))):
         page.resize(1366, height)
-        for what, show in (("words", show_fibonacci), ("a source", show_source)):
+        for show in shows:
             show(machine)
             page.ask("scrollTo(0, 0)")
-            what = f"{what} at {height}"
+            what = f"{show.__name__} at {height}"
             same(f"what is not on the screen of {what}", [], page.ask(f"{SEEN}.notInView()"))
             same(f"what scrolls sideways of {what}", [], page.ask(
                 "[...document.querySelectorAll('.scroll, #listing')].filter((panel) =>"
                 " panel.scrollWidth > panel.clientWidth)"
                 ".map((panel) => panel.firstElementChild.id)"))
+    machine.keys("q")
     page.resize(*SIZE)
 
 
