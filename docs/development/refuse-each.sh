@@ -16,7 +16,7 @@ set -o pipefail
 all='rrs_tests texts::a_refused_text_may_be_asked_for_again 9
 rrs_tests spaces::a_refused_region_may_be_added_again 4
 rrs_tests pages::a_refused_page_may_be_added_again 53
-rrs_asm_tests mistakes::a_refused_source_may_be_assembled_again 26
+rrs_asm_tests mistakes::a_refused_source_may_be_assembled_again 22
 rrs_cli_tests account::out_of_memory_leaves_no_part_of_the_steps 8
 rrs_replay tests::out_of_memory_leaves_whole_answers 4'
 
