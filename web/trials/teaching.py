@@ -129,7 +129,7 @@ def assembly_from_elsewhere(machine):
         path.write_text("add a0, a0, a1\nnop\nfoo\n")
         machine.give(path)
         machine.says("Not opened", "program.txt was not opened. Line 3: no such instruction or "
-                     "directive: foo")
+                     "directive: foo; a label is written foo:")
         path.write_text("add\ndead beef\n")
         machine.give(path)
         same("words", ["words", "00000add"], [page.ask("rrs.session.language"), machine.line(0)[1]])
