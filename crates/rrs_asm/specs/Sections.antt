@@ -83,7 +83,8 @@ AreLaidOut [] = Unit {0}
 AreLaidOut (s ∷ others) =
     LaysOut s.address s.made.placed.items s.made.bytes.items × AreLaidOut others
 
--- each section that is opened is one of these, if it is laid out, and `COMMON` if something is put there
+-- each section that is opened is one of these, if it is laid out, and `COMMON` if something is put
+-- there
 abbrev pub AllFound : List (List ℕ) → List Item → Type 0
 AllFound names [] = Unit {0}
 AllFound names (Item.Label line name ∷ items) = AllFound names items

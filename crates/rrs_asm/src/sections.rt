@@ -1,6 +1,6 @@
 //! Sections: their kinds, what was made of each, and where they lie.
 
-ghost use Rattle.std.specs.Prelude.{◌≡◌, ◌≤◌, ◌+◌, ◌%◌, ◌^◌, ℕ, List, [], ◌∷◌, true, false, OnOk, IfOk, IfSome, All, length};
+ghost use Rattle.std.specs.Prelude.{◌≡◌, max, ◌≤◌, ◌+◌, ◌%◌, ◌^◌, ℕ, List, [], ◌∷◌, true, false, OnOk, IfOk, IfSome, All, length};
 ghost use Rattle.rrs_asm.specs.Source.{Item, is_laid_out};
 ghost use Rattle.rrs_asm.specs.Names.{IsNamed};
 ghost use Rattle.rrs_asm.specs.Sections.{flat, is_data, data_address, filled_end, start_behind, IsBehind, AreBehind, ArePlaced};
@@ -104,7 +104,10 @@ impl<'a, A: Allocator> Section<'a, A> {
 
     /// Asks for an alignment.
     pub fn align(&mut self, alignment: u32)
-        ensures { Grows [] self.old self.new }
+        ensures items { Grows [] self.old self.new }
+        ensures alignment { self.new.alignment ≡ max self.old.alignment alignment }
+        ensures kind { self.new.kind ≡ self.old.kind }
+        ensures address { self.new.address ≡ self.old.address }
     {
         if alignment > self.alignment {
             self.alignment = alignment;
@@ -119,7 +122,11 @@ impl<'a, A: Allocator> Section<'a, A> {
 
     /// Takes what was made out again, before the source is read once more.
     pub fn clear(&mut self)
-        ensures { IsNew self.new }
+        ensures items { IsNew self.new }
+        ensures name { self.new.name ≡ self.old.name }
+        ensures kind { self.new.kind ≡ self.old.kind }
+        ensures address { self.new.address ≡ self.old.address }
+        ensures alignment { self.new.alignment ≡ self.old.alignment }
     {
         self.before = self.made.bytes.len();
         self.made.labels.clear();

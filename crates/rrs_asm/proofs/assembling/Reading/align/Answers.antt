@@ -10,4 +10,4 @@ returns-in-Some g c =
     let P : Section _ → Type 0 = λ s. Grows [] s c.align.new.self in
     ReadsOn-aligned c.args.index c.args.self.now _ c.in-Some.section.now c.align.new.self
     (λ good. record { halt = good.halt; errors = good.errors; is_first = good.is_first }) (search rules)
-    (subst P c.in-Some.ensures.value c.align.ensures) refl refl
+    (subst P c.in-Some.ensures.value c.align.ensures.items) refl refl
