@@ -9,7 +9,7 @@ use rrs_requests::refusal::Refusal;
 use rrs_requests::words::{hexadecimal_of, word_before};
 
 /// What is printed of a program.
-#[derive(Clone, Copy, Debug, PartialEq)]
+#[derive(Clone, Copy, PartialEq)]
 pub enum Form {
     /// Its bytes, where no executable is written.
     Bytes,

@@ -4,7 +4,7 @@ use rrs_exec::ImageError;
 use std::fmt;
 
 /// Why an executable can't be run, as a line on standard error has it.
-#[derive(Debug, Clone, Copy)]
+#[derive(Clone, Copy)]
 pub struct ToldImageError(pub ImageError);
 
 impl fmt::Display for ToldImageError {

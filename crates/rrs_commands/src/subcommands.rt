@@ -3,7 +3,7 @@
 use rrs_cli::command::Command;
 
 /// What a subcommand does.
-#[derive(Clone, Copy, Debug, PartialEq)]
+#[derive(Clone, Copy, PartialEq)]
 pub enum Task {
     /// It runs a file, and prints what it does.
     Run,
@@ -28,7 +28,7 @@ pub enum Task {
 }
 
 /// A subcommand.
-#[derive(Clone, Copy, Debug)]
+#[derive(Clone, Copy)]
 pub struct Subcommand {
     /// The word that asks for it.
     pub word: &'static str,

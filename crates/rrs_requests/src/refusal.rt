@@ -6,7 +6,7 @@ use rrs_elf::ElfError;
 use rrs_process::ImageError;
 
 /// Why a subcommand did not do what it was asked.
-#[derive(Debug, Drop)]
+#[derive(Drop)]
 pub enum Refusal {
     /// The source has mistakes, which were printed.
     SourceErrors,
