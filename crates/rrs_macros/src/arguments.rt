@@ -1,9 +1,9 @@
 //! Parameters of macros, and the arguments that a call gives them.
 
-use crate::cursor::Cursor;
-use crate::errors::{Halt, MacroErrorKind, Slip};
+use crate::cursor::{Cursor, is_name};
+use crate::errors::MacroErrorKind;
 use crate::values::character;
-use std::alloc::{AllocError, Allocator};
+use std::alloc::Allocator;
 
 /// The most parameters of a macro.
 const MOST_PARAMETERS: usize = 256;
@@ -28,24 +28,21 @@ pub struct Parameter<A: Allocator> {
 }
 
 /// Takes the parameters of a macro.
-pub fn take_parameters<A: Allocator + Copy>(
-    alloc: A,
-    cursor: &mut Cursor,
-) -> Result<Vec<Parameter<A>, A>, Halt> {
+pub fn take_parameters<A: Allocator + Copy>(alloc: A, cursor: &mut Cursor) -> Vec<Parameter<A>, A> {
     let mut parameters = Vec::new(alloc);
     for _ in 0..u64::MAX {
         if cursor.is_over() {
             break;
         }
         let slip = cursor.slip(MacroErrorKind::DuplicateParameter);
-        let parameter = take_parameter(alloc, cursor)?;
+        let parameter = take_parameter(alloc, cursor);
         if let Some(kind) = mistake_behind(&parameters, &parameter.name) {
-            return Err(Halt::Slip(slip.with_kind(kind)));
+            cursor.fail(slip.with_kind(kind));
         }
-        parameters.push(parameter)?;
+        cursor.keep(parameters.push(parameter).is_ok());
         cursor.skip_comma();
     }
-    Ok(parameters)
+    parameters
 }
 
 /// What is wrong with a parameter of this name behind others, if something is.
@@ -66,33 +63,44 @@ fn mistake_behind<A: Allocator + Copy>(
 }
 
 /// Takes a parameter: its name, what it takes, and its default.
-fn take_parameter<A: Allocator + Copy>(
-    alloc: A,
-    cursor: &mut Cursor,
-) -> Result<Parameter<A>, Halt> {
-    let name = cursor.name()?;
-    let kind = take_kind(cursor)?;
+fn take_parameter<A: Allocator + Copy>(alloc: A, cursor: &mut Cursor) -> Parameter<A> {
+    let name = cursor.name();
+    let kind = take_kind(cursor);
     let mut parameter = Parameter {
-        name: Vec::from_slice(alloc, name)?,
+        name: copied(alloc, name, cursor),
         default: Vec::new(alloc),
         kind,
     };
     if cursor.take_if(b"=") {
-        take_argument(cursor, &mut parameter.default)?;
+        take_argument(cursor, &mut parameter.default);
     }
-    Ok(parameter)
+    parameter
+}
+
+/// A copy of bytes. Where memory is missing, that is kept, and there is none of them.
+pub fn copied<A: Allocator + Copy>(alloc: A, bytes: &[u8], cursor: &mut Cursor) -> Vec<u8, A> {
+    match Vec::from_slice(alloc, bytes) {
+        Ok(copy) => copy,
+        Err(_) => {
+            cursor.keep(false);
+            Vec::new(alloc)
+        }
+    }
 }
 
 /// Takes what a parameter takes, if it is said.
-fn take_kind(cursor: &mut Cursor) -> Result<Kind, Slip> {
+fn take_kind(cursor: &mut Cursor) -> Kind {
     if !cursor.take_if(b":") {
-        return Ok(Kind::Optional);
+        return Kind::Optional;
     }
     let slip = cursor.slip(MacroErrorKind::Qualifier);
     match cursor.word() {
-        b"req" => Ok(Kind::Required),
-        b"vararg" => Ok(Kind::Rest),
-        _ => Err(slip),
+        b"req" => Kind::Required,
+        b"vararg" => Kind::Rest,
+        _ => {
+            cursor.fail(slip);
+            Kind::Optional
+        }
     }
 }
 
@@ -112,19 +120,19 @@ pub fn arguments<A: Allocator + Copy>(
     alloc: A,
     cursor: &mut Cursor,
     parameters: &[Parameter<A>],
-) -> Result<Vec<Vec<u8, A>, A>, Halt> {
+) -> Vec<Vec<u8, A>, A> {
     let call = cursor.slip(MacroErrorKind::Missing);
     let mut values = Vec::new(alloc);
     for _ in parameters {
-        values.push(Vec::new(alloc))?;
+        cursor.keep(values.push(Vec::new(alloc)).is_ok());
     }
-    take_arguments(cursor, parameters, &mut values)?;
+    take_arguments(cursor, parameters, &mut values);
     for (parameter, value) in parameters.iter().zip(&values) {
         if matches!(parameter.kind, Kind::Required) && value.is_empty() {
-            return Err(Halt::Slip(call));
+            cursor.fail(call);
         }
     }
-    Ok(values)
+    values
 }
 
 /// Takes the arguments of a call, each as the value of its parameter.
@@ -132,7 +140,7 @@ fn take_arguments<A: Allocator + Copy>(
     cursor: &mut Cursor,
     parameters: &[Parameter<A>],
     values: &mut Vec<Vec<u8, A>, A>,
-) -> Result<(), Halt> {
+) {
     let mut next = 0usize;
     let mut is_named = false;
     for _ in 0..u64::MAX {
@@ -142,39 +150,38 @@ fn take_arguments<A: Allocator + Copy>(
         let place = cursor.slip(MacroErrorKind::NoParameter);
         let name = take_keyword(cursor);
         is_named = is_named || name.is_some();
-        let index = parameter_for(parameters, name, next, is_named, place)?;
+        match parameter_for(parameters, name, next, is_named) {
+            Ok(index) => take_value(cursor, parameters, index, values),
+            Err(kind) => cursor.fail(place.with_kind(kind)),
+        }
         next = next.saturating_add(1);
-        take_value(cursor, parameters, index, values)?;
         cursor.skip_comma();
     }
-    Ok(())
 }
 
 /// Takes the name of the next argument and the `=` behind it, if it has one.
 fn take_keyword<'a>(cursor: &mut Cursor<'a>) -> Option<&'a [u8]> {
     let mut ahead = *cursor;
-    match ahead.name() {
-        Ok(name) if ahead.take_if(b"=") => {
-            *cursor = ahead;
-            Some(name)
-        }
-        _ => None,
+    let word = ahead.word();
+    if !is_name(word) || !ahead.take_if(b"=") {
+        return None;
     }
+    *cursor = ahead;
+    Some(word)
 }
 
-/// Which parameter an argument is of that stands at a place.
+/// Which parameter an argument is of, or what is wrong with it.
 fn parameter_for<A: Allocator + Copy>(
     parameters: &[Parameter<A>],
     name: Option<&[u8]>,
     next: usize,
     is_named: bool,
-    place: Slip,
-) -> Result<usize, Slip> {
+) -> Result<usize, MacroErrorKind> {
     match name {
-        Some(name) => index_of(parameters, name).ok_or(place),
-        None if is_named => Err(place.with_kind(MacroErrorKind::Mixed)),
+        Some(name) => index_of(parameters, name).ok_or(MacroErrorKind::NoParameter),
+        None if is_named => Err(MacroErrorKind::Mixed),
         None if next < parameters.len() => Ok(next),
-        None => Err(place.with_kind(MacroErrorKind::Arguments)),
+        None => Err(MacroErrorKind::Arguments),
     }
 }
 
@@ -184,9 +191,9 @@ fn take_value<A: Allocator + Copy>(
     parameters: &[Parameter<A>],
     index: usize,
     values: &mut Vec<Vec<u8, A>, A>,
-) -> Result<(), AllocError> {
+) {
     let (Some(parameter), Some(value)) = (parameters.get(index), values.get_mut(index)) else {
-        return Ok(());
+        return;
     };
     value.clear();
     match parameter.kind {
@@ -197,10 +204,7 @@ fn take_value<A: Allocator + Copy>(
 
 /// Takes an argument: a string without its quotation marks, or what stands before a comma or a
 /// blank, with blanks in parentheses and brackets.
-pub fn take_argument<A: Allocator + Copy>(
-    cursor: &mut Cursor,
-    value: &mut Vec<u8, A>,
-) -> Result<(), AllocError> {
+pub fn take_argument<A: Allocator>(cursor: &mut Cursor, value: &mut Vec<u8, A>) {
     if cursor.take_if(b"\"") {
         return take_string(cursor, value, false);
     }
@@ -213,65 +217,54 @@ pub fn take_argument<A: Allocator + Copy>(
             Some(b')' | b']') => depth = depth.saturating_sub(1),
             _ => (),
         }
-        take_piece(cursor, value)?;
+        take_piece(cursor, value);
     }
-    Ok(())
 }
 
 /// Takes all that is left before a byte, without blanks that mean nothing.
-pub fn take_all<A: Allocator + Copy>(
-    cursor: &mut Cursor,
-    value: &mut Vec<u8, A>,
-    end: Option<u8>,
-) -> Result<(), AllocError> {
+pub fn take_all<A: Allocator>(cursor: &mut Cursor, value: &mut Vec<u8, A>, end: Option<u8>) {
     for _ in 0..u64::MAX {
         let next = cursor.peek();
         if next.is_none() || next == end {
             break;
         }
-        take_piece(cursor, value)?;
+        take_piece(cursor, value);
     }
-    Ok(())
 }
 
 /// Takes a byte, a string as it stands, or a character constant as its number, which GNU `as` makes
 /// of it before it looks at macros.
-fn take_piece<A: Allocator + Copy>(
-    cursor: &mut Cursor,
-    value: &mut Vec<u8, A>,
-) -> Result<(), AllocError> {
+fn take_piece<A: Allocator>(cursor: &mut Cursor, value: &mut Vec<u8, A>) {
     match cursor.take() {
-        Some(b'\'') => match character(cursor) {
-            Some(number) => push_decimal(number, value),
-            None => Ok(()),
-        },
-        Some(b'"') => {
-            value.push(b'"')?;
-            take_string(cursor, value, true)
+        Some(b'\'') => {
+            if let Some(number) = character(cursor) {
+                put_decimal(number, cursor, value);
+            }
         }
-        Some(byte) => Ok(value.push(byte)?),
-        None => Ok(()),
+        Some(byte) => {
+            cursor.put(byte, value);
+            if byte == b'"' {
+                take_string(cursor, value, true);
+            }
+        }
+        None => (),
     }
 }
 
 /// Appends a number.
-fn push_decimal<A: Allocator + Copy>(number: u8, value: &mut Vec<u8, A>) -> Result<(), AllocError> {
+fn put_decimal<A: Allocator>(number: u8, cursor: &mut Cursor, value: &mut Vec<u8, A>) {
     if number >= 100 {
-        value.push(b'0' + number / 100)?;
+        cursor.put(b'0' + number / 100, value);
     }
     if number >= 10 {
-        value.push(b'0' + number / 10 % 10)?;
+        cursor.put(b'0' + number / 10 % 10, value);
     }
-    Ok(value.push(b'0' + number % 10)?)
+    cursor.put(b'0' + number % 10, value);
 }
 
 /// Takes what is left of a string, with or without the quotation mark that ends it. Two of them are
 /// one, and are kept as two.
-pub fn take_string<A: Allocator + Copy>(
-    cursor: &mut Cursor,
-    value: &mut Vec<u8, A>,
-    keeps_marks: bool,
-) -> Result<(), AllocError> {
+pub fn take_string<A: Allocator>(cursor: &mut Cursor, value: &mut Vec<u8, A>, keeps_marks: bool) {
     let mut is_escaped = false;
     for _ in 0..u64::MAX {
         let Some(byte) = cursor.take_raw() else {
@@ -279,14 +272,13 @@ pub fn take_string<A: Allocator + Copy>(
         };
         if byte == b'"' && !is_escaped {
             if keeps_marks {
-                value.push(b'"')?;
+                cursor.put(b'"', value);
             }
             if !cursor.take_next(b'"') {
                 break;
             }
         }
-        value.push(byte)?;
+        cursor.put(byte, value);
         is_escaped = byte == b'\\' && !is_escaped;
     }
-    Ok(())
 }

@@ -16,26 +16,25 @@ pub fn begin<A: Allocator + Copy>(
     cursor: &mut Cursor,
     place: MacroError,
     reader: &mut Reader<A>,
-) -> Result<(), Halt> {
-    let asked = holds(tables, test, cursor);
-    go_on(reader, Condition::new(place, false), asked, false)
+) {
+    let holds = holds(tables, test, cursor);
+    go_on(reader, Condition::new(place, false), holds, false, cursor);
 }
 
 /// Goes on with a condition behind what is asked. With a mistake in that nothing of it is read.
-fn go_on<A: Allocator + Copy>(
+fn go_on<A: Allocator>(
     reader: &mut Reader<A>,
     condition: Condition,
-    asked: Result<bool, Halt>,
+    holds: bool,
     is_else: bool,
-) -> Result<(), Halt> {
-    let next = match asked {
-        Ok(holds) => condition.or(holds, is_else),
-        Err(_) => Condition::new(condition.place, true),
+    cursor: &mut Cursor,
+) {
+    let next = match cursor.mistake {
+        None => condition.or(holds, is_else),
+        Some(_) => Condition::new(condition.place, true),
     };
-    reader.conditions.push(next)?;
-    match asked {
-        Ok(_) => Ok(()),
-        Err(halt) => Err(halt),
+    if reader.conditions.push(next).is_err() {
+        cursor.mistake = Some(Halt::OutOfMemory);
     }
 }
 
@@ -47,42 +46,38 @@ pub fn conclude<A: Allocator + Copy>(
     start: Slip,
     cursor: &mut Cursor,
     reader: &mut Reader<A>,
-) -> Result<(), Halt> {
+) {
     let Some(condition) = reader.conditions.pop() else {
-        return Err(Halt::Slip(start.with_kind(MacroErrorKind::NoCondition)));
+        return cursor.fail(start.with_kind(MacroErrorKind::NoCondition));
     };
     if let Directive::EndIf = directive {
-        return Ok(cursor.end()?);
+        return cursor.end();
     }
     if condition.is_behind_else {
-        reader.conditions.push(condition)?;
-        return Err(Halt::Slip(start.with_kind(MacroErrorKind::SecondElse)));
+        cursor.keep(reader.conditions.push(condition).is_ok());
+        return cursor.fail(start.with_kind(MacroErrorKind::SecondElse));
     }
     let is_else = matches!(directive, Directive::Else);
-    let asked = if is_else || condition.is_done {
-        Ok(is_else)
+    let holds = if is_else || condition.is_done {
+        is_else
     } else {
         compares(tables, Comparison::NotEqual, cursor)
     };
-    go_on(reader, condition, asked, is_else)
+    go_on(reader, condition, holds, is_else, cursor);
 }
 
 /// Whether what a condition asks holds.
-fn holds<A: Allocator + Copy>(
-    tables: &Tables<A>,
-    test: Test,
-    cursor: &mut Cursor,
-) -> Result<bool, Halt> {
+fn holds<A: Allocator + Copy>(tables: &Tables<A>, test: Test, cursor: &mut Cursor) -> bool {
     match test {
         Test::Compared(comparison) => compares(tables, comparison, cursor),
         Test::Defined(wanted) => {
-            let name = cursor.name()?;
-            cursor.end()?;
-            Ok(tables.symbols.is_defined(name) == wanted)
+            let name = cursor.name();
+            cursor.end();
+            tables.symbols.is_defined(name) == wanted
         }
-        Test::Blank(wanted) => Ok(cursor.is_over() == wanted),
-        Test::SameText(wanted) => Ok(are_same(tables, cursor, false)? == wanted),
-        Test::SameString(wanted) => Ok(are_same(tables, cursor, true)? == wanted),
+        Test::Blank(wanted) => cursor.is_over() == wanted,
+        Test::SameText(wanted) => are_same(tables.alloc, cursor, false) == wanted,
+        Test::SameString(wanted) => are_same(tables.alloc, cursor, true) == wanted,
     }
 }
 
@@ -91,43 +86,38 @@ fn compares<A: Allocator + Copy>(
     tables: &Tables<A>,
     comparison: Comparison,
     cursor: &mut Cursor,
-) -> Result<bool, Halt> {
-    let value = value(cursor, &tables.symbols)?;
-    cursor.end()?;
-    Ok(comparison.holds(value, 0))
+) -> bool {
+    let value = value(cursor, &tables.symbols);
+    cursor.end();
+    comparison.holds(value, 0)
 }
 
 /// Takes two texts or strings with a comma between them, and tells whether they are the same.
-fn are_same<A: Allocator + Copy>(
-    tables: &Tables<A>,
-    cursor: &mut Cursor,
-    are_strings: bool,
-) -> Result<bool, Halt> {
+fn are_same<A: Allocator + Copy>(alloc: A, cursor: &mut Cursor, are_strings: bool) -> bool {
     let first = cursor.slip(MacroErrorKind::Strings);
-    let one = text(tables, cursor, are_strings, Some(b','))?;
+    let one = text(alloc, cursor, are_strings, Some(b','));
     let comma = cursor.slip(MacroErrorKind::Strings);
-    if !cursor.take_if(b",") {
-        return Err(Halt::Slip(if are_strings { comma } else { first }));
-    }
-    let other = text(tables, cursor, are_strings, None)?;
-    cursor.end()?;
-    Ok(one.as_slice() == other.as_slice())
+    let is_there = cursor.take_if(b",");
+    cursor.want(is_there, if are_strings { comma } else { first });
+    let other = text(alloc, cursor, are_strings, None);
+    cursor.end();
+    one.as_slice() == other.as_slice()
 }
 
 /// Takes a string, or a text before a byte.
-fn text<A: Allocator + Copy>(
-    tables: &Tables<A>,
+fn text<A: Allocator>(
+    alloc: A,
     cursor: &mut Cursor,
     is_string: bool,
     end: Option<u8>,
-) -> Result<Vec<u8, A>, Halt> {
-    let mut text = Vec::new(tables.alloc);
+) -> Vec<u8, A> {
+    let mut text = Vec::new(alloc);
     if !is_string {
-        take_all(cursor, &mut text, end)?;
+        take_all(cursor, &mut text, end);
     } else if cursor.take_if(b"\"") {
-        take_string(cursor, &mut text, false)?;
+        take_string(cursor, &mut text, false);
     } else {
-        return Err(Halt::Slip(cursor.slip(MacroErrorKind::Strings)));
+        cursor.fail(cursor.slip(MacroErrorKind::Strings));
     }
-    Ok(text)
+    text
 }

@@ -3,10 +3,14 @@
 //! GNU `as` takes blanks out of operands before it looks at macros: it keeps one where a letter, a
 //! digit or a quotation mark stands on both sides. So `1 + 2` is one argument, and `1 2` are two.
 
-use crate::errors::{MacroErrorKind, Slip};
-use crate::scanning::{behind_blanks, is_blank, is_in_name, split_word};
+use crate::errors::{Halt, MacroErrorKind, Slip};
+use crate::scanning::{behind_blanks, is_in_name, split_word};
+use std::alloc::Allocator;
 
 /// What is left of the operands of a statement.
+///
+/// Where something else stands than what is wanted, that mistake is kept, and all that is left is
+/// taken. So what follows finds no more, and the first mistake stays.
 #[derive(Clone, Copy)]
 pub struct Cursor<'a> {
     rest: &'a [u8],
@@ -14,6 +18,16 @@ pub struct Cursor<'a> {
     behind: usize,
     /// The byte that was taken last.
     before: u8,
+    /// The first mistake in them, or that memory is missing.
+    pub mistake: Option<Halt>,
+}
+
+/// Whether a word is a name, which does not begin with a digit.
+pub fn is_name(word: &[u8]) -> bool {
+    match word {
+        [] => false,
+        [first, ..] => !first.is_ascii_digit(),
+    }
 }
 
 /// Whether a blank between two bytes means something.
@@ -29,7 +43,42 @@ impl<'a> Cursor<'a> {
             rest: operands,
             behind,
             before: b' ',
+            mistake: None,
         }
+    }
+
+    /// Keeps a mistake, if it is the first one, or that memory is missing, and takes all that is
+    /// left.
+    fn halt(&mut self, halt: Halt) {
+        if self.mistake.is_none() {
+            self.mistake = Some(halt);
+        }
+        self.rest = &self.rest[self.rest.len()..];
+    }
+
+    /// Keeps a mistake, if it is the first one.
+    pub fn fail(&mut self, slip: Slip) {
+        self.halt(Halt::Slip(slip));
+    }
+
+    /// Keeps a mistake where something is not as it has to be.
+    pub fn want(&mut self, is_right: bool, slip: Slip) {
+        if !is_right {
+            self.fail(slip);
+        }
+    }
+
+    /// Keeps that memory is missing where something could not be kept.
+    pub fn keep(&mut self, is_kept: bool) {
+        if !is_kept {
+            self.halt(Halt::OutOfMemory);
+        }
+    }
+
+    /// Appends a byte to a text.
+    pub fn put<A: Allocator>(&mut self, byte: u8, text: &mut Vec<u8, A>) {
+        let is_kept = text.push(byte).is_ok();
+        self.keep(is_kept);
     }
 
     /// A mistake at this place, behind blanks.
@@ -40,16 +89,20 @@ impl<'a> Cursor<'a> {
         }
     }
 
+    /// The next byte, with no blank that means nothing, and what is behind it.
+    fn next(&self) -> Option<(u8, &'a [u8])> {
+        let after = behind_blanks(self.rest);
+        let (byte, others) = after.split_first()?;
+        if after.len() < self.rest.len() && keeps_blank(self.before, *byte) {
+            Some((b' ', after))
+        } else {
+            Some((*byte, others))
+        }
+    }
+
     /// Takes the next byte, with no blank that means nothing.
     pub fn take(&mut self) -> Option<u8> {
-        let after = behind_blanks(self.rest);
-        let (byte, rest) = match (self.rest, after) {
-            (_, []) => return None,
-            ([first, ..], [byte, ..]) if is_blank(*first) && keeps_blank(self.before, *byte) => {
-                (b' ', after)
-            }
-            (_, [byte, others @ ..]) => (*byte, others),
-        };
+        let (byte, rest) = self.next()?;
         self.rest = rest;
         self.before = byte;
         Some(byte)
@@ -57,8 +110,8 @@ impl<'a> Cursor<'a> {
 
     /// The next byte, with no blank that means nothing.
     pub fn peek(&self) -> Option<u8> {
-        let mut ahead = *self;
-        ahead.take()
+        let (byte, _) = self.next()?;
+        Some(byte)
     }
 
     /// Takes these bytes, if they are the next ones behind blanks.
@@ -119,21 +172,16 @@ impl<'a> Cursor<'a> {
         word
     }
 
-    /// Takes a name, which does not begin with a digit.
-    pub fn name(&mut self) -> Result<&'a [u8], Slip> {
+    /// Takes a name.
+    pub fn name(&mut self) -> &'a [u8] {
         let slip = self.slip(MacroErrorKind::Name);
-        match self.word() {
-            [] | [b'0'..=b'9', ..] => Err(slip),
-            word => Ok(word),
-        }
+        let word = self.word();
+        self.want(is_name(word), slip);
+        word
     }
 
-    /// That nothing is left.
-    pub fn end(&self) -> Result<(), Slip> {
-        if self.is_over() {
-            Ok(())
-        } else {
-            Err(self.slip(MacroErrorKind::More))
-        }
+    /// Keeps a mistake where something is left.
+    pub fn end(&mut self) {
+        self.want(self.is_over(), self.slip(MacroErrorKind::More));
     }
 }

@@ -230,21 +230,3 @@ pub enum Halt {
     /// Out of memory.
     OutOfMemory,
 }
-
-impl From<Slip> for Halt {
-    fn from(slip: Slip) -> Self {
-        Halt::Slip(slip)
-    }
-}
-
-impl From<AllocError> for Halt {
-    fn from(_: AllocError) -> Self {
-        Halt::OutOfMemory
-    }
-}
-
-impl<T: Drop> From<AllocFailed<T>> for Halt {
-    fn from(_: AllocFailed<T>) -> Self {
-        Halt::OutOfMemory
-    }
-}

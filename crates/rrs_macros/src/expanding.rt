@@ -7,12 +7,12 @@ ghost use Rattle.rrs_macros.specs.Expansion.{IsExpansion};
 ghost use Rattle.rrs_macros.specs.Lines.{IsMade, IsMapped, IsSame, KeepsAbove, lines};
 
 use crate::blocks::height;
-use crate::errors::{Halt, MacroError, MacroErrorKind, MacroFault, Slip};
+use crate::errors::{MacroError, MacroErrorKind, MacroFault, Slip};
 use crate::following::is_expansion;
 use crate::frames::{Frame, Origin};
 use crate::keeping::keeps_above;
 use crate::output::{Expanded, unchanged};
-use crate::performing::{Span, Step, Turn, read_step};
+use crate::performing::{Span, Turn, read_step};
 use crate::scanning::begins_directive;
 use crate::tables::Tables;
 use crate::words::has_directives;
@@ -38,6 +38,8 @@ struct Expansion<A: Allocator> {
     mistakes: Vec<MacroError, A>,
     /// Whether nothing more is read.
     is_over: bool,
+    /// Whether memory was missing.
+    is_short: bool,
 }
 
 impl<A: Allocator + Copy> Expansion<A> {
@@ -52,59 +54,68 @@ impl<A: Allocator + Copy> Expansion<A> {
             frames,
             mistakes: Vec::new(alloc),
             is_over: false,
+            is_short: false,
         })
     }
 
+    /// Keeps that memory is missing where something could not be kept.
+    fn keep(&mut self, is_kept: bool) {
+        if !is_kept {
+            self.is_short = true;
+            self.is_over = true;
+        }
+    }
+
+    /// Reads a text next.
+    fn read(&mut self, frame: Frame<A>) {
+        let is_kept = self.frames.push(frame).is_ok();
+        self.keep(is_kept);
+    }
+
     /// Tells a mistake.
-    fn tell(&mut self, mistake: MacroError) -> Result<(), AllocError> {
-        self.mistakes.push(mistake)?;
+    fn tell(&mut self, mistake: MacroError) {
+        let is_kept = self.mistakes.push(mistake).is_ok();
+        self.keep(is_kept);
         if mistake.kind.is_last() || self.mistakes.len() >= MOST_MISTAKES {
             self.is_over = true;
         }
-        Ok(())
     }
 
     /// Goes on where a text is read to its end.
-    fn finish(&mut self, frame: Frame<A>) -> Result<(), AllocError> {
+    fn finish(&mut self, frame: Frame<A>) {
         let mut frame = frame;
         if let Some(condition) = frame.reader.conditions.last() {
-            self.tell(condition.place)?;
+            self.tell(condition.place);
         }
         if frame.reader.begin_again() {
-            self.frames.push(frame)?;
+            self.read(frame);
         }
-        Ok(())
     }
 
     /// Goes on behind a line or a statement of a text, which began at a place, where so many bytes
     /// are made.
-    fn turn(
-        &mut self,
-        frame: Frame<A>,
-        turn: Turn<A>,
-        origin: Origin,
-        made: usize,
-    ) -> Result<(), AllocError> {
+    fn turn(&mut self, frame: Frame<A>, turn: Turn<A>, origin: Origin, made: usize) {
         let left = frame.text.len();
         if made > MOST_MADE {
             let kind = MacroErrorKind::Much;
-            self.tell(origin.mistake(left, Slip { kind, left }))?;
+            self.tell(origin.mistake(left, Slip { kind, left }));
         }
         match turn {
-            Turn::Leave => Ok(()),
+            Turn::Leave => (),
             Turn::Over => self.finish(frame),
-            Turn::Stay => Ok(self.frames.push(frame)?),
+            Turn::Stay => self.read(frame),
             Turn::Stumble(slip) => {
-                self.tell(origin.mistake(left, slip))?;
-                Ok(self.frames.push(frame)?)
+                self.tell(origin.mistake(left, slip));
+                self.read(frame);
             }
             Turn::Enter(inner) => {
-                self.frames.push(frame)?;
+                self.read(frame);
                 if self.frames.len() < MOST_DEPTH {
-                    return Ok(self.frames.push(inner)?);
+                    self.read(inner);
+                } else {
+                    let kind = MacroErrorKind::Deep;
+                    self.tell(origin.mistake(left, Slip { kind, left }));
                 }
-                let kind = MacroErrorKind::Deep;
-                self.tell(origin.mistake(left, Slip { kind, left }))
             }
         }
     }
@@ -163,8 +174,12 @@ fn expanded<A: Allocator + Copy>(alloc: A, source: &[u8]) -> Result<Expanded<A>,
     let Expansion {
         frames,
         mistakes,
+        is_short,
         ..
     } = expansion;
+    if is_short {
+        return Err(MacroFault::OutOfMemory);
+    }
     if !mistakes.is_empty() {
         return Err(MacroFault::Mistakes(mistakes));
     }
@@ -189,16 +204,10 @@ fn advance<A: Allocator + Copy>(
 {
     let mut frame = frame;
     let origin = frame.reader.origin();
-    let step = match read_step(tables, &frame.text, &mut frame.reader) {
-        Ok(step) => step,
-        Err(Halt::Slip(slip)) => Step {
-            line: None,
-            turn: Turn::Stumble(slip),
-        },
-        Err(Halt::OutOfMemory) => return Err(AllocError),
-    };
+    let step = read_step(tables, &frame.text, &mut frame.reader)?;
     put_span(out, &frame.text, step.line, total)?;
-    expansion.turn(frame, step.turn, origin, out.text.len())
+    expansion.turn(frame, step.turn, origin, out.text.len());
+    Ok(())
 }
 
 /// A result, if it is one of this source.

@@ -1,5 +1,6 @@
 //! Performing a statement: what is put into the result, and what is read next.
 
+use crate::arguments::copied;
 use crate::blocks::{Block, BlockKind, first_block, height};
 use crate::conditions::{begin, conclude};
 use crate::cursor::Cursor;
@@ -11,7 +12,7 @@ use crate::scanning::{behind_blanks, behind_labels, first_line, first_statement,
 use crate::substitution::without_comments;
 use crate::tables::{Lines, Tables};
 use crate::values::value;
-use std::alloc::Allocator;
+use std::alloc::{AllocError, Allocator};
 
 /// A part of a text that is a line of the result.
 #[derive(Clone, Copy)]
@@ -58,23 +59,40 @@ struct Site<'a> {
     behind: usize,
 }
 
-/// Reads a line or a statement of a text, where something is left of it.
+/// Reads a line or a statement of a text. Nothing is put of one with a mistake.
 pub fn read_step<A: Allocator + Copy>(
     tables: &mut Tables<A>,
     text: &[u8],
     reader: &mut Reader<A>,
-) -> Result<Step<A>, Halt> {
+) -> Result<Step<A>, AllocError> {
+    let step = read(tables, text, reader);
+    match tables.mistake.take() {
+        None => Ok(step),
+        Some(Halt::Slip(slip)) => Ok(Step {
+            line: None,
+            turn: Turn::Stumble(slip),
+        }),
+        Some(Halt::OutOfMemory) => Err(AllocError),
+    }
+}
+
+/// Reads a line or a statement of a text, where something is left of it.
+fn read<A: Allocator + Copy>(
+    tables: &mut Tables<A>,
+    text: &[u8],
+    reader: &mut Reader<A>,
+) -> Step<A> {
     let Some(rest) = reader.rest(text) else {
-        return Ok(Step {
+        return Step {
             line: None,
             turn: Turn::Over,
-        });
+        };
     };
     if reader.is_at_line() && !reader.is_skipping() {
         let (line, others) = first_line(rest);
-        if tables.is_plain(line)? {
-            tables.spend(line.len().saturating_add(1), rest.len())?;
-            tables.note_line(line)?;
+        if tables.is_plain(line) {
+            tables.spend(line.len().saturating_add(1), rest.len());
+            tables.note_line(line);
             let start = text.len().saturating_sub(rest.len());
             let span = Span {
                 start,
@@ -82,10 +100,10 @@ pub fn read_step<A: Allocator + Copy>(
                 number: reader.origin().number,
             };
             reader.go_on(text, others, 1);
-            return Ok(Step {
+            return Step {
                 line: Some(span),
                 turn: Turn::Stay,
-            });
+            };
         }
     }
     read_statement(tables, text, rest, reader)
@@ -97,10 +115,10 @@ fn read_statement<A: Allocator + Copy>(
     text: &[u8],
     rest: &[u8],
     reader: &mut Reader<A>,
-) -> Result<Step<A>, Halt> {
+) -> Step<A> {
     let statement = first_statement(rest);
     let others = statement.others.unwrap_or(&[]).len();
-    tables.spend(rest.len().saturating_sub(others), rest.len())?;
+    tables.spend(rest.len().saturating_sub(others), rest.len());
     let origin = reader.origin();
     reader.go_on(text, statement.others, usize::from(statement.ends_line));
     let site = Site {
@@ -111,11 +129,14 @@ fn read_statement<A: Allocator + Copy>(
         behind: rest.len().saturating_sub(statement.code.len()),
     };
     if reader.is_skipping() {
-        skip(tables, site, statement.code, reader)
-    } else {
-        let start = text.len().saturating_sub(rest.len());
-        perform(tables, site, statement.code, start, reader)
+        skip(tables, site, statement.code, reader);
+        return Step {
+            line: None,
+            turn: Turn::Stay,
+        };
     }
+    let start = text.len().saturating_sub(rest.len());
+    perform(tables, site, statement.code, start, reader)
 }
 
 /// Reads a statement of a condition that does not hold: it counts where it is a condition.
@@ -124,24 +145,21 @@ fn skip<A: Allocator + Copy>(
     site: Site,
     code: &[u8],
     reader: &mut Reader<A>,
-) -> Result<Step<A>, Halt> {
+) {
     let (word, operands) = split_word(code);
     let start = Cursor::new(code, site.behind).slip(MacroErrorKind::UnendedCondition);
     let cursor = &mut Cursor::new(operands, site.behind);
     match directive_named(word) {
         Some(Directive::If(_)) => {
-            let place = place(site, start);
-            reader.conditions.push(Condition::new(place, true))?;
+            let condition = Condition::new(place(site, start), true);
+            cursor.keep(reader.conditions.push(condition).is_ok());
         }
         Some(directive @ (Directive::ElseIf | Directive::Else | Directive::EndIf)) => {
-            conclude(tables, directive, start, cursor, reader)?;
+            conclude(tables, directive, start, cursor, reader);
         }
         _ => (),
     }
-    Ok(Step {
-        line: None,
-        turn: Turn::Stay,
-    })
+    tables.hear(cursor);
 }
 
 /// Where a condition stands that begins at a place.
@@ -158,25 +176,33 @@ fn perform<A: Allocator + Copy>(
     code: &[u8],
     start: usize,
     reader: &mut Reader<A>,
-) -> Result<Step<A>, Halt> {
+) -> Step<A> {
     let behind = behind_labels(code);
     let (word, operands) = split_word(behind);
     let directive = directive_named(word);
-    let is_call = directive.is_none() && tables.is_macro(word)?;
+    let is_call = directive.is_none() && tables.is_macro(word);
     let put = if directive.is_some() || is_call {
         let labels = code.len().saturating_sub(behind.len());
         code.get(..labels).unwrap_or(code)
     } else {
         code
     };
-    tables.symbols.note(put)?;
+    tables.note(put);
     let turn = match directive {
-        Some(directive) => direct(tables, directive, site, behind, operands, reader)?,
-        None if is_call => call(tables, word, site, operands)?,
+        Some(directive) => direct(tables, directive, site, behind, operands, reader),
+        None if is_call => entered(call(tables, word, site, operands)),
         None => Turn::Stay,
     };
     let line = span_of(put, start, site.origin.number);
-    Ok(Step { line, turn })
+    Step { line, turn }
+}
+
+/// That a text is read next, if there is one.
+fn entered<A: Allocator>(frame: Option<Frame<A>>) -> Turn<A> {
+    match frame {
+        Some(frame) => Turn::Enter(frame),
+        None => Turn::Stay,
+    }
 }
 
 /// The part of a text that begins at a place and has these bytes, if they are not blank.
@@ -188,24 +214,24 @@ fn span_of(put: &[u8], start: usize, number: usize) -> Option<Span> {
     Some(Span { start, end, number })
 }
 
-/// Calls a macro.
+/// Calls a macro. Its lines are read next, if there are any.
 fn call<A: Allocator + Copy>(
     tables: &mut Tables<A>,
     word: &[u8],
     site: Site,
     operands: &[u8],
-) -> Result<Turn<A>, Halt> {
+) -> Option<Frame<A>> {
     let cursor = &mut Cursor::new(operands, site.behind);
-    let lines = tables.called(word, cursor)?;
-    tables.calls = tables.calls.saturating_add(1);
-    match lines {
-        Some(frame) => {
-            let left = operands.len().saturating_add(site.behind);
-            tables.spend(frame.text.len(), left)?;
-            Ok(Turn::Enter(frame))
-        }
-        None => Ok(Turn::Stay),
+    let lines = tables.called(word, cursor);
+    tables.hear(cursor);
+    if tables.mistake.is_some() {
+        return None;
     }
+    tables.calls = tables.calls.saturating_add(1);
+    let frame = lines?;
+    let left = operands.len().saturating_add(site.behind);
+    tables.spend(frame.text.len(), left);
+    Some(frame)
 }
 
 /// Performs a directive.
@@ -216,18 +242,21 @@ fn direct<A: Allocator + Copy>(
     code: &[u8],
     operands: &[u8],
     reader: &mut Reader<A>,
-) -> Result<Turn<A>, Halt> {
+) -> Turn<A> {
     let start = Cursor::new(code, site.behind).slip(MacroErrorKind::EndAlone);
     let cursor = &mut Cursor::new(operands, site.behind);
     match directive {
         Directive::Repeat | Directive::RepeatEach | Directive::RepeatCharacters => {
-            let block = block(tables, BlockKind::Repetition, site, start, reader)?;
-            repeat(tables, directive, site, block, cursor)
+            match block(tables, BlockKind::Repetition, site, start, reader) {
+                Some(block) => entered(repeat(tables, directive, site, block, cursor)),
+                None => Turn::Stay,
+            }
         }
-        Directive::ExitMacro if !reader.is_source => Ok(Turn::Leave),
+        Directive::ExitMacro if !reader.is_source => Turn::Leave,
         _ => {
-            note(tables, directive, site, start, cursor, reader)?;
-            Ok(Turn::Stay)
+            note(tables, directive, site, start, cursor, reader);
+            tables.hear(cursor);
+            Turn::Stay
         }
     }
 }
@@ -240,7 +269,7 @@ fn note<A: Allocator + Copy>(
     start: Slip,
     cursor: &mut Cursor,
     reader: &mut Reader<A>,
-) -> Result<(), Halt> {
+) {
     match directive {
         Directive::Purge => tables.purge(cursor),
         Directive::If(test) => begin(tables, test, cursor, place(site, start), reader),
@@ -248,31 +277,33 @@ fn note<A: Allocator + Copy>(
             conclude(tables, directive, start, cursor, reader)
         }
         Directive::Macro => {
-            let block = block(tables, BlockKind::Macro, site, start, reader)?;
-            define(tables, site, block, cursor)
+            if let Some(block) = block(tables, BlockKind::Macro, site, start, reader) {
+                define(tables, site, block, cursor);
+            }
         }
-        Directive::ExitMacro => Err(Halt::Slip(start.with_kind(MacroErrorKind::NothingToLeave))),
-        _ => Err(Halt::Slip(start)),
+        Directive::ExitMacro => cursor.fail(start.with_kind(MacroErrorKind::NothingToLeave)),
+        _ => cursor.fail(start),
     }
 }
 
-/// The block behind a statement at a place, which is not read again.
+/// The block behind a statement at a place, if it ends, which is not read again.
 fn block<'a, A: Allocator + Copy>(
     tables: &mut Tables<A>,
     kind: BlockKind,
     site: Site<'a>,
     slip: Slip,
     reader: &mut Reader<A>,
-) -> Result<Block<'a>, Halt> {
+) -> Option<Block<'a>> {
     let others = site.others.unwrap_or(&[]);
     let Some(block) = first_block(others, kind) else {
         reader.go_on(site.text, None, 0);
-        return Err(Halt::Slip(slip.with_kind(MacroErrorKind::Unended)));
+        tables.fail(slip.with_kind(MacroErrorKind::Unended));
+        return None;
     };
     let left = block.others.unwrap_or(&[]).len();
-    tables.spend(others.len().saturating_sub(left), slip.left)?;
+    tables.spend(others.len().saturating_sub(left), slip.left);
     reader.go_on(site.text, block.others, block.lines);
-    Ok(block)
+    Some(block)
 }
 
 /// Defines a macro with a block as its body.
@@ -281,16 +312,19 @@ fn define<A: Allocator + Copy>(
     site: Site,
     block: Block,
     cursor: &mut Cursor,
-) -> Result<(), Halt> {
+) {
     let body = match block.inside {
-        Some(text) => Some(Lines {
-            text: without_comments(tables.alloc, text)?,
-            first: site.next_number,
-            height: height(text),
-        }),
+        Some(inside) => match without_comments(tables.alloc, inside) {
+            Ok(text) => Some(Lines {
+                text,
+                first: site.next_number,
+                height: height(inside),
+            }),
+            Err(_) => return cursor.keep(false),
+        },
         None => None,
     };
-    tables.define(cursor, body)
+    tables.define(cursor, body);
 }
 
 /// Reads a block next, as often as a repetition says.
@@ -300,38 +334,40 @@ fn repeat<A: Allocator + Copy>(
     site: Site,
     block: Block,
     cursor: &mut Cursor,
-) -> Result<Turn<A>, Halt> {
-    let start = *cursor;
+) -> Option<Frame<A>> {
+    let much = cursor.slip(MacroErrorKind::Much);
     let count = match directive {
-        Directive::Repeat => count(tables, cursor)?,
+        Directive::Repeat => count(tables, cursor),
         _ => 1,
     };
-    let (Some(inside), Some(copies)) = (block.inside, count.checked_sub(1)) else {
-        return Ok(Turn::Stay);
-    };
-    let text = match directive {
-        Directive::Repeat => Vec::from_slice(tables.alloc, inside)?,
-        Directive::RepeatEach => each(tables, inside, cursor, false)?,
-        _ => each(tables, inside, cursor, true)?,
-    };
-    let slip = start.slip(MacroErrorKind::Much);
-    if !tables.has_left(text.len(), copies) {
-        return Err(Halt::Slip(slip));
+    tables.hear(cursor);
+    if tables.mistake.is_some() {
+        return None;
     }
-    tables.spend(text.len(), slip.left)?;
+    let inside = block.inside?;
+    let copies = count.checked_sub(1)?;
+    let text = match directive {
+        Directive::Repeat => copied(tables.alloc, inside, cursor),
+        Directive::RepeatEach => each(tables, inside, cursor, false),
+        _ => each(tables, inside, cursor, true),
+    };
+    if !tables.has_left(text.len(), copies) {
+        cursor.fail(much);
+    }
+    tables.hear(cursor);
+    if tables.mistake.is_some() {
+        return None;
+    }
+    tables.spend(text.len(), much.left);
     let first = site.next_number;
-    let frame = Frame::new(tables.alloc, text, first, height(inside), copies);
-    Ok(Turn::Enter(frame))
+    Some(Frame::new(tables.alloc, text, first, height(inside), copies))
 }
 
 /// Takes how often a repetition is made.
-fn count<A: Allocator + Copy>(tables: &Tables<A>, cursor: &mut Cursor) -> Result<u64, Halt> {
+fn count<A: Allocator + Copy>(tables: &Tables<A>, cursor: &mut Cursor) -> u64 {
     let negative = cursor.slip(MacroErrorKind::Negative);
-    let count = value(cursor, &tables.symbols)?;
-    cursor.end()?;
-    if count.cast_signed() < 0 {
-        Err(Halt::Slip(negative))
-    } else {
-        Ok(count)
-    }
+    let count = value(cursor, &tables.symbols);
+    cursor.end();
+    cursor.want(count.cast_signed() >= 0, negative);
+    count
 }

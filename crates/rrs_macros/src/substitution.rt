@@ -18,80 +18,67 @@ pub fn substitute<A: Allocator + Copy>(
     let mut rest = body;
     let mut place = Place::Plain;
     for _ in 0..body.len() {
-        rest = match rest {
-            [] => break,
-            [b'\\', others @ ..] if place.has_parameters() => {
-                let behind = escaped(others, parameters, values, number.as_bytes(), out)?;
-                if behind.len() == others.len() {
-                    place = place.behind(b'\\', None);
-                }
-                behind
-            }
-            [byte, others @ ..] => {
-                out.push(*byte)?;
-                place = match *byte {
-                    b'\n' => Place::Plain,
-                    byte => place.behind(byte, others.first().copied()),
-                };
-                others
-            }
+        let [byte, others @ ..] = rest else {
+            break;
         };
+        let (piece, taken) = piece(rest, place, parameters, values, number.as_bytes());
+        out.extend_from_slice(piece)?;
+        if taken == 1 {
+            place = match *byte {
+                b'\n' => Place::Plain,
+                byte => place.behind(byte, others.first().copied()),
+            };
+        }
+        rest = rest.get(taken..).unwrap_or(&[]);
     }
     Ok(())
 }
 
-/// Appends what a backslash and the text behind it stand for, and returns what is behind that.
-fn escaped<'a, A: Allocator + Copy>(
+/// What the first bytes of a text at a place stand for, and how many these are.
+fn piece<'a, A: Allocator + Copy>(
     text: &'a [u8],
-    parameters: &[Parameter<A>],
-    values: &[Vec<u8, A>],
-    number: &[u8],
-    out: &mut Vec<u8, A>,
-) -> Result<&'a [u8], AllocError> {
+    place: Place,
+    parameters: &'a [Parameter<A>],
+    values: &'a [Vec<u8, A>],
+    number: &'a [u8],
+) -> (&'a [u8], usize) {
     match text {
-        [b'(', others @ ..] => literally(others, out),
-        [b'@', others @ ..] => {
-            out.extend_from_slice(number)?;
-            Ok(others)
-        }
-        _ => named(text, parameters, values, out),
+        [b'\\', others @ ..] if place.has_parameters() => match others {
+            [b'(', inside @ ..] => literally(inside),
+            [b'@', ..] => (number, 2),
+            _ => named(text, others, parameters, values),
+        },
+        _ => (text.get(..1).unwrap_or(text), 1),
     }
 }
 
-/// Appends what stands before a closing parenthesis, and returns what is behind it.
-fn literally<'a, A: Allocator + Copy>(
-    text: &'a [u8],
-    out: &mut Vec<u8, A>,
-) -> Result<&'a [u8], AllocError> {
+/// What stands before a closing parenthesis, and how many bytes do with `\()`.
+fn literally(text: &[u8]) -> (&[u8], usize) {
     for (index, byte) in text.iter().enumerate() {
         if *byte == b')' {
-            return Ok(&text[index + 1..]);
+            return (&text[..index], index + 3);
         }
-        out.push(*byte)?;
     }
-    Ok(&text[text.len()..])
+    (text, text.len().saturating_add(2))
 }
 
-/// Appends the value of the parameter whose name a text begins with, or the backslash and the name
-/// where there is none, and returns what is behind the name.
+/// The value of the parameter whose name stands behind a backslash, or the backslash and the name
+/// where there is none, and how many bytes these are.
 fn named<'a, A: Allocator + Copy>(
     text: &'a [u8],
-    parameters: &[Parameter<A>],
-    values: &[Vec<u8, A>],
-    out: &mut Vec<u8, A>,
-) -> Result<&'a [u8], AllocError> {
-    let (name, others) = match text {
-        [b'a'..=b'z' | b'A'..=b'Z' | b'_' | b'.' | b'$', ..] => split_word(text),
-        _ => (&text[..0], text),
+    others: &'a [u8],
+    parameters: &'a [Parameter<A>],
+    values: &'a [Vec<u8, A>],
+) -> (&'a [u8], usize) {
+    let name = match others {
+        [b'a'..=b'z' | b'A'..=b'Z' | b'_' | b'.' | b'$', ..] => split_word(others).0,
+        _ => &others[..0],
     };
+    let taken = name.len().saturating_add(1);
     match value_of(parameters, values, name) {
-        Some(value) => out.extend_from_slice(value)?,
-        None => {
-            out.push(b'\\')?;
-            out.extend_from_slice(name)?;
-        }
+        Some(value) => (value, taken),
+        None => (text.get(..taken).unwrap_or(text), taken),
     }
-    Ok(others)
 }
 
 /// The value of the parameter with a name, which is its default where it is empty.

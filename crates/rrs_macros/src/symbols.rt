@@ -3,7 +3,7 @@
 use crate::cursor::Cursor;
 use crate::scanning::{first_label, split_word};
 use crate::values::value;
-use std::alloc::{AllocError, Allocator};
+use std::alloc::Allocator;
 use std::collections::BTreeMap;
 
 /// The directives that define a constant.
@@ -18,6 +18,8 @@ pub struct Symbols<A: Allocator> {
     alloc: A,
     /// The value of each, where it is a number that is known.
     values: BTreeMap<Vec<u8, A>, Option<u64>, A>,
+    /// Whether memory was missing for one.
+    pub is_short: bool,
 }
 
 impl<A: Allocator + Copy> Symbols<A> {
@@ -26,6 +28,7 @@ impl<A: Allocator + Copy> Symbols<A> {
         Symbols {
             alloc,
             values: BTreeMap::new(alloc),
+            is_short: false,
         }
     }
 
@@ -40,57 +43,52 @@ impl<A: Allocator + Copy> Symbols<A> {
     }
 
     /// Defines a symbol.
-    fn define(&mut self, name: &[u8], value: Option<u64>) -> Result<(), AllocError> {
-        let key = Vec::from_slice(self.alloc, name)?;
-        match self.values.insert(key, value) {
-            Ok(_) => Ok(()),
-            Err(_) => Err(AllocError),
-        }
+    fn define(&mut self, name: &[u8], value: Option<u64>) {
+        let is_kept = match Vec::from_slice(self.alloc, name) {
+            Ok(key) => self.values.insert(key, value).is_ok(),
+            Err(_) => false,
+        };
+        self.is_short = self.is_short || !is_kept;
     }
 
     /// Defines what a statement that is no directive of macros defines: its labels, and a constant.
-    pub fn note(&mut self, code: &[u8]) -> Result<(), AllocError> {
+    pub fn note(&mut self, code: &[u8]) {
         let mut rest = code;
         for _ in 0..code.len() {
             match first_label(rest) {
                 Some((name, others)) => {
-                    self.define(name, None)?;
+                    self.define(name, None);
                     rest = others;
                 }
                 None => break,
             }
         }
-        self.note_constant(rest)
+        self.note_constant(rest);
     }
 
     /// Defines the constant that a statement with no labels defines, if it does.
-    fn note_constant(&mut self, statement: &[u8]) -> Result<(), AllocError> {
+    fn note_constant(&mut self, statement: &[u8]) {
         let (word, rest) = split_word(statement);
         let (operand, others) = split_word(rest);
         if SPACES.contains(&word) {
             return self.define(operand, None);
         }
-        if CONSTANTS.contains(&word) {
-            let mut cursor = Cursor::new(others, 0);
-            let is_given = cursor.take_if(b",");
-            self.define_by(operand, is_given, cursor)
+        let is_directive = CONSTANTS.contains(&word);
+        let (name, operands) = if is_directive {
+            (operand, others)
         } else {
-            let mut cursor = Cursor::new(rest, 0);
-            let is_given = cursor.take_if(b"==") || cursor.take_if(b"=");
-            self.define_by(word, is_given, cursor)
-        }
-    }
-
-    /// Defines a constant, where it has a name and a value is given, by that value.
-    fn define_by(&mut self, name: &[u8], is_given: bool, cursor: Cursor) -> Result<(), AllocError> {
-        if name.is_empty() || !is_given {
-            return Ok(());
-        }
-        let mut cursor = cursor;
-        let value = match value(&mut cursor, self) {
-            Ok(value) if cursor.is_over() => Some(value),
-            _ => None,
+            (word, rest)
         };
-        self.define(name, value)
+        let mut cursor = Cursor::new(operands, 0);
+        let is_given = if is_directive {
+            cursor.take_if(b",")
+        } else {
+            cursor.take_if(b"==") || cursor.take_if(b"=")
+        };
+        if is_given && !name.is_empty() {
+            let value = value(&mut cursor, self);
+            let is_known = cursor.is_over() && cursor.mistake.is_none();
+            self.define(name, is_known.then_some(value));
+        }
     }
 }

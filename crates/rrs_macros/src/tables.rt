@@ -8,7 +8,7 @@ use crate::frames::Frame;
 use crate::scanning::{behind_labels, first_statement, split_word};
 use crate::substitution::substitute;
 use crate::symbols::Symbols;
-use std::alloc::{AllocError, Allocator};
+use std::alloc::Allocator;
 use std::collections::BTreeMap;
 
 /// The most bytes of lines that are read, each as often as it is read.
@@ -42,6 +42,8 @@ pub struct Tables<A: Allocator> {
     pub calls: u64,
     /// How many bytes may still be read.
     left: usize,
+    /// The first mistake in what is read, or that memory is missing.
+    pub mistake: Option<Halt>,
 }
 
 impl<A: Allocator + Copy> Tables<A> {
@@ -53,7 +55,32 @@ impl<A: Allocator + Copy> Tables<A> {
             symbols: Symbols::new(alloc),
             calls: 0,
             left: MOST_READ,
+            mistake: None,
         }
+    }
+
+    /// Keeps a mistake, or that memory is missing, if something is and nothing was before.
+    fn halt(&mut self, mistake: Option<Halt>) {
+        if self.mistake.is_none() {
+            self.mistake = mistake;
+        }
+    }
+
+    /// Keeps a mistake, if it is the first one.
+    pub fn fail(&mut self, slip: Slip) {
+        self.halt(Some(Halt::Slip(slip)));
+    }
+
+    /// Keeps that memory is missing where something could not be kept.
+    fn keep(&mut self, is_kept: bool) {
+        if !is_kept {
+            self.halt(Some(Halt::OutOfMemory));
+        }
+    }
+
+    /// Keeps the mistake in operands, if there is one.
+    pub fn hear(&mut self, cursor: &Cursor) {
+        self.halt(cursor.mistake);
     }
 
     /// Whether so many bytes may still be read, once and so often again.
@@ -63,13 +90,10 @@ impl<A: Allocator + Copy> Tables<A> {
     }
 
     /// Counts bytes that are read.
-    pub fn spend(&mut self, bytes: usize, left: usize) -> Result<(), Slip> {
+    pub fn spend(&mut self, bytes: usize, left: usize) {
         match self.left.checked_sub(bytes) {
-            Some(rest) => {
-                self.left = rest;
-                Ok(())
-            }
-            None => Err(Slip {
+            Some(rest) => self.left = rest,
+            None => self.fail(Slip {
                 kind: MacroErrorKind::Much,
                 left,
             }),
@@ -77,16 +101,21 @@ impl<A: Allocator + Copy> Tables<A> {
     }
 
     /// Whether a word is the name of a macro, in capitals or not.
-    pub fn is_macro(&self, word: &[u8]) -> Result<bool, AllocError> {
+    pub fn is_macro(&mut self, word: &[u8]) -> bool {
         if self.macros.is_empty() {
-            return Ok(false);
+            return false;
         }
-        let name = word.to_ascii_lowercase(self.alloc)?;
-        Ok(self.macros.get(name.as_slice()).is_some())
+        match word.to_ascii_lowercase(self.alloc) {
+            Ok(name) => self.macros.get(name.as_slice()).is_some(),
+            Err(_) => {
+                self.keep(false);
+                false
+            }
+        }
     }
 
     /// Whether no statement of a line is a directive of macros or calls one.
-    pub fn is_plain(&self, line: &[u8]) -> Result<bool, AllocError> {
+    pub fn is_plain(&mut self, line: &[u8]) -> bool {
         let mut rest = Some(line);
         for _ in 0..=line.len() {
             let Some(left) = rest else {
@@ -94,84 +123,103 @@ impl<A: Allocator + Copy> Tables<A> {
             };
             let statement = first_statement(left);
             let (word, _) = split_word(behind_labels(statement.code));
-            if directive_named(word).is_some() || self.is_macro(word)? {
-                return Ok(false);
+            if directive_named(word).is_some() || self.is_macro(word) {
+                return false;
             }
             rest = statement.others;
         }
-        Ok(true)
+        true
+    }
+
+    /// Defines what a statement that is no directive of macros defines.
+    pub fn note(&mut self, code: &[u8]) {
+        self.symbols.note(code);
+        self.keep(!self.symbols.is_short);
     }
 
     /// Defines what a line of such statements defines.
-    pub fn note_line(&mut self, line: &[u8]) -> Result<(), AllocError> {
+    pub fn note_line(&mut self, line: &[u8]) {
         let mut rest = Some(line);
         for _ in 0..=line.len() {
             let Some(left) = rest else {
                 break;
             };
             let statement = first_statement(left);
-            self.symbols.note(statement.code)?;
+            self.note(statement.code);
             rest = statement.others;
         }
-        Ok(())
     }
 
     /// Defines a macro with a name, parameters and a body.
-    pub fn define(&mut self, cursor: &mut Cursor, body: Option<Lines<A>>) -> Result<(), Halt> {
+    pub fn define(&mut self, cursor: &mut Cursor, body: Option<Lines<A>>) {
         let slip = cursor.slip(MacroErrorKind::Duplicate);
-        let name = cursor.name()?;
+        let name = cursor.name();
         cursor.skip_comma();
-        let parameters = take_parameters(self.alloc, cursor)?;
-        self.add(name, Macro { parameters, body }, slip)
+        let parameters = take_parameters(self.alloc, cursor);
+        self.hear(cursor);
+        if self.is_macro(name) {
+            self.fail(slip);
+        }
+        if self.mistake.is_none() {
+            self.add(name, Macro { parameters, body });
+        }
     }
 
-    /// Adds a macro, if there is none of its name.
-    fn add(&mut self, name: &[u8], definition: Macro<A>, slip: Slip) -> Result<(), Halt> {
-        if self.is_macro(name)? {
-            return Err(Halt::Slip(slip));
-        }
-        let name = name.to_ascii_lowercase(self.alloc)?;
-        let _ = self.macros.insert(name, definition)?;
-        Ok(())
+    /// Adds a macro.
+    fn add(&mut self, name: &[u8], definition: Macro<A>) {
+        let is_kept = match name.to_ascii_lowercase(self.alloc) {
+            Ok(name) => self.macros.insert(name, definition).is_ok(),
+            Err(_) => false,
+        };
+        self.keep(is_kept);
     }
 
     /// Removes the macros that are named.
-    pub fn purge(&mut self, cursor: &mut Cursor) -> Result<(), Halt> {
+    pub fn purge(&mut self, cursor: &mut Cursor) {
         for _ in 0..u64::MAX {
-            self.purge_one(cursor)?;
+            self.purge_one(cursor);
             if !cursor.take_if(b",") {
                 break;
             }
         }
-        Ok(cursor.end()?)
+        cursor.end();
     }
 
     /// Removes the macro that is named.
-    fn purge_one(&mut self, cursor: &mut Cursor) -> Result<(), Halt> {
+    fn purge_one(&mut self, cursor: &mut Cursor) {
         let slip = cursor.slip(MacroErrorKind::NoMacro);
-        let name = cursor.name()?.to_ascii_lowercase(self.alloc)?;
-        match self.macros.remove(name.as_slice()) {
-            Some(_) => Ok(()),
-            None => Err(Halt::Slip(slip)),
+        match cursor.name().to_ascii_lowercase(self.alloc) {
+            Ok(name) => cursor.want(self.macros.remove(name.as_slice()).is_some(), slip),
+            Err(_) => cursor.keep(false),
         }
     }
 
     /// The lines that a call of the macro with a name stands for, if there are any.
-    pub fn called(&self, word: &[u8], cursor: &mut Cursor) -> Result<Option<Frame<A>>, Halt> {
-        let alloc = self.alloc;
-        let name = word.to_ascii_lowercase(alloc)?;
-        let Some(definition) = self.macros.get(name.as_slice()) else {
-            return Ok(None);
-        };
-        let values = arguments(alloc, cursor, &definition.parameters)?;
-        let Some(body) = &definition.body else {
-            return Ok(None);
-        };
+    pub fn called(&self, word: &[u8], cursor: &mut Cursor) -> Option<Frame<A>> {
+        match word.to_ascii_lowercase(self.alloc) {
+            Ok(name) => {
+                let definition = self.macros.get(name.as_slice())?;
+                self.lines_of(definition, cursor)
+            }
+            Err(_) => {
+                cursor.keep(false);
+                None
+            }
+        }
+    }
+
+    /// The lines of a macro with the arguments of a call, if there are any.
+    fn lines_of(&self, definition: &Macro<A>, cursor: &mut Cursor) -> Option<Frame<A>> {
         let parameters = &definition.parameters;
-        let mut text = Vec::new(alloc);
-        substitute(
-            alloc, &body.text, parameters, &values, self.calls, &mut text,
-        )?;
-        Ok(Some(Frame::new(alloc, text, body.first, body.height, 0)))
+        let values = arguments(self.alloc, cursor, parameters);
+        let body = definition.body.as_ref()?;
+        let mut text = Vec::new(self.alloc);
+        if cursor.mistake.is_none() {
+            let substituted = substitute(
+                self.alloc, &body.text, parameters, &values, self.calls, &mut text,
+            );
+            cursor.keep(substituted.is_ok());
+        }
+        Some(Frame::new(self.alloc, text, body.first, body.height, 0))
     }
 }

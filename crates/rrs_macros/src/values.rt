@@ -22,6 +22,8 @@ struct Entry {
 struct Waiting {
     entries: [Entry; MOST_WAITING],
     count: usize,
+    /// What went wrong first with them, if something did.
+    fault: Option<MacroErrorKind>,
 }
 
 impl Waiting {
@@ -34,106 +36,154 @@ impl Waiting {
         Waiting {
             entries: [open; MOST_WAITING],
             count: 0,
+            fault: None,
         }
     }
 
-    /// One more, which stands at a place.
-    fn push(&mut self, left: u64, operator: Operator, slip: Slip) -> Result<(), Slip> {
+    /// Keeps what went wrong, if it is the first.
+    fn fail(&mut self, kind: MacroErrorKind) {
+        if self.fault.is_none() {
+            self.fault = Some(kind);
+        }
+    }
+
+    /// One more.
+    fn push(&mut self, left: u64, operator: Operator) {
         match self.entries.get_mut(self.count) {
             Some(place) => *place = Entry { left, operator },
-            None => return Err(slip.with_kind(MacroErrorKind::Operators)),
+            None => return self.fail(MacroErrorKind::Operators),
         }
         self.count = self.count.saturating_add(1);
-        Ok(())
     }
 
-    /// What those that bind so strongly make of a value behind them, before a place.
-    fn applied(&mut self, rank: u8, value: u64, slip: Slip) -> Result<u64, Slip> {
+    /// Takes the last, if it binds so strongly.
+    fn pop(&mut self, rank: u8) -> Option<Entry> {
+        let last = self.count.checked_sub(1)?;
+        let entry = *self.entries.get(last)?;
+        if entry.operator.rank() < rank {
+            return None;
+        }
+        self.count = last;
+        Some(entry)
+    }
+
+    /// What those that bind so strongly make of a value behind them.
+    fn applied(&mut self, rank: u8, value: u64) -> u64 {
         let mut value = value;
         for _ in 0..MOST_WAITING {
-            let last = self.count.saturating_sub(1);
-            match self.entries.get(last) {
-                Some(entry) if self.count > 0 && entry.operator.rank() >= rank => {
-                    value = entry
-                        .operator
-                        .apply(entry.left, value)
-                        .ok_or(slip.with_kind(MacroErrorKind::Division))?;
-                    self.count = last;
-                }
-                _ => break,
+            let Some(entry) = self.pop(rank) else {
+                break;
+            };
+            match entry.operator.apply(entry.left, value) {
+                Some(result) => value = result,
+                None => self.fail(MacroErrorKind::Division),
             }
         }
-        Ok(value)
+        value
+    }
+
+    /// What those in the innermost parenthesis make of a value behind them. It is closed.
+    fn closed(&mut self, value: u64) -> u64 {
+        let value = self.applied(1, value);
+        match self.count.checked_sub(1) {
+            Some(count) => self.count = count,
+            None => self.fail(MacroErrorKind::Parenthesis),
+        }
+        value
+    }
+
+    /// What all of them make of a value behind them.
+    fn ended(&mut self, value: u64) -> u64 {
+        let value = self.applied(1, value);
+        if self.count > 0 {
+            self.fail(MacroErrorKind::Parenthesis);
+        }
+        value
+    }
+
+    /// Keeps what went wrong, if something did, as a mistake at a place.
+    fn check(&self, cursor: &mut Cursor, place: Slip) {
+        if let Some(kind) = self.fault {
+            cursor.fail(place.with_kind(kind));
+        }
     }
 }
 
 /// Takes a value.
-pub fn value<A: Allocator + Copy>(cursor: &mut Cursor, symbols: &Symbols<A>) -> Result<u64, Slip> {
+pub fn value<A: Allocator + Copy>(cursor: &mut Cursor, symbols: &Symbols<A>) -> u64 {
     let mut waiting = Waiting::new();
     for _ in 0..u64::MAX {
-        prefixes(cursor, &mut waiting)?;
-        let term = term(cursor, symbols)?;
-        let value = closed(cursor, &mut waiting, term)?;
-        let slip = cursor.slip(MacroErrorKind::Parenthesis);
-        let Some(infix) = take_operator(cursor, &INFIXES) else {
-            let value = waiting.applied(1, value, slip)?;
-            return if waiting.count == 0 {
-                Ok(value)
-            } else {
-                Err(slip)
-            };
-        };
-        let left = waiting.applied(infix.rank(), value, slip)?;
-        waiting.push(left, infix, slip)?;
+        take_prefixes(cursor, &mut waiting);
+        let term = term(cursor, symbols);
+        if let Some(value) = take_infix(cursor, &mut waiting, term) {
+            return value;
+        }
     }
-    Err(cursor.slip(MacroErrorKind::Value))
+    0
 }
 
 /// Takes the operators before a value, and opening parentheses.
-fn prefixes(cursor: &mut Cursor, waiting: &mut Waiting) -> Result<(), Slip> {
+fn take_prefixes(cursor: &mut Cursor, waiting: &mut Waiting) {
     for _ in 0..u64::MAX {
-        let slip = cursor.slip(MacroErrorKind::Operators);
+        let place = cursor.slip(MacroErrorKind::Operators);
         match take_operator(cursor, &PREFIXES) {
-            Some(operator) => waiting.push(0, operator, slip)?,
+            Some(operator) => waiting.push(0, operator),
             None if cursor.take_if(b"+") => (),
             None => break,
         }
+        waiting.check(cursor, place);
     }
-    Ok(())
+}
+
+/// Takes the closing parentheses behind a term, and the operator behind them. Where none stands
+/// there, the value ends, and this is it.
+fn take_infix(cursor: &mut Cursor, waiting: &mut Waiting, term: u64) -> Option<u64> {
+    let value = closed(cursor, waiting, term);
+    let place = cursor.slip(MacroErrorKind::Parenthesis);
+    let infix = take_operator(cursor, &INFIXES);
+    let ended = match infix {
+        Some(operator) => {
+            let left = waiting.applied(operator.rank(), value);
+            waiting.push(left, operator);
+            None
+        }
+        None => Some(waiting.ended(value)),
+    };
+    waiting.check(cursor, place);
+    ended
 }
 
 /// Takes the closing parentheses behind a value.
-fn closed(cursor: &mut Cursor, waiting: &mut Waiting, term: u64) -> Result<u64, Slip> {
+fn closed(cursor: &mut Cursor, waiting: &mut Waiting, term: u64) -> u64 {
     let mut value = term;
     for _ in 0..MOST_WAITING {
-        let slip = cursor.slip(MacroErrorKind::Parenthesis);
+        let place = cursor.slip(MacroErrorKind::Parenthesis);
         if !cursor.take_if(b")") {
             break;
         }
-        value = waiting.applied(1, value, slip)?;
-        waiting.count = waiting.count.checked_sub(1).ok_or(slip)?;
+        value = waiting.closed(value);
+        waiting.check(cursor, place);
     }
-    Ok(value)
+    value
 }
 
 /// Takes a number, a character constant, or a constant that is known.
-fn term<A: Allocator + Copy>(cursor: &mut Cursor, symbols: &Symbols<A>) -> Result<u64, Slip> {
+fn term<A: Allocator + Copy>(cursor: &mut Cursor, symbols: &Symbols<A>) -> u64 {
     let slip = cursor.slip(MacroErrorKind::Value);
     if cursor.take_if(b"'") {
-        return match character(cursor) {
-            Some(byte) => Ok(u64::from(byte)),
-            None => Err(slip),
-        };
+        let byte = character(cursor);
+        cursor.want(byte.is_some(), slip);
+        return u64::from(byte.unwrap_or(0));
     }
     let word = cursor.word();
-    match word {
-        [] => Err(slip),
-        [b'0'..=b'9', b'b' | b'f'] => Err(slip.with_kind(MacroErrorKind::NotConstant)),
-        [b'0'..=b'9', ..] => number(word).ok_or(slip.with_kind(MacroErrorKind::Number)),
-        _ => symbols
-            .value_of(word)
-            .ok_or(slip.with_kind(MacroErrorKind::NotConstant)),
-    }
+    let (known, kind) = match word {
+        [] => (None, MacroErrorKind::Value),
+        [b'0'..=b'9', b'b' | b'f'] => (None, MacroErrorKind::NotConstant),
+        [b'0'..=b'9', ..] => (number(word), MacroErrorKind::Number),
+        _ => (symbols.value_of(word), MacroErrorKind::NotConstant),
+    };
+    cursor.want(known.is_some(), slip.with_kind(kind));
+    known.unwrap_or(0)
 }
 
 /// Takes what follows the apostrophe of a character constant, with the one that can end it.
