@@ -72,6 +72,19 @@ impl<A: Allocator + Copy> Expansion<A> {
         self.keep(is_kept);
     }
 
+    /// Why the source is not expanded, if it is not.
+    fn fault(self, alloc: A) -> Option<MacroFault<A>> {
+        if self.is_short {
+            Some(MacroFault::OutOfMemory)
+        } else if !self.mistakes.is_empty() {
+            Some(MacroFault::Mistakes(self.mistakes))
+        } else if !self.frames.is_empty() {
+            Some(fault(alloc, MacroErrorKind::Much))
+        } else {
+            None
+        }
+    }
+
     /// Tells a mistake.
     fn tell(&mut self, mistake: MacroError) {
         let is_kept = self.mistakes.push(mistake).is_ok();
@@ -171,20 +184,8 @@ fn expanded<A: Allocator + Copy>(alloc: A, source: &[u8]) -> Result<Expanded<A>,
         };
         advance(&mut tables, &mut expansion, frame, &mut out, total)?;
     }
-    let Expansion {
-        frames,
-        mistakes,
-        is_short,
-        ..
-    } = expansion;
-    if is_short {
-        return Err(MacroFault::OutOfMemory);
-    }
-    if !mistakes.is_empty() {
-        return Err(MacroFault::Mistakes(mistakes));
-    }
-    if !frames.is_empty() {
-        return Err(fault(alloc, MacroErrorKind::Much)?);
+    if let Some(fault) = expansion.fault(alloc) {
+        return Err(fault);
     }
     match completed(out, total) {
         Ok(whole) => settled(alloc, source, whole),
@@ -223,26 +224,28 @@ fn settled<A: Allocator + Copy>(
     ensures becomes { IfOk result (λ expanded. IsExpansion source.now expanded.text.items) }
 {
     if begins_directive(&whole.text) || !keeps_above(source, &whole) {
-        return Err(fault(alloc, MacroErrorKind::LeftOver)?);
+        return Err(fault(alloc, MacroErrorKind::LeftOver));
     }
     if is_expansion(alloc, source, &whole.text)? {
         Ok(whole)
     } else {
-        Err(fault(alloc, MacroErrorKind::LeftOver)?)
+        Err(fault(alloc, MacroErrorKind::LeftOver))
     }
 }
 
 /// A mistake that has no place of its own. `MacroErrorKind::LeftOver` says that a directive is left
 /// in a result, or that it is another than the source becomes. No source is known of which that is
 /// so.
-fn fault<A: Allocator + Copy>(alloc: A, kind: MacroErrorKind) -> Result<MacroFault<A>, AllocError> {
-    let mut mistakes = Vec::new(alloc);
-    mistakes.push(MacroError {
+fn fault<A: Allocator + Copy>(alloc: A, kind: MacroErrorKind) -> MacroFault<A> {
+    let mistake = MacroError {
         line: 1,
         column: 1,
         kind,
-    })?;
-    Ok(MacroFault::Mistakes(mistakes))
+    };
+    match Vec::from_slice(alloc, &[mistake]) {
+        Ok(mistakes) => MacroFault::Mistakes(mistakes),
+        Err(_) => MacroFault::OutOfMemory,
+    }
 }
 
 /// A result of one of so many lines of the source, with a line at least.

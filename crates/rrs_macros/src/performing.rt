@@ -1,7 +1,7 @@
 //! Performing a statement: what is put into the result, and what is read next.
 
 use crate::arguments::copied;
-use crate::blocks::{Block, BlockKind, first_block, height};
+use crate::blocks::{BlockKind, first_block, height};
 use crate::conditions::{begin, conclude};
 use crate::cursor::Cursor;
 use crate::directives::{Directive, directive_named};
@@ -129,20 +129,20 @@ fn read_statement<A: Allocator + Copy>(
         behind: rest.len().saturating_sub(statement.code.len()),
     };
     if reader.is_skipping() {
-        skip(tables, site, statement.code, reader);
+        skip(tables, &site, statement.code, reader);
         return Step {
             line: None,
             turn: Turn::Stay,
         };
     }
     let start = text.len().saturating_sub(rest.len());
-    perform(tables, site, statement.code, start, reader)
+    perform(tables, &site, statement.code, start, reader)
 }
 
 /// Reads a statement of a condition that does not hold: it counts where it is a condition.
 fn skip<A: Allocator + Copy>(
     tables: &mut Tables<A>,
-    site: Site,
+    site: &Site,
     code: &[u8],
     reader: &mut Reader<A>,
 ) {
@@ -163,7 +163,7 @@ fn skip<A: Allocator + Copy>(
 }
 
 /// Where a condition stands that begins at a place.
-fn place(site: Site, start: Slip) -> MacroError {
+fn place(site: &Site, start: Slip) -> MacroError {
     let slip = start.with_kind(MacroErrorKind::UnendedCondition);
     site.origin.mistake(site.text.len(), slip)
 }
@@ -172,7 +172,7 @@ fn place(site: Site, start: Slip) -> MacroError {
 /// it is no directive of macros and no call.
 fn perform<A: Allocator + Copy>(
     tables: &mut Tables<A>,
-    site: Site,
+    site: &Site,
     code: &[u8],
     start: usize,
     reader: &mut Reader<A>,
@@ -218,7 +218,7 @@ fn span_of(put: &[u8], start: usize, number: usize) -> Option<Span> {
 fn call<A: Allocator + Copy>(
     tables: &mut Tables<A>,
     word: &[u8],
-    site: Site,
+    site: &Site,
     operands: &[u8],
 ) -> Option<Frame<A>> {
     let cursor = &mut Cursor::new(operands, site.behind);
@@ -238,34 +238,33 @@ fn call<A: Allocator + Copy>(
 fn direct<A: Allocator + Copy>(
     tables: &mut Tables<A>,
     directive: Directive,
-    site: Site,
+    site: &Site,
     code: &[u8],
     operands: &[u8],
     reader: &mut Reader<A>,
 ) -> Turn<A> {
     let start = Cursor::new(code, site.behind).slip(MacroErrorKind::EndAlone);
     let cursor = &mut Cursor::new(operands, site.behind);
-    match directive {
+    let turn = match directive {
         Directive::Repeat | Directive::RepeatEach | Directive::RepeatCharacters => {
-            match block(tables, BlockKind::Repetition, site, start, reader) {
-                Some(block) => entered(repeat(tables, directive, site, block, cursor)),
-                None => Turn::Stay,
-            }
+            let inside = block(tables, BlockKind::Repetition, site, start, reader);
+            entered(repeat(tables, directive, inside, site.next_number, cursor))
         }
         Directive::ExitMacro if !reader.is_source => Turn::Leave,
         _ => {
             note(tables, directive, site, start, cursor, reader);
-            tables.hear(cursor);
             Turn::Stay
         }
-    }
+    };
+    tables.hear(cursor);
+    turn
 }
 
 /// Performs a directive that begins at a place and behind which is read next.
 fn note<A: Allocator + Copy>(
     tables: &mut Tables<A>,
     directive: Directive,
-    site: Site,
+    site: &Site,
     start: Slip,
     cursor: &mut Cursor,
     reader: &mut Reader<A>,
@@ -274,26 +273,25 @@ fn note<A: Allocator + Copy>(
         Directive::Purge => tables.purge(cursor),
         Directive::If(test) => begin(tables, test, cursor, place(site, start), reader),
         Directive::ElseIf | Directive::Else | Directive::EndIf => {
-            conclude(tables, directive, start, cursor, reader)
+            conclude(tables, directive, start, cursor, reader);
         }
         Directive::Macro => {
-            if let Some(block) = block(tables, BlockKind::Macro, site, start, reader) {
-                define(tables, site, block, cursor);
-            }
+            let inside = block(tables, BlockKind::Macro, site, start, reader);
+            define(tables, inside, site.next_number, cursor);
         }
         Directive::ExitMacro => cursor.fail(start.with_kind(MacroErrorKind::NothingToLeave)),
         _ => cursor.fail(start),
     }
 }
 
-/// The block behind a statement at a place, if it ends, which is not read again.
+/// The lines of the block behind a statement at a place, if there are any, which is not read again.
 fn block<'a, A: Allocator + Copy>(
     tables: &mut Tables<A>,
     kind: BlockKind,
-    site: Site<'a>,
+    site: &Site<'a>,
     slip: Slip,
     reader: &mut Reader<A>,
-) -> Option<Block<'a>> {
+) -> Option<&'a [u8]> {
     let others = site.others.unwrap_or(&[]);
     let Some(block) = first_block(others, kind) else {
         reader.go_on(site.text, None, 0);
@@ -303,21 +301,21 @@ fn block<'a, A: Allocator + Copy>(
     let left = block.others.unwrap_or(&[]).len();
     tables.spend(others.len().saturating_sub(left), slip.left);
     reader.go_on(site.text, block.others, block.lines);
-    Some(block)
+    block.inside
 }
 
-/// Defines a macro with a block as its body.
+/// Defines a macro with lines as its body, the first of which is of a line of the source.
 fn define<A: Allocator + Copy>(
     tables: &mut Tables<A>,
-    site: Site,
-    block: Block,
+    inside: Option<&[u8]>,
+    first: usize,
     cursor: &mut Cursor,
 ) {
-    let body = match block.inside {
+    let body = match inside {
         Some(inside) => match without_comments(tables.alloc, inside) {
             Ok(text) => Some(Lines {
                 text,
-                first: site.next_number,
+                first,
                 height: height(inside),
             }),
             Err(_) => return cursor.keep(false),
@@ -327,12 +325,13 @@ fn define<A: Allocator + Copy>(
     tables.define(cursor, body);
 }
 
-/// Reads a block next, as often as a repetition says.
+/// Reads lines next, if there are any, as often as a repetition says. The first of them is of a
+/// line of the source.
 fn repeat<A: Allocator + Copy>(
     tables: &mut Tables<A>,
     directive: Directive,
-    site: Site,
-    block: Block,
+    inside: Option<&[u8]>,
+    first: usize,
     cursor: &mut Cursor,
 ) -> Option<Frame<A>> {
     let much = cursor.slip(MacroErrorKind::Much);
@@ -340,26 +339,20 @@ fn repeat<A: Allocator + Copy>(
         Directive::Repeat => count(tables, cursor),
         _ => 1,
     };
-    tables.hear(cursor);
-    if tables.mistake.is_some() {
-        return None;
-    }
-    let inside = block.inside?;
     let copies = count.checked_sub(1)?;
+    let inside = inside?;
     let text = match directive {
         Directive::Repeat => copied(tables.alloc, inside, cursor),
-        Directive::RepeatEach => each(tables, inside, cursor, false),
-        _ => each(tables, inside, cursor, true),
+        _ => {
+            let are_characters = matches!(directive, Directive::RepeatCharacters);
+            each(tables, inside, cursor, are_characters)
+        }
     };
-    if !tables.has_left(text.len(), copies) {
-        cursor.fail(much);
-    }
-    tables.hear(cursor);
-    if tables.mistake.is_some() {
+    cursor.want(tables.has_left(text.len(), copies), much);
+    if cursor.mistake.is_some() {
         return None;
     }
     tables.spend(text.len(), much.left);
-    let first = site.next_number;
     Some(Frame::new(tables.alloc, text, first, height(inside), copies))
 }
 

@@ -100,17 +100,15 @@ pub fn without_comments<A: Allocator + Copy>(
     text: &[u8],
 ) -> Result<Vec<u8, A>, AllocError> {
     let mut out = Vec::new(alloc);
-    let mut rest = Some(text);
+    let mut rest = text;
     for _ in 0..=text.len() {
-        let Some(left) = rest else {
+        let statement = first_statement(rest);
+        out.extend_from_slice(statement.code)?;
+        let Some(others) = statement.others else {
             break;
         };
-        let statement = first_statement(left);
-        out.extend_from_slice(statement.code)?;
-        rest = statement.others;
-        if rest.is_some() {
-            out.push(if statement.ends_line { b'\n' } else { b';' })?;
-        }
+        out.push(if statement.ends_line { b'\n' } else { b';' })?;
+        rest = others;
     }
     Ok(out)
 }
