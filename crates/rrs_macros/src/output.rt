@@ -3,6 +3,7 @@
 ghost use Rattle.std.specs.Prelude.{◌≡◌, ℕ, ◌≤◌, length, OnOk, IfOk};
 ghost use Rattle.rrs_macros.specs.Lines.{IsLine, IsMade, IsSame};
 
+use crate::blocks::height;
 use crate::scanning::first_line;
 use std::alloc::{AllocError, Allocator, Global};
 
@@ -46,13 +47,8 @@ pub fn unchanged<A: Allocator + Copy>(alloc: A, source: &[u8]) -> Result<Expande
     ensures { IfOk result (IsSame source.now) }
 {
     let mut lines = Vec::new(alloc);
-    let mut number = 1usize;
-    lines.push(number)?;
-    for byte in source {
-        if *byte == b'\n' {
-            number += 1;
-            lines.push(number)?;
-        }
+    for index in 0..height(source) {
+        lines.push(index + 1)?;
     }
     let text = Vec::from_slice(alloc, source)?;
     Ok(Expanded { text, lines })
