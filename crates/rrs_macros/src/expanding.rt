@@ -7,12 +7,12 @@ ghost use Rattle.rrs_macros.specs.Expansion.{IsExpansion};
 ghost use Rattle.rrs_macros.specs.Lines.{IsMade, IsMapped, IsSame, KeepsAbove, lines};
 
 use crate::blocks::height;
-use crate::errors::{MacroError, MacroErrorKind, MacroFault, Slip};
+use crate::errors::{Halt, MacroError, MacroErrorKind, MacroFault, Slip};
 use crate::following::is_expansion;
 use crate::frames::{Frame, Origin};
 use crate::keeping::keeps_above;
 use crate::output::{Expanded, unchanged};
-use crate::performing::{Span, Turn, read_step};
+use crate::performing::{Span, Step, Turn, read_step};
 use crate::scanning::begins_directive;
 use crate::tables::Tables;
 use crate::words::has_directives;
@@ -193,7 +193,7 @@ fn expanded<A: Allocator + Copy>(alloc: A, source: &[u8]) -> Result<Expanded<A>,
     }
 }
 
-/// Reads a line or a statement of a text, and puts what comes of it.
+/// Reads a line or a statement of a text, and puts what comes of it: nothing with a mistake.
 fn advance<A: Allocator + Copy>(
     tables: &mut Tables<A>,
     expansion: &mut Expansion<A>,
@@ -205,7 +205,15 @@ fn advance<A: Allocator + Copy>(
 {
     let mut frame = frame;
     let origin = frame.reader.origin();
-    let step = read_step(tables, &frame.text, &mut frame.reader)?;
+    let read = read_step(tables, &frame.text, &mut frame.reader);
+    let step = match tables.mistake.take() {
+        None => read,
+        Some(Halt::Slip(slip)) => Step {
+            line: None,
+            turn: Turn::Stumble(slip),
+        },
+        Some(Halt::OutOfMemory) => return Err(AllocError),
+    };
     put_span(out, &frame.text, step.line, total)?;
     expansion.turn(frame, step.turn, origin, out.text.len());
     Ok(())

@@ -12,7 +12,7 @@ use crate::scanning::{behind_blanks, behind_labels, first_line, first_statement,
 use crate::substitution::without_comments;
 use crate::tables::{Lines, Tables};
 use crate::values::value;
-use std::alloc::{AllocError, Allocator};
+use std::alloc::Allocator;
 
 /// A part of a text that is a line of the result.
 #[derive(Clone, Copy)]
@@ -59,25 +59,8 @@ struct Site<'a> {
     behind: usize,
 }
 
-/// Reads a line or a statement of a text. Nothing is put of one with a mistake.
-pub fn read_step<A: Allocator + Copy>(
-    tables: &mut Tables<A>,
-    text: &[u8],
-    reader: &mut Reader<A>,
-) -> Result<Step<A>, AllocError> {
-    let step = read(tables, text, reader);
-    match tables.mistake.take() {
-        None => Ok(step),
-        Some(Halt::Slip(slip)) => Ok(Step {
-            line: None,
-            turn: Turn::Stumble(slip),
-        }),
-        Some(Halt::OutOfMemory) => Err(AllocError),
-    }
-}
-
 /// Reads a line or a statement of a text, where something is left of it.
-fn read<A: Allocator + Copy>(
+pub fn read_step<A: Allocator + Copy>(
     tables: &mut Tables<A>,
     text: &[u8],
     reader: &mut Reader<A>,
@@ -159,7 +142,7 @@ fn skip<A: Allocator + Copy>(
         }
         _ => (),
     }
-    tables.hear(cursor);
+    tables.keep(cursor.mistake);
 }
 
 /// Where a condition stands that begins at a place.
@@ -223,7 +206,7 @@ fn call<A: Allocator + Copy>(
 ) -> Option<Frame<A>> {
     let cursor = &mut Cursor::new(operands, site.behind);
     let lines = tables.called(word, cursor);
-    tables.hear(cursor);
+    tables.keep(cursor.mistake);
     if tables.mistake.is_some() {
         return None;
     }
@@ -256,7 +239,7 @@ fn direct<A: Allocator + Copy>(
             Turn::Stay
         }
     };
-    tables.hear(cursor);
+    tables.keep(cursor.mistake);
     turn
 }
 
@@ -295,7 +278,8 @@ fn block<'a, A: Allocator + Copy>(
     let others = site.others.unwrap_or(&[]);
     let Some(block) = first_block(others, kind) else {
         reader.go_on(site.text, None, 0);
-        tables.fail(slip.with_kind(MacroErrorKind::Unended));
+        let slip = slip.with_kind(MacroErrorKind::Unended);
+        tables.keep(Some(Halt::Slip(slip)));
         return None;
     };
     let left = block.others.unwrap_or(&[]).len();

@@ -60,27 +60,10 @@ impl<A: Allocator + Copy> Tables<A> {
     }
 
     /// Keeps a mistake, or that memory is missing, if something is and nothing was before.
-    fn halt(&mut self, mistake: Option<Halt>) {
+    pub fn keep(&mut self, mistake: Option<Halt>) {
         if self.mistake.is_none() {
             self.mistake = mistake;
         }
-    }
-
-    /// Keeps a mistake, if it is the first one.
-    pub fn fail(&mut self, slip: Slip) {
-        self.halt(Some(Halt::Slip(slip)));
-    }
-
-    /// Keeps that memory is missing where something could not be kept.
-    fn keep(&mut self, is_kept: bool) {
-        if !is_kept {
-            self.halt(Some(Halt::OutOfMemory));
-        }
-    }
-
-    /// Keeps the mistake in operands, if there is one.
-    pub fn hear(&mut self, cursor: &Cursor) {
-        self.halt(cursor.mistake);
     }
 
     /// Whether so many bytes may still be read, once and so often again.
@@ -93,10 +76,10 @@ impl<A: Allocator + Copy> Tables<A> {
     pub fn spend(&mut self, bytes: usize, left: usize) {
         match self.left.checked_sub(bytes) {
             Some(rest) => self.left = rest,
-            None => self.fail(Slip {
-                kind: MacroErrorKind::Much,
-                left,
-            }),
+            None => {
+                let kind = MacroErrorKind::Much;
+                self.keep(Some(Halt::Slip(Slip { kind, left })));
+            }
         }
     }
 
@@ -108,7 +91,7 @@ impl<A: Allocator + Copy> Tables<A> {
         match word.to_ascii_lowercase(self.alloc) {
             Ok(name) => self.macros.get(name.as_slice()).is_some(),
             Err(_) => {
-                self.keep(false);
+                self.keep(Some(Halt::OutOfMemory));
                 false
             }
         }
@@ -134,7 +117,9 @@ impl<A: Allocator + Copy> Tables<A> {
     /// Defines what a statement that is no directive of macros defines.
     pub fn note(&mut self, code: &[u8]) {
         self.symbols.note(code);
-        self.keep(!self.symbols.is_short);
+        if self.symbols.is_short {
+            self.keep(Some(Halt::OutOfMemory));
+        }
     }
 
     /// Defines what a line of such statements defines.
@@ -156,9 +141,9 @@ impl<A: Allocator + Copy> Tables<A> {
         let name = cursor.name();
         cursor.skip_comma();
         let parameters = take_parameters(self.alloc, cursor);
-        self.hear(cursor);
+        self.keep(cursor.mistake);
         if self.is_macro(name) {
-            self.fail(slip);
+            self.keep(Some(Halt::Slip(slip)));
         }
         if self.mistake.is_none() {
             self.add(name, Macro { parameters, body });
@@ -171,7 +156,9 @@ impl<A: Allocator + Copy> Tables<A> {
             Ok(name) => self.macros.insert(name, definition).is_ok(),
             Err(_) => false,
         };
-        self.keep(is_kept);
+        if !is_kept {
+            self.keep(Some(Halt::OutOfMemory));
+        }
     }
 
     /// Removes the macros that are named.
