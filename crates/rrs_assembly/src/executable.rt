@@ -27,14 +27,15 @@ pub enum ExecutableError {
 
 impl fmt::Display for ExecutableError {
     fn fmt<W: fmt::Write>(&self, f: &mut fmt::Formatter<W>) -> fmt::Result {
-        match self {
-            ExecutableError::Empty => write!(f, "the program is empty"),
+        let text = match self {
+            ExecutableError::Empty => "the program is empty",
             ExecutableError::Entry(address) => {
-                write!(f, "no instruction can begin at the entry 0x{address:08x}")
+                return write!(f, "no instruction can begin at the entry 0x{address:08x}");
             }
-            ExecutableError::Unlike => write!(f, "no executable of the program"),
-            ExecutableError::OutOfMemory => write!(f, "out of memory"),
-        }
+            ExecutableError::Unlike => "no executable of the program",
+            ExecutableError::OutOfMemory => "out of memory",
+        };
+        f.write_str(text)
     }
 }
 

@@ -82,52 +82,60 @@ fn push_name(strings: &mut Vec<u8>, name: &[u8]) -> Result<u32, AllocError> {
 
 /// The executable of these sections with this entry.
 pub fn write_file(alloc: Global, sections: &[Section], entry: u32) -> Result<Vec<u8>, AllocError> {
-    let mut parts = parts_of(alloc, sections)?;
-    for (index, section) in sections.iter().enumerate() {
-        add_section(&mut parts, section)?;
-        add_symbols(
-            &mut parts,
-            &section.made.labels,
-            half_of(index.saturating_add(1)),
-        )?;
-    }
-    let count = sections.len();
-    add_tables(&mut parts, count)?;
-    parts.align()?;
+    let mut parts = Parts {
+        segments: Vec::new(alloc),
+        contents: Vec::new(alloc),
+        start: start_of(sections),
+        headers: Vec::new(alloc),
+        symbols: Vec::new(alloc),
+        strings: Vec::new(alloc),
+    };
+    add_sections(&mut parts, sections)?;
     let mut file = Vec::new(alloc);
-    push_header(
-        &mut file,
-        entry,
-        parts.here(),
-        half_of(parts.segments.len() / 32),
-        count,
-    )?;
-    file.extend_from_slice(&parts.segments)?;
-    file.extend_from_slice(&parts.contents)?;
-    file.extend_from_slice(&parts.headers)?;
+    push_parts(&mut file, &parts, entry, sections.len())?;
     Ok(file)
 }
 
-/// The parts of a file before the first section: the headers and names that stand for nothing.
-fn parts_of(alloc: Global, sections: &[Section]) -> Result<Parts, AllocError> {
+/// Where the contents of a file begin: behind the program headers of sections that have bytes.
+fn start_of(sections: &[Section]) -> u32 {
     let mut start = HEADER_SIZE;
     for section in sections {
         if !section.made.bytes.is_empty() {
             start = start.saturating_add(PROGRAM_HEADER_SIZE);
         }
     }
-    let mut parts = Parts {
-        segments: Vec::new(alloc),
-        contents: Vec::new(alloc),
-        start,
-        headers: Vec::new(alloc),
-        symbols: Vec::new(alloc),
-        strings: Vec::new(alloc),
-    };
+    start
+}
+
+/// Adds all that stands in a file, behind the headers and names that stand for nothing.
+fn add_sections(parts: &mut Parts, sections: &[Section]) -> Result<(), AllocError> {
     parts.headers.resize(40, 0)?;
     parts.symbols.resize(16, 0)?;
     parts.strings.push(0)?;
-    Ok(parts)
+    for (index, section) in sections.iter().enumerate() {
+        add_section(parts, section)?;
+        add_symbols(
+            parts,
+            &section.made.labels,
+            half_of(index.saturating_add(1)),
+        )?;
+    }
+    add_tables(parts, sections.len())?;
+    parts.align()
+}
+
+/// Appends the parts of a file that has so many sections.
+fn push_parts(
+    file: &mut Vec<u8>,
+    parts: &Parts,
+    entry: u32,
+    sections: usize,
+) -> Result<(), AllocError> {
+    let segments = half_of(parts.segments.len() / 32);
+    push_header(file, entry, parts.here(), segments, sections)?;
+    file.extend_from_slice(&parts.segments)?;
+    file.extend_from_slice(&parts.contents)?;
+    Ok(file.extend_from_slice(&parts.headers)?)
 }
 
 /// Appends the file's header. There is a section header for nothing, and for the two tables.
