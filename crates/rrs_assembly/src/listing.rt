@@ -85,9 +85,16 @@ fn word_of(bytes: &[u8]) -> u32 {
 
 /// The rows of a line.
 fn rows_of(rows: &[Row], number: usize) -> &[Row] {
-    let start = rows.partition_point(|row| row.line < number);
-    let end = rows.partition_point(|row| row.line <= number);
+    let (start, end) = (
+        first_from(rows, number),
+        first_from(rows, number.saturating_add(1)),
+    );
     rows.get(start..end).unwrap_or(&[])
+}
+
+/// Where the rows of a line and of those behind it begin.
+fn first_from(rows: &[Row], number: usize) -> usize {
+    rows.partition_point(|row| row.line < number)
 }
 
 /// Appends the rows of a line.
@@ -137,9 +144,10 @@ fn push_row(listing: &mut Vec<u8>, row: &Row) -> Result<(), AllocError> {
 
 /// Appends the lower bytes of a number, so many of 4, in hexadecimal.
 fn push_hexadecimal(listing: &mut Vec<u8>, value: u32, size: usize) -> Result<(), AllocError> {
-    for byte in value.to_be_bytes().iter().skip(4usize.saturating_sub(size)) {
-        listing.push(hexadecimal(*byte / 16))?;
-        listing.push(hexadecimal(*byte % 16))?;
+    let bytes = value.to_be_bytes();
+    for index in 4usize.saturating_sub(size)..4 {
+        listing.push(hexadecimal(bytes[index] / 16))?;
+        listing.push(hexadecimal(bytes[index] % 16))?;
     }
     Ok(())
 }
