@@ -124,15 +124,15 @@ fn read_frame<R: Read>(alloc: Global, reader: &mut R) -> Result<Option<Frame>, A
     }
 }
 
-impl<R: Read, W: Write> Link<R, W> {
-    /// Writes bytes at once.
-    fn write(&mut self, bytes: &[u8]) -> Result<(), LinkError> {
-        if self.writer.write_all(bytes).is_err() || self.writer.flush().is_err() {
-            return Err(LinkError::Output);
-        }
-        Ok(())
+/// Writes bytes at once.
+fn write_at_once<W: Write>(writer: &mut W, bytes: &[u8]) -> Result<(), LinkError> {
+    if writer.write_all(bytes).is_err() || writer.flush().is_err() {
+        return Err(LinkError::Output);
     }
+    Ok(())
+}
 
+impl<R: Read, W: Write> Link<R, W> {
     /// Sends a payload.
     ///
     /// # Errors
@@ -140,16 +140,8 @@ impl<R: Read, W: Write> Link<R, W> {
     /// Out of memory, and a write that fails.
     pub fn send(&mut self, payload: &[u8]) -> Result<(), LinkError> {
         let frame = encode(self.alloc, payload)?;
-        self.write(&frame)?;
+        write_at_once(&mut self.writer, &frame)?;
         self.last = frame;
-        Ok(())
-    }
-
-    /// Sends the last packet once more.
-    fn send_again(&mut self) -> Result<(), LinkError> {
-        if self.writer.write_all(&self.last).is_err() || self.writer.flush().is_err() {
-            return Err(LinkError::Output);
-        }
         Ok(())
     }
 
@@ -158,29 +150,42 @@ impl<R: Read, W: Write> Link<R, W> {
         if !self.acknowledges {
             return Ok(());
         }
-        self.write(if is_good { b"+" } else { b"-" })
+        write_at_once(&mut self.writer, if is_good { b"+" } else { b"-" })
     }
 
-    /// What a frame is; `None` where it is asked for again.
-    fn received(&mut self, frame: &Frame) -> Result<Option<Received>, LinkError> {
+    /// What a frame is; `None` where it is to be asked for again.
+    fn meaning(&self, frame: &Frame) -> Result<Option<Received>, LinkError> {
         if frame.is_long {
-            self.acknowledge(true)?;
             return Ok(Some(Received::Bad));
         }
         match decode(self.alloc, &frame.bytes, &frame.digits) {
-            Ok(payload) => {
-                self.acknowledge(true)?;
-                Ok(Some(Received::Packet(payload)))
-            }
+            Ok(payload) => Ok(Some(Received::Packet(payload))),
             Err(PacketError::OutOfMemory) => Err(LinkError::OutOfMemory),
-            Err(PacketError::WrongSum) if self.acknowledges => {
-                self.acknowledge(false)?;
+            Err(PacketError::WrongSum) if self.acknowledges => Ok(None),
+            Err(_) => Ok(Some(Received::Bad)),
+        }
+    }
+
+    /// What comes behind a `$`; `None` where it is asked for again.
+    fn packet(&mut self) -> Result<Option<Received>, LinkError> {
+        let Some(frame) = read_frame(self.alloc, &mut self.reader)? else {
+            return Ok(Some(Received::End));
+        };
+        let received = self.meaning(&frame)?;
+        self.acknowledge(received.is_some())?;
+        Ok(received)
+    }
+
+    /// What comes of a byte before a packet: a `$` begins one, a `-` has the last one sent again,
+    /// and another is skipped.
+    fn begin(&mut self, byte: u8) -> Result<Option<Received>, LinkError> {
+        match byte {
+            b'$' => self.packet(),
+            b'-' => {
+                write_at_once(&mut self.writer, &self.last)?;
                 Ok(None)
             }
-            Err(_) => {
-                self.acknowledge(true)?;
-                Ok(Some(Received::Bad))
-            }
+            _ => Ok(None),
         }
     }
 
@@ -192,18 +197,11 @@ impl<R: Read, W: Write> Link<R, W> {
     /// Out of memory, and a write that fails.
     pub fn receive(&mut self) -> Result<Received, LinkError> {
         for _ in 0..u64::MAX {
-            match next_byte(&mut self.reader) {
-                None => return Ok(Received::End),
-                Some(b'$') => {
-                    let Some(frame) = read_frame(self.alloc, &mut self.reader)? else {
-                        return Ok(Received::End);
-                    };
-                    if let Some(received) = self.received(&frame)? {
-                        return Ok(received);
-                    }
-                }
-                Some(b'-') => self.send_again()?,
-                Some(_) => {}
+            let Some(byte) = next_byte(&mut self.reader) else {
+                return Ok(Received::End);
+            };
+            if let Some(received) = self.begin(byte)? {
+                return Ok(received);
             }
         }
         Ok(Received::End)
