@@ -1,6 +1,7 @@
 -- A payload that is escaped byte by byte, and unescaped again.
-use Rattle.std.proofs.Common.{◌≡◌, ℕ, zero, suc, ◌+◌, ◌<◌, ◌||◌, drop, get_or, add-one, drop-cons, slice_index, nat_eq, Bool, true, false, ◌⊎◌, List, [], ◌∷◌, ◌++◌, length, Option, Some, None, option_map, Ok, refl, sym, ap, ◌∙◌, inl, inr, append_assoc, arith}
+use Rattle.std.proofs.Common.{◌≡◌, ℕ, zero, suc, ◌+◌, ◌<◌, ◌||◌, drop, get_or, add-one, drop-cons, slice_index, nat_eq, Bool, true, false, ◌⊎◌, List, [], ◌∷◌, ◌++◌, length, Option, Some, None, option_map, Ok, refl, sym, ap, ◌∙◌, inl, inr, append_assoc, append-nil, ◌≤◌, arith}
 use Rattle.std.proofs.lemmas.Bool.Decides.{nat_tests}
+use Rattle.std.proofs.lemmas.List.{drop_all}
 use Rattle.hex.specs.Hex.{encode_with, decode_sized, IsBytes}
 use Rattle.hex.proofs.HexLemmas.{decode_sized-encode_lower}
 use Rattle.std.proofs.lemmas.Option.{same_Some}
@@ -58,6 +59,22 @@ pub moved : (p : List ℕ) (x : ℕ) (u : Option (List ℕ))
     → option_map (λ rest. p ++ rest) (option_map (λ xs. x ∷ xs) u) ≡ option_map (λ rest. (p ++ x ∷ []) ++ rest) u
 moved p x None = refl
 moved p x (Some u) = ap Some (sym (append_assoc p (x ∷ []) u))
+
+-- all bytes were taken, the last of them a `}` that turns the next one, or not
+pub taken_whole : (bytes payload : List ℕ) (i : ℕ) (is_behind : Bool) → length bytes ≤ i
+    → unescaped bytes ≡ option_map (λ (rest : List ℕ). payload ++ rest) (unescaped_from is_behind (drop i bytes))
+    → is_behind ≡ false → unescaped bytes ≡ Some payload
+taken_whole bytes payload i is_behind end so plain =
+    so ∙ ap (λ (xs : List ℕ). option_map (λ (rest : List ℕ). payload ++ rest) (unescaped_from is_behind xs)) (drop_all i bytes end)
+    ∙ ap (λ (b : Bool). option_map (λ (rest : List ℕ). payload ++ rest) (unescaped_from b [])) plain
+    ∙ ap Some (append-nil payload)
+
+pub cut_off : (bytes payload : List ℕ) (i : ℕ) (is_behind : Bool) → length bytes ≤ i
+    → unescaped bytes ≡ option_map (λ (rest : List ℕ). payload ++ rest) (unescaped_from is_behind (drop i bytes))
+    → is_behind ≡ true → unescaped bytes ≡ None
+cut_off bytes payload i is_behind end so turns =
+    so ∙ ap (λ (xs : List ℕ). option_map (λ (rest : List ℕ). payload ++ rest) (unescaped_from is_behind xs)) (drop_all i bytes end)
+    ∙ ap (λ (b : Bool). option_map (λ (rest : List ℕ). payload ++ rest) (unescaped_from b [])) turns
 
 -- the digits of a byte are decoded to it
 pub digits_decoded : (b : ℕ) → IsBytes (b ∷ []) → decode_sized (digits_of b) 1 ≡ Ok (b ∷ [])

@@ -2,6 +2,7 @@
 
 ghost use Rattle.std.specs.Prelude.{◌≡◌, ◌<◌, ◌++◌, ◌∷◌, ◌⊎◌, ℕ, List, Some, None, option_map, MatchResult, IfOk, IfErr, OnOk, slice_index, IsTrue, ◌↔◌};
 ghost use Rattle.hex.specs.Hex.{lower_digits};
+ghost use Rattle.rrs_gdb.specs.Shown.{text_of};
 ghost use Rattle.rrs_gdb.specs.Packets.{digits_of, checksum, is_special, escaped_byte, escaped, packet, unescaped, unescaped_from, HasSum, Refuses};
 
 use hex::FromHex;
@@ -44,8 +45,16 @@ fn digit_of(value: u8) -> u8
 pub fn push_hex(text: &mut Vec<u8>, byte: u8) -> Result<(), AllocError>
     ensures { OnOk result (text.new.items ≡ text.old.items ++ digits_of byte) }
 {
-    text.push(digit_of(byte / 16))?;
-    text.push(digit_of(byte % 16))?;
+    text.extend_from_slice(&[digit_of(byte / 16), digit_of(byte % 16)])
+}
+
+/// Appends bytes as digits.
+pub(crate) fn push_bytes(reply: &mut Vec<u8>, bytes: &[u8]) -> Result<(), AllocError>
+    ensures { OnOk result (reply.new.items ≡ reply.old.items ++ text_of bytes.now) }
+{
+    for byte in bytes {
+        push_hex(reply, *byte)?;
+    }
     Ok(())
 }
 

@@ -5,7 +5,7 @@ ghost use Rattle.std.specs.Bool.{OnTrue, OnFalse};
 ghost use Rattle.rrs_lib.specs.Machine.{state_of};
 ghost use Rattle.rrs_gdb.specs.Shown.{text_of, word_bytes, words_text, register, register_text, registers_text, with_register, word_at};
 
-use crate::framing::push_hex;
+use crate::framing::push_bytes;
 use rrs_lib::HartState;
 use std::alloc::AllocError;
 
@@ -23,11 +23,15 @@ const REGISTER_BYTES: usize = 132;
 pub fn push_word(text: &mut Vec<u8>, word: u32) -> Result<(), AllocError>
     ensures { OnOk result (text.new.items ≡ text.old.items ++ text_of (word_bytes word)) }
 {
-    push_hex(text, (word % 256) as u8)?;
-    push_hex(text, (word / 256 % 256) as u8)?;
-    push_hex(text, (word / 65536 % 256) as u8)?;
-    push_hex(text, (word / 16777216 % 256) as u8)?;
-    Ok(())
+    push_bytes(
+        text,
+        &[
+            (word % 256) as u8,
+            (word / 256 % 256) as u8,
+            (word / 65536 % 256) as u8,
+            (word / 16777216 % 256) as u8,
+        ],
+    )
 }
 
 /// Appends words.

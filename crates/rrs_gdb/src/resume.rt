@@ -8,7 +8,7 @@ ghost use Rattle.rrs_gdb.specs.Sessions.{CallMade, CallStops, CallTakenBack, Goe
 
 use crate::back::{BackEnd, go_back};
 use crate::forward::{ForwardEnd, ForwardReason, go_forward, is_stop};
-use crate::framing::push_hex;
+use crate::framing::push_bytes;
 use crate::link::{Link, LinkError};
 use crate::runner::StopRunner;
 use crate::state::{CallMark, SessionState, Stop};
@@ -42,15 +42,18 @@ pub(crate) fn signal_of(fault: &InstructionException) -> u8 {
     }
 }
 
-/// Sends output of the program, as `O` packets.
+/// Sends a part of the output of the program, as an `O` packet.
+fn send_part<R: Read, W: Write>(link: &mut Link<R, W>, part: &[u8]) -> Result<(), LinkError> {
+    let mut payload = Vec::new(link.alloc);
+    payload.push(b'O')?;
+    push_bytes(&mut payload, part)?;
+    link.send(&payload)
+}
+
+/// Sends output of the program.
 fn send_output<R: Read, W: Write>(link: &mut Link<R, W>, bytes: &[u8]) -> Result<(), LinkError> {
     for part in bytes.chunks(OUTPUT_BYTES) {
-        let mut payload = Vec::new(link.alloc);
-        payload.push(b'O')?;
-        for byte in part {
-            push_hex(&mut payload, *byte)?;
-        }
-        link.send(&payload)?;
+        send_part(link, part)?;
     }
     Ok(())
 }

@@ -10,11 +10,11 @@ ghost use Rattle.rrs_gdb.specs.declared.session.Going.{Going};
 ghost use Rattle.rrs_gdb.specs.Answers.{BeginsBy, Goes, HasSubject, IsDone, Leaves, Means, Sets, Shows, moment};
 ghost use Rattle.rrs_gdb.specs.Sessions.{letter, Acts, BreaksKept, BySignal, EndsBy, HasNoSignal, HasSignal, IsSignal, Signals, BreaksNone, GoesBy, GoesOnFrom, GoesOnOrStays, HasAction, HasLetter, HasRegisters, Resumes, SetsRegisters, has_ended, ChangesMemory, ChangesNone, ChangesRegister, IsError, MemoryKept, PlacesKept, RegistersKept, RunsNone, SessionGoesBack, SessionKept, SettingsKept, IsChangeable, SetsBytes, SetsMemory, SetsRegister, ShowsBytes, ShowsMemory, ShowsRegister};
 ghost use Rattle.rrs_gdb.specs.Packets.{IsNumber, number, before, behind};
-ghost use Rattle.rrs_gdb.specs.Shown.{registers_text, text_of, with_register, word_at};
+ghost use Rattle.rrs_gdb.specs.Shown.{registers_text, with_register, word_at};
 
 use crate::breaks::{Watch, WatchKind};
 use crate::contents::{read_memory, write_memory};
-use crate::framing::push_hex;
+use crate::framing::push_bytes;
 use crate::link::{Link, LinkError, Received};
 use crate::numbers::{address_and_length, behind, cut, cut_or_all, number_of, place_and_bytes};
 use crate::queries::{BAD_ADDRESS, INVALID, NO_MEMORY, catch_calls, query};
@@ -228,16 +228,6 @@ fn set_register<M: Memory>(
     let is_changed = change_register(executor, text);
     push_done(reply, is_changed, INVALID)?;
     Ok(is_changed)
-}
-
-/// Appends bytes as digits.
-fn push_bytes(reply: &mut Vec<u8>, bytes: &[u8]) -> Result<(), AllocError>
-    ensures { OnOk result (reply.new.items ≡ reply.old.items ++ text_of bytes.now) }
-{
-    for byte in bytes {
-        push_hex(reply, *byte)?;
-    }
-    Ok(())
 }
 
 /// Shows so many bytes from an address on.

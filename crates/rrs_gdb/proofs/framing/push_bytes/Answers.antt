@@ -3,7 +3,7 @@ use Rattle.std.proofs.lemmas.List.{take_more}
 use Rattle.rrs_gdb.specs.Packets.{digits_of}
 use Rattle.rrs_gdb.specs.Shown.{text_of}
 use Rattle.rrs_gdb.proofs.ShownLemmas.{text_of-append, text_of-one}
-use Rattle.rrs_gdb.proofs.session.push_bytes.Goals as goal
+use Rattle.rrs_gdb.proofs.framing.push_bytes.Goals as goal
 
 pub loop-byte-preserved : goal.loop-byte-preserved
 loop-byte-preserved c =
