@@ -2,15 +2,24 @@
 
 ghost use Rattle.rrs_gdb.specs.Sessions.{BreaksKept, SessionKept};
 
-use crate::framing::push_hex;
+use crate::framing::push_bytes;
 use crate::numbers::{address_and_length, behind, cut, cut_or_all, decimal_of, number_of};
-use crate::state::{Caught, SessionState, push_text};
+use crate::state::{SessionState, push_text};
 use crate::target::TARGET;
 use std::alloc::{AllocError, Global};
 
-/// What the stub has.
-const SUPPORTED: &[u8] = b"PacketSize=4000;QStartNoAckMode+;qXfer:features:read+;\
-qXfer:exec-file:read+;ReverseStep+;ReverseContinue+;QCatchSyscalls+;vContSupported+";
+/// The questions that are always answered alike, and their answers: what the stub has, the thread,
+/// and the list of threads.
+static ANSWERS: [(&[u8], &[u8]); 4] = [
+    (
+        b"qSupported",
+        b"PacketSize=4000;QStartNoAckMode+;qXfer:features:read+;\
+qXfer:exec-file:read+;ReverseStep+;ReverseContinue+;QCatchSyscalls+;vContSupported+",
+    ),
+    (b"qC", b"QC1"),
+    (b"qfThreadInfo", b"m1"),
+    (b"qsThreadInfo", b"l"),
+];
 
 /// The answer where a packet can't be understood: `EINVAL`, 22.
 pub const INVALID: &[u8] = b"E16";
@@ -51,6 +60,21 @@ fn transfer(state: &SessionState<'_>, reply: &mut Vec<u8>, asked: &[u8]) -> Resu
     Ok(())
 }
 
+/// The numbers of calls, with semicolons between, if they are numbers.
+fn numbers_in(alloc: Global, text: &[u8]) -> Result<Option<Vec<u32>>, AllocError> {
+    let mut numbers = Vec::new(alloc);
+    let mut rest = text;
+    'numbers: while !rest.is_empty() {
+        let (word, others) = cut_or_all(rest, b';');
+        let Some(number) = number_of(word) else {
+            return Ok(None);
+        };
+        numbers.push(number)?;
+        rest = others;
+    }
+    Ok(Some(numbers))
+}
+
 /// Sets which calls are caught, by what is behind `QCatchSyscalls:`.
 pub(crate) fn catch_calls(
     alloc: Global,
@@ -59,32 +83,17 @@ pub(crate) fn catch_calls(
 ) -> Result<bool, AllocError>
     ensures { SessionKept state.old state.new }
 {
-    let (word, mut rest) = cut_or_all(asked, b';');
-    let mut caught = Caught {
-        are_all: rest.is_empty() && word == b"1".as_slice(),
-        numbers: Vec::new(alloc),
-    };
-    if word != b"1".as_slice() && (word != b"0".as_slice() || !rest.is_empty()) {
+    let (word, rest) = cut_or_all(asked, b';');
+    let is_on = word == b"1".as_slice();
+    if !is_on && (word != b"0".as_slice() || !rest.is_empty()) {
         return Ok(false);
     }
-    'numbers: while !rest.is_empty() {
-        let (word, others) = cut_or_all(rest, b';');
-        let Some(number) = number_of(word) else {
-            return Ok(false);
-        };
-        caught.numbers.push(number)?;
-        rest = others;
-    }
-    state.caught = caught;
+    let Some(numbers) = numbers_in(alloc, rest)? else {
+        return Ok(false);
+    };
+    state.caught.are_all = is_on && rest.is_empty();
+    state.caught.numbers = numbers;
     Ok(true)
-}
-
-/// Appends a text as digits, as the answer of `qRcmd`.
-fn push_console(reply: &mut Vec<u8>, text: &[u8]) -> Result<(), AllocError> {
-    for byte in text {
-        push_hex(reply, *byte)?;
-    }
-    Ok(())
 }
 
 /// Appends a line with a name and a number, as the answer of `qRcmd`.
@@ -95,7 +104,7 @@ fn push_setting(
     number: u64,
 ) -> Result<(), AllocError> {
     let line = format!(in alloc; "{name}: {number}\n")?;
-    push_console(reply, line.as_bytes())
+    push_bytes(reply, line.as_bytes())
 }
 
 /// What `monitor help` says.
@@ -116,9 +125,9 @@ fn set_stop_at_exit(
         b"on" => state.settings.stops_at_exit = true,
         b"off" => state.settings.stops_at_exit = false,
         b"" => {}
-        _ => return push_console(reply, HELP),
+        _ => return push_bytes(reply, HELP),
     }
-    push_console(
+    push_bytes(
         reply,
         if state.settings.stops_at_exit {
             b"stop-at-exit: on\n".as_slice()
@@ -126,6 +135,85 @@ fn set_stop_at_exit(
             b"stop-at-exit: off\n".as_slice()
         },
     )
+}
+
+/// A number that `monitor` shows.
+#[derive(Clone, Copy)]
+enum Number {
+    /// How many steps were made, which is not set.
+    Steps,
+    /// The most steps of a `continue`.
+    Limit,
+    /// How many steps are kept.
+    History,
+}
+
+/// The numbers by their names.
+static NUMBERS: [(&str, Number); 3] = [
+    ("steps", Number::Steps),
+    ("limit", Number::Limit),
+    ("history", Number::History),
+];
+
+/// The number of a name, with the name.
+fn number_named(word: &[u8]) -> Option<(&'static str, Number)> {
+    for (name, number) in &NUMBERS {
+        if name.as_bytes() == word {
+            return Some((*name, *number));
+        }
+    }
+    None
+}
+
+/// What a number is.
+fn value_of(state: &SessionState<'_>, number: Number) -> u64 {
+    match number {
+        Number::Steps => state.steps,
+        Number::Limit => state.settings.limit,
+        Number::History => state.settings.history as u64,
+    }
+}
+
+/// Sets a number. The answer is what is told where it can't be set so.
+fn set_number(
+    alloc: Global,
+    state: &mut SessionState<'_>,
+    number: Number,
+    argument: &[u8],
+) -> Option<&'static [u8]>
+    ensures { BreaksKept state.old state.new }
+{
+    match (number, decimal_of(argument)) {
+        (Number::Limit, Some(limit)) => state.settings.limit = limit,
+        (Number::History, Some(room)) => {
+            if room > 1 << 32 || state.set_history(alloc, room as usize).is_err() {
+                return Some(b"history: out of memory\n");
+            }
+        }
+        _ => return Some(HELP),
+    }
+    None
+}
+
+/// Shows a number, behind an argument that sets it.
+fn show_number(
+    alloc: Global,
+    state: &mut SessionState<'_>,
+    reply: &mut Vec<u8>,
+    word: &[u8],
+    argument: &[u8],
+) -> Result<(), AllocError>
+    ensures { BreaksKept state.old state.new }
+{
+    let Some((name, number)) = number_named(word) else {
+        return push_bytes(reply, HELP);
+    };
+    if !argument.is_empty() {
+        if let Some(refused) = set_number(alloc, state, number, argument) {
+            return push_bytes(reply, refused);
+        }
+    }
+    push_setting(alloc, reply, name, value_of(state, number))
 }
 
 /// Answers a command of `monitor`.
@@ -138,24 +226,10 @@ fn monitor(
     ensures { BreaksKept state.old state.new }
 {
     let (word, argument) = cut_or_all(command, b' ');
-    match (word, decimal_of(argument)) {
-        (b"stop-at-exit", _) => set_stop_at_exit(state, reply, argument),
-        (b"steps", None) if argument.is_empty() => push_setting(alloc, reply, "steps", state.steps),
-        (b"limit", number) if number.is_some() || argument.is_empty() => {
-            state.settings.limit = number.unwrap_or(state.settings.limit);
-            push_setting(alloc, reply, "limit", state.settings.limit)
-        }
-        (b"history", Some(room)) => {
-            if room > 1 << 32 || state.set_history(alloc, room as usize).is_err() {
-                return push_console(reply, b"history: out of memory\n");
-            }
-            push_setting(alloc, reply, "history", room)
-        }
-        (b"history", None) if argument.is_empty() => {
-            push_setting(alloc, reply, "history", state.settings.history as u64)
-        }
-        _ => push_console(reply, HELP),
+    if word == b"stop-at-exit".as_slice() {
+        return set_stop_at_exit(state, reply, argument);
     }
+    show_number(alloc, state, reply, word, argument)
 }
 
 /// Answers `qRcmd`, by the digits of its command.
@@ -173,6 +247,23 @@ fn command(
     }
 }
 
+/// Answers a question of the session.
+fn tell(state: &SessionState<'_>, reply: &mut Vec<u8>, payload: &[u8]) -> Result<(), AllocError> {
+    if let Some(asked) = behind(payload, b"qXfer:") {
+        return transfer(state, reply, asked);
+    }
+    let (word, _rest) = cut_or_all(payload, b':');
+    if word == b"qAttached".as_slice() {
+        return push_text(reply, if state.is_extended { b"0" } else { b"1" });
+    }
+    for (question, answer) in &ANSWERS {
+        if *question == word {
+            return push_text(reply, answer);
+        }
+    }
+    Ok(())
+}
+
 /// Answers a packet that begins with `q`.
 pub(crate) fn query(
     alloc: Global,
@@ -182,18 +273,8 @@ pub(crate) fn query(
 ) -> Result<(), AllocError>
     ensures { BreaksKept state.old state.new }
 {
-    if let Some(asked) = behind(payload, b"qXfer:") {
-        return transfer(state, reply, asked);
-    }
     if let Some(digits) = behind(payload, b"qRcmd,") {
         return command(alloc, state, reply, digits);
     }
-    match cut_or_all(payload, b':').0 {
-        b"qSupported" => push_text(reply, SUPPORTED),
-        b"qAttached" => push_text(reply, if state.is_extended { b"0" } else { b"1" }),
-        b"qC" => push_text(reply, b"QC1"),
-        b"qfThreadInfo" => push_text(reply, b"m1"),
-        b"qsThreadInfo" => push_text(reply, b"l"),
-        _ => Ok(()),
-    }
+    tell(state, reply, payload)
 }

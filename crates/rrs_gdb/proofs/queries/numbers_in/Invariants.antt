@@ -1,5 +1,5 @@
 use Rattle.std.proofs.Common.{length}
-use Rattle.rrs_gdb.proofs.queries.catch_calls.Given as goal
+use Rattle.rrs_gdb.proofs.queries.numbers_in.Given as goal
 
 abbrev pub decreases-numbers : goal.decreases-numbers
 decreases-numbers l = length l.rest
