@@ -1,12 +1,30 @@
 //! The bytes of memory, read and changed.
 
-ghost use Rattle.std.specs.Prelude.{◌≡◌, ◌<◌, ◌≤◌, ◌+◌, ◌^◌, ℕ, true, false, None, length, IfOk};
+ghost use Rattle.std.specs.Prelude.{◌≡◌, ◌<◌, ◌≤◌, ◌+◌, ◌^◌, ℕ, true, false, Some, None, length, IfOk, IfSome, IfNone};
 ghost use Rattle.std.specs.Bool.{OnTrue, OnFalse};
 ghost use Rattle.rrs_lib.specs.Loading.{Loaded};
 ghost use Rattle.rrs_gdb.specs.Shown.{HasBytes};
 
 use rrs_lib::{MemAccessSize, Memory};
 use std::alloc::{AllocError, Global};
+
+/// The byte that stands so far behind an address, if it is mapped. No byte changes.
+fn byte_behind<M: Memory>(memory: &mut M, address: u32, index: u32) -> Option<u8>
+    ensures read { IfSome result (λ byte. M.bytes memory.old (address + index) ≡ Some byte) }
+    ensures none { IfNone result (address + index < 2 ^ 32
+        → M.bytes memory.old (address + index) ≡ None) }
+    ensures bytes_kept { M.bytes memory.new ≡ M.bytes memory.old }
+    ensures writable_kept { M.writable memory.new ≡ M.writable memory.old }
+    ensures layout_kept { M.layout memory.new ≡ M.layout memory.old }
+{
+    let Some(at) = address.checked_add(index) else {
+        return None;
+    };
+    match memory.read_mem(at, MemAccessSize::Byte) {
+        Some(byte) => Some(byte as u8),
+        None => None,
+    }
+}
 
 /// The bytes from an address on, as many as are wanted, up to the first that is not mapped, or to
 /// the last address. No byte changes.
@@ -32,13 +50,10 @@ pub fn read_memory<M: Memory>(
 {
     let mut values = Vec::new(alloc);
     for index in 0..count {
-        let Some(at) = address.checked_add(index) else {
+        let Some(byte) = byte_behind(memory, address, index) else {
             return Ok(values);
         };
-        match memory.read_mem(at, MemAccessSize::Byte) {
-            Some(byte) => values.push(byte as u8)?,
-            None => return Ok(values),
-        }
+        values.push(byte)?;
     }
     Ok(values)
 }
