@@ -1,6 +1,6 @@
 -- What an answer leaves and means, by the subject of the packet.
-use Rattle.std.proofs.Common.{◌≡◌, ◌≢◌, ◌⊎◌, ◌==◌, ◌||◌, if◌then◌else◌, ℕ, List, ◌∷◌, ◌++◌, drop, Bool, true, Result, Ok, Err, IfOk, OnOk, IsOk, ◌<◌, length, slice_index, refl, sym, subst, ap, ◌∙◌, inl, inr, arith}
-use Rattle.std.specs.Bool.{OnTrue, OnFalse}
+use Rattle.std.proofs.Common.{◌≡◌, ◌≢◌, ◌⊎◌, ◌==◌, ◌||◌, if◌then◌else◌, ℕ, List, ◌∷◌, ◌++◌, drop, Bool, true, Result, Ok, Err, OnOk, IsOk, ◌<◌, length, slice_index, refl, sym, subst, ap, ◌∙◌, inl, inr, arith}
+use Rattle.std.specs.Bool.{OnTrue}
 use Rattle.std.proofs.lemmas.Bool.{OnTrue_at}
 use Rattle.rrs_lib.specs.Machine.{State}
 use Rattle.rrs_linux.specs.Recording.{Recording}
@@ -12,10 +12,9 @@ use Rattle.rrs_gdb.specs.declared.session.Subject.TheVariants.{Shown, Changed, R
 use Rattle.rrs_gdb.specs.declared.state.SessionState.{SessionState}
 use Rattle.rrs_gdb.specs.declared.state.Settings.{Settings}
 use Rattle.rrs_gdb.specs.declared.state.Stop.{Stop}
-use Rattle.hex.specs.Hex.{decode_of}
-use Rattle.rrs_gdb.specs.Packets.{IsNumber, number, behind}
-use Rattle.rrs_gdb.specs.Sessions.{letter, ChangesNone, RunsNone, ChangesRegister, ChangesMemory, MemoryKept, RegistersKept, BreaksKept, SettingsKept, PlacesKept, SessionKept, has_ended, IsError, ShowsRegister, SetsRegister, SetsRegisters, SetsMemory, GoesBy, EndsBy, HasAction, HasLetter, HasSignal, HasNoSignal, BySignal, Resumes, Signals, GoesOnUnless, Acts, GoesOnOrStays}
-use Rattle.rrs_gdb.specs.Answers.{Moment, ShowsNone, HasSubject, Shows, Sets, IsDone, BeginsBy, Here, There, Goes, ActsBy, Returns, Stays, Leaves, Means}
+use Rattle.rrs_gdb.specs.Packets.{IsNumber, number}
+use Rattle.rrs_gdb.specs.Sessions.{letter, ChangesNone, RunsNone, ChangesRegister, ChangesMemory, MemoryKept, RegistersKept, BreaksKept, SettingsKept, PlacesKept, SessionKept, has_ended, IsError, ShowsMemory, ShowsRegister, GoesBy, EndsBy, HasAction, HasLetter, HasSignal, HasNoSignal, BySignal, Resumes, Signals, GoesOnUnless, Acts, GoesOnOrStays}
+use Rattle.rrs_gdb.specs.Answers.{Moment, ShowsNone, HasSubject, Shows, Sets, BeginsBy, Here, There, Goes, ActsBy, Returns, Stays, Leaves, Means}
 use Rattle.rrs_gdb.specs.Shown.{registers_text}
 use Rattle.rrs_gdb.proofs.SessionLemmas.{BeginsAt, error_letter, goes_same, step_from, go_from, resumes_here, resumes_there, resumes_not, signals_here, signals_there, signals_nowhere, signals_not}
 
@@ -485,11 +484,9 @@ pub always : {A E : Type 0} (P : Type 0) (r : Result A E) → P → OnOk r P
 always P (Ok x) holds = holds
 always P (Err e) holds = tt
 
-pub is_done : {F : Type 0} (r : Result Bool F) (s t : State) (old new : List ℕ)
-    → IfOk r (λ changed. OnTrue changed (IsError old new → ⊥)) → IfOk r (λ changed. OnFalse changed (t ≡ s))
-    → IfOk r (λ changed. IsDone changed s t old new)
-is_done (Ok changed) s t old new error none = record { no_error = error; none = none }
-is_done (Err f) s t old new error none = tt
+pub no_such : {A F : Type 0} (r : Result A F) (P Q : Type 0) → OnOk r (P → ⊥) → OnOk r (P → Q)
+no_such (Ok x) P Q none = λ is. absurd (none is)
+no_such (Err f) P Q none = tt
 
 -- what is meant of an answer that is whole
 pub on_means : {A F Q : Type 0} (r : Result A F) (payload : List ℕ) (m n : Moment) → OnOk r (Means payload m n)
@@ -517,6 +514,16 @@ shows_p (Ok x) payload text s old new is same shown = record {
   memory = λ is'. absurd (omega (arith, is, is'));
 }
 shows_p (Err f) payload text s old new is same shown = tt
+
+pub shows_m : {A F : Type 0} (r : Result A F) (payload text : List ℕ) (s : State) (old new : List ℕ)
+    → letter payload ≡ 109 → text ≡ drop 1 payload → OnOk r (ShowsMemory text s old new)
+    → OnOk r (Shows payload s old new)
+shows_m (Ok x) payload text s old new is same shown = record {
+  registers = λ is'. absurd (omega (arith, is, ap (λ (xs : List ℕ). slice_index xs 0) is'));
+  register = λ is'. absurd (omega (arith, is, is'));
+  memory = λ _. subst (λ (xs : List ℕ). ShowsMemory xs s old new) same shown;
+}
+shows_m (Err f) payload text s old new is same shown = tt
 
 pub means_shown_ok : {A F : Type 0} (r : Result A F) (payload : List ℕ) (m n : Moment) → HasSubject payload Shown
     → n.state ≡ m.state → n.environment ≡ m.environment → SessionKept m.session n.session
@@ -573,50 +580,3 @@ means_breaks_ok (Ok x) payload text m n is same same' settings breaks told =
     means_breaks payload m n is same same' (λ error.
     kept_both m.session n.session settings (breaks (error_letter m.reply n.reply text told error)))
 means_breaks_ok (Err f) payload text m n is same same' settings breaks told = tt
-
--- what a packet changes, by its letter
-pub sets_G : {A F : Type 0} (r : Result A F) (payload text : List ℕ) (s t : State) (old new : List ℕ)
-    → letter payload ≡ 71 → text ≡ drop 1 payload → OnOk r (SetsRegisters text s t old new)
-    → OnOk r (Sets payload s t old new)
-sets_G (Ok x) payload text s t old new is same sets = record {
-  registers = λ _. subst (λ (xs : List ℕ). SetsRegisters xs s t old new) same sets;
-  register = λ is'. absurd (omega (arith, is, is'));
-  memory = λ is'. absurd (omega (arith, is, is'));
-  bytes = λ is'. absurd (omega (arith, is, is'));
-}
-sets_G (Err f) payload text s t old new is same sets = tt
-
-pub sets_P : {A F : Type 0} (r : Result A F) (payload text : List ℕ) (s t : State) (old new : List ℕ)
-    → letter payload ≡ 80 → text ≡ drop 1 payload → OnOk r (SetsRegister text s t old new)
-    → OnOk r (Sets payload s t old new)
-sets_P (Ok x) payload text s t old new is same sets = record {
-  registers = λ is'. absurd (omega (arith, is, is'));
-  register = λ _. subst (λ (xs : List ℕ). SetsRegister xs s t old new) same sets;
-  memory = λ is'. absurd (omega (arith, is, is'));
-  bytes = λ is'. absurd (omega (arith, is, is'));
-}
-sets_P (Err f) payload text s t old new is same sets = tt
-
-pub sets_M : {A F : Type 0} (r : Result A F) (payload text : List ℕ) (s t : State) (old new : List ℕ)
-    → letter payload ≡ 77 → text ≡ drop 1 payload
-    → OnOk r ((values : List ℕ) → decode_of (behind 58 text) ≡ Ok values → SetsMemory values text s t old new)
-    → OnOk r (Sets payload s t old new)
-sets_M (Ok x) payload text s t old new is same sets = record {
-  registers = λ is'. absurd (omega (arith, is, is'));
-  register = λ is'. absurd (omega (arith, is, is'));
-  memory = λ _. subst (λ (xs : List ℕ). (values : List ℕ) → decode_of (behind 58 xs) ≡ Ok values
-      → SetsMemory values xs s t old new) same sets;
-  bytes = λ is'. absurd (omega (arith, is, is'));
-}
-sets_M (Err f) payload text s t old new is same sets = tt
-
-pub sets_X : {A F : Type 0} (r : Result A F) (payload text : List ℕ) (s t : State) (old new : List ℕ)
-    → letter payload ≡ 88 → text ≡ drop 1 payload → OnOk r (SetsMemory (behind 58 text) text s t old new)
-    → OnOk r (Sets payload s t old new)
-sets_X (Ok x) payload text s t old new is same sets = record {
-  registers = λ is'. absurd (omega (arith, is, is'));
-  register = λ is'. absurd (omega (arith, is, is'));
-  memory = λ is'. absurd (omega (arith, is, is'));
-  bytes = λ _. subst (λ (xs : List ℕ). SetsMemory (behind 58 xs) xs s t old new) same sets;
-}
-sets_X (Err f) payload text s t old new is same sets = tt

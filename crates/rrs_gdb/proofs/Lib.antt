@@ -5,3 +5,4 @@ pub mod WatchLemmas
 pub mod SessionLemmas
 pub mod FieldLemmas
 pub mod AnswerLemmas
+pub mod ChangeLemmas

@@ -21,9 +21,7 @@ use Rattle.rrs_gdb.specs.declared.back.BackEnd.TheVariants as Back
 use Rattle.rrs_gdb.specs.Breaks.{GoesForward, GoesBack, IsPassed}
 use Rattle.rrs_gdb.specs.declared.state.Stop.{Stop}
 use Rattle.rrs_gdb.specs.Sessions.{GoesOnBack, RunsBack, Signals, BySignal, EndsBy, HasNoSignal, IsSignal, signalled}
-use Rattle.rrs_gdb.specs.Packets.{IsNumber, number, before, behind, address_in, length_in}
-use Rattle.rrs_gdb.specs.Sessions.{SetsBytes, SetsMemory}
-use Rattle.hex.specs.Hex.{decode_of, decode_pairs}
+use Rattle.rrs_gdb.specs.Packets.{IsNumber, number, before, behind}
 use Rattle.rrs_gdb.proofs.BreakLemmas.{none_stepped}
 use Rattle.rrs_gdb.proofs.WatchLemmas.{none_made}
 
@@ -344,29 +342,45 @@ back_to_call stops stops' watches watches' limit s before after t end same same'
     subst (λ (x : BackEnd). GoesBack stops watches limit s before after t x) call
     (same_back stops stops' watches watches' limit s before after t end same same' goes)
 
--- ---- memory that is changed
+-- ---- a program that is to go on, and has ended or not
 
--- no digits are no bytes
-pub nothing_decoded : (text values : List ℕ) → text ≡ [] → decode_of text ≡ Ok values → 1 ≤ length values → ⊥
-unfolding decode_pairs
-nothing_decoded text [] none is some = absurd (omega (arith, some))
-nothing_decoded text (v ∷ vs) none is some =
-    let empty : decode_of [] ≡ Ok (v ∷ vs) = subst (λ (xs : List ℕ). decode_of xs ≡ Ok (v ∷ vs)) none is in
-    cc
+pub goes_by_step : (going : Going) (stops : List ℕ) (watches : List Watch) (limit most : ℕ) (e e' : Recording)
+    (s t : State) → going ≡ Step → most ≡ 1 → GoesOn stops watches e' t most e s
+    → GoesBy going false stops watches limit e s e' t
+goes_by_step going stops watches limit most e e' s t is one goes =
+    subst (λ (g : Going). GoesBy g false stops watches limit e s e' t) (sym is)
+    (subst (λ (n : ℕ). GoesOn stops watches e' t n e s) one goes)
 
--- the bytes of digits are changed as they are
-pub sets_by_digits : {A F : Type 0} (r : Result A F) (text digits bytes : List ℕ) (address count : ℕ) (s t : State)
-    (old new : List ℕ) → address ≡ address_in (before 58 text) → count ≡ length_in (before 58 text)
-    → digits ≡ behind 58 text → decode_of digits ≡ Ok bytes
-    → OnOk r (length bytes ≡ count → 1 ≤ length bytes → SetsBytes address bytes s t old new)
-    → OnOk r ((values : List ℕ) → decode_of (behind 58 text) ≡ Ok values → SetsMemory values text s t old new)
-sets_by_digits (Ok x) text digits bytes address count s t old new at many same decoded sets = λ values is.
-    let both : Ok bytes ≡ Ok values = sym decoded ∙ ap decode_of same ∙ is in
-    let equal : bytes ≡ values = cc in
-    record {
-      set = λ place long one.
-          subst (λ (xs : List ℕ). SetsBytes (address_in (before 58 text)) xs s t old new) equal
-          (subst (λ (a : ℕ). SetsBytes a bytes s t old new) at
-          (sets (ap length equal ∙ long ∙ sym many) (subst (λ (xs : List ℕ). 1 ≤ length xs) (sym equal) one)));
-    }
-sets_by_digits (Err e) text digits bytes address count s t old new at many same decoded sets = tt
+pub goes_by_limit : (going : Going) (stops : List ℕ) (watches : List Watch) (limit most : ℕ) (e e' : Recording)
+    (s t : State) → going ≡ Proceed → most ≡ limit → GoesOn stops watches e' t most e s
+    → GoesBy going false stops watches limit e s e' t
+goes_by_limit going stops watches limit most e e' s t is all goes =
+    subst (λ (g : Going). GoesBy g false stops watches limit e s e' t) (sym is)
+    (subst (λ (n : ℕ). GoesOn stops watches e' t n e s) all goes)
+
+stays_so : (going : Going) (stops : List ℕ) (watches : List Watch) (limit : ℕ) (e : Recording) (s : State)
+    → GoesBy going true stops watches limit e s e s
+stays_so Step stops watches limit e s = (refl, refl)
+stays_so Proceed stops watches limit e s = (refl, refl)
+stays_so (Killed signal) stops watches limit e s = (refl, refl)
+
+pub stays : {A F : Type 0} (r : Result A F) (going : Going) (ended : Bool) (stops : List ℕ) (watches : List Watch)
+    (limit : ℕ) (e : Recording) (s : State) → ended ≡ true → OnOk r (GoesBy going ended stops watches limit e s e s)
+stays (Ok x) going ended stops watches limit e s is =
+    subst (λ (b : Bool). GoesBy going b stops watches limit e s e s) (sym is) (stays_so going stops watches limit e s)
+stays (Err f) going ended stops watches limit e s is = tt
+
+stops_so : (going : Going) (at : Stop) → EndsBy going true at
+stops_so Step at = tt
+stops_so Proceed at = tt
+stops_so (Killed signal) at = tt
+
+pub stays_stopped : {A F : Type 0} (r : Result A F) (going : Going) (ended : Bool) (at : Stop) → ended ≡ true
+    → OnOk r (EndsBy going ended at)
+stays_stopped (Ok x) going ended at is = subst (λ (b : Bool). EndsBy going b at) (sym is) (stops_so going at)
+stays_stopped (Err f) going ended at is = tt
+
+pub not_ended : {A F : Type 0} (r : Result A F) (P : Bool → Type 0) (ended : Bool) → ended ≡ false → P false
+    → OnOk r (P ended)
+not_ended (Ok x) P ended is holds = subst P (sym is) holds
+not_ended (Err f) P ended is holds = tt

@@ -123,26 +123,33 @@ fn change_registers<M: Memory>(
     }
 }
 
-/// `G`.
+/// The answer of a change that is done, or can't be, behind whether it is.
+fn outcome_of(is_done: bool, error: &'static [u8]) -> (bool, &'static [u8])
+    requires { slice_index error.now 0 ≡ 69 }
+    ensures same { result.0 ≡ is_done }
+    ensures done { OnTrue is_done (IsError [] result.1.now → ⊥) }
+    ensures refused { OnFalse is_done (IsError [] result.1.now) }
+{
+    (is_done, if is_done { b"OK" } else { error })
+}
+
+/// `G`: whether the machine is changed, and the answer.
 fn set_registers<M: Memory>(
     alloc: Global,
     executor: &mut InstructionExecutor<M>,
-    reply: &mut Vec<u8>,
     digits: &[u8],
-) -> Result<bool, AllocError>
+) -> Result<(bool, &'static [u8]), AllocError>
     ensures kept { MemoryKept (state_in M.bytes M.writable executor.old)
         (state_in M.bytes M.writable executor.new) }
-    ensures none { IfOk result (λ changed. OnFalse changed
-        (state_in M.bytes M.writable executor.new ≡ state_in M.bytes M.writable executor.old)) }
-    ensures error { IfOk result (λ changed. OnTrue changed
-        (IsError reply.old.items reply.new.items → ⊥)) }
-    ensures set { OnOk result (SetsRegisters digits.now
+    ensures done { IfOk result (λ outcome. IsDone outcome.0
         (state_in M.bytes M.writable executor.old) (state_in M.bytes M.writable executor.new)
-        reply.old.items reply.new.items) }
+        [] outcome.1.now) }
+    ensures set { IfOk result (λ outcome. SetsRegisters digits.now
+        (state_in M.bytes M.writable executor.old) (state_in M.bytes M.writable executor.new)
+        [] outcome.1.now) }
 {
     let is_changed = change_registers(alloc, executor, digits)?;
-    push_done(reply, is_changed, INVALID)?;
-    Ok(is_changed)
+    Ok(outcome_of(is_changed, INVALID))
 }
 
 /// Appends that a packet can't be understood.
@@ -209,25 +216,21 @@ fn change_register<M: Memory>(executor: &mut InstructionExecutor<M>, text: &[u8]
     }
 }
 
-/// `P`.
+/// `P`: whether the machine is changed, and the answer.
 fn set_register<M: Memory>(
     executor: &mut InstructionExecutor<M>,
-    reply: &mut Vec<u8>,
     text: &[u8],
-) -> Result<bool, AllocError>
+) -> (bool, &'static [u8])
     ensures kept { MemoryKept (state_in M.bytes M.writable executor.old)
         (state_in M.bytes M.writable executor.new) }
-    ensures none { IfOk result (λ changed. OnFalse changed
-        (state_in M.bytes M.writable executor.new ≡ state_in M.bytes M.writable executor.old)) }
-    ensures error { IfOk result (λ changed. OnTrue changed
-        (IsError reply.old.items reply.new.items → ⊥)) }
-    ensures set { OnOk result (SetsRegister text.now
+    ensures done { IsDone result.0 (state_in M.bytes M.writable executor.old)
+        (state_in M.bytes M.writable executor.new) [] result.1.now }
+    ensures set { SetsRegister text.now
         (state_in M.bytes M.writable executor.old) (state_in M.bytes M.writable executor.new)
-        reply.old.items reply.new.items) }
+        [] result.1.now }
 {
     let is_changed = change_register(executor, text);
-    push_done(reply, is_changed, INVALID)?;
-    Ok(is_changed)
+    outcome_of(is_changed, INVALID)
 }
 
 /// Shows so many bytes from an address on.
@@ -268,89 +271,75 @@ fn show_memory<M: Memory>(
     }
 }
 
-/// `M` and `X`: changes memory to bytes, of which there are to be so many.
+/// `M` and `X`: changes memory to bytes, of which there are to be so many. The answer is whether it
+/// is changed, and what is told.
 fn change_memory<M: Memory>(
     executor: &mut InstructionExecutor<M>,
-    reply: &mut Vec<u8>,
     address: u32,
     count: u32,
     bytes: &[u8],
-) -> Result<bool, AllocError>
+) -> (bool, &'static [u8])
     ensures kept { RegistersKept (state_in M.bytes M.writable executor.old)
         (state_in M.bytes M.writable executor.new) }
-    ensures none { IfOk result (λ changed. OnFalse changed
-        (state_in M.bytes M.writable executor.new ≡ state_in M.bytes M.writable executor.old)) }
-    ensures error { IfOk result (λ changed. OnTrue changed
-        (IsError reply.old.items reply.new.items → ⊥)) }
-    ensures set { OnOk result (length bytes.now ≡ count → 1 ≤ length bytes.now
+    ensures done { IsDone result.0 (state_in M.bytes M.writable executor.old)
+        (state_in M.bytes M.writable executor.new) [] result.1.now }
+    ensures set { length bytes.now ≡ count → 1 ≤ length bytes.now
         → SetsBytes address bytes.now (state_in M.bytes M.writable executor.old)
-        (state_in M.bytes M.writable executor.new) reply.old.items reply.new.items) }
+        (state_in M.bytes M.writable executor.new) [] result.1.now }
 {
     if bytes.len() != count as usize {
-        push_text(reply, INVALID)?;
-        return Ok(false);
+        return (false, INVALID);
     }
     if bytes.is_empty() {
-        push_text(reply, b"OK")?;
-        return Ok(false);
+        return (false, b"OK");
     }
     let is_done = write_memory(executor.mem, address, bytes);
-    push_done(reply, is_done, BAD_ADDRESS)?;
-    Ok(is_done)
+    outcome_of(is_done, BAD_ADDRESS)
 }
 
-/// `M`.
+/// `M`: whether the machine is changed, and the answer.
 fn change_by_digits<M: Memory>(
     alloc: Global,
     executor: &mut InstructionExecutor<M>,
-    reply: &mut Vec<u8>,
     text: &[u8],
-) -> Result<bool, AllocError>
+) -> Result<(bool, &'static [u8]), AllocError>
     ensures kept { RegistersKept (state_in M.bytes M.writable executor.old)
         (state_in M.bytes M.writable executor.new) }
-    ensures none { IfOk result (λ changed. OnFalse changed
-        (state_in M.bytes M.writable executor.new ≡ state_in M.bytes M.writable executor.old)) }
-    ensures error { IfOk result (λ changed. OnTrue changed
-        (IsError reply.old.items reply.new.items → ⊥)) }
-    ensures set { OnOk result ((values : List ℕ) → decode_of (behind 58 text.now) ≡ Ok values
+    ensures done { IfOk result (λ outcome. IsDone outcome.0
+        (state_in M.bytes M.writable executor.old) (state_in M.bytes M.writable executor.new)
+        [] outcome.1.now) }
+    ensures set { IfOk result (λ outcome. (values : List ℕ)
+        → decode_of (behind 58 text.now) ≡ Ok values
         → SetsMemory values text.now (state_in M.bytes M.writable executor.old)
-        (state_in M.bytes M.writable executor.new) reply.old.items reply.new.items) }
+        (state_in M.bytes M.writable executor.new) [] outcome.1.now) }
 {
     let Some((address, length, digits)) = place_and_bytes(text) else {
-        push_text(reply, INVALID)?;
-        return Ok(false);
+        return Ok((false, INVALID));
     };
     match hex::decode(alloc, digits) {
-        Ok(bytes) => change_memory(executor, reply, address, length, &bytes),
+        Ok(bytes) => Ok(change_memory(executor, address, length, &bytes)),
         Err(FromHexError::OutOfMemory) => Err(AllocError),
-        Err(_) => {
-            push_text(reply, INVALID)?;
-            Ok(false)
-        }
+        Err(_) => Ok((false, INVALID)),
     }
 }
 
-/// `X`.
+/// `X`: whether the machine is changed, and the answer.
 fn change_by_bytes<M: Memory>(
     executor: &mut InstructionExecutor<M>,
-    reply: &mut Vec<u8>,
     text: &[u8],
-) -> Result<bool, AllocError>
+) -> (bool, &'static [u8])
     ensures kept { RegistersKept (state_in M.bytes M.writable executor.old)
         (state_in M.bytes M.writable executor.new) }
-    ensures none { IfOk result (λ changed. OnFalse changed
-        (state_in M.bytes M.writable executor.new ≡ state_in M.bytes M.writable executor.old)) }
-    ensures error { IfOk result (λ changed. OnTrue changed
-        (IsError reply.old.items reply.new.items → ⊥)) }
-    ensures set { OnOk result (SetsMemory (behind 58 text.now) text.now
+    ensures done { IsDone result.0 (state_in M.bytes M.writable executor.old)
+        (state_in M.bytes M.writable executor.new) [] result.1.now }
+    ensures set { SetsMemory (behind 58 text.now) text.now
         (state_in M.bytes M.writable executor.old) (state_in M.bytes M.writable executor.new)
-        reply.old.items reply.new.items) }
+        [] result.1.now }
 {
-    let Some((address, length, bytes)) = place_and_bytes(text) else {
-        push_text(reply, INVALID)?;
-        return Ok(false);
-    };
-    change_memory(executor, reply, address, length, bytes)
+    match place_and_bytes(text) {
+        Some((address, length, bytes)) => change_memory(executor, address, length, bytes),
+        None => (false, INVALID),
+    }
 }
 
 /// `g`, `p` and `m`: shows the machine.
@@ -373,32 +362,32 @@ fn show<M: Memory>(
     }
 }
 
-/// `G`, `P`, `M` and `X`: changes the machine, and tells whether it is changed.
+/// `G`, `P`, `M` and `X`: changes the machine. The answer is whether it is changed, and what is
+/// told.
 fn change<M: Memory>(
     alloc: Global,
     executor: &mut InstructionExecutor<M>,
-    reply: &mut Vec<u8>,
     payload: &[u8],
-) -> Result<bool, AllocError>
+) -> Result<(bool, &'static [u8]), AllocError>
     ensures registers { ChangesRegister payload.now
         → MemoryKept (state_in M.bytes M.writable executor.old)
         (state_in M.bytes M.writable executor.new) }
     ensures memory { ChangesMemory payload.now
         → RegistersKept (state_in M.bytes M.writable executor.old)
         (state_in M.bytes M.writable executor.new) }
-    ensures done { IfOk result (λ changed. IsDone changed
+    ensures done { IfOk result (λ outcome. IsDone outcome.0
         (state_in M.bytes M.writable executor.old) (state_in M.bytes M.writable executor.new)
-        reply.old.items reply.new.items) }
-    ensures sets { OnOk result (Sets payload.now
+        [] outcome.1.now) }
+    ensures sets { IfOk result (λ outcome. Sets payload.now
         (state_in M.bytes M.writable executor.old) (state_in M.bytes M.writable executor.new)
-        reply.old.items reply.new.items) }
+        [] outcome.1.now) }
 {
     match payload {
-        [b'G', digits @ ..] => set_registers(alloc, executor, reply, digits),
-        [b'P', text @ ..] => set_register(executor, reply, text),
-        [b'M', text @ ..] => change_by_digits(alloc, executor, reply, text),
-        [b'X', text @ ..] => change_by_bytes(executor, reply, text),
-        _ => Ok(false),
+        [b'G', digits @ ..] => set_registers(alloc, executor, digits),
+        [b'P', text @ ..] => Ok(set_register(executor, text)),
+        [b'M', text @ ..] => change_by_digits(alloc, executor, text),
+        [b'X', text @ ..] => Ok(change_by_bytes(executor, text)),
+        _ => Ok((false, b"")),
     }
 }
 
@@ -424,7 +413,9 @@ fn alter<M: Memory>(
         → (state_in M.bytes M.writable executor.new ≡ state_in M.bytes M.writable executor.old)
         × SessionKept state.old state.new) }
 {
-    if !change(alloc, executor, reply, payload)? {
+    let (is_changed, answer) = change(alloc, executor, payload)?;
+    push_text(reply, answer)?;
+    if !is_changed {
         return Ok(());
     }
     state.forget();

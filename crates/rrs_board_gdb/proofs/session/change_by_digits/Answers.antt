@@ -1,7 +1,8 @@
 -- The bytes that the digits are.
 use Rattle.std.proofs.Common.{◌≡◌, Ok, rules}
 use Rattle.hex.specs.Hex.{decode_of}
-use Rattle.rrs_gdb.proofs.SessionLemmas.{nothing_decoded, sets_by_digits}
+use Rattle.rrs_gdb.proofs.ChangeLemmas.{nothing_decoded}
+use Rattle.rrs_board_gdb.proofs.AnswerLemmas.{sets_by_digits}
 use Rattle.rrs_board_gdb.proofs.session.change_by_digits.Goals as goal
 
 pub returns-in_default-clause-set : goal.returns-in_default-clause-set
