@@ -19,9 +19,9 @@ use rrs_linux::OutputRecorder;
 use std::io::{Read, Write};
 
 /// gdb's number of the signal of a stop by gdb itself: a limit that is reached.
-const INTERRUPTED: u8 = 2;
+pub(crate) const INTERRUPTED: u8 = 2;
 /// gdb's number of the signal of a breakpoint, and of a step.
-const TRAPPED: u8 = 5;
+pub(crate) const TRAPPED: u8 = 5;
 /// The number of `exit`.
 const EXIT: u32 = 93;
 /// The number of `exit_group`.
@@ -167,7 +167,7 @@ fn stop_of(reason: &ForwardReason, at_limit: Stop) -> Stop {
 }
 
 /// Goes forward, to a stop or for `limit` steps, each call that is served being one.
-fn forward<M: Memory, G: StopRunner<M>, R: Read, W: Write>(
+pub(crate) fn forward<M: Memory, G: StopRunner<M>, R: Read, W: Write>(
     runner: &mut G,
     state: &mut SessionState<'_>,
     executor: &mut InstructionExecutor<M>,
@@ -207,61 +207,6 @@ fn forward<M: Memory, G: StopRunner<M>, R: Read, W: Write>(
     Ok(at_limit)
 }
 
-/// `s`: a step, or a call.
-pub(crate) fn step<M: Memory, G: StopRunner<M>, R: Read, W: Write>(
-    runner: &mut G,
-    state: &mut SessionState<'_>,
-    executor: &mut InstructionExecutor<M>,
-    environment: &mut OutputRecorder<'_>,
-    link: &mut Link<R, W>,
-) -> Result<(), LinkError>
-    ensures places { PlacesKept state.old state.new }
-    ensures goes_on { OnOk result (GoesOn state.old.breaks.stops.items
-        state.old.breaks.watches.items
-        environment.new (state_in M.bytes M.writable executor.new)
-        1 environment.old (state_in M.bytes M.writable executor.old)) }
-{
-    let stop = forward(
-        runner,
-        state,
-        executor,
-        environment,
-        link,
-        1,
-        Stop::Signal(TRAPPED),
-    )?;
-    state.stop = stop;
-    Ok(())
-}
-
-/// `c`: to a stop.
-pub(crate) fn proceed<M: Memory, G: StopRunner<M>, R: Read, W: Write>(
-    runner: &mut G,
-    state: &mut SessionState<'_>,
-    executor: &mut InstructionExecutor<M>,
-    environment: &mut OutputRecorder<'_>,
-    link: &mut Link<R, W>,
-) -> Result<(), LinkError>
-    ensures places { PlacesKept state.old state.new }
-    ensures goes_on { OnOk result (GoesOn state.old.breaks.stops.items
-        state.old.breaks.watches.items
-        environment.new (state_in M.bytes M.writable executor.new)
-        state.old.settings.limit environment.old (state_in M.bytes M.writable executor.old)) }
-{
-    let limit = state.settings.limit;
-    let stop = forward(
-        runner,
-        state,
-        executor,
-        environment,
-        link,
-        limit,
-        Stop::Signal(INTERRUPTED),
-    )?;
-    state.stop = stop;
-    Ok(())
-}
-
 /// Gives the environment what it had before the call that was taken back.
 fn take_call_back<'a>(state: &mut SessionState<'a>, environment: &mut OutputRecorder<'a>)
     ensures places { PlacesKept state.old state.new }
@@ -298,7 +243,7 @@ fn stop_back(end: &BackEnd) -> Stop {
 }
 
 /// Goes back, to a stop or for `limit` steps, each call being one.
-fn backward<'a, M: Memory>(
+pub(crate) fn backward<'a, M: Memory>(
     state: &mut SessionState<'a>,
     executor: &mut InstructionExecutor<M>,
     environment: &mut OutputRecorder<'a>,
@@ -324,34 +269,4 @@ fn backward<'a, M: Memory>(
         left -= 1;
     }
     Stop::Signal(TRAPPED)
-}
-
-/// `bs`: a step back, or a call.
-pub(crate) fn step_backward<'a, M: Memory>(
-    state: &mut SessionState<'a>,
-    executor: &mut InstructionExecutor<M>,
-    environment: &mut OutputRecorder<'a>,
-)
-    ensures places { PlacesKept state.old state.new }
-    ensures back { SessionGoesBack 1
-        state.old environment.old (state_in M.bytes M.writable executor.old)
-        state.new environment.new (state_in M.bytes M.writable executor.new) }
-{
-    let stop = backward(state, executor, environment, 1);
-    state.stop = stop;
-}
-
-/// `bc`: back to a stop.
-pub(crate) fn go_backward<'a, M: Memory>(
-    state: &mut SessionState<'a>,
-    executor: &mut InstructionExecutor<M>,
-    environment: &mut OutputRecorder<'a>,
-)
-    ensures places { PlacesKept state.old state.new }
-    ensures back { SessionGoesBack (2 ^ 64 - 1)
-        state.old environment.old (state_in M.bytes M.writable executor.old)
-        state.new environment.new (state_in M.bytes M.writable executor.new) }
-{
-    let stop = backward(state, executor, environment, u64::MAX);
-    state.stop = stop;
 }

@@ -1,6 +1,6 @@
 //! The packets of a session, and their answers.
 
-ghost use Rattle.std.specs.Prelude.{◌≡◌, ◌≢◌, ◌⊎◌, ◌∷◌, ◌++◌, [], ℕ, ◌<◌, ◌≤◌, ◌-◌, ◌^◌, Bool, List, Ok, IsOk, IsTrue, IfOk, IfSome, IfNone, MatchOption, OnOk, drop, length, slice_index};
+ghost use Rattle.std.specs.Prelude.{◌≡◌, ◌≢◌, ◌⊎◌, ◌∷◌, ◌++◌, [], ℕ, ◌<◌, ◌≤◌, ◌-◌, ◌^◌, Bool, List, Ok, Some, IsOk, IsTrue, IfOk, IfSome, IfNone, MatchOption, OnOk, drop, length, slice_index};
 ghost use Rattle.std.specs.Bool.{OnTrue, OnFalse};
 ghost use Rattle.hex.specs.Hex.{decode_of, decode_sized};
 ghost use Rattle.rrs_lib.specs.Bytes.{ByteMap};
@@ -19,7 +19,7 @@ use crate::link::{Link, LinkError, Received};
 use crate::numbers::{address_and_length, behind, cut, cut_or_all, number_of, place_and_bytes};
 use crate::queries::{BAD_ADDRESS, INVALID, NO_MEMORY, catch_calls, query};
 use crate::registers::{push_register, push_registers, word_at, write_register, write_registers};
-use crate::resume::{go_backward, proceed, step, step_backward};
+use crate::resume::{INTERRUPTED, TRAPPED, backward, forward};
 use crate::runner::StopRunner;
 use crate::state::{SessionState, Stop, push_stop, push_text};
 use hex::{FromHex, FromHexError};
@@ -53,7 +53,7 @@ pub enum Next {
 }
 
 /// How the program is to go on.
-#[derive(Clone, Copy, Debug, PartialEq)]
+#[derive(Clone, Copy)]
 enum Going {
     /// By a step.
     Step,
@@ -512,6 +512,14 @@ fn signal_and_rest(text: &[u8], going: Going) -> Option<(Going, &[u8])>
     })
 }
 
+/// Appends where the program stopped.
+fn tell_stop(alloc: Global, reply: &mut Vec<u8>, stop: Stop) -> Result<Next, LinkError>
+    ensures { OnOk result (IsError reply.old.items reply.new.items → ⊥) }
+{
+    push_stop(alloc, reply, stop)?;
+    Ok(Next::Reply)
+}
+
 /// Has the program go on, and appends where it stops.
 fn go<M: Memory, G: StopRunner<M>, R: Read, W: Write>(
     runner: &mut G,
@@ -530,15 +538,20 @@ fn go<M: Memory, G: StopRunner<M>, R: Read, W: Write>(
     ensures killed { OnOk result (EndsBy going (has_ended state.old) state.new.stop) }
     ensures error { OnOk result (IsError reply.old.items reply.new.items → ⊥) }
 {
-    if !state.has_ended() {
-        match going {
-            Going::Step => step(runner, state, executor, environment, link)?,
-            Going::Proceed => proceed(runner, state, executor, environment, link)?,
-            Going::Killed(signal) => state.stop = Stop::Killed(signal),
-        }
+    if state.has_ended() {
+        return tell_stop(link.alloc, reply, state.stop);
     }
-    push_stop(link.alloc, reply, state.stop)?;
-    Ok(Next::Reply)
+    let (limit, at_limit) = match going {
+        Going::Step => (1, Stop::Signal(TRAPPED)),
+        Going::Proceed => (state.settings.limit, Stop::Signal(INTERRUPTED)),
+        Going::Killed(signal) => {
+            state.stop = Stop::Killed(signal);
+            return tell_stop(link.alloc, reply, state.stop);
+        }
+    };
+    let stop = forward(runner, state, executor, environment, link, limit, at_limit)?;
+    state.stop = stop;
+    tell_stop(link.alloc, reply, stop)
 }
 
 /// Answers that a packet can't be understood.
@@ -748,6 +761,18 @@ fn set<R, W>(
     Ok(())
 }
 
+/// The most steps by which a packet has the program go back.
+fn steps_back(payload: &[u8]) -> Option<u64>
+    ensures step { payload.now ≡ 98 ∷ 115 ∷ [] → result ≡ Some 1 }
+    ensures goes_back { payload.now ≡ 98 ∷ 99 ∷ [] → result ≡ Some (2 ^ 64 - 1) }
+{
+    match payload {
+        b"bs" => Some(1),
+        b"bc" => Some(u64::MAX),
+        _ => None,
+    }
+}
+
 /// Answers a packet by which the program goes back.
 fn reverse<'a, M: Memory>(
     alloc: Global,
@@ -766,12 +791,12 @@ fn reverse<'a, M: Memory>(
         state.old environment.old (state_in M.bytes M.writable executor.old)
         state.new environment.new (state_in M.bytes M.writable executor.new) }
 {
-    match payload {
-        b"bs" => step_backward(state, executor, environment),
-        b"bc" => go_backward(state, executor, environment),
-        _ => return Ok(()),
-    }
-    push_stop(alloc, reply, state.stop)
+    let Some(limit) = steps_back(payload) else {
+        return Ok(());
+    };
+    let stop = backward(state, executor, environment, limit);
+    state.stop = stop;
+    push_stop(alloc, reply, stop)
 }
 
 /// Answers a packet that is about the session alone.

@@ -34,7 +34,7 @@ impl Settings {
 }
 
 /// Where a program stopped, and why.
-#[derive(Clone, Copy, Debug, PartialEq)]
+#[derive(Clone, Copy)]
 pub(crate) enum Stop {
     /// By a signal, with gdb's number.
     Signal(u8),
