@@ -649,19 +649,27 @@ fn go_on<M: Memory, G: StopRunner<M>, R: Read, W: Write>(
     }
 }
 
+/// An argument of `vRun`, by its digits.
+fn argument_of(alloc: Global, digits: &[u8]) -> Result<Option<String>, AllocError> {
+    let Ok(bytes) = hex::decode(alloc, digits) else {
+        return Ok(None);
+    };
+    match str::from_utf8(&bytes) {
+        Ok(argument) => Ok(Some(String::from_str(alloc, argument)?)),
+        Err(_) => Ok(None),
+    }
+}
+
 /// The arguments of `vRun`, behind the program's name: digits, with semicolons between.
 fn arguments_of(alloc: Global, text: &[u8]) -> Result<Option<Vec<String>>, AllocError> {
     let mut arguments = Vec::new(alloc);
     let mut rest = text;
     'arguments: while !rest.is_empty() {
         let (digits, others) = cut_or_all(rest, b';');
-        let Ok(bytes) = hex::decode(alloc, digits) else {
+        let Some(argument) = argument_of(alloc, digits)? else {
             return Ok(None);
         };
-        let Ok(argument) = str::from_utf8(&bytes) else {
-            return Ok(None);
-        };
-        arguments.push(String::from_str(alloc, argument)?)?;
+        arguments.push(argument)?;
         rest = others;
     }
     Ok(Some(arguments))
@@ -699,16 +707,24 @@ fn ask(
     if let Some(words) = behind(payload, b"vRun;") {
         return run_again(alloc, state, reply, words);
     }
+    let is_kill = behind(payload, b"vKill").is_some();
+    push_text(reply, told_of(payload, is_kill))?;
+    Ok(if is_kill && !state.is_extended {
+        Next::ReplyAndEnd
+    } else {
+        Next::Reply
+    })
+}
+
+/// What is told of `vKill` and `vCont?`.
+fn told_of(payload: &[u8], is_kill: bool) -> &'static [u8] {
+    if is_kill {
+        return b"OK";
+    }
     if payload == b"vCont?".as_slice() {
-        push_text(reply, b"vCont;c;C;s;S")?;
+        return b"vCont;c;C;s;S";
     }
-    if behind(payload, b"vKill").is_some() {
-        push_text(reply, b"OK")?;
-        if !state.is_extended {
-            return Ok(Next::ReplyAndEnd);
-        }
-    }
-    Ok(Next::Reply)
+    b""
 }
 
 /// Answers a packet that begins with `v`.
@@ -799,6 +815,16 @@ fn reverse<'a, M: Memory>(
     push_stop(alloc, reply, stop)
 }
 
+/// What follows a packet that is about the session alone.
+fn next_behind(payload: &[u8]) -> Next {
+    match payload {
+        [b'D', ..] => Next::ReplyAndEnd,
+        [b'k'] => Next::End,
+        [b'R', ..] => Next::Restart,
+        _ => Next::Reply,
+    }
+}
+
 /// Answers a packet that is about the session alone.
 fn manage<R, W>(
     state: &mut SessionState<'_>,
@@ -808,23 +834,14 @@ fn manage<R, W>(
 ) -> Result<Next, AllocError>
     ensures { SessionKept state.old state.new }
 {
+    state.is_extended |= payload == b"!".as_slice();
     match payload {
         [b'?'] => push_stop(link.alloc, reply, state.stop)?,
-        [b'!'] => {
-            state.is_extended = true;
-            push_text(reply, b"OK")?;
-        }
-        [b'H' | b'T', ..] => push_text(reply, b"OK")?,
+        [b'!'] | [b'H' | b'T' | b'D', ..] => push_text(reply, b"OK")?,
         [b'Q', text @ ..] => set(state, link, reply, text)?,
-        [b'D', ..] => {
-            push_text(reply, b"OK")?;
-            return Ok(Next::ReplyAndEnd);
-        }
-        [b'k'] => return Ok(Next::End),
-        [b'R', ..] => return Ok(Next::Restart),
         _ => {}
     }
-    Ok(Next::Reply)
+    Ok(next_behind(payload))
 }
 
 /// What a packet is about.
@@ -999,6 +1016,20 @@ pub fn answer_to<'a, M: Memory, G: StopRunner<M>, R: Read, W: Write>(
     answer_by_subject(runner, state, executor, environment, link, reply, payload)
 }
 
+/// Whether a packet has an answer.
+fn has_answer(next: Next) -> bool {
+    matches!(next, Next::Reply | Next::ReplyAndEnd)
+}
+
+/// How the session ends behind a packet, if it does.
+fn end_of(next: Next) -> Option<SessionEnd> {
+    match next {
+        Next::Reply => None,
+        Next::ReplyAndEnd | Next::End => Some(SessionEnd::Ended),
+        Next::Restart => Some(SessionEnd::Restart),
+    }
+}
+
 /// Answers a packet, and tells how the session ends, if it does.
 fn answer<'a, M: Memory, G: StopRunner<M>, R: Read, W: Write>(
     runner: &mut G,
@@ -1018,14 +1049,36 @@ fn answer<'a, M: Memory, G: StopRunner<M>, R: Read, W: Write>(
         &mut reply,
         payload,
     )?;
-    if matches!(next, Next::Reply | Next::ReplyAndEnd) {
+    if has_answer(next) {
         link.send(&reply)?;
     }
-    Ok(match next {
-        Next::Reply => None,
-        Next::ReplyAndEnd | Next::End => Some(SessionEnd::Ended),
-        Next::Restart => Some(SessionEnd::Restart),
-    })
+    Ok(end_of(next))
+}
+
+/// The payload of the next packet, if there is one. A packet that is no good is answered by an error.
+fn next_payload<R: Read, W: Write>(link: &mut Link<R, W>) -> Result<Option<Vec<u8>>, LinkError> {
+    for _ in 0..u64::MAX {
+        match link.receive()? {
+            Received::Packet(payload) => return Ok(Some(payload)),
+            Received::Bad => link.send(INVALID)?,
+            Received::End => return Ok(None),
+        }
+    }
+    Ok(None)
+}
+
+/// Tells where the program stopped, if gdb waits for that.
+fn send_stop<R: Read, W: Write>(
+    state: &mut SessionState<'_>,
+    link: &mut Link<R, W>,
+) -> Result<(), LinkError> {
+    if !state.owes_stop {
+        return Ok(());
+    }
+    state.owes_stop = false;
+    let mut reply = Vec::new(link.alloc);
+    push_stop(link.alloc, &mut reply, state.stop)?;
+    link.send(&reply)
 }
 
 /// Answers the packets that gdb sends, until it ends the session or the program is to begin again.
@@ -1040,21 +1093,13 @@ pub fn serve<'a, M: Memory, G: StopRunner<M>, R: Read, W: Write>(
     environment: &mut OutputRecorder<'a>,
     link: &mut Link<R, W>,
 ) -> Result<SessionEnd, LinkError> {
-    if state.owes_stop {
-        state.owes_stop = false;
-        let mut reply = Vec::new(link.alloc);
-        push_stop(link.alloc, &mut reply, state.stop)?;
-        link.send(&reply)?;
-    }
+    send_stop(state, link)?;
     for _ in 0..u64::MAX {
-        match link.receive()? {
-            Received::End => return Ok(SessionEnd::Ended),
-            Received::Bad => link.send(INVALID)?,
-            Received::Packet(payload) => {
-                if let Some(end) = answer(runner, state, executor, environment, link, &payload)? {
-                    return Ok(end);
-                }
-            }
+        let Some(payload) = next_payload(link)? else {
+            return Ok(SessionEnd::Ended);
+        };
+        if let Some(end) = answer(runner, state, executor, environment, link, &payload)? {
+            return Ok(end);
         }
     }
     Ok(SessionEnd::Ended)
