@@ -1,10 +1,12 @@
 -- Words one after another, and a byte of a memory.
-use Rattle.std.proofs.Common.{◌≡◌, ℕ, ◌+◌, ◌<◌, ◌%◌, ◌/◌, ◌^◌, ◌-◌, List, [], ◌∷◌, ◌++◌, Option, Some, None, Bool, true, false, refl, sym, ap, ◌∙◌, append_assoc, append-nil, arith}
+use Rattle.std.proofs.Common.{◌≡◌, ℕ, ◌+◌, ◌<◌, ◌%◌, ◌/◌, ◌^◌, ◌-◌, List, [], ◌∷◌, ◌++◌, Option, Some, None, Bool, true, false, refl, sym, ap, ◌∙◌, append_assoc, append-nil, length, slice_index, arith}
 use Rattle.std.specs.Bool.{OnTrue, OnFalse}
 use Rattle.rrs_lib.specs.Bytes.{ByteMap, little_endian, sum_if_both, at_place, store}
 use Rattle.rrs_lib.proofs.ByteLemmas.{store_by}
 use Rattle.rrs_gdb.specs.Packets.{digits_of}
-use Rattle.rrs_gdb.specs.Shown.{text_of, word_bytes, words_text}
+use Rattle.rrs_gdb.specs.Shown.{HasBytes, text_of, word_bytes, words_text}
+use Rattle.std.proofs.lemmas.List.{get_or_append_left, get_or_push, length_push}
+use borrow.Author.Count.{below_more}
 
 pub words_text-append : (xs ys : List ℕ) → words_text (xs ++ ys) ≡ words_text xs ++ words_text ys
 words_text-append [] ys = refl
@@ -34,6 +36,23 @@ pub byte_read : (bytes mid : ByteMap) (a : ℕ) (answer : Option ℕ) → mid �
 byte_read bytes mid a answer kept value =
     let here : a + 0 ≡ a = omega arith in
     value ∙ first_place (mid (a + 0)) ∙ ap mid here ∙ ap (λ f. f a) kept
+
+-- the bytes that were read, and the next one
+pub byte_more : (bytes : ByteMap) (a i : ℕ) (values new : List ℕ) (byte : ℕ) → HasBytes bytes a values
+    → length values ≡ i → bytes (a + i) ≡ Some byte → new ≡ values ++ byte ∷ []
+    → HasBytes bytes a new × (length new ≡ i + 1)
+byte_more bytes a i values new byte has long there is =
+    let longer : length new ≡ i + 1 = omega (arith, ap length is, length_push values byte, long) in
+    let before : (k : ℕ) → k < i → bytes (a + k) ≡ Some (slice_index new k) = λ k below.
+    has k (omega (arith, below, long))
+    ∙ ap Some (sym (ap (λ (xs : List ℕ). slice_index xs k) is
+    ∙ get_or_append_left values (byte ∷ []) 0 k (omega (arith, below, long)))) in
+    let here : bytes (a + i) ≡ Some (slice_index new i) =
+    there ∙ ap Some (sym (ap (λ (xs : List ℕ). slice_index xs i) is ∙ get_or_push values byte 0 i long)) in (
+      λ k below. below_more (λ (j : ℕ). bytes (a + j) ≡ Some (slice_index new j)) i before here k
+          (omega (arith, below, longer)),
+      longer,
+    )
 
 -- a byte that is written as it is
 pub byte_kept : (bytes : ByteMap) (a v : ℕ) → v < 256 → bytes a ≡ Some v → store bytes a 1 v ≡ bytes

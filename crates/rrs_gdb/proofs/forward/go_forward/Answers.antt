@@ -1,11 +1,12 @@
-use Rattle.std.proofs.Common.{Ok, Err, refl, subst, arith}
+use Rattle.std.proofs.Common.{Ok, Err, refl, sym, subst, arith}
 use Rattle.rrs_lib.specs.Machine.{State}
 use Rattle.rrs_lib.specs.Executor.{state_in}
-use Rattle.rrs_lib.specs.Steps.{Step, StepAnswer}
+use Rattle.rrs_lib.specs.Steps.{RunsOk, Step, StepAnswer}
 use Rattle.rrs_lib.proofs.Stepping.{RunsOk-more, KeepsTheRest-trans}
 use Rattle.rrs_history.specs.Histories.{Remembers}
 use Rattle.rrs_trace.proofs.Stopping.{passes_more}
-use Rattle.rrs_gdb.proofs.BreakLemmas.{none_kept, one_more, kept_whole, none_stepped}
+use Rattle.rrs_gdb.proofs.BreakLemmas.{KeptSoFar, none_kept, one_more, kept_whole, none_stepped}
+use Rattle.rrs_gdb.specs.Breaks.{TouchesOne}
 use Rattle.rrs_gdb.proofs.WatchLemmas.{none_made, one_more_untouched}
 use Rattle.rrs_gdb.proofs.forward.go_forward.Goals as goal
 
@@ -60,3 +61,36 @@ loop-steps-preserved g c =
       kept = one_more _ _ _ _ _ _ _ i.kept step remembered;
       rest = KeepsTheRest-trans _ _ _ _ i.rest (KeepsTheRest-trans _ _ _ _ c.watch_at.ensures.rest c.step_recorded.ensures.rest);
     }
+
+pub returns-in-Err-clause-rest : goal.returns-in-Err-clause-rest
+returns-in-Err-clause-rest g c =
+    KeepsTheRest-trans _ _ _ _ c.loop-steps.invariant.rest
+    (KeepsTheRest-trans _ _ _ _ c.watch_at.ensures.rest c.step_recorded.ensures.rest)
+
+pub returns-then-is_stop-clause-rest : goal.returns-then-is_stop-clause-rest
+returns-then-is_stop-clause-rest g c =
+    KeepsTheRest-trans _ _ _ _ c.loop-steps.invariant.rest
+    (KeepsTheRest-trans _ _ _ _ c.watch_at.ensures.rest c.step_recorded.ensures.rest)
+
+pub returns-in-Some-clause-rest : goal.returns-in-Some-clause-rest
+returns-in-Some-clause-rest g c = KeepsTheRest-trans _ _ _ _ c.loop-steps.invariant.rest c.watch_at.ensures.rest
+
+pub returns-in-Some-clause-run : goal.returns-in-Some-clause-run
+returns-in-Some-clause-run g c =
+    let state = state_in g.M.Memory.bytes g.M.Memory.writable in
+    let i = c.loop-steps.invariant in
+    let kept = sym c.watch_at.ensures.kept in (
+      c.loop-steps-test.true,
+      subst (λ (m : State). RunsOk c.loop-steps.steps (state c.args.executor.now) m) kept i.runs,
+      i.passes,
+      i.untouched,
+      subst (λ (m : State). TouchesOne c.args.breaks.now.watches.items m c.in-Some.watch) kept
+          (rw c.deref-in-loop-steps.ensures.value at c.in-Some.ensures.touched),
+    )
+
+pub returns-in-Some-clause-kept : goal.returns-in-Some-clause-kept
+returns-in-Some-clause-kept g c = λ room.
+    let state = state_in g.M.Memory.bytes g.M.Memory.writable in
+    kept_whole _ _ _ _ _
+    (subst (λ (m : State). KeptSoFar c.loop-steps.steps c.args.history.now (state c.args.executor.now) c.loop-steps.history m)
+    (sym c.watch_at.ensures.kept) c.loop-steps.invariant.kept)
