@@ -1,58 +1,67 @@
 //! What a run covered, in Callgrind's profile format, which `callgrind_annotate` reads.
 
+use crate::pieces::Pieces;
 use crate::profile::Profile;
 use std::io::{self, Write};
 
 /// Writes the name of the function of a number, behind the key of a line.
 fn write_function<W: Write>(
-    out: &mut W,
+    out: &mut Pieces<'_, W>,
     profile: &Profile<'_, '_>,
     key: &str,
     number: u32,
-) -> io::Result<()> {
-    write!(out, "{key}=({number}) ")?;
-    match profile.function(number) {
-        Some(function) => out.write_all(function.name)?,
-        None => out.write_all(b"(no function)")?,
-    }
-    out.write_all(b"\n")
+) {
+    let name = match profile.function(number) {
+        Some(function) => function.name,
+        None => b"(no function)",
+    };
+    out.text(key);
+    out.number("=(", u64::from(number));
+    out.name(") ", name, "\n");
+}
+
+/// Writes how many steps there were at an address.
+fn write_steps<W: Write>(out: &mut Pieces<'_, W>, address: u32, steps: u64) {
+    out.hexadecimal("0x", 1, address);
+    out.number(" ", steps);
+    out.text("\n");
 }
 
 /// Writes the calls from the instruction at an address: which function, how often, and how many
 /// steps were made until it returned.
-fn write_calls<W: Write>(out: &mut W, profile: &Profile<'_, '_>, address: u32) -> io::Result<()> {
+fn write_calls<W: Write>(out: &mut Pieces<'_, W>, profile: &Profile<'_, '_>, address: u32) {
     let mut next = profile.calls.first_from(profile.code, address);
     for _ in 0..u32::MAX {
         let Some(call) = profile.calls.call(next) else {
-            return Ok(());
+            return;
         };
         let start = match profile.function(call.callee) {
             Some(function) => function.start,
             None => 0,
         };
-        let (count, steps) = (call.count, call.inclusive);
-        write_function(out, profile, "cfn", call.callee)?;
-        write!(out, "calls={count} 0x{start:x}\n0x{address:x} {steps}\n")?;
+        write_function(out, profile, "cfn", call.callee);
+        out.number("calls=", call.count);
+        out.hexadecimal(" 0x", 1, start);
+        out.text("\n");
+        write_steps(out, address, call.inclusive);
         next = call.next;
     }
-    Ok(())
 }
 
 /// Writes the counts and the calls of a function, or of the code that belongs to none.
-fn write_costs<W: Write>(out: &mut W, profile: &Profile<'_, '_>, number: u32) -> io::Result<()> {
-    write_function(out, profile, "fn", number)?;
+fn write_costs<W: Write>(out: &mut Pieces<'_, W>, profile: &Profile<'_, '_>, number: u32) {
+    write_function(out, profile, "fn", number);
     for part in &profile.code.parts {
         let (first, last) = profile.places_of(number, part.words(), part.address);
         for index in first..last {
             let address = part.address_of(index);
             let steps = profile.coverage.count(address);
             if steps > 0 && profile.code.owner_of(address) == number {
-                writeln!(out, "0x{address:x} {steps}")?;
-                write_calls(out, profile, address)?;
+                write_steps(out, address, steps);
+                write_calls(out, profile, address);
             }
         }
     }
-    Ok(())
 }
 
 /// Writes what a run covered in Callgrind's profile format, for the program of this path: of each
@@ -68,21 +77,24 @@ pub fn write_callgrind<W: Write>(
     path: &str,
     profile: &Profile<'_, '_>,
 ) -> io::Result<()> {
-    write!(
-        out,
-        "# callgrind format\nversion: 1\ncreator: rrs cover\ncmd: {path}\n"
-    )?;
-    write!(out, "positions: instr\nevents: Ir\n\nfl=(1) {path}\n")?;
-    write_costs(out, profile, 0)?;
+    let mut out = Pieces::new(out);
+    out.text("# callgrind format\nversion: 1\ncreator: rrs cover\n");
+    out.name(
+        "cmd: ",
+        path.as_bytes(),
+        "\npositions: instr\nevents: Ir\n\n",
+    );
+    out.name("fl=(1) ", path.as_bytes(), "\n");
+    write_costs(&mut out, profile, 0);
     let elsewhere = profile.coverage.elsewhere;
     if elsewhere > 0 {
-        writeln!(out, "0x0 {elsewhere}")?;
+        write_steps(&mut out, 0, elsewhere);
     }
     for index in 0..profile.function_count() {
         let number = index.wrapping_add(1);
         if profile.covered(number).steps > 0 {
-            write_costs(out, profile, number)?;
+            write_costs(&mut out, profile, number);
         }
     }
-    Ok(())
+    out.finish()
 }

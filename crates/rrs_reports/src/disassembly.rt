@@ -2,8 +2,9 @@
 
 use crate::code::Code;
 use crate::coverage::Coverage;
+use crate::pieces::Pieces;
 use crate::sections::CodePart;
-use rrs_lib::disassembly::Disassembled;
+use rrs_lib::disassembly::{Disassembled, hexadecimal_digits};
 use rrs_lib::instruction::{Instruction, decode};
 use rrs_lib::instruction_formats::{BType, JType};
 use std::io::{self, Write};
@@ -24,81 +25,72 @@ fn target_of(instruction: &Instruction, pc: u32) -> Option<u32> {
 }
 
 /// Writes where an address lies: in a function, or at a symbol.
-fn write_place<W: Write>(out: &mut W, code: &Code<'_>, address: u32) -> io::Result<()> {
+fn write_place<W: Write>(out: &mut Pieces<'_, W>, code: &Code<'_>, address: u32) {
     if let Some(name) = code.name_at(address) {
-        out.write_all(b" <")?;
-        out.write_all(name)?;
-        return out.write_all(b">");
+        out.name(" <", name, ">");
+    } else if let Some(function) = code.function_at(address) {
+        out.name(" <", function.name, "+0x");
+        out.hexadecimal("", 1, address.wrapping_sub(function.start));
+        out.text(">");
     }
-    if let Some(function) = code.function_at(address) {
-        out.write_all(b" <")?;
-        out.write_all(function.name)?;
-        let distance = address.wrapping_sub(function.start);
-        return write!(out, "+0x{distance:x}>");
-    }
-    Ok(())
 }
 
 /// Writes the text of a word, and of a jump where it goes.
-fn write_word<W: Write>(out: &mut W, code: &Code<'_>, address: u32, word: u32) -> io::Result<()> {
+fn write_word<W: Write>(out: &mut Pieces<'_, W>, code: &Code<'_>, address: u32, word: u32) {
     let Some(instruction) = decode(word) else {
-        return write!(out, ".word 0x{word:08x}");
+        out.hexadecimal(".word 0x", 8, word);
+        return;
     };
     let text = Disassembled {
         instruction,
         pc: address,
     }
     .text();
-    out.write_all(text.as_str().as_bytes())?;
-    match target_of(&instruction, address) {
-        Some(target) => write_place(out, code, target),
-        None => Ok(()),
+    out.text(text.as_str());
+    if let Some(target) = target_of(&instruction, address) {
+        write_place(out, code, target);
     }
 }
 
-/// Writes how often the word at an address was executed, if that is asked for.
-fn write_count<W: Write>(out: &mut W, counts: Option<&Coverage>, address: u32) -> io::Result<()> {
-    match counts {
-        Some(coverage) => {
-            let count = coverage.count(address);
-            write!(out, "{count:>12}  ")
-        }
-        None => Ok(()),
-    }
-}
-
-/// Writes the lines of a part: a line for each symbol, and one for each word.
+/// Writes the lines of a part: a line for each symbol, and one for each word, with how often it was
+/// executed in front, if that is asked for.
 fn write_part<W: Write>(
-    out: &mut W,
+    out: &mut Pieces<'_, W>,
     code: &Code<'_>,
     part: &CodePart<'_>,
     counts: Option<&Coverage>,
-) -> io::Result<()> {
+) {
     for index in 0..part.words() {
         let address = part.address_of(index);
         if let Some(name) = code.name_at(address) {
-            write!(out, "\n{address:08x} <")?;
-            out.write_all(name)?;
-            out.write_all(b">:\n")?;
+            out.hexadecimal("\n", 8, address);
+            out.name(" <", name, ">:\n");
+        }
+        if let Some(coverage) = counts {
+            out.column(12, coverage.count(address));
+            out.text(" ");
         }
         let word = part.word(index).unwrap_or(0);
-        write_count(out, counts, address)?;
-        write!(out, "{address:8x}:\t{word:08x}          \t")?;
-        write_word(out, code, address, word)?;
-        out.write_all(b"\n")?;
+        out.padded(8, hexadecimal_digits(1, address).as_str());
+        out.hexadecimal(":\t", 8, word);
+        out.text("          \t");
+        write_word(out, code, address, word);
+        out.text("\n");
     }
-    Ok(())
 }
 
-/// Writes the line in front of a part.
-fn write_title<W: Write>(out: &mut W, part: &CodePart<'_>) -> io::Result<()> {
+/// Writes the line in front of a part, and an empty one where no symbol names its first address.
+fn write_title<W: Write>(out: &mut Pieces<'_, W>, code: &Code<'_>, part: &CodePart<'_>) {
+    let end = match code.name_at(part.address) {
+        Some(_) => ":\n",
+        None => ":\n\n",
+    };
     if part.name.is_empty() {
-        let address = part.address;
-        return writeln!(out, "\nDisassembly of the segment at 0x{address:08x}:");
+        out.hexadecimal("\nDisassembly of the segment at 0x", 8, part.address);
+        out.text(end);
+    } else {
+        out.name("\nDisassembly of section ", part.name, end);
     }
-    out.write_all(b"\nDisassembly of section ")?;
-    out.write_all(part.name)?;
-    out.write_all(b":\n")
 }
 
 /// Writes the disassembly of an executable, as `objdump -d` lays it out: of each part of the file
@@ -133,13 +125,15 @@ fn write_lines<W: Write>(
     code: &Code<'_>,
     counts: Option<&Coverage>,
 ) -> io::Result<()> {
-    write!(out, "\n{path}:     file format elf32-littleriscv\n\n")?;
+    let mut out = Pieces::new(out);
+    out.name(
+        "\n",
+        path.as_bytes(),
+        ":     file format elf32-littleriscv\n\n",
+    );
     for part in &code.parts {
-        write_title(out, part)?;
-        if code.name_at(part.address).is_none() {
-            out.write_all(b"\n")?;
-        }
-        write_part(out, code, part, counts)?;
+        write_title(&mut out, code, part);
+        write_part(&mut out, code, part, counts);
     }
-    Ok(())
+    out.finish()
 }

@@ -14,6 +14,7 @@ mod commit_log;
 mod coverage;
 mod disassembly;
 mod functions;
+mod pieces;
 mod profile;
 mod sections;
 mod summary;

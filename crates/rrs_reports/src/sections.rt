@@ -77,36 +77,32 @@ fn text_of(bytes: &[u8]) -> &[u8] {
     bytes
 }
 
-/// The word at a place of a header.
-fn field(file: &[u8], header: usize, place: usize) -> Option<u32> {
-    word_at(file, header.saturating_add(place))
+/// The first words of the header of a section: its name, its type, its flags, its address, and
+/// where its bytes begin in the file and how many they are.
+fn header_of(file: &[u8], index: u32) -> Option<[u32; 6]> {
+    let start = word_at(file, 32)? as usize + 40 * index as usize;
+    let mut header = [0; 6];
+    for place in 0..header.len() {
+        header[place] = word_at(file, start + 4 * place)?;
+    }
+    Some(header)
 }
 
-/// Where the header of a section begins.
-fn header_of(file: &[u8], index: u32) -> Option<usize> {
-    let start = word_at(file, 32)?;
-    Some(start as usize + 40 * index as usize)
-}
-
-/// The name of a section, by the section with the names.
-fn name_of(file: &[u8], header: usize) -> Option<&[u8]> {
-    let names = header_of(file, half_at(file, 50)?)?;
-    let (offset, size) = (field(file, names, 16)?, field(file, names, 20)?);
-    let name = word_at(file, header)?;
-    Some(text_of(behind(bytes_at(file, offset, size), name as usize)))
+/// The name of a section, by the section with the names: it begins there at a place.
+fn name_of(file: &[u8], place: u32) -> Option<&[u8]> {
+    let [.., offset, size] = header_of(file, half_at(file, 50)?)?;
+    let names = bytes_at(file, offset, size);
+    Some(text_of(behind(names, place as usize)))
 }
 
 /// The code of a section, if it has some.
 fn section_part(file: &[u8], index: u32) -> Option<CodePart<'_>> {
-    let header = header_of(file, index)?;
-    let (kind, flags) = (field(file, header, 4)?, field(file, header, 8)?);
-    let address = field(file, header, 12)?;
-    let (offset, size) = (field(file, header, 16)?, field(file, header, 20)?);
+    let [name, kind, flags, address, offset, size] = header_of(file, index)?;
     if kind != HAS_BYTES || flags / HAS_CODE % 2 == 0 || address % 4 != 0 {
         return None;
     }
     Some(CodePart {
-        name: name_of(file, header)?,
+        name: name_of(file, name)?,
         address,
         bytes: bytes_at(file, offset, size),
     })

@@ -1,6 +1,7 @@
 //! What a run covered of each function, in lines.
 
 use crate::functions::Function;
+use crate::pieces::Pieces;
 use crate::profile::Profile;
 use std::io::{self, Write};
 
@@ -15,6 +16,18 @@ pub struct Covered {
     pub steps: u64,
     /// How often it was entered.
     pub entries: u64,
+}
+
+impl Covered {
+    /// What was covered of both.
+    fn and(self, other: Covered) -> Covered {
+        Covered {
+            words: self.words.saturating_add(other.words),
+            executed: self.executed.saturating_add(other.executed),
+            steps: self.steps.saturating_add(other.steps),
+            entries: self.entries.saturating_add(other.entries),
+        }
+    }
 }
 
 impl Profile<'_, '_> {
@@ -33,9 +46,12 @@ impl Profile<'_, '_> {
                 let address = part.address_of(index);
                 if self.code.owner_of(address) == number {
                     let steps = self.coverage.count(address);
-                    covered.words = covered.words.saturating_add(1);
-                    covered.executed = covered.executed.saturating_add(u64::from(steps > 0));
-                    covered.steps = covered.steps.saturating_add(steps);
+                    covered = covered.and(Covered {
+                        words: 1,
+                        executed: u64::from(steps > 0),
+                        steps,
+                        entries: 0,
+                    });
                 }
             }
         }
@@ -65,30 +81,25 @@ impl Profile<'_, '_> {
 }
 
 /// Writes the line of a function, or of the words that belong to none.
-fn write_line<W: Write>(out: &mut W, covered: Covered, name: &[u8]) -> io::Result<()> {
-    let Covered {
-        words,
-        executed,
-        steps,
-        entries,
-    } = covered;
-    write!(out, "{executed:>8} {words:>8} {entries:>12} {steps:>12}  ")?;
-    out.write_all(name)?;
-    out.write_all(b"\n")
+fn write_line<W: Write>(out: &mut Pieces<'_, W>, covered: Covered, name: &[u8]) {
+    out.column(8, covered.executed);
+    out.column(8, covered.words);
+    out.column(12, covered.entries);
+    out.column(12, covered.steps);
+    out.name(" ", name, "\n");
 }
 
 /// Writes the lines of the functions that ran, or of those that did not.
-fn write_functions<W: Write>(out: &mut W, profile: &Profile<'_, '_>, ran: bool) -> io::Result<()> {
+fn write_functions<W: Write>(out: &mut Pieces<'_, W>, profile: &Profile<'_, '_>, ran: bool) {
     for index in 0..profile.function_count() {
         let number = index.wrapping_add(1);
         let covered = profile.covered(number);
         if let Some(function) = profile.function(number) {
             if (covered.steps > 0) == ran {
-                write_line(out, covered, function.name)?;
+                write_line(out, covered, function.name);
             }
         }
     }
-    Ok(())
 }
 
 /// Writes what a run covered: a line for each function, those that did not run first, and else in
@@ -101,30 +112,27 @@ fn write_functions<W: Write>(out: &mut W, profile: &Profile<'_, '_>, ran: bool) 
 ///
 /// A write that fails.
 pub fn write_summary<W: Write>(out: &mut W, profile: &Profile<'_, '_>) -> io::Result<()> {
-    out.write_all(b"executed       of      entered        steps  function\n")?;
-    write_functions(out, profile, false)?;
-    write_functions(out, profile, true)?;
-    let mut sum = profile.covered(0);
-    if sum.words > 0 {
-        write_line(out, sum, b"(no function)")?;
+    let mut out = Pieces::new(out);
+    out.text("executed       of      entered        steps  function\n");
+    write_functions(&mut out, profile, false);
+    write_functions(&mut out, profile, true);
+    let rest = profile.covered(0);
+    if rest.words > 0 {
+        write_line(&mut out, rest, b"(no function)");
     }
-    let elsewhere = profile.coverage.elsewhere;
-    if elsewhere > 0 {
-        let outside = Covered {
-            words: 0,
-            executed: 0,
-            steps: elsewhere,
-            entries: 0,
-        };
-        write_line(out, outside, b"(outside the code)")?;
+    let outside = Covered {
+        words: 0,
+        executed: 0,
+        steps: profile.coverage.elsewhere,
+        entries: 0,
+    };
+    if outside.steps > 0 {
+        write_line(&mut out, outside, b"(outside the code)");
     }
-    sum.steps = sum.steps.saturating_add(elsewhere);
+    let mut sum = rest.and(outside);
     for index in 0..profile.function_count() {
-        let covered = profile.covered(index.wrapping_add(1));
-        sum.words = sum.words.saturating_add(covered.words);
-        sum.executed = sum.executed.saturating_add(covered.executed);
-        sum.steps = sum.steps.saturating_add(covered.steps);
-        sum.entries = sum.entries.saturating_add(covered.entries);
+        sum = sum.and(profile.covered(index.wrapping_add(1)));
     }
-    write_line(out, sum, b"(all)")
+    write_line(&mut out, sum, b"(all)");
+    out.finish()
 }
