@@ -1,12 +1,11 @@
 //! The calls of a run: which function called which, from where, how often, and how many steps were
 //! made until it returned.
 
-use crate::code::Code;
-use crate::sections::push;
+use crate::code::{Code, entry};
 use std::alloc::{AllocError, Global};
 
 /// How a step went on to the next one.
-#[derive(Clone, Copy, PartialEq)]
+#[derive(Clone, Copy)]
 enum Kind {
     /// By `jal` or `jalr` that writes x1 or x5, the registers for return addresses.
     Call,
@@ -117,7 +116,7 @@ impl Calls {
 
     /// 1 and the place of a call from the instruction at an address, or 0.
     pub(crate) fn first_from(&self, code: &Code<'_>, address: u32) -> u32 {
-        self.first.get(code.place_of(address)).copied().unwrap_or(0)
+        entry(&self.first, code.place_of(address))
     }
 
     /// The call at a place, to which 1 was added.
@@ -138,13 +137,10 @@ impl Calls {
 
     /// The place of the call of a function from an instruction, which is made if it is not there.
     fn place_of(&mut self, code: &Code<'_>, before: Before, callee: u32) -> Option<u32> {
-        let first = self.first.get_mut(code.place_of(before.pc));
-        let mut next = match &first {
-            Some(place) => **place,
-            None => 0,
-        };
+        let first = self.first_from(code, before.pc);
+        let mut next = first;
         for _ in 0..u32::MAX {
-            let Some(call) = self.calls.get(next.wrapping_sub(1) as usize) else {
+            let Some(call) = self.call(next) else {
                 break;
             };
             if call.callee == callee && call.site == before.pc {
@@ -159,15 +155,12 @@ impl Calls {
             callee,
             count: 0,
             inclusive: 0,
-            next: match &first {
-                Some(place) => **place,
-                None => 0,
-            },
+            next: first,
         };
-        if push(&mut self.calls, call).is_err() {
+        if self.calls.push(call).is_err() {
             return None;
         }
-        if let Some(first) = first {
+        if let Some(first) = self.first.get_mut(code.place_of(before.pc)) {
             *first = place.wrapping_add(1);
         }
         Some(place)
@@ -192,25 +185,20 @@ impl Calls {
             start: self.steps,
             is_tail,
         };
-        if push(&mut self.frames, frame).is_err() {
+        if self.frames.push(frame).is_err() {
             self.is_short = true;
         }
-    }
-
-    /// Takes the latest function that has not returned as one that has.
-    fn leave(&mut self) -> Option<Frame> {
-        let frame = self.frames.pop()?;
-        let steps = self.steps.saturating_sub(frame.start);
-        if let Some(call) = self.calls.get_mut(frame.call as usize) {
-            call.inclusive = call.inclusive.saturating_add(steps);
-        }
-        Some(frame)
     }
 
     /// Takes all but the first so many functions as returned.
     fn leave_down_to(&mut self, count: usize) {
         for _ in count..self.frames.len() {
-            self.leave();
+            if let Some(frame) = self.frames.pop() {
+                let steps = self.steps.saturating_sub(frame.start);
+                if let Some(call) = self.calls.get_mut(frame.call as usize) {
+                    call.inclusive = call.inclusive.saturating_add(steps);
+                }
+            }
         }
     }
 

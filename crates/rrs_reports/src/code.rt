@@ -1,7 +1,7 @@
 //! The code of an executable.
 
-use crate::functions::{Function, functions_of, names_of};
-use crate::sections::{CodePart, code_parts};
+use crate::functions::{Function, add_functions, name_words};
+use crate::sections::{CodePart, add_code_parts};
 use rrs_elf::{Executable, Symbols};
 use std::alloc::{AllocError, Global};
 
@@ -23,6 +23,11 @@ pub struct Code<'a> {
     functions: Vec<Function<'a>>,
     /// Of each word from the base on 1 and the number of its function, or 0.
     owners: Vec<u32>,
+}
+
+/// The entry at a place, or 0 where there is none.
+pub(crate) fn entry(entries: &[u32], place: usize) -> u32 {
+    entries.get(place).copied().unwrap_or(0)
 }
 
 /// The lowest address of code, and how many words there are up to the highest.
@@ -53,18 +58,29 @@ impl<'a> Code<'a> {
         program: &Executable<'a>,
         symbols: Option<Symbols<'a>>,
     ) -> Result<Code<'a>, AllocError> {
-        let parts = code_parts(alloc, file, program)?;
-        let (base, words) = range_of(&parts);
-        let names = names_of(alloc, symbols.as_ref(), base, words as usize)?;
-        let (functions, owners) = functions_of(alloc, symbols.as_ref(), base, &names)?;
-        Ok(Code {
-            parts,
-            base,
+        let mut code = Code {
+            parts: Vec::new(alloc),
+            base: 0,
             symbols,
-            names,
-            functions,
-            owners,
-        })
+            names: Vec::new(alloc),
+            functions: Vec::new(alloc),
+            owners: Vec::new(alloc),
+        };
+        code.read(file, program)?;
+        Ok(code)
+    }
+
+    /// Takes in what a file has.
+    fn read(&mut self, file: &'a [u8], program: &Executable<'a>) -> Result<(), AllocError> {
+        add_code_parts(&mut self.parts, file, program)?;
+        let (base, words) = range_of(&self.parts);
+        self.base = base;
+        self.names.resize(words as usize, 0)?;
+        if let Some(symbols) = &self.symbols {
+            name_words(&mut self.names, symbols, base);
+        }
+        let (functions, owners) = (&mut self.functions, &mut self.owners);
+        add_functions(functions, owners, self.symbols, base, &self.names)
     }
 
     /// The lowest address of code.
@@ -84,7 +100,12 @@ impl<'a> Code<'a> {
 
     /// Whether a part has the word at an address.
     pub fn has_word(&self, address: u32) -> bool {
-        self.parts.iter().any(|part| address.wrapping_sub(part.address) / 4 < part.words())
+        for part in &self.parts {
+            if address.wrapping_sub(part.address) / 4 < part.words() {
+                return true;
+            }
+        }
+        false
     }
 
     /// The place of an address among the words from the base on.
@@ -94,19 +115,17 @@ impl<'a> Code<'a> {
 
     /// The name of an address, if a symbol has it.
     pub fn name_at(&self, address: u32) -> Option<&'a [u8]> {
-        match self.names.get(self.place_of(address)) {
-            Some(name) if *name > 0 && address % 4 == 0 => self.symbols?.name(*name - 1),
-            _ => None,
+        let name = entry(&self.names, self.place_of(address));
+        if name == 0 || address % 4 != 0 {
+            return None;
         }
+        self.symbols?.name(name - 1)
     }
 
     /// The number of the function that the word at an address belongs to: 1 more than its place
     /// among the functions, or 0 where it belongs to none.
     pub fn owner_of(&self, address: u32) -> u32 {
-        self.owners
-            .get(self.place_of(address))
-            .copied()
-            .unwrap_or(0)
+        entry(&self.owners, self.place_of(address))
     }
 
     /// Whether a function begins at an address.
@@ -120,9 +139,6 @@ impl<'a> Code<'a> {
     /// The function that the word at an address belongs to.
     pub fn function_at(&self, address: u32) -> Option<Function<'a>> {
         let owner = self.owner_of(address);
-        if owner == 0 {
-            return None;
-        }
-        self.functions.get(owner as usize - 1).copied()
+        self.functions.get(owner.wrapping_sub(1) as usize).copied()
     }
 }

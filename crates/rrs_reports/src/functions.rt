@@ -1,8 +1,7 @@
 //! The functions of an executable, by the words that belong to each.
 
-use crate::sections::push;
 use rrs_elf::{Symbol, Symbols};
-use std::alloc::{AllocError, Global};
+use std::alloc::AllocError;
 
 /// A function, or a label of assembly with what follows it.
 #[derive(Clone, Copy)]
@@ -22,7 +21,7 @@ pub struct Function<'a> {
 fn rank(symbol: &Symbol, name: &[u8]) -> u8 {
     let has_section = symbol.section > 0 && symbol.section < 0xff00;
     let is_mapping = matches!(name, [b'$', ..] | []);
-    if !has_section || is_mapping {
+    if !has_section || is_mapping || symbol.value % 4 != 0 {
         return 0;
     }
     let is_local = symbol.binding() == 0;
@@ -35,84 +34,65 @@ fn rank(symbol: &Symbol, name: &[u8]) -> u8 {
     }
 }
 
-/// The rank of the symbol of a number, 0 where there is none.
-fn rank_of(symbols: &Symbols<'_>, index: u32) -> u8 {
+/// The rank of the symbol of a number less 1, 0 where there is none.
+fn rank_of(symbols: &Symbols<'_>, number: u32) -> u8 {
+    let index = number.wrapping_sub(1);
     match (symbols.symbol(index), symbols.name(index)) {
         (Some(symbol), Some(name)) => rank(&symbol, name),
         _ => 0,
     }
 }
 
-/// Of each word from `base` on 1 and the number of the symbol that names its address, or 0.
-pub fn names_of(
-    alloc: Global,
-    symbols: Option<&Symbols<'_>>,
-    base: u32,
-    words: usize,
-) -> Result<Vec<u32>, AllocError> {
-    let mut names = vec![in alloc; 0u32; words]?;
-    let Some(symbols) = symbols else {
-        return Ok(names);
-    };
+/// Gives each word from `base` on, whose names are 0, 1 and the number of the symbol that names its
+/// address, if there is one.
+pub fn name_words(names: &mut [u32], symbols: &Symbols<'_>, base: u32) {
     for index in 0..symbols.count() {
-        let Some(symbol) = symbols.symbol(index) else {
-            continue;
-        };
-        if symbol.value % 4 != 0 {
-            continue;
-        }
-        let place = (symbol.value.wrapping_sub(base) / 4) as usize;
-        if let Some(best) = names.get_mut(place) {
-            let other = if *best > 0 {
-                rank_of(symbols, *best - 1)
-            } else {
-                0
-            };
-            if other < rank_of(symbols, index) {
-                *best = index.wrapping_add(1);
+        if let Some(symbol) = symbols.symbol(index) {
+            let number = index.wrapping_add(1);
+            let place = (symbol.value.wrapping_sub(base) / 4) as usize;
+            if let Some(best) = names.get_mut(place) {
+                if rank_of(symbols, *best) < rank_of(symbols, number) {
+                    *best = number;
+                }
             }
         }
     }
-    Ok(names)
 }
 
-/// The functions, in the order of their addresses, and of each word 1 and the number of the
+/// Adds the functions, in the order of their addresses, and of each word 1 and the number of the
 /// function that it belongs to, or 0. A label within the range of a function begins none.
-pub fn functions_of<'a>(
-    alloc: Global,
-    symbols: Option<&Symbols<'a>>,
+pub fn add_functions<'a>(
+    functions: &mut Vec<Function<'a>>,
+    owners: &mut Vec<u32>,
+    symbols: Option<Symbols<'a>>,
     base: u32,
     names: &[u32],
-) -> Result<(Vec<Function<'a>>, Vec<u32>), AllocError> {
-    let mut functions = Vec::new(alloc);
-    let mut owners = Vec::new(alloc);
+) -> Result<(), AllocError> {
     let mut inside_until = base;
     let mut address = base;
     for name in names {
-        if let Some(symbol) = symbols.and_then(|symbols| named(symbols, *name)) {
-            if inside_until <= address || symbol.is_sized {
-                push(&mut functions, symbol)?;
-                inside_until = symbol.end;
+        if let Some(function) = named(symbols, *name) {
+            if inside_until <= address || function.is_sized {
+                functions.push(function)?;
+                inside_until = function.end;
             }
         }
-        push(&mut owners, owner_of(&mut functions, address))?;
+        owners.push(owner_of(functions, address))?;
         address = address.wrapping_add(4);
     }
-    Ok((functions, owners))
+    Ok(())
 }
 
 /// The function that the symbol of a number less 1 names. Where its size is not known, its end is
 /// its start.
-fn named<'a>(symbols: &Symbols<'a>, number: u32) -> Option<Function<'a>> {
-    if number == 0 {
-        return None;
-    }
-    let symbol = symbols.symbol(number - 1)?;
-    let name = symbols.name(number - 1)?;
+fn named(symbols: Option<Symbols<'_>>, number: u32) -> Option<Function<'_>> {
+    let index = number.wrapping_sub(1);
+    let symbols = symbols?;
+    let symbol = symbols.symbol(index)?;
     let is_sized = symbol.kind() == 2 && symbol.size > 0;
     let size = if is_sized { symbol.size } else { 0 };
     Some(Function {
-        name,
+        name: symbols.name(index)?,
         start: symbol.value,
         end: symbol.value.saturating_add(size),
         is_sized,

@@ -1,7 +1,7 @@
 //! The parts of a file that have code: by its sections, or, where it has none, by its segments.
 
 use rrs_elf::Executable;
-use std::alloc::{AllocError, Global};
+use std::alloc::AllocError;
 
 /// The flag of a section that has code (`SHF_EXECINSTR`).
 const HAS_CODE: u32 = 4;
@@ -121,32 +121,23 @@ fn segment_part<'a>(file: &'a [u8], program: &Executable<'a>, index: u16) -> Opt
     })
 }
 
-/// The parts of a file that have code, in the order of the file's headers.
-pub fn code_parts<'a>(
-    alloc: Global,
+/// Adds the parts of a file that have code, in the order of the file's headers.
+pub fn add_code_parts<'a>(
+    parts: &mut Vec<CodePart<'a>>,
     file: &'a [u8],
     program: &Executable<'a>,
-) -> Result<Vec<CodePart<'a>>, AllocError> {
-    let mut parts = Vec::new(alloc);
+) -> Result<(), AllocError> {
     for index in 0..half_at(file, 48).unwrap_or(0) {
         if let Some(part) = section_part(file, index) {
-            push(&mut parts, part)?;
+            parts.push(part)?;
         }
     }
     if parts.is_empty() {
         for index in 0..program.program_header_count() {
             if let Some(part) = segment_part(file, program, index) {
-                push(&mut parts, part)?;
+                parts.push(part)?;
             }
         }
     }
-    Ok(parts)
-}
-
-/// Appends an element.
-pub fn push<T: Drop>(items: &mut Vec<T>, item: T) -> Result<(), AllocError> {
-    match items.push(item) {
-        Ok(()) => Ok(()),
-        Err(_) => Err(AllocError),
-    }
+    Ok(())
 }
