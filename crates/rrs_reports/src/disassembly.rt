@@ -67,11 +67,10 @@ fn write_part<W: Write>(
             out.name(" <", name, ">:\n");
         }
         if let Some(coverage) = counts {
-            out.column(12, coverage.count(address));
-            out.text(" ");
+            out.column(12, coverage.count(address), "  ");
         }
         let word = part.word(index).unwrap_or(0);
-        out.padded(8, hexadecimal_digits(1, address).as_str());
+        out.right(8, hexadecimal_digits(1, address).as_str());
         out.hexadecimal(":\t", 8, word);
         out.text("          \t");
         write_word(out, code, address, word);

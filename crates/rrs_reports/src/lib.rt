@@ -28,6 +28,7 @@ pub use commit_log::{
 pub use coverage::Coverage;
 pub use disassembly::{write_annotated, write_disassembly};
 pub use functions::Function;
+pub use pieces::Pieces;
 pub use profile::{Profile, cover_process};
 pub use sections::CodePart;
 pub use summary::{Covered, write_summary};

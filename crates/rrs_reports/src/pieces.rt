@@ -56,18 +56,29 @@ impl<'a, W: Write> Pieces<'a, W> {
         self.text(hexadecimal_digits(least, word).as_str());
     }
 
-    /// Writes a text, behind spaces up to a width.
-    pub fn padded(&mut self, width: usize, text: &str) {
-        for _ in text.len()..width {
-            self.text(" ");
-        }
+    /// Writes a text, and spaces in front of it up to a width.
+    pub fn right(&mut self, width: usize, text: &str) {
+        self.spaces(width, text);
         self.text(text);
     }
 
-    /// Writes a number in decimal, behind spaces up to a width, and a space.
-    pub fn column(&mut self, width: usize, number: u64) {
-        self.padded(width, Buffer::new().format(number));
-        self.text(" ");
+    /// Writes a text, and spaces behind it up to a width.
+    pub fn left(&mut self, width: usize, text: &str) {
+        self.text(text);
+        self.spaces(width, text);
+    }
+
+    /// Writes the spaces that a text needs up to a width.
+    fn spaces(&mut self, width: usize, text: &str) {
+        for _ in text.len()..width {
+            self.text(" ");
+        }
+    }
+
+    /// Writes a number in decimal, with spaces in front of it up to a width, and a text behind it.
+    pub fn column(&mut self, width: usize, number: u64, behind: &str) {
+        self.right(width, Buffer::new().format(number));
+        self.text(behind);
     }
 
     /// The error of the write that failed, if one did.

@@ -82,10 +82,10 @@ impl Profile<'_, '_> {
 
 /// Writes the line of a function, or of the words that belong to none.
 fn write_line<W: Write>(out: &mut Pieces<'_, W>, covered: Covered, name: &[u8]) {
-    out.column(8, covered.executed);
-    out.column(8, covered.words);
-    out.column(12, covered.entries);
-    out.column(12, covered.steps);
+    out.column(8, covered.executed, " ");
+    out.column(8, covered.words, " ");
+    out.column(12, covered.entries, " ");
+    out.column(12, covered.steps, " ");
     out.name(" ", name, "\n");
 }
 
