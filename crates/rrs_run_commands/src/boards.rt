@@ -5,10 +5,10 @@ use rrs_cli::command::Failure;
 use rrs_cli::fault::RunFault;
 use rrs_env::Ending;
 use rrs_exec::ImageError;
-use rrs_requests::files::read_program;
-use rrs_requests::refusal::{Refusal, failed, out_of_memory};
+use rrs_requests::files::{buffered, read_program};
+use rrs_requests::refusal::{Refusal, failed};
 use rrs_requests::words::number_of;
-use std::io::{BufWriter, Read, Write};
+use std::io::{Read, Write};
 use std::rt::Files;
 
 /// The bytes of RAM where nothing else is asked for: 128 MiB.
@@ -125,11 +125,8 @@ pub fn run_board<H: Files + Eprint + AllocGlobal, R: Read, W: Write>(
 ) -> Result<Ending, Refusal> {
     let request = board_request_of(words)?;
     let mut board = board_of(rt, request.path, request.memory)?;
-    let mut buffered = match BufWriter::new(rt.alloc(), output) {
-        Ok(buffered) => buffered,
-        Err(_) => return Err(out_of_memory()),
-    };
-    match run_at_terminal(&mut board, request.limit, input, &mut buffered) {
+    let mut out = buffered(rt.alloc(), output)?;
+    match run_at_terminal(&mut board, request.limit, input, &mut out) {
         Ok(end) => Ok(ending_of(rt, &board, end)),
         Err(TerminalError::Input) => Err(Refusal::UnreadableInput),
         Err(TerminalError::Output) => Err(failed(RunFault::Output)),

@@ -6,7 +6,7 @@ use rrs_reports::{Code, write_disassembly};
 use rrs_requests::files::{read_program, unwritten};
 use rrs_requests::refusal::{Refusal, no_executable, out_of_memory};
 use std::alloc::{AllocError, Global};
-use std::io::Write;
+use std::io::{self, Write};
 use std::rt::Files;
 
 /// The code of an executable.
@@ -24,6 +24,14 @@ pub(crate) fn code_of(alloc: Global, file: &[u8]) -> Result<Code<'_>, Refusal> {
     }
 }
 
+/// Flushes a writer behind what was written, if no write failed.
+pub(crate) fn flushed<W: Write>(written: io::Result<()>, out: &mut W) -> Result<(), Refusal> {
+    match written {
+        Ok(()) => out.flush().map_err(unwritten),
+        Err(error) => Err(unwritten(error)),
+    }
+}
+
 /// Writes the disassembly of an executable to standard output.
 ///
 /// # Errors
@@ -33,6 +41,6 @@ pub fn disassemble_file<H: Files + Print + AllocGlobal>(rt: &H, path: &str) -> R
     let file = read_program(rt, path)?;
     let code = code_of(rt.alloc(), &file)?;
     let mut out = output(rt)?;
-    write_disassembly(&mut out, path, &code).map_err(unwritten)?;
-    out.flush().map_err(unwritten)
+    let written = write_disassembly(&mut out, path, &code);
+    flushed(written, &mut out)
 }

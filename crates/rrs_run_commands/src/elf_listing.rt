@@ -3,9 +3,11 @@
 
 use rrs_cli::report::{flush, write_text};
 use rrs_elf::{Executable, ProgramHeader, Symbol, Symbols};
+use rrs_lib::disassembly::hexadecimal_digits;
+use rrs_reports::Pieces;
 use rrs_requests::files::read_program;
 use rrs_requests::refusal::{Refusal, failed, no_executable, out_of_memory};
-use std::alloc::{AllocError, Global};
+use std::alloc::Global;
 use std::io;
 use std::rt::Files;
 
@@ -25,97 +27,85 @@ static BINDINGS: [&str; 3] = ["LOCAL", "GLOBAL", "WEAK"];
 /// The visibilities of symbols, from 0 on.
 static VISIBILITIES: [&str; 4] = ["DEFAULT", "INTERNAL", "HIDDEN", "PROTECTED"];
 
-/// The name of a number, or its digits.
-fn named(alloc: Global, names: &[&str], number: u32) -> Result<String, AllocError> {
+/// Writes the name of a number, or its digits, in a column of a width.
+fn write_named(out: &mut Pieces<'_, Vec<u8>>, names: &[&str], width: usize, number: u32) {
     match names.get(number as usize) {
-        Some(name) => String::from_str(alloc, name),
-        None => format!(in alloc; "0x{number:x}"),
+        Some(name) => out.left(width, name),
+        None => {
+            out.text("0x");
+            out.left(
+                width.saturating_sub(2),
+                hexadecimal_digits(1, number).as_str(),
+            );
+        }
+    }
+    out.text(" ");
+}
+
+/// Writes the section of a symbol: its number, or a name.
+fn write_section(out: &mut Pieces<'_, Vec<u8>>, section: u16) {
+    match section {
+        0 => out.text(" UND "),
+        0xfff1 => out.text(" ABS "),
+        0xfff2 => out.text(" COM "),
+        _ => out.column(4, u64::from(section), " "),
     }
 }
 
-/// The section of a symbol: its number, or a name.
-fn section_of(alloc: Global, symbol: Symbol) -> Result<String, AllocError> {
-    match symbol.section {
-        0 => String::from_str(alloc, "UND"),
-        0xfff1 => String::from_str(alloc, "ABS"),
-        0xfff2 => String::from_str(alloc, "COM"),
-        section => format!(in alloc; "{section}"),
-    }
+/// Writes the line of a segment.
+fn write_segment(out: &mut Pieces<'_, Vec<u8>>, header: ProgramHeader) {
+    out.text("  ");
+    write_named(out, &SEGMENT_TYPES, 14, header.kind);
+    out.hexadecimal("0x", 6, header.offset);
+    out.hexadecimal(" 0x", 8, header.address);
+    out.hexadecimal(" 0x", 8, header.physical_address);
+    out.hexadecimal(" 0x", 5, header.file_size);
+    out.hexadecimal(" 0x", 5, header.memory_size);
+    out.text(if header.is_readable() { " R" } else { "  " });
+    out.text(if header.is_writable() { "W" } else { " " });
+    out.text(if header.is_executable() { "E" } else { " " });
+    out.hexadecimal(" 0x", 1, header.alignment);
+    out.text("\n");
 }
 
-/// Adds the line of a segment.
-fn add_segment(alloc: Global, text: &mut Vec<u8>, header: ProgramHeader) -> Result<(), AllocError> {
-    let kind = named(alloc, &SEGMENT_TYPES, header.kind)?;
-    let read = if header.is_readable() { 'R' } else { ' ' };
-    let write = if header.is_writable() { 'W' } else { ' ' };
-    let execute = if header.is_executable() { 'E' } else { ' ' };
-    let (offset, address, physical) = (header.offset, header.address, header.physical_address);
-    let (in_file, in_memory, align) = (header.file_size, header.memory_size, header.alignment);
-    let places = format!(in alloc; "  {kind:<14} 0x{offset:06x} 0x{address:08x} 0x{physical:08x}")?;
-    let sizes = format!(in alloc;
-        " 0x{in_file:05x} 0x{in_memory:05x} {read}{write}{execute} 0x{align:x}\n"
-    )?;
-    text.extend_from_slice(places.as_bytes())?;
-    text.extend_from_slice(sizes.as_bytes())
-}
-
-/// Adds the entry and the segments.
-fn add_segments(
-    alloc: Global,
-    text: &mut Vec<u8>,
-    program: &Executable<'_>,
-) -> Result<(), AllocError> {
-    let (entry, count) = (program.entry(), program.program_header_count());
+/// Writes the entry and the segments.
+fn write_segments(out: &mut Pieces<'_, Vec<u8>>, program: &Executable<'_>) {
+    let count = program.program_header_count();
     let offset = program.program_header_offset();
-    let head = format!(in alloc;
-        "Entry point 0x{entry:x}\nThere are {count} program headers, starting at offset {offset}\n\n"
-    )?;
-    text.extend_from_slice(head.as_bytes())?;
-    text.extend_from_slice(
-        b"  Type           Offset   VirtAddr   PhysAddr   FileSiz MemSiz  Flg Align\n",
-    )?;
+    out.hexadecimal("Entry point 0x", 1, program.entry());
+    out.number("\nThere are ", u64::from(count));
+    out.number(" program headers, starting at offset ", u64::from(offset));
+    out.text("\n\n  Type           Offset   VirtAddr   PhysAddr   FileSiz MemSiz  Flg Align\n");
     for index in 0..count {
         if let Some(header) = program.program_header(index) {
-            add_segment(alloc, text, header)?;
+            write_segment(out, header);
         }
     }
-    Ok(())
 }
 
-/// Adds the line of a symbol, whose name may be any bytes.
-fn add_symbol(
-    alloc: Global,
-    text: &mut Vec<u8>,
-    index: u32,
-    symbol: Symbol,
-    name: &[u8],
-) -> Result<(), AllocError> {
-    let kind = named(alloc, &SYMBOL_TYPES, u32::from(symbol.kind()))?;
-    let binding = named(alloc, &BINDINGS, u32::from(symbol.binding()))?;
-    let visibility = named(alloc, &VISIBILITIES, u32::from(symbol.other % 4))?;
-    let section = section_of(alloc, symbol)?;
-    let (value, size) = (symbol.value, symbol.size);
-    let start = format!(in alloc; "{index:>6}: {value:08x} {size:>5} {kind:<7} ")?;
-    let end = format!(in alloc; "{binding:<6} {visibility:<8} {section:>4} ")?;
-    text.extend_from_slice(start.as_bytes())?;
-    text.extend_from_slice(end.as_bytes())?;
-    text.extend_from_slice(name)?;
-    text.push(b'\n')?;
-    Ok(())
+/// Writes the line of a symbol, whose name may be any bytes.
+fn write_symbol(out: &mut Pieces<'_, Vec<u8>>, index: u32, symbol: Symbol, name: &[u8]) {
+    out.column(6, u64::from(index), ": ");
+    out.hexadecimal("", 8, symbol.value);
+    out.text(" ");
+    out.column(5, u64::from(symbol.size), " ");
+    write_named(out, &SYMBOL_TYPES, 7, u32::from(symbol.kind()));
+    write_named(out, &BINDINGS, 6, u32::from(symbol.binding()));
+    write_named(out, &VISIBILITIES, 8, u32::from(symbol.other % 4));
+    write_section(out, symbol.section);
+    out.name("", name, "\n");
 }
 
-/// Adds the symbols.
-fn add_symbols(alloc: Global, text: &mut Vec<u8>, symbols: &Symbols<'_>) -> Result<(), AllocError> {
+/// Writes the symbols.
+fn write_symbols(out: &mut Pieces<'_, Vec<u8>>, symbols: &Symbols<'_>) {
     let count = symbols.count();
-    let head = format!(in alloc; "\nSymbol table contains {count} entries:\n")?;
-    text.extend_from_slice(head.as_bytes())?;
-    text.extend_from_slice(b"   Num:    Value  Size Type    Bind   Vis      Ndx  Name\n")?;
+    out.number("\nSymbol table contains ", u64::from(count));
+    out.text(" entries:\n   Num:    Value  Size Type    Bind   Vis      Ndx  Name\n");
     for index in 0..count {
         if let (Some(symbol), Some(name)) = (symbols.symbol(index), symbols.name(index)) {
-            add_symbol(alloc, text, index, symbol, name)?;
+            write_symbol(out, index, symbol, name);
         }
     }
-    Ok(())
 }
 
 /// What is listed of the bytes of a file.
@@ -127,13 +117,14 @@ fn listing_of(alloc: Global, file: &[u8]) -> Result<Vec<u8>, Refusal> {
     let program = Executable::parse(file).map_err(no_executable)?;
     let symbols = program.symbols().map_err(no_executable)?;
     let mut text = Vec::new(alloc);
-    let mut added = add_segments(alloc, &mut text, &program);
-    if let (Ok(()), Some(symbols)) = (&added, &symbols) {
-        added = add_symbols(alloc, &mut text, symbols);
+    let mut out = Pieces::new(&mut text);
+    write_segments(&mut out, &program);
+    if let Some(symbols) = &symbols {
+        write_symbols(&mut out, symbols);
     }
-    match added {
+    match out.finish() {
         Ok(()) => Ok(text),
-        Err(AllocError) => Err(out_of_memory()),
+        Err(_) => Err(out_of_memory()),
     }
 }
 
