@@ -1,7 +1,8 @@
 //! Programs that change themselves, in long runs over memories of different kinds.
 
-ghost use Rattle.std.specs.Prelude.{◌<◌, ◌^◌};
+ghost use Rattle.std.specs.Prelude.{◌<◌};
 
+use crate::machines::space_of;
 use rrs_extra::PagedMemory;
 use rrs_fast::{CachedMemory, DecodeCache, OwnCache, Runner, WordCache, run_cached};
 use rrs_lib::instruction_executor::{InstructionExecutor, RunEnd};
@@ -94,22 +95,35 @@ fn first_of(change: &Change, table: &Table) -> u32 {
     }
 }
 
-/// The words of a loop, beside zeros. There are twice as many as the table has.
-fn words_of(alloc: Global, change: &Change, table: &Table) -> Result<Vec<u32>, AllocError> {
+/// The words of a loop, and those far behind it, each with its number.
+fn words_at(change: &Change, table: &Table) -> [(u32, u32); 6] {
     let first = first_of(change, table);
     let [one, two, three, last] = change.1;
     let last = if last == AWAY { table.away } else { last };
-    let mut words = Vec::new(alloc);
-    words.resize(table.words.saturating_mul(2) as usize, 0)?;
-    let loop_words = [one, two, three, last];
-    for (entry, word) in words.iter_mut().skip(first as usize).zip(loop_words) {
-        *entry = word;
+    let behind = first.wrapping_add(table.words);
+    [
+        (first, one),
+        (first.wrapping_add(1), two),
+        (first.wrapping_add(2), three),
+        (first.wrapping_add(3), last),
+        (behind, 0x0102_8293), // addi x5, x5, 16
+        (behind.wrapping_add(1), table.home),
+    ]
+}
+
+/// Puts them into words that begin with the one of this number.
+fn put_words(words: &mut [u32], from: u32, change: &Change, table: &Table) {
+    for (number, word) in &words_at(change, table) {
+        if let Some(entry) = words.get_mut(number.wrapping_sub(from) as usize) {
+            *entry = *word;
+        }
     }
-    let behind = first.saturating_add(table.words);
-    let words_away = [0x0102_8293, table.home]; // addi x5, x5, 16
-    for (entry, word) in words.iter_mut().skip(behind as usize).zip(words_away) {
-        *entry = word;
-    }
+}
+
+/// The words of a loop, beside zeros. There are twice as many as the table has.
+fn words_of(alloc: Global, change: &Change, table: &Table) -> Result<Vec<u32>, AllocError> {
+    let mut words = vec![in alloc; 0; table.words.saturating_mul(2) as usize]?;
+    put_words(&mut words, 0, change, table);
     Ok(words)
 }
 
@@ -173,20 +187,17 @@ fn step_by_step<M: Memory>(mem: &mut M, mut hart_state: HartState) -> Seen {
 }
 
 /// The half of a loop's words from one on, for the table of 1,024.
-fn half_of(words: &[u32], first: usize) -> [u32; 1024] {
+fn half_of(change: &Change, from: u32) -> [u32; 1024] {
     let mut half = [0; 1024];
-    for (entry, word) in half.iter_mut().zip(words.iter().skip(first)) {
-        *entry = *word;
-    }
+    put_words(&mut half, from, change, &SMALL);
     half
 }
 
 /// A memory of two pages.
 fn pages_of(alloc: Global, change: &Change) -> Result<PagedMemory, AllocError> {
-    let words = words_of(alloc, change, &SMALL)?;
     let mut pages = PagedMemory::new(alloc);
-    add_page(alloc, &mut pages, 0, &half_of(&words, 0))?;
-    add_page(alloc, &mut pages, 1, &half_of(&words, 1024))?;
+    add_page(alloc, &mut pages, 0, change)?;
+    add_page(alloc, &mut pages, 1, change)?;
     Ok(pages)
 }
 
@@ -195,28 +206,23 @@ fn add_page(
     alloc: Global,
     pages: &mut PagedMemory,
     number: u32,
-    words: &[u32; 1024],
+    change: &Change,
 ) -> Result<(), AllocError>
-    requires { number < 2 ^ 20 }
+    requires { number < 2 }
 {
-    let marks = Vec::from_slice(alloc, &[false; 1024])?;
-    match pages.add_page(number, words.to_vec(alloc)?, marks) {
+    let words = half_of(change, number * 1024).to_vec(alloc)?;
+    let marks = vec![in alloc; false; 1024]?;
+    match pages.add_page(number, words, marks) {
         Ok(()) => Ok(()),
         Err(_) => Err(AllocError),
     }
 }
 
 /// A space of two regions.
-fn space_of(alloc: Global, change: &Change) -> Result<MemorySpace<VecMemory>, AllocError> {
-    let words = words_of(alloc, change, &SMALL)?;
-    let mut space = MemorySpace::new(alloc);
-    for (base, first) in [(0, 0), (4096, 1024)] {
-        let memory = VecMemory::new(half_of(&words, first).to_vec(alloc)?);
-        if space.add_memory(base, 4096, memory).is_err() {
-            return Err(AllocError);
-        }
-    }
-    Ok(space)
+fn space_of_halves(alloc: Global, change: &Change) -> Result<MemorySpace<VecMemory>, Fail> {
+    let low = half_of(change, 0);
+    let high = half_of(change, 1024);
+    space_of(alloc, &[(0, 4096, &low), (4096, 4096, &high)])
 }
 
 /// A memory of words.
@@ -241,28 +247,29 @@ fn same_seen(rt: &impl Abort, seen: &Seen, expected: &Seen) {
     assert!(rt; seen == expected);
 }
 
-/// Asserts that a run over a memory, with a cache that is lent, leaves what is expected.
-fn run_leaves<M: Memory>(
+/// Asserts that runs of so many steps each, with a cache that is lent, leave what is expected.
+fn runs_leave<M: Memory + Drop, R: Runner<M>>(
     rt: &impl Abort,
-    cache: &mut DecodeCache,
-    mem: &mut M,
+    cache: &mut R,
+    memory: M,
     change: &Change,
-    expected: &Seen,
-) {
-    let seen = run_in_parts(cache, mem, hart_for(change, &SMALL), LIMIT);
-    same_seen(rt, &seen, expected);
-}
-
-/// Asserts that runs of so many steps each, over a memory whose words are kept, leave what is
-/// expected.
-fn kept_runs_leave<M: Memory, const N: usize>(
-    rt: &impl Abort,
-    cached: &mut CachedMemory<M, N>,
-    hart: HartState,
     part: u64,
     expected: &Seen,
 ) {
-    let seen = run_in_parts(&mut OwnCache, cached, hart, part);
+    let mut memory = memory;
+    let seen = run_in_parts(cache, &mut memory, hart_for(change, &SMALL), part);
+    same_seen(rt, &seen, expected);
+}
+
+/// Asserts that such runs over a memory whose words are kept leave what is expected.
+fn kept_runs_leave<M: Memory, const N: usize>(
+    rt: &impl Abort,
+    cached: &mut CachedMemory<M, N>,
+    change: &Change,
+    part: u64,
+    expected: &Seen,
+) {
+    let seen = run_in_parts(&mut OwnCache, cached, hart_for(change, &SMALL), part);
     same_seen(rt, &seen, expected);
 }
 
@@ -273,14 +280,14 @@ fn each_change_is_seen_by_the_next_fetch(rt: HostRuntime) -> Result<(), Fail> {
     let mut cache = DecodeCache::new();
     for change in &CHANGES {
         let expected = stepped(alloc, change, &SMALL)?;
-        let words = &mut words_over(alloc, change)?;
-        run_leaves(&rt, &mut cache, words, change, &expected);
-        let pages = &mut pages_of(alloc, change)?;
-        run_leaves(&rt, &mut cache, pages, change, &expected);
-        let space = &mut space_of(alloc, change)?;
-        run_leaves(&rt, &mut cache, space, change, &expected);
-        let boxed = &mut box_of(alloc, change)?;
-        run_leaves(&rt, &mut cache, boxed, change, &expected);
+        let words = words_over(alloc, change)?;
+        runs_leave(&rt, &mut cache, words, change, LIMIT, &expected);
+        let pages = pages_of(alloc, change)?;
+        runs_leave(&rt, &mut cache, pages, change, LIMIT, &expected);
+        let space = space_of_halves(alloc, change)?;
+        runs_leave(&rt, &mut cache, space, change, LIMIT, &expected);
+        let boxed = box_of(alloc, change)?;
+        runs_leave(&rt, &mut cache, boxed, change, LIMIT, &expected);
     }
     Ok(())
 }
@@ -304,19 +311,15 @@ fn each_change_is_seen_by_the_next_run(rt: HostRuntime) -> Result<(), Fail> {
     let mut cache = WordCache::new();
     for change in &CHANGES {
         let expected = stepped(alloc, change, &SMALL)?;
-        let mut words: CachedMemory<_, 1024> = CachedMemory::new(words_over(alloc, change)?);
-        let hart = hart_for(change, &SMALL);
-        kept_runs_leave(&rt, &mut words, hart, 7, &expected);
+        let words = words_over(alloc, change)?;
+        kept_runs_leave::<_, 1024>(&rt, &mut CachedMemory::new(words), change, 7, &expected);
         // Each even word has the place of each other one.
-        let mut pages: CachedMemory<_, 2> = CachedMemory::new(pages_of(alloc, change)?);
-        let hart = hart_for(change, &SMALL);
-        kept_runs_leave(&rt, &mut pages, hart, 1000, &expected);
-        let mut space: CachedMemory<_, 64> = CachedMemory::new(space_of(alloc, change)?);
-        let hart = hart_for(change, &SMALL);
-        kept_runs_leave(&rt, &mut space, hart, 1000, &expected);
-        let lent = &mut words_over(alloc, change)?;
-        let hart = hart_for(change, &SMALL);
-        same_seen(&rt, &run_in_parts(&mut cache, lent, hart, 7), &expected);
+        let pages = pages_of(alloc, change)?;
+        kept_runs_leave::<_, 2>(&rt, &mut CachedMemory::new(pages), change, 1000, &expected);
+        let space = space_of_halves(alloc, change)?;
+        kept_runs_leave::<_, 64>(&rt, &mut CachedMemory::new(space), change, 1000, &expected);
+        let lent = words_over(alloc, change)?;
+        runs_leave(&rt, &mut cache, lent, change, 7, &expected);
     }
     Ok(())
 }
@@ -328,8 +331,8 @@ fn each_change_is_seen_over_the_table_of_programs(rt: HostRuntime) -> Result<(),
         let expected = stepped(alloc, change, &LARGE)?;
         let words = VecMemory::new(words_of(alloc, change, &LARGE)?);
         let mut kept: CachedMemory<_, 16384> = CachedMemory::new(words);
-        let hart = hart_for(change, &LARGE);
-        kept_runs_leave(&rt, &mut kept, hart, 1000, &expected);
+        let seen = run_in_parts(&mut OwnCache, &mut kept, hart_for(change, &LARGE), 1000);
+        same_seen(&rt, &seen, &expected);
     }
     Ok(())
 }
