@@ -50,9 +50,10 @@ pub(crate) fn changed(
 ) -> Result<Vec<u8>, AllocError> {
     let mut file = FILE.to_vec(alloc)?;
     file.truncate(length);
-    for (index, byte) in value.to_le_bytes().iter().take(bytes).enumerate() {
+    let low = value.to_le_bytes();
+    for index in 0..bytes.min(4) {
         if let Some(place) = file.get_mut(at.saturating_add(index)) {
-            *place = *byte;
+            *place = low[index];
         }
     }
     Ok(file)

@@ -172,25 +172,24 @@ fn refusal_at(file: &[u8]) -> Option<ElfError> {
     }
 }
 
-/// The refusal of a changed file, and its text.
-fn refusal_and_text(
+/// Whether a changed file is refused so, by this text.
+fn is_refused(
     alloc: Global,
-    change: Change,
-) -> Result<(Option<ElfError>, String), AllocError> {
+    change: &Change,
+    wanted: ElfError,
+    wanted_text: &str,
+) -> Result<bool, AllocError> {
     let file = changed(alloc, change.0, change.1, change.2, change.3)?;
     let refusal = refusal_at(&file);
-    let text = match refusal {
-        Some(error) => format!(in alloc; "{error}")?,
-        None => String::new(alloc),
-    };
-    Ok((refusal, text))
+    let text = format!(in alloc; "{wanted}")?;
+    Ok(refusal == Some(wanted) && text.as_str() == wanted_text)
 }
 
 #[test]
 fn each_refusal_has_a_file(rt: HostRuntime) -> Result<(), Fail> {
     for (change, wanted, wanted_text) in REFUSED.iter() {
-        let (refusal, text) = refusal_and_text(rt.alloc(), *change)?;
-        assert_eq!(rt; (refusal, text.as_str()), (Some(*wanted), *wanted_text));
+        let is_refused = is_refused(rt.alloc(), change, *wanted, wanted_text)?;
+        assert!(rt; is_refused, "{wanted_text}");
     }
     Ok(())
 }
