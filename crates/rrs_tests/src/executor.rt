@@ -24,12 +24,13 @@ fn step_leaves(
     registers: &[(usize, u32)],
     expected: Seen,
 ) -> Result<(), AllocError> {
-    let seen = step_over(&mut memory_of(alloc, &[word])?, hart_of(pc, registers));
-    let of_parts = step_of_parts(&mut memory_of(alloc, &[word])?, hart_of(pc, registers));
-    let in_parts = step_in_parts(&mut memory_of(alloc, &[word])?, hart_of(pc, registers));
+    let mut memory = memory_of(alloc, &[word])?;
+    let seen = step_over(&mut memory, hart_of(pc, registers));
+    let of_parts = step_of_parts(&mut memory, hart_of(pc, registers));
+    let in_parts = step_in_parts(&mut memory, hart_of(pc, registers));
     assert!(rt;
         of_parts == seen && in_parts == seen,
-        "in parts, at {word:#x}: {of_parts:?}"
+        "in parts, at {word:#x}"
     );
     same_at(rt, word, seen, expected);
     Ok(())

@@ -24,10 +24,21 @@ pub(crate) fn space_of(
 ) -> Result<MemorySpace<VecMemory>, Fail> {
     let mut space = MemorySpace::new(alloc);
     for (index, (base, size, words)) in regions.iter().enumerate() {
-        let answer = add_region(&mut space, *base, *size, memory_of(alloc, words)?);
-        same_answer_at(*base, *size, &answer, &Ok(index))?;
+        add_as(&mut space, index, *base, *size, memory_of(alloc, words)?)?;
     }
     Ok(space)
+}
+
+/// Adds a region, which gets this index.
+pub(crate) fn add_as<M: Memory + Drop>(
+    space: &mut MemorySpace<M>,
+    index: usize,
+    base: u32,
+    size: u32,
+    memory: M,
+) -> Result<(), Fail> {
+    let answer = add_region(space, base, size, memory);
+    same_answer_at(base, size, &answer, &Ok(index))
 }
 
 /// Adds a region to a space.
@@ -155,12 +166,12 @@ pub(crate) fn run_over<M: Memory>(mem: &mut M, hart: HartState, limit: u64) -> S
 
 /// Asserts that what is seen of a machine is what is expected.
 pub(crate) fn same_at(rt: &impl Abort, case: u32, seen: Seen, expected: Seen) {
-    assert_eq!(rt; seen, expected, "at {case:#x}");
+    assert!(rt; seen == expected, "at {case:#x}: {seen:?}");
 }
 
 /// Asserts that what is read, or a count, is what is expected.
 pub(crate) fn same_word_at(rt: &impl Abort, case: u32, seen: Option<u32>, expected: Option<u32>) {
-    assert_eq!(rt; seen, expected, "at {case:#x}");
+    assert!(rt; seen == expected, "at {case:#x}");
 }
 
 /// Asserts that a text is the expected one.

@@ -1,8 +1,8 @@
 //! What spaces of regions answer at chosen addresses.
 
 use crate::machines::{
-    add_region, ended, hart_of, left, memory_of, same_answer_at, same_at, same_word_at, space_of,
-    step_over, word_at,
+    add_as, add_region, ended, hart_of, left, memory_of, same_answer_at, same_at, same_word_at,
+    space_of, step_over, word_at,
 };
 use rrs_lib::Memory;
 use rrs_lib::memories::{BoxedMemory, MemorySpace, MemorySpaceError, VecMemory};
@@ -197,8 +197,7 @@ fn lends_each_memory(rt: HostRuntime) -> Result<(), Fail> {
 fn a_space_in_a_space(rt: HostRuntime) -> Result<(), Fail> {
     let inner = space_of(rt.alloc(), &[(0x10, 8, &[7, 8])])?;
     let mut space = MemorySpace::new(rt.alloc());
-    let added = add_region(&mut space, 0x1000, 0x14, inner);
-    same_answer_at(0x1000, 0x14, &added, &Ok(0))?;
+    add_as(&mut space, 0, 0x1000, 0x14, inner)?;
     same_words(
         &rt,
         &mut space,
@@ -222,12 +221,8 @@ fn boxed_space(alloc: Global) -> Result<BoxedMemory, Fail> {
 /// A space of a word that is executed, and of a space, each behind a box.
 fn boxed_memories(alloc: Global) -> Result<MemorySpace<BoxedMemory>, Fail> {
     let mut space = MemorySpace::new(alloc);
-    let program = boxed_word(alloc)?;
-    let added = add_region(&mut space, 0, 4, program);
-    same_answer_at(0, 4, &added, &Ok(0))?;
-    let inner = boxed_space(alloc)?;
-    let added = add_region(&mut space, 0x1000, 8, inner);
-    same_answer_at(0x1000, 8, &added, &Ok(1))?;
+    add_as(&mut space, 0, 0, 4, boxed_word(alloc)?)?;
+    add_as(&mut space, 1, 0x1000, 8, boxed_space(alloc)?)?;
     Ok(space)
 }
 
@@ -311,8 +306,13 @@ fn thousand_regions(alloc: Global) -> Result<MemorySpace<VecMemory>, Fail> {
     for index in 0..1000 {
         let base = (index * 367 + 101) % 1000 * 32;
         let words = [index, index + 1000, index + 2000, index + 3000];
-        let answer = add_region(&mut space, base, 16, memory_of(alloc, &words)?);
-        same_answer_at(base, 16, &answer, &Ok(index as usize))?;
+        add_as(
+            &mut space,
+            index as usize,
+            base,
+            16,
+            memory_of(alloc, &words)?,
+        )?;
     }
     Ok(space)
 }
