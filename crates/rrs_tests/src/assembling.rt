@@ -6,7 +6,7 @@ use std::process::Abort;
 
 /// Asserts what a text is assembled to.
 fn same_answer(rt: &impl Abort, text: &str, pc: u32, expected: Result<u32, AssembleError>) {
-    assert_eq!(rt; assemble(text.as_bytes(), pc), expected);
+    assert!(rt; assemble(text.as_bytes(), pc) == expected, "{text}");
 }
 
 /// The text of each row is assembled to its word.

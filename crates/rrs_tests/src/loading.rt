@@ -84,7 +84,7 @@ fn same_load(
     seen: (&str, usize, &[u32]),
     expected: (&str, usize, &[u32]),
 ) {
-    assert_eq!(rt; seen, expected, "at {case}");
+    assert!(rt; seen == expected, "at {case}");
 }
 
 const LOADED: &str = "loaded";

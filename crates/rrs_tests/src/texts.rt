@@ -125,7 +125,7 @@ fn a_refused_text_may_be_asked_for_again(rt: HostRuntime) -> Result<(), Fail> {
 }
 
 /// The text of a word, or `no row` where it is an illegal instruction.
-fn text_or_no_row(
+pub(crate) fn text_or_no_row(
     alloc: Global,
     answer: Option<Result<String, AllocError>>,
 ) -> Result<String, AllocError> {

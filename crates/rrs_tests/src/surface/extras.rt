@@ -5,6 +5,7 @@ ghost use Rattle.rrs_lib.specs.Executor.{state_in};
 ghost use Rattle.rrs_extra.specs.Agreement.{Agree, AreOpenPages, words_of};
 ghost use Rattle.rrs_extra.specs.Programs.{SumLoopStarts};
 
+use crate::texts::text_or_no_row;
 use rrs_cli::fault::RunFault;
 use rrs_cli::limits::limit_of;
 use rrs_cli::simulation::simulate;
@@ -58,7 +59,7 @@ fn texts_are_compared(rt: HostRuntime) -> Result<(), Fail> {
         Option<Result<String, AllocError>>,
         Option<Result<String, AllocError>>,
     ) = both_texts(rt.alloc(), 0, 0x0ff0000f, 0x00009067);
-    let text: String = first.ok_or("no row")??;
+    let text: String = text_or_no_row(rt.alloc(), first)?;
     assert!(rt; text.as_str() == "fence" && second.is_none());
     Ok(())
 }
