@@ -393,6 +393,15 @@ fn change_breaks(breaks: &mut Breaks, is_set: bool, text: &[u8]) -> &'static [u8
     }
 }
 
+/// What is answered to a packet that begins with `q` and one of these.
+static ANSWERS: [(&[u8], &[u8]); 5] = [
+    (b"Supported", SUPPORTED),
+    (b"Attached", b"1"),
+    (b"C", b"QC1"),
+    (b"fThreadInfo", b"m1"),
+    (b"sThreadInfo", b"l"),
+];
+
 /// Answers a packet that begins with `q`.
 fn query(alloc: Global, reply: &mut Vec<u8>, asked: &[u8]) -> Result<(), AllocError> {
     if let Some(place) = behind(asked, b"Xfer:features:read:target.xml:") {
@@ -400,14 +409,13 @@ fn query(alloc: Global, reply: &mut Vec<u8>, asked: &[u8]) -> Result<(), AllocEr
         push_target(alloc, &mut target)?;
         return push_part(reply, &target, place);
     }
-    match cut_or_all(asked, b':').0 {
-        b"Supported" => push_text(reply, SUPPORTED),
-        b"Attached" => push_text(reply, b"1"),
-        b"C" => push_text(reply, b"QC1"),
-        b"fThreadInfo" => push_text(reply, b"m1"),
-        b"sThreadInfo" => push_text(reply, b"l"),
-        _ => Ok(()),
+    let subject = cut_or_all(asked, b':').0;
+    for (name, text) in &ANSWERS {
+        if *name == subject {
+            return push_text(reply, text);
+        }
     }
+    Ok(())
 }
 
 /// Answers a packet that is about the session alone.
@@ -423,25 +431,38 @@ fn manage<R, W>(
     ensures breaks { BreaksNone payload.now
         → session.new.breaks.stops.items ≡ session.old.breaks.stops.items }
 {
+    if payload == b"QStartNoAckMode".as_slice() {
+        link.acknowledges = false;
+    }
     match payload {
+        [b'k'] => return Ok(Next::End),
         [b'?'] => push_stop(reply, session.stop)?,
-        [b'H' | b'T', ..] => push_text(reply, b"OK")?,
         [b'Z', text @ ..] => push_text(reply, change_breaks(&mut session.breaks, true, text))?,
         [b'z', text @ ..] => push_text(reply, change_breaks(&mut session.breaks, false, text))?,
         [b'q', text @ ..] => query(link.alloc, reply, text)?,
-        b"QStartNoAckMode" => {
-            link.acknowledges = false;
-            push_text(reply, b"OK")?;
-        }
-        b"vCont?" => push_text(reply, b"vCont;c;C;s;S")?,
-        [b'D', ..] | [b'v', b'K', b'i', b'l', b'l', ..] => {
-            push_text(reply, b"OK")?;
-            return Ok(Next::ReplyAndEnd);
-        }
-        [b'k'] => return Ok(Next::End),
-        _ => {}
+        _ => push_text(reply, plain_answer(payload))?,
     }
-    Ok(Next::Reply)
+    if ends_session(payload) {
+        Ok(Next::ReplyAndEnd)
+    } else {
+        Ok(Next::Reply)
+    }
+}
+
+/// Whether gdb ends the session, and waits for an answer.
+fn ends_session(payload: &[u8]) -> bool {
+    payload.starts_with(b"D") || payload.starts_with(b"vKill")
+}
+
+/// What is answered to any other packet, whatever the state: nothing where it is not known.
+fn plain_answer(payload: &[u8]) -> &'static [u8] {
+    if payload == b"vCont?".as_slice() {
+        return b"vCont;c;C;s;S";
+    }
+    let is_taken = matches!(payload, [b'H' | b'T', ..])
+        || payload == b"QStartNoAckMode".as_slice()
+        || ends_session(payload);
+    if is_taken { b"OK" } else { b"" }
 }
 
 /// What a packet is about.
