@@ -3,14 +3,15 @@
 ghost use Rattle.std.specs.Prelude.{List, Option};
 ghost use Rattle.rrs_lib.specs.Machine.{State};
 
+use crate::machines::memory_of;
 use rrs_env::Environment;
 use rrs_history::{History, look_ahead, step_back, step_recorded, step_served};
-use rrs_lib::instruction_executor::{InstructionException, InstructionExecutor, RunEnd};
+use rrs_lib::instruction_executor::{InstructionException, InstructionExecutor};
 use rrs_lib::memories::VecMemory;
 use rrs_lib::{HartState, MemAccessSize, Memory};
 use rrs_test_machines::hart_of;
 use rrs_trace::Snapshot;
-use std::alloc::AllocError;
+use std::alloc::{AllocError, Global};
 use std::test::Fail;
 
 /// Seven instructions, with stores of three sizes over one another, a write to x0 and a register
@@ -28,19 +29,13 @@ const PROGRAM: [u32; 10] = [
     0,
 ];
 
-/// The state of a machine at a moment.
-#[derive(Debug, PartialEq, Drop)]
-struct Moment {
-    hart: Snapshot,
-    words: Vec<u32>,
-}
+/// The state of a machine at a moment: its hart and its ten words.
+type Moment = (Snapshot, Option<[u32; 10]>);
 
 /// The state of a machine.
-fn moment_of(memory: &VecMemory, hart: &HartState) -> Result<Moment, AllocError> {
-    Ok(Moment {
-        hart: Snapshot::of(hart),
-        words: memory.mem.clone()?,
-    })
+fn moment_of(memory: &VecMemory, hart: &HartState) -> Moment {
+    let words = memory.mem.as_slice();
+    (Snapshot::of(hart), words.try_into().ok())
 }
 
 /// Makes a step and keeps it, and returns whether it was `Ok`.
@@ -53,53 +48,6 @@ fn forward<M: Memory>(mem: &mut M, hart_state: &mut HartState, history: &mut His
 fn back<M: Memory>(mem: &mut M, hart_state: &mut HartState, history: &mut History) -> bool {
     let mut executor = InstructionExecutor { mem, hart_state };
     step_back(&mut executor, history).is_some()
-}
-
-// The states before each step, and those that taking back leads to, are the same. A step that ends
-// with an exception is not kept.
-#[test]
-fn steps_lead_back_to_the_states_before_them(rt: HostRuntime) -> Result<(), Fail> {
-    let mut memory = VecMemory::new(PROGRAM.to_vec(rt.alloc())?);
-    let mut hart = hart_of(0, &[(1, 7), (2, 0xffff_fff0)]);
-    let mut history = History::new(rt.alloc(), 8)?;
-    let mut before = Vec::new(rt.alloc());
-    for _ in 0..9 {
-        let now = moment_of(&memory, &hart)?;
-        if forward(&mut memory, &mut hart, &mut history) {
-            before.push(now)?;
-        }
-    }
-    let mut after = Vec::new(rt.alloc());
-    for _ in 0..9 {
-        if back(&mut memory, &mut hart, &mut history) {
-            after.push(moment_of(&memory, &hart)?)?;
-        }
-    }
-    before.reverse();
-    assert!(rt; before.len() == 7 && after == before);
-    Ok(())
-}
-
-/// Rooms, each with the steps that can be taken back of seven, and the pc after that.
-static ROOMS: [(usize, usize, u32); 4] = [(0, 0, 0x1c), (2, 2, 0x14), (7, 7, 0), (8, 7, 0)];
-
-// The latest steps are kept.
-#[test]
-fn a_history_keeps_what_it_has_room_for(rt: HostRuntime) -> Result<(), Fail> {
-    for (room, steps, pc) in &ROOMS {
-        let mut memory = VecMemory::new(PROGRAM.to_vec(rt.alloc())?);
-        let mut hart = hart_of(0, &[]);
-        let mut history = History::new(rt.alloc(), *room)?;
-        for _ in 0..9 {
-            let _is_ok = forward(&mut memory, &mut hart, &mut history);
-        }
-        let kept = history.len();
-        for _ in 0..9 {
-            let _is_one = back(&mut memory, &mut hart, &mut history);
-        }
-        assert_eq!(rt; (kept, hart.pc), (*steps, *pc));
-    }
-    Ok(())
 }
 
 /// An environment whose calls write two words and two registers.
@@ -128,58 +76,165 @@ fn serve<M: Memory>(mem: &mut M, hart_state: &mut HartState, history: &mut Histo
     step_served(&mut executor, &mut Scribe, history).is_ok()
 }
 
-// A call is one step, and what it wrote is taken back.
-#[test]
-fn a_call_is_taken_back(rt: HostRuntime) -> Result<(), Fail> {
-    let mut words = PROGRAM.to_vec(rt.alloc())?;
-    words[2] = 0x73; // ecall
-    let mut memory = VecMemory::new(words);
-    let mut hart = hart_of(0, &[(10, 8)]);
-    let mut history = History::new(rt.alloc(), 20)?;
-    let mut before = Vec::new(rt.alloc());
-    for _ in 0..9 {
-        let now = moment_of(&memory, &hart)?;
-        if serve(&mut memory, &mut hart, &mut history) {
-            before.push(now)?;
-        }
-    }
-    let mut after = Vec::new(rt.alloc());
-    for _ in 0..9 {
-        if back(&mut memory, &mut hart, &mut history) {
-            after.push(moment_of(&memory, &hart)?)?;
-        }
-    }
-    before.reverse();
-    assert!(rt; before.len() == 7 && after == before);
-    Ok(())
+/// A history's room, the third instruction and whether calls are served, and registers; how a run
+/// of 20 steps would end, where there is room to look ahead; how many changes the history keeps of
+/// seven steps, how many steps it takes back, and the pc after that.
+struct Kept {
+    room: usize,
+    third: u32,
+    is_served: bool,
+    registers: &'static [(usize, u32)],
+    end: Option<(u64, InstructionException)>,
+    changes: usize,
+    steps: usize,
+    pc: u32,
 }
 
-/// Looks ahead.
+/// `addi x2, x0, 37` and `ecall`.
+const ADD: u32 = 0x0250_0113;
+
+const CALL: u32 = 0x0000_0073;
+
+/// Histories with room for none, some and all of the steps, and one of a call, which is one step,
+/// and one change more for each of its four writes.
+static HISTORIES: [Kept; 7] = [
+    Kept {
+        room: 8,
+        third: ADD,
+        is_served: false,
+        registers: &[(1, 7), (2, 0xffff_fff0)],
+        end: None,
+        changes: 7,
+        steps: 7,
+        pc: 0,
+    },
+    Kept {
+        room: 0,
+        third: ADD,
+        is_served: false,
+        registers: &[],
+        end: None,
+        changes: 0,
+        steps: 0,
+        pc: 0x1c,
+    },
+    Kept {
+        room: 2,
+        third: ADD,
+        is_served: false,
+        registers: &[],
+        end: None,
+        changes: 2,
+        steps: 2,
+        pc: 0x14,
+    },
+    Kept {
+        room: 7,
+        third: ADD,
+        is_served: false,
+        registers: &[],
+        end: None,
+        changes: 7,
+        steps: 7,
+        pc: 0,
+    },
+    Kept {
+        room: 8,
+        third: ADD,
+        is_served: false,
+        registers: &[],
+        end: None,
+        changes: 7,
+        steps: 7,
+        pc: 0,
+    },
+    Kept {
+        room: 20,
+        third: ADD,
+        is_served: false,
+        registers: &[(2, 5)],
+        end: Some((7, InstructionException::IllegalInstruction(0x1c, 0))),
+        changes: 7,
+        steps: 7,
+        pc: 0,
+    },
+    Kept {
+        room: 20,
+        third: CALL,
+        is_served: true,
+        registers: &[(10, 8)],
+        end: Some((2, InstructionException::EnvironmentCall(8))),
+        changes: 11,
+        steps: 7,
+        pc: 0,
+    },
+];
+
+/// How a run of 20 steps would end, where there is room for them.
 fn foretold<M: Memory>(
     mem: &mut M,
     hart_state: &mut HartState,
     history: &mut History,
-    limit: u64,
-) -> Option<RunEnd> {
-    if limit > history.room() as u64 {
+) -> Option<(u64, InstructionException)> {
+    if history.room() < 20 {
         return None;
     }
     let mut executor = InstructionExecutor { mem, hart_state };
-    Some(look_ahead(&mut executor, history, limit))
+    let end = look_ahead(&mut executor, history, 20);
+    Some((end.steps, end.exception?))
 }
 
-// The end of the run is told, and the machine stays where it is.
+/// Whether the end of a run is foretold, and the machine stays where it is.
+fn is_foretold(
+    memory: &mut VecMemory,
+    hart: &mut HartState,
+    history: &mut History,
+    end: Option<(u64, InstructionException)>,
+) -> bool {
+    let before = moment_of(memory, hart);
+    foretold(memory, hart, history) == end && moment_of(memory, hart) == before
+}
+
+/// Whether nine steps, which are seven and an exception twice, are taken back as far as they are
+/// kept, and each leads to the state before it.
+fn leads_back(alloc: Global, kept: &Kept) -> Result<bool, AllocError> {
+    let mut memory = memory_of(alloc, &PROGRAM, 10)?;
+    if let Some(word) = memory.mem.get_mut(2) {
+        *word = kept.third;
+    }
+    let mut hart = hart_of(0, kept.registers);
+    let mut history = History::new(alloc, kept.room)?;
+    let mut is_right = is_foretold(&mut memory, &mut hart, &mut history, kept.end);
+    let mut before = Vec::new(alloc);
+    for _ in 0..9 {
+        let now = moment_of(&memory, &hart);
+        let is_made = if kept.is_served {
+            serve(&mut memory, &mut hart, &mut history)
+        } else {
+            forward(&mut memory, &mut hart, &mut history)
+        };
+        if is_made {
+            before.push(now)?;
+        }
+    }
+    is_right &= before.len() == 7 && history.len() == kept.changes;
+    for _ in 0..9 {
+        if back(&mut memory, &mut hart, &mut history) {
+            is_right &= before.pop() == Some(moment_of(&memory, &hart));
+        }
+    }
+    let is_taken_back = before.len().checked_add(kept.steps) == Some(7);
+    Ok(is_right && is_taken_back && hart.pc == kept.pc)
+}
+
+// The end of a run is told, and the machine stays where it is. The states before the latest steps,
+// as many as are kept, and those that taking back leads to, are the same. A step that ends with an
+// exception is not kept.
 #[test]
-fn the_end_of_a_run_is_foretold(rt: HostRuntime) -> Result<(), Fail> {
-    let mut memory = VecMemory::new(PROGRAM.to_vec(rt.alloc())?);
-    let mut hart = hart_of(0, &[(2, 5)]);
-    let mut history = History::new(rt.alloc(), 20)?;
-    let before = moment_of(&memory, &hart)?;
-    let end = foretold(&mut memory, &mut hart, &mut history, 20);
-    let expected = RunEnd {
-        steps: 7,
-        exception: Some(InstructionException::IllegalInstruction(0x1c, 0)),
-    };
-    assert!(rt; end == Some(expected) && moment_of(&memory, &hart)? == before);
+fn steps_lead_back_to_the_states_before_them(rt: HostRuntime) -> Result<(), Fail> {
+    for (row, kept) in HISTORIES.iter().enumerate() {
+        let is_right = leads_back(rt.alloc(), kept)?;
+        assert!(rt; is_right, "history {row}");
+    }
     Ok(())
 }

@@ -11,20 +11,22 @@ const BAD_ADDRESS: u32 = 0xffff_fff2;
 
 const NO_SUCH_CALL: u32 = 0xffff_ffda;
 
-/// Appends the bytes of a buffer of the program, and returns whether all of them are mapped.
+/// Appends the bytes of the buffer that the program writes, and returns the answer of the call: the
+/// length if all of them are mapped.
 fn read_buffer<M: Memory>(
-    mem: &mut M,
-    address: u32,
-    length: u32,
+    executor: &mut InstructionExecutor<M>,
     bytes: &mut Vec<u8>,
-) -> Result<bool, Fail> {
+) -> Result<u32, Fail> {
+    let address = executor.hart_state.read_register(11);
+    let length = executor.hart_state.read_register(12);
     for offset in 0..length {
-        match mem.read_mem(address.wrapping_add(offset), MemAccessSize::Byte) {
+        let next = address.wrapping_add(offset);
+        match executor.mem.read_mem(next, MemAccessSize::Byte) {
             Some(byte) => bytes.push((byte & 0xff) as u8)?,
-            None => return Ok(false),
+            None => return Ok(BAD_ADDRESS),
         }
     }
-    Ok(true)
+    Ok(length)
 }
 
 /// Serves the call that the program makes, and returns the status of an `exit`.
@@ -34,22 +36,11 @@ fn serve_call<M: Memory>(
 ) -> Result<Option<u32>, Fail> {
     let answer = match executor.hart_state.read_register(17) {
         93 => return Ok(Some(executor.hart_state.read_register(10))),
-        64 => write_buffer(executor, written)?,
+        64 => read_buffer(executor, written)?,
         _ => NO_SUCH_CALL,
     };
     executor.hart_state.write_register(10, answer);
     Ok(None)
-}
-
-/// Serves a `write`, and returns its answer.
-fn write_buffer<M: Memory>(
-    executor: &mut InstructionExecutor<M>,
-    written: &mut Vec<u8>,
-) -> Result<u32, Fail> {
-    let address = executor.hart_state.read_register(11);
-    let length = executor.hart_state.read_register(12);
-    let whole = read_buffer(executor.mem, address, length, written)?;
-    Ok(if whole { length } else { BAD_ADDRESS })
 }
 
 /// Runs a program up to its `exit`, and returns the status, or `None` where an exception or the

@@ -1,10 +1,33 @@
-//! What the tests share: spaces of words and of a port, and what the port logged.
+//! What the tests share: memories of words, streams, spaces of words and of a port, and what the
+//! port logged.
 
 use rrs_lib::Memory;
 use rrs_lib::memories::{MemorySpace, VecMemory};
+use rrs_linux::{Heap, Linux, LinuxClocks};
 use rrs_programs::{PrintPort, RamOrPort};
-use std::alloc::Global;
+use std::alloc::{AllocError, Global};
 use std::test::Fail;
+
+/// A memory of these words, and of zeros behind them up to so many words.
+pub(crate) fn memory_of(
+    alloc: Global,
+    words: &[u32],
+    length: usize,
+) -> Result<VecMemory, AllocError> {
+    let mut memory = VecMemory::new(words.to_vec(alloc)?);
+    memory.mem.resize(length, 0)?;
+    Ok(memory)
+}
+
+/// Streams of the host that read these bytes, with no heap.
+pub(crate) fn streams_of(
+    alloc: Global,
+    input: &[u8],
+    clocks: LinuxClocks,
+) -> Linux<&[u8], Vec<u8>, Vec<u8>> {
+    let (output, errors) = (Vec::new(alloc), Vec::new(alloc));
+    Linux::new(input, output, errors, Heap::new(0, 0), clocks)
+}
 
 /// A space of two regions: one of so many bytes at 0, and one of four bytes at a base behind it.
 pub(crate) fn space_beside<M: Memory + Drop>(

@@ -1,14 +1,15 @@
 //! A commit log in the words of Spike's `--log-commits`, a watchpoint, and breakpoints, over what
 //! steps retire. `docs/HOSTS.md` shows them.
 
+use crate::machines::memory_of;
 use rrs_lib::instruction_executor::{InstructionException, InstructionExecutor};
-use rrs_lib::memories::VecMemory;
 use rrs_lib::{HartState, Memory};
 use rrs_test_machines::hart_of;
 use rrs_trace::{
     MemoryAccess, Retired, StopEnd, StopReason, run_until, step_retired, step_retired_parts,
 };
-use std::alloc::{AllocError, Global};
+use std::alloc::AllocError;
+use std::fmt::Write;
 use std::test::Fail;
 
 /// Words with stores of two sizes, loads of two, and an end.
@@ -23,58 +24,36 @@ const PROGRAM: [u32; 8] = [
     0,
 ];
 
-/// The program at 0, in 32 words.
-fn memory_of(alloc: Global) -> Result<VecMemory, AllocError> {
-    let mut words = PROGRAM.to_vec(alloc)?;
-    words.resize(32, 0)?;
-    Ok(VecMemory::new(words))
+/// Appends the line of a step in a commit log: hart 0, in machine mode. A step that trapped has
+/// none.
+fn append_line(log: &mut String, retired: &Retired) -> Result<(), AllocError> {
+    let Some(word) = retired.insn else {
+        return Ok(());
+    };
+    if retired.trap {
+        return Ok(());
+    }
+    write!(log, "core   0: 3 0x{:08x} (0x{word:08x})", retired.pc_rdata)?;
+    if retired.rd_addr != 0 {
+        write!(log, " x{:<2} 0x{:08x}", retired.rd_addr, retired.rd_wdata)?;
+    }
+    append_access(log, retired.mem)?;
+    writeln!(log)
 }
 
-/// What a store wrote, in as many digits as its bytes have.
-fn stored(alloc: Global, mem: MemoryAccess) -> Result<String, AllocError> {
+/// Appends the access of a step: the address, and the data of a store, in as many digits as its
+/// bytes have.
+fn append_access(log: &mut String, mem: MemoryAccess) -> Result<(), AllocError> {
     let (addr, data) = (mem.addr, mem.wdata);
+    if mem.wmask == 0 && mem.rmask == 0 {
+        return Ok(());
+    }
+    write!(log, " mem 0x{addr:08x}")?;
     match mem.wmask {
-        0b1 => format!(in alloc; " mem 0x{addr:08x} 0x{data:02x}"),
-        0b11 => format!(in alloc; " mem 0x{addr:08x} 0x{data:04x}"),
-        _ => format!(in alloc; " mem 0x{addr:08x} 0x{data:08x}"),
-    }
-}
-
-/// The access of a line: a load's address, a store's with its data, or nothing.
-fn accessed(alloc: Global, mem: MemoryAccess) -> Result<String, AllocError> {
-    let addr = mem.addr;
-    if mem.wmask != 0 {
-        stored(alloc, mem)
-    } else if mem.rmask != 0 {
-        format!(in alloc; " mem 0x{addr:08x}")
-    } else {
-        format!(in alloc; "")
-    }
-}
-
-/// The register of a line, with the value that was written, or nothing.
-fn changed(alloc: Global, retired: &Retired) -> Result<String, AllocError> {
-    let (rd, value) = (retired.rd_addr, retired.rd_wdata);
-    if rd == 0 {
-        format!(in alloc; "")
-    } else {
-        format!(in alloc; " x{rd:<2} 0x{value:08x}")
-    }
-}
-
-/// The line of a step that executed a word.
-fn line_of(alloc: Global, retired: &Retired, word: u32) -> Result<String, AllocError> {
-    let pc = retired.pc_rdata;
-    let register = changed(alloc, retired)?;
-    let access = accessed(alloc, retired.mem)?;
-    format!(in alloc; "core   0: 3 0x{pc:08x} (0x{word:08x}){register}{access}\n")
-}
-
-/// The line of a step in a commit log: hart 0, in machine mode. A step that trapped has none.
-fn commit_line(alloc: Global, retired: &Retired) -> Result<String, AllocError> {
-    match retired.insn {
-        Some(word) if !retired.trap => line_of(alloc, retired, word),
-        _ => format!(in alloc; ""),
+        0 => Ok(()),
+        0b1 => write!(log, " 0x{data:02x}"),
+        0b11 => write!(log, " 0x{data:04x}"),
+        _ => write!(log, " 0x{data:08x}"),
     }
 }
 
@@ -111,20 +90,8 @@ fn writes_to(retired: &Retired, watched: u32) -> bool {
     offset < 4 && mem.wmask & (1 << offset) != 0
 }
 
-// The form of a line is that of Spike's log: `core`, the hart, the privilege, the pc, the word, the
-// register that was written, and the address of an access, of a store with the data.
-#[test]
-fn a_commit_log_is_spikes(rt: HostRuntime) -> Result<(), Fail> {
-    let mut memory = memory_of(rt.alloc())?;
-    let mut hart = hart_of(0, &[]);
-    let mut log = String::new(rt.alloc());
-    for order in 0..8 {
-        let retired = told(&mut memory, &mut hart, order);
-        log.push_str(&commit_line(rt.alloc(), &retired)?)?;
-    }
-    assert_eq!(rt;
-        log.as_str(),
-        "\
+/// The log of the program.
+const LOG: &str = "\
 core   0: 3 0x00000000 (0x1234b137) x2  0x1234b000
 core   0: 3 0x00000004 (0x02a00513) x10 0x0000002a
 core   0: 3 0x00000008 (0x04202023) mem 0x00000040 0x1234b000
@@ -132,10 +99,7 @@ core   0: 3 0x0000000c (0x04a001a3) mem 0x00000043 0x2a
 core   0: 3 0x00000010 (0x04002283) x5  0x2a34b000 mem 0x00000040
 core   0: 3 0x00000014 (0x04201003) mem 0x00000042
 core   0: 3 0x00000018 (0x00050463)
-"
-    );
-    Ok(())
-}
+";
 
 /// Whether two harts have the same state.
 fn are_alike(hart: &HartState, other: &HartState) -> bool {
@@ -143,36 +107,32 @@ fn are_alike(hart: &HartState, other: &HartState) -> bool {
     last && hart.pc == other.pc && hart.registers == other.registers
 }
 
-// Each step of the program, and the illegal instruction behind it, retires alike by parts.
+// The form of a line is that of Spike's log: `core`, the hart, the privilege, the pc, the word, the
+// register that was written, and the address of an access, of a store with the data. The byte at
+// 0x43 is watched: it is written by the store of a word, and by that of a byte. Each step of the
+// program, and the illegal instruction behind it, retires alike by parts.
 #[test]
-fn a_hart_of_parts_retires_alike(rt: HostRuntime) -> Result<(), Fail> {
-    let mut memory = memory_of(rt.alloc())?;
-    let mut other = memory_of(rt.alloc())?;
+fn steps_are_told_with_their_lines_and_writes(rt: HostRuntime) -> Result<(), Fail> {
+    let mut memory = memory_of(rt.alloc(), &PROGRAM, 32)?;
+    let mut other = memory_of(rt.alloc(), &PROGRAM, 32)?;
     let mut hart = hart_of(0, &[]);
     let mut parts = hart_of(0, &[]);
-    for order in 0..9 {
-        let retired = told(&mut memory, &mut hart, order);
-        let alike = told_by_parts(&mut other, &mut parts, order);
-        let is_alike = alike == retired && are_alike(&parts, &hart);
-        assert_eq!(rt; (order, is_alike), (order, true));
-    }
-    assert!(rt; hart.pc == 0x1c && hart.last_register_write.is_none());
-    Ok(())
-}
-
-// The byte at 0x43 is written by the store of a word, and by that of a byte.
-#[test]
-fn a_watchpoint_stops_after_each_write(rt: HostRuntime) -> Result<(), Fail> {
-    let mut memory = memory_of(rt.alloc())?;
-    let mut hart = hart_of(0, &[]);
-    let mut writes = [0; 8];
-    for order in 0..8_u8 {
-        let retired = told(&mut memory, &mut hart, u64::from(order));
+    let mut log = String::new(rt.alloc());
+    let mut writes = [0; 9];
+    for (order, write) in writes.iter_mut().enumerate() {
+        let retired = told(&mut memory, &mut hart, order as u64);
+        let alike = told_by_parts(&mut other, &mut parts, order as u64);
+        assert!(rt;
+            alike == retired && are_alike(&parts, &hart),
+            "step {order}"
+        );
+        append_line(&mut log, &retired)?;
         if writes_to(&retired, 0x43) {
-            writes[usize::from(order)] = retired.mem.wdata;
+            *write = retired.mem.wdata;
         }
     }
-    assert_eq!(rt; writes, [0, 0, 0x1234_b000, 0x2a, 0, 0, 0, 0]);
+    let is_right = log.as_str() == LOG && writes == [0, 0, 0x1234_b000, 0x2a, 0, 0, 0, 0, 0];
+    assert!(rt; is_right && hart.pc == 0x1c && hart.last_register_write.is_none());
     Ok(())
 }
 
@@ -194,12 +154,13 @@ static STOPPED: [(u64, u64, u32, StopReason); 5] = [
 // otherwise.
 #[test]
 fn a_run_stops_at_breakpoints(rt: HostRuntime) -> Result<(), Fail> {
-    let mut memory = memory_of(rt.alloc())?;
+    let mut memory = memory_of(rt.alloc(), &PROGRAM, 32)?;
     let mut hart = hart_of(0, &[]);
     let stops = [0x10, 0, 0x08];
-    for (limit, steps, pc, reason) in &STOPPED {
+    for (row, (limit, steps, pc, reason)) in STOPPED.iter().enumerate() {
         let end = stopped(&mut memory, &mut hart, *limit, &stops);
-        assert_eq!(rt; (end.steps, &end.reason, hart.pc), (*steps, reason, *pc));
+        let is_right = end.steps == *steps && end.reason == *reason && hart.pc == *pc;
+        assert!(rt; is_right, "run {row}");
     }
     Ok(())
 }
