@@ -1,6 +1,7 @@
 //! Devices that are no memory: their host serves the loads and the stores of the program, or writes
 //! a cell of a space between runs. `docs/MEMORIES.md` shows both.
 
+use crate::machines::space_beside;
 use rrs_lib::instruction_executor::{InstructionException, InstructionExecutor};
 use rrs_lib::memories::{MemorySpace, VecMemory};
 use rrs_lib::{HartState, MemAccessSize, Memory};
@@ -104,13 +105,13 @@ fn a_clock_is_a_cell(rt: HostRuntime) -> Result<(), Fail> {
         0xfe73_4ee3, // blt x6, x7, -4
         0x0000_0073, // ecall
     ];
-    let mut space = MemorySpace::new(rt.alloc());
-    space.add_memory(0, 20, VecMemory::new(words.to_vec(rt.alloc())?))?;
-    let cell = space.add_memory(CLOCK, 4, VecMemory::new(vec![in rt.alloc(); 0; 1]?))?;
+    let program = VecMemory::new(words.to_vec(rt.alloc())?);
+    let clock = VecMemory::new(vec![in rt.alloc(); 0; 1]?);
+    let mut space = space_beside(rt.alloc(), program, 20, clock, CLOCK)?;
     let mut hart = HartState::new();
     let mut times = 0;
     for time in 0..9 {
-        set_cell(&mut space, cell, time);
+        set_cell(&mut space, 1, time);
         times = time;
         if run_over(&mut space, &mut hart, 4).exception.is_some() {
             break;
@@ -152,15 +153,6 @@ static COMPLETED: [(u32, Option<u32>, Completed); 10] = [
     ),
 ];
 
-// A load is extended, a refusal is the exception of the access, and all else needs no answer.
-#[test]
-fn an_instruction_is_completed(rt: HostRuntime) -> Result<(), Fail> {
-    for &(word, given, expected) in &COMPLETED {
-        assert_eq!(rt; (word, completed(word, given)), (word, expected));
-    }
-    Ok(())
-}
-
 /// Words, each with what it asks.
 static ASKED: [(u32, Result<Option<DataRequest>, InstructionException>); 5] = [
     (
@@ -179,12 +171,16 @@ static ASKED: [(u32, Result<Option<DataRequest>, InstructionException>); 5] = [
     (0x0000_0073, Err(InstructionException::EnvironmentCall(8))),
 ];
 
-// What is asked: the size of the row, the address, and the whole register that is stored.
+// What is asked: the size of the row, the address, and the whole register that is stored. A load is
+// extended, a refusal is the exception of the access, and all else needs no answer.
 #[test]
-fn an_instruction_asks(rt: HostRuntime) -> Result<(), Fail> {
+fn instructions_ask_and_are_completed(rt: HostRuntime) -> Result<(), Fail> {
     let hart = hart_of(8, &[(2, 0x103), (3, 0x1234_5678)]);
     for &(word, expected) in &ASKED {
-        assert_eq!(rt; (word, request(&hart, word)), (word, expected));
+        assert!(rt; request(&hart, word) == expected, "{word:#x} asks");
+    }
+    for &(word, given, expected) in &COMPLETED {
+        assert!(rt; completed(word, given) == expected, "{word:#x}");
     }
     Ok(())
 }

@@ -31,19 +31,42 @@ fn both_runs<A: Memory, B: Memory>(first: &mut A, second: &mut B, limit: u64) ->
     same_run(&mut first_machine, &mut second_machine, limit)
 }
 
+/// Limits, each with how a run to it ends.
+static ENDS: [(u64, RunEnd); 3] = [
+    (
+        0,
+        RunEnd {
+            steps: 0,
+            exception: None,
+        },
+    ),
+    (
+        3,
+        RunEnd {
+            steps: 3,
+            exception: None,
+        },
+    ),
+    (
+        10,
+        RunEnd {
+            steps: 4,
+            exception: Some(InstructionException::FetchError(16)),
+        },
+    ),
+];
+
 #[test]
 fn runs_to_one_limit_end_alike(rt: HostRuntime) -> Result<(), Fail> {
     let alloc = rt.alloc();
-    let unmapped = || Some(InstructionException::FetchError(16));
-    for (limit, steps, exception) in [(0, 0, None), (3, 3, None), (10, 4, unmapped())] {
+    for (limit, expected) in &ENDS {
         let mut memory = VecMemory::new(PROGRAM.to_vec(alloc)?);
         let held = VecMemory::new(PROGRAM.to_vec(alloc)?);
         let mut boxed = BoxedMemory {
             memory: Box::new(alloc, held)?,
         };
-        let (end, other) = both_runs(&mut memory, &mut boxed, limit);
-        let expected = RunEnd { steps, exception };
-        assert!(rt; end == expected && other == expected, "limit {limit}");
+        let (end, other) = both_runs(&mut memory, &mut boxed, *limit);
+        assert!(rt; end == *expected && other == *expected, "limit {limit}");
     }
     Ok(())
 }

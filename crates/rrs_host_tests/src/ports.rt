@@ -1,28 +1,22 @@
 //! The port that prints: chosen accesses, what it keeps of them, and a program that reads it back.
 
-use crate::machines::{beside_port, has_logged, space_beside};
+use crate::machines::{beside_port, has_logged, memory_of, space_beside};
 use rrs_lib::instruction_executor::InstructionException;
-use rrs_lib::memories::{BoxedMemory, MemorySpace, VecMemory};
+use rrs_lib::memories::{BoxedMemory, MemorySpace};
 use rrs_lib::{MemAccessSize, Memory};
 use rrs_programs::PrintPort;
 use rrs_test_machines::{faulted, hart_of, read_at, run_over, write_at};
-use std::alloc::{AllocError, Global};
+use std::alloc::Global;
 use std::test::Fail;
 
-/// Writes values that end with these bytes to the port, and returns whether all were granted.
-fn write_all(port: &mut PrintPort, bytes: &[u8]) -> bool {
-    let mut granted = true;
-    for byte in bytes {
-        granted &= write_at(port, 0, MemAccessSize::Byte, 0x1200 + u32::from(*byte));
-    }
-    granted
-}
-
-/// Whether a port grants the writes of a text, and its byte reads as 0 before and as the last one
-/// after them.
+/// Whether a port grants writes of values that end with the bytes of a text, and its byte reads as
+/// 0 before and as the last one after them.
 fn takes_two_men(port: &mut PrintPort) -> bool {
     let before = read_at(port, 0, MemAccessSize::Byte);
-    let granted = write_all(port, b"two men");
+    let mut granted = true;
+    for byte in b"two men" {
+        granted &= write_at(port, 0, MemAccessSize::Byte, 0x1200 + u32::from(*byte));
+    }
     let after = read_at(port, 0, MemAccessSize::Byte);
     granted && (before, after) == (Some(0), Some(0x6e))
 }
@@ -73,40 +67,32 @@ fn reads_back<M: Memory + Drop>(space: &mut MemorySpace<M>) -> bool {
 }
 
 /// The words of the program.
-fn program(alloc: Global) -> Result<VecMemory, AllocError> {
-    let words = [
-        0x04100093, 0x00001137, 0x00110023, 0x00014183, 0x00108093, 0x00110023, 0x00112023, 0,
-    ];
-    Ok(VecMemory::new(words.to_vec(alloc)?))
+static WORDS: [u32; 8] = [
+    0x04100093, 0x00001137, 0x00110023, 0x00014183, 0x00108093, 0x00110023, 0x00112023, 0,
+];
+
+/// A space of the words and a port, each behind a box.
+fn boxed_machine(alloc: Global) -> Result<MemorySpace<BoxedMemory>, Fail> {
+    let memory = Box::new(alloc, memory_of(alloc, &WORDS, 8)?)?;
+    let words = BoxedMemory { memory };
+    let memory = Box::new(alloc, PrintPort::new(alloc, 4)?)?;
+    let port = BoxedMemory { memory };
+    space_beside(alloc, words, 0x20, port, 0x1000)
 }
 
-// Over the enum of memories the port is reached by the space's own call.
+// Over the enum of memories the port is reached by the space's own call. Behind boxes the program
+// runs alike, but the port can't be reached any more: its byte can.
 #[test]
 fn a_program_writes_to_the_port(rt: HostRuntime) -> Result<(), Fail> {
-    let mut space = beside_port(rt.alloc(), program(rt.alloc())?, 0x20, 0x1000, 4)?;
-    assert!(rt; reads_back(&mut space) && has_logged(&space, b"AB", 66, 0));
-    Ok(())
-}
-
-/// The words of the program, behind a box.
-fn boxed_program(alloc: Global) -> Result<BoxedMemory, AllocError> {
-    let memory = Box::new(alloc, program(alloc)?)?;
-    Ok(BoxedMemory { memory })
-}
-
-/// A port, behind a box.
-fn boxed_port(alloc: Global) -> Result<BoxedMemory, AllocError> {
-    let memory = Box::new(alloc, PrintPort::new(alloc, 4)?)?;
-    Ok(BoxedMemory { memory })
-}
-
-// Behind boxes it runs alike, but the port can't be reached any more: its byte can.
-#[test]
-fn a_program_writes_to_a_boxed_port(rt: HostRuntime) -> Result<(), Fail> {
-    let words = boxed_program(rt.alloc())?;
-    let port = boxed_port(rt.alloc())?;
-    let mut space = space_beside(rt.alloc(), words, 0x20, port, 0x1000)?;
-    assert!(rt; reads_back(&mut space));
-    assert!(rt; read_at(&mut space, 0x1000, MemAccessSize::Byte) == Some(66));
+    let mut boxed = boxed_machine(rt.alloc())?;
+    let is_boxed = reads_back(&mut boxed)
+        && read_at(&mut boxed, 0x1000, MemAccessSize::Byte) == Some(66);
+    let words = memory_of(rt.alloc(), &WORDS, 8)?;
+    let mut space = beside_port(rt.alloc(), words, 0x20, 0x1000, 4)?;
+    let is_logged = reads_back(&mut space) && has_logged(&space, b"AB", 66, 0);
+    assert!(rt;
+        is_boxed && is_logged,
+        "boxed: {is_boxed}, over the enum: {is_logged}"
+    );
     Ok(())
 }

@@ -36,22 +36,25 @@ fn divide<M: Memory>(mem: &mut M, hart_state: &mut HartState, a: u32, b: u32) ->
     gcd(&mut executor)
 }
 
+/// Two numbers, and their greatest common divisor.
+static DIVISORS: [(u32, u32, u32); 5] = [
+    (1071, 462, 21),
+    (0, 5, 5),
+    (5, 0, 5),
+    (0, 0, 0),
+    (0xffffffff, 1, 1),
+];
+
 #[test]
 fn divides(rt: HostRuntime) -> Result<(), Fail> {
-    for (a, b, divisor) in [
-        (1071, 462, 21),
-        (0, 5, 5),
-        (5, 0, 5),
-        (0, 0, 0),
-        (0xffffffff, 1, 1),
-    ] {
+    for (row, &(a, b, divisor)) in DIVISORS.iter().enumerate() {
         let mut memory = words_of_gcd(rt.alloc())?;
         let mut hart = HartState::new();
         let end = divide(&mut memory, &mut hart, a, b);
         let expected = end_at(end.steps, 24);
         assert!(rt;
             end == expected && hart.registers[10] == divisor,
-            "of {a} and {b}"
+            "row {row}"
         );
     }
     Ok(())

@@ -8,6 +8,7 @@ ghost use Rattle.rrs_programs.specs.Echoing.{echo_program};
 ghost use Rattle.rrs_programs.specs.WritingAndExiting.{write_and_exit_program};
 ghost use Rattle.rrs_host_tests.specs.ProgramExamples.{words_to_write, words_to_echo};
 
+use crate::machines::streams_of;
 use rrs_env::{Ending, Environment, ServedEnd, run_served};
 use rrs_fast::DecodeCache;
 use rrs_lib::instruction_executor::InstructionExecutor;
@@ -17,7 +18,6 @@ use rrs_linux::{Heap, Linux, LinuxClocks, OutputRecorder, StoppedClocks};
 use rrs_programs::{echo, write_and_exit, write_and_exit_over};
 use rrs_test_machines::hart_of;
 use std::alloc::{AllocError, Global};
-use std::process::Abort;
 use std::test::Fail;
 
 /// The words of `write_and_exit`.
@@ -112,10 +112,8 @@ fn write_over<M: Memory>(
 fn writes_a_text_to_a_stream(rt: HostRuntime) -> Result<(), Fail> {
     let mut memory = words_to_write(rt.alloc())?;
     let mut hart = HartState::new();
-    let none: &[u8] = &[];
-    let errors = Vec::new(rt.alloc());
     let clocks = LinuxClocks::Stopped(StoppedClocks::ZERO);
-    let mut linux = Linux::new(none, Vec::new(rt.alloc()), errors, Heap::new(0, 0), clocks);
+    let mut linux = streams_of(rt.alloc(), &[], clocks);
     let text = b"Hello, RISC-V!";
     let end = write_over(&mut memory, &mut hart, &mut linux, 52, text);
     assert!(rt; end == exit_at(13, 7) && linux.output.stream.as_slice() == text.as_slice());
@@ -180,78 +178,80 @@ fn served_over<M: Memory, E: Environment>(
     run_served(&mut DecodeCache::new(), &mut executor, environment, limit)
 }
 
-/// Runs words at 0 over an environment, with three arguments, in a memory of 200 words.
+/// A program's run: its words at 0, its arguments, its input, and the room of a recorder; and what
+/// it writes, the status with which it ends, and its steps over a recorder and over streams.
+#[derive(Clone, Copy)]
+struct Run<'a> {
+    program: &'a [u32],
+    arguments: (u32, u32, u32),
+    input: &'a [u8],
+    room: usize,
+    text: &'a [u8],
+    status: u32,
+    steps: u64,
+    of_stream: u64,
+}
+
+/// Makes a run over an environment, in a memory of 200 words.
 fn run_words<E: Environment>(
     alloc: Global,
-    program: &[u32],
-    arguments: (u32, u32, u32),
+    run: &Run<'_>,
     environment: &mut E,
 ) -> Result<ServedEnd, AllocError> {
-    let mut words = program.to_vec(alloc)?;
+    let mut words = run.program.to_vec(alloc)?;
     words.resize(200, 0x4443_4241)?;
     let mut memory = VecMemory::new(words);
-    let (first, second, third) = arguments;
+    let (first, second, third) = run.arguments;
     let mut hart = hart_of(0, &[(10, first), (11, second), (12, third)]);
     Ok(served_over(&mut memory, &mut hart, environment, 10_000))
 }
 
-/// What a program's run over a recorder with this room comes to: how it ends, and whether its
-/// output is this text.
-fn run_recorded(
-    alloc: Global,
-    program: &[u32],
-    arguments: (u32, u32, u32),
-    mut recorder: OutputRecorder,
-    text: &[u8],
-) -> Result<(ServedEnd, bool), AllocError> {
-    let end = run_words(alloc, program, arguments, &mut recorder)?;
-    Ok((end, recorder.output.as_slice() == text))
+/// Whether a run over a recorder ends as it has to, and writes its text.
+fn is_recorded(alloc: Global, run: &Run<'_>) -> Result<bool, AllocError> {
+    let mut recorder = OutputRecorder::new(alloc, run.input, run.room, Heap::new(0, 0))?;
+    let end = run_words(alloc, run, &mut recorder)?;
+    Ok(end == exit_at(run.steps, run.status) && recorder.output.as_slice() == run.text)
 }
 
 /// The same over streams.
-fn run_streamed(
-    alloc: Global,
-    program: &[u32],
-    arguments: (u32, u32, u32),
-    input: &[u8],
-    text: &[u8],
-) -> Result<(ServedEnd, bool), AllocError> {
+fn is_streamed(alloc: Global, run: &Run<'_>) -> Result<bool, AllocError> {
     let clocks = LinuxClocks::Stopped(StoppedClocks::ZERO);
-    let (output, errors) = (Vec::new(alloc), Vec::new(alloc));
-    let mut linux = Linux::new(input, output, errors, Heap::new(0, 0), clocks);
-    let end = run_words(alloc, program, arguments, &mut linux)?;
-    Ok((end, linux.output.stream.as_slice() == text))
+    let mut linux = streams_of(alloc, run.input, clocks);
+    let end = run_words(alloc, run, &mut linux)?;
+    Ok(end == exit_at(run.of_stream, run.status) && linux.output.stream.as_slice() == run.text)
 }
 
-/// Asserts that a run made so many steps, exited with this status, and wrote what it had to.
-fn same_run(rt: &impl Abort, seen: &(ServedEnd, bool), steps: u64, status: u32) {
-    assert_eq!(rt; *seen, (exit_at(steps, status), true));
+/// 700 bytes, which from this one on repeat after so many.
+fn repeated(first: u8, period: usize) -> [u8; 700]
+    requires { 0 < period }
+{
+    let mut bytes = [0; 700];
+    for (index, byte) in bytes.iter_mut().enumerate() {
+        *byte = first.wrapping_add((index % period % 256) as u8);
+    }
+    bytes
 }
 
 /// The length of a text and a status, with its low byte.
 static WRITTEN: [(u32, u32, u32); 4] = [(0, 0, 0), (1, 7, 7), (5, 0x103, 3), (300, u32::MAX, 255)];
 
-/// The text of which the first bytes are written.
-fn letters() -> [u8; 300] {
-    let mut bytes = [0; 300];
-    for (index, byte) in bytes.iter_mut().enumerate() {
-        *byte = 0x41 + (index % 4) as u8;
-    }
-    bytes
-}
-
 // Texts of 0, 1, 5 and 300 bytes, written over both environments.
 #[test]
 fn texts_of_many_lengths_are_written(rt: HostRuntime) -> Result<(), Fail> {
-    let bytes = letters();
-    for &(count, status, low) in &WRITTEN {
-        let text = &bytes[..count as usize];
-        let arguments = (52, count, status);
-        let recorder = OutputRecorder::new(rt.alloc(), &[], 300, Heap::new(0, 0))?;
-        let recorded = run_recorded(rt.alloc(), &WRITE_AND_EXIT, arguments, recorder, text)?;
-        same_run(&rt, &recorded, 13, low);
-        let streamed = run_streamed(rt.alloc(), &WRITE_AND_EXIT, arguments, &[], text)?;
-        same_run(&rt, &streamed, 13, low);
+    let letters = repeated(0x41, 4);
+    for (row, &(count, status, low)) in WRITTEN.iter().enumerate() {
+        let run = Run {
+            program: &WRITE_AND_EXIT,
+            arguments: (52, count, status),
+            input: &[],
+            room: 300,
+            text: &letters[..count as usize],
+            status: low,
+            steps: 13,
+            of_stream: 13,
+        };
+        let is_right = is_recorded(rt.alloc(), &run)? && is_streamed(rt.alloc(), &run)?;
+        assert!(rt; is_right, "run {row}");
     }
     Ok(())
 }
@@ -268,28 +268,26 @@ static ECHOED: [(usize, u32, u64, u64); 7] = [
     (700, 700, 25, 47),
 ];
 
-/// The bytes of which the first are the input.
-fn numbered_bytes() -> [u8; 700] {
-    let mut bytes = [0; 700];
-    for (index, byte) in bytes.iter_mut().enumerate() {
-        *byte = (index % 251) as u8;
-    }
-    bytes
-}
-
 // Inputs that fill a buffer not at all, in part, exactly, and more than once, over both
 // environments. The one that reads from a stream reads no more than 256 bytes at a time, and so in
 // more rounds.
 #[test]
 fn inputs_of_many_lengths_are_echoed(rt: HostRuntime) -> Result<(), Fail> {
-    let bytes = numbered_bytes();
-    for &(count, size, steps, of_stream) in &ECHOED {
+    let bytes = repeated(0, 251);
+    for (row, &(count, size, steps, of_stream)) in ECHOED.iter().enumerate() {
         let input = &bytes[..count];
-        let recorder = OutputRecorder::new(rt.alloc(), input, 700, Heap::new(0, 0))?;
-        let recorded = run_recorded(rt.alloc(), &ECHO, (72, size, 0), recorder, input)?;
-        same_run(&rt, &recorded, steps, 0);
-        let streamed = run_streamed(rt.alloc(), &ECHO, (72, size, 0), input, input)?;
-        same_run(&rt, &streamed, of_stream, 0);
+        let run = Run {
+            program: &ECHO,
+            arguments: (72, size, 0),
+            input,
+            room: 700,
+            text: input,
+            status: 0,
+            steps,
+            of_stream,
+        };
+        let is_right = is_recorded(rt.alloc(), &run)? && is_streamed(rt.alloc(), &run)?;
+        assert!(rt; is_right, "run {row}");
     }
     Ok(())
 }

@@ -3,6 +3,7 @@
 ghost use Rattle.std.specs.Prelude.{◌≡◌};
 ghost use Rattle.rrs_lib.specs.VecBytes.{vec_bytes, vec_writable, vec_layout};
 
+use crate::machines::{add_region, memory_of};
 use rrs_fast::{CachedMemory, Halt, HaltEnd, run_before};
 use rrs_lib::instruction_executor::{InstructionException, InstructionExecutor};
 use rrs_lib::memories::{MemorySpace, VecMemory};
@@ -46,8 +47,16 @@ const LOOPS: [Changing; 6] = [
 /// none.
 const STOPS: [&[u32]; 6] = [&[12], &[0], &[8, 0, 4, 12], &[20, 400], &[2, 6], &[]];
 
-/// What is seen after a run.
-type Seen = (StopEnd, [u32; 32], u32, Option<usize>);
+/// What is seen after a run: how it ended, the registers, the pc, and the register written last.
+type Seen = (Option<StopEnd>, [u32; 32], u32, Option<usize>);
+
+/// Runs of a loop to stops and a limit.
+#[derive(Clone, Copy)]
+struct Runs<'a> {
+    changing: &'a Changing,
+    stops: &'a [u32],
+    limit: u64,
+}
 
 /// The hart that runs a loop.
 fn hart_for(changing: &Changing) -> HartState {
@@ -57,9 +66,7 @@ fn hart_for(changing: &Changing) -> HartState {
 
 /// A loop in 16 words.
 fn words_of(alloc: Global, changing: &Changing) -> Result<VecMemory, AllocError> {
-    let mut words = changing.0.to_vec(alloc)?;
-    words.resize(16, 0)?;
-    Ok(VecMemory::new(words))
+    memory_of(alloc, &changing.0, 16)
 }
 
 /// Words whose reads are called pure below an address alone.
@@ -93,108 +100,122 @@ impl Memory for PartlyPure {
     }
 }
 
-/// A space with these words.
-fn space_of(alloc: Global, changing: &Changing) -> Result<MemorySpace<VecMemory>, AllocError> {
-    let mut space = MemorySpace::new(alloc);
-    match space.add_memory(0, 64, words_of(alloc, changing)?) {
-        Ok(_) => Ok(space),
-        Err(_) => Err(AllocError),
-    }
-}
-
 /// Goes on three times to a stop, over words that are fetched.
-fn stopped<M: Memory>(mem: &mut M, mut hart_state: HartState, stops: &[u32], limit: u64) -> Seen {
+fn stopped<M: Memory>(mem: &mut M, runs: Runs<'_>) -> Seen {
+    let mut hart_state = hart_for(runs.changing);
     let mut executor = InstructionExecutor {
         mem,
         hart_state: &mut hart_state,
     };
-    let _ = run_until(&mut executor, limit, stops);
-    let _ = run_until(&mut executor, limit, stops);
-    let end = run_until(&mut executor, limit, stops);
+    let mut end = None;
+    for _ in 0..3 {
+        end = Some(run_until(&mut executor, runs.limit, runs.stops));
+    }
     let hart = executor.hart_state;
     (end, hart.registers, hart.pc, hart.last_register_write)
 }
 
 /// The same over words that are kept.
-fn stopped_cached<M: Memory, const N: usize>(
-    mem: &mut CachedMemory<M, N>,
-    mut hart_state: HartState,
-    stops: &[u32],
-    limit: u64,
-) -> Seen {
+fn stopped_cached<M: Memory, const N: usize>(mem: &mut CachedMemory<M, N>, runs: Runs<'_>) -> Seen {
+    let mut hart_state = hart_for(runs.changing);
     let mut executor = InstructionExecutor {
         mem,
         hart_state: &mut hart_state,
     };
-    let _ = run_until_cached(&mut executor, limit, stops);
-    let _ = run_until_cached(&mut executor, limit, stops);
-    let end = run_until_cached(&mut executor, limit, stops);
+    let mut end = None;
+    for _ in 0..3 {
+        end = Some(run_until_cached(&mut executor, runs.limit, runs.stops));
+    }
     let hart = executor.hart_state;
     (end, hart.registers, hart.pc, hart.last_register_write)
 }
 
+/// Asserts that runs over words of a memory that are kept leave what is expected.
+fn stops_so<M: Memory, const N: usize>(
+    rt: &impl Abort,
+    name: &str,
+    cached: &mut CachedMemory<M, N>,
+    runs: Runs<'_>,
+    expected: &Seen,
+) {
+    let seen = stopped_cached(cached, runs);
+    assert!(rt; seen == *expected, "{name}");
+}
+
+/// Asserts that runs over kept words of several memories end as runs over fetched words.
+fn stops_alike(rt: &impl Abort, alloc: Global, runs: Runs<'_>) -> Result<(), Fail> {
+    let expected = stopped(&mut words_of(alloc, runs.changing)?, runs);
+    let words = words_of(alloc, runs.changing)?;
+    stops_so::<_, 64>(rt, "words", &mut CachedMemory::new(words), runs, &expected);
+    let words = words_of(alloc, runs.changing)?;
+    stops_so::<_, 2>(
+        rt,
+        "few words",
+        &mut CachedMemory::new(words),
+        runs,
+        &expected,
+    );
+    let mut space = MemorySpace::new(alloc);
+    add_region(&mut space, 0, 64, words_of(alloc, runs.changing)?)?;
+    stops_so::<_, 64>(
+        rt,
+        "a space",
+        &mut CachedMemory::new(space),
+        runs,
+        &expected,
+    );
+    for &pure_below in &[0, 4, 8, 12] {
+        let words = words_of(alloc, runs.changing)?;
+        let partly = PartlyPure { words, pure_below };
+        stops_so::<_, 64>(
+            rt,
+            "partly pure words",
+            &mut CachedMemory::new(partly),
+            runs,
+            &expected,
+        );
+    }
+    Ok(())
+}
+
 #[test]
 fn kept_words_stop_where_fetched_ones_do(rt: HostRuntime) -> Result<(), Fail> {
-    let alloc = rt.alloc();
     for changing in &LOOPS {
         for stops in &STOPS {
-            for limit in [0, 1, 2, 4, 5, 100] {
-                stops_alike(&rt, alloc, changing, stops, limit)?;
+            for &limit in &[0, 1, 2, 4, 5, 100] {
+                let runs = Runs {
+                    changing,
+                    stops,
+                    limit,
+                };
+                stops_alike(&rt, rt.alloc(), runs)?;
             }
         }
     }
     Ok(())
 }
 
-/// Asserts that runs over kept words of several memories end as runs over fetched words.
-fn stops_alike(
-    rt: &impl Abort,
-    alloc: Global,
-    changing: &Changing,
-    stops: &[u32],
-    limit: u64,
-) -> Result<(), AllocError> {
-    let mut fetched = words_of(alloc, changing)?;
-    let expected = stopped(&mut fetched, hart_for(changing), stops, limit);
-    let mut words: CachedMemory<_, 64> = CachedMemory::new(words_of(alloc, changing)?);
-    let seen = stopped_cached(&mut words, hart_for(changing), stops, limit);
-    same_seen(rt, 0, &seen, &expected);
-    let mut few: CachedMemory<_, 2> = CachedMemory::new(words_of(alloc, changing)?);
-    let seen = stopped_cached(&mut few, hart_for(changing), stops, limit);
-    same_seen(rt, 1, &seen, &expected);
-    let mut space: CachedMemory<_, 64> = CachedMemory::new(space_of(alloc, changing)?);
-    let seen = stopped_cached(&mut space, hart_for(changing), stops, limit);
-    same_seen(rt, 2, &seen, &expected);
-    for pure_below in [0, 4, 8, 12] {
-        let words = words_of(alloc, changing)?;
-        let mut partly: CachedMemory<_, 64> = CachedMemory::new(PartlyPure { words, pure_below });
-        let seen = stopped_cached(&mut partly, hart_for(changing), stops, limit);
-        same_seen(rt, pure_below + 3, &seen, &expected);
-    }
-    Ok(())
-}
-
-/// Asserts that a run over the memory of this number leaves what is expected.
-fn same_seen(rt: &impl Abort, memory: u32, seen: &Seen, expected: &Seen) {
-    assert_eq!(rt; (memory, seen == expected), (memory, true));
-}
-
 // The turns add 1, 100, 1: the first call stops behind four steps, and the others behind five.
 #[test]
 fn a_run_goes_on_from_a_stop(rt: HostRuntime) -> Result<(), Fail> {
     let [changing, ..] = &LOOPS;
+    let runs = Runs {
+        changing,
+        stops: &[12],
+        limit: 100,
+    };
     let mut words: CachedMemory<_, 64> = CachedMemory::new(words_of(rt.alloc(), changing)?);
-    let (end, registers, pc, last) = stopped_cached(&mut words, hart_for(changing), &[12], 100);
+    let (end, registers, pc, last) = stopped_cached(&mut words, runs);
     let expected = StopEnd {
         steps: 5,
         reason: StopReason::AtStop,
     };
-    assert!(rt; end == expected && registers[5] == 102 && pc == 12 && last == Some(6));
+    assert!(rt; end == Some(expected) && registers[5] == 102 && pc == 12 && last == Some(6));
     Ok(())
 }
 
 /// A jump or a branch, the value of x8, and where it strays to, if it does.
-const STRAYING: [(u32, u32, Option<u32>); 9] = [
+static STRAYING: [(u32, u32, Option<u32>); 9] = [
     (0x0060_00ef, 0, Some(6)), // jal x1, 6
     (0x0084_00e7, 6, Some(14)), // jalr x1, 8(x8)
     (0x0084_00e7, 5, None), // the same to 12, for 13
@@ -208,9 +229,7 @@ const STRAYING: [(u32, u32, Option<u32>); 9] = [
 
 /// How a run of one step over an instruction ends that goes to no misaligned address.
 fn aligned_end(alloc: Global, word: u32, x8: u32) -> Result<(HaltEnd, HartState), AllocError> {
-    let mut cached: CachedMemory<_, 64> = CachedMemory::new(VecMemory::new(vec![in alloc;
-        word, 0, 0, 0,
-    ]?));
+    let mut cached: CachedMemory<_, 64> = CachedMemory::new(memory_of(alloc, &[word], 4)?);
     let mut hart_state = hart_of(0, &[(1, 77), (8, x8)]);
     let mut executor = InstructionExecutor {
         mem: &mut cached,
@@ -222,9 +241,9 @@ fn aligned_end(alloc: Global, word: u32, x8: u32) -> Result<(HaltEnd, HartState)
 
 #[test]
 fn a_jump_that_strays_is_not_made(rt: HostRuntime) -> Result<(), Fail> {
-    for (word, x8, target) in STRAYING {
+    for &(word, x8, target) in &STRAYING {
         let (end, hart) = aligned_end(rt.alloc(), word, x8)?;
-        assert_eq!(rt; (word, x8, is_right(&end, &hart, target)), (word, x8, true));
+        assert!(rt; is_right(&end, &hart, target), "{word:#x} with {x8}");
     }
     Ok(())
 }
@@ -246,28 +265,39 @@ fn halted(steps: u64, halt: Halt) -> HaltEnd {
     }
 }
 
+/// Runs ten steps at most, and none at a stop.
+fn before<M: Memory, const N: usize>(
+    mem: &mut CachedMemory<M, N>,
+    hart_state: &mut HartState,
+    stops: &[u32],
+) -> HaltEnd {
+    let mut executor = InstructionExecutor { mem, hart_state };
+    run_before::<_, _, false>(&mut executor, 10, stops)
+}
+
+/// Where runs begin and their stops; how many steps they make, what ends them, and the pc after
+/// them.
+static BEFORE: [(u32, &[u32], u64, Halt, u32); 3] = [
+    (0, &[0, 4], 0, Halt::Stop, 0),
+    (0, &[4], 1, Halt::Stop, 4),
+    (
+        20,
+        &[4],
+        0,
+        Halt::Fault(InstructionException::IllegalInstruction(20, 0)),
+        20,
+    ),
+];
+
 #[test]
 fn a_run_before_a_stop_makes_no_step_there(rt: HostRuntime) -> Result<(), Fail> {
-    let alloc = rt.alloc();
     let [changing, ..] = &LOOPS;
-    let mut words: CachedMemory<_, 64> = CachedMemory::new(words_of(alloc, changing)?);
-    let mut hart_state = hart_for(changing);
-    let mut executor = InstructionExecutor {
-        mem: &mut words,
-        hart_state: &mut hart_state,
-    };
-    let at_once = run_before::<_, _, false>(&mut executor, 10, &[0, 4]);
-    let behind = run_before::<_, _, false>(&mut executor, 10, &[4]);
-    executor.hart_state.pc = 20;
-    let illegal = run_before::<_, _, false>(&mut executor, 10, &[4]);
-    let fault = InstructionException::IllegalInstruction(20, 0);
-    assert_eq!(rt;
-        [at_once, behind, illegal],
-        [
-            halted(0, Halt::Stop),
-            halted(1, Halt::Stop),
-            halted(0, Halt::Fault(fault))
-        ]
-    );
+    let mut words: CachedMemory<_, 64> = CachedMemory::new(words_of(rt.alloc(), changing)?);
+    let mut hart = hart_for(changing);
+    for (row, &(pc, stops, steps, halt, after)) in BEFORE.iter().enumerate() {
+        hart.pc = pc;
+        let end = before(&mut words, &mut hart, stops);
+        assert!(rt; end == halted(steps, halt) && hart.pc == after, "run {row}");
+    }
     Ok(())
 }
