@@ -1,7 +1,7 @@
 //! 10,000 generated programs, beside a model that is written from the specifications:
 //! `examples/machine/model.py` makes the same programs and prints the table of this test.
 
-use crate::steps::step_over;
+use crate::steps::{holds_at, step_over};
 use rrs_lib::HartState;
 use rrs_lib::memories::VecMemory;
 use rrs_privileged::{CsrFile, Inputs};
@@ -217,19 +217,23 @@ fn run_program(alloc: Global, numbers: &mut Numbers, checksum: u32) -> Result<u3
     Ok(with_values(of_hart, &memory.mem))
 }
 
+/// A checksum of what the programs of a seed left.
+fn checksum_of(alloc: Global, seed: u32) -> Result<u32, AllocError> {
+    let mut numbers = Numbers { state: seed };
+    let mut checksum = 2_166_136_261;
+    for _ in 0..PROGRAMS {
+        checksum = run_program(alloc, &mut numbers, checksum)?;
+    }
+    Ok(checksum)
+}
+
 #[test]
 fn generated_programs(rt: HostRuntime) -> Result<(), Fail> {
-    let mut seen = [0; 20];
     let mut seed: u32 = 0;
-    for place in seen.iter_mut() {
+    for wanted in CHECKSUMS {
         seed = seed.wrapping_add(1);
-        let mut numbers = Numbers { state: seed };
-        let mut checksum = 2_166_136_261;
-        for _ in 0..PROGRAMS {
-            checksum = run_program(rt.alloc(), &mut numbers, checksum)?;
-        }
-        *place = checksum;
+        let checksum = checksum_of(rt.alloc(), seed)?;
+        holds_at(&rt, seed, checksum == wanted);
     }
-    assert_eq!(rt; seen, CHECKSUMS);
     Ok(())
 }

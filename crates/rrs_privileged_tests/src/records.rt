@@ -1,6 +1,6 @@
 //! Records of steps, in the shape of RVFI.
 
-use crate::steps::{QUIET, START};
+use crate::steps::{QUIET, START, holds_at};
 use rrs_lib::HartState;
 use rrs_lib::instruction_executor::InstructionExecutor;
 use rrs_lib::memories::VecMemory;
@@ -134,7 +134,7 @@ fn each_record(rt: HostRuntime) -> Result<(), Fail> {
             (rs1, rd, value, csr),
             (cause.is_some(), cause, cause.is_none()),
         );
-        assert_eq!(rt; seen_of(answer, &record), wanted);
+        holds_at(&rt, word, seen_of(answer, &record) == wanted);
     }
     Ok(())
 }
@@ -159,7 +159,7 @@ fn an_interrupt_is_no_instruction(rt: HostRuntime) -> Result<(), Fail> {
         (START, 0x40),
         (0, 0, NO_CSR),
     );
-    assert_eq!(rt; seen, wanted);
+    assert!(rt; seen == wanted);
     Ok(())
 }
 
@@ -169,9 +169,9 @@ fn a_load_is_recorded(rt: HostRuntime) -> Result<(), Fail> {
     let (_answer, record) = record_of(rt.alloc(), 0x1000_2283, 0, &QUIET)?;
     let mem = record.retired.mem;
     let left = (record.retired.rd_wdata, access_of(record.csr));
-    assert_eq!(rt;
-        ((mem.addr, mem.rmask, mem.rdata), left),
-        ((START, 0xf, 0x1000_2283), (0x1000_2283, NO_CSR))
+    assert!(rt;
+        (mem.addr, mem.rmask, mem.rdata) == (START, 0xf, 0x1000_2283)
+            && left == (0x1000_2283, NO_CSR)
     );
     Ok(())
 }
