@@ -4,7 +4,7 @@ ghost use Rattle.std.specs.Prelude.{◌≤◌, ◌^◌};
 
 use crate::generated::{Numbers, csrs_of, hart_of, memory_of};
 use crate::pulses::Pulse;
-use crate::steps::QUIET;
+use crate::steps::{QUIET, holds_at};
 use rrs_fast::CachedMemory;
 use rrs_lib::instruction_executor::InstructionExecutor;
 use rrs_lib::memories::{MemorySpace, VecMemory};
@@ -97,65 +97,49 @@ const WORDS: u32 = 64;
 /// The time at which a run begins.
 const START: u64 = 1000;
 
-/// A machine, with what surrounds its hart.
+/// A hart, with its CSRs and what surrounds it.
 #[derive(Drop)]
-struct Machine<M: Memory> {
-    memory: M,
+struct Machine {
     hart: HartState,
     csrs: CsrFile,
     pulse: Pulse,
 }
 
-impl<M: Memory> Machine<M> {
-    /// Runs over words that are fetched.
-    fn run(&mut self, limit: u64) -> MachineEnd {
-        let mut executor = InstructionExecutor {
-            mem: &mut self.memory,
-            hart_state: &mut self.hart,
-        };
-        run_machine(&mut executor, &mut self.csrs, &mut self.pulse, limit)
-    }
-
-    /// The machine, with a memory that keeps words.
-    fn keeping<const N: usize>(self) -> Machine<CachedMemory<M, N>>
-        requires { (2 ≤ N) × (N ≤ 2 ^ 30) }
-    {
-        let Machine {
-            memory,
-            hart,
-            csrs,
-            pulse,
-        } = self;
-        Machine {
-            memory: CachedMemory::new(memory),
-            hart,
-            csrs,
-            pulse,
-        }
-    }
+/// Runs over words that are fetched.
+fn run(memory: &mut VecMemory, machine: &mut Machine, limit: u64) -> MachineEnd {
+    let mut executor = InstructionExecutor {
+        mem: memory,
+        hart_state: &mut machine.hart,
+    };
+    run_machine(&mut executor, &mut machine.csrs, &mut machine.pulse, limit)
 }
 
 /// Runs over words that are kept.
 fn run_kept<M: Memory, const N: usize>(
-    machine: &mut Machine<CachedMemory<M, N>>,
+    memory: &mut CachedMemory<M, N>,
+    machine: &mut Machine,
     limit: u64,
 ) -> MachineEnd {
     let mut executor = InstructionExecutor {
-        mem: &mut machine.memory,
+        mem: memory,
         hart_state: &mut machine.hart,
     };
     run_machine_cached(&mut executor, &mut machine.csrs, &mut machine.pulse, limit)
 }
 
-/// Whether two machines have the same state, and what surrounds them too.
-fn are_alike<A: Memory, B: Memory>(a: &mut Machine<A>, b: &mut Machine<B>) -> bool {
+/// Whether two memories have the same words.
+fn have_the_same_words<M: Memory>(a: &mut VecMemory, b: &mut M) -> bool {
     for place in 0..WORDS {
-        let addr = 4 * place;
-        let word = a.memory.read_mem(addr, MemAccessSize::Word);
-        if word != b.memory.read_mem(addr, MemAccessSize::Word) {
+        let word = a.read_mem(4 * place, MemAccessSize::Word);
+        if word != b.read_mem(4 * place, MemAccessSize::Word) {
             return false;
         }
     }
+    true
+}
+
+/// Whether two harts have the same state, and what surrounds them too.
+fn are_alike(a: &Machine, b: &Machine) -> bool {
     a.hart.registers == b.hart.registers
         && a.hart.pc == b.hart.pc
         && a.hart.last_register_write == b.hart.last_register_write
@@ -163,15 +147,18 @@ fn are_alike<A: Memory, B: Memory>(a: &mut Machine<A>, b: &mut Machine<B>) -> bo
         && a.pulse == b.pulse
 }
 
-/// Whether runs to a limit, one after the other, end alike over words that are fetched and kept.
-fn run_alike<A: Memory, B: Memory, const N: usize>(
-    fetched: &mut Machine<A>,
-    kept: &mut Machine<CachedMemory<B, N>>,
+/// Whether runs of two machines to a limit, one after the other, end alike: one over words that are
+/// fetched, and one over words that are kept.
+fn run_alike<M: Memory, const N: usize>(
+    fetched: &mut VecMemory,
+    first: &mut Machine,
+    kept: &mut CachedMemory<M, N>,
+    second: &mut Machine,
     limit: u64,
 ) -> bool {
     for _ in 0..12 {
-        let ends = (fetched.run(limit), run_kept(kept, limit));
-        if ends.0 != ends.1 || !are_alike(fetched, kept) {
+        let ends = (run(fetched, first, limit), run_kept(kept, second, limit));
+        if ends.0 != ends.1 || !are_alike(first, second) || !have_the_same_words(fetched, kept) {
             return false;
         }
     }
@@ -195,17 +182,18 @@ fn pulse_at(step: u64, sight: u64) -> Pulse {
     }
 }
 
-/// A machine with a program and the handler, behind it.
-fn machine_with(
-    alloc: Global,
-    program: &[u32; 17],
-    pulse: Pulse,
-) -> Result<Machine<VecMemory>, AllocError> {
+/// A memory of a program and the handler, behind it.
+fn memory_with(alloc: Global, program: &[u32; 17]) -> Result<VecMemory, AllocError> {
     let mut words = program.to_vec(alloc)?;
     for word in HANDLER {
         words.push(word)?;
     }
     words.resize(WORDS as usize, 0)?;
+    Ok(VecMemory::new(words))
+}
+
+/// A machine that runs a program.
+fn machine_in(pulse: Pulse) -> Machine {
     let mut hart = HartState::new();
     hart.registers[3] = 0x8000_0000;
     hart.registers[6] = 0x0642_8293;
@@ -214,27 +202,22 @@ fn machine_with(
     csrs.mtvec = 0x44;
     csrs.mstatus = 8;
     csrs.mie = 0x888;
-    Ok(Machine {
-        memory: VecMemory::new(words),
-        hart,
-        csrs,
-        pulse,
-    })
+    Machine { hart, csrs, pulse }
 }
 
-/// Whether a program runs alike over words that are fetched and kept: 64 of them, and 4.
-fn program_alike(
+/// Whether a program runs alike over words that are fetched and `N` that are kept.
+fn program_alike<const N: usize>(
     alloc: Global,
     program: &[u32; 17],
     pulse: Pulse,
     limit: u64,
-) -> Result<(bool, bool), AllocError> {
-    let mut fetched = machine_with(alloc, program, pulse)?;
-    let mut kept = machine_with(alloc, program, pulse)?.keeping::<64>();
-    let of_many = run_alike(&mut fetched, &mut kept, limit);
-    let mut fetched = machine_with(alloc, program, pulse)?;
-    let mut few = machine_with(alloc, program, pulse)?.keeping::<4>();
-    Ok((of_many, run_alike(&mut fetched, &mut few, limit)))
+) -> Result<bool, AllocError>
+    requires { (2 ≤ N) × (N ≤ 2 ^ 30) }
+{
+    let mut fetched = memory_with(alloc, program)?;
+    let mut kept: CachedMemory<VecMemory, N> = CachedMemory::new(memory_with(alloc, program)?);
+    let (mut first, mut second) = (machine_in(pulse), machine_in(pulse));
+    Ok(run_alike(&mut fetched, &mut first, &mut kept, &mut second, limit))
 }
 
 /// The programs.
@@ -245,65 +228,56 @@ fn kept_words_run_as_fetched_ones(rt: HostRuntime) -> Result<(), Fail> {
     for program in &PROGRAMS {
         for step in 0..40 {
             for limit in [1, 2, 3, 17, 61, 400] {
-                let pulse = pulse_at(step, if step % 5 == 4 { limit / 2 } else { u64::MAX });
-                let alike = program_alike(rt.alloc(), program, pulse, limit)?;
-                assert_eq!(rt; (step, limit, alike), (step, limit, (true, true)));
+                let most = u64::from(limit);
+                let sight = if step % 5 == 4 { most / 2 } else { u64::MAX };
+                let pulse = pulse_at(u64::from(step), sight);
+                let are_alike = program_alike::<64>(rt.alloc(), program, pulse, most)?
+                    && program_alike::<4>(rt.alloc(), program, pulse, most)?;
+                holds_at(&rt, (step << 16) | limit, are_alike);
             }
         }
     }
     Ok(())
 }
 
-/// The memory of a machine in a space, whose reads are not pure.
-fn in_space(
-    alloc: Global,
-    machine: Machine<VecMemory>,
-) -> Result<Machine<MemorySpace<VecMemory>>, AllocError> {
-    let Machine {
-        memory,
-        hart,
-        csrs,
-        pulse,
-    } = machine;
+/// A memory in a space, whose reads are not pure.
+fn in_space(alloc: Global, memory: VecMemory) -> Result<MemorySpace<VecMemory>, AllocError> {
     let mut space = MemorySpace::new(alloc);
     match space.add_memory(0, 4 * WORDS, memory) {
-        Ok(_) => Ok(Machine {
-            memory: space,
-            hart,
-            csrs,
-            pulse,
-        }),
+        Ok(_) => Ok(space),
         Err(_) => Err(AllocError),
     }
 }
 
-/// The machine of a generated program.
-fn generated(alloc: Global, seed: u32, pulse: Pulse) -> Result<Machine<VecMemory>, AllocError> {
+/// The memory and the machine of a generated program.
+fn generated(alloc: Global, seed: u32, pulse: Pulse) -> Result<(VecMemory, Machine), AllocError> {
     let mut numbers = Numbers { state: seed };
-    Ok(Machine {
-        memory: memory_of(alloc, &mut numbers)?,
-        hart: hart_of(&mut numbers),
-        csrs: csrs_of(&mut numbers),
-        pulse,
-    })
+    let memory = memory_of(alloc, &mut numbers)?;
+    let hart = hart_of(&mut numbers);
+    let csrs = csrs_of(&mut numbers);
+    Ok((memory, Machine { hart, csrs, pulse }))
 }
 
-/// Whether a generated program runs alike over words that are fetched and kept: of a memory of words,
-/// and of a space.
-fn generated_alike(
+/// Whether a generated program runs alike over words that are fetched and kept, of a memory of words.
+fn generated_alike(alloc: Global, seed: u32, pulse: Pulse, limit: u64) -> Result<bool, AllocError> {
+    let (mut fetched, mut first) = generated(alloc, seed, pulse)?;
+    let (memory, mut second) = generated(alloc, seed, pulse)?;
+    let mut kept: CachedMemory<VecMemory, 16> = CachedMemory::new(memory);
+    Ok(run_alike(&mut fetched, &mut first, &mut kept, &mut second, limit))
+}
+
+/// The same of a space.
+fn generated_alike_in_space(
     alloc: Global,
     seed: u32,
     pulse: Pulse,
     limit: u64,
-) -> Result<(bool, bool), AllocError> {
-    let mut fetched = generated(alloc, seed, pulse)?;
-    let mut kept = generated(alloc, seed, pulse)?.keeping::<16>();
-    let of_words = run_alike(&mut fetched, &mut kept, limit);
-    let mut fetched = generated(alloc, seed, pulse)?;
-    let space = in_space(alloc, generated(alloc, seed, pulse)?)?;
-    let mut kept_in_space = space.keeping::<16>();
-    let of_space = run_alike(&mut fetched, &mut kept_in_space, limit);
-    Ok((of_words, of_space))
+) -> Result<bool, AllocError> {
+    let (mut fetched, mut first) = generated(alloc, seed, pulse)?;
+    let (memory, mut second) = generated(alloc, seed, pulse)?;
+    let space = in_space(alloc, memory)?;
+    let mut kept: CachedMemory<MemorySpace<VecMemory>, 16> = CachedMemory::new(space);
+    Ok(run_alike(&mut fetched, &mut first, &mut kept, &mut second, limit))
 }
 
 #[test]
@@ -311,8 +285,9 @@ fn generated_programs_run_alike(rt: HostRuntime) -> Result<(), Fail> {
     for seed in 0..1000 {
         let pulse = pulse_at(u64::from(seed % 32), u64::MAX);
         let limit = u64::from(seed % 7 + 1);
-        let alike = generated_alike(rt.alloc(), seed, pulse, limit)?;
-        assert_eq!(rt; (seed, alike), (seed, (true, true)));
+        let are_alike = generated_alike(rt.alloc(), seed, pulse, limit)?
+            && generated_alike_in_space(rt.alloc(), seed, pulse, limit)?;
+        holds_at(&rt, seed, are_alike);
     }
     Ok(())
 }
@@ -320,16 +295,20 @@ fn generated_programs_run_alike(rt: HostRuntime) -> Result<(), Fail> {
 // The loop makes 1 + 40 * 6 steps before its `wfi`, at which nothing is pending.
 #[test]
 fn a_run_over_kept_words_ends_at_its_wfi(rt: HostRuntime) -> Result<(), Fail> {
-    let pulse = pulse_at(2000, u64::MAX);
-    let mut machine = machine_with(rt.alloc(), &LOOP, pulse)?.keeping::<64>();
-    let first = run_kept(&mut machine, 100);
-    let second = run_kept(&mut machine, 1000);
+    let mut machine = machine_in(pulse_at(2000, u64::MAX));
+    let mut memory: CachedMemory<VecMemory, 64> = CachedMemory::new(memory_with(
+        rt.alloc(),
+        &LOOP,
+    )?);
+    let first = run_kept(&mut memory, &mut machine, 100);
+    let second = run_kept(&mut memory, &mut machine, 1000);
     let ends = (first.steps, first.waiting, second.steps, second.waiting);
     let (pc, left) = (machine.hart.pc, machine.pulse.left);
     let counted = (machine.csrs.minstret, machine.csrs.mcycle);
-    assert_eq!(rt;
-        (ends, pc, left, counted),
-        ((100, false, 141, true), 0x20, START - 242, (242, 242))
+    assert!(rt;
+        ends == (100, false, 141, true)
+            && (pc, left) == (0x20, START - 242)
+            && counted == (242, 242)
     );
     Ok(())
 }
