@@ -1,6 +1,7 @@
 //! Answering questions, over `rrs_lib` and `rrs_extra`.
 
 use crate::questions::{Question, Steps};
+use crate::writing::Pieces;
 use rrs_extra::RowNumberer;
 use rrs_lib::instruction_executor::{InstructionException, InstructionExecutor};
 use rrs_lib::instruction_string_outputter::InstructionStringOutputter;
@@ -17,11 +18,8 @@ use std::io::Write;
 /// The error of a write that fails, or out of memory, where nothing of the answer is written.
 pub fn write_answer<W: Write>(alloc: Global, question: Question, out: &mut W) -> io::Result<()> {
     match question {
-        Question::Decode(word) => write_row(alloc, word, out),
-        Question::Text { pc, word } => match text_of(alloc, pc, word)? {
-            Some(text) => write!(out, "{text}"),
-            None => write!(out, "none"),
-        },
+        Question::Decode(word) => write_row(row_of(word), text_of(alloc, 0, word)?, out),
+        Question::Text { pc, word } => write_text(text_of(alloc, pc, word)?, out),
         Question::Steps(steps) => write_steps(steps, out),
     }
 }
@@ -32,18 +30,31 @@ fn text_of(alloc: Global, pc: u32, word: u32) -> Result<Option<String>, AllocErr
     process_instruction(&mut outputter, word).transpose()
 }
 
-/// Writes the number and the name of the row that a word is: the name is its text's first word.
-fn write_row<W: Write>(alloc: Global, word: u32, out: &mut W) -> io::Result<()> {
-    let Some(number) = process_instruction(&mut RowNumberer, word) else {
-        return write!(out, "none");
-    };
-    match text_of(alloc, 0, word)? {
-        Some(text) => {
-            let name = first_word(text.as_str());
-            write!(out, "{number} {name}")
-        }
-        None => write!(out, "none"),
+/// The number of the row that a word is, or `None` where it is none.
+fn row_of(word: u32) -> Option<u32> {
+    process_instruction(&mut RowNumberer, word)
+}
+
+/// Writes a text, or that there is none.
+fn write_text<W: Write>(text: Option<String>, out: &mut W) -> io::Result<()> {
+    match text {
+        Some(text) => out.write_all(text.as_bytes()),
+        None => out.write_all(b"none"),
     }
+}
+
+/// Writes the number and the name of a row: the name is the first word of its text.
+fn write_row<W: Write>(row: Option<u32>, text: Option<String>, out: &mut W) -> io::Result<()> {
+    let mut answer = Pieces::new(out);
+    match (row, text) {
+        (Some(number), Some(text)) => {
+            answer.number("", number as usize);
+            answer.text(" ");
+            answer.text(first_word(text.as_str()));
+        }
+        _ => answer.text("none"),
+    }
+    answer.finish()
 }
 
 /// The text up to its first space, or all of it.
@@ -69,9 +80,11 @@ fn write_steps<W: Write>(steps: Steps, out: &mut W) -> io::Result<()> {
         last_register_write: last.map(|register| register.index),
     };
     let mut memory = VecMemory::new(memory);
-    make_steps(count, &mut hart, &mut memory, out)?;
-    write_hart(&hart, out)?;
-    write_memory(&memory.mem, out)
+    let mut answer = Pieces::new(out);
+    make_steps(count, &mut hart, &mut memory, &mut answer);
+    write_hart(&hart, &mut answer);
+    write_memory(&memory.mem, &mut answer);
+    answer.finish()
 }
 
 /// Makes the steps, and writes what each returns.
@@ -79,88 +92,75 @@ fn make_steps<W: Write>(
     count: u32,
     hart: &mut HartState,
     memory: &mut VecMemory,
-    out: &mut W,
-) -> io::Result<()> {
-    if count == 0 {
-        return write!(out, "-");
-    }
+    answer: &mut Pieces<'_, W>,
+) {
     let mut executor = InstructionExecutor {
         mem: memory,
         hart_state: hart,
     };
-    for made in 0..count {
-        if made > 0 {
-            write!(out, ";")?;
-        }
+    let mut separator = "";
+    for _ in 0..count {
         let mut answers = [Ok(())];
         executor.step_each(&mut answers);
-        write_step(&answers[0], out)?;
+        answer.text(separator);
+        write_step(&answers[0], answer);
+        separator = ";";
     }
-    Ok(())
+    if separator.is_empty() {
+        answer.text("-");
+    }
 }
 
 /// Writes what a step returned.
-fn write_step<W: Write>(answer: &Result<(), InstructionException>, out: &mut W) -> io::Result<()> {
-    let Err(exception) = answer else {
-        return write!(out, "Ok");
-    };
-    let (name, address) = match exception {
-        InstructionException::IllegalInstruction(pc, word) => {
-            return write!(out, "IllegalInstruction 0x{pc:08x} 0x{word:08x}");
+fn write_step<W: Write>(returned: &Result<(), InstructionException>, answer: &mut Pieces<'_, W>) {
+    let (before, word) = match returned {
+        Ok(()) => return answer.text("Ok"),
+        Err(InstructionException::IllegalInstruction(pc, word)) => {
+            answer.word("IllegalInstruction 0x", *pc);
+            (" 0x", *word)
         }
-        InstructionException::FetchError(pc) => ("FetchError", *pc),
-        InstructionException::LoadAccessFault(addr) => ("LoadAccessFault", *addr),
-        InstructionException::StoreAccessFault(addr) => ("StoreAccessFault", *addr),
-        InstructionException::AlignmentFault(addr) => ("AlignmentFault", *addr),
-        InstructionException::EnvironmentCall(pc) => ("EnvironmentCall", *pc),
-        InstructionException::Breakpoint(pc) => ("Breakpoint", *pc),
+        Err(InstructionException::FetchError(pc)) => ("FetchError 0x", *pc),
+        Err(InstructionException::LoadAccessFault(addr)) => ("LoadAccessFault 0x", *addr),
+        Err(InstructionException::StoreAccessFault(addr)) => ("StoreAccessFault 0x", *addr),
+        Err(InstructionException::AlignmentFault(addr)) => ("AlignmentFault 0x", *addr),
+        Err(InstructionException::EnvironmentCall(pc)) => ("EnvironmentCall 0x", *pc),
+        Err(InstructionException::Breakpoint(pc)) => ("Breakpoint 0x", *pc),
     };
-    write!(out, "{name} 0x{address:08x}")
+    answer.word(before, word);
 }
 
 /// Writes the pc, the register that was written last, and the registers that are not 0.
-fn write_hart<W: Write>(hart: &HartState, out: &mut W) -> io::Result<()> {
-    let pc = hart.pc;
-    write!(out, " pc=0x{pc:08x} last=")?;
-    write_last(hart.last_register_write, out)?;
-    write!(out, " regs=")?;
-    write_registers(&hart.registers, out)
-}
-
-/// Writes the register that was written last.
-fn write_last<W: Write>(last: Option<usize>, out: &mut W) -> io::Result<()> {
-    match last {
-        Some(index) => write!(out, "x{index}"),
-        None => write!(out, "-"),
+fn write_hart<W: Write>(hart: &HartState, answer: &mut Pieces<'_, W>) {
+    answer.word(" pc=0x", hart.pc);
+    match hart.last_register_write {
+        Some(index) => answer.number(" last=x", index),
+        None => answer.text(" last=-"),
     }
-}
-
-/// Writes the registers that are not 0.
-fn write_registers<W: Write>(registers: &[u32; 32], out: &mut W) -> io::Result<()> {
+    answer.text(" regs=");
     let mut separator = "";
-    for (index, value) in registers.iter().enumerate() {
+    for (index, value) in hart.registers.iter().enumerate() {
         if *value != 0 {
-            write!(out, "{separator}x{index}=0x{value:08x}")?;
+            answer.text(separator);
+            answer.number("x", index);
+            answer.word("=0x", *value);
             separator = ",";
         }
     }
     if separator.is_empty() {
-        write!(out, "-")
-    } else {
-        Ok(())
+        answer.text("-");
     }
 }
 
 /// Writes the words of a memory.
-fn write_memory<W: Write>(words: &[u32], out: &mut W) -> io::Result<()> {
-    write!(out, " mem=")?;
-    if words.is_empty() {
-        return write!(out, "-");
-    }
+fn write_memory<W: Write>(words: &[u32], answer: &mut Pieces<'_, W>) {
+    answer.text(" mem=");
     let mut separator = "";
     for word in words {
-        write!(out, "{separator}0x{word:08x}")?;
+        answer.text(separator);
+        answer.word("0x", *word);
         separator = ",";
     }
-    Ok(())
+    if separator.is_empty() {
+        answer.text("-");
+    }
 }

@@ -17,6 +17,7 @@ mod lines;
 mod numerals;
 mod parsing;
 mod questions;
+mod writing;
 
 pub use answers::write_answer;
 pub use lines::{ReplayFault, answer_all, answer_lines};

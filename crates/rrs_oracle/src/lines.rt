@@ -50,7 +50,7 @@ pub fn answer_all<R: Read + Drop, W: Write + Drop>(
     };
     let answered = answer_lines(alloc, &mut input, &mut output);
     let flushed = output.flush();
-    answered.and(flushed.map_err(fault_of_write))
+    answered.and(told(flushed, ReplayFault::Output))
 }
 
 /// Answers each line of the input, keeping one line at a time.
@@ -71,31 +71,26 @@ pub fn answer_lines<R: Read, W: Write>(
     let mut line = Vec::new(alloc);
     for _ in 0..u64::MAX {
         if !input.buffer().contains(&b'\n') {
-            output.flush().map_err(fault_of_write)?;
+            told(output.flush(), ReplayFault::Output)?;
         }
         line.clear();
-        if input.read_until(b'\n', &mut line).map_err(fault_of_read)? == 0 {
+        if told(input.read_until(b'\n', &mut line), ReplayFault::Input)? == 0 {
             break;
         }
         let text = line.strip_suffix(b"\n").unwrap_or(&line);
-        answer_line(alloc, text, output).map_err(fault_of_write)?;
+        told(answer_line(alloc, text, output), ReplayFault::Output)?;
     }
     Ok(())
 }
 
-/// The error of the program that an error of a read is.
-fn fault_of_read(error: io::Error) -> ReplayFault {
-    match error.kind() {
-        ErrorKind::OutOfMemory => ReplayFault::OutOfMemory,
-        _ => ReplayFault::Input,
-    }
-}
-
-/// The error of the program that an error of an answer is.
-fn fault_of_write(error: io::Error) -> ReplayFault {
-    match error.kind() {
-        ErrorKind::OutOfMemory => ReplayFault::OutOfMemory,
-        _ => ReplayFault::Output,
+/// What a read or a write gives to the program, of which an error is this fault or out of memory.
+fn told<T>(given: io::Result<T>, fault: ReplayFault) -> Result<T, ReplayFault> {
+    match given {
+        Ok(value) => Ok(value),
+        Err(error) => Err(match error.kind() {
+            ErrorKind::OutOfMemory => ReplayFault::OutOfMemory,
+            _ => fault,
+        }),
     }
 }
 
@@ -110,7 +105,7 @@ fn answer_line<W: Write>(alloc: Global, line: &[u8], output: &mut W) -> io::Resu
         Err(ParseError::Malformed(kind)) => write!(output, "error: {kind}")?,
         Err(ParseError::OutOfMemory) => return Err(io::Error::from(ErrorKind::OutOfMemory)),
     }
-    writeln!(output)
+    output.write_all(b"\n")
 }
 
 /// The question that the bytes of a line ask.

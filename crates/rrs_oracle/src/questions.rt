@@ -105,8 +105,8 @@ pub enum ParseError {
 impl fmt::Display for ParseError {
     fn fmt<W: fmt::Write>(&self, f: &mut fmt::Formatter<W>) -> fmt::Result {
         match self {
-            ParseError::Malformed(kind) => write!(f, "{kind}"),
-            ParseError::OutOfMemory => write!(f, "out of memory"),
+            ParseError::Malformed(kind) => kind.fmt(f),
+            ParseError::OutOfMemory => f.write_str("out of memory"),
         }
     }
 }
