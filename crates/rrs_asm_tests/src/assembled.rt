@@ -1,6 +1,6 @@
-//! What the tests share: a source as its words, or as its mistakes.
+//! What the tests share: a source as its bytes, as its words, or as its mistakes.
 
-use rrs_asm::{Layout, Program, SourceError, SourceFault, assemble_source, image};
+use rrs_asm::{Layout, Program, SourceError, SourceErrorKind, SourceFault, assemble_source, image};
 use std::alloc::{AllocError, Global};
 use std::process::Abort;
 
@@ -9,58 +9,76 @@ pub(crate) fn made(alloc: Global, source: &[u8], base: u32) -> Result<Program, S
     assemble_source(alloc, source, Layout::flat(base))
 }
 
-/// The words of a source, the last of them filled up with zeros, and its mistakes. Where there are
-/// mistakes there are no words.
-pub(crate) fn assembled(
-    alloc: Global,
-    source: &[u8],
-    base: u32,
-) -> Result<(Vec<u32>, Vec<SourceError>), AllocError> {
+/// The bytes of a source, or its mistakes.
+pub(crate) fn bytes_of(alloc: Global, source: &[u8], base: u32) -> Result<Vec<u8>, SourceFault> {
     match made(alloc, source, base) {
-        Ok(made) => Ok((
-            words_of(alloc, &image(alloc, &made, base)?)?,
-            Vec::new(alloc),
-        )),
-        Err(SourceFault::Errors(errors)) => Ok((Vec::new(alloc), errors)),
-        Err(SourceFault::OutOfMemory) => Err(AllocError),
+        Ok(program) => Ok(image(alloc, &program, base)?),
+        Err(fault) => Err(fault),
     }
 }
 
-/// Bytes as words.
-pub(crate) fn words_of(alloc: Global, bytes: &[u8]) -> Result<Vec<u32>, AllocError> {
+/// The mistakes of a source. None where it has none, or where memory ran out.
+pub(crate) fn errors_of(alloc: Global, source: &str, base: u32) -> Option<Vec<SourceError>> {
+    match bytes_of(alloc, source.as_bytes(), base) {
+        Err(SourceFault::Errors(errors)) => Some(errors),
+        _ => None,
+    }
+}
+
+/// The words of a source, the last of them filled up with zeros. Where there are mistakes there are
+/// no words.
+pub(crate) fn words_of(alloc: Global, source: &str, base: u32) -> Result<Vec<u32>, AllocError> {
     let mut words = Vec::new(alloc);
-    for chunk in bytes.chunks(4) {
-        let mut word = 0u32;
-        for byte in chunk.iter().rev() {
-            word = word.wrapping_mul(0x100).wrapping_add(u32::from(*byte));
+    if let Ok(bytes) = bytes_of(alloc, source.as_bytes(), base) {
+        for chunk in bytes.chunks(4) {
+            words.push(word_of(chunk))?;
         }
-        words.push(word)?;
     }
     Ok(words)
 }
 
-/// Asserts the first words of a source.
-pub(crate) fn same_words(
-    rt: &impl Abort,
-    alloc: Global,
-    source: &str,
-    base: u32,
-    wanted: &[u32],
-) -> Result<(), AllocError> {
-    let (words, _) = assembled(alloc, source.as_bytes(), base)?;
-    assert!(rt; words.starts_with(wanted), "{source}");
-    Ok(())
+/// Up to four bytes as a word.
+fn word_of(bytes: &[u8]) -> u32 {
+    let mut word = [0; 4];
+    for (place, byte) in word.iter_mut().zip(bytes) {
+        *place = *byte;
+    }
+    u32::from_le_bytes(word)
 }
 
-/// Asserts the mistakes of a source.
-pub(crate) fn same_mistakes(
-    rt: &impl Abort,
-    alloc: Global,
-    source: &str,
-    base: u32,
-    wanted: &[SourceError],
-) -> Result<(), AllocError> {
-    let (_, errors) = assembled(alloc, source.as_bytes(), base)?;
-    assert!(rt; errors.as_slice() == wanted, "{source}: {errors:?}");
-    Ok(())
+/// Whether a source begins with these words.
+fn has_words(alloc: Global, source: &str, base: u32, wanted: &[u32]) -> bool {
+    match words_of(alloc, source, base) {
+        Ok(words) => words.starts_with(wanted),
+        Err(_) => false,
+    }
+}
+
+/// Asserts the first words of sources at an address.
+pub(crate) fn same_words(rt: &impl Abort, alloc: Global, base: u32, cases: &[(&str, &[u32])]) {
+    for &(source, words) in cases {
+        assert!(rt; has_words(alloc, source, base, words), "{source}");
+    }
+}
+
+/// The line and the column of a mistake, and what is wrong there.
+pub(crate) type Wrong = (usize, usize, SourceErrorKind);
+
+/// Whether a source has these mistakes.
+fn has_mistakes(alloc: Global, source: &str, base: u32, wanted: &[Wrong]) -> bool {
+    let Some(errors) = errors_of(alloc, source, base) else {
+        return false;
+    };
+    let mut is_same = errors.len() == wanted.len();
+    for (own, &(line, column, kind)) in errors.iter().zip(wanted) {
+        is_same = is_same && *own == SourceError { line, column, kind };
+    }
+    is_same
+}
+
+/// Asserts the mistakes of sources at an address.
+pub(crate) fn same_mistakes(rt: &impl Abort, alloc: Global, base: u32, cases: &[(&str, &[Wrong])]) {
+    for &(source, wanted) in cases {
+        assert!(rt; has_mistakes(alloc, source, base, wanted), "{source}");
+    }
 }

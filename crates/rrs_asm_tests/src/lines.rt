@@ -1,188 +1,162 @@
 //! Lines, and the words that they are.
 
-use crate::assembled::{made, same_words};
-use rrs_asm::{Pseudo, SwappedBranch, Unary, ZeroBranch, image};
+use crate::assembled::{bytes_of, same_words};
+use rrs_asm::{Pseudo, SwappedBranch, Unary, ZeroBranch};
 use rrs_assembly::gnu_text;
 use rrs_lib::disassembly::Disassembled;
 use rrs_lib::instruction::Instruction;
 use std::alloc::{AllocError, Global};
-use std::test::Fail;
 
-/// The text of each row, and its word.
-static ROWS: [(&str, u32); 48] = [
-    ("add x3, x1, x2", 0x002081b3),
-    ("sub x3, x1, x2", 0x402081b3),
-    ("sll x3, x1, x2", 0x002091b3),
-    ("slt x3, x1, x2", 0x0020a1b3),
-    ("sltu x3, x1, x2", 0x0020b1b3),
-    ("xor x3, x1, x2", 0x0020c1b3),
-    ("srl x3, x1, x2", 0x0020d1b3),
-    ("sra x3, x1, x2", 0x4020d1b3),
-    ("or x3, x1, x2", 0x0020e1b3),
-    ("and x3, x1, x2", 0x0020f1b3),
-    ("addi x3, x1, -5", 0xffb08193),
-    ("slli x3, x1, 7", 0x00709193),
-    ("slti x3, x1, -5", 0xffb0a193),
-    ("sltiu x3, x1, -5", 0xffb0b193),
-    ("xori x3, x1, -5", 0xffb0c193),
-    ("srli x3, x1, 7", 0x0070d193),
-    ("srai x3, x1, 7", 0x4070d193),
-    ("ori x3, x1, -5", 0xffb0e193),
-    ("andi x3, x1, -5", 0xffb0f193),
-    ("lui x3, 0x12345", 0x123451b7),
-    ("auipc x3, 0x12345", 0x12345197),
-    ("beq x1, x2, 0x00000108", 0x00208463),
-    ("bne x1, x2, 0x00000108", 0x00209463),
-    ("blt x1, x2, 0x00000108", 0x0020c463),
-    ("bltu x1, x2, 0x00000108", 0x0020e463),
-    ("bge x1, x2, 0x00000108", 0x0020d463),
-    ("bgeu x1, x2, 0x00000108", 0x0020f463),
-    ("lb x3, -4(x1)", 0xffc08183),
-    ("lbu x3, -4(x1)", 0xffc0c183),
-    ("lh x3, -4(x1)", 0xffc09183),
-    ("lhu x3, -4(x1)", 0xffc0d183),
-    ("lw x3, -4(x1)", 0xffc0a183),
-    ("sb x2, 8(x1)", 0x00208423),
-    ("sh x2, 8(x1)", 0x00209423),
-    ("sw x2, 8(x1)", 0x0020a423),
-    ("jal x3, 0x00000110", 0x010001ef),
-    ("jalr x3, 0x014(x1)", 0x014081e7),
-    ("mul x3, x1, x2", 0x022081b3),
-    ("mulh x3, x1, x2", 0x022091b3),
-    ("mulhu x3, x1, x2", 0x0220b1b3),
-    ("mulhsu x3, x1, x2", 0x0220a1b3),
-    ("div x3, x1, x2", 0x0220c1b3),
-    ("divu x3, x1, x2", 0x0220d1b3),
-    ("rem x3, x1, x2", 0x0220e1b3),
-    ("remu x3, x1, x2", 0x0220f1b3),
-    ("fence", 0x0ff0000f),
-    ("ecall", 0x00000073),
-    ("ebreak", 0x00100073),
+/// The text of each row at 0x100, and its word. `lui` and `auipc` take the upper 20 bits alone.
+static ROWS: [(&str, &[u32]); 48] = [
+    ("add x3, x1, x2", &[0x002081b3]),
+    ("sub x3, x1, x2", &[0x402081b3]),
+    ("sll x3, x1, x2", &[0x002091b3]),
+    ("slt x3, x1, x2", &[0x0020a1b3]),
+    ("sltu x3, x1, x2", &[0x0020b1b3]),
+    ("xor x3, x1, x2", &[0x0020c1b3]),
+    ("srl x3, x1, x2", &[0x0020d1b3]),
+    ("sra x3, x1, x2", &[0x4020d1b3]),
+    ("or x3, x1, x2", &[0x0020e1b3]),
+    ("and x3, x1, x2", &[0x0020f1b3]),
+    ("addi x3, x1, -5", &[0xffb08193]),
+    ("slli x3, x1, 7", &[0x00709193]),
+    ("slti x3, x1, -5", &[0xffb0a193]),
+    ("sltiu x3, x1, -5", &[0xffb0b193]),
+    ("xori x3, x1, -5", &[0xffb0c193]),
+    ("srli x3, x1, 7", &[0x0070d193]),
+    ("srai x3, x1, 7", &[0x4070d193]),
+    ("ori x3, x1, -5", &[0xffb0e193]),
+    ("andi x3, x1, -5", &[0xffb0f193]),
+    ("lui x3, 0x12345", &[0x123451b7]),
+    ("auipc x3, 0x12345", &[0x12345197]),
+    ("beq x1, x2, 0x00000108", &[0x00208463]),
+    ("bne x1, x2, 0x00000108", &[0x00209463]),
+    ("blt x1, x2, 0x00000108", &[0x0020c463]),
+    ("bltu x1, x2, 0x00000108", &[0x0020e463]),
+    ("bge x1, x2, 0x00000108", &[0x0020d463]),
+    ("bgeu x1, x2, 0x00000108", &[0x0020f463]),
+    ("lb x3, -4(x1)", &[0xffc08183]),
+    ("lbu x3, -4(x1)", &[0xffc0c183]),
+    ("lh x3, -4(x1)", &[0xffc09183]),
+    ("lhu x3, -4(x1)", &[0xffc0d183]),
+    ("lw x3, -4(x1)", &[0xffc0a183]),
+    ("sb x2, 8(x1)", &[0x00208423]),
+    ("sh x2, 8(x1)", &[0x00209423]),
+    ("sw x2, 8(x1)", &[0x0020a423]),
+    ("jal x3, 0x00000110", &[0x010001ef]),
+    ("jalr x3, 0x014(x1)", &[0x014081e7]),
+    ("mul x3, x1, x2", &[0x022081b3]),
+    ("mulh x3, x1, x2", &[0x022091b3]),
+    ("mulhu x3, x1, x2", &[0x0220b1b3]),
+    ("mulhsu x3, x1, x2", &[0x0220a1b3]),
+    ("div x3, x1, x2", &[0x0220c1b3]),
+    ("divu x3, x1, x2", &[0x0220d1b3]),
+    ("rem x3, x1, x2", &[0x0220e1b3]),
+    ("remu x3, x1, x2", &[0x0220f1b3]),
+    ("fence", &[0x0ff0000f]),
+    ("ecall", &[0x00000073]),
+    ("ebreak", &[0x00100073]),
 ];
 
-/// The text of each row is its word. `lui` and `auipc` take the upper 20 bits alone.
-#[test]
-fn rows_are_assembled(rt: HostRuntime) -> Result<(), Fail> {
-    for &(text, word) in &ROWS {
-        same_words(&rt, rt.alloc(), text, 0x100, &[word])?;
-    }
-    Ok(())
-}
-
-/// Statements, each with its words. The second is 0 where there is none.
-static PSEUDO_INSTRUCTIONS: [(&str, u32, u32); 50] = [
-    ("nop", 0x00000013, 0),
-    ("ret", 0x00008067, 0),
-    ("fence", 0x0ff0000f, 0),
-    ("li a0, 0", 0x00000513, 0),
-    ("li a0, -2048", 0x80000513, 0),
-    ("li a0, 2047", 0x7ff00513, 0),
-    ("li a0, 2048", 0x00001537, 0x80050513),
-    ("li a0, 0x7ffff800", 0x80000537, 0x80050513),
-    ("li a0, 0xfffff7ff", 0xfffff537, 0x7ff50513),
-    ("li a0, 0x80000000", 0x80000537, 0),
-    ("li a0, 0x7ffff7ff", 0x7ffff537, 0x7ff50513),
-    ("li s11, 'A'", 0x04100d93, 0),
-    ("li a0, 0x12345000", 0x12345537, 0),
-    ("mv a0, a1", 0x00058513, 0),
-    ("not a0, a1", 0xfff5c513, 0),
-    ("neg a0, a1", 0x40b00533, 0),
-    ("seqz a0, a1", 0x0015b513, 0),
-    ("snez a0, a1", 0x00b03533, 0),
-    ("sltz a0, a1", 0x0005a533, 0),
-    ("sgtz a0, a1", 0x00b02533, 0),
-    ("beqz a0, . + 8", 0x00050463, 0),
-    ("bnez a0, . + 8", 0x00051463, 0),
-    ("blez a0, . + 8", 0x00a05463, 0),
-    ("bgez a0, . + 8", 0x00055463, 0),
-    ("bltz a0, . + 8", 0x00054463, 0),
-    ("bgtz a0, . - 8", 0xfea04ce3, 0),
-    ("bgt a0, a1, . + 8", 0x00a5c463, 0),
-    ("ble a0, a1, . + 8", 0x00a5d463, 0),
-    ("bgtu a0, a1, . + 8", 0x00a5e463, 0),
-    ("bleu a0, a1, . - 4096", 0x80a5f063, 0),
-    ("j . + 8", 0x0080006f, 0),
-    ("jal . - 8", 0xff9ff0ef, 0),
-    ("jr a0", 0x00050067, 0),
-    ("jalr a0", 0x000500e7, 0),
-    ("jalr t0, a0", 0x000502e7, 0),
-    ("jalr t0, a0, -4", 0xffc502e7, 0),
-    ("jalr t0, -4(a0)", 0xffc502e7, 0),
-    ("la a0, . + 0x1800", 0x00002517, 0x80050513),
-    ("la a0, . - 4", 0x00000517, 0xffc50513),
-    ("call . + 0x800", 0x00001097, 0x800080e7),
-    ("call . - 0x801", 0xfffff097, 0x7ff080e7),
-    ("tail . + 0x12345678", 0x12345317, 0x67830067),
-    ("lui a0, %hi(0x12345fff)", 0x12346537, 0),
-    ("addi a0, a0, %lo(0x12345fff)", 0xfff50513, 0),
-    ("lw a0, %lo(0x12345fff)(a1)", 0xfff5a503, 0),
-    ("sw zero, (sp)", 0x00012023, 0),
-    ("fence rw, w", 0x0310000f, 0),
-    ("addi fp, gp, 0xffffffff", 0xfff18413, 0),
-    ("lui t6, 0xfffff", 0xffffffb7, 0),
-    ("xori tp, ra, '\\n'", 0x00a0c213, 0),
+/// Pseudo-instructions, and how operands can be written.
+static PSEUDO_INSTRUCTIONS: [(&str, &[u32]); 50] = [
+    ("nop", &[0x00000013]),
+    ("ret", &[0x00008067]),
+    ("fence", &[0x0ff0000f]),
+    ("li a0, 0", &[0x00000513]),
+    ("li a0, -2048", &[0x80000513]),
+    ("li a0, 2047", &[0x7ff00513]),
+    ("li a0, 2048", &[0x00001537, 0x80050513]),
+    ("li a0, 0x7ffff800", &[0x80000537, 0x80050513]),
+    ("li a0, 0xfffff7ff", &[0xfffff537, 0x7ff50513]),
+    ("li a0, 0x80000000", &[0x80000537]),
+    ("li a0, 0x7ffff7ff", &[0x7ffff537, 0x7ff50513]),
+    ("li s11, 'A'", &[0x04100d93]),
+    ("li a0, 0x12345000", &[0x12345537]),
+    ("mv a0, a1", &[0x00058513]),
+    ("not a0, a1", &[0xfff5c513]),
+    ("neg a0, a1", &[0x40b00533]),
+    ("seqz a0, a1", &[0x0015b513]),
+    ("snez a0, a1", &[0x00b03533]),
+    ("sltz a0, a1", &[0x0005a533]),
+    ("sgtz a0, a1", &[0x00b02533]),
+    ("beqz a0, . + 8", &[0x00050463]),
+    ("bnez a0, . + 8", &[0x00051463]),
+    ("blez a0, . + 8", &[0x00a05463]),
+    ("bgez a0, . + 8", &[0x00055463]),
+    ("bltz a0, . + 8", &[0x00054463]),
+    ("bgtz a0, . - 8", &[0xfea04ce3]),
+    ("bgt a0, a1, . + 8", &[0x00a5c463]),
+    ("ble a0, a1, . + 8", &[0x00a5d463]),
+    ("bgtu a0, a1, . + 8", &[0x00a5e463]),
+    ("bleu a0, a1, . - 4096", &[0x80a5f063]),
+    ("j . + 8", &[0x0080006f]),
+    ("jal . - 8", &[0xff9ff0ef]),
+    ("jr a0", &[0x00050067]),
+    ("jalr a0", &[0x000500e7]),
+    ("jalr t0, a0", &[0x000502e7]),
+    ("jalr t0, a0, -4", &[0xffc502e7]),
+    ("jalr t0, -4(a0)", &[0xffc502e7]),
+    ("la a0, . + 0x1800", &[0x00002517, 0x80050513]),
+    ("la a0, . - 4", &[0x00000517, 0xffc50513]),
+    ("call . + 0x800", &[0x00001097, 0x800080e7]),
+    ("call . - 0x801", &[0xfffff097, 0x7ff080e7]),
+    ("tail . + 0x12345678", &[0x12345317, 0x67830067]),
+    ("lui a0, %hi(0x12345fff)", &[0x12346537]),
+    ("addi a0, a0, %lo(0x12345fff)", &[0xfff50513]),
+    ("lw a0, %lo(0x12345fff)(a1)", &[0xfff5a503]),
+    ("sw zero, (sp)", &[0x00012023]),
+    ("fence rw, w", &[0x0310000f]),
+    ("addi fp, gp, 0xffffffff", &[0xfff18413]),
+    ("lui t6, 0xfffff", &[0xffffffb7]),
+    ("xori tp, ra, '\\n'", &[0x00a0c213]),
 ];
 
-/// Pseudo-instructions, and how operands can be written. The second word is 0 where there is none.
-#[test]
-fn pseudo_instructions_are_expanded(rt: HostRuntime) -> Result<(), Fail> {
-    for &(text, first, second) in &PSEUDO_INSTRUCTIONS {
-        let count = if second == 0 { 1 } else { 2 };
-        same_words(&rt, rt.alloc(), text, 0, &[first, second][..count])?;
-    }
-    Ok(())
-}
-
-/// Sources, each with the word behind a `nop`.
-static SYMBOLS: [(&str, u32); 7] = [
-    ("a: nop\nj a", 0xffdff06f),
-    ("nop\nj a\nnop\na:", 0x0080006f),
-    ("1: nop\n1: j 1b\n1:", 0x0000006f),
-    ("1: nop\n1: j 1f\n1:", 0x0040006f),
-    ("1: nop ; .word 2f - 1b, 7 # ;\n1: 2:", 12),
+/// Labels before and behind, local labels, constants, comments, and several statements on a line.
+static SYMBOLS: [(&str, &[u32]); 7] = [
+    ("a: nop\nj a", &[0x00000013, 0xffdff06f]),
+    ("nop\nj a\nnop\na:", &[0x00000013, 0x0080006f]),
+    ("1: nop\n1: j 1b\n1:", &[0x00000013, 0x0000006f]),
+    ("1: nop\n1: j 1f\n1:", &[0x00000013, 0x0040006f]),
+    ("1: nop ; .word 2f - 1b, 7 # ;\n1: 2:", &[0x00000013, 12]),
     (
         "nop\n.equ n, 5\n.set n, n + 1\nm = n - -1 // m\naddi x1, x0, m",
-        0x00700093,
+        &[0x00000013, 0x00700093],
     ),
     (
         ".text\n.globl a, b\nnop\n\ta:b: li a0, 'a' + 1\r\n",
-        0x06200513,
+        &[0x00000013, 0x06200513],
     ),
 ];
 
-/// Labels before and behind, local labels, constants, comments, and several statements on a line:
-/// the word behind a `nop`.
-#[test]
-fn symbols_stand_for_addresses(rt: HostRuntime) -> Result<(), Fail> {
-    for &(text, word) in &SYMBOLS {
-        same_words(&rt, rt.alloc(), text, 0, &[0x00000013, word])?;
-    }
-    Ok(())
-}
-
-/// Directives, each with the word that its bytes make.
-static DATA: [(&str, u32); 12] = [
-    (".word 0xfedcba98", 0xfedcba98),
-    (".half 0x1234, -1", 0xffff1234),
-    (".byte 1, 2, 'c', -128", 0x80630201),
-    (".byte 0b101", 5),
-    (".ascii \"a\\n\\\"#\"", 0x23220a61),
-    (".asciz \"ab\"", 0x00006261),
-    (".string \"a\", \"b\"", 0x00620061),
-    (".byte 1\n.balign 4", 1),
-    (".space 2, 7\n.half 1", 0x00010707),
-    (".byte 9\n.org 0x103\n.byte 8", 0x08000009),
-    (".word a + 4 - 2\na:", 0x00000106),
-    (".half 1\n.p2align 3\na = .\n", 1),
+/// Directives at 0x100, each with the word that its bytes make.
+static DATA: [(&str, &[u32]); 12] = [
+    (".word 0xfedcba98", &[0xfedcba98]),
+    (".half 0x1234, -1", &[0xffff1234]),
+    (".byte 1, 2, 'c', -128", &[0x80630201]),
+    (".byte 0b101", &[5]),
+    (".ascii \"a\\n\\\"#\"", &[0x23220a61]),
+    (".asciz \"ab\"", &[0x00006261]),
+    (".string \"a\", \"b\"", &[0x00620061]),
+    (".byte 1\n.balign 4", &[1]),
+    (".space 2, 7\n.half 1", &[0x00010707]),
+    (".byte 9\n.org 0x103\n.byte 8", &[0x08000009]),
+    (".word a + 4 - 2\na:", &[0x00000106]),
+    (".half 1\n.p2align 3\na = .\n", &[1]),
 ];
 
-/// Directives, and the words that their bytes make.
+/// The last statement ends at the end of addresses.
+static LAST: [(&str, &[u32]); 1] = [(".word .", &[0xffff_fffc])];
+
+/// These sources begin with their words.
 #[test]
-fn data_is_placed(rt: HostRuntime) -> Result<(), Fail> {
-    for &(text, word) in &DATA {
-        same_words(&rt, rt.alloc(), text, 0x100, &[word])?;
-    }
-    Ok(())
+fn lines_are_their_words(rt: HostRuntime) {
+    same_words(&rt, rt.alloc(), 0x100, &ROWS);
+    same_words(&rt, rt.alloc(), 0, &PSEUDO_INSTRUCTIONS);
+    same_words(&rt, rt.alloc(), 0, &SYMBOLS);
+    same_words(&rt, rt.alloc(), 0x100, &DATA);
+    same_words(&rt, rt.alloc(), 0xffff_fffc, &LAST);
 }
 
 /// Pseudo-instructions, each with the texts at 0 of its instructions, the second of them empty where
@@ -246,19 +220,12 @@ fn is_expanded(pseudo: Pseudo, first: &str, second: &str) -> bool {
     is_second && has_text(expansion.first, first)
 }
 
-/// Each is expanded: how many are not, and the first of these.
+/// Each is expanded.
 #[test]
-fn a_pseudo_instruction_is_expanded(rt: HostRuntime) -> Result<(), Fail> {
-    let mut different = 0usize;
-    let mut first_index = usize::MAX;
-    for (index, &(pseudo, first, second)) in EXPANDED.iter().enumerate() {
-        if !is_expanded(pseudo, first, second) {
-            different = different.saturating_add(1);
-            first_index = first_index.min(index);
-        }
+fn a_pseudo_instruction_is_expanded(rt: HostRuntime) {
+    for &(pseudo, first, second) in &EXPANDED {
+        assert!(rt; is_expanded(pseudo, first, second), "{first}");
     }
-    assert_eq!(rt; (different, first_index), (0, usize::MAX));
-    Ok(())
 }
 
 /// 4,001 bytes of every kind.
@@ -274,20 +241,17 @@ fn bytes_of_every_kind(alloc: Global) -> Result<Vec<u8>, AllocError> {
     Ok(bytes)
 }
 
-/// The bytes of a source at 0.
-fn bytes_of(alloc: Global, source: &[u8]) -> Result<Vec<u8>, Fail> {
-    match made(alloc, source, 0) {
-        Ok(program) => Ok(image(alloc, &program, 0)?),
-        Err(_) => Err(Fail::from("the source is not assembled")),
+/// Bytes of every kind as a source for GNU `as`, which is assembled to the same bytes.
+fn are_assembled_again(alloc: Global) -> Result<bool, AllocError> {
+    let bytes = bytes_of_every_kind(alloc)?;
+    let text = gnu_text(alloc, &bytes)?;
+    match bytes_of(alloc, text.as_bytes(), 0) {
+        Ok(again) => Ok(again.as_slice() == bytes.as_slice()),
+        Err(_) => Ok(false),
     }
 }
 
-/// Bytes of every kind as a source for GNU `as`, which is assembled to the same bytes.
 #[test]
-fn gnu_text_is_assembled_again(rt: HostRuntime) -> Result<(), Fail> {
-    let bytes = bytes_of_every_kind(rt.alloc())?;
-    let text = gnu_text(rt.alloc(), &bytes)?;
-    let again = bytes_of(rt.alloc(), text.as_bytes())?;
-    assert!(rt; again.as_slice() == bytes.as_slice());
-    Ok(())
+fn gnu_text_is_assembled_again(rt: HostRuntime) {
+    assert!(rt; are_assembled_again(rt.alloc()) == Ok(true));
 }

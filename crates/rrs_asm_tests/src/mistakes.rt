@@ -1,134 +1,91 @@
 //! Sources with mistakes, and the places that are told.
 
-use crate::assembled::{made, same_mistakes, same_words};
-use rrs_asm::{SourceError, SourceErrorKind, SourceFault, image};
+use crate::assembled::{Wrong, bytes_of, same_mistakes};
+use rrs_asm::{SourceErrorKind, SourceFault};
 use std::alloc::Global;
-use std::test::Fail;
 
-/// Sources, each with the line and the column of its mistake.
-static MISTAKES: [(&str, usize, usize, SourceErrorKind); 40] = [
-    ("nop\n  addx a0, a1", 2, 3, SourceErrorKind::Unknown),
-    (".wrod 1", 1, 1, SourceErrorKind::Unknown),
-    ("addi-1", 1, 1, SourceErrorKind::Unknown),
-    ("nop\n\n)", 3, 1, SourceErrorKind::Character),
-    ("2a: nop", 1, 1, SourceErrorKind::Character),
-    ("add a0, x32, a1", 1, 9, SourceErrorKind::Register),
-    ("li a0,", 1, 7, SourceErrorKind::Value),
-    ("addi a0, a0, %top(4)", 1, 15, SourceErrorKind::Value),
-    ("li a0, 0x", 1, 8, SourceErrorKind::Number),
-    ("li a0, 4294967296", 1, 8, SourceErrorKind::Number),
-    ("li a0, 018", 1, 8, SourceErrorKind::Number),
-    ("addi a0, a0, 2048", 1, 14, SourceErrorKind::Range),
-    ("li a0, -2147483649", 1, 9, SourceErrorKind::Range),
-    ("slli a0, a0, 32", 1, 14, SourceErrorKind::Range),
-    ("lui a0, 0x100000", 1, 9, SourceErrorKind::Range),
-    (".byte 256", 1, 7, SourceErrorKind::Range),
-    (".balign 3", 1, 9, SourceErrorKind::Range),
-    ("beq a0, a1, . + 4096", 1, 13, SourceErrorKind::Range),
-    ("j . - 0x100002", 1, 3, SourceErrorKind::Range),
-    ("j . + 1", 1, 3, SourceErrorKind::Unaligned),
-    ("add a0 a1, a2", 1, 8, SourceErrorKind::Comma),
-    ("lw a0, 4", 1, 9, SourceErrorKind::Parenthesis),
-    ("lw a0, 4(a1", 1, 12, SourceErrorKind::Parenthesis),
-    (".ascii \"ab", 1, 11, SourceErrorKind::Quote),
-    ("li a0, 'ab'", 1, 10, SourceErrorKind::Quote),
-    (".ascii \"a\\q\"", 1, 11, SourceErrorKind::Escape),
-    ("nop nop", 1, 5, SourceErrorKind::More),
-    ("j there", 1, 3, SourceErrorKind::Undefined),
-    ("j 1b\n1:", 1, 3, SourceErrorKind::Undefined),
-    ("li a0, a\na:", 1, 8, SourceErrorKind::Later),
-    ("a:\nnop; a: nop", 2, 6, SourceErrorKind::Duplicate),
-    ("a0: nop", 1, 1, SourceErrorKind::Reserved),
-    (".section", 1, 9, SourceErrorKind::Section),
+/// Sources, each with the line and the column of its mistake. Of several the first of each line is
+/// told, in the order of the lines.
+static MISTAKES: [(&str, &[Wrong]); 42] = [
+    ("nop\n  addx a0, a1", &[(2, 3, SourceErrorKind::Unknown)]),
+    (".wrod 1", &[(1, 1, SourceErrorKind::Unknown)]),
+    ("addi-1", &[(1, 1, SourceErrorKind::Unknown)]),
+    ("nop\n\n)", &[(3, 1, SourceErrorKind::Character)]),
+    ("2a: nop", &[(1, 1, SourceErrorKind::Character)]),
+    ("add a0, x32, a1", &[(1, 9, SourceErrorKind::Register)]),
+    ("li a0,", &[(1, 7, SourceErrorKind::Value)]),
+    ("addi a0, a0, %top(4)", &[(1, 15, SourceErrorKind::Value)]),
+    ("li a0, 0x", &[(1, 8, SourceErrorKind::Number)]),
+    ("li a0, 4294967296", &[(1, 8, SourceErrorKind::Number)]),
+    ("li a0, 018", &[(1, 8, SourceErrorKind::Number)]),
+    ("addi a0, a0, 2048", &[(1, 14, SourceErrorKind::Range)]),
+    ("li a0, -2147483649", &[(1, 9, SourceErrorKind::Range)]),
+    ("slli a0, a0, 32", &[(1, 14, SourceErrorKind::Range)]),
+    ("lui a0, 0x100000", &[(1, 9, SourceErrorKind::Range)]),
+    (".byte 256", &[(1, 7, SourceErrorKind::Range)]),
+    (".balign 3", &[(1, 9, SourceErrorKind::Range)]),
+    ("beq a0, a1, . + 4096", &[(1, 13, SourceErrorKind::Range)]),
+    ("j . - 0x100002", &[(1, 3, SourceErrorKind::Range)]),
+    ("j . + 1", &[(1, 3, SourceErrorKind::Unaligned)]),
+    ("add a0 a1, a2", &[(1, 8, SourceErrorKind::Comma)]),
+    ("lw a0, 4", &[(1, 9, SourceErrorKind::Parenthesis)]),
+    ("lw a0, 4(a1", &[(1, 12, SourceErrorKind::Parenthesis)]),
+    (".ascii \"ab", &[(1, 11, SourceErrorKind::Quote)]),
+    ("li a0, 'ab'", &[(1, 10, SourceErrorKind::Quote)]),
+    (".ascii \"a\\q\"", &[(1, 11, SourceErrorKind::Escape)]),
+    ("nop nop", &[(1, 5, SourceErrorKind::More)]),
+    ("j there", &[(1, 3, SourceErrorKind::Undefined)]),
+    ("j 1b\n1:", &[(1, 3, SourceErrorKind::Undefined)]),
+    ("li a0, a\na:", &[(1, 8, SourceErrorKind::Later)]),
+    ("a:\nnop; a: nop", &[(2, 6, SourceErrorKind::Duplicate)]),
+    ("a0: nop", &[(1, 1, SourceErrorKind::Reserved)]),
+    (".section", &[(1, 9, SourceErrorKind::Section)]),
     (
         ".section .debug\n.popsection",
-        2,
-        1,
-        SourceErrorKind::Unsupported,
+        &[(2, 1, SourceErrorKind::Unsupported)],
     ),
-    (". = . + 4", 1, 1, SourceErrorKind::Unsupported),
+    (". = . + 4", &[(1, 1, SourceErrorKind::Unsupported)]),
     (
         "1: auipc a0, %pcrel_hi(x)\nx: addi a0, a0, %pcrel_lo(1b + 0)",
-        2,
-        18,
-        SourceErrorKind::Distance,
+        &[(2, 18, SourceErrorKind::Distance)],
     ),
     (
         "nop\n1: nop\naddi a0, a0, %pcrel_lo(1b)\n.section .text.x\nnop\nauipc a0, %pcrel_hi(.)",
-        3,
-        15,
-        SourceErrorKind::Distance,
+        &[(3, 15, SourceErrorKind::Distance)],
     ),
-    ("nop\n.org 2", 2, 6, SourceErrorKind::Backward),
-    (".byte 1\nnop\nnop", 2, 1, SourceErrorKind::Misplaced),
-    (".space 0x4000001", 1, 8, SourceErrorKind::TooLong),
-];
-
-/// Each mistake, with the line and the column where it is.
-#[test]
-fn mistakes_are_told_with_their_places(rt: HostRuntime) -> Result<(), Fail> {
-    for &(text, line, column, kind) in &MISTAKES {
-        let expected = SourceError { line, column, kind };
-        same_mistakes(&rt, rt.alloc(), text, 0, &[expected])?;
-    }
-    Ok(())
-}
-
-/// The mistakes of three lines of a source, in their order.
-static IN_ORDER: [SourceError; 3] = [
-    SourceError {
-        line: 1,
-        column: 3,
-        kind: SourceErrorKind::Register,
-    },
-    SourceError {
-        line: 3,
-        column: 3,
-        kind: SourceErrorKind::Undefined,
-    },
-    SourceError {
-        line: 4,
-        column: 9,
-        kind: SourceErrorKind::Value,
-    },
-];
-
-/// The first mistake of each line is told, in the order of the lines.
-#[test]
-fn every_line_with_a_mistake_is_told(rt: HostRuntime) -> Result<(), Fail> {
-    same_mistakes(
-        &rt,
-        rt.alloc(),
+    ("nop\n.org 2", &[(2, 6, SourceErrorKind::Backward)]),
+    (".byte 1\nnop\nnop", &[(2, 1, SourceErrorKind::Misplaced)]),
+    (".space 0x4000001", &[(1, 8, SourceErrorKind::TooLong)]),
+    (".comm b, 2, 3", &[(1, 13, SourceErrorKind::Range)]),
+    (
         "li\nnop\nj a; j b\n.word 1,\n",
-        0,
-        &IN_ORDER,
-    )?;
-    Ok(())
-}
+        &[
+            (1, 3, SourceErrorKind::Register),
+            (3, 3, SourceErrorKind::Undefined),
+            (4, 9, SourceErrorKind::Value),
+        ],
+    ),
+];
 
-/// The last statement ends at the end of addresses, and no statement and no section follows it.
+/// No statement and no section follows the end of addresses.
+static BEHIND_ALL: [(&str, &[Wrong]); 2] = [
+    ("nop\nnop", &[(2, 1, SourceErrorKind::TooLong)]),
+    ("nop\n.data", &[(2, 1, SourceErrorKind::TooLong)]),
+];
+
 #[test]
-fn addresses_end(rt: HostRuntime) -> Result<(), Fail> {
-    same_words(&rt, rt.alloc(), ".word .", 0xffff_fffc, &[0xffff_fffc])?;
-    let error = SourceError {
-        line: 2,
-        column: 1,
-        kind: SourceErrorKind::TooLong,
-    };
-    same_mistakes(&rt, rt.alloc(), "nop\nnop", 0xffff_fffc, &[error])?;
-    same_mistakes(&rt, rt.alloc(), "nop\n.data", 0xffff_fffc, &[error])?;
-    Ok(())
+fn mistakes_are_told_with_their_places(rt: HostRuntime) {
+    same_mistakes(&rt, rt.alloc(), 0, &MISTAKES);
+    same_mistakes(&rt, rt.alloc(), 0xffff_fffc, &BEHIND_ALL);
 }
 
 /// A source with labels, a constant, and data.
 const SOURCE: &[u8] = b"a: .word 1f, a\n.ascii \"xyz\"\nb = 1\n1:\n.byte b";
 
-/// Whether a source is assembled to the bytes that are wanted, or None where memory ran out.
+/// Whether it is assembled to the bytes that are wanted, or None where memory ran out.
 fn is_assembled(alloc: Global) -> Option<bool> {
-    match made(alloc, SOURCE, 0) {
-        Ok(made) => Some(
-            image(alloc, &made, 0).ok()?.as_slice() == b"\x0b\0\0\0\0\0\0\0xyz\x01".as_slice(),
-        ),
+    match bytes_of(alloc, SOURCE, 0) {
+        Ok(bytes) => Some(bytes.as_slice() == b"\x0b\0\0\0\0\0\0\0xyz\x01".as_slice()),
         Err(SourceFault::OutOfMemory) => None,
         Err(SourceFault::Errors(_)) => Some(false),
     }

@@ -1,9 +1,18 @@
 //! The labels and the statements of a source, each with its line and its address.
 
 use crate::assembled::made;
-use rrs_asm::Label;
 use std::alloc::Global;
-use std::test::Fail;
+
+/// A source, and what stands where in it.
+struct Case {
+    source: &'static [u8],
+    /// Its address.
+    base: u32,
+    /// The line, the name and the address of each label.
+    labels: &'static [(usize, &'static [u8], u32)],
+    /// The line and the address of each statement.
+    places: &'static [(usize, u32)],
+}
 
 /// A source with labels, local labels, comments, strings and character constants with what would
 /// separate statements elsewhere, constants, and lines with nothing in them.
@@ -16,102 +25,56 @@ const SOURCE: &[u8] = b"a: nop
 e:.byte ';', '#';.space 3;
 end:";
 
-/// Its labels.
-static LABELS: [Label<'static>; 7] = [
-    Label {
-        line: 1,
-        name: b"a",
-        address: 0x100,
+/// That source, and one whose label is behind the last address, which is 0.
+static CASES: [Case; 2] = [
+    Case {
+        source: SOURCE,
+        base: 0x100,
+        labels: &[
+            (1, b"a", 0x100),
+            (2, b"1", 0x104),
+            (2, b"b", 0x104),
+            (5, b"c", 0x10c),
+            (5, b"1", 0x113),
+            (7, b"e", 0x115),
+            (8, b"end", 0x11a),
+        ],
+        places: &[
+            (1, 0x100),
+            (2, 0x104),
+            (5, 0x10c),
+            (5, 0x113),
+            (7, 0x115),
+            (7, 0x117),
+        ],
     },
-    Label {
-        line: 2,
-        name: b"1",
-        address: 0x104,
-    },
-    Label {
-        line: 2,
-        name: b"b",
-        address: 0x104,
-    },
-    Label {
-        line: 5,
-        name: b"c",
-        address: 0x10c,
-    },
-    Label {
-        line: 5,
-        name: b"1",
-        address: 0x113,
-    },
-    Label {
-        line: 7,
-        name: b"e",
-        address: 0x115,
-    },
-    Label {
-        line: 8,
-        name: b"end",
-        address: 0x11a,
+    Case {
+        source: b".word end\nend:",
+        base: 0xffff_fffc,
+        labels: &[(2, b"end", 0)],
+        places: &[(1, 0xffff_fffc)],
     },
 ];
 
-/// The lines and the addresses of its statements.
-static PLACES: [(usize, u32); 6] = [
-    (1, 0x100),
-    (2, 0x104),
-    (5, 0x10c),
-    (5, 0x113),
-    (7, 0x115),
-    (7, 0x117),
-];
-
-/// Whether a source at an address has these labels, and statements at these places. None where it
-/// is not assembled.
-fn has_places(
-    alloc: Global,
-    source: &[u8],
-    base: u32,
-    labels: &[Label<'static>],
-    places: &[(usize, u32)],
-) -> Option<bool> {
-    let Ok(program) = made(alloc, source, base) else {
-        return None;
-    };
+/// Whether a source has these labels, and statements at these places, in its first section. None
+/// where it is not assembled.
+fn has_places(alloc: Global, case: &Case) -> Option<bool> {
+    let program = made(alloc, case.source, case.base).ok()?;
     let made = &program.sections.first()?.made;
-    let mut is_same = made.labels.len() == labels.len() && made.placed.len() == places.len();
-    for (own, wanted) in made.labels.iter().zip(labels) {
-        is_same = is_same
-            && own.line == wanted.line
-            && own.name == wanted.name
-            && own.address == wanted.address;
+    let is_labels = made.labels.len() == case.labels.len();
+    let mut is_same = is_labels && made.placed.len() == case.places.len();
+    for (own, &(line, name, address)) in made.labels.iter().zip(case.labels) {
+        is_same = is_same && own.line == line && own.name == name && own.address == address;
     }
-    for (own, wanted) in made.placed.iter().zip(places) {
-        is_same = is_same && own.line == wanted.0 && own.address == wanted.1;
+    for (own, &(line, address)) in made.placed.iter().zip(case.places) {
+        is_same = is_same && own.line == line && own.address == address;
     }
     Some(is_same)
 }
 
 #[test]
 fn labels_and_statements_are_listed(rt: HostRuntime) {
-    let answer = has_places(rt.alloc(), SOURCE, 0x100, &LABELS, &PLACES);
-    assert!(rt; answer == Some(true));
-}
-
-/// The label behind the last address.
-static LAST: [Label<'static>; 1] = [Label {
-    line: 2,
-    name: b"end",
-    address: 0,
-}];
-
-#[test]
-fn a_label_behind_the_last_address_is_0(rt: HostRuntime) {
-    let answer = has_places(
-        rt.alloc(),
-        b".word end\nend:",
-        0xffff_fffc,
-        &LAST,
-        &[(1, 0xffff_fffc)],
-    );
-    assert!(rt; answer == Some(true));
+    for (index, case) in CASES.iter().enumerate() {
+        assert!(rt; has_places(rt.alloc(), case) == Some(true), "at {index}");
+    }
 }

@@ -1,6 +1,6 @@
 //! The programs of `examples/assembly`: each is assembled, compared with its words, and run.
 
-use crate::assembled::assembled;
+use crate::assembled::words_of;
 use rrs_lib::HartState;
 use rrs_lib::instruction_executor::InstructionExecutor;
 use rrs_lib::memories::VecMemory;
@@ -161,7 +161,7 @@ fn run_over(memory: &mut VecMemory, registers: [u32; 3]) -> (u64, [u32; 32]) {
 /// Whether a program has its words, and its run leaves what it has to: the steps, the register, and
 /// the word at 0x80.
 fn is_right(alloc: Global, case: &Case) -> Result<bool, AllocError> {
-    let (words, _) = assembled(alloc, case.source.as_bytes(), 0)?;
+    let words = words_of(alloc, case.source, 0)?;
     let is_wanted = words.as_slice() == case.words;
     let mut memory = memory_of(words, case.others)?;
     let (steps, registers) = run_over(&mut memory, case.registers);

@@ -1,9 +1,7 @@
 //! Sections, operators, directives and pseudo-instructions with symbols. The words are those that
 //! GNU `as` and `ld` make.
 
-use crate::assembled::{same_mistakes, same_words};
-use rrs_asm::{SourceError, SourceErrorKind};
-use std::test::Fail;
+use crate::assembled::same_words;
 
 /// Statements at 0x100, each with its words.
 static STATEMENTS: [(&str, &[u32]); 15] = [
@@ -47,14 +45,6 @@ static STATEMENTS: [(&str, &[u32]); 15] = [
     ),
 ];
 
-#[test]
-fn statements_are_those_of_gnu(rt: HostRuntime) -> Result<(), Fail> {
-    for &(text, words) in &STATEMENTS {
-        same_words(&rt, rt.alloc(), text, 0x100, words)?;
-    }
-    Ok(())
-}
-
 /// A source with sections, their order mixed, and what is read over.
 const SECTIONS: &str = "    .file \"a.c\"
     .option nopic
@@ -83,16 +73,6 @@ w:  .word nothing
     .ident \"GCC\"
 ";
 
-/// The sections lie one behind the other, and symbols reach across them.
-#[test]
-fn sections_are_laid_out(rt: HostRuntime) -> Result<(), Fail> {
-    let words = [
-        0x00000537, 0x10f52503, 0x00000118, 0x0c006261, 0x00000001, 0, 0,
-    ];
-    same_words(&rt, rt.alloc(), SECTIONS, 0x100, &words)?;
-    Ok(())
-}
-
 /// What `.comm` and `.lcomm` say lies behind `.bss`, whichever section is open.
 const COMMON: &str = "    .local b
     .comm b, 2, 4
@@ -103,15 +83,19 @@ a:  .zero 1
     .word a, b, c
 ";
 
+/// The sections lie one behind the other, and symbols reach across them.
+static LAID_OUT: [(&str, &[u32]); 2] = [
+    (
+        SECTIONS,
+        &[
+            0x00000537, 0x10f52503, 0x00000118, 0x0c006261, 0x00000001, 0, 0,
+        ],
+    ),
+    (COMMON, &[0x0000010c, 0x00000110, 0x00000112, 0, 0, 0]),
+];
+
 #[test]
-fn symbols_of_comm_are_laid_out(rt: HostRuntime) -> Result<(), Fail> {
-    let words = [0x0000010c, 0x00000110, 0x00000112, 0, 0, 0];
-    same_words(&rt, rt.alloc(), COMMON, 0x100, &words)?;
-    let error = SourceError {
-        line: 1,
-        column: 13,
-        kind: SourceErrorKind::Range,
-    };
-    same_mistakes(&rt, rt.alloc(), ".comm b, 2, 3", 0, &[error])?;
-    Ok(())
+fn statements_and_sections_are_those_of_gnu(rt: HostRuntime) {
+    same_words(&rt, rt.alloc(), 0x100, &STATEMENTS);
+    same_words(&rt, rt.alloc(), 0x100, &LAID_OUT);
 }

@@ -1,9 +1,8 @@
 //! What is told of mistakes: what is wanted, and what was probably meant.
 
-use crate::assembled::assembled;
-use rrs_assembly::{MOST_MISTAKES, mistakes_of};
+use crate::assembled::errors_of;
+use rrs_assembly::{MOST_MISTAKES, Mistake, mistakes_of};
 use std::alloc::{AllocError, Global};
-use std::test::Fail;
 
 /// Sources, each with what is told of it.
 static TOLD: [(&str, &str); 39] = [
@@ -211,20 +210,27 @@ static TOLD: [(&str, &str); 39] = [
     ),
 ];
 
+/// What is told of a source. None where it has no mistakes, or where memory ran out.
+fn mistakes_in(alloc: Global, source: &str) -> Option<Vec<Mistake>> {
+    let errors = errors_of(alloc, source, 0)?;
+    mistakes_of(alloc, source.as_bytes(), &[], &errors).ok()
+}
+
 /// What is told of a source, a line for each mistake.
 fn told(alloc: Global, source: &str) -> Result<String, AllocError> {
-    let (_, errors) = assembled(alloc, source.as_bytes(), 0)?;
     let mut text = String::new(alloc);
-    for mistake in mistakes_of(alloc, source.as_bytes(), &[], &errors)? {
-        let (line, column, own) = (mistake.line, mistake.column, mistake.text.as_str());
-        writeln!(&mut text, "{line}:{column}: {own}")?;
+    if let Some(mistakes) = mistakes_in(alloc, source) {
+        for mistake in &mistakes {
+            let (line, column, own) = (mistake.line, mistake.column, mistake.text.as_str());
+            writeln!(&mut text, "{line}:{column}: {own}")?;
+        }
     }
     Ok(text)
 }
 
 /// Each mistake is told with what is wanted there, and what was probably meant.
 #[test]
-fn mistakes_are_told_with_what_was_meant(rt: HostRuntime) -> Result<(), Fail> {
+fn mistakes_are_told_with_what_was_meant(rt: HostRuntime) -> Result<(), AllocError> {
     for &(source, wanted) in &TOLD {
         let text = told(rt.alloc(), source)?;
         assert!(rt; text.as_str() == wanted, "{source}: {text}");
@@ -232,19 +238,13 @@ fn mistakes_are_told_with_what_was_meant(rt: HostRuntime) -> Result<(), Fail> {
     Ok(())
 }
 
+/// Twenty-five lines with a mistake in each.
+const MANY: &str = "li\nli\nli\nli\nli\nli\nli\nli\nli\nli\nli\nli\nli\n\
+                    li\nli\nli\nli\nli\nli\nli\nli\nli\nli\nli\nli\n";
+
 /// Of many mistakes the first twenty are told.
 #[test]
-fn twenty_mistakes_are_told(rt: HostRuntime) -> Result<(), Fail> {
-    let mut source = String::new(rt.alloc());
-    for _ in 0..25 {
-        source.push_str("li\n")?;
-    }
-    let text = told(rt.alloc(), source.as_str())?;
-    let count = text
-        .as_bytes()
-        .iter()
-        .filter(|byte| **byte == b'\n')
-        .count();
-    assert_eq!(rt; count, MOST_MISTAKES);
-    Ok(())
+fn twenty_mistakes_are_told(rt: HostRuntime) {
+    let count = mistakes_in(rt.alloc(), MANY).map(|told| told.len());
+    assert!(rt; count == Some(MOST_MISTAKES));
 }
