@@ -1,7 +1,7 @@
-//! What the tests share: a source as its bytes, as its words, or as its mistakes.
+//! What the tests share: a source as its bytes, its words, or its mistakes.
 
 use rrs_asm::{Layout, Program, SourceError, SourceErrorKind, SourceFault, assemble_source, image};
-use std::alloc::{AllocError, Global};
+use std::alloc::Global;
 use std::process::Abort;
 
 /// What `assemble_source` answers, whose contract is so paid in this function alone.
@@ -25,18 +25,6 @@ pub(crate) fn errors_of(alloc: Global, source: &str, base: u32) -> Option<Vec<So
     }
 }
 
-/// The words of a source, the last of them filled up with zeros. Where there are mistakes there are
-/// no words.
-pub(crate) fn words_of(alloc: Global, source: &str, base: u32) -> Result<Vec<u32>, AllocError> {
-    let mut words = Vec::new(alloc);
-    if let Ok(bytes) = bytes_of(alloc, source.as_bytes(), base) {
-        for chunk in bytes.chunks(4) {
-            words.push(word_of(chunk))?;
-        }
-    }
-    Ok(words)
-}
-
 /// Up to four bytes as a word.
 fn word_of(bytes: &[u8]) -> u32 {
     let mut word = [0; 4];
@@ -46,15 +34,19 @@ fn word_of(bytes: &[u8]) -> u32 {
     u32::from_le_bytes(word)
 }
 
-/// Whether a source begins with these words.
-fn has_words(alloc: Global, source: &str, base: u32, wanted: &[u32]) -> bool {
-    match words_of(alloc, source, base) {
-        Ok(words) => words.starts_with(wanted),
-        Err(_) => false,
+/// Whether a source is these words, the last of them filled up with zeros.
+pub(crate) fn has_words(alloc: Global, source: &str, base: u32, wanted: &[u32]) -> bool {
+    let Ok(bytes) = bytes_of(alloc, source.as_bytes(), base) else {
+        return false;
+    };
+    let mut is_same = bytes.len().div_ceil(4) == wanted.len();
+    for (chunk, word) in bytes.chunks(4).zip(wanted) {
+        is_same &= word_of(chunk) == *word;
     }
+    is_same
 }
 
-/// Asserts the first words of sources at an address.
+/// Asserts the words of sources at an address.
 pub(crate) fn same_words(rt: &impl Abort, alloc: Global, base: u32, cases: &[(&str, &[u32])]) {
     for &(source, words) in cases {
         assert!(rt; has_words(alloc, source, base, words), "{source}");
@@ -71,7 +63,7 @@ fn has_mistakes(alloc: Global, source: &str, base: u32, wanted: &[Wrong]) -> boo
     };
     let mut is_same = errors.len() == wanted.len();
     for (own, &(line, column, kind)) in errors.iter().zip(wanted) {
-        is_same = is_same && *own == SourceError { line, column, kind };
+        is_same &= *own == SourceError { line, column, kind };
     }
     is_same
 }

@@ -4,33 +4,33 @@ use crate::assembled::made;
 use rrs_assembly::{ExecutableError, executable_of};
 use std::alloc::Global;
 
-/// The executable of a source at 0x10000. None where the source is refused.
-fn executable(alloc: Global, source: &[u8]) -> Option<Result<Vec<u8>, ExecutableError>> {
-    match made(alloc, source, 0x10000) {
-        Ok(program) => Some(executable_of(alloc, &program)),
-        Err(_) => None,
+/// An executable of 32 bits, lowest byte first, for RISC-V, which begins at 0x10004.
+const AT_SECOND: &[u8] = b"\x7fELF\x01\x01\x01\0\0\0\0\0\0\0\0\0\
+                           \x02\0\xf3\0\x01\0\0\0\x04\0\x01\0";
+
+/// Sources at 0x10000, each with how its executable begins. The entry is `_start`. A program that
+/// would begin among its data has no executable, and nothing stands here.
+static CASES: [(&[u8], &[u8]); 3] = [
+    (b"nop\n_start: nop", AT_SECOND),
+    (b"nop\n.data\n_start: nop", b""),
+    (b".data\n.word 19", b""),
+];
+
+/// Whether the executable of a source begins so. Where nothing is wanted its entry has to be refused.
+fn has_executable(alloc: Global, source: &[u8], head: &[u8]) -> bool {
+    let Ok(program) = made(alloc, source, 0x10000) else {
+        return false;
+    };
+    match executable_of(alloc, &program) {
+        Ok(file) => !head.is_empty() && file.starts_with(head),
+        Err(ExecutableError::Entry(_)) => head.is_empty(),
+        Err(_) => false,
     }
 }
 
-/// The file begins as one of 32 bits, lowest byte first; it is an executable for RISC-V, and its
-/// entry is `_start`.
 #[test]
-fn an_executable_begins_at_its_start(rt: HostRuntime) {
-    let Some(Ok(file)) = executable(rt.alloc(), b"nop\n_start: nop") else {
-        panic!(rt; "there is no executable");
-    };
-    let is_elf = file.starts_with(b"\x7fELF\x01\x01\x01");
-    let is_kind = file.get(16..20) == Some(b"\x02\x00\xf3\x00".as_slice());
-    let is_entry = file.get(24..28) == Some(b"\x04\x00\x01\x00".as_slice());
-    assert!(rt; is_elf && is_kind && is_entry);
-}
-
-/// A program that would begin among its data has no executable.
-#[test]
-fn an_entry_in_data_is_refused(rt: HostRuntime) {
-    let sources: [&[u8]; 2] = [b"nop\n.data\n_start: nop", b".data\n.word 19"];
-    for source in sources {
-        let made = executable(rt.alloc(), source);
-        assert!(rt; matches!(made, Some(Err(ExecutableError::Entry(_)))));
+fn executables_begin_at_their_start(rt: HostRuntime) {
+    for (index, &(source, head)) in CASES.iter().enumerate() {
+        assert!(rt; has_executable(rt.alloc(), source, head), "at {index}");
     }
 }

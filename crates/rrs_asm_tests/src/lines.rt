@@ -5,7 +5,7 @@ use rrs_asm::{Pseudo, SwappedBranch, Unary, ZeroBranch};
 use rrs_assembly::gnu_text;
 use rrs_lib::disassembly::Disassembled;
 use rrs_lib::instruction::Instruction;
-use std::alloc::{AllocError, Global};
+use std::alloc::Global;
 
 /// The text of each row at 0x100, and its word. `lui` and `auipc` take the upper 20 bits alone.
 static ROWS: [(&str, &[u32]); 48] = [
@@ -116,10 +116,10 @@ static PSEUDO_INSTRUCTIONS: [(&str, &[u32]); 50] = [
 /// Labels before and behind, local labels, constants, comments, and several statements on a line.
 static SYMBOLS: [(&str, &[u32]); 7] = [
     ("a: nop\nj a", &[0x00000013, 0xffdff06f]),
-    ("nop\nj a\nnop\na:", &[0x00000013, 0x0080006f]),
+    ("nop\nj a\nnop\na:", &[0x00000013, 0x0080006f, 0x00000013]),
     ("1: nop\n1: j 1b\n1:", &[0x00000013, 0x0000006f]),
     ("1: nop\n1: j 1f\n1:", &[0x00000013, 0x0040006f]),
-    ("1: nop ; .word 2f - 1b, 7 # ;\n1: 2:", &[0x00000013, 12]),
+    ("1: nop ; .word 2f - 1b, 7 # ;\n1: 2:", &[0x00000013, 12, 7]),
     (
         "nop\n.equ n, 5\n.set n, n + 1\nm = n - -1 // m\naddi x1, x0, m",
         &[0x00000013, 0x00700093],
@@ -143,13 +143,12 @@ static DATA: [(&str, &[u32]); 12] = [
     (".space 2, 7\n.half 1", &[0x00010707]),
     (".byte 9\n.org 0x103\n.byte 8", &[0x08000009]),
     (".word a + 4 - 2\na:", &[0x00000106]),
-    (".half 1\n.p2align 3\na = .\n", &[1]),
+    (".half 1\n.p2align 3\na = .\n", &[1, 0x00000013]),
 ];
 
 /// The last statement ends at the end of addresses.
 static LAST: [(&str, &[u32]); 1] = [(".word .", &[0xffff_fffc])];
 
-/// These sources begin with their words.
 #[test]
 fn lines_are_their_words(rt: HostRuntime) {
     same_words(&rt, rt.alloc(), 0x100, &ROWS);
@@ -229,29 +228,29 @@ fn a_pseudo_instruction_is_expanded(rt: HostRuntime) {
 }
 
 /// 4,001 bytes of every kind.
-fn bytes_of_every_kind(alloc: Global) -> Result<Vec<u8>, AllocError> {
-    let mut bytes = Vec::new(alloc);
+fn bytes_of_every_kind() -> [u8; 4001] {
+    let mut bytes = [1; 4001];
     let mut state = 1u32;
-    for count in 0..4000u32 {
+    for (count, byte) in bytes.iter_mut().take(4000).enumerate() {
         state = state.wrapping_mul(1664525).wrapping_add(1013904223);
         let [low, _, _, high] = state.to_le_bytes();
-        bytes.push(if count % 4 == 0 { low | 3 } else { high })?;
+        *byte = if count % 4 == 0 { low | 3 } else { high };
     }
-    bytes.push(1)?;
-    Ok(bytes)
+    bytes
 }
 
-/// Bytes of every kind as a source for GNU `as`, which is assembled to the same bytes.
-fn are_assembled_again(alloc: Global) -> Result<bool, AllocError> {
-    let bytes = bytes_of_every_kind(alloc)?;
-    let text = gnu_text(alloc, &bytes)?;
+/// Whether bytes as a source for GNU `as` are assembled to the same bytes.
+fn are_assembled_again(alloc: Global, bytes: &[u8]) -> bool {
+    let Ok(text) = gnu_text(alloc, bytes) else {
+        return false;
+    };
     match bytes_of(alloc, text.as_bytes(), 0) {
-        Ok(again) => Ok(again.as_slice() == bytes.as_slice()),
-        Err(_) => Ok(false),
+        Ok(again) => again.as_slice() == bytes,
+        Err(_) => false,
     }
 }
 
 #[test]
 fn gnu_text_is_assembled_again(rt: HostRuntime) {
-    assert!(rt; are_assembled_again(rt.alloc()) == Ok(true));
+    assert!(rt; are_assembled_again(rt.alloc(), &bytes_of_every_kind()));
 }

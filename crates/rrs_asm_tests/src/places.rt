@@ -1,6 +1,7 @@
 //! The labels and the statements of a source, each with its line and its address.
 
 use crate::assembled::made;
+use rrs_asm::Assembled;
 use std::alloc::Global;
 
 /// A source, and what stands where in it.
@@ -56,25 +57,36 @@ static CASES: [Case; 2] = [
     },
 ];
 
-/// Whether a source has these labels, and statements at these places, in its first section. None
-/// where it is not assembled.
-fn has_places(alloc: Global, case: &Case) -> Option<bool> {
-    let program = made(alloc, case.source, case.base).ok()?;
-    let made = &program.sections.first()?.made;
-    let is_labels = made.labels.len() == case.labels.len();
-    let mut is_same = is_labels && made.placed.len() == case.places.len();
+/// Whether a section has these labels, and statements at these places.
+fn has_places(made: &Assembled, case: &Case) -> bool {
+    let mut is_same = made.labels.len() == case.labels.len();
+    is_same &= made.placed.len() == case.places.len();
     for (own, &(line, name, address)) in made.labels.iter().zip(case.labels) {
-        is_same = is_same && own.line == line && own.name == name && own.address == address;
+        is_same &= own.line == line;
+        is_same &= own.name == name;
+        is_same &= own.address == address;
     }
     for (own, &(line, address)) in made.placed.iter().zip(case.places) {
-        is_same = is_same && own.line == line && own.address == address;
+        is_same &= own.line == line;
+        is_same &= own.address == address;
     }
-    Some(is_same)
+    is_same
+}
+
+/// Whether the first section of a source does.
+fn is_placed(alloc: Global, case: &Case) -> bool {
+    let Ok(program) = made(alloc, case.source, case.base) else {
+        return false;
+    };
+    match program.sections.first() {
+        Some(section) => has_places(&section.made, case),
+        None => false,
+    }
 }
 
 #[test]
 fn labels_and_statements_are_listed(rt: HostRuntime) {
     for (index, case) in CASES.iter().enumerate() {
-        assert!(rt; has_places(rt.alloc(), case) == Some(true), "at {index}");
+        assert!(rt; is_placed(rt.alloc(), case), "at {index}");
     }
 }

@@ -216,8 +216,8 @@ fn mistakes_in(alloc: Global, source: &str) -> Option<Vec<Mistake>> {
     mistakes_of(alloc, source.as_bytes(), &[], &errors).ok()
 }
 
-/// What is told of a source, a line for each mistake.
-fn told(alloc: Global, source: &str) -> Result<String, AllocError> {
+/// Whether this is told of a source, a line for each mistake.
+fn is_told(alloc: Global, source: &str, wanted: &str) -> Result<bool, AllocError> {
     let mut text = String::new(alloc);
     if let Some(mistakes) = mistakes_in(alloc, source) {
         for mistake in &mistakes {
@@ -225,17 +225,15 @@ fn told(alloc: Global, source: &str) -> Result<String, AllocError> {
             writeln!(&mut text, "{line}:{column}: {own}")?;
         }
     }
-    Ok(text)
+    Ok(text.as_str() == wanted)
 }
 
 /// Each mistake is told with what is wanted there, and what was probably meant.
 #[test]
-fn mistakes_are_told_with_what_was_meant(rt: HostRuntime) -> Result<(), AllocError> {
+fn mistakes_are_told_with_what_was_meant(rt: HostRuntime) {
     for &(source, wanted) in &TOLD {
-        let text = told(rt.alloc(), source)?;
-        assert!(rt; text.as_str() == wanted, "{source}: {text}");
+        assert!(rt; is_told(rt.alloc(), source, wanted) == Ok(true), "{source}");
     }
-    Ok(())
 }
 
 /// Twenty-five lines with a mistake in each.
@@ -245,6 +243,9 @@ const MANY: &str = "li\nli\nli\nli\nli\nli\nli\nli\nli\nli\nli\nli\nli\n\
 /// Of many mistakes the first twenty are told.
 #[test]
 fn twenty_mistakes_are_told(rt: HostRuntime) {
-    let count = mistakes_in(rt.alloc(), MANY).map(|told| told.len());
-    assert!(rt; count == Some(MOST_MISTAKES));
+    let count = match mistakes_in(rt.alloc(), MANY) {
+        Some(mistakes) => mistakes.len(),
+        None => 0,
+    };
+    assert!(rt; count == MOST_MISTAKES);
 }
