@@ -16,7 +16,7 @@ static CASES: [(&[u8], &[u8]); 3] = [
     (b".data\n.word 19", b""),
 ];
 
-/// Whether the executable of a source begins so. Where nothing is wanted its entry has to be refused.
+/// Whether the executable of a source begins so. Where nothing is wanted its entry is refused.
 fn has_executable(alloc: Global, source: &[u8], head: &[u8]) -> bool {
     let Ok(program) = made(alloc, source, 0x10000) else {
         return false;
