@@ -1,11 +1,15 @@
 -- A source and a line, cut at a byte.
-use Rattle.std.proofs.Common.{◌≡◌, ◌≢◌, ℕ, ◌+◌, ◌<◌, ◌==◌, zero, suc, true, false, List, [], ◌∷◌, ◌++◌, length, take, drop, get_or, add-one, refl, arith}
+use Rattle.std.proofs.Common.{◌≡◌, ◌≢◌, ℕ, ◌+◌, ◌<◌, ◌==◌, zero, suc, Bool, ◌&&◌, if◌then◌else◌, Option, Some, IfSome, true, false, List, [], ◌∷◌, ◌++◌, length, take, drop, get_or, add-one, refl, sym, subst, None, arith}
 use Rattle.std.proofs.lemmas.Bool.Decides.{nat_tests}
 use Rattle.std.proofs.lemmas.List.{append_assoc, append-nil, take_more}
 use Rattle.std.proofs.Math.Seq.{drop-cons}
 use Rattle.rrs_lines.specs.declared.lexing.Place.{Place}
 use Rattle.rrs_lines.specs.declared.lexing.Mark.{Mark}
-use Rattle.rrs_lines.specs.Lines.{lines, Part, onto, parts_from, mark_of, next}
+use Rattle.std.specs.List.{list_all}
+use Rattle.std.specs.Str.{bytes_eq}
+use Rattle.std.specs.Option.{is_some}
+use Rattle.std.proofs.lemmas.Slice.Eq.{bytes_eq-Decides}
+use Rattle.rrs_lines.specs.Lines.{word, behind_word, with_word, words_from, place_from, lines, Part, onto, parts_from, mark_of, next}
 
 -- ---- lines
 
@@ -52,3 +56,42 @@ parts-other-at line i place after others lt same is follows =
     let cut : drop i line ≡ get_or line i 0 ∷ drop (i + 1) line = rw add-one (drop-cons line i 0 lt) in
     let mark : mark_of place (get_or line i 0) (drop (i + 1) line) ≡ Mark.Other = rw (← same) is in
     rw (cut, take_more line i 0 lt, follows) (parts-other place (take i line) (get_or line i 0) (drop (i + 1) line) mark)
+
+-- ---- words
+
+place-with : (n : ℕ) (wanted w : List ℕ) (ws : List (List ℕ)) → false ≡ (length w == 0)
+    → place_from n wanted (with_word w ws) ≡ (if bytes_eq w wanted then Some n else place_from (n + 1) wanted ws)
+place-with n wanted [] ws some = absurd (cc)
+place-with n wanted (b ∷ bs) ws some = refl
+
+-- the first of the words that are left in a loop, before those behind it
+pub place-first : (wanted words text w others : List ℕ) (i : ℕ) → i < length words → w ≡ word text → others ≡ behind_word text → false ≡ (length w == 0)
+    → place_from i wanted (words_from (length (drop i words)) text)
+    ≡ (if bytes_eq w wanted then Some i else place_from (i + 1) wanted (words_from (length (drop (i + 1) words)) others))
+place-first wanted words text w others i lt is behind some =
+    let cut : drop i words ≡ get_or words i 0 ∷ drop (i + 1) words = rw add-one (drop-cons words i 0 lt) in
+    rw (cut, ← is, ← behind) (place-with i wanted w (words_from (length (drop (i + 1) words)) others) some)
+
+both-true : (a b : Bool) → (a && b) ≡ true → (a ≡ true) × (b ≡ true)
+both-true true b is = (refl, is)
+both-true false b is = absurd (cc)
+
+place-one : (fits : List ℕ → Bool) (n : ℕ) (wanted w : List ℕ) (further : Option ℕ) (same : Bool) → bytes_eq w wanted ≡ same → fits w ≡ true
+    → IfSome further (λ place. fits wanted ≡ true) → IfSome (if same then Some n else further) (λ place. fits wanted ≡ true)
+place-one fits n wanted w further true is passes others =
+    let Fits : List ℕ → Type 0 = λ own. fits own ≡ true in
+    subst Fits ((bytes_eq-Decides w wanted).0 is) passes
+place-one fits n wanted w further false is passes others = others
+
+-- what all words pass, a word passes that is one of them
+place-fits : (fits : List ℕ → Bool) (n : ℕ) (wanted : List ℕ) (ws : List (List ℕ)) → list_all fits ws ≡ true → IfSome (place_from n wanted ws) (λ place. fits wanted ≡ true)
+place-fits fits n wanted [] all = tt
+place-fits fits n wanted (w ∷ ws) all =
+    let each : (fits w ≡ true) × (list_all fits ws ≡ true) = both-true (fits w) (list_all fits ws) all in
+    place-one fits n wanted w (place_from (n + 1) wanted ws) (bytes_eq w wanted) refl each.0 (place-fits fits (n + 1) wanted ws each.1)
+
+pub place-some : (fits : List ℕ → Bool) (wanted : List ℕ) (ws : List (List ℕ)) (found : Option ℕ) → true ≡ is_some found → found ≡ place_from 0 wanted ws → list_all fits ws ≡ true → fits wanted ≡ true
+place-some fits wanted ws None some is all = absurd (cc)
+place-some fits wanted ws (Some place) some is all =
+    let Fits : Option ℕ → Type 0 = λ found. IfSome found (λ place. fits wanted ≡ true) in
+    subst Fits (sym is) (place-fits fits 0 wanted ws all)

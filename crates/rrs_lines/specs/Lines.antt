@@ -1,8 +1,9 @@
 -- The lines of a source of assembly, the parts of a line, and the first word of a part (GNU
 -- assembler manual, "Syntax": whitespace, comments, statements and labels). Which labels and
 -- statements the parts are is not said here.
-use Rattle.std.specs.Prelude.{ℕ, ◌+◌, Bool, false, ◌&&◌, ◌||◌, ◌==◌, nat_lt, if◌then◌else◌, List, [], ◌∷◌, ◌++◌}
+use Rattle.std.specs.Prelude.{ℕ, zero, suc, length, ◌+◌, Bool, false, ◌&&◌, ◌||◌, ◌==◌, nat_lt, if◌then◌else◌, List, [], ◌∷◌, ◌++◌, Option, Some, None}
 use Rattle.std.specs.List.{slice_split}
+use Rattle.std.specs.Str.{bytes_eq}
 use Rattle.rrs_lines.specs.declared.lexing.Place.{Place}
 use Rattle.rrs_lines.specs.declared.lexing.Mark.{Mark}
 use Rattle.rrs_lines.specs.declared.lexing.Part.{Part as Cut}
@@ -109,3 +110,22 @@ word text = first_word (behind_blanks text)
 
 abbrev pub behind_word : List ℕ → List ℕ
 behind_word text = behind_first_word (behind_blanks text)
+
+-- with a word before others, if there is one
+abbrev pub with_word : List ℕ → List (List ℕ) → List (List ℕ)
+with_word [] words = []
+with_word (b ∷ bs) words = (b ∷ bs) ∷ words
+
+abbrev pub words_from : ℕ → List ℕ → List (List ℕ)
+words_from zero text = []
+words_from (suc most) text = with_word (word text) (words_from most (behind_word text))
+
+-- the words of a text, with blanks between them
+abbrev pub words_of : List ℕ → List (List ℕ)
+words_of text = words_from (length text) text
+
+-- which of these words is a word, the first of them having this number
+abbrev pub place_from : ℕ → List ℕ → List (List ℕ) → Option ℕ
+place_from number wanted [] = None
+place_from number wanted (w ∷ ws) =
+    if bytes_eq w wanted then Some number else place_from (number + 1) wanted ws

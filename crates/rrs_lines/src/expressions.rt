@@ -115,7 +115,7 @@ pub fn operator_before(byte: u8) -> Option<Option<Operator>> {
     }
 }
 
-/// The operator between two values that a text begins with, and how many bytes it has.
+/// The operator between two values that two bytes begin with, and how many bytes it has.
 pub fn operator_between(first: u8, second: u8) -> Option<(Operator, usize)> {
     match (first, second) {
         (b'<', b'<') => Some((Operator::ShiftLeft, 2)),
@@ -126,27 +126,17 @@ pub fn operator_between(first: u8, second: u8) -> Option<(Operator, usize)> {
         (b'=', b'=') => Some((Operator::Equal, 2)),
         (b'&', b'&') => Some((Operator::Both, 2)),
         (b'|', b'|') => Some((Operator::Either, 2)),
-        _ => match operator_of(first) {
-            Some(operator) => Some((operator, 1)),
-            None => None,
-        },
-    }
-}
-
-/// The operator between two values that is one byte.
-fn operator_of(byte: u8) -> Option<Operator> {
-    match byte {
-        b'*' => Some(Operator::Multiply),
-        b'/' => Some(Operator::Divide),
-        b'%' => Some(Operator::Remainder),
-        b'|' => Some(Operator::Or),
-        b'!' => Some(Operator::OrNot),
-        b'^' => Some(Operator::Xor),
-        b'&' => Some(Operator::And),
-        b'+' => Some(Operator::Add),
-        b'-' => Some(Operator::Subtract),
-        b'<' => Some(Operator::Less),
-        b'>' => Some(Operator::Greater),
+        (b'*', _) => Some((Operator::Multiply, 1)),
+        (b'/', _) => Some((Operator::Divide, 1)),
+        (b'%', _) => Some((Operator::Remainder, 1)),
+        (b'|', _) => Some((Operator::Or, 1)),
+        (b'!', _) => Some((Operator::OrNot, 1)),
+        (b'^', _) => Some((Operator::Xor, 1)),
+        (b'&', _) => Some((Operator::And, 1)),
+        (b'+', _) => Some((Operator::Add, 1)),
+        (b'-', _) => Some((Operator::Subtract, 1)),
+        (b'<', _) => Some((Operator::Less, 1)),
+        (b'>', _) => Some((Operator::Greater, 1)),
         _ => None,
     }
 }
@@ -231,24 +221,17 @@ impl Waiting {
         for _ in 0..MOST_WAITING {
             match self.last() {
                 Some(entry) if entry.operator.rank() >= rank => {
-                    value = self.made_of(entry, value);
+                    let made = entry.operator.apply(entry.left, value);
+                    if made.is_none() {
+                        self.fault = Some(SourceErrorKind::Division);
+                    }
+                    value = made.unwrap_or(0);
                     self.count = self.count.saturating_sub(1);
                 }
                 _ => break,
             }
         }
         value
-    }
-
-    /// What an operator makes of the value before it and one behind it.
-    fn made_of(&mut self, entry: Entry, value: u64) -> u64 {
-        match entry.operator.apply(entry.left, value) {
-            Some(made) => made,
-            None => {
-                self.fault = Some(SourceErrorKind::Division);
-                0
-            }
-        }
     }
 
     /// The value of what stands in the innermost parenthesis, which is closed.

@@ -2,7 +2,7 @@
 
 ghost use Rattle.std.specs.Prelude.{◌≡◌, ◌<◌, [], ◌∷◌, IfSome, length};
 ghost use Rattle.std.specs.Option.{option_map_or};
-ghost use Rattle.rrs_lines.specs.Lines.{lines, next, mark_of, parts, shown, begins_with, is_blank, is_in_word, word, behind_word, behind_blanks};
+ghost use Rattle.rrs_lines.specs.Lines.{lines, next, mark_of, parts, shown, begins_with, is_blank, is_in_word, word, behind_word, behind_blanks, words_of, place_from};
 ghost use Rattle.rrs_lines.specs.declared.lexing.Place.{Place};
 
 /// A line, and the text behind its line feed, if there is one.
@@ -187,4 +187,22 @@ pub fn split_word(text: &[u8]) -> (&[u8], &[u8])
         }
     }
     words.split_at(words.len())
+}
+
+/// Which word of a text is the first that is this one, counted from 0.
+pub fn place_among(words: &[u8], wanted: &[u8]) -> Option<usize>
+    ensures { result ≡ place_from 0 wanted.now (words_of words.now) }
+{
+    let mut rest = words;
+    for index in 0..words.len() {
+        let (word, others) = split_word(rest);
+        if word.is_empty() {
+            break;
+        }
+        if word == wanted {
+            return Some(index);
+        }
+        rest = others;
+    }
+    None
 }

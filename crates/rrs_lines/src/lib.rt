@@ -19,7 +19,9 @@ mod registers;
 mod symbols;
 
 pub use errors::{Halt, LineError, SourceErrorKind};
-pub use lexing::{Part, begins_with, behind_blanks, first_line, first_part, is_name, split_word};
+pub use lexing::{
+    Part, begins_with, behind_blanks, first_line, first_part, is_name, place_among, split_word,
+};
 pub use literals::escaped;
 pub use reading::{Line, Notes, Site};
 pub use registers::register_number;

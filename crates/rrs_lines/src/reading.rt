@@ -375,35 +375,29 @@ impl<'a, 's> Line<'a, 's> {
         u64::from(byte.unwrap_or(0))
     }
 
-    /// Takes a value in parentheses.
-    fn enclosed(&mut self) -> u32 {
-        self.expect(b'(', SourceErrorKind::Parenthesis);
-        let value = self.value();
-        self.expect(b')', SourceErrorKind::Parenthesis);
-        value
-    }
-
     /// Takes a value, or the part of one that a modifier names: its lower 12 bits or its upper 20.
     fn part(&mut self, is_low: bool) -> u32 {
         if !self.take(b'%') {
             return self.value();
         }
         let error = self.error(SourceErrorKind::Value);
-        let modifier = modifier_named(self.word());
-        match modifier {
-            Some(modifier) if modifier.is_low == is_low => self.part_meant(modifier, error),
-            _ => {
-                self.fail(error.with_kind(misplaced(modifier)));
-                0
-            }
-        }
+        let kind = match modifier_named(self.word()) {
+            Some(modifier) if modifier.is_low == is_low => return self.part_meant(modifier, error),
+            Some(modifier) if modifier.is_low => SourceErrorKind::Low,
+            Some(_) => SourceErrorKind::High,
+            None => SourceErrorKind::Value,
+        };
+        self.fail(error.with_kind(kind));
+        0
     }
 
     /// Takes a value in parentheses: the part of it that a modifier names, which stands at
     /// `error`.
     fn part_meant(&mut self, modifier: Modifier, error: LineError) -> u32 {
         let is_plain = self.is_word_enclosed();
-        let value = self.enclosed();
+        self.expect(b'(', SourceErrorKind::Parenthesis);
+        let value = self.value();
+        self.expect(b')', SourceErrorKind::Parenthesis);
         if modifier.is_low && modifier.is_relative && !is_plain {
             self.fail(error.with_kind(SourceErrorKind::Distance));
         }
@@ -412,7 +406,8 @@ impl<'a, 's> Line<'a, 's> {
         } else {
             value
         };
-        part_of(whole, modifier.is_low)
+        let (high, low) = halves(whole);
+        if modifier.is_low { low } else { high }
     }
 
     /// How far a `%pcrel_hi` of this value reaches, which is kept, or the one at this address did.
@@ -486,14 +481,6 @@ impl<'a, 's> Line<'a, 's> {
         }
     }
 
-    /// Takes a register in parentheses.
-    fn register_in_parentheses(&mut self) -> usize {
-        self.expect(b'(', SourceErrorKind::Parenthesis);
-        let register = self.register();
-        self.expect(b')', SourceErrorKind::Parenthesis);
-        register
-    }
-
     /// Takes an immediate and a register in parentheses: `-4(x1)`. With no immediate it is 0.
     pub fn address(&mut self) -> (i32, usize) {
         let imm = if self.is_register_enclosed() {
@@ -501,7 +488,10 @@ impl<'a, 's> Line<'a, 's> {
         } else {
             self.immediate()
         };
-        (imm, self.register_in_parentheses())
+        self.expect(b'(', SourceErrorKind::Parenthesis);
+        let register = self.register();
+        self.expect(b')', SourceErrorKind::Parenthesis);
+        (imm, register)
     }
 
     /// Whether a register in parentheses is next.
@@ -543,15 +533,6 @@ struct Modifier {
     is_relative: bool,
 }
 
-/// The mistake where a modifier means the other part, or is none.
-fn misplaced(modifier: Option<Modifier>) -> SourceErrorKind {
-    match modifier {
-        None => SourceErrorKind::Value,
-        Some(modifier) if modifier.is_low => SourceErrorKind::Low,
-        Some(_) => SourceErrorKind::High,
-    }
-}
-
 /// The modifiers, each by its name, whether it means the lower 12 bits, and whether it is relative.
 const MODIFIERS: [(&[u8], bool, bool); 4] = [
     (b"hi", false, false),
@@ -571,12 +552,6 @@ fn modifier_named(name: &[u8]) -> Option<Modifier> {
         }
     }
     None
-}
-
-/// The lower 12 bits of a word, or its upper 20.
-fn part_of(word: u32, is_low: bool) -> u32 {
-    let (high, low) = halves(word);
-    if is_low { low } else { high }
 }
 
 /// The upper 20 bits of a word, and its lower 12, sign-extended, which the two make up together.

@@ -3,6 +3,7 @@
 //! All are entries of one table, found by a hash of their name or number.
 
 use crate::errors::SourceErrorKind;
+use crate::registers::register_number;
 use std::alloc::{Allocator, Global};
 
 /// A reading of the source.
@@ -40,43 +41,51 @@ pub enum Known {
 
 /// What an entry is found by.
 #[derive(Clone, Copy)]
-enum Key<'a> {
-    /// A label or a constant: its name.
-    Name(&'a [u8]),
-    /// A local label: its digit, and how many of it stand before. Or, behind `DISTANCE`, the
-    /// address of a statement with `%pcrel_hi`.
-    Number(u8, u32),
+struct Key<'a> {
+    /// The name of a label or a constant, and else nothing.
+    name: &'a [u8],
+    /// Behind no name: the digit of a local label, or `DISTANCE`.
+    kind: u8,
+    /// How many local labels of the digit stand before, or the address of a statement with
+    /// `%pcrel_hi`.
+    number: u32,
 }
 
 /// What stands in the place of a digit in the key of a distance.
 const DISTANCE: u8 = 10;
 
-impl Key<'_> {
-    /// Whether it is another one.
-    fn is(self, other: Key) -> bool {
-        match (self, other) {
-            (Key::Name(own), Key::Name(name)) => own == name,
-            (Key::Number(kind, own), Key::Number(other, number)) => kind == other && own == number,
-            _ => false,
-        }
-    }
-
-    /// Its hash.
-    fn hash(self) -> usize {
-        match self {
-            Key::Name(name) => hash_of(name, 0),
-            Key::Number(kind, number) => hash_of(&number.to_le_bytes(), kind),
-        }
+/// The key of a local label, or of a distance.
+fn numbered<'a>(kind: u8, number: u32) -> Key<'a> {
+    Key {
+        name: &[],
+        kind,
+        number,
     }
 }
 
-/// A hash of bytes behind one more: that of Fowler, Noll and Vo (FNV-1a), of 32 bits.
-fn hash_of(bytes: &[u8], before: u8) -> usize {
-    let mut hash = 0x811c_9dc5u32 ^ u32::from(before);
-    for byte in bytes {
-        hash = (hash ^ u32::from(*byte)).wrapping_mul(0x0100_0193);
+/// The key of a label or a constant.
+fn named(name: &[u8]) -> Key<'_> {
+    Key {
+        name,
+        ..numbered(0, 0)
     }
-    hash as usize
+}
+
+impl Key<'_> {
+    /// Whether it is another one.
+    fn is(self, other: Key) -> bool {
+        self.number == other.number && self.kind == other.kind && self.name == other.name
+    }
+
+    /// Its hash: that of Fowler, Noll and Vo (FNV-1a), of 32 bits, of the name. It begins with the
+    /// number, of which the bits of an address within a page differ, or those of the page.
+    fn hash(self) -> usize {
+        let mut hash = 0x811c_9dc5 ^ self.number ^ self.number >> 12 ^ u32::from(self.kind) << 24;
+        for byte in self.name {
+            hash = (hash ^ u32::from(*byte)).wrapping_mul(0x0100_0193);
+        }
+        hash as usize
+    }
 }
 
 /// What a symbol stands for.
@@ -123,38 +132,42 @@ pub struct Scope<'a, 's> {
 }
 
 impl Scope<'_, '_> {
-    /// Which entry has a key.
-    fn find(&self, key: Key) -> Option<usize> {
-        let slot = key.hash().checked_rem(self.slots.len())?;
-        let mut index = *self.slots.get(slot)?;
+    /// Which entry has a key: none of them where none has it.
+    fn find(&self, key: Key) -> usize {
+        let slot = key.hash().checked_rem(self.slots.len()).unwrap_or(0);
+        let mut index = self.slots.get(slot).copied().unwrap_or(NONE);
         for _ in 0..self.entries.len() {
-            let entry = self.entries.get(index)?;
-            if entry.key.is(key) {
-                return Some(index);
+            match self.entries.get(index) {
+                Some(entry) if !entry.key.is(key) => index = entry.next,
+                _ => break,
             }
-            index = entry.next;
         }
-        None
+        index
     }
 
     /// The entry with a key.
     fn entry(&self, key: Key) -> Option<Entry<'_>> {
-        self.entries.get(self.find(key)?).copied()
+        self.entries.get(self.find(key)).copied()
     }
 
     /// How far the `%pcrel_hi` of the statement at an address reaches, once all symbols have their
     /// addresses.
     pub fn distance_at(&self, address: u32) -> Option<u32> {
-        let entry = self.entry(Key::Number(DISTANCE, address))?;
-        match entry.met {
-            Pass::Third | Pass::Last => u32::try_from(entry.value).ok(),
-            Pass::First | Pass::Second => None,
+        match self.entry(numbered(DISTANCE, address)) {
+            Some(
+                Entry {
+                    met: Pass::Third | Pass::Last,
+                    value,
+                    ..
+                },
+            ) => u32::try_from(value).ok(),
+            _ => None,
         }
     }
 
     /// What is known of a symbol.
     pub fn value_of(&self, name: &[u8]) -> Known {
-        match self.entry(Key::Name(name)) {
+        match self.entry(named(name)) {
             Some(entry) if entry.met == self.pass => Known::Now(entry.value),
             Some(entry) => Known::Later(entry.value),
             None => self.absent(),
@@ -172,25 +185,14 @@ impl Scope<'_, '_> {
 
     /// What is known of the nearest local label of a digit, before or behind.
     pub fn local_value(&self, digit: u8, is_before: bool) -> Known {
-        let count = self.count_of(digit);
-        if !is_before {
-            return match self.entry(Key::Number(digit, count)) {
-                Some(entry) => Known::Later(entry.value),
-                None => self.absent(),
-            };
+        let count = self.counts.get(usize::from(digit)).copied().unwrap_or(0);
+        let number = count.wrapping_sub(u32::from(is_before));
+        match self.entry(numbered(digit, number)) {
+            Some(entry) if is_before => Known::Now(entry.value),
+            Some(entry) => Known::Later(entry.value),
+            None if is_before => Known::Never,
+            None => self.absent(),
         }
-        match count.checked_sub(1) {
-            None => Known::Never,
-            Some(last) => match self.entry(Key::Number(digit, last)) {
-                Some(entry) => Known::Now(entry.value),
-                None => Known::Never,
-            },
-        }
-    }
-
-    /// How many local labels of a digit were met.
-    fn count_of(&self, digit: u8) -> u32 {
-        self.counts.get(usize::from(digit)).copied().unwrap_or(0)
     }
 }
 
@@ -224,86 +226,79 @@ impl<'a, A: Allocator> Symbols<'a, A> {
     /// Keeps how far a `%pcrel_hi` reaches.
     pub fn keep_distance(&mut self, address: u32, distance: u32) {
         self.has_distances = true;
-        self.put(Key::Number(DISTANCE, address), u64::from(distance), false);
+        self.put(numbered(DISTANCE, address), u64::from(distance), false);
     }
 
     /// Defines a local label of a digit.
     pub fn define_local(&mut self, digit: u8, address: u32) {
         if let Some(count) = self.counts.get_mut(usize::from(digit)) {
-            let key = Key::Number(digit, *count);
+            let key = numbered(digit, *count);
             *count = count.saturating_add(1);
             self.put(key, u64::from(address), true);
         }
     }
 
-    /// Defines a label, or a constant. Tells what is wrong with it.
+    /// Defines a label, or a constant. Tells what is wrong with it: it is defined already, or it is
+    /// the name of a register, or `.`.
     pub fn define(
         &mut self,
         name: &'a [u8],
         value: u64,
         is_label: bool,
     ) -> Option<SourceErrorKind> {
-        if let Some(old) = self.scope().entry(Key::Name(name)) {
+        if register_number(name).is_some() {
+            return Some(SourceErrorKind::Reserved);
+        }
+        if name == b".".as_slice() {
+            return Some(SourceErrorKind::Unsupported);
+        }
+        if let Some(old) = self.scope().entry(named(name)) {
             if (is_label || old.is_label) && (old.met == self.pass || old.is_label != is_label) {
                 return Some(SourceErrorKind::Duplicate);
             }
         }
-        self.put(Key::Name(name), value, is_label);
+        self.put(named(name), value, is_label);
         None
     }
 
     /// Puts a value in the place of the one with this key, or behind all.
     fn put(&mut self, key: Key<'a>, value: u64, is_label: bool) {
-        let met = self.pass;
-        if let Some(index) = self.scope().find(key) {
-            if let Some(entry) = self.entries.get_mut(index) {
-                entry.value = value;
-                entry.is_label = is_label;
-                entry.met = met;
-            }
-            return;
-        }
-        self.add(Entry {
+        let entry = Entry {
             key,
             value,
             is_label,
-            met,
+            met: self.pass,
             next: NONE,
-        });
+        };
+        let index = self.scope().find(key);
+        match self.entries.get_mut(index) {
+            Some(old) => {
+                let next = old.next;
+                *old = Entry { next, ..entry };
+            }
+            None => self.add(entry),
+        }
     }
 
-    /// Puts an entry behind all.
+    /// Puts an entry behind all. Where there are too few slots, there are twice as many then, and
+    /// each entry is put in its slot.
     fn add(&mut self, entry: Entry<'a>) {
         let index = self.entries.len();
-        if self.entries.push(entry).is_err() {
-            self.is_full = true;
-        } else if index < self.slots.len() {
-            link(&mut self.entries, &mut self.slots, index);
-        } else {
-            self.grow();
+        self.is_full |= self.entries.push(entry).is_err();
+        if index < self.slots.len() {
+            return link(&mut self.entries, &mut self.slots, index);
         }
-    }
-
-    /// Makes twice as many slots, and puts each entry in its slot.
-    fn grow(&mut self) {
         let count = self.slots.len().saturating_mul(2).saturating_add(FEWEST);
         self.slots.clear();
-        if self.slots.resize(count, NONE).is_err() {
-            self.is_full = true;
+        self.is_full |= self.slots.resize(count, NONE).is_err();
+        for index in 0..self.entries.len() {
+            link(&mut self.entries, &mut self.slots, index);
         }
-        link_all(&mut self.entries, &mut self.slots);
     }
 }
 
 /// How many slots there are at least.
 const FEWEST: usize = 64;
-
-/// Puts each entry in its slot.
-fn link_all(entries: &mut [Entry], slots: &mut [usize]) {
-    for index in 0..entries.len() {
-        link(entries, slots, index);
-    }
-}
 
 /// Puts an entry first in its slot.
 fn link(entries: &mut [Entry], slots: &mut [usize], index: usize) {
