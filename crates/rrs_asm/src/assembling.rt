@@ -19,7 +19,7 @@ use crate::sections::{
 use crate::statements::Statement;
 use rrs_lines::{
     Halt, Known, Line, LineError, Notes, Part, Pass, Scope, Site, SourceErrorKind, Symbols,
-    begins_with, behind_blanks, first_line, first_part, is_name, register_number, split_word,
+    begins_with, behind_blanks, first_line, first_part, is_name, split_word,
 };
 use std::alloc::{Allocator, Global};
 
@@ -267,7 +267,12 @@ impl<'a, A: Allocator> Reading<'a, A> {
                 section.realign();
             }
         }
-        self.tell(error_at(line, number, error));
+        let told = SourceError {
+            line: number,
+            column: line.len().saturating_sub(error.left).saturating_add(1),
+            kind: error.kind,
+        };
+        self.tell(told);
     }
 
     /// Asks for an alignment of a section, if there is one with this number.
@@ -277,15 +282,6 @@ impl<'a, A: Allocator> Reading<'a, A> {
         if let Some(section) = self.sections.get_mut(index) {
             section.align(alignment);
         }
-    }
-}
-
-/// A mistake with its place in the source.
-fn error_at(text: &[u8], line: usize, error: LineError) -> SourceError {
-    SourceError {
-        line,
-        column: text.len().saturating_sub(error.left).saturating_add(1),
-        kind: error.kind,
     }
 }
 
@@ -442,7 +438,12 @@ fn read_behind<'a, A: Allocator>(
         return Ok(read_value(name, error, line));
     }
     if !operands.is_empty() && operands.len() == rest.len() {
-        return Err(Halt::Error(unexpected(name, error)));
+        let kind = if name.is_empty() {
+            SourceErrorKind::Character
+        } else {
+            error.kind
+        };
+        return Err(Halt::Error(error.with_kind(kind)));
     }
     read_named(line, name, rest, error, data)
 }
@@ -480,15 +481,6 @@ fn read_named<'a, A: Allocator>(
     }
     let statement = read_instruction(line, name, error)?;
     Ok(Read::Laid(name, statement, line.notes))
-}
-
-/// The mistake where a word is followed by something that can't follow it.
-fn unexpected(word: &[u8], error: LineError) -> LineError {
-    if word.is_empty() {
-        error.with_kind(SourceErrorKind::Character)
-    } else {
-        error
-    }
 }
 
 /// Does what a part says.
@@ -569,24 +561,8 @@ fn define_constant<'a, A: Allocator>(
 )
     ensures { ReadsOn [] reading.old reading.new }
 {
-    if let Some(kind) = define(name, value, false, symbols) {
+    if let Some(kind) = symbols.define(name, value, false) {
         reading.fail(start.with_kind(kind));
-    }
-}
-
-/// Defines a symbol. Tells what is wrong with it.
-fn define<'a, A: Allocator>(
-    name: &'a [u8],
-    value: u64,
-    is_label: bool,
-    symbols: &mut Symbols<'a, A>,
-) -> Option<SourceErrorKind> {
-    if register_number(name).is_some() {
-        Some(SourceErrorKind::Reserved)
-    } else if name == b".".as_slice() {
-        Some(SourceErrorKind::Unsupported)
-    } else {
-        symbols.define(name, value, is_label)
     }
 }
 
@@ -603,7 +579,7 @@ fn define_label<'a, A: Allocator>(
             (None, symbols.scope().local_value(digit, true))
         }
         _ => {
-            let wrong = define(name, u64::from(here), true, symbols);
+            let wrong = symbols.define(name, u64::from(here), true);
             (wrong, symbols.scope().value_of(name))
         }
     }

@@ -58,7 +58,12 @@ pub fn read_directive<'a, A: Allocator>(
     ensures name { IfOk result HasItsName }
 {
     let Some(form) = directive_named(name) else {
-        return Err(Halt::Error(unknown(name, error)));
+        let kind = if is_unsupported(name) {
+            SourceErrorKind::Unsupported
+        } else {
+            error.kind
+        };
+        return Err(Halt::Error(error.with_kind(kind)));
     };
     match form {
         DirectiveForm::Place(_) | DirectiveForm::Refused if line.site.is_skipped => {
@@ -70,15 +75,6 @@ pub fn read_directive<'a, A: Allocator>(
             Ok(Read::Laid(name, statement, line.notes))
         }
         _ => Ok(read_said(line, form, name, operands, error)),
-    }
-}
-
-/// The mistake of a directive that is none: GNU `as` may have it.
-fn unknown(name: &[u8], error: LineError) -> LineError {
-    if is_unsupported(name) {
-        error.with_kind(SourceErrorKind::Unsupported)
-    } else {
-        error
     }
 }
 
@@ -176,53 +172,31 @@ fn implied_alignment(size: u32, is_local: bool) -> u32 {
     1
 }
 
-/// The kind of a section by what stands behind its name, as `, "aw", @nobits`.
+/// The kind of a section by what stands behind its name, as `, "aw", @nobits`: the letters `x`, `a`
+/// and `w` between quotation marks, and `@nobits`.
 fn kind_of_flags(text: &[u8]) -> Option<SectionKind> {
-    let flags = flags_in(text);
-    if flags.is_code {
-        Some(SectionKind::Code)
-    } else if !flags.is_laid_out {
-        None
-    } else if flags.is_zero {
-        Some(SectionKind::Zero)
-    } else if flags.is_written {
-        Some(SectionKind::Data)
-    } else {
-        Some(SectionKind::ReadOnly)
-    }
-}
-
-/// The flags of a section: the letters `x`, `a` and `w` between quotation marks, and `@nobits`.
-#[derive(Clone, Copy)]
-struct Flags {
-    is_code: bool,
-    is_laid_out: bool,
-    is_written: bool,
-    is_zero: bool,
-}
-
-/// The flags that stand behind the name of a section.
-fn flags_in(text: &[u8]) -> Flags {
-    let mut flags = Flags {
-        is_code: false,
-        is_laid_out: false,
-        is_written: false,
-        is_zero: false,
-    };
+    let (mut is_code, mut is_laid_out, mut is_written) = (false, false, false);
+    let mut is_zero = false;
     let mut is_quoted = false;
     for (index, byte) in text.iter().enumerate() {
         match *byte {
             b'"' => is_quoted = !is_quoted,
             b'@' | b'%' if !is_quoted => {
-                flags.is_zero = split_word(&text[index + 1..]).0 == b"nobits".as_slice();
+                is_zero = split_word(&text[index + 1..]).0 == b"nobits".as_slice();
             }
-            b'x' if is_quoted => flags.is_code = true,
-            b'a' if is_quoted => flags.is_laid_out = true,
-            b'w' if is_quoted => flags.is_written = true,
+            b'x' if is_quoted => is_code = true,
+            b'a' if is_quoted => is_laid_out = true,
+            b'w' if is_quoted => is_written = true,
             _ => (),
         }
     }
-    flags
+    match (is_code, is_laid_out) {
+        (true, _) => Some(SectionKind::Code),
+        (false, false) => None,
+        _ if is_zero => Some(SectionKind::Zero),
+        _ if is_written => Some(SectionKind::Data),
+        _ => Some(SectionKind::ReadOnly),
+    }
 }
 
 /// The options that allow no other instructions.
@@ -297,39 +271,30 @@ fn read_constant<'a>(line: &mut Line<'a, '_>) -> Read<'a>
 /// Reads numbers of so many bits each, with commas between them.
 fn read_data<A: Allocator>(line: &mut Line, bits: u32, bytes: &mut Vec<u8, A>) {
     for _ in 0..u64::MAX {
-        let own = datum(line, bits).to_le_bytes();
-        line.keep(bytes.extend_from_slice(&own[..bytes_in(bits)]));
+        let value = if bits == 64 {
+            line.wide_value()
+        } else {
+            u64::from(line.datum(bits))
+        };
+        let own = value.to_le_bytes();
+        line.keep(bytes.extend_from_slice(&own[..(bits as usize / 8).min(8)]));
         if !line.take(b',') {
             break;
         }
     }
 }
 
-/// Reads a number of so many bits.
-fn datum(line: &mut Line, bits: u32) -> u64 {
-    if bits == 64 {
-        line.wide_value()
-    } else {
-        u64::from(line.datum(bits))
-    }
-}
-
-/// How many bytes a number of so many bits is.
-fn bytes_in(bits: u32) -> usize
-    ensures { result ≤ 8 }
-{
-    match bits {
-        8 => 1,
-        16 => 2,
-        32 => 4,
-        _ => 8,
-    }
-}
-
-/// Reads how often a number stands, how many bytes it has, and the number.
+/// Reads how often a number stands, how many bytes it has, at most 8 and 1 where none is said, and
+/// the number, which is 0 where none is said.
 fn read_pattern<A: Allocator>(line: &mut Line, bytes: &mut Vec<u8, A>) {
     let count = read_count(line);
-    let (size, value) = read_pattern_item(line);
+    let (mut size, mut value) = (1, 0);
+    if line.take(b',') {
+        size = known_up_to(line, 8, SourceErrorKind::Range);
+        if line.take(b',') {
+            value = line.value();
+        }
+    }
     if count as usize * size as usize > MOST_BYTES {
         line.want(false, SourceErrorKind::TooLong);
         return;
@@ -338,19 +303,6 @@ fn read_pattern<A: Allocator>(line: &mut Line, bytes: &mut Vec<u8, A>) {
     for _ in 0..count {
         line.keep(bytes.extend_from_slice(&own[..size as usize]));
     }
-}
-
-/// Reads how many bytes a number has, at most 8 and 1 where none is said, and the number, which is 0
-/// where none is said.
-fn read_pattern_item(line: &mut Line) -> (u32, u32)
-    ensures { result.0 ≤ 8 }
-{
-    if !line.take(b',') {
-        return (1, 0);
-    }
-    let size = known_up_to(line, 8, SourceErrorKind::Range);
-    let value = if line.take(b',') { line.value() } else { 0 };
-    (size, value)
 }
 
 /// Reads strings with commas between them, and puts a zero byte behind each if that is asked.
@@ -370,23 +322,15 @@ fn read_strings<A: Allocator>(line: &mut Line, is_ended: bool, bytes: &mut Vec<u
 fn read_string<A: Allocator>(line: &mut Line, bytes: &mut Vec<u8, A>) {
     line.expect(b'"', SourceErrorKind::Quote);
     for _ in 0..u64::MAX {
-        let Some(byte) = next_in_string(line) else {
-            break;
+        let byte = match line.next_byte() {
+            Some(b'"') => return,
+            Some(b'\\') => next_escaped(line),
+            byte => byte,
         };
-        line.keep(bytes.extend_from_slice(&[byte]));
-    }
-}
-
-/// Takes the next byte of a string, or its end, where there is none.
-fn next_in_string(line: &mut Line) -> Option<u8> {
-    match line.next_byte() {
-        Some(b'"') => None,
-        Some(b'\\') => next_escaped(line),
-        None => {
-            line.want(false, SourceErrorKind::Quote);
-            None
+        match byte {
+            Some(byte) => line.keep(bytes.extend_from_slice(&[byte])),
+            None => return line.want(false, SourceErrorKind::Quote),
         }
-        byte => byte,
     }
 }
 
@@ -469,17 +413,16 @@ fn alignment(line: &mut Line, is_power: bool) -> u32
     line.skip_blanks();
     let error = line.error(SourceErrorKind::Range);
     let value = line.known_value();
-    let bytes = if is_power { power_of_two(value) } else { value };
+    let bytes = if is_power {
+        1u32.checked_shl(value).unwrap_or(0)
+    } else {
+        value
+    };
     if bytes.is_power_of_two() && bytes <= 1 << MOST_ALIGNED {
         return bytes;
     }
     line.fail(error);
     1
-}
-
-/// Which power of 2 has this exponent. It is 0 where that is too large.
-fn power_of_two(exponent: u32) -> u32 {
-    1u32.checked_shl(exponent).unwrap_or(0)
 }
 
 /// Reads which byte fills up to an alignment, and how many at most: otherwise nothing is filled.

@@ -1,6 +1,6 @@
 //! Reading the operands of instructions and pseudo-instructions.
 
-ghost use Rattle.std.specs.Prelude.{◌≡◌, ◌<◌, IfOk, IfSome, codes};
+ghost use Rattle.std.specs.Prelude.{◌≡◌, ◌<◌, IfOk, codes};
 ghost use Rattle.rrs_instruction.specs.Table.{table};
 ghost use Rattle.rrs_instruction.specs.Instructions.{row_of};
 ghost use Rattle.rrs_asm.specs.Names.{IsNamed, pseudo_name, load_name, store_name};
@@ -11,7 +11,7 @@ use crate::pseudo::{Load, Pseudo, Store};
 use crate::statements::Statement;
 use rrs_encode::{Operands, instruction_named, with_operands};
 use rrs_instruction::instruction::{Instruction, InstructionFields};
-use rrs_lines::{Line, LineError, SourceErrorKind};
+use rrs_lines::{Line, LineError, SourceErrorKind, place_among};
 
 /// How far a branch reaches, in bytes: so many backward, and fewer forward.
 const BRANCH_REACH: u32 = 0x1000;
@@ -165,13 +165,7 @@ enum Operand {
     Rs2,
     /// `immediate(rs1)`.
     Address,
-    Number(Number),
-}
-
-/// How a number is written that goes where an immediate does.
-#[derive(Clone, Copy)]
-enum Number {
-    /// 12 bits.
+    /// A number of 12 bits. This one and those below go where an immediate does.
     Immediate,
     /// How far is shifted: below 32.
     Amount,
@@ -190,21 +184,17 @@ enum Number {
 /// The operands of each format, and of the pseudo-instructions that are written as it is.
 static OF_R: [Operand; 3] = [Operand::Rd, Operand::Rs1, Operand::Rs2];
 
-static OF_I: [Operand; 3] = [
-    Operand::Rd,
-    Operand::Rs1,
-    Operand::Number(Number::Immediate),
-];
+static OF_I: [Operand; 3] = [Operand::Rd, Operand::Rs1, Operand::Immediate];
 
-static OF_SHIFT: [Operand; 3] = [Operand::Rd, Operand::Rs1, Operand::Number(Number::Amount)];
+static OF_SHIFT: [Operand; 3] = [Operand::Rd, Operand::Rs1, Operand::Amount];
 
 static OF_S: [Operand; 2] = [Operand::Rs2, Operand::Address];
 
-static OF_B: [Operand; 3] = [Operand::Rs1, Operand::Rs2, Operand::Number(Number::Branch)];
+static OF_B: [Operand; 3] = [Operand::Rs1, Operand::Rs2, Operand::Branch];
 
-static OF_U: [Operand; 2] = [Operand::Rd, Operand::Number(Number::Upper)];
+static OF_U: [Operand; 2] = [Operand::Rd, Operand::Upper];
 
-static OF_J: [Operand; 2] = [Operand::Rd, Operand::Number(Number::Jump)];
+static OF_J: [Operand; 2] = [Operand::Rd, Operand::Jump];
 
 /// The operands of an instruction that is written as others of its format.
 fn operands_of(fields: InstructionFields) -> &'static [Operand] {
@@ -231,27 +221,22 @@ fn read_operands(line: &mut Line, wanted: &[Operand]) -> Operands {
     operands
 }
 
-/// Reads an operand, and puts it where it goes.
+/// Reads an operand, and puts it where it goes. A word is taken as a signed one.
 fn read_operand(line: &mut Line, operand: Operand, operands: &mut Operands) {
     match operand {
         Operand::Rd => operands.rd = line.register(),
         Operand::Rs1 => operands.rs1 = line.register(),
         Operand::Rs2 => operands.rs2 = line.register(),
         Operand::Address => (operands.imm, operands.rs1) = line.address(),
-        Operand::Number(number) => operands.imm = read_number(line, number),
-    }
-}
-
-/// Reads a number that goes where an immediate does. A word is taken as a signed one.
-fn read_number(line: &mut Line, number: Number) -> i32 {
-    match number {
-        Number::Immediate => line.immediate(),
-        Number::Branch => line.offset(BRANCH_REACH),
-        Number::Jump => line.offset(JUMP_REACH),
-        Number::Amount => line.below(32, 0).cast_signed(),
-        Number::Upper => (line.upper() << 12).cast_signed(),
-        Number::Word => line.known_value().cast_signed(),
-        Number::Distance => line.value().wrapping_sub(line.site.here).cast_signed(),
+        Operand::Immediate => operands.imm = line.immediate(),
+        Operand::Branch => operands.imm = line.offset(BRANCH_REACH),
+        Operand::Jump => operands.imm = line.offset(JUMP_REACH),
+        Operand::Amount => operands.imm = line.below(32, 0).cast_signed(),
+        Operand::Upper => operands.imm = (line.upper() << 12).cast_signed(),
+        Operand::Word => operands.imm = line.known_value().cast_signed(),
+        Operand::Distance => {
+            operands.imm = line.value().wrapping_sub(line.site.here).cast_signed();
+        }
     }
 }
 
@@ -321,9 +306,9 @@ fn read_accesses(line: &mut Line) -> u32
 {
     line.skip_blanks();
     let error = line.error(SourceErrorKind::Value);
-    match accesses_of(line.word()) {
-        Some(set) => set,
-        None => {
+    match place_among(ACCESSES, line.word()) {
+        Some(place) if place < 15 => place as u32 + 1,
+        _ => {
             line.fail(error);
             0
         }
@@ -331,22 +316,7 @@ fn read_accesses(line: &mut Line) -> u32
 }
 
 /// The sets of accesses, in the order of their four bits, from 1 on.
-const ACCESSES: [&[u8]; 15] = [
-    b"w", b"r", b"rw", b"o", b"ow", b"or", b"orw", b"i", b"iw", b"ir", b"irw", b"io", b"iow",
-    b"ior", b"iorw",
-];
-
-/// The four bits of a set of accesses.
-fn accesses_of(word: &[u8]) -> Option<u32>
-    ensures { IfSome result (λ set. set < 16) }
-{
-    for (set, own) in (1u32..16).zip(&ACCESSES) {
-        if *own == word {
-            return Some(set);
-        }
-    }
-    None
-}
+const ACCESSES: &[u8] = b"w r rw o ow or orw i iw ir irw io iow ior iorw";
 
 /// Reads the operands of a pseudo-instruction.
 fn read_pseudo(line: &mut Line, form: PseudoForm) -> Pseudo
@@ -356,21 +326,21 @@ fn read_pseudo(line: &mut Line, form: PseudoForm) -> Pseudo
 }
 
 /// The operands of pseudo-instructions that are written as no format is.
-static OF_LI: [Operand; 2] = [Operand::Rd, Operand::Number(Number::Word)];
+static OF_LI: [Operand; 2] = [Operand::Rd, Operand::Word];
 
-static OF_LA: [Operand; 2] = [Operand::Rd, Operand::Number(Number::Distance)];
+static OF_LA: [Operand; 2] = [Operand::Rd, Operand::Distance];
 
-static OF_JUMP: [Operand; 2] = [Operand::Number(Number::Distance), Operand::Rs1];
+static OF_JUMP: [Operand; 2] = [Operand::Distance, Operand::Rs1];
 
 static OF_ONE: [Operand; 2] = [Operand::Rd, Operand::Rs1];
 
-static AGAINST_ZERO: [Operand; 2] = [Operand::Rs1, Operand::Number(Number::Branch)];
+static AGAINST_ZERO: [Operand; 2] = [Operand::Rs1, Operand::Branch];
 
-static OF_TARGET: [Operand; 1] = [Operand::Number(Number::Jump)];
+static OF_TARGET: [Operand; 1] = [Operand::Jump];
 
 static OF_REGISTER: [Operand; 1] = [Operand::Rs1];
 
-static OF_SYMBOL: [Operand; 1] = [Operand::Number(Number::Distance)];
+static OF_SYMBOL: [Operand; 1] = [Operand::Distance];
 
 /// The operands of a pseudo-instruction.
 fn operands_of_pseudo(form: PseudoForm) -> &'static [Operand] {

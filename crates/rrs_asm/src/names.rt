@@ -2,11 +2,13 @@
 
 ghost use Rattle.std.specs.Prelude.{◌≡◌, ℕ, Bool, true, List, IfSome};
 ghost use Rattle.std.specs.List.{list_all};
+ghost use Rattle.rrs_lines.specs.Lines.{words_of};
 ghost use Rattle.rrs_asm.specs.Forms.{form_name, IsForm};
 ghost use Rattle.rrs_asm.specs.declared.names.DirectiveForm.{DirectiveForm};
 ghost use Rattle.rrs_asm.specs.declared.names.PseudoForm.{PseudoForm};
 
 use crate::pseudo::{SwappedBranch, SwappedComparison, Unary, ZeroBranch};
+use rrs_lines::place_among;
 
 /// A pseudo-instruction by how its operands are written.
 #[derive(Clone, Copy)]
@@ -137,38 +139,14 @@ pub enum DirectiveForm {
     Refused,
 }
 
-/// The directives, which begin with a dot.
-const DIRECTIVES: [(&[u8], DirectiveForm); 94] = [
+/// The directives, which begin with a dot, by what they say.
+static DIRECTIVES: [(&[u8], DirectiveForm); 17] = [
     (
-        b".word",
+        b".word .long .4byte .int",
         DirectiveForm::Place(PlacedForm::Data(DataForm::Numbers(32))),
     ),
     (
-        b".long",
-        DirectiveForm::Place(PlacedForm::Data(DataForm::Numbers(32))),
-    ),
-    (
-        b".4byte",
-        DirectiveForm::Place(PlacedForm::Data(DataForm::Numbers(32))),
-    ),
-    (
-        b".int",
-        DirectiveForm::Place(PlacedForm::Data(DataForm::Numbers(32))),
-    ),
-    (
-        b".half",
-        DirectiveForm::Place(PlacedForm::Data(DataForm::Numbers(16))),
-    ),
-    (
-        b".short",
-        DirectiveForm::Place(PlacedForm::Data(DataForm::Numbers(16))),
-    ),
-    (
-        b".2byte",
-        DirectiveForm::Place(PlacedForm::Data(DataForm::Numbers(16))),
-    ),
-    (
-        b".hword",
+        b".half .short .2byte .hword",
         DirectiveForm::Place(PlacedForm::Data(DataForm::Numbers(16))),
     ),
     (
@@ -176,15 +154,7 @@ const DIRECTIVES: [(&[u8], DirectiveForm); 94] = [
         DirectiveForm::Place(PlacedForm::Data(DataForm::Numbers(8))),
     ),
     (
-        b".dword",
-        DirectiveForm::Place(PlacedForm::Data(DataForm::Numbers(64))),
-    ),
-    (
-        b".quad",
-        DirectiveForm::Place(PlacedForm::Data(DataForm::Numbers(64))),
-    ),
-    (
-        b".8byte",
+        b".dword .quad .8byte",
         DirectiveForm::Place(PlacedForm::Data(DataForm::Numbers(64))),
     ),
     (
@@ -192,11 +162,7 @@ const DIRECTIVES: [(&[u8], DirectiveForm); 94] = [
         DirectiveForm::Place(PlacedForm::Data(DataForm::Strings(false))),
     ),
     (
-        b".asciz",
-        DirectiveForm::Place(PlacedForm::Data(DataForm::Strings(true))),
-    ),
-    (
-        b".string",
+        b".asciz .string",
         DirectiveForm::Place(PlacedForm::Data(DataForm::Strings(true))),
     ),
     (
@@ -204,159 +170,55 @@ const DIRECTIVES: [(&[u8], DirectiveForm); 94] = [
         DirectiveForm::Place(PlacedForm::Data(DataForm::Pattern)),
     ),
     (
-        b".align",
-        DirectiveForm::Place(PlacedForm::Data(DataForm::Alignment(true))),
-    ),
-    (
-        b".p2align",
+        b".align .p2align",
         DirectiveForm::Place(PlacedForm::Data(DataForm::Alignment(true))),
     ),
     (
         b".balign",
         DirectiveForm::Place(PlacedForm::Data(DataForm::Alignment(false))),
     ),
-    (b".space", DirectiveForm::Place(PlacedForm::Space)),
-    (b".zero", DirectiveForm::Place(PlacedForm::Space)),
-    (b".skip", DirectiveForm::Place(PlacedForm::Space)),
+    (
+        b".space .zero .skip",
+        DirectiveForm::Place(PlacedForm::Space),
+    ),
     (b".org", DirectiveForm::Place(PlacedForm::Origin)),
-    (b".equ", DirectiveForm::Constant),
-    (b".set", DirectiveForm::Constant),
-    (b".text", DirectiveForm::Section),
-    (b".data", DirectiveForm::Section),
-    (b".bss", DirectiveForm::Section),
-    (b".rodata", DirectiveForm::Section),
-    (b".section", DirectiveForm::Section),
+    (b".equ .set", DirectiveForm::Constant),
+    (b".text .data .bss .rodata .section", DirectiveForm::Section),
     (b".option", DirectiveForm::Option),
-    (b".globl", DirectiveForm::Silent),
-    (b".global", DirectiveForm::Silent),
-    (b".local", DirectiveForm::Silent),
-    (b".weak", DirectiveForm::Silent),
-    (b".hidden", DirectiveForm::Silent),
-    (b".internal", DirectiveForm::Silent),
-    (b".protected", DirectiveForm::Silent),
-    (b".extern", DirectiveForm::Silent),
-    (b".type", DirectiveForm::Silent),
-    (b".size", DirectiveForm::Silent),
-    (b".file", DirectiveForm::Silent),
-    (b".ident", DirectiveForm::Silent),
-    (b".attribute", DirectiveForm::Silent),
-    (b".loc", DirectiveForm::Silent),
-    (b".cfi_startproc", DirectiveForm::Silent),
-    (b".cfi_endproc", DirectiveForm::Silent),
-    (b".cfi_sections", DirectiveForm::Silent),
-    (b".cfi_def_cfa", DirectiveForm::Silent),
-    (b".cfi_def_cfa_offset", DirectiveForm::Silent),
-    (b".cfi_def_cfa_register", DirectiveForm::Silent),
-    (b".cfi_adjust_cfa_offset", DirectiveForm::Silent),
-    (b".cfi_offset", DirectiveForm::Silent),
-    (b".cfi_rel_offset", DirectiveForm::Silent),
-    (b".cfi_register", DirectiveForm::Silent),
-    (b".cfi_restore", DirectiveForm::Silent),
-    (b".cfi_undefined", DirectiveForm::Silent),
-    (b".cfi_same_value", DirectiveForm::Silent),
-    (b".cfi_remember_state", DirectiveForm::Silent),
-    (b".cfi_restore_state", DirectiveForm::Silent),
-    (b".cfi_return_column", DirectiveForm::Silent),
-    (b".cfi_signal_frame", DirectiveForm::Silent),
-    (b".cfi_personality", DirectiveForm::Silent),
-    (b".cfi_lsda", DirectiveForm::Silent),
-    (b".cfi_escape", DirectiveForm::Silent),
-    (b".uleb128", DirectiveForm::Refused),
-    (b".sleb128", DirectiveForm::Refused),
-    (b".float", DirectiveForm::Refused),
-    (b".double", DirectiveForm::Refused),
-    (b".single", DirectiveForm::Refused),
-    (b".octa", DirectiveForm::Refused),
-    (b".dcb", DirectiveForm::Refused),
-    (b".ds", DirectiveForm::Refused),
-    (b".incbin", DirectiveForm::Refused),
-    (b".insn", DirectiveForm::Refused),
-    (b".reloc", DirectiveForm::Refused),
-    (b".float16", DirectiveForm::Refused),
-    (b".base64", DirectiveForm::Refused),
-    (b".dtprelword", DirectiveForm::Refused),
-    (b".dtpreldword", DirectiveForm::Refused),
-    (b".line", DirectiveForm::Refused),
-    (b".stabs", DirectiveForm::Refused),
-    (b".stabn", DirectiveForm::Refused),
-    (b".stabd", DirectiveForm::Refused),
-    (b".inst", DirectiveForm::Refused),
-    (b".string8", DirectiveForm::Refused),
-    (b".string16", DirectiveForm::Refused),
-    (b".string32", DirectiveForm::Refused),
-    (b".string64", DirectiveForm::Refused),
-    (b".ln", DirectiveForm::Refused),
-    (b".half_float", DirectiveForm::Refused),
-    (b".comm", DirectiveForm::Common),
-    (b".lcomm", DirectiveForm::Common),
-    (b".bfloat16", DirectiveForm::Refused),
+    (SILENT, DirectiveForm::Silent),
+    (REFUSED, DirectiveForm::Refused),
+    (b".comm .lcomm", DirectiveForm::Common),
 ];
 
+/// The directives that mean nothing here.
+const SILENT: &[u8] =
+    b".globl .global .local .weak .hidden .internal .protected .extern .type .size .file \
+    .ident .attribute .loc .cfi_startproc .cfi_endproc .cfi_sections .cfi_def_cfa \
+    .cfi_def_cfa_offset .cfi_def_cfa_register .cfi_adjust_cfa_offset .cfi_offset \
+    .cfi_rel_offset .cfi_register .cfi_restore .cfi_undefined .cfi_same_value \
+    .cfi_remember_state .cfi_restore_state .cfi_return_column .cfi_signal_frame \
+    .cfi_personality .cfi_lsda .cfi_escape";
+
+/// The directives that are not implemented here, and lay bytes out in GNU `as` or speak of
+/// debugging.
+const REFUSED: &[u8] =
+    b".uleb128 .sleb128 .float .double .single .octa .dcb .ds .incbin .insn .reloc .float16 \
+    .base64 .dtprelword .dtpreldword .line .stabs .stabn .stabd .inst .string8 .string16 \
+    .string32 .string64 .ln .half_float .bfloat16";
+
 /// The other directives that GNU `as` has, and that are not implemented here.
-const UNSUPPORTED: [&[u8]; 58] = [
-    b".include",
-    b".subsection",
-    b".struct",
-    b".offset",
-    b".weakref",
-    b".symver",
-    b".version",
-    b".vtable_entry",
-    b".vtable_inherit",
-    b".balignw",
-    b".balignl",
-    b".p2alignw",
-    b".p2alignl",
-    b".bundle_align_mode",
-    b".linkonce",
-    b".pushsection",
-    b".popsection",
-    b".previous",
-    b".macro",
-    b".endm",
-    b".exitm",
-    b".purgem",
-    b".rept",
-    b".endr",
-    b".irp",
-    b".irpc",
-    b".if",
-    b".ifdef",
-    b".ifndef",
-    b".else",
-    b".elseif",
-    b".endif",
-    b".altmacro",
-    b".noaltmacro",
-    b".end",
-    b".err",
-    b".error",
-    b".warning",
-    b".print",
-    b".func",
-    b".endfunc",
-    b".lflags",
-    b".list",
-    b".nolist",
-    b".title",
-    b".sbttl",
-    b".psize",
-    b".eject",
-    b".abort",
-    b".cfi_fde_data",
-    b".cfi_b_key_frame",
-    b".cfi_val_offset",
-    b".cfi_label",
-    b".cfi_inline_lsda",
-    b".cfi_window_save",
-    b".gnu_attribute",
-    b".tls_common",
-    b".zerofill",
-];
+const UNSUPPORTED: &[u8] =
+    b".include .subsection .struct .offset .weakref .symver .version .vtable_entry \
+    .vtable_inherit .balignw .balignl .p2alignw .p2alignl .bundle_align_mode .linkonce \
+    .pushsection .popsection .previous .macro .endm .exitm .purgem .rept .endr .irp .irpc \
+    .if .ifdef .ifndef .else .elseif .endif .altmacro .noaltmacro .end .err .error .warning \
+    .print .func .endfunc .lflags .list .nolist .title .sbttl .psize .eject .abort \
+    .cfi_fde_data .cfi_b_key_frame .cfi_val_offset .cfi_label .cfi_inline_lsda \
+    .cfi_window_save .gnu_attribute .tls_common .zerofill";
 
 /// Whether GNU `as` has a directive of this name, of which nothing is known here.
 pub fn is_unsupported(name: &[u8]) -> bool {
-    UNSUPPORTED.contains(&name)
+    place_among(UNSUPPORTED, name).is_some()
 }
 
 /// What the directive of a name says.
@@ -366,14 +228,15 @@ pub fn directive_named(name: &[u8]) -> Option<DirectiveForm>
     directive_in(&DIRECTIVES, name)
 }
 
-/// What stands beside a name in a table. A test that all entries pass, it passes with the name.
+/// What stands beside words in a table, one of which is the name. A test that all words pass with
+/// what stands beside them, the name passes with it.
 fn directive_in(table: &[(&[u8], DirectiveForm)], name: &[u8]) -> Option<DirectiveForm>
     ensures { (fits : List ℕ → DirectiveForm → Bool)
-        → list_all (λ e. fits e.0.now e.1) table.now ≡ true
+        → list_all (λ e. list_all (λ own. fits own e.1) (words_of e.0.now)) table.now ≡ true
         → IfSome result (λ form. fits name.now form ≡ true) }
 {
-    for (own, form) in table {
-        if *own == name {
+    for (words, form) in table {
+        if place_among(words, name).is_some() {
             return Some(*form);
         }
     }

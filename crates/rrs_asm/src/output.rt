@@ -148,7 +148,7 @@ fn append_data<A: Allocator>(bytes: &mut Vec<u8, A>, given: &[u8], count: usize)
 fn append_fill<A: Allocator>(bytes: &mut Vec<u8, A>, count: u32, byte: u8) -> Result<(), Halt>
     ensures { OnOk result (bytes.new.items ≡ bytes.old.items ++ replicate count byte) }
 {
-    let length = bytes.len().checked_add(count as usize).ok_or(too_long())?;
+    let length = bytes.len().saturating_add(count as usize);
     Ok(bytes.resize(length, byte)?)
 }
 

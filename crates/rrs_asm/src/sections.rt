@@ -25,18 +25,6 @@ pub enum SectionKind {
     Zero,
 }
 
-impl SectionKind {
-    /// How many kinds lie before it.
-    fn order(self) -> u8 {
-        match self {
-            SectionKind::Code => 0,
-            SectionKind::ReadOnly => 1,
-            SectionKind::Data => 2,
-            SectionKind::Zero => 3,
-        }
-    }
-}
-
 /// Where sections lie.
 #[derive(Clone, Copy)]
 pub struct Layout {
@@ -134,11 +122,6 @@ impl<'a, A: Allocator> Section<'a, A> {
         self.made.bytes.clear();
     }
 
-    /// Whether it has as many bytes as in the reading before.
-    fn is_steady(&self) -> bool {
-        self.made.bytes.len() == self.before
-    }
-
     /// Puts a label of a line behind what is there, if its name stands for this address.
     pub fn put_label(
         &mut self,
@@ -150,8 +133,9 @@ impl<'a, A: Allocator> Section<'a, A> {
         ensures { OnOk result (Grows (Item.Label line name.now ∷ []) self.old self.new) }
     {
         let address = self.here();
-        if address_of(known) != Some(address) {
-            return Err(Halt::Error(start.with_kind(SourceErrorKind::Moved)));
+        match known {
+            Known::Now(value) if value == u64::from(address) => (),
+            _ => return Err(Halt::Error(start.with_kind(SourceErrorKind::Moved))),
         }
         let label = Label {
             line,
@@ -175,16 +159,11 @@ impl<'a, A: Allocator> Section<'a, A> {
         if matches!(self.kind, SectionKind::Zero) && !statement.is_zero(data) {
             return Err(Halt::Error(start.with_kind(SourceErrorKind::Zeros)));
         }
-        if self.end_with(&statement) > 1 << 32 {
+        let size = self.made.bytes.len().saturating_add(statement.size());
+        if u64::from(self.address).saturating_add(size as u64) > 1 << 32 {
             return Err(Halt::Error(start.with_kind(SourceErrorKind::TooLong)));
         }
         self.made.place(self.address, line, statement, data)
-    }
-
-    /// Where the section would end with a statement more.
-    fn end_with(&self, statement: &Statement) -> u64 {
-        let size = self.made.bytes.len().saturating_add(statement.size());
-        u64::from(self.address).saturating_add(size as u64)
     }
 
     /// How many bytes the next multiple of an alignment is away.
@@ -215,14 +194,6 @@ impl<'a, A: Allocator> Section<'a, A> {
     }
 }
 
-/// The value of a symbol that is defined before.
-fn address_of(known: Known) -> Option<u32> {
-    match known {
-        Known::Now(address) => u32::try_from(address).ok(),
-        Known::Later(_) | Known::Perhaps | Known::Never => None,
-    }
-}
-
 /// Whether a section of this name is laid out: it holds neither debugging data nor notes.
 pub fn is_laid_out(name: &[u8]) -> bool
     ensures { result ≡ is_laid_out name.now }
@@ -238,26 +209,25 @@ pub fn is_laid_out(name: &[u8]) -> bool
 
 /// The kind of a section by its name, if that says it.
 pub fn kind_of_name(name: &[u8]) -> Option<SectionKind> {
-    if begins(name, b".text") {
-        Some(SectionKind::Code)
-    } else if begins(name, b".rodata") || begins(name, b".srodata") {
-        Some(SectionKind::ReadOnly)
-    } else if begins(name, b".data") || begins(name, b".sdata") {
-        Some(SectionKind::Data)
-    } else if begins(name, b".bss") || begins(name, b".sbss") {
-        Some(SectionKind::Zero)
-    } else {
-        None
+    for (first, kind) in &KINDS {
+        let is_whole = matches!(name.get(first.len()), None | Some(b'.'));
+        if is_whole && name.starts_with(first) {
+            return Some(*kind);
+        }
     }
+    None
 }
 
-/// Whether a name is another, or goes on behind it with a dot.
-fn begins(name: &[u8], first: &[u8]) -> bool {
-    match name.get(first.len()) {
-        None => name == first,
-        Some(byte) => *byte == b'.' && name.starts_with(first),
-    }
-}
+/// The names that say what a section holds. A name may go on behind them with a dot.
+static KINDS: [(&[u8], SectionKind); 7] = [
+    (b".text", SectionKind::Code),
+    (b".rodata", SectionKind::ReadOnly),
+    (b".srodata", SectionKind::ReadOnly),
+    (b".data", SectionKind::Data),
+    (b".sdata", SectionKind::Data),
+    (b".bss", SectionKind::Zero),
+    (b".sbss", SectionKind::Zero),
+];
 
 /// What a section takes.
 #[derive(Clone, Copy)]
@@ -385,7 +355,7 @@ pub fn place<'a, A: Allocator>(sections: &mut Vec<Section<'a, A>, A>, layout: La
 /// Whether each section has as many bytes as in the reading before.
 pub fn are_steady<A: Allocator>(sections: &[Section<A>]) -> bool {
     for section in sections {
-        if !section.is_steady() {
+        if section.made.bytes.len() != section.before {
             return false;
         }
     }
@@ -427,7 +397,7 @@ fn index_behind<A: Allocator>(kind: SectionKind, sections: &[Section<A>]) -> usi
     ensures { result ≤ length sections.now }
 {
     for (index, section) in sections.iter().enumerate() {
-        if section.kind.order() > kind.order() {
+        if section.kind as u8 > kind as u8 {
             return index;
         }
     }
@@ -449,16 +419,12 @@ pub fn insert_first<'a, A: Allocator + Copy>(
     sections: &mut Vec<Section<'a, A>, A>,
 ) -> Result<(), AllocError> {
     for (name, kind) in &FIRST_SECTIONS {
-        let _ = insert(alloc, *name, *kind, first_address(*kind, layout), sections)?;
+        let address = match kind {
+            SectionKind::Code => layout.text_start,
+            SectionKind::Data => layout.data_start.unwrap_or(0),
+            SectionKind::ReadOnly | SectionKind::Zero => 0,
+        };
+        let _ = insert(alloc, *name, *kind, address, sections)?;
     }
     Ok(())
-}
-
-/// Where a section of a kind lies before its address is known.
-fn first_address(kind: SectionKind, layout: Layout) -> u32 {
-    match kind {
-        SectionKind::Code => layout.text_start,
-        SectionKind::Data => layout.data_start.unwrap_or(0),
-        SectionKind::ReadOnly | SectionKind::Zero => 0,
-    }
 }
