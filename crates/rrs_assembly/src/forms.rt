@@ -1,5 +1,7 @@
 //! How instructions are written, for those who wrote one otherwise.
 
+use rrs_lines::place_among;
+
 /// The operands of an instruction.
 #[derive(Clone, Copy, PartialEq)]
 pub enum Form {
@@ -41,214 +43,117 @@ pub enum Form {
     Alone,
 }
 
-/// The instructions and pseudo-instructions.
-pub static NAMES: [(&str, Form); 79] = [
-    ("add", Form::Registers),
-    ("sub", Form::Registers),
-    ("sll", Form::Registers),
-    ("slt", Form::Registers),
-    ("sltu", Form::Registers),
-    ("xor", Form::Registers),
-    ("srl", Form::Registers),
-    ("sra", Form::Registers),
-    ("or", Form::Registers),
-    ("and", Form::Registers),
-    ("mul", Form::Registers),
-    ("mulh", Form::Registers),
-    ("mulhsu", Form::Registers),
-    ("mulhu", Form::Registers),
-    ("div", Form::Registers),
-    ("divu", Form::Registers),
-    ("rem", Form::Registers),
-    ("remu", Form::Registers),
-    ("sgt", Form::Registers),
-    ("sgtu", Form::Registers),
-    ("addi", Form::Immediate),
-    ("slti", Form::Immediate),
-    ("sltiu", Form::Immediate),
-    ("xori", Form::Immediate),
-    ("ori", Form::Immediate),
-    ("andi", Form::Immediate),
-    ("slli", Form::Shift),
-    ("srli", Form::Shift),
-    ("srai", Form::Shift),
-    ("lb", Form::Load),
-    ("lbu", Form::Load),
-    ("lh", Form::Load),
-    ("lhu", Form::Load),
-    ("lw", Form::Load),
-    ("sb", Form::Store),
-    ("sh", Form::Store),
-    ("sw", Form::Store),
-    ("beq", Form::Branch),
-    ("bne", Form::Branch),
-    ("blt", Form::Branch),
-    ("bge", Form::Branch),
-    ("bltu", Form::Branch),
-    ("bgeu", Form::Branch),
-    ("bgt", Form::Branch),
-    ("ble", Form::Branch),
-    ("bgtu", Form::Branch),
-    ("bleu", Form::Branch),
-    ("beqz", Form::ZeroBranch),
-    ("bnez", Form::ZeroBranch),
-    ("blez", Form::ZeroBranch),
-    ("bgez", Form::ZeroBranch),
-    ("bltz", Form::ZeroBranch),
-    ("bgtz", Form::ZeroBranch),
-    ("lui", Form::Upper),
-    ("auipc", Form::Upper),
-    ("mv", Form::Copy),
-    ("not", Form::Copy),
-    ("neg", Form::Copy),
-    ("seqz", Form::Copy),
-    ("snez", Form::Copy),
-    ("sltz", Form::Copy),
-    ("sgtz", Form::Copy),
-    ("zext.b", Form::Copy),
-    ("li", Form::Number),
-    ("la", Form::Address),
-    ("lla", Form::Address),
-    ("j", Form::Jump),
-    ("call", Form::Jump),
-    ("tail", Form::Jump),
-    ("jump", Form::FarJump),
-    ("jal", Form::Link),
-    ("jr", Form::Register),
-    ("jalr", Form::LinkRegister),
-    ("ecall", Form::Alone),
-    ("ebreak", Form::Alone),
-    ("fence", Form::Fence),
-    ("nop", Form::Alone),
-    ("ret", Form::Alone),
-    ("unimp", Form::Alone),
+/// The instructions and pseudo-instructions, by their forms.
+pub static NAMES: [(&[u8], Form); 19] = [
+    (
+        b"add sub sll slt sltu xor srl sra or and mul mulh mulhsu mulhu div divu rem remu sgt \
+            sgtu",
+        Form::Registers,
+    ),
+    (b"addi slti sltiu xori ori andi", Form::Immediate),
+    (b"slli srli srai", Form::Shift),
+    (b"lb lbu lh lhu lw", Form::Load),
+    (b"sb sh sw", Form::Store),
+    (b"beq bne blt bge bltu bgeu bgt ble bgtu bleu", Form::Branch),
+    (b"beqz bnez blez bgez bltz bgtz", Form::ZeroBranch),
+    (b"lui auipc", Form::Upper),
+    (b"mv not neg seqz snez sltz sgtz zext.b", Form::Copy),
+    (b"li", Form::Number),
+    (b"la lla", Form::Address),
+    (b"j call tail", Form::Jump),
+    (b"jump", Form::FarJump),
+    (b"jal", Form::Link),
+    (b"jr", Form::Register),
+    (b"jalr", Form::LinkRegister),
+    (b"ecall ebreak", Form::Alone),
+    (b"fence", Form::Fence),
+    (b"nop ret unimp", Form::Alone),
 ];
 
 /// An instruction that takes a number, and the one that takes a register in its place.
-pub static PAIRS: [(&str, &str); 10] = [
-    ("addi", "add"),
-    ("slti", "slt"),
-    ("sltiu", "sltu"),
-    ("xori", "xor"),
-    ("ori", "or"),
-    ("andi", "and"),
-    ("slli", "sll"),
-    ("srli", "srl"),
-    ("srai", "sra"),
-    ("li", "mv"),
+pub static PAIRS: [(&[u8], &str); 10] = [
+    (b"addi", "add"),
+    (b"slti", "slt"),
+    (b"sltiu", "sltu"),
+    (b"xori", "xor"),
+    (b"ori", "or"),
+    (b"andi", "and"),
+    (b"slli", "sll"),
+    (b"srli", "srl"),
+    (b"srai", "sra"),
+    (b"li", "mv"),
 ];
 
 /// The directives, and how what follows them is written.
-pub static DIRECTIVES: [(&str, &str); 44] = [
-    (".text", ""),
-    (".data", ""),
-    (".bss", ""),
-    (".rodata", ""),
-    (".section", " name"),
-    (".word", " number, number"),
-    (".half", " number, number"),
-    (".byte", " number, number"),
-    (".dword", " number, number"),
-    (".long", " number, number"),
-    (".int", " number, number"),
-    (".short", " number, number"),
-    (".hword", " number, number"),
-    (".quad", " number, number"),
-    (".2byte", " number, number"),
-    (".4byte", " number, number"),
-    (".8byte", " number, number"),
-    (".string", " \"text\""),
-    (".asciz", " \"text\""),
-    (".ascii", " \"text\""),
-    (".space", " bytes"),
-    (".zero", " bytes"),
-    (".skip", " bytes"),
-    (".fill", " count, size, number"),
-    (".align", " power"),
-    (".p2align", " power"),
-    (".balign", " bytes"),
-    (".org", " address"),
-    (".equ", " name, number"),
-    (".set", " name, number"),
-    (".comm", " name, bytes, alignment"),
-    (".lcomm", " name, bytes"),
-    (".globl", " name"),
-    (".global", " name"),
-    (".extern", " name"),
-    (".macro", " name a, b"),
-    (".endm", ""),
-    (".rept", " count"),
-    (".irp", " a, 1, 2"),
-    (".endr", ""),
-    (".if", " number"),
-    (".ifdef", " name"),
-    (".else", ""),
-    (".endif", ""),
+pub static DIRECTIVES: [(&[u8], &str); 21] = [
+    (b".text .data .bss .rodata", ""),
+    (b".section", " name"),
+    (
+        b".word .half .byte .dword .long .int .short .hword .quad .2byte .4byte .8byte",
+        " number, number",
+    ),
+    (b".string .asciz .ascii", " \"text\""),
+    (b".space .zero .skip", " bytes"),
+    (b".fill", " count, size, number"),
+    (b".align .p2align", " power"),
+    (b".balign", " bytes"),
+    (b".org", " address"),
+    (b".equ .set", " name, number"),
+    (b".comm", " name, bytes, alignment"),
+    (b".lcomm", " name, bytes"),
+    (b".globl .global .extern", " name"),
+    (b".macro", " name a, b"),
+    (b".endm", ""),
+    (b".rept", " count"),
+    (b".irp", " a, 1, 2"),
+    (b".endr", ""),
+    (b".if", " number"),
+    (b".ifdef", " name"),
+    (b".else .endif", ""),
 ];
 
 /// Names that other assemblers have, and what is written here.
-static ELSEWHERE: [(&str, &str); 27] = [
-    ("move", "mv"),
-    ("mov", "mv"),
-    ("addiu", "addi"),
-    ("subi", "addi"),
-    ("addu", "add"),
-    ("subu", "sub"),
-    ("mult", "mul"),
-    ("b", "j"),
-    ("bal", "jal"),
-    ("jmp", "j"),
-    ("goto", "j"),
-    ("return", "ret"),
-    ("syscall", "ecall"),
-    ("int", "ecall"),
-    ("ld", "lw"),
-    ("ldr", "lw"),
-    ("lwu", "lw"),
-    ("sd", "sw"),
-    ("str", "sw"),
-    (".asciiz", ".asciz"),
-    (".eqv", ".equ"),
-    (".equiv", ".equ"),
-    (".db", ".byte"),
-    (".dw", ".word"),
-    ("db", ".byte"),
-    ("dw", ".word"),
-    (".define", ".equ"),
+static ELSEWHERE: [(&[u8], &str); 15] = [
+    (b"move mov", "mv"),
+    (b"addiu subi", "addi"),
+    (b"addu", "add"),
+    (b"subu", "sub"),
+    (b"mult", "mul"),
+    (b"b jmp goto", "j"),
+    (b"bal", "jal"),
+    (b"return", "ret"),
+    (b"syscall int", "ecall"),
+    (b"ld ldr lwu", "lw"),
+    (b"sd str", "sw"),
+    (b".asciiz", ".asciz"),
+    (b".eqv .equiv .define", ".equ"),
+    (b".db db", ".byte"),
+    (b".dw dw", ".word"),
 ];
 
 /// The directives whose numbers have a range.
-static RANGES: [(&str, &str); 24] = [
-    (".byte", " takes -128 to 255"),
-    (".half", " takes -32768 to 65535"),
-    (".short", " takes -32768 to 65535"),
-    (".2byte", " takes -32768 to 65535"),
-    (".hword", " takes -32768 to 65535"),
-    (".word", " takes -2147483648 to 4294967295"),
-    (".long", " takes -2147483648 to 4294967295"),
-    (".int", " takes -2147483648 to 4294967295"),
-    (".4byte", " takes -2147483648 to 4294967295"),
-    (".equ", " takes -2147483648 to 4294967295"),
-    (".set", " takes -2147483648 to 4294967295"),
-    (".dword", " takes 64 bits"),
-    (".quad", " takes 64 bits"),
-    (".8byte", " takes 64 bits"),
-    (".align", " takes 0 to 16, the power of 2"),
-    (".p2align", " takes 0 to 16, the power of 2"),
-    (".balign", " takes a power of 2, 65536 at most"),
-    (".fill", " takes numbers of 0 to 8 bytes"),
-    (".org", " takes 0 to 4294967295"),
-    (".space", " takes 0 to 67108864 bytes"),
-    (".zero", " takes 0 to 67108864 bytes"),
-    (".skip", " takes 0 to 67108864 bytes"),
-    (".comm", " takes 0 to 67108864 bytes"),
-    (".lcomm", " takes 0 to 67108864 bytes"),
+static RANGES: [(&[u8], &str); 9] = [
+    (b".byte", " takes -128 to 255"),
+    (b".half .short .2byte .hword", " takes -32768 to 65535"),
+    (
+        b".word .long .int .4byte .equ .set",
+        " takes -2147483648 to 4294967295",
+    ),
+    (b".dword .quad .8byte", " takes 64 bits"),
+    (b".align .p2align", " takes 0 to 16, the power of 2"),
+    (b".balign", " takes a power of 2, 65536 at most"),
+    (b".fill", " takes numbers of 0 to 8 bytes"),
+    (b".org", " takes 0 to 4294967295"),
+    (
+        b".space .zero .skip .comm .lcomm",
+        " takes 0 to 67108864 bytes",
+    ),
 ];
 
 /// The form of an instruction.
 pub fn form_of(name: &[u8]) -> Option<Form> {
-    for (own, form) in &NAMES {
-        if own.as_bytes() == name {
+    for (names, form) in &NAMES {
+        if place_among(names, name).is_some() {
             return Some(*form);
         }
     }
@@ -268,10 +173,10 @@ pub fn own_name_of(name: &[u8]) -> Option<&'static str> {
     beside(&ELSEWHERE, name)
 }
 
-/// What stands beside a name in a table.
-fn beside(table: &[(&'static str, &'static str)], name: &[u8]) -> Option<&'static str> {
-    for (own, other) in table {
-        if own.as_bytes() == name {
+/// What stands beside names in a table, one of which is this one.
+fn beside(table: &[(&'static [u8], &'static str)], name: &[u8]) -> Option<&'static str> {
+    for (names, other) in table {
+        if place_among(names, name).is_some() {
             return Some(*other);
         }
     }
@@ -320,7 +225,7 @@ pub fn with_register(name: &[u8]) -> Option<&'static str> {
 }
 
 /// The instruction that takes a number where one takes a register.
-pub fn with_number(name: &[u8]) -> Option<&'static str> {
+pub fn with_number(name: &[u8]) -> Option<&'static [u8]> {
     for (number, register) in &PAIRS {
         if register.as_bytes() == name {
             return Some(*number);
