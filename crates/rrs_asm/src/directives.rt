@@ -159,17 +159,16 @@ fn read_common<'a>(line: &mut Line<'a, '_>, name: &'a [u8], operands: &'a [u8]) 
 /// The alignment of a symbol of a size: the greatest power of 2 up to the size and 8 where it is
 /// local, and else the least from the size on, or 16.
 fn implied_alignment(size: u32, is_local: bool) -> u32 {
-    let (most, up_to) = if is_local {
-        (8, size)
-    } else {
-        (16, size.saturating_mul(2).saturating_sub(1))
-    };
-    for alignment in [16, 8, 4, 2] {
-        if alignment <= up_to && alignment <= most {
-            return alignment;
-        }
+    match size {
+        0 | 1 => 1,
+        2 => 2,
+        3 if is_local => 2,
+        3 | 4 => 4,
+        5..=7 if is_local => 4,
+        5..=8 => 8,
+        _ if is_local => 8,
+        _ => 16,
     }
-    1
 }
 
 /// The kind of a section by what stands behind its name, as `, "aw", @nobits`: the letters `x`, `a`

@@ -1,7 +1,7 @@
 //! What is wrong with a source, and where.
 
 use rrs_lines::SourceErrorKind;
-use std::alloc::{AllocError, AllocFailed, Allocator, Global};
+use std::alloc::{AllocError, Allocator, Global};
 use std::error::Error;
 use std::fmt;
 
@@ -51,12 +51,6 @@ impl<A: Allocator> Error for SourceFault<A> {}
 
 impl<A: Allocator> From<AllocError> for SourceFault<A> {
     fn from(_: AllocError) -> Self {
-        SourceFault::OutOfMemory
-    }
-}
-
-impl<T: Drop, A: Allocator> From<AllocFailed<T>> for SourceFault<A> {
-    fn from(_: AllocFailed<T>) -> Self {
         SourceFault::OutOfMemory
     }
 }
