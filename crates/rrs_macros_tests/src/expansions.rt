@@ -1,29 +1,15 @@
-//! What the tests share: a source, expanded, and the bytes of what is made.
+//! What the tests share: a source, expanded, and what is assembled of it.
 
-use rrs_asm::{Layout, assemble_source, image};
-use rrs_macros::{Expanded, MacroError, MacroFault, expand};
-use std::alloc::{AllocError, Global};
+use rrs_asm::{Layout, Program, SourceFault, assemble_source};
+use rrs_macros::{Expanded, MacroFault, expand};
+use std::alloc::Global;
 
 /// What `expand` answers, whose contract is so paid in this function alone.
 pub(crate) fn made(alloc: Global, source: &str) -> Result<Expanded, MacroFault> {
     expand(alloc, source.as_bytes())
 }
 
-/// The bytes of a source, or none where it is not expanded or assembled.
-pub(crate) fn bytes_of(alloc: Global, source: &str) -> Result<Vec<u8>, AllocError> {
-    let Ok(expanded) = made(alloc, source) else {
-        return Ok(Vec::new(alloc));
-    };
-    match assemble_source(alloc, &expanded.text, Layout::flat(0)) {
-        Ok(program) => image(alloc, &program, 0),
-        Err(_) => Ok(Vec::new(alloc)),
-    }
-}
-
-/// The first mistake of a source, if it has one.
-pub(crate) fn first_mistake(alloc: Global, source: &str) -> Option<MacroError> {
-    match made(alloc, source) {
-        Err(MacroFault::Mistakes(mistakes)) => mistakes.first().copied(),
-        _ => None,
-    }
+/// What `assemble_source` answers, whose contract is so paid in this function alone.
+pub(crate) fn assembled(alloc: Global, source: &[u8], base: u32) -> Result<Program, SourceFault> {
+    assemble_source(alloc, source, Layout::flat(base))
 }

@@ -1,10 +1,10 @@
 //! Sources that are assembled in memory that is lent.
 
-use rrs_asm::{Layout, Program, SourceFault, assemble_source, image};
+use crate::expansions::assembled;
+use rrs_asm::{Program, Section, image};
 use rrs_lent::{RrsAssembled, RrsMistake, RrsStatement, RrsSymbol, assemble_lent};
 use rrs_room::Room;
 use std::alloc::{AllocError, Global};
-use std::test::Fail;
 
 /// The address of the first section.
 const START: u32 = 0x8000_0000;
@@ -71,10 +71,45 @@ const NO_MISTAKE: RrsMistake = RrsMistake {
     length: 0,
 };
 
+/// Nothing is told.
+const NOTHING: RrsAssembled = RrsAssembled {
+    end: 0,
+    entry: 0,
+    bytes: 0,
+    statements: 0,
+    symbols: 0,
+    mistakes: 0,
+    texts: 0,
+    room: 0,
+};
+
 /// Assembles a source in a room of a size, with buffers of these lengths.
 fn lent(alloc: Global, source: &str, size: usize, lengths: [usize; 5]) -> Result<Told, AllocError> {
     let mut room = Room::of_allocator(&alloc, size)?;
     lent_in(alloc, source, &mut room, lengths)
+}
+
+/// What is counted then.
+fn counts_of(
+    alloc: Global,
+    source: &str,
+    size: usize,
+    lengths: [usize; 5],
+) -> Result<RrsAssembled, AllocError> {
+    Ok(lent(alloc, source, size, lengths)?.told)
+}
+
+/// Buffers of these lengths, in which nothing is told.
+fn buffers_of(alloc: Global, lengths: [usize; 5]) -> Result<Told, AllocError> {
+    let [bytes, statements, symbols, mistakes, texts] = lengths;
+    Ok(Told {
+        told: NOTHING,
+        bytes: vec![in alloc; 0xa5; bytes]?,
+        statements: vec![in alloc; NO_STATEMENT; statements]?,
+        symbols: vec![in alloc; NO_SYMBOL; symbols]?,
+        mistakes: vec![in alloc; NO_MISTAKE; mistakes]?,
+        texts: vec![in alloc; b'-'; texts]?,
+    })
 }
 
 /// Assembles a source in a room, with buffers of these lengths. The contract of `assemble_lent` is
@@ -85,30 +120,18 @@ fn lent_in(
     room: &mut Room,
     lengths: [usize; 5],
 ) -> Result<Told, AllocError> {
-    let [bytes, statements, symbols, mistakes, texts] = lengths;
-    let mut bytes = Vec::from_elem(alloc, 0xa5u8, bytes)?;
-    let mut statements = Vec::from_elem(alloc, NO_STATEMENT, statements)?;
-    let mut symbols = Vec::from_elem(alloc, NO_SYMBOL, symbols)?;
-    let mut mistakes = Vec::from_elem(alloc, NO_MISTAKE, mistakes)?;
-    let mut texts = Vec::from_elem(alloc, b'-', texts)?;
-    let told = assemble_lent(
+    let mut told = buffers_of(alloc, lengths)?;
+    told.told = assemble_lent(
         source.as_bytes(),
         START,
         room,
-        &mut bytes,
-        &mut statements,
-        &mut symbols,
-        &mut mistakes,
-        &mut texts,
+        &mut told.bytes,
+        &mut told.statements,
+        &mut told.symbols,
+        &mut told.mistakes,
+        &mut told.texts,
     );
-    Ok(Told {
-        told,
-        bytes,
-        statements,
-        symbols,
-        mistakes,
-        texts,
-    })
+    Ok(told)
 }
 
 /// Cuts the buffers to what is told.
@@ -121,47 +144,43 @@ fn cut(told: &mut Told) {
     told.texts.truncate(counts.texts);
 }
 
+/// Appends the statements and the labels of a section to what has to be told.
+fn append(wanted: &mut Told, section: &Section) -> Result<(), AllocError> {
+    for placed in &section.made.placed {
+        wanted.statements.push(RrsStatement {
+            line: placed.line,
+            address: placed.address,
+            size: u32::try_from(placed.statement.size()).unwrap_or(0),
+        })?;
+    }
+    for label in &section.made.labels {
+        wanted.symbols.push(RrsSymbol {
+            line: label.line,
+            name: wanted.texts.len(),
+            length: label.name.len(),
+            address: label.address,
+        })?;
+        wanted.texts.extend_from_slice(label.name)?;
+    }
+    Ok(())
+}
+
 /// What has to be told of a program.
 fn wanted_of(alloc: Global, program: &Program) -> Result<Told, AllocError> {
-    let mut statements = Vec::new(alloc);
-    let mut symbols = Vec::new(alloc);
-    let mut texts = Vec::new(alloc);
+    let mut wanted = buffers_of(alloc, [0; 5])?;
     for section in &program.sections {
-        for placed in &section.made.placed {
-            statements.push(RrsStatement {
-                line: placed.line,
-                address: placed.address,
-                size: u32::try_from(placed.statement.size()).unwrap_or(0),
-            })?;
-        }
-        for label in &section.made.labels {
-            symbols.push(RrsSymbol {
-                line: label.line,
-                name: texts.len(),
-                length: label.name.len(),
-                address: label.address,
-            })?;
-            texts.extend_from_slice(label.name)?;
-        }
+        append(&mut wanted, section)?;
     }
-    let bytes = image(alloc, program, START)?;
-    Ok(Told {
-        told: RrsAssembled {
-            end: 0,
-            entry: START,
-            bytes: bytes.len(),
-            statements: statements.len(),
-            symbols: symbols.len(),
-            mistakes: 0,
-            texts: texts.len(),
-            room: 0,
-        },
-        bytes,
-        statements,
-        symbols,
-        mistakes: Vec::new(alloc),
-        texts,
-    })
+    wanted.bytes = image(alloc, program, START)?;
+    wanted.told = RrsAssembled {
+        entry: START,
+        bytes: wanted.bytes.len(),
+        statements: wanted.statements.len(),
+        symbols: wanted.symbols.len(),
+        texts: wanted.texts.len(),
+        ..NOTHING
+    };
+    Ok(wanted)
 }
 
 /// Whether the same is told twice.
@@ -178,43 +197,54 @@ fn same(one: &Told, other: &Told) -> bool {
 fn is_told(alloc: Global, source: &str) -> Result<bool, AllocError> {
     let mut told = lent(alloc, source, 0x4_0000, AMPLE)?;
     cut(&mut told);
-    match assemble_source(alloc, source.as_bytes(), Layout::flat(START)) {
+    match assembled(alloc, source.as_bytes(), START) {
         Ok(program) => Ok(same(&told, &wanted_of(alloc, &program)?)),
-        Err(SourceFault::Errors(_)) => Ok(false),
-        Err(SourceFault::OutOfMemory) => Err(AllocError),
+        Err(_) => Ok(false),
     }
 }
 
+/// Sources that are assembled.
+static SOURCES: [&str; 4] = ["", "nop", "ends: .byte 1, 2\n.balign 8\n", SECTIONS];
+
 /// What is told is what `assemble_source` makes.
 #[test]
-fn sources_are_told_as_they_are_made(rt: HostRuntime) -> Result<(), Fail> {
-    let alloc = rt.alloc();
-    for source in ["", "nop", "ends: .byte 1, 2\n.balign 8\n", SECTIONS] {
-        assert!(rt; is_told(alloc, source)?, "{source}");
+fn sources_are_told_as_they_are_made(rt: HostRuntime) {
+    for &source in &SOURCES {
+        assert!(rt; is_told(rt.alloc(), source) == Ok(true), "{source}");
     }
-    Ok(())
+}
+
+/// The line, the address and the size of each statement of the macros.
+static MADE: [(usize, u32, u32); 3] = [
+    (5, 0x8000_0000, 4),
+    (5, 0x8000_0004, 4),
+    (2, 0x8000_0008, 1),
+];
+
+/// Whether the macros are told so, and their label at its line and its address.
+fn are_macros(told: &Told) -> bool {
+    let mut is_same = told.told.statements == MADE.len() && told.told.symbols == 1;
+    for (own, &(line, address, size)) in told.statements.iter().zip(&MADE) {
+        is_same = is_same
+            && *own
+                == RrsStatement {
+                    line,
+                    address,
+                    size,
+                };
+    }
+    let is_label = match told.symbols.first() {
+        Some(label) => label.line == 7 && label.address == 0x8000_0008,
+        None => false,
+    };
+    is_same && is_label && told.bytes.starts_with(b"\x13\0\0\0\x13\0\0\0\x03")
 }
 
 /// Of a macro and a repetition each statement is told at the line of its body.
 #[test]
-fn macros_are_told_at_the_lines_of_their_bodies(rt: HostRuntime) -> Result<(), Fail> {
+fn macros_are_told_at_the_lines_of_their_bodies(rt: HostRuntime) -> Result<(), AllocError> {
     let told = lent(rt.alloc(), MACROS, 0x4_0000, AMPLE)?;
-    let mut text = String::new(rt.alloc());
-    for statement in told.statements.iter().take(told.told.statements) {
-        let (line, address, size) = (statement.line, statement.address, statement.size);
-        write!(&mut text, "{line}:{address:x}:{size} ")?;
-    }
-    for symbol in told.symbols.iter().take(told.told.symbols) {
-        let (line, address) = (symbol.line, symbol.address);
-        write!(&mut text, "x {line}:{address:x}")?;
-    }
-    assert_eq!(rt;
-        (text.as_str(), told.bytes.get(..9)),
-        (
-            "5:80000000:4 5:80000004:4 2:80000008:1 x 7:80000008",
-            Some(b"\x13\0\0\0\x13\0\0\0\x03".as_slice())
-        )
-    );
+    assert!(rt; are_macros(&told));
     Ok(())
 }
 
@@ -232,67 +262,76 @@ fn mistakes_in(alloc: Global, source: &str) -> Result<String, AllocError> {
     Ok(text)
 }
 
+/// Sources, each with what is told of its mistakes.
+static MISTAKES: [(&str, &str); 5] = [
+    (
+        "addi a0, a1, a2\nj there\nsub a0, a0, 1",
+        "1:14: a number is wanted here: add takes three registers;\
+         2:3: symbol is not defined: there;\
+         3:13: a register is wanted here: addi takes a number, here the negative one;",
+    ),
+    ("nop\n.endr", "2:1: this ends no macro and no repetition;"),
+    (
+        "li a0, '/' /* \n nop",
+        "2:5: a comment that begins with /* does not end;",
+    ),
+    (
+        ".macro m\nx: nop\n.endm\nm\nm",
+        "2:1: symbol is defined already: x; in a macro, \\@ makes it another one in each call;",
+    ),
+    (
+        ".if there\n.endif\n.macro m a\n.if \\a\n.endif\n.endm\nm b",
+        "1:5: the value has to be known here, and is not: there;\
+         4:5: the value has to be known here, and is not;",
+    ),
+];
+
 /// Mistakes are told as `rrs as` tells them.
 #[test]
-fn mistakes_are_told_in_texts(rt: HostRuntime) -> Result<(), Fail> {
-    let alloc = rt.alloc();
-    assert_eq!(rt;
-        (
-            mistakes_in(alloc, "addi a0, a1, a2\nj there\nsub a0, a0, 1")?.as_str(),
-            mistakes_in(alloc, "nop\n.endr")?.as_str(),
-            mistakes_in(alloc, "li a0, '/' /* \n nop")?.as_str(),
-            mistakes_in(alloc, ".macro m\nx: nop\n.endm\nm\nm")?.as_str(),
-            mistakes_in(
-                alloc,
-                ".if there\n.endif\n.macro m a\n.if \\a\n.endif\n.endm\nm b"
-            )?
-            .as_str()
-        ),
-        (
-            "1:14: a number is wanted here: add takes three registers;\
-             2:3: symbol is not defined: there;\
-             3:13: a register is wanted here: addi takes a number, here the negative one;",
-            "2:1: this ends no macro and no repetition;",
-            "2:5: a comment that begins with /* does not end;",
-            "2:1: symbol is defined already: x; in a macro, \\@ makes it another one in each call;",
-            "1:5: the value has to be known here, and is not: there;\
-             4:5: the value has to be known here, and is not;"
-        )
-    );
+fn mistakes_are_told_in_texts(rt: HostRuntime) -> Result<(), AllocError> {
+    for &(source, wanted) in &MISTAKES {
+        let text = mistakes_in(rt.alloc(), source)?;
+        assert!(rt; text.as_str() == wanted, "{source}");
+    }
     Ok(())
 }
 
-/// How large a room is asked for until there is no more asked for, and whether the same is told
-/// then as in an ample one.
-fn is_told_at_last(alloc: Global, source: &str) -> Result<(u32, bool), AllocError> {
-    let mut wanted = lent(alloc, source, 0x4_0000, AMPLE)?;
-    let mut told = lent(alloc, source, 496, AMPLE)?;
-    let first = told.told.end;
+/// How large a room is asked for until no more is asked for. It is 0 where none is asked for at
+/// first.
+fn size_at_last(alloc: Global, source: &str) -> Result<usize, AllocError> {
+    let mut size = 0;
+    let mut counts = counts_of(alloc, source, 496, AMPLE)?;
     for _ in 0..8 {
-        if told.told.end == 2 {
-            told = lent(alloc, source, told.told.room, AMPLE)?;
+        if counts.end == 2 {
+            size = counts.room;
+            counts = counts_of(alloc, source, size, AMPLE)?;
         }
     }
+    Ok(size)
+}
+
+/// Whether the same is told in a room of a size as in an ample one.
+fn is_told_in(alloc: Global, source: &str, size: usize) -> Result<bool, AllocError> {
+    let mut wanted = lent(alloc, source, 0x4_0000, AMPLE)?;
+    let mut told = lent(alloc, source, size, AMPLE)?;
     cut(&mut wanted);
     cut(&mut told);
-    Ok((first, same(&told, &wanted)))
+    Ok(same(&told, &wanted))
+}
+
+/// Whether no room is told, and how much is asked for, and no byte is written.
+fn is_small(alloc: Global) -> Result<bool, AllocError> {
+    let none = lent(alloc, "nop", 0, AMPLE)?;
+    let is_kept = none.bytes.iter().all(|byte| *byte == 0xa5);
+    Ok(is_kept && none.told.end == 2 && none.told.room == 0x1_0000)
 }
 
 /// A room that is too small is told, and one of the size that is asked for is no longer.
 #[test]
-fn a_small_room_is_told(rt: HostRuntime) -> Result<(), Fail> {
-    let alloc = rt.alloc();
-    let none = lent(alloc, "nop", 0, AMPLE)?;
-    let is_kept = none.bytes.iter().all(|byte| *byte == 0xa5);
-    assert_eq!(rt;
-        (
-            none.told.end,
-            none.told.room,
-            is_kept,
-            is_told_at_last(alloc, SECTIONS)?
-        ),
-        (2, 0x1_0000, true, (2, true))
-    );
+fn a_small_room_is_told(rt: HostRuntime) -> Result<(), AllocError> {
+    assert!(rt; is_small(rt.alloc()) == Ok(true));
+    let size = size_at_last(rt.alloc(), SECTIONS)?;
+    assert!(rt; size != 0 && is_told_in(rt.alloc(), SECTIONS, size) == Ok(true));
     Ok(())
 }
 
@@ -308,18 +347,14 @@ fn ends_in_one(alloc: Global, source: &str) -> Result<([u32; 3], usize), AllocEr
 
 /// A room is given back, and may be lent again.
 #[test]
-fn a_room_is_lent_again(rt: HostRuntime) -> Result<(), Fail> {
-    let alloc = rt.alloc();
-    assert_eq!(rt;
-        (ends_in_one(alloc, SECTIONS)?, ends_in_one(alloc, "li")?),
-        (([0; 3], 0x1_0000), ([1; 3], 0x1_0000))
-    );
-    Ok(())
+fn a_room_is_lent_again(rt: HostRuntime) {
+    assert!(rt; ends_in_one(rt.alloc(), SECTIONS) == Ok(([0; 3], 0x1_0000)));
+    assert!(rt; ends_in_one(rt.alloc(), "li") == Ok(([1; 3], 0x1_0000)));
 }
 
-/// How it ends with buffers that fit, and with each of them too small by one.
+/// How it ends with each of the buffers too small by one, and with all as long as they have to be.
 fn ends(alloc: Global, source: &str) -> Result<[u32; 6], AllocError> {
-    let counts = lent(alloc, source, 0x4_0000, [0; 5])?.told;
+    let counts = counts_of(alloc, source, 0x4_0000, [0; 5])?;
     let lengths = [
         counts.bytes,
         counts.statements,
@@ -327,23 +362,21 @@ fn ends(alloc: Global, source: &str) -> Result<[u32; 6], AllocError> {
         counts.mistakes,
         counts.texts,
     ];
-    let mut ends = [lent(alloc, source, 0x4_0000, lengths)?.told.end; 6];
-    for small in 0..5 {
+    let mut ends = [9; 6];
+    for (small, end) in ends.iter_mut().enumerate() {
         let mut lengths = lengths;
-        lengths[small] = lengths[small].saturating_sub(1);
-        ends[small + 1] = lent(alloc, source, 0x4_0000, lengths)?.told.end;
+        if let Some(length) = lengths.get_mut(small) {
+            *length = length.saturating_sub(1);
+        }
+        *end = counts_of(alloc, source, 0x4_0000, lengths)?.end;
     }
     Ok(ends)
 }
 
-/// Each buffer that is too small by one is too small. There is no mistake of a program, and of
-/// mistakes no more than these and their texts.
+/// Each buffer that is too small by one is too small, and none where none is. There is no mistake
+/// of a program, and of mistakes no more than these and their texts.
 #[test]
-fn small_buffers_are_told(rt: HostRuntime) -> Result<(), Fail> {
-    let alloc = rt.alloc();
-    assert_eq!(rt;
-        (ends(alloc, SECTIONS)?, ends(alloc, "li\nli")?),
-        ([0, 3, 3, 3, 0, 3], [1, 1, 1, 1, 3, 3])
-    );
-    Ok(())
+fn small_buffers_are_told(rt: HostRuntime) {
+    assert!(rt; ends(rt.alloc(), SECTIONS) == Ok([3, 3, 3, 0, 3, 0]));
+    assert!(rt; ends(rt.alloc(), "li\nli") == Ok([1, 1, 1, 3, 3, 1]));
 }

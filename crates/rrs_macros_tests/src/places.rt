@@ -1,7 +1,8 @@
 //! Which line of the source each line of a result is of.
 
 use crate::expansions::made;
-use std::test::Fail;
+use rrs_macros::Expanded;
+use std::alloc::Global;
 
 /// A source with statements that no assembler knows, in macros, repetitions and conditions.
 static SOURCE: &str = "\
@@ -32,38 +33,50 @@ static SOURCE: &str = "\
 /// The line that GNU `as` tells for each of them, in its order.
 static TOLD: [usize; 17] = [5, 3, 9, 9, 12, 14, 3, 12, 14, 3, 20, 20, 21, 20, 21, 21, 23];
 
-/// The lines of the result in which such a statement stands are of the lines that GNU `as` tells.
-#[test]
-fn lines_are_those_that_gnu_tells(rt: HostRuntime) -> Result<(), Fail> {
-    let mut told = Vec::new(rt.alloc());
-    if let Ok(expanded) = made(rt.alloc(), SOURCE) {
-        let lines = expanded.text.split(|byte| *byte == b'\n');
-        for (line, number) in lines.zip(&expanded.lines) {
-            for _ in line.windows(3).filter(|word| *word == b"bad".as_slice()) {
-                told.push(*number)?;
+/// Whether the lines of the result in which such a statement stands are of these lines.
+fn are_of(expanded: &Expanded, wanted: &[usize]) -> bool {
+    let mut others = wanted.iter();
+    let mut is_same = true;
+    let lines = expanded.text.split(|byte| *byte == b'\n');
+    for (line, number) in lines.zip(&expanded.lines) {
+        for word in line.windows(3) {
+            if word == b"bad".as_slice() {
+                is_same = is_same && others.next() == Some(number);
             }
         }
     }
-    assert_eq!(rt; told.as_slice(), TOLD.as_slice());
-    Ok(())
+    is_same && others.next().is_none()
 }
 
-/// A source without directives, with and without a line feed at its end: it is as it was.
+/// They are of the lines that GNU `as` tells.
 #[test]
-fn a_source_without_directives_stays(rt: HostRuntime) -> Result<(), Fail> {
-    let mut same = 0usize;
-    for source in [
-        "",
-        "nop",
-        "nop\n",
-        "a: nop; nop # no\n\n.macros\n .equ x, 1\r\n",
-    ] {
-        if let Ok(expanded) = made(rt.alloc(), source) {
-            if expanded.text.as_slice() == source.as_bytes() {
-                same = same.saturating_add(1);
-            }
-        }
+fn lines_are_those_that_gnu_tells(rt: HostRuntime) {
+    let is_same = match made(rt.alloc(), SOURCE) {
+        Ok(expanded) => are_of(&expanded, &TOLD),
+        Err(_) => false,
+    };
+    assert!(rt; is_same);
+}
+
+/// Sources without directives, with and without a line feed at the end.
+static PLAIN: [&str; 4] = [
+    "",
+    "nop",
+    "nop\n",
+    "a: nop; nop # no\n\n.macros\n .equ x, 1\r\n",
+];
+
+/// Whether a source is as it was.
+fn stays(alloc: Global, source: &str) -> bool {
+    match made(alloc, source) {
+        Ok(expanded) => expanded.text.as_slice() == source.as_bytes(),
+        Err(_) => false,
     }
-    assert_eq!(rt; same, 4);
-    Ok(())
+}
+
+#[test]
+fn a_source_without_directives_stays(rt: HostRuntime) {
+    for &source in &PLAIN {
+        assert!(rt; stays(rt.alloc(), source), "{source}");
+    }
 }
