@@ -2,7 +2,7 @@
 //! reader or a writer that fails.
 
 use crate::THREE_WORDS;
-use crate::writers::{Failing, FailsOnce, FailsToFlush, TakesFew};
+use crate::writers::{Failing, Output};
 use rrs_cli::fault::RunFault;
 use rrs_cli::report::write_text;
 use rrs_cli::simulation::simulate;
@@ -87,17 +87,14 @@ fn simulated<R: Read, W: Write>(
     }
 }
 
-/// How the run of three words ends, up to limit 10, with a line for each instruction.
-fn run_three_words<W: Write>(alloc: Global, out: &mut W) -> Result<(), RunFault> {
-    simulated(alloc, Shown::Instructions, &mut THREE_WORDS, 10, out)
-}
-
-/// The account of these bytes.
-fn account_of(alloc: Global, shown: Shown, bytes: &[u8], limit: u64) -> Result<Vec<u8>, RunFault> {
+/// The account of these bytes, or nothing where the run fails.
+fn account_of(alloc: Global, shown: Shown, bytes: &[u8], limit: u64) -> Vec<u8> {
     let mut account = Vec::new(alloc);
     let mut reader = bytes;
-    simulated(alloc, shown, &mut reader, limit, &mut account)?;
-    Ok(account)
+    if simulated(alloc, shown, &mut reader, limit, &mut account).is_err() {
+        account.clear();
+    }
+    account
 }
 
 /// Whether an account is these lines and then the one in which nothing is shown, which begins so.
@@ -107,24 +104,16 @@ fn is_after(traced: &[u8], lines: &str, quiet: &[u8], ending: &str) -> bool {
 
 /// Whether the account of these bytes begins so with a line for each instruction, and so without
 /// these lines where nothing is shown.
-fn begins(
-    alloc: Global,
-    bytes: &[u8],
-    limit: u64,
-    lines: &str,
-    ending: &str,
-) -> Result<bool, RunFault> {
-    let traced = account_of(alloc, Shown::Instructions, bytes, limit)?;
-    let quiet = account_of(alloc, Shown::Nothing, bytes, limit)?;
-    Ok(is_after(&traced, lines, &quiet, ending))
+fn begins(alloc: Global, bytes: &[u8], limit: u64, lines: &str, ending: &str) -> bool {
+    let traced = account_of(alloc, Shown::Instructions, bytes, limit);
+    let quiet = account_of(alloc, Shown::Nothing, bytes, limit);
+    is_after(&traced, lines, &quiet, ending)
 }
 
 #[test]
-fn prints_the_whole_run(rt: HostRuntime) -> Result<(), Fail> {
-    let mut account = Vec::new(rt.alloc());
-    run_three_words(rt.alloc(), &mut account)?;
+fn prints_the_whole_run(rt: HostRuntime) {
+    let account = account_of(rt.alloc(), Shown::Instructions, THREE_WORDS, 10);
     assert!(rt; account.as_slice() == ACCOUNT.as_bytes());
-    Ok(())
 }
 
 /// The words of a program, the limit of its run, the lines of its instructions, and the beginning
@@ -239,10 +228,9 @@ static CASES: [Case; 16] = [
 ];
 
 /// Whether the account of a case begins as it says.
-fn case_begins(alloc: Global, case: &Case) -> Result<bool, Fail> {
+fn case_begins(alloc: Global, case: &Case) -> Result<bool, AllocError> {
     let bytes = bytes_of(alloc, case.0)?;
-    let begins_so = begins(alloc, &bytes, case.1, case.2, case.3)?;
-    Ok(begins_so)
+    Ok(begins(alloc, &bytes, case.1, case.2, case.3))
 }
 
 #[test]
@@ -254,59 +242,38 @@ fn prints_the_lines_of_the_steps_or_none(rt: HostRuntime) -> Result<(), Fail> {
     Ok(())
 }
 
-/// As many bytes as there are addresses: jal x0, 65532 at the first word, zeros, and
+/// As many bytes as there are addresses, and two more: jal x0, 65532 at the first word, zeros, and
 /// addi x0, x0, 0 at the last.
 fn bytes_of_all_addresses(alloc: Global) -> Result<Vec<u8>, AllocError> {
     let mut bytes = bytes_of(alloc, &[0x7fd0_f06f])?;
-    for _ in 0..16382 {
-        bytes.extend_from_slice(&[0; 4])?;
-    }
-    bytes.extend_from_slice(&[0x13, 0, 0, 0])?;
+    bytes.resize(65532, 0)?;
+    bytes.extend_from_slice(&[0x13, 0, 0, 0, 0, 0])?;
     Ok(bytes)
 }
 
-/// How the run of these bytes ends that are too many, how many are not read, and how many are
-/// printed.
-fn run_of_too_many(alloc: Global, bytes: &[u8]) -> (Result<(), RunFault>, usize, usize) {
+/// What is printed of bytes that are all addresses.
+const OF_ALL_ADDRESSES: (&str, &str) = (
+    "0x00000000: jal x0, 0x0000fffc\n0x0000fffc: addi x0, x0, 0\n",
+    "end: FetchError pc=0x00010000, steps 2\n",
+);
+
+/// Whether bytes that are too many are refused, with one of them left unread, and nothing printed.
+fn are_too_many(alloc: Global, bytes: &[u8]) -> bool {
     let mut reader = bytes;
     let mut out = Vec::new(alloc);
     let result = simulated(alloc, Shown::Nothing, &mut reader, 9, &mut out);
-    (result, reader.len(), out.len())
+    result == Err(RunFault::Refused(0x10000)) && reader.len() == 1 && out.is_empty()
 }
 
 /// One byte more is refused, and the next one is not read.
 #[test]
 fn refuses_a_byte_past_the_addresses(rt: HostRuntime) -> Result<(), Fail> {
-    let mut bytes = bytes_of_all_addresses(rt.alloc())?;
-    let lines = "0x00000000: jal x0, 0x0000fffc\n0x0000fffc: addi x0, x0, 0\n";
-    let ending = "end: FetchError pc=0x00010000, steps 2\n";
-    let begins_so = begins(rt.alloc(), &bytes, 9, lines, ending)?;
-    assert!(rt; begins_so);
-    bytes.extend_from_slice(&[0, 0])?;
-    let left = run_of_too_many(rt.alloc(), &bytes);
-    assert_eq!(rt; left, (Err(RunFault::Refused(0x10000)), 1, 0));
+    let bytes = bytes_of_all_addresses(rt.alloc())?;
+    let all = bytes.get(..65536).unwrap_or_default();
+    let (lines, ending) = OF_ALL_ADDRESSES;
+    assert!(rt; begins(rt.alloc(), all, 9, lines, ending));
+    assert!(rt; are_too_many(rt.alloc(), &bytes));
     Ok(())
-}
-
-/// How the run ends of a reader that fails once, how much of it was read, and how much was printed.
-fn run_where_a_read_fails(
-    alloc: Global,
-    shown: Shown,
-    fails_at: usize,
-    kind: ErrorKind,
-) -> (Result<(), RunFault>, usize, usize) {
-    let mut reader = Failing {
-        given: 0,
-        fails_at,
-        kind,
-        has_failed: false,
-    };
-    let mut out = TakesFew {
-        most: 1000,
-        taken: 0,
-    };
-    let result = simulated(alloc, shown, &mut reader, 10, &mut out);
-    (result, reader.given, out.taken)
 }
 
 /// The kinds of a read's failure.
@@ -321,8 +288,15 @@ static FAILS_AT: [usize; 11] = [0, 1, 2, 3, 4, 5, 6, 7, 8, 65535, 65536];
 
 /// Whether a failure of this kind is told. No byte is taken after it, and nothing is written.
 fn is_told(alloc: Global, shown: Shown, fails_at: usize, kind: ErrorKind) -> bool {
-    let (result, given, taken) = run_where_a_read_fails(alloc, shown, fails_at, kind);
-    result == Err(RunFault::Reader) && given == fails_at && taken == 0
+    let mut reader = Failing {
+        given: 0,
+        fails_at,
+        kind,
+        has_failed: false,
+    };
+    let mut out = Vec::new(alloc);
+    let result = simulated(alloc, shown, &mut reader, 10, &mut out);
+    result == Err(RunFault::Reader) && reader.given == fails_at && out.is_empty()
 }
 
 #[test]
@@ -336,58 +310,65 @@ fn tells_a_reader_that_fails(rt: HostRuntime) {
     }
 }
 
-/// How the run of three words ends where a write fails once, and what is written then.
-fn run_where_a_write_fails(
-    alloc: Global,
-    fails_at: usize,
-    kind: ErrorKind,
-) -> (Result<(), RunFault>, Vec<u8>) {
-    let mut out = FailsOnce {
-        written: Vec::new(alloc),
-        fails_at,
-        kind,
-        has_failed: false,
-    };
-    let result = run_three_words(alloc, &mut out);
-    (result, out.written)
+/// Whether the run of three words, up to limit 10, with a line for each instruction, ends so on a
+/// writer, to which these bytes are written.
+fn writes(alloc: Global, mut out: Output, want: Result<(), RunFault>, written: &[u8]) -> bool {
+    let result = simulated(alloc, Shown::Instructions, &mut THREE_WORDS, 10, &mut out);
+    result == want && out.written.as_slice() == written
 }
 
-/// Whether the run ends so where a write fails so, and these bytes are written.
-fn writes(
-    alloc: Global,
-    fails_at: usize,
-    kind: ErrorKind,
-    want: Result<(), RunFault>,
-    written: &[u8],
-) -> bool {
-    let (result, out) = run_where_a_write_fails(alloc, fails_at, kind);
-    result == want && out.as_slice() == written
+/// A writer whose write fails so at a byte.
+fn failing(alloc: Global, fails_at: usize, kind: ErrorKind) -> Output {
+    let mut out = Output::new(alloc);
+    out.fails_at = fails_at;
+    out.kind = kind;
+    out
 }
 
 /// A write that fails at a byte leaves what is before it; one that is interrupted is made again.
 #[test]
 fn tells_a_writer_that_fails(rt: HostRuntime) {
-    let account = ACCOUNT.as_bytes();
+    let (alloc, account) = (rt.alloc(), ACCOUNT.as_bytes());
     for fails_at in 0..account.len() {
-        let (alloc, beginning) = (rt.alloc(), &account[..fails_at]);
-        let failed = Err(RunFault::Output);
-        let are_written = writes(alloc, fails_at, ErrorKind::StorageFull, failed, beginning)
-            && writes(alloc, fails_at, ErrorKind::Interrupted, Ok(()), account);
+        let full = failing(alloc, fails_at, ErrorKind::StorageFull);
+        let interrupted = failing(alloc, fails_at, ErrorKind::Interrupted);
+        let are_written = writes(alloc, full, Err(RunFault::Output), &account[..fails_at])
+            && writes(alloc, interrupted, Ok(()), account);
         assert!(rt; are_written, "at {fails_at}");
     }
+}
+
+/// A writer whose flush fails.
+fn never_flushed(alloc: Global) -> Output {
+    let mut out = Output::new(alloc);
+    out.fails_to_flush = true;
+    out
+}
+
+/// Whether a text is written so to a writer that takes so many bytes a write, of which it takes so
+/// many in all.
+fn takes(
+    alloc: Global,
+    most: usize,
+    text: &[u8],
+    want: Result<(), RunFault>,
+    taken: usize,
+) -> bool {
+    let mut out = Output::new(alloc);
+    out.most = most;
+    write_text(&mut out, text) == want && out.written.len() == taken
 }
 
 /// A flush that fails, a writer that takes nothing, and one that takes a byte at a time.
 #[test]
 fn tells_what_a_writer_does(rt: HostRuntime) {
-    let flushed = run_three_words(rt.alloc(), &mut FailsToFlush);
-    let mut none = TakesFew { most: 0, taken: 0 };
-    let stuck = write_text(&mut none, b"text");
-    let mut single = TakesFew { most: 1, taken: 0 };
-    let written = write_text(&mut single, &[b'a'; 1500]);
-    let left = (flushed, stuck, written, single.taken);
-    let output = || Err(RunFault::Output);
-    assert_eq!(rt; left, (output(), output(), Ok(()), 1500));
+    let alloc = rt.alloc();
+    let (unflushed, account) = (never_flushed(alloc), ACCOUNT.as_bytes());
+    assert!(rt;
+        writes(alloc, unflushed, Err(RunFault::Output), account)
+            && takes(alloc, 0, b"text", Err(RunFault::Output), 0)
+            && takes(alloc, 1, &[b'a'; 1500], Ok(()), 1500)
+    );
 }
 
 /// With no allocation that fails this prints the whole account. With one (`docs/RUNNING.md` says
@@ -397,7 +378,13 @@ fn out_of_memory_leaves_no_part_of_the_steps(rt: HostRuntime) {
     let account = ACCOUNT.as_bytes();
     let mut room = [0u8; 1000];
     let mut out = room.as_mut_slice();
-    let result = run_three_words(rt.alloc(), &mut out);
+    let result = simulated(
+        rt.alloc(),
+        Shown::Instructions,
+        &mut THREE_WORDS,
+        10,
+        &mut out,
+    );
     let written = 1000usize.saturating_sub(out.len());
     let are_whole = WHOLE_PARTS.contains(&written) && account.starts_with(&room[..written]);
     let want = if written < account.len() {

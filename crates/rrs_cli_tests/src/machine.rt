@@ -1,7 +1,7 @@
 //! A runtime whose words, files and outputs are in memory, and fail where they are told to.
 
 use std::alloc::{Allocator, Global};
-use std::cell::{Cell, RefCell};
+use std::cell::Cell;
 use std::env::FillError;
 use std::fmt::Display;
 use std::fs::{Metadata, OpenFile, OpenOptions};
@@ -18,15 +18,15 @@ pub struct Contents<'a> {
 }
 
 /// The words of the command line, the files, what was said on standard error, the bytes that were
-/// printed on standard output, and how many more fit there.
+/// printed on standard output, and how many fit there.
 #[derive(Drop)]
 pub struct Machine<'a> {
     alloc: Global,
     words: &'a [&'a [u8]],
     files: &'a [Contents<'a>],
-    said: RefCell<Vec<u8>>,
-    printed: RefCell<Vec<u8>>,
-    room: Cell<usize>,
+    said: Cell<Vec<u8>>,
+    printed: Cell<Vec<u8>>,
+    room: usize,
 }
 
 impl<'a> Machine<'a> {
@@ -41,9 +41,9 @@ impl<'a> Machine<'a> {
             alloc,
             words,
             files,
-            said: RefCell::new(Vec::new(alloc)),
-            printed: RefCell::new(Vec::new(alloc)),
-            room: Cell::new(room),
+            said: Cell::new(Vec::new(alloc)),
+            printed: Cell::new(Vec::new(alloc)),
+            room,
         }
     }
 
@@ -207,16 +207,15 @@ impl Print for Machine<'_> {
     }
 
     fn write_some(&self, bytes: &[u8]) -> io::Result<usize> {
-        let room = self.room.get();
+        let mut printed = self.printed.replace(Vec::new(self.alloc));
+        let room = self.room.saturating_sub(printed.len());
+        let count = bytes.len().min(room);
+        let added = printed.extend_from_slice(&bytes[..count]);
+        self.printed.set(printed);
         if room == 0 {
             return Err(io::Error::from(ErrorKind::StorageFull));
         }
-        let count = bytes.len().min(room);
-        self.room.set(room - count);
-        let Ok(mut printed) = self.printed.try_borrow_mut() else {
-            return Err(unsupported());
-        };
-        printed.extend_from_slice(&bytes[..count])?;
+        added?;
         Ok(count)
     }
 }
@@ -227,11 +226,9 @@ impl Eprint for Machine<'_> {
     }
 
     fn eprintln<D: Display + Drop>(&self, value: D) -> io::Result<()> {
-        let line = format!(in self.alloc; "{value}\n")?;
-        let Ok(mut said) = self.said.try_borrow_mut() else {
-            return Err(unsupported());
-        };
-        said.extend_from_slice(line.as_bytes())?;
-        Ok(())
+        let mut said = self.said.replace(Vec::new(self.alloc));
+        let written = writeln!(said, "{value}");
+        self.said.set(said);
+        written
     }
 }

@@ -18,9 +18,24 @@ use std::process::ExitCode;
 use std::rt::{Env, Files};
 use std::test::Fail;
 
-/// What is left of a program: its status, what it says on standard error, what it printed, and the
-/// report of a run.
-type Left = (ExitCode, Vec<u8>, Vec<u8>, Vec<u8>);
+/// What is left of a program.
+#[derive(Drop)]
+struct Left {
+    status: ExitCode,
+    /// What it said on standard error.
+    said: Vec<u8>,
+    /// What it printed.
+    printed: Vec<u8>,
+    /// The report of a run.
+    report: Vec<u8>,
+}
+
+impl Left {
+    /// Whether a program ended with this status, and said this on standard error.
+    fn says(&self, status: u8, line: &str) -> bool {
+        self.status == ExitCode::from(status) && self.said.as_slice() == line.as_bytes()
+    }
+}
 
 /// A program.
 #[derive(Clone, Copy)]
@@ -84,7 +99,12 @@ fn run(
     let mut report = Vec::new(alloc);
     let status = status_of(&machine, alloc, program, &mut report);
     let (said, printed) = machine.into_outputs();
-    (status, said, printed, report)
+    Left {
+        status,
+        said,
+        printed,
+        report,
+    }
 }
 
 /// An executable with no symbols, from 0x10054 on: addi x10, x0, 7 / lui x12, 0x10 / sw x10, 0(x12) /
@@ -135,12 +155,17 @@ const FILES: [Contents<'static>; 6] = [
     },
 ];
 
-/// Whether a program printed nothing, and ended with this status and this line.
-fn says(left: &Left, status: u8, line: &str) -> bool {
-    left.0 == ExitCode::from(status)
-        && left.1.as_slice() == line.as_bytes()
-        && left.2.is_empty()
-        && left.3.is_empty()
+/// Whether a program prints nothing of these files, and ends with this status and this line.
+fn refuses(
+    alloc: Global,
+    program: Program,
+    words: &[&[u8]],
+    files: &[Contents<'_>],
+    status: u8,
+    line: &str,
+) -> bool {
+    let left = run(alloc, program, words, files, 10_000);
+    left.says(status, line) && left.printed.is_empty() && left.report.is_empty()
 }
 
 /// How `rrs-run` is called.
@@ -385,8 +410,8 @@ static REFUSED: [Refused; 47] = [
 #[test]
 fn refuses_other_words(rt: HostRuntime) {
     for (index, &(program, words, status, line)) in REFUSED.iter().enumerate() {
-        let left = run(rt.alloc(), program, words, &FILES, 10_000);
-        assert!(rt; says(&left, status, line), "at {index}");
+        let is_refused = refuses(rt.alloc(), program, words, &FILES, status, line);
+        assert!(rt; is_refused, "at {index}");
     }
 }
 
@@ -429,14 +454,16 @@ static ASSEMBLED: [Assembled; 6] = [
     (&[b"rrs", b"as", b"empty"], b""),
 ];
 
+/// Whether `rrs` prints these bytes, and ends well.
+fn prints(alloc: Global, words: &[&[u8]], want: &[u8]) -> bool {
+    let left = run(alloc, Program::Rrs, words, &FILES, 10_000);
+    left.says(0, "") && left.printed.as_slice() == want
+}
+
 #[test]
 fn assembles(rt: HostRuntime) {
     for (index, &(words, want)) in ASSEMBLED.iter().enumerate() {
-        let (status, said, printed, _report) = run(rt.alloc(), Program::Rrs, words, &FILES, 10_000);
-        assert!(rt;
-            status == ExitCode::SUCCESS && said.is_empty() && printed.as_slice() == want,
-            "at {index}"
-        );
+        assert!(rt; prints(rt.alloc(), words, want), "at {index}");
     }
 }
 
@@ -458,16 +485,21 @@ fn both_say_of(alloc: Global, too_long: &[u8], path: &[u8], line: &str) -> bool 
         ),
         file("too long", too_long, false),
     ];
-    let words: [&[u8]; 5] = [b"rrs", b"run", b"--quiet", path, b"10"];
-    let first = run(
+    refuses(
         alloc,
         Program::Run,
         &[b"rrs-run", path, b"10"],
         &files,
-        10_000,
-    );
-    let second = run(alloc, Program::Rrs, &words, &files, 10_000);
-    says(&first, 1, line) && says(&second, 1, line)
+        1,
+        line,
+    ) && refuses(
+        alloc,
+        Program::Rrs,
+        &[b"rrs", b"run", b"--quiet", path, b"10"],
+        &files,
+        1,
+        line,
+    )
 }
 
 /// What is said of a file that can't be read to its end.
@@ -497,13 +529,15 @@ fn says_why_a_file_is_not_run(rt: HostRuntime) -> Result<(), Fail> {
     Ok(())
 }
 
-/// What is printed of a file that is run, where there is room for all of it.
-fn whole_account(alloc: Global, program: Program, words: &[&[u8]]) -> Result<Vec<u8>, Fail> {
-    let (status, said, printed, _report) = run(alloc, program, words, &FILES, 100_000);
-    if status != ExitCode::SUCCESS || !said.is_empty() {
-        return Err(Fail::from("the run with room for all failed"));
+/// What is printed of a file that is run, where there is room for all of it, or nothing where it is
+/// not run.
+fn whole_account(alloc: Global, program: Program, words: &[&[u8]]) -> Vec<u8> {
+    let left = run(alloc, program, words, &FILES, 100_000);
+    if left.says(0, "") {
+        left.printed
+    } else {
+        Vec::new(alloc)
     }
-    Ok(printed)
 }
 
 /// Whether these bytes are `beginning`, and then 33 lines, the first of which is that of x0.
@@ -573,12 +607,11 @@ static CASES: [Case; 9] = [
 ];
 
 #[test]
-fn runs_the_file_that_is_named_up_to_the_limit_that_is_named(rt: HostRuntime) -> Result<(), Fail> {
+fn runs_the_file_that_is_named_up_to_the_limit_that_is_named(rt: HostRuntime) {
     for (index, &(program, words, want)) in CASES.iter().enumerate() {
-        let printed = whole_account(rt.alloc(), program, words)?;
+        let printed = whole_account(rt.alloc(), program, words);
         assert!(rt; is_account(&printed, want.as_bytes()), "at {index}");
     }
-    Ok(())
 }
 
 /// The last two lines of the log of `process`, in Spike's form.
@@ -656,17 +689,17 @@ fn is_report(report: &[u8], beginning: &str, end: &str) -> bool {
         && (is_whole || !beginning.starts_with("core"))
 }
 
+/// Whether `rrs` prints nothing, and ends and reports as a case says.
+fn reports(alloc: Global, case: &Reported) -> bool {
+    let (words, status, line, beginning, end) = *case;
+    let left = run(alloc, Program::Rrs, words, &FILES, 10_000);
+    left.says(status, line) && left.printed.is_empty() && is_report(&left.report, beginning, end)
+}
+
 #[test]
 fn reports_a_run(rt: HostRuntime) {
-    for (index, &(words, status, line, beginning, end)) in REPORTED.iter().enumerate() {
-        let (ended, said, printed, report) = run(rt.alloc(), Program::Rrs, words, &FILES, 10_000);
-        assert!(rt;
-            ended == ExitCode::from(status)
-                && said.as_slice() == line.as_bytes()
-                && printed.is_empty()
-                && is_report(&report, beginning, end),
-            "at {index}"
-        );
+    for (index, case) in REPORTED.iter().enumerate() {
+        assert!(rt; reports(rt.alloc(), case), "at {index}");
     }
 }
 
@@ -675,25 +708,16 @@ fn is_tried(room: usize, length: usize) -> bool {
     room < 10 || room % 97 == 0 || room.saturating_add(10) > length
 }
 
-/// Whether a program printed these bytes, and then ended well, or since no more could be written.
-fn ends_with_room(left: &Left, printed: &[u8], fails: bool) -> bool {
-    let line = if fails {
-        b"rrs-run: cannot write output\n".as_slice()
-    } else {
-        b""
-    };
-    left.0 == ExitCode::from(u8::from(fails))
-        && left.1.as_slice() == line
-        && left.2.as_slice() == printed
-}
-
-/// Whether `rrs-run` ends as it has to where there is room for the first bytes of its account.
+/// Whether `rrs-run` prints the first bytes of its account, for which there is room, and then ends
+/// well, or since no more could be written.
 fn ends_with(alloc: Global, words: &[&[u8]], whole: &[u8], room: usize) -> bool {
     let left = run(alloc, Program::Run, words, &FILES, room);
-    match whole.get(..room) {
-        Some(printed) => ends_with_room(&left, printed, room < whole.len()),
-        None => false,
-    }
+    let ends_so = if room < whole.len() {
+        left.says(1, "rrs-run: cannot write output\n")
+    } else {
+        left.says(0, "")
+    };
+    !whole.is_empty() && ends_so && whole.get(..room) == Some(left.printed.as_slice())
 }
 
 /// A file and a limit: the first account is shorter than the buffer, so that the flush fails; the
@@ -701,10 +725,10 @@ fn ends_with(alloc: Global, words: &[&[u8]], whole: &[u8], room: usize) -> bool 
 static ACCOUNTS: [(&[u8], &[u8]); 2] = [(b"program", b"10"), (b"loop", b"400")];
 
 #[test]
-fn tells_an_output_that_fails(rt: HostRuntime) -> Result<(), Fail> {
+fn tells_an_output_that_fails(rt: HostRuntime) {
     for &(path, limit) in &ACCOUNTS {
         let words: [&[u8]; 3] = [b"rrs-run", path, limit];
-        let whole = whole_account(rt.alloc(), Program::Run, &words)?;
+        let whole = whole_account(rt.alloc(), Program::Run, &words);
         for room in 0..=whole.len() {
             if is_tried(room, whole.len()) {
                 let ends_so = ends_with(rt.alloc(), &words, &whole, room);
@@ -712,7 +736,6 @@ fn tells_an_output_that_fails(rt: HostRuntime) -> Result<(), Fail> {
             }
         }
     }
-    Ok(())
 }
 
 /// Whether a program that ends so has this status, and says this on standard error.
@@ -729,16 +752,12 @@ fn ends(
     ended == ExitCode::from(status) && said.as_slice() == line.as_bytes()
 }
 
-/// Whether a program whose run fails so has status 1, and says this on standard error.
-fn fails(alloc: Global, program: Command, fault: RunFault, line: &str) -> bool {
-    ends(alloc, program, Err(Failure::Run(fault)), 1, line)
-}
-
 #[test]
 fn ends_by_its_name(rt: HostRuntime) {
     let alloc = rt.alloc();
     let (cannot_open, usage) = (Err(Failure::CannotOpen), Err(Failure::Usage));
-    let (output, memory) = (RunFault::Output, RunFault::OutOfMemory);
+    let output = Err(Failure::Run(RunFault::Output));
+    let memory = Err(Failure::Run(RunFault::OutOfMemory));
     let ended = [
         ends(alloc, RRS_REPLAY, Ok(()), 0, ""),
         ends(
@@ -749,15 +768,16 @@ fn ends_by_its_name(rt: HostRuntime) {
             "rrs-run: cannot open file\n",
         ),
         ends(alloc, RRS_REPLAY, usage, 2, "usage: rrs-replay\n"),
-        fails(
+        ends(
             alloc,
             RRS_REPLAY,
             output,
+            1,
             "rrs-replay: cannot write output\n",
         ),
-        fails(alloc, RRS_REPLAY, memory, "rrs-replay: out of memory\n"),
+        ends(alloc, RRS_REPLAY, memory, 1, "rrs-replay: out of memory\n"),
     ];
-    assert_eq!(rt; ended, [true; 5]);
+    assert!(rt; ended == [true; 5], "{ended:?}");
 }
 
 /// Whether a program that takes no arguments is refused as one that is called wrongly.

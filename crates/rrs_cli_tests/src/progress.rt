@@ -6,7 +6,6 @@ use std::alloc::Global;
 use std::cell::Cell;
 use std::io;
 use std::io::{ErrorKind, Read, Write};
-use std::test::Fail;
 use std::time::{Clock, Duration};
 
 /// A clock that was set to so many milliseconds, or fails, and counts how often it was looked at.
@@ -67,12 +66,11 @@ const TWO_LINES: [(Option<u64>, u64); 6] = [
 ];
 
 #[test]
-fn lines_are_a_second_apart(rt: HostRuntime) -> Result<(), Fail> {
+fn lines_are_a_second_apart(rt: HostRuntime) {
     let (bytes, looks) = shown(rt.alloc(), &TWO_LINES);
     let wanted: &[u8] = b"\x1b7\x1b[?7l[2.5 million steps, 1.5 million a second]\x1b[K\x1b[?7h\x1b8\
         \x1b7\x1b[?7l[7.0 million steps, 2.2 million a second]\x1b[K\x1b[?7h\x1b8\x1b[K";
-    assert_eq!(rt; (bytes.as_slice(), looks), (wanted, 5));
-    Ok(())
+    assert!(rt; bytes.as_slice() == wanted && looks == 5);
 }
 
 /// A run that takes less than a second; one whose clock fails; one whose clock goes back; and one
@@ -93,14 +91,13 @@ const NO_LINES: [(&[(Option<u64>, u64)], u32); 4] = [
 ];
 
 #[test]
-fn no_line_is_shown(rt: HostRuntime) -> Result<(), Fail> {
+fn no_line_is_shown(rt: HostRuntime) {
     let mut is_none_shown = true;
     for (pieces, looks) in NO_LINES {
         let (bytes, looked) = shown(rt.alloc(), pieces);
         is_none_shown = is_none_shown && bytes.is_empty() && looked == looks;
     }
     assert!(rt; is_none_shown);
-    Ok(())
 }
 
 /// A terminal that can't be written, and counts what was tried.
@@ -119,7 +116,7 @@ impl Write for Broken<'_> {
 }
 
 #[test]
-fn the_most_steps_are_told_to_a_terminal_that_fails(rt: HostRuntime) -> Result<(), Fail> {
+fn the_most_steps_are_told_to_a_terminal_that_fails(rt: HostRuntime) {
     let tried = Cell::new(0);
     let clock = SetClock::new();
     let terminal = LineTerminal::new(Broken(&tried));
@@ -130,8 +127,7 @@ fn the_most_steps_are_told_to_a_terminal_that_fails(rt: HostRuntime) -> Result<(
     progress.end();
     NoProgress.add(1);
     NoProgress.end();
-    assert_eq!(rt; tried.get(), 2);
-    Ok(())
+    assert!(rt; tried.get() == 2);
 }
 
 /// A stream beside the line of a terminal in memory.
@@ -143,30 +139,26 @@ fn beside<S>(stream: S, terminal: &LineTerminal<Vec<u8>>) -> Erasing<'_, S, Vec<
 }
 
 #[test]
-fn a_line_is_erased_before_the_program_reads_or_writes(rt: HostRuntime) -> Result<(), Fail> {
+fn a_line_is_erased_before_the_program_reads_or_writes(rt: HostRuntime) {
     let clock = SetClock::new();
     let terminal = LineTerminal::new(Vec::new(rt.alloc()));
     let mut progress = ProgressLine::new(&clock, &terminal);
     let mut output = beside(Vec::new(rt.alloc()), &terminal);
     let mut input = beside(b"in".as_slice(), &terminal);
-    output.write_all(b"a")?;
+    let mut are_done = output.write_all(b"a").is_ok();
     progress.add(100_000);
     for (millis, reads) in [(1000, false), (2000, true)] {
         clock.millis.set(Some(millis));
         progress.add(100_000);
         if reads {
-            let _ = input.read(&mut [0; 1])?;
+            are_done = are_done && input.read(&mut [0; 1]).is_ok();
         }
-        output.write_all(b"b")?;
+        are_done = are_done && output.write_all(b"b").is_ok();
     }
     progress.end();
     let wanted: &[u8] = b"\x1b7\x1b[?7l[0.2 million steps, 0.1 million a second]\x1b[K\x1b[?7h\x1b8\
         \x1b[K\x1b7\x1b[?7l[0.3 million steps, 0.1 million a second]\x1b[K\x1b[?7h\x1b8\x1b[K";
     let written = output.stream;
     let shown = terminal.into_terminal();
-    assert_eq!(rt;
-        (written.as_slice(), shown.as_slice()),
-        (b"abb".as_slice(), wanted)
-    );
-    Ok(())
+    assert!(rt; are_done && written.as_slice() == b"abb".as_slice() && shown.as_slice() == wanted);
 }

@@ -1,6 +1,7 @@
 //! Readers and writers that fail where they are told to, and then go on, so that a read or a write
 //! that is made again shows.
 
+use std::alloc::Global;
 use std::io;
 use std::io::{ErrorKind, Read, Write};
 
@@ -29,62 +30,56 @@ impl Read for Failing {
     }
 }
 
-/// A writer whose write before byte `fails_at` fails once, or is interrupted. The next one goes on.
+/// A writer that takes so many bytes a write at most. Its write before byte `fails_at` fails once, or
+/// is interrupted, and the next one goes on. A flush may fail, each time.
 #[derive(Drop)]
-pub struct FailsOnce {
+pub struct Output {
     pub written: Vec<u8>,
+    pub most: usize,
     pub fails_at: usize,
     pub kind: ErrorKind,
     pub has_failed: bool,
+    pub fails_to_flush: bool,
 }
 
-impl Write for FailsOnce {
-    fn write(&mut self, buf: &[u8]) -> io::Result<usize> {
-        if self.has_failed {
-            return self.written.write(buf);
+impl Output {
+    /// A writer that takes all.
+    pub fn new(alloc: Global) -> Output {
+        Output {
+            written: Vec::new(alloc),
+            most: usize::MAX,
+            fails_at: usize::MAX,
+            kind: ErrorKind::StorageFull,
+            has_failed: false,
+            fails_to_flush: false,
         }
-        if self.written.len() >= self.fails_at {
+    }
+
+    /// How many more bytes are taken before the write that fails.
+    fn room(&self) -> usize {
+        if self.has_failed {
+            usize::MAX
+        } else {
+            self.fails_at.saturating_sub(self.written.len())
+        }
+    }
+}
+
+impl Write for Output {
+    fn write(&mut self, buf: &[u8]) -> io::Result<usize> {
+        let room = self.room();
+        if room == 0 {
             self.has_failed = true;
             return Err(io::Error::from(self.kind));
         }
-        let count = buf.len().min(self.fails_at - self.written.len());
+        let count = buf.len().min(self.most).min(room);
         self.written.write(&buf[..count])
     }
 
     fn flush(&mut self) -> io::Result<()> {
+        if self.fails_to_flush {
+            return Err(io::Error::from(ErrorKind::StorageFull));
+        }
         Ok(())
-    }
-}
-
-/// A writer that takes so many bytes a write at most, and counts those that it took.
-#[derive(Drop)]
-pub struct TakesFew {
-    pub most: usize,
-    pub taken: usize,
-}
-
-impl Write for TakesFew {
-    fn write(&mut self, buf: &[u8]) -> io::Result<usize> {
-        let count = buf.len().min(self.most);
-        self.taken = self.taken.saturating_add(count);
-        Ok(count)
-    }
-
-    fn flush(&mut self) -> io::Result<()> {
-        Ok(())
-    }
-}
-
-/// A writer that takes all, and fails when it is flushed.
-#[derive(Drop)]
-pub struct FailsToFlush;
-
-impl Write for FailsToFlush {
-    fn write(&mut self, buf: &[u8]) -> io::Result<usize> {
-        Ok(buf.len())
-    }
-
-    fn flush(&mut self) -> io::Result<()> {
-        Err(io::Error::from(ErrorKind::StorageFull))
     }
 }

@@ -10,6 +10,7 @@ use rrs_cli::command::{Command, NamedFailure};
 use rrs_env::Ending;
 use rrs_lib::instruction_executor::InstructionException;
 use rrs_requests::refusal::Refusal;
+use std::fmt::Display;
 use std::io;
 use std::process::ExitCode;
 
@@ -72,22 +73,27 @@ pub fn conclude<H: Eprint>(
     ExitCode::from(status)
 }
 
+/// Prints a line on standard error, behind the name of a program.
+fn tell<H: Eprint, D: Display + Drop>(rt: &H, program: Command, why: D) -> io::Result<()> {
+    eprintln!(rt; "{}: {why}", program.name)
+}
+
 /// Prints how a program ended that did not end itself.
 fn tell_ending<H: Eprint>(rt: &H, program: Command, ending: &Ending) -> io::Result<()> {
     match ending {
         Ending::Exit(_) => Ok(()),
-        Ending::Limit => eprintln!(rt; "{}: limit", program.name),
-        Ending::Fault(fault) => eprintln!(rt; "{}: {fault}", program.name),
+        Ending::Limit => tell(rt, program, "limit"),
+        Ending::Fault(fault) => tell(rt, program, fault),
     }
 }
 
 /// Prints why a subcommand did not do what it was asked. The mistakes of a source were printed.
 fn tell_refusal<H: Eprint>(rt: &H, program: Command, refusal: Refusal) -> io::Result<()> {
     if let Some(text) = text_of(&refusal) {
-        return eprintln!(rt; "{}: {text}", program.name);
+        return tell(rt, program, text);
     }
     match refusal {
-        Refusal::Image(error) => eprintln!(rt; "{}: {}", program.name, ToldImageError(error)),
+        Refusal::Image(error) => tell(rt, program, &ToldImageError(error)),
         Refusal::WrongEntry(address) => {
             let name = program.name;
             eprintln!(rt; "{name}: no instruction can begin at the entry 0x{address:08x}")

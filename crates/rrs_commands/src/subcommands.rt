@@ -265,7 +265,10 @@ cover end with that of their program.
 
 /// The subcommand that a word asks for, if there is one.
 pub fn named(word: &str) -> Option<&'static Subcommand> {
-    SUBCOMMANDS
-        .iter()
-        .find(|subcommand| subcommand.word == word)
+    for subcommand in &SUBCOMMANDS {
+        if subcommand.word == word {
+            return Some(subcommand);
+        }
+    }
+    None
 }
