@@ -1,6 +1,6 @@
 //! The tests of the kit, which are those of `rrs_lib` and of the two crates below it, and of small
-//! crates over it: `rrs_text`, `rrs_encode`, `rrs_elf`, `rrs_fast` and `rrs_extra`. `surface` calls
-//! each public name of the port.
+//! crates over it: `rrs_encode`, `rrs_elf`, `rrs_fast` and `rrs_extra`. `surface` calls each public
+//! name of the port.
 //!
 //! The processor `call_counter` and its use in `coverage` are those of `docs/PROCESSORS.md`. They
 //! are written as a user's crate would be.
@@ -13,8 +13,6 @@
 
 #![tactic(auto)]
 
-#[cfg(test)]
-mod assembling;
 #[cfg(test)]
 mod call_counter;
 #[cfg(test)]

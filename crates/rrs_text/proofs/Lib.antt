@@ -1,9 +1,0 @@
-pub mod Stopping
-pub mod Decimals
-pub mod Digits
-pub mod Offsets
-pub mod OperandTexts
-pub mod Openings
-pub mod Forms
-pub mod RowTexts
-pub mod Whole
