@@ -105,16 +105,6 @@ Grows-laid line name statement old new named same start adds labels = record {
       (record { line = adds.line; address = adds.address; name = subst (IsNamed name) (sym adds.statement) named; bytes = subst Bytes (sym adds.statement) adds.bytes }));
 }
 
--- nothing
-pub Grows-nothing : {A : Type 0} (old new : Section A)
-    → new.name ≡ old.name → new.address ≡ old.address → new.made ≡ old.made → Grows [] old new
-Grows-nothing old new named start made = record {
-  name = named;
-  reads = λ items read.
-      let P : List Item → Type 0 = λ its. IsSectionRead its new in
-      subst P (sym (append-nil items)) (rw (start, made) read);
-}
-
 -- ---- the items of a section, one more
 
 if-more : (t : Bool) (item : Item) (xs ys : List Item) → (if t then item ∷ (xs ++ ys) else (xs ++ ys)) ≡ (if t then item ∷ xs else xs) ++ ys
@@ -278,24 +268,6 @@ more-other names k items item plain is = in-section-more names k (first_open nam
     ∙ append-nil (in_section names k (first_open names) items)
 
 -- ---- a section by its name
-
-not-true : (b : Bool) → (b ≡ true → ⊥) → b ≡ false
-not-true true never = absurd (never refl)
-not-true false never = refl
-
--- it is the next one
-pub index-hit : {A : Type 0} (name : List ℕ) (sections : List (Section A)) (i : ℕ) (d : Section A) → i < length sections → (get_or sections i d).name.now ≡ name → index_of name (names_of (drop i sections)) ≡ 0
-index-hit name sections i d below same =
-    let cut : drop i sections ≡ get_or sections i d ∷ drop (i + 1) sections = rw add-one (drop-cons sections i d below) in
-    let is : bytes_eq (get_or sections i d).name.now name ≡ true = (bytes_eq-Decides (get_or sections i d).name.now name).1 same in
-    rw (cut, is) refl
-
--- it is not the next one
-pub index-step : {A : Type 0} (name : List ℕ) (sections : List (Section A)) (i : ℕ) (d : Section A) → i < length sections → (get_or sections i d).name.now ≢ name → index_of name (names_of (drop i sections)) ≡ index_of name (names_of (drop (i + 1) sections)) + 1
-index-step name sections i d below other =
-    let cut : drop i sections ≡ get_or sections i d ∷ drop (i + 1) sections = rw add-one (drop-cons sections i d below) in
-    let is : bytes_eq (get_or sections i d).name.now name ≡ false = not-true _ (λ e. other ((bytes_eq-Decides (get_or sections i d).name.now name).0 e)) in
-    rw (cut, is) refl
 
 pub names-length : {A : Type 0} (sections : List (Section A)) → length (names_of sections) ≡ length sections
 names-length [] = refl
@@ -587,8 +559,3 @@ skipped-plain line name false = tt
 pub counted : (others : Option (Bor (List ℕ))) (number limit : ℕ) (text : List ℕ) → IfSome others (λ rest. length rest.now < length text) → number + length text ≤ limit → option_map_or (λ rest. number + 1 + length rest.now) others 0 ≤ limit
 counted None number limit text shorter fits = omega arith
 counted (Some rest) number limit text shorter fits = omega arith
-
--- a list with one more is not empty
-pub push-some : {A : Type 0} (xs : List A) (x : A) (ys : List A) → ys ≡ xs ++ x ∷ [] → ys ≡ [] → ⊥
-push-some [] x ys is none = cc
-push-some (y ∷ xs) x ys is none = cc

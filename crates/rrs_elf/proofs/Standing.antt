@@ -27,16 +27,6 @@ loaded_low file i j is numbered below =
     let low = is.addresses i has.loaded in
     omega arith
 
-pub Stands-none : (file : List ℕ) (old : ByteMap) (writable : ℕ → Bool) → Stands file old old writable 0 0
-Stands-none file old writable = record {
-  segments = λ i j below. absurd (omega (arith, below));
-  part = λ j below. absurd (omega (arith, below));
-  segments_writable = λ i j below. absurd (omega (arith, below));
-  part_writable = λ j below. absurd (omega (arith, below));
-  others = λ a s p. refl;
-  mapped = λ a. refl;
-}
-
 -- the first k bytes more, of the next segment
 pub Stands-part : (file : List ℕ) (old mid new : ByteMap) (writable writable' : ℕ → Bool) (n k : ℕ) → IsExecutable file → n < e_phnum file → k ≤ loaded_size file n
     → Stands file old mid writable n 0 → writable' ≡ writable → Loaded mid new writable' (p_vaddr file n) (segment_bytes file n k) → Stands file old new writable n k

@@ -69,18 +69,6 @@ kept_whole steps old new s t so_far = record {
   leads_back = so_far.leads_back;
 }
 
-pub kept_fault : (steps : ℕ) (old mid new : History) (s m t : State) → KeptSoFar steps old s mid m → t ≡ cleared m
-    → past (changes new) t ≡ past (changes mid) m → KeepsSteps steps old s new t
-kept_fault steps old mid new s m t so_far fault same = record {
-  end = m;
-  trail = so_far.trail;
-  is_trail = so_far.is_trail;
-  as_many = so_far.as_many;
-  ends = inr fault;
-  forgotten = so_far.forgotten;
-  leads_back = so_far.leads_back ∙ ap (λ (xs : List State). xs ++ so_far.forgotten) (sym same);
-}
-
 -- ---- back
 
 -- the last of them is where the machine is
@@ -96,11 +84,6 @@ pub record PassedSoFar (stops : List ℕ) (watches : List Watch) (count : ℕ) (
   pub are_passed : All (IsPassed stops watches) passed
   pub as_many : length passed ≡ count
   pub there : t ≡ back_over passed s
-
-pub none_passed : (stops : List ℕ) (watches : List Watch) (s : State) (before : List State)
-    → PassedSoFar stops watches 0 s before s before
-none_passed stops watches s before =
-    record { passed = []; leads = refl; are_passed = All-nil (IsPassed stops watches); as_many = refl; there = refl }
 
 pub one_passed : (stops : List ℕ) (watches : List Watch) (count : ℕ) (s t m : State) (before after others : List State)
     → PassedSoFar stops watches count s before t after → after ≡ m ∷ others → IsPassed stops watches m

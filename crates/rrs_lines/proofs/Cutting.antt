@@ -41,15 +41,6 @@ onto-onto xs ys (Part.Statement text ∷ ps) = rw append_assoc refl
 pub parts-other : (place : Place) (xs : List ℕ) (b : ℕ) (bs : List ℕ) → mark_of place b bs ≡ Mark.Other → onto xs (parts_from place (b ∷ bs)) ≡ onto (xs ++ b ∷ []) (parts_from (next place b) bs)
 parts-other place xs b bs is = rw is (onto-onto xs (b ∷ []) (parts_from (next place b) bs))
 
-pub parts-colon : (place : Place) (xs : List ℕ) (b : ℕ) (bs : List ℕ) → mark_of place b bs ≡ Mark.Colon → onto xs (parts_from place (b ∷ bs)) ≡ Part.Label xs ∷ parts_from Place.Plain bs
-parts-colon place xs b bs is = rw is (rw append-nil refl)
-
-pub parts-semicolon : (place : Place) (xs : List ℕ) (b : ℕ) (bs : List ℕ) → mark_of place b bs ≡ Mark.Semicolon → onto xs (parts_from place (b ∷ bs)) ≡ Part.Statement xs ∷ parts_from Place.Plain bs
-parts-semicolon place xs b bs is = rw is (rw append-nil refl)
-
-pub parts-comment : (place : Place) (xs : List ℕ) (b : ℕ) (bs : List ℕ) → mark_of place b bs ≡ Mark.Comment → onto xs (parts_from place (b ∷ bs)) ≡ Part.Statement xs ∷ []
-parts-comment place xs b bs is = rw is (rw append-nil refl)
-
 -- the same in a loop over a line
 pub parts-other-at : (line : List ℕ) (i : ℕ) (place after : Place) (others : List ℕ) → i < length line → others ≡ drop (i + 1) line → mark_of place (get_or line i 0) others ≡ Mark.Other → after ≡ next place (get_or line i 0) → onto (take i line) (parts_from place (drop i line)) ≡ onto (take (i + 1) line) (parts_from after (drop (i + 1) line))
 parts-other-at line i place after others lt same is follows =
