@@ -1,3 +1,3 @@
--- The executable of a program that was assembled. docs/READING.md leads through it.
+-- The executable of a program that was assembled.
 pub mod Executables
 pub mod Mistakes

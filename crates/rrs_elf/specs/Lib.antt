@@ -1,5 +1,5 @@
 -- Executables in the ELF format: what one is, why a file is refused, what a load leaves, and the
--- symbol table. docs/READING.md leads through them.
+-- symbol table.
 pub mod Numbers
 pub mod Headers
 pub mod ProgramHeaders

@@ -1,5 +1,5 @@
 -- The instruction set: words, encodings, results, the table of rows, and instructions as values.
--- docs/READING.md leads through them.
+-- docs/TRUST.md leads through them.
 pub mod Words
 pub mod Encodings
 pub mod Results

@@ -1,4 +1,4 @@
--- What a caller that lends its memory is told of a source. docs/READING.md leads through it.
+-- What a caller that lends its memory is told of a source.
 pub mod Lent
 pub mod Telling
 pub mod Steps

@@ -1,4 +1,4 @@
--- The definitions, from the instruction set up to the code. docs/READING.md leads through them.
+-- The definitions, from the instruction set up to the code. docs/TRUST.md leads through them.
 
 -- The instruction set, of rrs_instruction: words, encodings, the table of rows, results.
 pub use Rattle.rrs_instruction.specs.Words

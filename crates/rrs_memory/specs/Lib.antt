@@ -1,5 +1,5 @@
 -- Memory: bytes at addresses, what each memory keeps, and the memories of the kit.
--- docs/READING.md leads through them.
+-- docs/TRUST.md leads through them.
 pub mod Bytes
 pub mod AccessLists
 pub mod VecBytes

@@ -1,4 +1,4 @@
--- Machine mode: CSRs, the instructions on them, traps, and steps. docs/READING.md leads through them.
+-- Machine mode: CSRs, the instructions on them, traps, and steps.
 pub mod Csrs
 pub mod SystemInstructions
 pub mod Traps
