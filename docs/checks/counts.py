@@ -4,7 +4,7 @@ import re
 
 from pages import SPAN
 
-MARKER = re.compile(r"([\w,]*\w)?[`*]*\s*<!--\s*count\s+([\w:-]*)\s*-->")
+MARKER = re.compile(r"([\w,]*\w)?[`*]*\s*<!--\s*count\s+([\w:/-]*)\s*-->")
 WORDS = ("no one two three four five six seven eight nine ten eleven twelve thirteen fourteen "
          "fifteen sixteen seventeen eighteen nineteen twenty").split()
 
@@ -143,6 +143,22 @@ def definition_lines(sources, crate=r"\w+"):
     return sources.lines(rf"crates/(?:{crate})/specs/.*\.antt")
 
 
+# The definitions that the contracts of a step and of a run cite, in the order of docs/TRUST.md.
+HEADLINE = ("rrs_instruction/Words rrs_instruction/Encodings rrs_instruction/Results "
+            "rrs_instruction/Table rrs_memory/Bytes rrs_lib/Machine rrs_lib/Steps "
+            "rrs_memory/AccessLists rrs_lib/Accesses rrs_lib/Executor").split()
+
+
+def spec_lines(sources, module):
+    """The lines of one file of definitions, CRATE/NAME."""
+    crate, _, name = module.partition("/")
+    return sources.lines(rf"crates/{crate}/specs/{name}\.antt")
+
+
+def headline_lines(sources):
+    return sum(spec_lines(sources, module) for module in HEADLINE)
+
+
 def code_lines(sources, crate=r"\w+"):
     return sources.lines(rf"(?!{TESTS})crates/(?:{crate})/src/.*\.rt")
 
@@ -201,6 +217,8 @@ COUNTS = {
     "definition-lines": (definition_lines, 100),
     "definition-lines:": (definition_lines, 10),
     "kit-definition-lines": (lambda s: definition_lines(s, KIT), 100),
+    "headline-lines": (headline_lines, 1),
+    "spec-lines:": (spec_lines, 1),
     "proof-lines": (proof_lines, 100),
     "proof-lines:": (proof_lines, 100),
     "cache-bytes": (cache_bytes, 1),

@@ -10,6 +10,7 @@ FENCE = re.compile(r"^(\s*)```+\s*(\w*)")
 MARKER = re.compile(r"^\s*<!--\s*(from|example|not run)\b:?\s*(.*?)\s*-->\s*$")
 LEFT_OUT = re.compile(r"^\s*(//|--|#|/\*)?\s*\.\.\s*(\*/)?$")
 LINK = re.compile(r"(?<!\\)\[[^\]]*\]\(\s*<?([^)\s>]+)>?[^)]*\)|^\[[^\]]+\]:\s*(\S+)", re.M)
+LONGEST = 300
 SPAN = re.compile(r"(`+)(.+?)\1", re.S)
 
 
@@ -195,6 +196,13 @@ def check_blocks(root, page):
             yield block.line, "code with neither `<!-- from PATH -->` nor `<!-- example -->`"
     if page.is_open:
         yield page.blocks[-1].line, "a code block that nothing ends"
+
+
+def check_lengths(page):
+    """The lines that nobody reads in an editor or in a difference."""
+    for number, line in enumerate(page.lines, 1):
+        if len(line) > LONGEST:
+            yield number, f"a line of {len(line)} characters: {LONGEST} are the most"
 
 
 def check_links(root, page, pages, files):

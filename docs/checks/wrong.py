@@ -11,10 +11,14 @@ from surface import BELOW
 TABLE = "crates/rrs_instruction/specs/Table.antt"
 RIGHT = {
     "crates.txt": "one:\n",
-    "crates/one/src/lib.rt": "//! A crate.\n\n/// One.\npub fn one_name() -> u32 {\n    1\n}\n",
+    "crates/one/src/lib.rt": "//! A crate.\n\n/// One.\npub fn one_name() -> u32 {\n    1\n}\n"
+                             "\n/// Two.\npub fn other_name() -> u32\n    ensures value "
+                             "{ result ≡ 2 }\n    ensures { result < 3 }\n{\n    2\n}\n",
     TABLE: "table Row.Add = row \"add\"\n",
     "crates/one/must-fail/tried-alone.md": "part: another\nfile: src/lib.rt\nold:     1\nnew:     2\n",
     "docs/ADDING.md": f"# Adding\n\n| `{TABLE}` | 1 |\n",
+    "docs/PROVED.md": "# Proved\n\n| Promise | Carried by | How |\n|---|---|---|\n"
+                      "| Two is 2 | [`other_name`](../crates/one/src/lib.rt) | `value`, `ensures` |\n",
     "docs/OTHER.md": "# Other\n\n## A heading\n",
     "docs/SURFACE.md": f"# Surface\n\n{BELOW}\n",
     "README.md": """# A page
@@ -41,8 +45,14 @@ WRONG = [
     ("README.md", "1<!--", "2<!--", "`crates` is 1, and not 2"),
     ("README.md", "count crates", "count none", "there is no count `none`"),
     ("crates/one/must-fail/tried-alone.md", "old:     1", "old:     3", "this stands 0 times"),
-    ("crates/one/must-fail/tried-alone.md", "old:     1", "old: u", "this stands 2 times"),
+    ("crates/one/must-fail/tried-alone.md", "old:     1", "old: u", "this stands 9 times"),
     ("docs/ADDING.md", "specs/Table.antt", "src/lib.rt", "lists " + TABLE),
+    ("docs/OTHER.md", "# Other", "# Other\n\n" + 301 * "x", "a line of 301 characters"),
+    ("docs/PROVED.md", "`value`", "`values`", "`other_name` ensures no clause `values`"),
+    ("docs/PROVED.md", "other_name", "another", "no function of crates/one/src/lib.rt has this"),
+    ("docs/PROVED.md", "`value`, `ensures`", "proved", "`other_name`: no clause is named"),
+    ("docs/PROVED.md", "[`other_name`](../crates/one/src/lib.rt)", "us", "carried by no call"),
+    ("crates/one/src/lib.rt", "ensures value", "ensures worth", "ensures no clause `value`"),
     ("docs/SURFACE.md", "one_name", "two_name", "call docs/check --write"),
 ]
 
