@@ -51,11 +51,6 @@ def row_names(sources):
     return re.findall(r"^table Row\.(\w+) =[^\"]*\"(\w+)\"", sources.text(TABLE), re.M)
 
 
-def row_files(sources):
-    """How many sources name every row: those that an added row has to be written into."""
-    return len(files_of_rows(sources))
-
-
 def files_of_rows(sources):
     """The sources in which each row stands, by its constructor, its name or its function."""
     found = sources.named(r"crates/\w+/(src|specs|proofs)/.*")
@@ -66,23 +61,29 @@ def files_of_rows(sources):
     return found
 
 
-LISTED = re.compile(r"^\| `(crates/[^`]*)` \| (\d+)(, and the import[^|]*)? \|", re.M)
+LISTED = re.compile(r"^\| `([\w/.]*/[^`]*)` \| (\d+)(, and the import[^|]*)? \|", re.M)
 RESULTS = ("specs/Results.antt", "src/arithmetic.rt")
 
 
-def row_places(sources, with_result):
-    """The places that the table of docs/ADDING.md has for an added row. Those of a new result are
-    its formula, its function, and their import."""
-    places = 0
+def listed_rows(sources, with_result=True):
+    """The lines of the table of docs/ADDING.md: each file that an added row is written into, with
+    its places. Those of a new result are its formula, its function, and their import."""
     for file, count, imported in LISTED.findall(sources.text("docs/ADDING.md")):
         if with_result or not file.endswith(RESULTS):
-            places += int(count) + bool(imported and with_result)
-    return places
+            yield file, int(count) + bool(imported and with_result)
+
+
+def row_files(sources, with_result):
+    return len(list(listed_rows(sources, with_result)))
+
+
+def row_places(sources, with_result):
+    return sum(places for _, places in listed_rows(sources, with_result))
 
 
 def unlisted_files(sources):
     """The sources with each row that the table of docs/ADDING.md does not list."""
-    listed = [file for file, _, _ in LISTED.findall(sources.text("docs/ADDING.md"))]
+    listed = [file for file, _ in listed_rows(sources)]
     return [file for file in files_of_rows(sources) if file not in listed]
 
 
@@ -188,8 +189,8 @@ KIT = "rrs_lib|rrs_memory|rrs_instruction"
 # behind the colon as its second argument.
 COUNTS = {
     "rows": (lambda s: len(row_names(s)), 1),
-    "row-files": (row_files, 1),
-    "row-files-with-result": (lambda s: row_files(s) + len(RESULTS), 1),
+    "row-files": (lambda s: row_files(s, False), 1),
+    "row-files-with-result": (lambda s: row_files(s, True), 1),
     "row-places": (lambda s: row_places(s, False), 1),
     "row-places-with-result": (lambda s: row_places(s, True), 1),
     "name-clauses": (lambda s: s.matches(TEXTS, r"length (name\.now|result\.bytes) ≤ 6\b"), 1),
@@ -252,11 +253,34 @@ def agrees(number, count, step):
     return number == count or step > 1 and number == (count + step // 2) // step * step
 
 
+def markers(text):
+    """The markers of a line, but for those in code."""
+    shown = SPAN.sub(lambda span: "." * len(span[0]) if "<!--" in span[0] else span[0], text)
+    return list(MARKER.finditer(shown))
+
+
+def spelled(count, step, before):
+    """A count in the form of the number that stood there: rounded, with commas, or as a word."""
+    count = (count + step // 2) // step * step
+    if before.lower() in WORDS and count < len(WORDS):
+        word = WORDS[count]
+        return word.capitalize() if before[0].isupper() else word
+    return str(count) if count < 1000 or before.isdigit() and len(before) > 3 else f"{count:,}"
+
+
+def with_counts(text, sources):
+    """A line with the counts of the sources before its markers."""
+    for found in reversed(markers(text)):
+        number, (count, step) = number_of(found[1]), counted(sources, found[2])
+        if None not in (number, count) and not agrees(number, count, step):
+            text = text[:found.start(1)] + spelled(count, step, found[1]) + text[found.end(1):]
+    return text
+
+
 def check_counts(page, sources):
     """The numbers before markers that are not what the sources give."""
     for line, text in enumerate(page.lines, 1):
-        shown = SPAN.sub(lambda span: "" if "<!--" in span[0] else span[0], text)
-        for found in MARKER.finditer(shown):
+        for found in markers(text):
             number, (count, step) = number_of(found[1]), counted(sources, found[2])
             if count is None:
                 yield line, f"there is no count `{found[2]}`"

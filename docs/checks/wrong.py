@@ -71,7 +71,8 @@ def self_test(root):
         folder = Path(name)
         for file, text in RIGHT.items():
             (folder / file).parent.mkdir(parents=True, exist_ok=True)
-            (folder / file).write_text(text)
+            # --write has to set the number before the marker
+            (folder / file).write_text(text.replace("1<!--count", "7<!--count"))
         shutil.copy(root / "docs/check", folder / "docs")
         shutil.copytree(root / "docs/checks", folder / "docs/checks")
         subprocess.run(["git", "init", "--quiet", folder], check=True)
