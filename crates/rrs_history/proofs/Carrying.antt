@@ -1,7 +1,7 @@
 -- A history is carried on over parts of a call: each part leads to where the history led before.
-use Rattle.std.proofs.Common.{◌≡◌, ℕ, zero, suc, ◌+◌, ◌-◌, ◌<◌, ◌≤◌, inl, inr, Bool, true, false, Option, List, [], ◌∷◌, ◌++◌, length, take, drop, slice_index, slice_set, refl, sym, subst, ap, ◌∙◌, if◌then◌else◌, append_assoc, append-nil, arith}
+use Rattle.std.proofs.Common.{◌≡◌, ◌⊎◌, ℕ, zero, suc, ◌+◌, ◌-◌, ◌<◌, ◌≤◌, inl, inr, Bool, true, false, Option, List, [], ◌∷◌, ◌++◌, length, take, drop, slice_index, slice_set, refl, sym, subst, ap, ◌∙◌, if◌then◌else◌, append_assoc, append-nil, arith}
 use Rattle.std.proofs.lemmas.List.{take-append-drop, length-take, ext_get_or, get_or-set_same, get_or-set_other, length-set}
-use Rattle.std.proofs.lemmas.Bool.{cases_eq}
+use Rattle.std.proofs.lemmas.Bool.{cases_eq, cases_lt}
 use Rattle.std.proofs.Math.ListN.{drop_of_length-le}
 use Rattle.rrs_lib.specs.declared.MemAccessSize.{MemAccessSize}
 use Rattle.rrs_lib.specs.declared.HartState.{HartState}
@@ -18,6 +18,40 @@ use Rattle.rrs_history.proofs.Undoing.{dropped, dropped_length}
 use Rattle.rrs_history.proofs.Remembering.{Alike, alike_past, past-append, past-part}
 
 -- ---- one change more
+
+-- a history that has no room for all is full
+full_by : (old new : History) (c : Change) → changes new ≡ take (room old) (c ∷ changes old) → room new ≡ room old
+    → room old ≤ length (c ∷ changes old) → room new ≤ length (changes new)
+full_by old new c kept same_room less =
+    omega (arith, less, same_room, ap length kept, length-take (room old) (c ∷ changes old))
+
+-- and one that has room for all forgets what was forgotten before
+more_full : (old new : History) (c : Change) (gone before : List State)
+    → (length (c ∷ changes old) < room old → gone ≡ []) → (before ≡ []) ⊎ (room old ≤ length (changes old))
+    → changes new ≡ take (room old) (c ∷ changes old) → room new ≡ room old
+    → (length (c ∷ changes old) < room old) ⊎ (room old ≤ length (c ∷ changes old))
+    → (gone ++ before ≡ []) ⊎ (room new ≤ length (changes new))
+more_full old new c gone before none so_far kept same_room (inr less) = inr (full_by old new c kept same_room less)
+more_full old new c gone before none (inl nothing) kept same_room (inl fits) =
+    inl (λ i. none fits i ++ nothing i)
+more_full old new c gone before none (inr full) kept same_room (inl fits) = absurd (omega (arith, full, fits))
+
+full_or : (old new : History) (c : Change) (forgotten : List State)
+    → (length (changes old) < room old → forgotten ≡ [])
+    → changes new ≡ take (room old) (c ∷ changes old) → room new ≡ room old
+    → (length (changes old) < room old) ⊎ (room old ≤ length (changes old))
+    → (forgotten ≡ []) ⊎ (room new ≤ length (changes new))
+full_or old new c forgotten none kept same_room (inr less) =
+    inr (full_by old new c kept same_room (omega (arith, less)))
+full_or old new c forgotten none kept same_room (inl fits) = inl (none fits)
+
+-- a history that keeps a step forgets only where it is full
+pub step_full : (old new : History) (c : Change) (forgotten : List State)
+    → (length (changes old) < room old → forgotten ≡ [])
+    → changes new ≡ take (room old) (c ∷ changes old) → room new ≡ room old
+    → (forgotten ≡ []) ⊎ (room new ≤ length (changes new))
+step_full old new c forgotten none kept same_room =
+    full_or old new c forgotten none kept same_room (cases_lt (length (changes old)) (room old))
 
 -- A history that leads from s to some states, and then keeps a change that leads from t to where it led from s.
 pub one_more : (states : List State) (k : ℕ) (old new : History) (s t : State) (c : Change) → LeadsTo states k old s
@@ -38,6 +72,9 @@ one_more states k old new s t c leads same kept same_room =
           let before = leads.with_room (omega (arith, fits)) in
           let none : gone ≡ [] = ap (λ xs. past xs (all_undone (take n all) t)) (drop_of_length-le all (omega (arith, before.1, fits))) in
           ((λ i. none i ++ before.0 i), omega (arith, ap length kept, length-take n all, before.1));
+      when_full = more_full old new c (past (drop n all) (all_undone (take n all) t)) leads.forgotten
+          (λ fits. ap (λ xs. past xs (all_undone (take n all) t)) (drop_of_length-le all (omega (arith, fits))))
+          leads.when_full kept same_room (cases_lt (length all) (room old));
     }
 
 choose_flag-append : (b x : Bool) (xs ys zs : List Bool) → zs ≡ xs ++ ys
@@ -99,6 +136,7 @@ more_room states k l h s less leads = record {
   with_room = λ fits.
       let before = leads.with_room (omega (arith, less, fits)) in
       (before.0, omega (arith, before.1, less));
+  when_full = leads.when_full;
 }
 
 pub carries_same : (n : ℕ) (old new : History) (s t : State) → changes new ≡ changes old → room new ≡ room old
@@ -110,6 +148,8 @@ carries_same n old new s t same same_room alike = record {
     with_room = λ fits.
         let before = leads.with_room (omega (arith, fits, same_room)) in
         (before.0, omega (arith, before.1, ap length same));
+    when_full = subst (λ (h : ℕ). (leads.forgotten ≡ []) ⊎ (room new ≤ h)) (sym (ap length same))
+        (subst (λ (n : ℕ). (leads.forgotten ≡ []) ⊎ (n ≤ length (changes old))) (sym same_room) leads.when_full);
   });
   tells = λ are_calls before. record {
     untold = before.untold;
@@ -311,6 +351,7 @@ leads_start h0 h1 s m c r kept = record {
     r.none_with_room (omega (arith, fits, r.room_kept)),
     omega (arith, ap length kept, length-take (room h0) (c ∷ changes h0)),
   );
+  when_full = step_full h0 h1 c r.forgotten r.none_with_room kept r.room_kept;
 }
 
 pub remembers_step : (h0 h1 : History) (s t : State) (c : Change) (n : ℕ) → c.starts ≡ true → c.of_call ≡ false
@@ -320,6 +361,7 @@ remembers_step h0 h1 s t c n starts of_step kept r = record {
   leads_back = r.leads_back;
   tells = tells_start h0 h1 c false starts of_step kept;
   none_with_room = λ fits. r.none_with_room (omega (arith, fits));
+  when_full = step_full h0 h1 c r.forgotten r.none_with_room kept r.room_kept;
   room_kept = r.room_kept;
 }
 
@@ -330,6 +372,7 @@ remembers_more h0 h1 s t m n less r = record {
   leads_back = r.leads_back;
   tells = r.tells;
   none_with_room = λ fits. r.none_with_room (omega (arith, fits, less));
+  when_full = r.when_full;
   room_kept = r.room_kept;
 }
 
@@ -345,5 +388,6 @@ remembers_call h0 h1 h2 h3 s m u v t c n r kept starts is first second alike =
       leads_back = leads.leads ∙ ap (λ xs. xs ++ leads.forgotten) (sym (alike_past (changes h3) v t alike));
       tells = all.tells (true ∷ of_calls (changes h0)) (tells_start h0 h1 c true starts is kept);
       none_with_room = λ fits. (leads.with_room (omega (arith, fits, r.room_kept, all.room_kept))).0;
+      when_full = leads.when_full;
       room_kept = all.room_kept ∙ r.room_kept;
     }

@@ -81,21 +81,21 @@ ahead_fault k h0 h1 h2 s t u w same kept same_room = record {
 
 -- ---- and back
 
--- so many of the latest changes lead to s
-pub record Remaining (k : ℕ) (s : State) (h : History) (t : State) : Type 0 where
+-- so many of the latest changes lead to s, and these come before them
+pub record Remaining (k : ℕ) (s : State) (rest : List Change) (h : History) (t : State) : Type 0 where
   cs : List Change
-  rest : List Change
   count : length cs ≡ k
   are : changes h ≡ cs ++ rest
   begin : All (λ (c : Change). c.starts ≡ true) cs
   back : IsBack s (all_undone cs t)
 
-pub remaining : (k : ℕ) (h0 h1 : History) (s t : State) → k ≤ room h0 → WentAhead k h0 s h1 t → Remaining k s h1 t
+pub remaining : (k : ℕ) (h0 h1 : History) (s t : State) → k ≤ room h0 → WentAhead k h0 s h1 t
+    → Remaining k s (take (room h0 - k) (changes h0)) h1 t
 remaining k h0 h1 s t fits w = record {
   cs = w.cs;
-  rest = take (room h0 - length w.cs) (changes h0);
   count = w.count;
-  are = w.kept ∙ take_first (room h0) w.cs (changes h0) (omega (arith, fits, w.count));
+  are = w.kept ∙ take_first (room h0) w.cs (changes h0) (omega (arith, fits, w.count))
+      ∙ ap (λ n. w.cs ++ take (room h0 - n) (changes h0)) w.count;
   begin = w.begin;
   back = w.back;
 }
@@ -114,13 +114,12 @@ first_is d c xs (p ∷ ps) new begins are go_on =
 
 one_taken : (k : ℕ) (s t t' : State) (h h' : History) (d c : Change) (ds rest : List Change) (accesses : List Access)
     → length (d ∷ ds) ≡ k → changes h ≡ (d ∷ ds) ++ rest → All (λ (x : Change). x.starts ≡ true) (d ∷ ds)
-    → IsBack s (all_undone (d ∷ ds) t) → TakesBack (changes h) c (changes h') t t' accesses → Remaining (k - 1) s h' t'
+    → IsBack s (all_undone (d ∷ ds) t) → TakesBack (changes h) c (changes h') t t' accesses → Remaining (k - 1) s rest h' t'
 one_taken k s t t' h h' d c ds rest accesses count are begin back taken =
     let same = first_is d c (ds ++ rest) taken.parts (changes h') (begin 0 d (omega arith)) (sym are ∙ taken.are) taken.go_on in
     let leads : t' ≡ undone d t = taken.leads ∙ ap (λ ps. all_undone (ps ++ c ∷ []) t) same.0 ∙ ap (λ x. undone x t) (sym same.1) in
     record {
       cs = ds;
-      rest = rest;
       count = omega (arith, count);
       are = sym same.2;
       begin = λ i x below. begin (suc i) x (omega (arith, below));
@@ -136,26 +135,28 @@ one_of : (k : ℕ) (s t t' : State) (h h' : History) (cs rest : List Change) →
     → length cs ≡ k → changes h ≡ cs ++ rest → All (λ (x : Change). x.starts ≡ true) cs → IsBack s (all_undone cs t)
     → (result : Option Change) (Q : Change → List Access → Type 0)
     → IfSome result (λ c. (accesses : List Access) × TakesBack (changes h) c (changes h') t t' accesses × Q c accesses)
-    → IfNone result (past (changes h) t ≡ []) → Remaining (k - 1) s h' t'
+    → IfNone result (past (changes h) t ≡ []) → Remaining (k - 1) s rest h' t'
 one_of k s t t' h h' [] rest more count are begin back result Q some none = absurd (omega (arith, more, count))
 one_of k s t t' h h' (d ∷ ds) rest more count are begin back (Some c) Q some none =
     one_taken k s t t' h h' d c ds rest some.0 count are begin back some.1
 one_of k s t t' h h' (d ∷ ds) rest more count are begin back None Q some none =
     absurd (none_taken t d (ds ++ rest) (begin 0 d (omega arith)) (ap (λ cs. past cs t) (sym are) ∙ none))
 
-pub one_back : (k : ℕ) (s t t' : State) (h h' : History) → 0 < k → Remaining k s h t
+pub one_back : (k : ℕ) (s t t' : State) (rest : List Change) (h h' : History) → 0 < k → Remaining k s rest h t
     → (result : Option Change) (Q : Change → List Access → Type 0)
     → IfSome result (λ c. (accesses : List Access) × TakesBack (changes h) c (changes h') t t' accesses × Q c accesses)
-    → IfNone result (past (changes h) t ≡ []) → Remaining (k - 1) s h' t'
-one_back k s t t' h h' more r result Q some none =
-    one_of k s t t' h h' r.cs r.rest more r.count r.are r.begin r.back result Q some none
+    → IfNone result (past (changes h) t ≡ []) → Remaining (k - 1) s rest h' t'
+one_back k s t t' rest h h' more r result Q some none =
+    one_of k s t t' h h' r.cs rest more r.count r.are r.begin r.back result Q some none
 
-none_left : (cs : List Change) (s t : State) → length cs ≡ 0 → IsBack s (all_undone cs t) → IsBack s t
-none_left [] s t none back = back
-none_left (c ∷ cs) s t none back = absurd (omega (arith, none))
+none_left : (cs rest : List Change) (s t : State) (h : History) → length cs ≡ 0 → changes h ≡ cs ++ rest
+    → IsBack s (all_undone cs t) → IsBack s t × (changes h ≡ rest)
+none_left [] rest s t h none are back = (back, are)
+none_left (c ∷ cs) rest s t h none are back = absurd (omega (arith, none))
 
-pub all_back : (k : ℕ) (s t : State) (h : History) → k ≡ 0 → Remaining k s h t → IsBack s t
-all_back k s t h none r = none_left r.cs s t (r.count ∙ none) r.back
+pub all_back : (k : ℕ) (s t : State) (rest : List Change) (h : History) → k ≡ 0 → Remaining k s rest h t
+    → IsBack s t × (changes h ≡ rest)
+all_back k s t rest h none r = none_left r.cs rest s t h (r.count ∙ none) r.are r.back
 
 pub is_back : (s t : State) → IsBack s t → record t { last = s.last } ≡ s
 is_back s t b = λ i. record { registers = b.registers i; pc = b.pc i; last = s.last; bytes = b.bytes i; writable = b.writable i }

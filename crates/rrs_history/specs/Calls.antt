@@ -1,6 +1,6 @@
 -- Calls of the environment that can be taken back (RISC-V unprivileged specification, "Environment
 -- Call and Breakpoints"): a step that is an ecall is served, and kept with what the call changed.
-use Rattle.std.specs.Prelude.{◌≡◌, ℕ, ◌+◌, ◌≤◌, List, [], ◌∷◌, ◌++◌, length, take, Bool, true, false, Option, Some, None, Result, Ok, Err}
+use Rattle.std.specs.Prelude.{◌≡◌, ℕ, ◌+◌, ◌≤◌, ◌⊎◌, List, [], ◌∷◌, ◌++◌, length, take, Bool, true, false, Option, Some, None, Result, Ok, Err}
 use Rattle.std.specs.Bool.{OnTrue, OnFalse}
 use Rattle.rrs_lib.specs.declared.MemAccessSize.{MemAccessSize}
 use Rattle.rrs_lib.specs.declared.HartState.{HartState}
@@ -59,13 +59,15 @@ module _ {E : Type 0} (serves : Relation E) where
 
 -- A step or a call led from s to t, and the history keeps it: it leads back to s, and from there to
 -- where it led before; and it tells whether it was a call. The oldest states may be forgotten, if
--- there was no room for its changes: 32 at the most, and one for each of so many accesses.
+-- there was no room for its changes: 32 at the most, and one for each of so many accesses. The
+-- history is full then.
 pub record RemembersCall (is_call : Bool) (old : History) (s : State) (new : History) (t : State)
     (accesses : ℕ) : Type 0 where
   pub forgotten : List State
   pub leads_back : s ∷ past (changes old) s ≡ past (changes new) t ++ forgotten
   pub tells : Tells (is_call ∷ of_calls (changes old)) new
   pub none_with_room : length (changes old) + 32 + accesses ≤ room old → forgotten ≡ []
+  pub when_full : (forgotten ≡ []) ⊎ (room new ≤ length (changes new))
   pub room_kept : room new ≡ room old
 
 -- ---- of the code
@@ -140,11 +142,12 @@ recorded_writes bytes writable reads writes old address size value new answer =
     × OnFalse answer (Leaves bytes writable old new)
 
 -- Of some states a history leads to the newest ones. It leads to all of them, and keeps k changes at
--- the most, if there is room for k.
+-- the most, if there is room for k; and to all of them unless it is full.
 pub record LeadsTo (states : List State) (k : ℕ) (h : History) (t : State) : Type 0 where
   pub forgotten : List State
   pub leads : states ≡ past (changes h) t ++ forgotten
   pub with_room : k ≤ room h → (forgotten ≡ []) × (length (changes h) ≤ k)
+  pub when_full : (forgotten ≡ []) ⊎ (room h ≤ length (changes h))
 
 -- A history that led from s to some states leads from t to them, after n more changes at the most.
 pub record Carries (n : ℕ) (old : History) (s : State) (new : History) (t : State) : Type 0 where

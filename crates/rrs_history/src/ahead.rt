@@ -1,11 +1,11 @@
 //! Steps forward and back again.
 
-ghost use Rattle.std.specs.Prelude.{◌≡◌, ◌≤◌};
+ghost use Rattle.std.specs.Prelude.{◌≡◌, ◌≤◌, ◌-◌, take};
 ghost use Rattle.rrs_lib.specs.Machine.{State};
 ghost use Rattle.rrs_lib.specs.Executor.{state_in, KeepsTheRest};
 ghost use Rattle.rrs_lib.specs.Steps.{RunUntil};
 ghost use Rattle.rrs_history.specs.declared.history.History.{History};
-ghost use Rattle.rrs_history.specs.Histories.{room};
+ghost use Rattle.rrs_history.specs.Histories.{changes, room};
 ghost use Rattle.rrs_history.specs.Returns.{WentAhead, IsBack};
 
 use crate::history::{History, step_back, step_recorded};
@@ -46,6 +46,9 @@ fn go_back<M: Memory>(executor: &mut InstructionExecutor<M>, history: &mut Histo
     ensures back { (first : History) (s : State) → steps ≤ room first
         → WentAhead steps first s history.old (state_in M.bytes M.writable executor.old)
         → IsBack s (state_in M.bytes M.writable executor.new) }
+    ensures kept { (first : History) (s : State) → steps ≤ room first
+        → WentAhead steps first s history.old (state_in M.bytes M.writable executor.old)
+        → changes history.new ≡ take (room first - steps) (changes first) }
     ensures room { room history.new ≡ room history.old }
     ensures rest { KeepsTheRest M.layout executor.old executor.new }
 {
@@ -61,8 +64,9 @@ fn go_back<M: Memory>(executor: &mut InstructionExecutor<M>, history: &mut Histo
 ///
 /// The answer is that of `run` from here (`run`). Registers, pc, last written register and bytes are
 /// as they were (`back`): that is the law of a history, n steps and n steps back. From a state there
-/// is one run (`only` of `run`), so forward again the same steps are made. The history has to have room for
-/// the steps; what it kept before is forgotten where there is no more room.
+/// is one run (`only` of `run`), so forward again the same steps are made. The history has to have
+/// room for the steps. It keeps what it kept, newest first, as far as there was room beside them
+/// (`kept`).
 pub fn look_ahead<M: Memory>(
     executor: &mut InstructionExecutor<M>,
     history: &mut History,
@@ -73,6 +77,9 @@ pub fn look_ahead<M: Memory>(
         result.steps result.exception t }
     ensures back { state_in M.bytes M.writable executor.new
         ≡ state_in M.bytes M.writable executor.old }
+    ensures kept { changes history.new
+        ≡ take (room history.old - result.steps) (changes history.old) }
+    ensures room { room history.new ≡ room history.old }
     ensures rest { KeepsTheRest M.layout executor.old executor.new }
 {
     let last = executor.hart_state.last_register_write;

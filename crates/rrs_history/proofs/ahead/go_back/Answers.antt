@@ -23,7 +23,7 @@ steps-preserved g c =
     let back = c.step_back-change.ensures in
     let more : 0 < c.steps.left = search rules in
     let Q : Change → List Access → Type 0 = λ change accesses. Makes memory.reads memory.writes accesses now.mem.now next.mem.now in (
-      λ first s fits w. one_back c.steps.left s (state now) (state next) c.steps.history c.step_back-change.new.history more
+      λ first s fits w. one_back c.steps.left s (state now) (state next) _ c.steps.history c.step_back-change.new.history more
           (c.steps.invariant.0 first s fits w) c.step_back-change.result Q back.taken back.none,
       back.room ∙ c.steps.invariant.1,
       KeepsTheRest-trans memory.layout _ _ _ c.steps.invariant.2 back.rest,
@@ -33,4 +33,10 @@ pub returns-clause-back : goal.returns-clause-back
 returns-clause-back g c =
     let state = state_in g.M.Memory.bytes g.M.Memory.writable in
     let none : c.steps.left ≡ 0 = search rules in
-    λ first s fits w. all_back c.steps.left s (state c.steps.executor) c.steps.history none (c.steps.invariant.0 first s fits w)
+    λ first s fits w. (all_back c.steps.left s (state c.steps.executor) _ c.steps.history none (c.steps.invariant.0 first s fits w)).0
+
+pub returns-clause-kept : goal.returns-clause-kept
+returns-clause-kept g c =
+    let state = state_in g.M.Memory.bytes g.M.Memory.writable in
+    let none : c.steps.left ≡ 0 = search rules in
+    λ first s fits w. (all_back c.steps.left s (state c.steps.executor) _ c.steps.history none (c.steps.invariant.0 first s fits w)).1
