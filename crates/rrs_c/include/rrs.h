@@ -417,7 +417,9 @@ uint32_t rrs_csr_write(rrs_csrs *csrs, uint32_t number, uint32_t value);
 
 /* An executable in the ELF format: the bytes of its file, which each function reads anew. It is
  * accepted exactly where it is an executable for RV32IM that is linked to fixed addresses, and else
- * refused for the first of these that holds, in this order. */
+ * refused for the first of these that holds. The header is checked first, for 1 to 15, then one
+ * segment after another, each for 16 to 20, and then the entry, for 21 and 22; each of the three in
+ * this order. A segment is compared with those before it. */
 enum rrs_elf_refusal {
     RRS_ELF_OK = 0,
     RRS_ELF_NOT_ELF = 1,               /* It does not begin with 0x7f and "ELF". */
@@ -492,8 +494,9 @@ rrs_loaded rrs_elf_load(const uint8_t *file, size_t size, uint32_t *words, size_
                         uint32_t base);
 
 /* The function that an address lies in, or else the nearest function or label before it in its
- * segment. Writes its name, and a 0 after it, where the `room` bytes at `text` have room for both,
- * and else nothing. The name may have any bytes but 0. */
+ * segment: of several at one address the one with the most bytes, and of those the first. Writes its
+ * name, and a 0 after it, where the `room` bytes at `text` have room for both, and else nothing. The
+ * name may have any bytes but 0. */
 rrs_location rrs_elf_function_at(const uint8_t *file, size_t size, uint32_t address, char *text,
                                  size_t room);
 

@@ -4,3 +4,4 @@ pub mod SegmentBytes
 pub mod Standing
 pub mod SymbolLists
 pub mod SymbolsAccepted
+pub mod Nearest

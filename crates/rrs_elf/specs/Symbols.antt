@@ -55,12 +55,17 @@ abbrev pub NoneCovers : List ℕ → ℕ → ℕ → Type 0
 NoneCovers file t address =
     (n : ℕ) → n < symbol_count file t → covers file t n address ≡ false
 
--- of the first n symbols this is one before the address, and none before it is nearer
+-- Of the first n symbols this is one before the address, and none before it is nearer. Of those at
+-- one address it has the most bytes, and it is the first that has as many.
 pub record IsNearest (file : List ℕ) (t address n nearest : ℕ) : Type 0 where
   pub numbered : nearest < n
   pub before : is_before file t address nearest ≡ true
   pub none_nearer : (m : ℕ) → m < n → is_before file t address m ≡ true
       → st_value file t m ≤ st_value file t nearest
+  pub most_bytes : (m : ℕ) → m < n → is_before file t address m ≡ true
+      → st_value file t m ≡ st_value file t nearest → st_size file t m ≤ st_size file t nearest
+  pub first : (m : ℕ) → m < nearest → is_before file t address m ≡ true
+      → st_value file t m ≡ st_value file t nearest → st_size file t m < st_size file t nearest
 
 -- the nearest of the first n symbols, or none where none of them is before the address
 abbrev pub IsNearestBelow : List ℕ → ℕ → ℕ → ℕ → Option ℕ → Type 0

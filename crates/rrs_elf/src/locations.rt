@@ -1,6 +1,6 @@
 //! Which function or label an address lies in.
 
-ghost use Rattle.std.specs.Prelude.{◌≡◌, ◌+◌, ◌≤◌, ◌<◌, ◌&&◌, nat_lt, ℕ, true, Some, MatchOption};
+ghost use Rattle.std.specs.Prelude.{◌≡◌, ◌+◌, ◌≤◌, ◌<◌, ◌&&◌, ◌||◌, ◌==◌, nat_lt, ℕ, true, Some, MatchOption};
 ghost use Rattle.rrs_elf.specs.Headers.{e_phnum};
 ghost use Rattle.rrs_elf.specs.SymbolTables.{symbol_count, st_value};
 ghost use Rattle.rrs_elf.specs.Symbols.{is_function, is_label, covers, segment_below, is_before, NoneCovers, IsNearestBelow, Finds};
@@ -91,7 +91,17 @@ fn is_behind(file: &[u8], table: u16, segment: u16, index: u32, address: u32) ->
         && value <= address
 }
 
-/// The nearer of two symbols, one of them if the other is not before the address.
+/// Whether a symbol is nearer to an address behind both than another one, or is as near and has more
+/// bytes.
+fn is_nearer(symbol: &Symbol, best: &Symbol) -> bool
+    ensures { result ≡ (nat_lt best.now.value symbol.now.value
+        || ((symbol.now.value == best.now.value) && nat_lt best.now.size symbol.now.size)) }
+{
+    best.value < symbol.value || (symbol.value == best.value && best.size < symbol.size)
+}
+
+/// The nearer of two symbols, one of them if the other is not before the address. Of two at one
+/// address it is the one with more bytes, or the first.
 fn nearer(
     file: &[u8],
     table: u16,
@@ -107,11 +117,15 @@ fn nearer(
     if !is_behind(file, table, segment, index, address) {
         return best;
     }
-    let value = read_symbol(file, table, index).value;
-    match best {
-        Some(other) if value <= read_symbol(file, table, other).value => best,
-        _ => Some(index),
+    let Some(other) = best else {
+        return Some(index);
+    };
+    let symbol = read_symbol(file, table, index);
+    let before = read_symbol(file, table, other);
+    if is_nearer(&symbol, &before) {
+        return Some(index);
     }
+    best
 }
 
 /// The nearest function or label before an address of a segment.
@@ -130,8 +144,10 @@ impl Symbols<'_> {
     /// The function that an address lies in, or, where no symbol says so, as with those of assembly,
     /// the nearest function or label before it in its segment.
     ///
-    /// The function is one whose `st_size` bytes from its `st_value` on have the address. Symbols
-    /// without a section count for nothing, and neither do mapping symbols.
+    /// The function is one whose `st_size` bytes from its `st_value` on have the address. Of several
+    /// symbols at the nearest address before it the one with the most bytes is taken, and of those
+    /// that have as many the first of the table, as `addr2line` of binutils 2.40 takes it; `nm` lists
+    /// all. Symbols without a section count for nothing, and neither do mapping symbols.
     pub fn function_at(&self, address: u32) -> Option<Location>
         ensures { Finds self.now.file.now self.now.table address result }
     {
