@@ -38,11 +38,12 @@ heap_of image = record {
 module _ {R W E : Type 0} (remaining : R → Option (List ℕ))
     (contents : W → Option (List ℕ)) (errors_of : E → Option (List ℕ)) where
   -- From an image, in a memory of these bytes under its marks, the machine runs and its system
-  -- calls are served, and this is how that ends.
+  -- calls are served, and this is how that ends: after so many steps, at this pc.
   pub record RunsImage (image : Image) (bytes : ByteMap) (writable : ℕ → Bool) (limit : ℕ)
-      (old new : Process R (HostWriter W) (HostWriter E) HostSide) (ending : Ending) : Type 0 where
+      (old new : Process R (HostWriter W) (HostWriter E) HostSide)
+      (steps pc : ℕ) (ending : Ending) : Type 0 where
     pub end : State
-    pub steps : ℕ
+    pub stands : end.pc ≡ pc
     pub accesses : List Access
     pub served : Served (Serves remaining contents errors_of) ending new end
         limit (record old { heap = heap_of image })
@@ -51,11 +52,12 @@ module _ {R W E : Type 0} (remaining : R → Option (List ℕ))
 
   -- A file is an executable. Its segments and its stack stand in words, which are 0 elsewhere, and
   -- from its entry, with sp at its stack, the machine runs under the marks of its pages and its
-  -- system calls are served, and this is how that ends. So what the environment's writers hold then
+  -- system calls are served, and this is how that ends: after so many steps, at this pc. So what the environment's writers hold then
   -- is what they held, and what each write wrote, in order; and what its reader gave, the calls
   -- that read gave to the program.
   pub record RunsProcess (file : List ℕ) (arguments : List (List ℕ)) (wanted limit : ℕ)
-      (old new : Process R (HostWriter W) (HostWriter E) HostSide) (ending : Ending) : Type 0 where
+      (old new : Process R (HostWriter W) (HostWriter E) HostSide)
+      (steps pc : ℕ) (ending : Ending) : Type 0 where
     pub executable : IsExecutable file
     pub image : Image
     pub is_image : IsImage file arguments wanted image
@@ -66,4 +68,4 @@ module _ {R W E : Type 0} (remaining : R → Option (List ℕ))
         (replicate ((image.layout.end - image.layout.base) / 4) 0))
         (bytes_from image.layout.base words)
     pub runs : RunsImage image (bytes_from image.layout.base words)
-        (lies_from image.layout.base words) limit old new ending
+        (lies_from image.layout.base words) limit old new steps pc ending

@@ -108,12 +108,12 @@ module _ {R W E V : Type 0} (remaining : R → Option (List ℕ))
   -- Each of its steps is shown.
   pub record WatchesImage (image : Image) (bytes : ByteMap) (writable : ℕ → Bool) (limit : ℕ)
       (old new : Process R (HostWriter W) (HostWriter E) HostSide) (v v' : V)
-      (steps : ℕ) (ending : Ending) : Type 0 where
+      (steps pc : ℕ) (ending : Ending) : Type 0 where
     pub most : ℕ
     pub within : most ≤ limit
     pub all : wants v' ≡ true → most ≡ limit
-    pub runs : RunsImage remaining contents errors_of image bytes writable most old new ending
-    pub counted : runs.steps ≡ steps
+    pub runs : RunsImage remaining contents errors_of
+        image bytes writable most old new steps pc ending
     pub shown : Shown (Serves remaining contents errors_of) sees wants
         (record old { heap = heap_of image }) (start_in image bytes writable) v
         ending steps new runs.end v'
@@ -122,13 +122,12 @@ module _ {R W E V : Type 0} (remaining : R → Option (List ℕ))
   -- within fewer steps. Each of its steps is shown.
   pub record WatchesProcess (file : List ℕ) (arguments : List (List ℕ)) (wanted limit : ℕ)
       (old new : Process R (HostWriter W) (HostWriter E) HostSide) (v v' : V)
-      (steps : ℕ) (ending : Ending) : Type 0 where
+      (steps pc : ℕ) (ending : Ending) : Type 0 where
     pub most : ℕ
     pub within : most ≤ limit
     pub all : wants v' ≡ true → most ≡ limit
     pub runs : RunsProcess remaining contents errors_of
-        file arguments wanted most old new ending
-    pub counted : runs.runs.steps ≡ steps
+        file arguments wanted most old new steps pc ending
     pub shown : Shown (Serves remaining contents errors_of) sees wants
         (record old { heap = heap_of runs.image })
         (start_in runs.image (bytes_from runs.image.layout.base runs.words)

@@ -59,7 +59,8 @@ pub fn started(entry: u32, sp: u32) -> HartState
 /// Runs a file's bytes as an executable with these arguments, of which the first is its name, in a
 /// memory of so many bytes or more, and serves its system calls, for `limit` steps or until it ends
 /// or raises an exception. Its break begins behind its segments, and the heap of the environment
-/// is set so. The progress is told of its steps, and of its end.
+/// is set so. The end has the steps that were made and the pc after them. The progress is told of
+/// its steps, and of its end.
 ///
 /// # Errors
 ///
@@ -76,7 +77,7 @@ pub fn execute_process<R: Read, W: Write, E: Write, P: Progress>(
 ) -> Result<ProcessEnd, ImageError>
     ensures executed { IfOk result (λ end. RunsProcess R.remaining W.contents E.contents
         file.now (map string_bytes arguments.now) wanted limit
-        environment.old environment.new end.ending) }
+        environment.old environment.new end.steps end.pc end.ending) }
     ensures kept { OnErr result (environment.new ≡ environment.old) }
 {
     let executable = match Executable::parse(file) {
@@ -103,7 +104,7 @@ fn run_image<R: Read, W: Write, E: Write, P: Progress>(
 ) -> ProcessEnd
     ensures { RunsImage R.remaining W.contents E.contents image
         (slice_bytes memory.entry) (slice_writable memory.entry) limit
-        environment.old environment.new result.ending }
+        environment.old environment.new result.steps result.pc result.ending }
 {
     let Image {
         layout,

@@ -158,7 +158,8 @@ fn watch_image<R: Read, W: Write, E: Write, V: Watcher, P: Progress>(
 ) -> ProcessEnd
     ensures { WatchesImage R.remaining W.contents E.contents V.sees V.wants image
         (slice_bytes memory.entry) (slice_writable memory.entry) limit
-        environment.old environment.new watcher.old watcher.new result.steps result.ending }
+        environment.old environment.new watcher.old watcher.new
+        result.steps result.pc result.ending }
 {
     let Image {
         layout,
@@ -208,7 +209,8 @@ pub fn watch_process<R: Read, W: Write, E: Write, V: Watcher, P: Progress>(
 ) -> Result<ProcessEnd, ImageError>
     ensures watched { IfOk result (λ end. WatchesProcess R.remaining W.contents E.contents
         V.sees V.wants file.now (map string_bytes arguments.now) wanted limit
-        environment.old environment.new watcher.old watcher.new end.steps end.ending) }
+        environment.old environment.new watcher.old watcher.new
+        end.steps end.pc end.ending) }
     ensures kept { OnErr result (environment.new ≡ environment.old) }
     ensures unseen { OnErr result (watcher.new ≡ watcher.old) }
 {

@@ -60,12 +60,12 @@ pub run_kept : {R W E V : Type 0} (remaining : R → Option (List ℕ))
     (sees : V → Retired → V → Type 0) (wants : V → Bool) (P : List Retired → V → Type 0)
     → ((rs : List Retired) (r : Retired) (v w : V) → P rs v → sees v r w → P (rs ++ r ∷ []) w)
     → (file : List ℕ) (arguments : List (List ℕ)) (wanted limit : ℕ)
-    (old new : Process R (HostWriter W) (HostWriter E) HostSide) (v v' : V) (steps : ℕ) (ending : Ending)
-    → WatchesProcess remaining contents errors_of sees wants file arguments wanted limit old new v v' steps ending
+    (old new : Process R (HostWriter W) (HostWriter E) HostSide) (v v' : V) (steps pc : ℕ) (ending : Ending)
+    → WatchesProcess remaining contents errors_of sees wants file arguments wanted limit old new v v' steps pc ending
     → wants v' ≡ true → P [] v
     → (rs : List Retired)
-    × RunsWithRecords remaining contents errors_of file arguments wanted limit old new steps ending rs × P rs v'
-run_kept remaining contents errors_of sees wants P grows file arguments wanted limit old new v v' steps ending watched more none =
+    × RunsWithRecords remaining contents errors_of file arguments wanted limit old new steps pc ending rs × P rs v'
+run_kept remaining contents errors_of sees wants P grows file arguments wanted limit old new v v' steps pc ending watched more none =
     let serves = Serves remaining contents errors_of in
     let runs = watched.runs in
     let start = start_in runs.image (bytes_from runs.image.layout.base runs.words) (lies_from runs.image.layout.base runs.words) in
@@ -82,13 +82,12 @@ run_kept remaining contents errors_of sees wants P grows file arguments wanted l
           filled = runs.filled;
           runs = record {
             end = runs.runs.end;
-            steps = runs.runs.steps;
+            stands = runs.runs.stands;
             accesses = runs.runs.accesses;
-            served = subst (λ n. Served serves ending new runs.runs.end n before start runs.runs.steps runs.runs.accesses)
+            served = subst (λ n. Served serves ending new runs.runs.end n before start steps runs.runs.accesses)
                 (watched.all more) runs.runs.served;
           };
         };
-        counted = watched.counted;
         shown = k.1;
       },
       k.2,

@@ -99,8 +99,8 @@ pub record TracesProcess {R W E : Type 0} (remaining : R → Option (List ℕ))
     (contents : W → Option (List ℕ)) (errors_of : E → Option (List ℕ))
     (file : List ℕ) (arguments : List (List ℕ)) (wanted limit : ℕ)
     (old new : Process R (HostWriter W) (HostWriter E) HostSide)
-    (steps : ℕ) (ending : Ending) (from : Option ℕ) (before after : Option (List ℕ)) : Type 0 where
+    (steps pc : ℕ) (ending : Ending) (from : Option ℕ) (before after : Option (List ℕ)) : Type 0 where
   pub records : List Retired
   pub runs : RunsWithRecords remaining contents errors_of file arguments wanted limit old new
-      steps ending records
+      steps pc ending records
   pub written : Appends before after (log_text from records)

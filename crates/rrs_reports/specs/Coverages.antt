@@ -61,8 +61,8 @@ pub record CoversProcess {R W E : Type 0} (remaining : R → Option (List ℕ))
     (contents : W → Option (List ℕ)) (errors_of : E → Option (List ℕ))
     (file : List ℕ) (arguments : List (List ℕ)) (wanted limit : ℕ)
     (old new : Process R (HostWriter W) (HostWriter E) HostSide)
-    (steps : ℕ) (ending : Ending) (c : Coverage) : Type 0 where
+    (steps pc : ℕ) (ending : Ending) (c : Coverage) : Type 0 where
   pub records : List Retired
   pub runs : RunsWithRecords remaining contents errors_of file arguments wanted limit old new
-      steps ending records
+      steps pc ending records
   pub covers : Covers records c

@@ -22,9 +22,9 @@ pub record RunsWithRecords {R W E : Type 0} (remaining : R → Option (List ℕ)
     (contents : W → Option (List ℕ)) (errors_of : E → Option (List ℕ))
     (file : List ℕ) (arguments : List (List ℕ)) (wanted limit : ℕ)
     (old new : Process R (HostWriter W) (HostWriter E) HostSide)
-    (steps : ℕ) (ending : Ending) (records : List Retired) : Type 0 where
-  pub runs : RunsProcess remaining contents errors_of file arguments wanted limit old new ending
-  pub counted : runs.runs.steps ≡ steps
+    (steps pc : ℕ) (ending : Ending) (records : List Retired) : Type 0 where
+  pub runs : RunsProcess remaining contents errors_of
+      file arguments wanted limit old new steps pc ending
   pub shown : Shown (Serves remaining contents errors_of) keeps wants_all
       (record old { heap = heap_of runs.image })
       (start_in runs.image (bytes_from runs.image.layout.base runs.words)

@@ -174,7 +174,7 @@ pub fn trace_process<R: Read, W: Write, E: Write, O: Write, P: Progress>(
 ) -> Result<ProcessEnd, TraceError>
     ensures traced { IfOk result (λ end. TracesProcess R.remaining W.contents E.contents
         file.now (map string_bytes arguments.now) wanted limit
-        environment.old environment.new end.steps end.ending
+        environment.old environment.new end.steps end.pc end.ending
         from (O.contents out.old) (O.contents out.new)) }
 {
     let mut log = CommitLog {

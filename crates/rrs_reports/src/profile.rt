@@ -80,7 +80,7 @@ pub fn cover_process<'a, 'b, R: Read, W: Write, E: Write, P: Progress>(
 ) -> Result<(ProcessEnd, Profile<'a, 'b>), ImageError>
     ensures covered { IfOk result (λ run. CoversProcess R.remaining W.contents E.contents
         file.now (map string_bytes arguments.now) wanted limit
-        environment.old environment.new run.0.steps run.0.ending run.1.coverage) }
+        environment.old environment.new run.0.steps run.0.pc run.0.ending run.1.coverage) }
     ensures kept { OnErr result (environment.new ≡ environment.old) }
 {
     let Ok(mut profile) = Profile::new(alloc, code) else {

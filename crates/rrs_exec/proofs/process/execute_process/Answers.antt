@@ -31,7 +31,8 @@ returns-clause-executed g c =
     let F : ℕ → List ℕ → List ℕ → List ℕ → Type 0 = λ b file stack old.
     Filled file image.stack_pointer stack (bytes_from layout.base old) (bytes_from b words) in
     let G : ℕ → Type 0 = λ b.
-    RunsImage g.R.Read.remaining g.W.Write.contents g.E.Write.contents image (bytes_from b words) (lies_from b words) c.args.limit c.args.environment.now c.run_image.new.environment c.run_image.result.ending in
+    RunsImage g.R.Read.remaining g.W.Write.contents g.E.Write.contents image (bytes_from b words) (lies_from b words) c.args.limit c.args.environment.now c.run_image.new.environment
+    c.run_image.result.steps c.run_image.result.pc c.run_image.result.ending in
     record {
       executable = search rules;
       image = image;

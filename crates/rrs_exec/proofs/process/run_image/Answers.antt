@@ -1,5 +1,5 @@
 -- The served run begins in the image, with the heap that was set.
-use Rattle.std.proofs.Common.{subst}
+use Rattle.std.proofs.Common.{refl, subst}
 use Rattle.rrs_lib.specs.Machine.{State, state_of}
 use Rattle.rrs_lib.specs.Executor.{state_in}
 use Rattle.rrs_lib.specs.SliceBytes.{slice_bytes, slice_writable}
@@ -28,7 +28,7 @@ returns g c =
     let from = started image.entry image.stack_pointer bytes writable in
     record {
       end = last;
-      steps = end.steps;
+      stands = refl;
       accesses = served.accesses;
       served = subst (λ heap. P heap from) c.new-environment.ensures (subst (P c.new-environment.result) (c.started-hart.ensures bytes writable) these);
     }

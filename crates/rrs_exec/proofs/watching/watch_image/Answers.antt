@@ -34,10 +34,9 @@ returns g c =
       all = watched.all;
       runs = record {
         end = last;
-        steps = end.steps;
+        stands = refl;
         accesses = made.accesses;
         served = subst (λ heap. P heap from) heaps (subst (P c.new-environment.result) states watched.served);
       };
-      counted = refl;
       shown = subst (λ heap. Q heap from) heaps (subst (Q c.new-environment.result) states watched.shown);
     }

@@ -31,7 +31,7 @@ returns-clause-watched g c =
     let F : ℕ → List ℕ → List ℕ → List ℕ → Type 0 = λ b file stack old.
     Filled file image.stack_pointer stack (bytes_from layout.base old) (bytes_from b words) in
     let G : ℕ → Type 0 = λ b.
-    WatchesImage g.R.Read.remaining g.W.Write.contents g.E.Write.contents g.V.Watcher.sees g.V.Watcher.wants image (bytes_from b words) (lies_from b words) c.args.limit c.args.environment.now c.watch_image.new.environment c.args.watcher.now c.watch_image.new.watcher c.watch_image.result.steps c.watch_image.result.ending in
+    WatchesImage g.R.Read.remaining g.W.Write.contents g.E.Write.contents g.V.Watcher.sees g.V.Watcher.wants image (bytes_from b words) (lies_from b words) c.args.limit c.args.environment.now c.watch_image.new.environment c.args.watcher.now c.watch_image.new.watcher c.watch_image.result.steps c.watch_image.result.pc c.watch_image.result.ending in
     let watched = subst G base c.watch_image.ensures in
     record {
       most = watched.most;
@@ -49,6 +49,5 @@ returns-clause-watched g c =
             (subst (λ old. F first file c.deref.result.now old) zeros c.in_ok-fill.ensures.filled)));
         runs = watched.runs;
       };
-      counted = watched.counted;
       shown = watched.shown;
     }
