@@ -69,6 +69,9 @@ fn write_costs<W: Write>(out: &mut Pieces<'_, W>, profile: &Profile<'_, '_>, num
 /// was made and how many steps it took until the function returned. Steps outside of the code are of
 /// the function `(no function)`, at address 0.
 ///
+/// What is written is tested alone: `callgrind_annotate` reads it, and finds these steps
+/// (`examples/reports/check`).
+///
 /// # Errors
 ///
 /// A write that fails.

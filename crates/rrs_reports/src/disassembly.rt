@@ -95,6 +95,9 @@ fn write_title<W: Write>(out: &mut Pieces<'_, W>, code: &Code<'_>, part: &CodePa
 /// Writes the disassembly of an executable, as `objdump -d` lays it out: of each part of the file
 /// that has code the symbols, the addresses, the words and the texts.
 ///
+/// The text of each word is proved (`Disassembled`). That the lines are those of the file's code is
+/// tested alone: `examples/reports/check` compares them with those of `objdump -d`.
+///
 /// # Errors
 ///
 /// A write that fails.
@@ -103,7 +106,7 @@ pub fn write_disassembly<W: Write>(out: &mut W, path: &str, code: &Code<'_>) -> 
 }
 
 /// Writes the disassembly of an executable as `write_disassembly` does, and before each word how
-/// often it was executed.
+/// often it was executed. This is tested alone too.
 ///
 /// # Errors
 ///
