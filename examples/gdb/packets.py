@@ -1,16 +1,23 @@
 #!/usr/bin/env python3
 """Sends random and changed packets to rrs gdb, and looks at each answer.
 
-usage: packets.py RRS PROGRAM COUNT
+usage: packets.py RRS PROGRAM COUNT READER INPUT
 
 Each packet has to end in one answer, and the session has to go on behind it. Before and behind each
 packet the registers and some bytes of memory are asked for: where the answer is an error they must be
 the same. The packets are those of a list, of which most are changed in a byte or more; some are
-random bytes. A packet with a wrong sum is answered by `-`. The status is 0 where all is so, else 1. The
-last line says how many answers were errors, and behind how many packets something was other than before.
+random bytes. A packet with a wrong sum is answered by `-`.
+
+READER is an executable that reads the file INPUT, and writes. It goes on to its end, back by a number
+of steps, and on again to its end, for each number up to BACK: it ends alike each time, and what it
+writes is sent once.
+
+The status is 0 where all is so, else 1. The last line says how many answers were errors, behind how
+many packets something was other than before, and how often the reader went back.
 """
 
 import random
+import re
 import subprocess
 import sys
 
@@ -24,6 +31,7 @@ vMustReplyEmpty""".split()
 ALL = "G" + "01000000" * 33
 ENDING = (b"k", b"D", b"R", b"vKill", b"vRun", b"QStartNoAckMode")
 SHOWN = (b"g", b"m0,140")
+BACK = 400
 
 
 def framed(payload, wrong=0):
@@ -70,9 +78,27 @@ def answers(output):
             at += 1
 
 
+def ends_alike(rrs, reader, file):
+    """Whether a program that went back from its end comes to that end again, and nothing is sent twice."""
+    sent = [b"c", b"c"]
+    for steps in range(1, BACK + 1):
+        sent += [b"bs"] * steps + [b"c", b"c"]
+    command = [rrs, "gdb", "--input", file, reader]
+    once, again = (subprocess.run(command, input=b"".join(map(framed, packets)), capture_output=True,
+                                  check=False, timeout=600) for packets in (sent[:2], sent))
+    first, seen = (list(answers(run.stdout)) for run in (once, again))
+    ends = {seen[index] for index, payload in enumerate(sent) if sent[index - 1:index + 1] == [b"c", b"c"]}
+    texts = [b"".join(re.findall(rb"\$O([0-9a-f]+)#", run.stdout)) for run in (once, again)]
+    if again.returncode or len(first) != 2 or ends != {first[1]} or texts[0] != texts[1] or not texts[0]:
+        print(f"back from the end: {first} once, then {sorted(ends)}; {len(texts[0]) // 2} bytes, "
+              f"then {len(texts[1]) // 2}")
+        return False
+    return True
+
+
 def main():
     """Sends the packets, and compares."""
-    rrs, program, count = sys.argv[1], sys.argv[2], int(sys.argv[3])
+    rrs, program, count, reader, file = sys.argv[1], sys.argv[2], int(sys.argv[3]), *sys.argv[4:]
     choice = random.Random(46)
     shown = [framed(question) for question in SHOWN]
     sent, wants = [], []
@@ -101,7 +127,10 @@ def main():
         if (answer == b"-") != (wrong != 0) or is_kept and before != after:
             print(f"{payload}: {answer}, {before} {after}")
             return 1
-    print(f"{count} random packets: {errors} errors, each with the machine as it was, {changes} changes")
+    if not ends_alike(rrs, reader, file):
+        return 1
+    print(f"{count} random packets: {errors} errors, each with the machine as it was, {changes} changes; "
+          f"{BACK} times back from an end")
     return 0
 
 

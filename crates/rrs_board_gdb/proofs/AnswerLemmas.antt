@@ -1,11 +1,11 @@
 -- What an answer leaves and means, by the subject of the packet.
-use Rattle.std.proofs.Common.{◌≡◌, ◌≢◌, ◌⊎◌, ℕ, ◌≤◌, List, ◌++◌, Result, Ok, Err, OnOk, drop, length, slice_index, sym, subst, ap, ◌∙◌, inl, inr, arith}
+use Rattle.std.proofs.Common.{◌≡◌, ◌≢◌, ◌⊎◌, ℕ, ◌≤◌, List, [], ◌++◌, Result, Ok, Err, OnOk, drop, length, slice_index, sym, subst, ap, ◌∙◌, inl, inr, arith}
 use Rattle.std.specs.Prelude.{codes}
 use Rattle.std.proofs.lemmas.List.{append_cancel_left}
 use Rattle.hex.specs.Hex.{decode_of}
 use Rattle.rrs_lib.specs.Machine.{State}
 use Rattle.rrs_board.specs.declared.board.Board.{Board}
-use Rattle.rrs_gdb.specs.Packets.{before, behind, address_in, length_in}
+use Rattle.rrs_gdb.specs.Packets.{IsPlace, before, behind, address_in, length_in}
 use Rattle.rrs_gdb.specs.Sessions.{letter, BreaksNone, ChangesMemory, ChangesNone, IsError, RunsNone, SetsBytes, SetsMemory, ShowsMemory}
 use Rattle.rrs_board_gdb.specs.declared.session.BoardSession.{BoardSession}
 use Rattle.rrs_board_gdb.specs.declared.session.Subject.TheVariants.{Inspected, Session}
@@ -130,19 +130,22 @@ inspects_m (Err f) payload text b b' old new is same shows = tt
 -- the bytes of digits are changed as they are
 pub sets_by_digits : {A F : Type 0} (r : Result A F) (text digits bytes : List ℕ) (address count : ℕ) (s t : State)
     (old new : List ℕ) → address ≡ address_in (before 58 text) → count ≡ length_in (before 58 text)
-    → digits ≡ behind 58 text → decode_of digits ≡ Ok bytes
+    → digits ≡ behind 58 text → IsPlace (before 58 text) → decode_of digits ≡ Ok bytes
     → OnOk r (length bytes ≡ count → 1 ≤ length bytes → SetsBytes address bytes s t old new)
+    → OnOk r (bytes ≡ [] → t ≡ s) → OnOk r (length bytes ≢ count → IsError old new)
     → OnOk r ((values : List ℕ) → decode_of (behind 58 text) ≡ Ok values → SetsMemory values text s t old new)
-sets_by_digits (Ok x) text digits bytes address count s t old new at many same decoded sets = λ values is.
+sets_by_digits (Ok x) text digits bytes address count s t old new at many same place decoded sets none refused = λ values is.
     let both : Ok bytes ≡ Ok values = sym decoded ∙ ap decode_of same ∙ is in
     let equal : bytes ≡ values = cc in
     record {
+      none = λ nothing. none (equal ∙ nothing);
+      refused = λ not. refused (λ long. not (place, ap length (sym equal) ∙ long ∙ many));
       set = λ place long one.
           subst (λ (xs : List ℕ). SetsBytes (address_in (before 58 text)) xs s t old new) equal
           (subst (λ (a : ℕ). SetsBytes a bytes s t old new) at
           (sets (ap length equal ∙ long ∙ sym many) (subst (λ (xs : List ℕ). 1 ≤ length xs) (sym equal) one)));
     }
-sets_by_digits (Err e) text digits bytes address count s t old new at many same decoded sets = tt
+sets_by_digits (Err e) text digits bytes address count s t old new at many same place decoded sets none refused = tt
 
 pub inspects_M : {A F : Type 0} (r : Result A F) (payload text : List ℕ) (b b' : Board) (old new : List ℕ)
     → letter payload ≡ 77 → text ≡ drop 1 payload

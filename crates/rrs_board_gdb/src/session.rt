@@ -1,6 +1,6 @@
 //! The packets of a session, and their answers.
 
-ghost use Rattle.std.specs.Prelude.{◌≡◌, ◌≢◌, ◌⊎◌, ◌++◌, ℕ, ◌≤◌, Bool, true, false, List, Ok, IfSome, MatchOption, OnOk, codes, drop, length, slice_index};
+ghost use Rattle.std.specs.Prelude.{◌≡◌, ◌≢◌, ◌⊎◌, ◌++◌, ℕ, ◌≤◌, Bool, true, false, List, [], Ok, IfSome, MatchOption, OnOk, codes, drop, length, slice_index};
 ghost use Rattle.std.specs.Bool.{OnTrue, OnFalse};
 ghost use Rattle.hex.specs.Hex.{decode_of};
 ghost use Rattle.rrs_gdb.specs.Packets.{before, behind};
@@ -198,6 +198,9 @@ fn change_memory(
     ensures set { OnOk result (length bytes.now ≡ count → 1 ≤ length bytes.now
         → SetsBytes address bytes.now (ram_state board.old) (ram_state board.new)
         reply.old.items reply.new.items) }
+    ensures none { OnOk result (bytes.now ≡ [] → ram_state board.new ≡ ram_state board.old) }
+    ensures refused { OnOk result (length bytes.now ≢ count
+        → IsError reply.old.items reply.new.items) }
 {
     if bytes.len() != count as usize {
         return push_invalid(reply);

@@ -4,19 +4,17 @@ use Rattle.std.specs.Bool.{OnTrue}
 use Rattle.std.proofs.lemmas.Bool.{OnTrue_at}
 use Rattle.rrs_lib.specs.Machine.{State}
 use Rattle.rrs_linux.specs.Recording.{Recording}
-use Rattle.rrs_gdb.specs.declared.breaks.Watch.{Watch}
 use Rattle.rrs_gdb.specs.declared.session.Going.{Going}
 use Rattle.rrs_gdb.specs.declared.session.Going.TheVariants.{Step, Proceed}
 use Rattle.rrs_gdb.specs.declared.session.Subject.{Subject}
 use Rattle.rrs_gdb.specs.declared.session.Subject.TheVariants.{Shown, Changed, Run, Named, Back, Breaks, Query, Session}
 use Rattle.rrs_gdb.specs.declared.state.SessionState.{SessionState}
 use Rattle.rrs_gdb.specs.declared.state.Settings.{Settings}
-use Rattle.rrs_gdb.specs.declared.state.Stop.{Stop}
 use Rattle.rrs_gdb.specs.Packets.{IsNumber, number}
-use Rattle.rrs_gdb.specs.Sessions.{letter, ChangesNone, RunsNone, ChangesRegister, ChangesMemory, MemoryKept, RegistersKept, BreaksKept, SettingsKept, PlacesKept, SessionKept, has_ended, IsError, ShowsMemory, ShowsRegister, GoesBy, EndsBy, HasAction, HasLetter, HasSignal, HasNoSignal, BySignal, Resumes, Signals, GoesOnUnless, Acts, GoesOnOrStays}
-use Rattle.rrs_gdb.specs.Answers.{Moment, ShowsNone, HasSubject, Shows, Sets, BeginsBy, Here, There, Goes, ActsBy, Returns, Stays, Leaves, Means}
-use Rattle.rrs_gdb.specs.Shown.{registers_text}
-use Rattle.rrs_gdb.proofs.SessionLemmas.{BeginsAt, error_letter, goes_same, step_from, go_from, resumes_here, resumes_there, resumes_not, signals_here, signals_there, signals_nowhere, signals_not}
+use Rattle.rrs_gdb.specs.Sessions.{letter, ChangesNone, RunsNone, ChangesRegister, ChangesMemory, MemoryKept, RegistersKept, BreaksKept, SettingsKept, PlacesKept, SessionKept, ForgetsOrStays, has_ended, is_end, IsError, ShowsMemory, ShowsRegister, Asked, asked_by, Around, around, forgotten, Most, one_step, up_to, GoesBy, HasAction, HasLetter, HasSignal, HasNoSignal, BySignal, Resumes, Signals, GoesOnUnless, Acts, GoesOnOrStays}
+use Rattle.rrs_gdb.specs.Answers.{Moment, around_in, ShowsNone, HasSubject, Shows, Sets, BeginsBy, Here, There, Goes, ActsBy, Returns, Stays, Leaves, Means}
+use Rattle.rrs_gdb.specs.Shown.{registers_text, stop_text}
+use Rattle.rrs_gdb.proofs.SessionLemmas.{BeginsAt, asked_kept, error_letter, goes_same, step_from, go_from, resumes_here, resumes_there, resumes_not, signals_here, signals_there, signals_nowhere, signals_not}
 
 -- ---- the subject of a letter
 
@@ -110,8 +108,14 @@ no_sets payload s t old new none = record {
   registers = λ is. absurd (none.0 is);
   register = λ is. absurd (none.1 is);
   memory = λ is. absurd (none.2 is);
+  no_values = λ is. absurd (none.2 is);
   bytes = λ is. absurd (none.3 is);
 }
+
+-- and nothing is forgotten
+no_forgets : {X : Type 0} (payload : List ℕ) → ChangesNone payload → ChangesRegister payload ⊎ ChangesMemory payload → X
+no_forgets payload none (inl is) = either is none.0 none.1
+no_forgets payload none (inr is) = either is none.2 none.3
 
 no_goes : (payload : List ℕ) (m n : Moment) → GoesNone payload → Goes payload m n
 no_goes payload m n none = record {
@@ -254,6 +258,7 @@ means_none payload m n shows changes goes named back error = record {
   goes = no_goes payload m n goes;
   acts = no_acts payload m n named;
   returns = no_returns payload m n back;
+  forgets = no_forgets payload changes;
   error = error;
 }
 
@@ -291,13 +296,14 @@ means_shown payload m n is same same' kept shows =
       goes = no_goes payload m n (goes_none payload Shown at (λ e. cc));
       acts = no_acts payload m n (not_named payload Shown at (λ e. cc));
       returns = no_returns payload m n (not_back payload Shown at (λ e. cc));
+      forgets = no_forgets payload (changes_none payload Shown at (λ e. cc));
       error = λ _ _. record { state_kept = same; environment_kept = same'; session_kept = kept };
     }
 
 means_changed : (payload : List ℕ) (m n : Moment) → HasSubject payload Changed → n.environment ≡ m.environment
-    → Sets payload m.state n.state m.reply n.reply
+    → Sets payload m.state n.state m.reply n.reply → ForgetsOrStays m.state n.state m.session n.session
     → (IsError m.reply n.reply → (n.state ≡ m.state) × SessionKept m.session n.session) → Means payload m n
-means_changed payload m n is same sets error =
+means_changed payload m n is same sets forgets error =
     let at = changed_at payload is in
     record {
       shows = no_shows payload m.state m.reply n.reply (shows_none payload Changed at (λ e. cc));
@@ -305,6 +311,7 @@ means_changed payload m n is same sets error =
       goes = no_goes payload m n (goes_none payload Changed at (λ e. cc));
       acts = no_acts payload m n (not_named payload Changed at (λ e. cc));
       returns = no_returns payload m n (not_back payload Changed at (λ e. cc));
+      forgets = λ _. forgets;
       error = λ _ is. record { state_kept = (error is).0; environment_kept = same; session_kept = (error is).1 };
     }
 
@@ -319,16 +326,15 @@ means_run payload m n is goes error =
       goes = goes;
       acts = no_acts payload m n (not_named payload Run at (λ e. cc));
       returns = no_returns payload m n (not_back payload Run at (λ e. cc));
+      forgets = no_forgets payload (changes_none payload Run at (λ e. cc));
       error = λ _ is.
           record { state_kept = (error is).0; environment_kept = (error is).1; session_kept = (error is).2 };
     }
 
 means_named : (payload : List ℕ) (m n : Moment) → HasSubject payload Named
-    → ((limit : ℕ) × GoesOnOrStays m.session.breaks.stops.items m.session.breaks.watches.items limit
-    m.environment m.state n.environment n.state)
+    → ((most : Most) × GoesOnOrStays (asked_by m.session) most (around_in m) m.state (around_in n) n.state)
     → ((actions : List ℕ) → payload ≡ 118 ∷ 67 ∷ 111 ∷ 110 ∷ 116 ∷ 59 ∷ actions → Acts actions (has_ended m.session)
-    m.session.breaks.stops.items m.session.breaks.watches.items m.session.settings.limit
-    m.environment m.state n.environment n.state)
+    (asked_by m.session) m.session.settings.limit (around_in m) m.state (around_in n) n.state m.reply n.reply)
     → (IsError m.reply n.reply → (n.state ≡ m.state) × (n.environment ≡ m.environment) × SessionKept m.session n.session)
     → Means payload m n
 means_named payload m n is goes_on acts error =
@@ -339,6 +345,7 @@ means_named payload m n is goes_on acts error =
       goes = no_goes payload m n (goes_none payload Named at (λ e. cc));
       acts = record { goes_on = λ _. goes_on; acts = acts };
       returns = no_returns payload m n (not_back payload Named at (λ e. cc));
+      forgets = no_forgets payload (changes_none payload Named at (λ e. cc));
       error = λ _ is.
           record { state_kept = (error is).0; environment_kept = (error is).1; session_kept = (error is).2 };
     }
@@ -353,94 +360,102 @@ means_back payload m n is returns no_error =
       goes = no_goes payload m n (goes_none payload Back at (λ e. cc));
       acts = no_acts payload m n (not_named payload Back at (λ e. cc));
       returns = returns;
+      forgets = no_forgets payload (changes_none payload Back at (λ e. cc));
       error = λ _ is. absurd (no_error is);
     }
 
 -- ---- `s`, `c`, `S` and `C`
 
-begins_at : (rest : List ℕ) (s s' : State) → BeginsBy rest s s' → BeginsAt s s'
-begins_at rest s s' (Here empty same) = inl same
-begins_at rest s s' (There is same) = inr (number rest, same)
+begins_at : (rest : List ℕ) (a : Around) (s : State) (a' : Around) (s' : State) → BeginsBy rest a s a' s'
+    → BeginsAt a s a' s'
+begins_at rest a s a' s' (Here empty same same') = inl (same, same')
+begins_at rest a s a' s' (There is same same') = inr (number rest, same, same')
 
-resumes_by : (text rest : List ℕ) (ended : Bool) (stops : List ℕ) (watches : List Watch) (limit : ℕ) (e e' : Recording)
-    (s s' t : State) (old new : List ℕ) → rest ≡ text → BeginsBy rest s s'
-    → GoesOnUnless ended stops watches limit e s' e' t → Resumes text ended stops watches limit e s e' t old new
-resumes_by text rest ended stops watches limit e e' s s' t old new same (Here empty at) goes =
-    resumes_here text rest ended stops watches limit e e' s s' t old new same (ap length empty) at goes
-resumes_by text rest ended stops watches limit e e' s s' t old new same (There is at) goes =
-    resumes_there text rest (number rest) ended stops watches limit e e' s s' t old new same is refl at goes
+resumes_by : (text rest : List ℕ) (ended : Bool) (asked : Asked) (most : Most) (a a' b : Around)
+    (s s' t : State) (old new : List ℕ) → rest ≡ text → BeginsBy rest a s a' s'
+    → GoesOnUnless ended asked most a' s' b t → new ≡ old ++ stop_text b.stop
+    → Resumes text ended asked most a s b t old new
+resumes_by text rest ended asked most a a' b s s' t old new same (Here empty around at) goes told =
+    resumes_here text rest ended asked most a a' b s s' t old new same (ap length empty) around at goes told
+resumes_by text rest ended asked most a a' b s s' t old new same (There is around at) goes told =
+    resumes_there text rest (number rest) ended asked most a a' b s s' t old new same is refl around at goes told
 
-signals_by : (text rest : List ℕ) (by going : Going) (ended : Bool) (stops : List ℕ) (watches : List Watch) (limit most : ℕ)
-    (e e' : Recording) (s s' t : State) (old new : List ℕ) (at : Stop)
-    → ((u : State) → GoesBy by ended stops watches most e u e' t → GoesOnUnless ended stops watches limit e u e' t)
-    → BySignal text by going rest → BeginsBy rest s s' → GoesBy going ended stops watches most e s' e' t
-    → EndsBy going ended at → Signals text ended stops watches limit e s e' t old new at
-signals_by text rest by going ended stops watches limit most e e' s s' t old new at same is (Here empty begins) goes ends =
-    signals_here text rest by going ended stops watches limit most e e' s s' t old new at same is (ap length empty) begins
-    goes ends
-signals_by text rest by going ended stops watches limit most e e' s s' t old new at same is (There is' begins) goes ends =
-    signals_there text rest (number rest) by going ended stops watches limit most e e' s s' t old new at same is is' refl
-    begins goes
+signals_by : (text rest : List ℕ) (by going : Going) (ended : Bool) (asked : Asked) (most : Most) (limit : ℕ)
+    (a a' b : Around) (s s' t : State) (old new : List ℕ)
+    → ((x : Around) (u : State) → GoesBy by ended asked limit x u b t → GoesOnUnless ended asked most x u b t)
+    → BySignal text by going rest → BeginsBy rest a s a' s' → GoesBy going ended asked limit a' s' b t
+    → new ≡ old ++ stop_text b.stop → Signals text ended asked most a s b t old new
+signals_by text rest by going ended asked most limit a a' b s s' t old new same is (Here empty around begins) goes told =
+    signals_here text rest by going ended asked most limit a a' b s s' t old new same is (ap length empty) around begins
+    goes told
+signals_by text rest by going ended asked most limit a a' b s s' t old new same is (There is' around begins) goes told =
+    signals_there text rest (number rest) by going ended asked most limit a a' b s s' t old new same is is' refl
+    around begins goes told
 
 -- the program goes on, from the address if there is one
-goes_at : (payload rest : List ℕ) (going : Going) (m n : Moment) (s' : State) → HasLetter payload going
-    → HasAction payload going rest → HasSignal payload going rest → BeginsBy rest m.state s'
-    → GoesBy going (has_ended m.session) m.session.breaks.stops.items m.session.breaks.watches.items
-    m.session.settings.limit m.environment s' n.environment n.state
-    → EndsBy going (has_ended m.session) n.session.stop → Goes payload m n
-goes_at payload rest going m n s' has action signal begins goes ends =
+goes_at : (payload rest : List ℕ) (going : Going) (m n : Moment) (a' : Around) (s' : State) → HasLetter payload going
+    → HasAction payload going rest → HasSignal payload going rest → BeginsBy rest (around_in m) m.state a' s'
+    → GoesBy going (has_ended m.session) (asked_by m.session) m.session.settings.limit a' s' (around_in n) n.state
+    → n.reply ≡ m.reply ++ stop_text n.session.stop → Goes payload m n
+goes_at payload rest going m n a' s' has action signal begins goes told =
     let ended = has_ended m.session in
-    let stops = m.session.breaks.stops.items in
-    let watches = m.session.breaks.watches.items in
+    let asked = asked_by m.session in
     let limit = m.session.settings.limit in
-    let e = m.environment in
-    let e' = n.environment in
+    let a = around_in m in
+    let b = around_in n in
     record {
       step = λ is.
-          step_from payload going ended stops watches limit e e' m.state s' n.state is has
-          (begins_at rest m.state s' begins) goes;
+          step_from payload going ended asked limit a a' b m.state s' n.state is has
+          (begins_at rest a m.state a' s' begins) goes;
       goes_on = λ is.
-          go_from payload going ended stops watches limit e e' m.state s' n.state is has
-          (begins_at rest m.state s' begins) goes;
+          go_from payload going ended asked limit a a' b m.state s' n.state is has
+          (begins_at rest a m.state a' s' begins) goes;
       steps = λ is.
           let so = action.0 is in
-          resumes_by _ rest ended stops watches 1 e e' m.state s' n.state m.reply n.reply so.1 begins
-          (subst (λ (g : Going). GoesBy g ended stops watches limit e s' e' n.state) so.0 goes);
+          resumes_by _ rest ended asked one_step a a' b m.state s' n.state m.reply n.reply so.1 begins
+          (subst (λ (g : Going). GoesBy g ended asked limit a' s' b n.state) so.0 goes) told;
       continues = λ is.
           let so = action.1 is in
-          resumes_by _ rest ended stops watches limit e e' m.state s' n.state m.reply n.reply so.1 begins
-          (subst (λ (g : Going). GoesBy g ended stops watches limit e s' e' n.state) so.0 goes);
+          resumes_by _ rest ended asked (up_to limit) a a' b m.state s' n.state m.reply n.reply so.1 begins
+          (subst (λ (g : Going). GoesBy g ended asked limit a' s' b n.state) so.0 goes) told;
       step_signal = λ is.
-          signals_by _ rest Step going ended stops watches 1 limit e e' m.state s' n.state m.reply n.reply
-          n.session.stop (λ u by. by) (signal.0 is) begins goes ends;
+          signals_by _ rest Step going ended asked one_step limit a a' b m.state s' n.state m.reply n.reply
+          (λ x u by. by) (signal.0 is) begins goes told;
       signal = λ is.
-          signals_by _ rest Proceed going ended stops watches limit limit e e' m.state s' n.state m.reply n.reply
-          n.session.stop (λ u by. by) (signal.1 is) begins goes ends;
+          signals_by _ rest Proceed going ended asked (up_to limit) limit a a' b m.state s' n.state m.reply n.reply
+          (λ x u by. by) (signal.1 is) begins goes told;
     }
 
 -- with what is kept before it goes on
 goes_kept : (payload rest : List ℕ) (going : Going) (m n : Moment) (mid : SessionState) (s' : State)
     → HasLetter payload going → HasAction payload going rest → HasSignal payload going rest
-    → PlacesKept m.session mid → has_ended mid ≡ has_ended m.session → BeginsBy rest m.state s'
-    → GoesBy going (has_ended mid) mid.breaks.stops.items mid.breaks.watches.items mid.settings.limit
-    m.environment s' n.environment n.state
-    → EndsBy going (has_ended mid) n.session.stop → Goes payload m n
-goes_kept payload rest going m n mid s' has action signal kept same begins goes ends =
-    goes_at payload rest going m n s' has action signal begins
-    (goes_same going _ _ _ _ _ _ _ _ m.environment n.environment s' n.state same kept.stops_kept kept.watches_kept
-    (ap (λ (x : Settings). x.limit) kept.settings_kept) goes)
-    (subst (λ (b : Bool). EndsBy going b n.session.stop) same ends)
+    → PlacesKept m.session mid → BeginsBy rest (around_in m) m.state (around mid m.environment) s'
+    → has_ended mid ≡ has_ended m.session
+    → GoesBy going (has_ended mid) (asked_by mid) mid.settings.limit (around mid m.environment) s' (around_in n) n.state
+    → n.reply ≡ m.reply ++ stop_text n.session.stop → Goes payload m n
+goes_kept payload rest going m n mid s' has action signal kept begins same goes told =
+    goes_at payload rest going m n (around mid m.environment) s' has action signal begins
+    (goes_same going _ _ _ _ _ _ (around mid m.environment) (around_in n) s' n.state same (asked_kept m.session mid kept)
+    (ap (λ (x : Settings). x.limit) kept.settings_kept) goes) told
+
+-- a program has ended or not as before
+pub ended_same : (rest : List ℕ) (session mid : SessionState) (e : Recording) (s s' : State)
+    → BeginsBy rest (around session e) s (around mid e) s' → has_ended mid ≡ has_ended session
+ended_same rest session mid e s s' (Here empty same same') = ap (λ (a : Around). is_end a.stop) same
+ended_same rest session mid e s s' (There is same same') = ap (λ (a : Around). is_end a.stop) same
 
 pub goes_begun : {A F : Type 0} (r : Result A F) (payload rest : List ℕ) (going : Going) (m n : Moment)
     (mid : SessionState) (s' : State) (begun : Bool) → HasLetter payload going → HasAction payload going rest
-    → HasSignal payload going rest → PlacesKept m.session mid → has_ended mid ≡ has_ended m.session
-    → begun ≡ true → OnTrue begun (BeginsBy rest m.state s')
-    → OnOk r (GoesBy going (has_ended mid) mid.breaks.stops.items mid.breaks.watches.items mid.settings.limit
-    m.environment s' n.environment n.state)
-    → OnOk r (EndsBy going (has_ended mid) n.session.stop) → OnOk r (Goes payload m n)
-goes_begun (Ok x) payload rest going m n mid s' begun has action signal kept same is begins goes ends =
-    goes_kept payload rest going m n mid s' has action signal kept same (OnTrue_at is begins) goes ends
-goes_begun (Err f) payload rest going m n mid s' begun has action signal kept same is begins goes ends = tt
+    → HasSignal payload going rest → PlacesKept m.session mid
+    → begun ≡ true → OnTrue begun (BeginsBy rest (around_in m) m.state (around mid m.environment) s')
+    → OnOk r (GoesBy going (has_ended mid) (asked_by mid) mid.settings.limit
+    (around mid m.environment) s' (around_in n) n.state)
+    → OnOk r (n.reply ≡ m.reply ++ stop_text n.session.stop) → OnOk r (Goes payload m n)
+goes_begun (Ok x) payload rest going m n mid s' begun has action signal kept is begins goes told =
+    let so = OnTrue_at is begins in
+    goes_kept payload rest going m n mid s' has action signal kept so
+    (ended_same rest m.session mid m.environment m.state s' so) goes told
+goes_begun (Err f) payload rest going m n mid s' begun has action signal kept is begins goes told = tt
 
 -- what stands behind the letter is no address
 pub goes_nowhere : {A F : Type 0} (r : Result A F) (payload rest : List ℕ) (going : Going) (m n : Moment)
@@ -450,10 +465,10 @@ pub goes_nowhere : {A F : Type 0} (r : Result A F) (payload rest : List ℕ) (go
 goes_nowhere (Ok x) payload rest going m n action signal some not same same' error = record {
   step = λ _. inl (inl (same', same));
   goes_on = λ _. inl (inl (same', same));
-  steps = λ is. resumes_not _ rest _ _ _ _ _ _ _ _ _ _ (action.0 is).1 some not error;
-  continues = λ is. resumes_not _ rest _ _ _ _ _ _ _ _ _ _ (action.1 is).1 some not error;
-  step_signal = λ is. signals_nowhere _ rest Step going _ _ _ _ _ _ _ _ _ _ _ (signal.0 is) some not error;
-  signal = λ is. signals_nowhere _ rest Proceed going _ _ _ _ _ _ _ _ _ _ _ (signal.1 is) some not error;
+  steps = λ is. resumes_not _ rest _ _ _ _ _ _ _ _ _ (action.0 is).1 some not error;
+  continues = λ is. resumes_not _ rest _ _ _ _ _ _ _ _ _ (action.1 is).1 some not error;
+  step_signal = λ is. signals_nowhere _ rest Step going _ _ _ _ _ _ _ _ _ (signal.0 is) some not error;
+  signal = λ is. signals_nowhere _ rest Proceed going _ _ _ _ _ _ _ _ _ (signal.1 is) some not error;
 }
 goes_nowhere (Err f) payload rest going m n action signal some not same same' error = tt
 
@@ -466,8 +481,8 @@ goes_refused (Ok x) payload m n signal no_step no_continue same same' error = re
   goes_on = λ _. inl (inl (same', same));
   steps = λ is. absurd (no_step is);
   continues = λ is. absurd (no_continue is);
-  step_signal = λ is. signals_not _ _ _ _ _ _ _ _ _ _ _ _ (signal.0 is) error;
-  signal = λ is. signals_not _ _ _ _ _ _ _ _ _ _ _ _ (signal.1 is) error;
+  step_signal = λ is. signals_not _ _ _ _ _ _ _ _ _ _ (signal.0 is) error;
+  signal = λ is. signals_not _ _ _ _ _ _ _ _ _ _ (signal.1 is) error;
 }
 goes_refused (Err f) payload m n signal no_step no_continue same same' error = tt
 
@@ -533,10 +548,11 @@ means_shown_ok (Err f) payload m n is same same' kept shows = tt
 
 pub means_changed_ok : {A F : Type 0} (r : Result A F) (payload : List ℕ) (m n : Moment) → HasSubject payload Changed
     → n.environment ≡ m.environment → OnOk r (Sets payload m.state n.state m.reply n.reply)
+    → OnOk r (ForgetsOrStays m.state n.state m.session n.session)
     → OnOk r (IsError m.reply n.reply → (n.state ≡ m.state) × SessionKept m.session n.session)
     → OnOk r (Means payload m n)
-means_changed_ok (Ok x) payload m n is same sets error = means_changed payload m n is same sets error
-means_changed_ok (Err f) payload m n is same sets error = tt
+means_changed_ok (Ok x) payload m n is same sets forgets error = means_changed payload m n is same sets forgets error
+means_changed_ok (Err f) payload m n is same sets forgets error = tt
 
 pub means_run_ok : {A F : Type 0} (r : Result A F) (payload : List ℕ) (m n : Moment) → HasSubject payload Run
     → OnOk r (Goes payload m n)
@@ -547,11 +563,10 @@ means_run_ok (Ok x) payload m n is goes error = means_run payload m n is goes er
 means_run_ok (Err f) payload m n is goes error = tt
 
 pub means_named_ok : {A F : Type 0} (r : Result A F) (payload : List ℕ) (m n : Moment) → HasSubject payload Named
-    → OnOk r ((limit : ℕ) × GoesOnOrStays m.session.breaks.stops.items m.session.breaks.watches.items limit
-    m.environment m.state n.environment n.state)
+    → OnOk r ((most : Most) × GoesOnOrStays (asked_by m.session) most (around_in m) m.state (around_in n) n.state)
     → ((actions : List ℕ) → payload ≡ 118 ∷ 67 ∷ 111 ∷ 110 ∷ 116 ∷ 59 ∷ actions
-    → OnOk r (Acts actions (has_ended m.session) m.session.breaks.stops.items m.session.breaks.watches.items
-    m.session.settings.limit m.environment m.state n.environment n.state))
+    → OnOk r (Acts actions (has_ended m.session) (asked_by m.session) m.session.settings.limit
+    (around_in m) m.state (around_in n) n.state m.reply n.reply))
     → OnOk r (IsError m.reply n.reply
     → (n.state ≡ m.state) × (n.environment ≡ m.environment) × SessionKept m.session n.session)
     → OnOk r (Means payload m n)

@@ -1,11 +1,13 @@
 -- Steps that are kept one after another, and states that are passed on the way back.
-use Rattle.std.proofs.Common.{◌≡◌, ℕ, ◌+◌, ◌<◌, List, [], ◌∷◌, ◌++◌, All, length, Ok, refl, sym, ap, subst, ◌∙◌, append_assoc, append-nil, inl, inr, arith}
-use Rattle.std.proofs.lemmas.List.{length_push}
+use Rattle.std.proofs.Common.{◌≡◌, ◌⊎◌, ℕ, ◌+◌, ◌<◌, ◌≤◌, take, List, [], ◌∷◌, ◌++◌, All, length, Ok, refl, sym, ap, subst, ◌∙◌, append_assoc, append-nil, inl, inr, arith}
+use Rattle.std.proofs.lemmas.Bool.{cases_lt}
+use Rattle.std.proofs.lemmas.List.{length_push, length-take}
 use Rattle.std.proofs.lemmas.List.Elements.{All-nil, All-push}
 use Rattle.rrs_lib.specs.Machine.{State}
 use Rattle.rrs_lib.specs.Steps.{Step, cleared}
 use Rattle.rrs_history.specs.declared.history.History.{History}
-use Rattle.rrs_history.specs.Histories.{changes, past, Remembers}
+use Rattle.rrs_history.specs.Histories.{changes, room, past, Remembers}
+use Rattle.rrs_history.specs.declared.change.Change.{Change}
 use Rattle.rrs_trace.specs.declared.stops.StopReason.{StopReason}
 use Rattle.rrs_trace.specs.declared.stops.StopReason.TheVariants as Stop
 use Rattle.rrs_trace.specs.Stops.{RunsToStop, PassesNone}
@@ -35,6 +37,8 @@ pub record KeptSoFar (steps : ℕ) (old : History) (s : State) (new : History) (
   pub as_many : length trail ≡ steps
   pub forgotten : List State
   pub leads_back : trail ++ past (changes old) s ≡ past (changes new) t ++ forgotten
+  pub when_full : (forgotten ≡ []) ⊎ (room new ≤ length (changes new))
+  pub room_kept : room new ≡ room old
 
 pub none_kept : (h : History) (s : State) → KeptSoFar 0 h s h s
 none_kept h s = record {
@@ -43,7 +47,20 @@ none_kept h s = record {
   as_many = refl;
   forgotten = [];
   leads_back = sym (append-nil (past (changes h) s));
+  when_full = inl refl;
+  room_kept = refl;
 }
+
+-- one change more, and what is forgotten for it beside what was before
+more_forgotten : (mid new : History) (c : Change) (gone before : List State)
+    → (length (changes mid) < room mid → gone ≡ []) → (before ≡ []) ⊎ (room mid ≤ length (changes mid))
+    → changes new ≡ take (room mid) (c ∷ changes mid) → room new ≡ room mid
+    → (length (changes mid) < room mid) ⊎ (room mid ≤ length (changes mid))
+    → (gone ++ before ≡ []) ⊎ (room new ≤ length (changes new))
+more_forgotten mid new c gone before none (inl nothing) kept same (inl fits) = inl (λ i. none fits i ++ nothing i)
+more_forgotten mid new c gone before none (inr full) kept same (inl fits) = absurd (omega (arith, full, fits))
+more_forgotten mid new c gone before none so_far kept same (inr less) =
+    inr (omega (arith, less, same, ap length kept, length-take (room mid) (c ∷ changes mid)))
 
 pub one_more : (steps : ℕ) (old mid new : History) (s m t : State) → KeptSoFar steps old s mid m → Step m t (Ok tt)
     → Remembers mid m new t → KeptSoFar (steps + 1) old s new t
@@ -55,6 +72,9 @@ one_more steps old mid new s m t before step next = record {
   leads_back = ap (λ (xs : List State). m ∷ xs) before.leads_back
       ∙ ap (λ (xs : List State). xs ++ before.forgotten) next.leads_back
       ∙ append_assoc (past (changes new) t) next.forgotten before.forgotten;
+  when_full = more_forgotten mid new next.latest next.forgotten before.forgotten next.none_with_room before.when_full
+      next.kept next.room_kept (cases_lt (length (changes mid)) (room mid));
+  room_kept = next.room_kept ∙ before.room_kept;
 }
 
 pub kept_whole : (steps : ℕ) (old new : History) (s t : State) → KeptSoFar steps old s new t
@@ -67,6 +87,24 @@ kept_whole steps old new s t so_far = record {
   ends = inl refl;
   forgotten = so_far.forgotten;
   leads_back = so_far.leads_back;
+  when_full = so_far.when_full;
+  room_kept = so_far.room_kept;
+}
+
+pub kept_fault : (steps : ℕ) (old mid new : History) (s m t : State) → KeptSoFar steps old s mid m → t ≡ cleared m
+    → (changes new ≡ changes mid) × (past (changes new) t ≡ past (changes mid) m) → room new ≡ room mid
+    → KeepsSteps steps old s new t
+kept_fault steps old mid new s m t so_far fault same same_room = record {
+  end = m;
+  trail = so_far.trail;
+  is_trail = so_far.is_trail;
+  as_many = so_far.as_many;
+  ends = inr fault;
+  forgotten = so_far.forgotten;
+  leads_back = so_far.leads_back ∙ ap (λ (xs : List State). xs ++ so_far.forgotten) (sym same.1);
+  when_full = subst (λ (n : ℕ). (so_far.forgotten ≡ []) ⊎ (n ≤ length (changes new))) (sym same_room)
+      (subst (λ (cs : List Change). (so_far.forgotten ≡ []) ⊎ (room mid ≤ length cs)) (sym same.0) so_far.when_full);
+  room_kept = same_room ∙ so_far.room_kept;
 }
 
 -- ---- back

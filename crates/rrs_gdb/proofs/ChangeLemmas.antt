@@ -7,7 +7,7 @@ use Rattle.rrs_lib.specs.Bytes.{ByteMap}
 use Rattle.rrs_lib.specs.declared.HartState.{HartState}
 use Rattle.rrs_lib.specs.Loading.{Loaded}
 use Rattle.rrs_lib.specs.Machine.{State, state_of}
-use Rattle.rrs_gdb.specs.Packets.{number, before, behind, address_in, length_in}
+use Rattle.rrs_gdb.specs.Packets.{IsPlace, number, before, behind, address_in, length_in}
 use Rattle.rrs_gdb.specs.Shown.{with_register, word_at}
 use Rattle.rrs_gdb.specs.Sessions.{letter, MemoryKept, IsError, IsChangeable, HasRegisters, SetsRegister, SetsRegisters, SetsBytes, Changed, Refused, SetsMemory}
 use Rattle.rrs_gdb.specs.Answers.{Sets, IsDone}
@@ -90,23 +90,37 @@ nothing_decoded text (v ∷ vs) none is some =
 -- the bytes are changed as they are
 pub sets_memory : (text bytes values : List ℕ) (address count : ℕ) (s t : State) (told : List ℕ)
     → address ≡ address_in (before 58 text) → count ≡ length_in (before 58 text) → bytes ≡ values
+    → IsPlace (before 58 text)
     → (length bytes ≡ count → 1 ≤ length bytes → SetsBytes address bytes s t [] told)
-    → SetsMemory values text s t [] told
-sets_memory text bytes values address count s t told at many equal sets = record {
+    → (bytes ≡ [] → t ≡ s) → (length bytes ≢ count → IsError [] told) → SetsMemory values text s t [] told
+sets_memory text bytes values address count s t told at many equal place sets none refused = record {
   set = λ place long one.
       subst (λ (xs : List ℕ). SetsBytes (address_in (before 58 text)) xs s t [] told) equal
       (subst (λ (a : ℕ). SetsBytes a bytes s t [] told) at
       (sets (ap length equal ∙ long ∙ sym many) (subst (λ (xs : List ℕ). 1 ≤ length xs) (sym equal) one)));
+  none = λ is. none (equal ∙ is);
+  refused = λ not. refused (λ same. not (place, ap length (sym equal) ∙ same ∙ many));
+}
+
+-- no place stands there, or no bytes
+pub sets_nothing : (text values : List ℕ) (s : State) (told : List ℕ)
+    → (IsPlace (before 58 text) → 1 ≤ length values → ⊥) → IsError [] told → SetsMemory values text s s [] told
+sets_nothing text values s told none error = record {
+  set = λ place long one. absurd (none place one);
+  none = λ _. refl;
+  refused = λ _. error;
 }
 
 -- those that digits are
 pub sets_by_digits : (text digits bytes values : List ℕ) (address count : ℕ) (s t : State) (told : List ℕ)
     → address ≡ address_in (before 58 text) → count ≡ length_in (before 58 text) → digits ≡ behind 58 text
+    → IsPlace (before 58 text)
     → decode_of digits ≡ Ok bytes → (length bytes ≡ count → 1 ≤ length bytes → SetsBytes address bytes s t [] told)
+    → (bytes ≡ [] → t ≡ s) → (length bytes ≢ count → IsError [] told)
     → decode_of (behind 58 text) ≡ Ok values → SetsMemory values text s t [] told
-sets_by_digits text digits bytes values address count s t told at many same decoded sets is =
+sets_by_digits text digits bytes values address count s t told at many same place decoded sets none refused is =
     let both : Ok bytes ≡ Ok values = sym decoded ∙ ap decode_of same ∙ is in
-    sets_memory text bytes values address count s t told at many (cc) sets
+    sets_memory text bytes values address count s t told at many (cc) place sets none refused
 
 -- ---- by the letter
 
@@ -114,12 +128,18 @@ pub if_ok : {A F : Type 0} (r : Result A F) (P Q : A → Type 0) → ((x : A) �
 if_ok (Ok x) P Q step holds = step x holds
 if_ok (Err f) P Q step holds = tt
 
+pub both_ok : {A F : Type 0} (r : Result A F) (P P' Q : A → Type 0) → ((x : A) → P x → P' x → Q x) → IfOk r P → IfOk r P'
+    → IfOk r Q
+both_ok (Ok x) P P' Q step holds holds' = step x holds holds'
+both_ok (Err f) P P' Q step holds holds' = tt
+
 pub sets_G : (payload text : List ℕ) (s t : State) (old new : List ℕ) → letter payload ≡ 71 → text ≡ drop 1 payload
     → SetsRegisters text s t old new → Sets payload s t old new
 sets_G payload text s t old new is same sets = record {
   registers = λ _. subst (λ (xs : List ℕ). SetsRegisters xs s t old new) same sets;
   register = λ is'. absurd (omega (arith, is, is'));
   memory = λ is'. absurd (omega (arith, is, is'));
+  no_values = λ is'. absurd (omega (arith, is, is'));
   bytes = λ is'. absurd (omega (arith, is, is'));
 }
 
@@ -129,17 +149,19 @@ sets_P payload text s t old new is same sets = record {
   registers = λ is'. absurd (omega (arith, is, is'));
   register = λ _. subst (λ (xs : List ℕ). SetsRegister xs s t old new) same sets;
   memory = λ is'. absurd (omega (arith, is, is'));
+  no_values = λ is'. absurd (omega (arith, is, is'));
   bytes = λ is'. absurd (omega (arith, is, is'));
 }
 
 pub sets_M : (payload text : List ℕ) (s t : State) (old new : List ℕ) → letter payload ≡ 77 → text ≡ drop 1 payload
     → ((values : List ℕ) → decode_of (behind 58 text) ≡ Ok values → SetsMemory values text s t old new)
-    → Sets payload s t old new
-sets_M payload text s t old new is same sets = record {
+    → (¬ IsOk (decode_of (behind 58 text)) → IsError old new) → Sets payload s t old new
+sets_M payload text s t old new is same sets none = record {
   registers = λ is'. absurd (omega (arith, is, is'));
   register = λ is'. absurd (omega (arith, is, is'));
   memory = λ _. subst (λ (xs : List ℕ). (values : List ℕ) → decode_of (behind 58 xs) ≡ Ok values
       → SetsMemory values xs s t old new) same sets;
+  no_values = λ _. subst (λ (xs : List ℕ). ¬ IsOk (decode_of (behind 58 xs)) → IsError old new) same none;
   bytes = λ is'. absurd (omega (arith, is, is'));
 }
 
@@ -149,6 +171,7 @@ sets_X payload text s t old new is same sets = record {
   registers = λ is'. absurd (omega (arith, is, is'));
   register = λ is'. absurd (omega (arith, is, is'));
   memory = λ is'. absurd (omega (arith, is, is'));
+  no_values = λ is'. absurd (omega (arith, is, is'));
   bytes = λ _. subst (λ (xs : List ℕ). SetsMemory (behind 58 xs) xs s t old new) same sets;
 }
 
@@ -163,6 +186,8 @@ memory_behind : (values at : List ℕ) (s t : State) (old new text : List ℕ) �
     → SetsMemory values at s t [] text → SetsMemory values at s t old new
 memory_behind values at s t old new text told sets = record {
   set = λ place long one. bytes_behind _ values s t old new text told (sets.set place long one);
+  none = sets.none;
+  refused = λ not. error_behind old new text told (sets.refused not);
 }
 
 registers_behind : (digits : List ℕ) (s t : State) (old new text : List ℕ) → new ≡ old ++ text
@@ -185,5 +210,6 @@ sets_behind payload s t old new text told sets = record {
   registers = λ is. registers_behind _ s t old new text told (sets.registers is);
   register = λ is. register_behind _ s t old new text told (sets.register is);
   memory = λ is values decoded. memory_behind values _ s t old new text told (sets.memory is values decoded);
+  no_values = λ is none. error_behind old new text told (sets.no_values is none);
   bytes = λ is. memory_behind _ _ s t old new text told (sets.bytes is);
 }

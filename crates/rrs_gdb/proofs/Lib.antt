@@ -6,3 +6,4 @@ pub mod SessionLemmas
 pub mod FieldLemmas
 pub mod AnswerLemmas
 pub mod ChangeLemmas
+pub mod EntryLemmas

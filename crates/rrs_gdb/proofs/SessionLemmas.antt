@@ -4,25 +4,30 @@ use Rattle.std.specs.Bool.{OnTrue, OnFalse}
 use Rattle.std.proofs.lemmas.Bool.{OnTrue_from}
 use Rattle.std.proofs.lemmas.List.{append_cancel_left, length-drop}
 use Rattle.rrs_lib.specs.declared.instruction_executor.InstructionException.{InstructionException}
-use Rattle.rrs_lib.specs.declared.instruction_executor.InstructionException.TheVariants.{EnvironmentCall}
+use Rattle.rrs_lib.specs.declared.instruction_executor.InstructionException.TheVariants.{IllegalInstruction, Breakpoint, AlignmentFault, FetchError, LoadAccessFault, StoreAccessFault, EnvironmentCall}
 use Rattle.rrs_lib.specs.Accesses.{Access}
 use Rattle.rrs_lib.specs.Machine.{State, with_pc}
 use Rattle.rrs_linux.specs.Recording.{Recording, Records}
-use Rattle.rrs_history.specs.Calls.{IsServedStep}
+use Rattle.rrs_history.specs.declared.history.History.{History}
+use Rattle.rrs_history.specs.Histories.{room}
+use Rattle.rrs_history.specs.Calls.{IsServedStep, RemembersCall}
 use Rattle.rrs_gdb.specs.declared.breaks.Watch.{Watch}
 use Rattle.rrs_gdb.specs.declared.forward.ForwardReason.{ForwardReason}
-use Rattle.rrs_gdb.specs.declared.forward.ForwardReason.TheVariants.{Limit, Fault}
+use Rattle.rrs_gdb.specs.declared.forward.ForwardReason.TheVariants.{AtStop, Touches, Limit, Fault}
 use Rattle.rrs_gdb.specs.declared.session.Going.{Going}
 use Rattle.rrs_gdb.specs.declared.session.Going.TheVariants.{Step, Proceed, Killed}
-use Rattle.rrs_gdb.specs.Sessions.{letter, IsError, OutputTaken, CallMade, CallStops, Behind, GoesOn, Runs, GoesBy, GoesOnOrStays, GoesOnFrom, GoesOnUnless, HasAction, HasLetter, Resumes, Acts, first_action}
+use Rattle.rrs_gdb.specs.Shown.{stop_text}
+use Rattle.rrs_gdb.specs.Sessions.{letter, IsError, PlacesKept, Asked, asked_by, Around, forgotten, stopped_at, is_call, ends_at_call, call_number, OutputTaken, PassesBefore, StopsBehind, CallServed, CallMade, CallStops, Behind, Most, one_step, up_to, still, Ran, GoesOn, Runs, GoesBy, GoesOnOrStays, GoesOnFrom, GoesOnUnless, KilledUnless, HasAction, HasLetter, Resumes, Acts, first_action}
 use Rattle.std.proofs.lemmas.List.Elements.{All-nil}
 use Rattle.rrs_gdb.specs.declared.back.BackEnd.{BackEnd}
 use Rattle.rrs_gdb.specs.declared.back.BackEnd.TheVariants as Back
-use Rattle.rrs_gdb.specs.Breaks.{GoesForward, GoesBack, IsPassed}
+use Rattle.rrs_gdb.specs.Breaks.{GoesForward, GoesBack, IsPassed, KeepsSteps}
+use Rattle.rrs_gdb.specs.declared.state.SessionState.{SessionState}
 use Rattle.rrs_gdb.specs.declared.state.Stop.{Stop}
-use Rattle.rrs_gdb.specs.Sessions.{GoesOnBack, RunsBack, Signals, BySignal, EndsBy, HasNoSignal, IsSignal, signalled}
+use Rattle.rrs_gdb.specs.declared.state.Stop.TheVariants.{Signal}
+use Rattle.rrs_gdb.specs.Sessions.{GoesOnBack, RunsBack, Signals, BySignal, HasNoSignal, IsSignal, signalled}
 use Rattle.rrs_gdb.specs.Packets.{IsNumber, number, before, behind}
-use Rattle.rrs_gdb.proofs.BreakLemmas.{none_stepped}
+use Rattle.rrs_gdb.proofs.BreakLemmas.{none_stepped, none_kept, kept_whole}
 use Rattle.rrs_gdb.proofs.WatchLemmas.{none_made}
 
 -- ---- errors
@@ -33,10 +38,14 @@ no_error old new rest c other is (rest', is') =
     let same : c ∷ rest ≡ 69 ∷ rest' = append_cancel_left old _ _ (sym is ∙ is') in
     other (cc)
 
-pub lettered : {A E : Type 0} (r : Result A E) (old new : List ℕ) (c : ℕ) → c ≢ 69
-    → OnOk r ((rest : List ℕ) × (new ≡ old ++ c ∷ rest)) → OnOk r (IsError old new → ⊥)
-lettered (Ok x) old new c other found = no_error old new found.0 c other found.1
-lettered (Err e) old new c other found = tt
+-- one of two that do not hold
+not_either : {A B C : Type 0} → A ⊎ B → (A → ⊥) → (B → ⊥) → C
+not_either (inl x) none none' = absurd (none x)
+not_either (inr y) none none' = absurd (none' y)
+
+pub no_other : (b : Bool) (P : Type 0) → b ≡ false → (P → ⊥) → (b ≡ true) ⊎ P → ⊥
+no_other b P fails none (inl holds) = absurd (cc)
+no_other b P fails none (inr is) = none is
 
 pub texted : {A E : Type 0} (r : Result A E) (old new : List ℕ) (c : ℕ) (rest : List ℕ) → c ≢ 69
     → OnOk r (new ≡ old ++ c ∷ rest) → OnOk r (IsError old new → ⊥)
@@ -63,11 +72,47 @@ error_letter old new text is (rest, is') =
 
 -- ---- a program that goes on
 
+pub asked_kept : (old new : SessionState) → PlacesKept old new → asked_by new ≡ asked_by old
+asked_kept old new kept = λ i. record {
+  stops = kept.stops_kept i;
+  watches = kept.watches_kept i;
+  all_calls = (kept.caught_kept i).are_all;
+  calls = (kept.caught_kept i).numbers.items;
+  stops_at_exit = (kept.settings_kept i).stops_at_exit;
+}
+
+pub still_none : (steps : ℕ) (told : Bool) → steps ≡ 0 → still steps told ≡ told
+still_none zero told none = refl
+still_none (suc n) told none = absurd (omega (arith, none))
+
+pub still_some : (steps : ℕ) (told : Bool) → steps ≢ 0 → still steps told ≡ false
+still_some zero told some = absurd (some refl)
+still_some (suc n) told some = refl
+
+-- the steps of a run are counted, and where the program stops is set
+pub ran : (steps : ℕ) (a : Around) (s : State) (mid b : Around) (t : State) (at : Stop)
+    → mid.environment ≡ a.environment → mid.entered ≡ a.entered → mid.told_exit ≡ a.told_exit
+    → (1 ≤ room a.history → KeepsSteps steps a.history s mid.history t)
+    → b ≡ record mid { entered = still steps mid.entered; told_exit = still steps mid.told_exit }
+    → Ran steps a s (stopped_at b at) t
+ran steps a s mid b t at same entered told kept is = record {
+  environment_kept = ap (λ (x : Around). x.environment) is ∙ same;
+  kept = λ some. subst (λ (h : History). KeepsSteps steps a.history s h t) (sym (ap (λ (x : Around). x.history) is)) (kept some);
+  entered_kept = ap (λ (x : Around). x.entered) is ∙ ap (still steps) entered;
+  told_kept = ap (λ (x : Around). x.told_exit) is ∙ ap (still steps) told;
+}
+
 -- nothing is left of a limit
-pub at_limit : (stops : List ℕ) (watches : List Watch) (limit : ℕ) (e : Recording) (s : State) → limit ≡ 0
-    → GoesOn stops watches e s limit e s
-at_limit stops watches limit e s none =
-    Runs limit e s 0 Limit (((sym none, refl), none_stepped stops s), none_made watches s) refl
+pub at_limit : (asked : Asked) (at : Stop) (limit : ℕ) (a : Around) (s : State) → limit ≡ 0
+    → GoesOn asked at (stopped_at a at) s limit a s
+at_limit asked at limit a s none =
+    Runs limit a s 0 Limit (((sym none, refl), none_stepped asked.stops s), none_made asked.watches s) refl
+    (record {
+      environment_kept = refl;
+      kept = λ some. kept_whole 0 a.history a.history s s (none_kept a.history s);
+      entered_kept = refl;
+      told_kept = refl;
+    }) refl
 
 -- the same breakpoints and watchpoints
 pub same_places : (stops stops' : List ℕ) (watches watches' : List Watch) (limit : ℕ) (s : State) (steps : ℕ)
@@ -77,147 +122,212 @@ same_places stops stops' watches watches' limit s steps reason t same same' run 
     subst (λ (ws : List Watch). GoesForward stops ws limit s steps reason t) same'
     (subst (λ (xs : List ℕ). GoesForward xs watches' limit s steps reason t) same run)
 
+call_is : (fault : InstructionException) → is_call fault ≡ true → (pc : ℕ) × (Fault fault ≡ Fault (EnvironmentCall pc))
+call_is (EnvironmentCall pc) is = (pc, refl)
+call_is (IllegalInstruction pc word) is = absurd (cc)
+call_is (Breakpoint pc) is = absurd (cc)
+call_is (AlignmentFault x) is = absurd (cc)
+call_is (FetchError x) is = absurd (cc)
+call_is (LoadAccessFault x) is = absurd (cc)
+call_is (StoreAccessFault x) is = absurd (cc)
+
+pub call_at : (reason : ForwardReason) → ends_at_call reason ≡ true
+    → (pc : ℕ) × (reason ≡ Fault (EnvironmentCall pc))
+call_at AtStop is = absurd (cc)
+call_at (Touches watch) is = absurd (cc)
+call_at Limit is = absurd (cc)
+call_at (Fault fault) is = call_is fault is
+
 -- a run to a call
 pub to_call : (stops stops' : List ℕ) (watches watches' : List Watch) (limit : ℕ) (s : State) (steps : ℕ)
-    (reason : ForwardReason) (fault : InstructionException) (pc : ℕ) (t : State) → stops' ≡ stops → watches' ≡ watches
-    → reason ≡ Fault fault → fault ≡ EnvironmentCall pc → GoesForward stops' watches' limit s steps reason t
+    (reason : ForwardReason) (pc : ℕ) (t : State) → stops' ≡ stops → watches' ≡ watches
+    → reason ≡ Fault (EnvironmentCall pc) → GoesForward stops' watches' limit s steps reason t
     → GoesForward stops watches limit s steps (Fault (EnvironmentCall pc)) t
-to_call stops stops' watches watches' limit s steps reason fault pc t same same' is is' run =
-    subst (λ (r : ForwardReason). GoesForward stops watches limit s steps r t) (is ∙ ap Fault is')
+to_call stops stops' watches watches' limit s steps reason pc t same same' is run =
+    subst (λ (r : ForwardReason). GoesForward stops watches limit s steps r t) is
     (same_places stops stops' watches watches' limit s steps reason t same same' run)
 
--- a call that is made, and a stop behind it or none
-pub call_made : {A : Type 0} (stops stops' : List ℕ) (e after e' : Recording) (m t : State) (accesses : List Access)
-    (end : Option ℕ) (answer : Option A) (is_call : Bool) → end ≡ None → IsServedStep Records is_call e m (Ok end) after t accesses
-    → OutputTaken after e' → stops' ≡ stops → IfNone answer (Contains stops' t.pc → ⊥)
-    → MatchOption answer (CallMade stops e m e' t) (λ (stop : A). CallStops e m e' t)
-call_made stops stops' e after e' m t accesses end None is_call goes_on served taken same none = record {
+-- a call is served
+pub call_served : (a b : Around) (m t : State) (end : Option ℕ) (is_call : Bool) (accesses : List Access)
+    (after : Recording) (history : History) → IsServedStep Records is_call a.environment m (Ok end) after t accesses
+    → RemembersCall is_call a.history m history t (length accesses) → OutputTaken after b.environment
+    → b.history ≡ history → CallServed a m end b t
+call_served a b m t end is_call accesses after history served remembers taken same = record {
   after = after;
   is_call = is_call;
   accesses = accesses;
-  served = subst (λ (o : Option ℕ). IsServedStep Records is_call e m (Ok o) after t accesses) goes_on served;
+  served = served;
   output_taken = taken;
-  no_stop = λ at. none (subst (λ (xs : List ℕ). Contains xs t.pc) (sym same) at);
+  remembered = subst (λ (h : History). RemembersCall is_call a.history m h t (length accesses)) (sym same) remembers;
 }
-call_made stops stops' e after e' m t accesses end (Some stop) is_call goes_on served taken same none =
-    Behind is_call _ after accesses served (inr taken)
 
--- the pc may be another one
-abbrev pub BeginsAt : State → State → Type 0
-BeginsAt s s' = (s' ≡ s) ⊎ ((pc : ℕ) × (s' ≡ with_pc s pc))
+-- the same breakpoints, and what was told before the call
+pub behind_call : (answer : Option Stop) (entered entered' : Bool) (stops stops' : List ℕ) (number pc : ℕ)
+    → entered' ≡ entered → stops' ≡ stops
+    → MatchOption answer ((entered' ≡ false) × ¬ Contains stops' pc)
+    (λ (at : Stop). StopsBehind entered' stops' number pc at)
+    → MatchOption answer ((entered ≡ false) × ¬ Contains stops pc)
+    (λ (at : Stop). StopsBehind entered stops number pc at)
+behind_call answer entered entered' stops stops' number pc same same' holds =
+    subst (λ (x : Bool). MatchOption answer ((x ≡ false) × ¬ Contains stops pc)
+    (λ (at : Stop). StopsBehind x stops number pc at)) same
+    (subst (λ (xs : List ℕ). MatchOption answer ((entered' ≡ false) × ¬ Contains xs pc)
+    (λ (at : Stop). StopsBehind entered' xs number pc at)) same' holds)
 
-from_there : (stops : List ℕ) (watches : List Watch) (limit : ℕ) (e e' : Recording) (s s' t : State) → BeginsAt s s'
-    → GoesOnOrStays stops watches limit e s' e' t → GoesOnFrom stops watches limit e s e' t
-from_there stops watches limit e e' s s' t (inl same) goes =
-    inl (subst (λ (x : State). GoesOnOrStays stops watches limit e x e' t) same goes)
-from_there stops watches limit e e' s s' t (inr (pc, same)) goes =
-    inr (pc, subst (λ (x : State). GoesOnOrStays stops watches limit e x e' t) same goes)
+-- a stop behind a call, or none
+pub call_made : (asked : Asked) (a b : Around) (m t : State) (end : Option ℕ) (number : ℕ) (answer : Option Stop) → end ≡ None
+    → PassesBefore asked a (call_number m) → ((at : Stop) → CallServed a m end (stopped_at b at) t)
+    → CallServed a m end b t → number ≡ call_number m
+    → MatchOption answer ((a.entered ≡ false) × ¬ Contains asked.stops t.pc)
+    (λ (at : Stop). StopsBehind a.entered asked.stops number t.pc at)
+    → b.entered ≡ false → b.told_exit ≡ a.told_exit
+    → MatchOption answer (CallMade asked a m b t) (λ (at : Stop). CallStops asked a m (stopped_at b at) t)
+call_made asked a b m t end number None none passes served served' same behind entered told = record {
+  passes = passes;
+  served = subst (λ (o : Option ℕ). CallServed a m o b t) none served';
+  not_entered = behind.0;
+  no_stop = behind.1;
+  entered_kept = entered;
+  told_kept = told;
+}
+call_made asked a b m t end number (Some at) none passes served served' same behind entered told =
+    Behind passes (subst (λ (o : Option ℕ). CallServed a m o (stopped_at b at) t) none (served at))
+    (subst (λ (n : ℕ). StopsBehind a.entered asked.stops n t.pc at) same behind)
+
+-- the pc may be another one, and then the history is forgotten
+abbrev pub BeginsAt : Around → State → Around → State → Type 0
+BeginsAt a s a' s' = ((a' ≡ a) × (s' ≡ s)) ⊎ ((pc : ℕ) × (a' ≡ forgotten a) × (s' ≡ with_pc s pc))
+
+goes_at_same : (asked : Asked) (most : Most) (a a' b : Around) (s s' t : State) → a' ≡ a → s' ≡ s
+    → GoesOnOrStays asked most a' s' b t → GoesOnOrStays asked most a s b t
+goes_at_same asked most a a' b s s' t same same' goes =
+    subst (λ (x : Around). GoesOnOrStays asked most x s b t) same
+    (subst (λ (x : State). GoesOnOrStays asked most a' x b t) same' goes)
+
+from_there : (asked : Asked) (most : Most) (a a' b : Around) (s s' t : State) → BeginsAt a s a' s'
+    → GoesOnOrStays asked most a' s' b t → GoesOnFrom asked most a s b t
+from_there asked most a a' b s s' t (inl (same, same')) goes =
+    inl (goes_at_same asked most a a' b s s' t same same' goes)
+from_there asked most a a' b s s' t (inr (pc, same, same')) goes =
+    inr (pc, goes_at_same asked most (forgotten a) a' b (with_pc s pc) s' t same same' goes)
 
 -- a program that has ended stays
-unless : (ended : Bool) (stops : List ℕ) (watches : List Watch) (limit : ℕ) (e e' : Recording) (s t : State)
-    → GoesOnUnless ended stops watches limit e s e' t → GoesOnOrStays stops watches limit e s e' t
-unless true stops watches limit e e' s t goes = inl goes
-unless false stops watches limit e e' s t goes = inr goes
+unless : (ended : Bool) (asked : Asked) (most : Most) (a b : Around) (s t : State)
+    → GoesOnUnless ended asked most a s b t → GoesOnOrStays asked most a s b t
+unless true asked most a b s t goes = inl (ap (λ (x : Around). x.environment) goes.0, goes.1)
+unless false asked most a b s t goes = inr goes
+
+killed_stays : (ended : Bool) (signal : ℕ) (a b : Around) (s t : State) → KilledUnless ended signal a s b t
+    → (b.environment ≡ a.environment) × (t ≡ s)
+killed_stays true signal a b s t killed = (ap (λ (x : Around). x.environment) killed.0, killed.1)
+killed_stays false signal a b s t killed = (ap (λ (x : Around). x.environment) killed.0, killed.1)
 
 -- `s` and `S` are one step or call
-one_step : (action : List ℕ) (going : Going) (ended : Bool) (stops : List ℕ) (watches : List Watch) (limit : ℕ)
-    (e e' : Recording) (s t : State) → (letter action ≡ 115) ⊎ (letter action ≡ 83) → HasLetter action going
-    → GoesBy going ended stops watches limit e s e' t → GoesOnOrStays stops watches 1 e s e' t
-one_step action Step ended stops watches limit e e' s t is has goes = unless ended stops watches 1 e e' s t goes
-one_step action Proceed ended stops watches limit e e' s t (inl is) (inl has) goes = absurd (omega (arith, is, has))
-one_step action Proceed ended stops watches limit e e' s t (inl is) (inr has) goes = absurd (omega (arith, is, has))
-one_step action Proceed ended stops watches limit e e' s t (inr is) (inl has) goes = absurd (omega (arith, is, has))
-one_step action Proceed ended stops watches limit e e' s t (inr is) (inr has) goes = absurd (omega (arith, is, has))
-one_step action (Killed signal) ended stops watches limit e e' s t is has goes = inl goes
+only_step : (action : List ℕ) (going : Going) (ended : Bool) (asked : Asked) (limit : ℕ)
+    (a b : Around) (s t : State) → (letter action ≡ 115) ⊎ (letter action ≡ 83) → HasLetter action going
+    → GoesBy going ended asked limit a s b t → GoesOnOrStays asked one_step a s b t
+only_step action Step ended asked limit a b s t is has goes = unless ended asked one_step a b s t goes
+only_step action Proceed ended asked limit a b s t (inl is) (inl has) goes = absurd (omega (arith, is, has))
+only_step action Proceed ended asked limit a b s t (inl is) (inr has) goes = absurd (omega (arith, is, has))
+only_step action Proceed ended asked limit a b s t (inr is) (inl has) goes = absurd (omega (arith, is, has))
+only_step action Proceed ended asked limit a b s t (inr is) (inr has) goes = absurd (omega (arith, is, has))
+only_step action (Killed signal) ended asked limit a b s t is has goes = inl (killed_stays ended signal a b s t goes)
 
 -- `c` and `C` are as many as the limit
-up_to_limit : (action : List ℕ) (going : Going) (ended : Bool) (stops : List ℕ) (watches : List Watch) (limit : ℕ)
-    (e e' : Recording) (s t : State) → (letter action ≡ 99) ⊎ (letter action ≡ 67) → HasLetter action going
-    → GoesBy going ended stops watches limit e s e' t → GoesOnOrStays stops watches limit e s e' t
-up_to_limit action Step ended stops watches limit e e' s t (inl is) (inl has) goes = absurd (omega (arith, is, has))
-up_to_limit action Step ended stops watches limit e e' s t (inl is) (inr has) goes = absurd (omega (arith, is, has))
-up_to_limit action Step ended stops watches limit e e' s t (inr is) (inl has) goes = absurd (omega (arith, is, has))
-up_to_limit action Step ended stops watches limit e e' s t (inr is) (inr has) goes = absurd (omega (arith, is, has))
-up_to_limit action Proceed ended stops watches limit e e' s t is has goes =
-    unless ended stops watches limit e e' s t goes
-up_to_limit action (Killed signal) ended stops watches limit e e' s t is has goes = inl goes
+up_to_limit : (action : List ℕ) (going : Going) (ended : Bool) (asked : Asked) (limit : ℕ)
+    (a b : Around) (s t : State) → (letter action ≡ 99) ⊎ (letter action ≡ 67) → HasLetter action going
+    → GoesBy going ended asked limit a s b t → GoesOnOrStays asked (up_to limit) a s b t
+up_to_limit action Step ended asked limit a b s t (inl is) (inl has) goes = absurd (omega (arith, is, has))
+up_to_limit action Step ended asked limit a b s t (inl is) (inr has) goes = absurd (omega (arith, is, has))
+up_to_limit action Step ended asked limit a b s t (inr is) (inl has) goes = absurd (omega (arith, is, has))
+up_to_limit action Step ended asked limit a b s t (inr is) (inr has) goes = absurd (omega (arith, is, has))
+up_to_limit action Proceed ended asked limit a b s t is has goes = unless ended asked (up_to limit) a b s t goes
+up_to_limit action (Killed signal) ended asked limit a b s t is has goes =
+    inl (killed_stays ended signal a b s t goes)
 
-pub goes_same : (going : Going) (ended ended' : Bool) (stops stops' : List ℕ)
-    (watches watches' : List Watch) (limit limit' : ℕ) (e e' : Recording) (s t : State) → ended' ≡ ended
-    → stops' ≡ stops → watches' ≡ watches → limit' ≡ limit
-    → GoesBy going ended' stops' watches' limit' e s e' t → GoesBy going ended stops watches limit e s e' t
-goes_same going ended ended' stops stops' watches watches' limit limit' e e' s t same_end same same' same'' goes =
-    subst (λ (n : ℕ). GoesBy going ended stops watches n e s e' t) same''
-    (subst (λ (ws : List Watch). GoesBy going ended stops ws limit' e s e' t) same'
-    (subst (λ (xs : List ℕ). GoesBy going ended xs watches' limit' e s e' t) same
-    (subst (λ (b : Bool). GoesBy going b stops' watches' limit' e s e' t) same_end goes)))
+pub goes_same : (going : Going) (ended ended' : Bool) (asked asked' : Asked) (limit limit' : ℕ)
+    (a b : Around) (s t : State) → ended' ≡ ended → asked' ≡ asked → limit' ≡ limit
+    → GoesBy going ended' asked' limit' a s b t → GoesBy going ended asked limit a s b t
+goes_same going ended ended' asked asked' limit limit' a b s t same_end same same' goes =
+    subst (λ (n : ℕ). GoesBy going ended asked n a s b t) same'
+    (subst (λ (x : Asked). GoesBy going ended x limit' a s b t) same
+    (subst (λ (e : Bool). GoesBy going e asked' limit' a s b t) same_end goes))
 
-pub step_from : (action : List ℕ) (going : Going) (ended : Bool) (stops : List ℕ)
-    (watches : List Watch) (limit : ℕ) (e e' : Recording) (s s' t : State)
-    → (letter action ≡ 115) ⊎ (letter action ≡ 83) → HasLetter action going → BeginsAt s s'
-    → GoesBy going ended stops watches limit e s' e' t → GoesOnFrom stops watches 1 e s e' t
-step_from action going ended stops watches limit e e' s s' t is has begins goes =
-    from_there stops watches 1 e e' s s' t begins
-    (one_step action going ended stops watches limit e e' s' t is has goes)
+pub step_from : (action : List ℕ) (going : Going) (ended : Bool) (asked : Asked) (limit : ℕ)
+    (a a' b : Around) (s s' t : State)
+    → (letter action ≡ 115) ⊎ (letter action ≡ 83) → HasLetter action going → BeginsAt a s a' s'
+    → GoesBy going ended asked limit a' s' b t → GoesOnFrom asked one_step a s b t
+step_from action going ended asked limit a a' b s s' t is has begins goes =
+    from_there asked one_step a a' b s s' t begins
+    (only_step action going ended asked limit a' b s' t is has goes)
 
-pub go_from : (action : List ℕ) (going : Going) (ended : Bool) (stops : List ℕ)
-    (watches : List Watch) (limit : ℕ) (e e' : Recording) (s s' t : State)
-    → (letter action ≡ 99) ⊎ (letter action ≡ 67) → HasLetter action going → BeginsAt s s'
-    → GoesBy going ended stops watches limit e s' e' t → GoesOnFrom stops watches limit e s e' t
-go_from action going ended stops watches limit e e' s s' t is has begins goes =
-    from_there stops watches limit e e' s s' t begins
-    (up_to_limit action going ended stops watches limit e e' s' t is has goes)
+pub go_from : (action : List ℕ) (going : Going) (ended : Bool) (asked : Asked) (limit : ℕ)
+    (a a' b : Around) (s s' t : State)
+    → (letter action ≡ 99) ⊎ (letter action ≡ 67) → HasLetter action going → BeginsAt a s a' s'
+    → GoesBy going ended asked limit a' s' b t → GoesOnFrom asked (up_to limit) a s b t
+go_from action going ended asked limit a a' b s s' t is has begins goes =
+    from_there asked (up_to limit) a a' b s s' t begins
+    (up_to_limit action going ended asked limit a' b s' t is has goes)
 
 -- within some limit
-pub some_limit : {A F : Type 0} (r : Result A F) (going : Going) (ended : Bool) (stops : List ℕ) (watches : List Watch)
-    (limit : ℕ) (e e' : Recording) (s t : State) → OnOk r (GoesBy going ended stops watches limit e s e' t)
-    → OnOk r ((n : ℕ) × GoesOnOrStays stops watches n e s e' t)
-some_limit (Ok x) Step ended stops watches limit e e' s t goes = (1, unless ended stops watches 1 e e' s t goes)
-some_limit (Ok x) Proceed ended stops watches limit e e' s t goes = (limit, unless ended stops watches limit e e' s t goes)
-some_limit (Ok x) (Killed signal) ended stops watches limit e e' s t goes = (0, inl goes)
-some_limit (Err f) going ended stops watches limit e e' s t goes = tt
+pub some_limit : {A F : Type 0} (r : Result A F) (going : Going) (ended : Bool) (asked : Asked)
+    (limit : ℕ) (a b : Around) (s t : State) → OnOk r (GoesBy going ended asked limit a s b t)
+    → OnOk r ((most : Most) × GoesOnOrStays asked most a s b t)
+some_limit (Ok x) Step ended asked limit a b s t goes = (one_step, unless ended asked one_step a b s t goes)
+some_limit (Ok x) Proceed ended asked limit a b s t goes = (up_to limit, unless ended asked (up_to limit) a b s t goes)
+some_limit (Ok x) (Killed signal) ended asked limit a b s t goes =
+    (one_step, inl (killed_stays ended signal a b s t goes))
+some_limit (Err f) going ended asked limit a b s t goes = tt
 
 -- behind the letter stands nothing
-pub resumes_here : (rest rest' : List ℕ) (ended : Bool) (stops : List ℕ)
-    (watches : List Watch) (limit : ℕ) (e e' : Recording) (s s' t : State) (old new : List ℕ) → rest' ≡ rest
-    → length rest' ≡ 0 → s' ≡ s → GoesOnUnless ended stops watches limit e s' e' t
-    → Resumes rest ended stops watches limit e s e' t old new
-resumes_here rest [] ended stops watches limit e e' s s' t old new same empty at goes = record {
-  here = λ is. subst (λ (u : State). GoesOnUnless ended stops watches limit e u e' t) at goes;
+pub resumes_here : (rest rest' : List ℕ) (ended : Bool) (asked : Asked) (most : Most)
+    (a a' b : Around) (s s' t : State) (old new : List ℕ) → rest' ≡ rest
+    → length rest' ≡ 0 → a' ≡ a → s' ≡ s → GoesOnUnless ended asked most a' s' b t → new ≡ old ++ stop_text b.stop
+    → Resumes rest ended asked most a s b t old new
+resumes_here rest [] ended asked most a a' b s s' t old new same empty around at goes told = record {
+  here = λ is. subst (λ (x : Around). GoesOnUnless ended asked most x s b t) around
+      (subst (λ (u : State). GoesOnUnless ended asked most a' u b t) at goes);
   from_address = λ is.
       let some : 0 < length {A = ℕ} [] = subst (λ (xs : List ℕ). 0 < length xs) (sym same) is.0.0 in
       absurd (omega (arith, some));
+  told = λ _. told;
   refused = λ some. absurd (some (sym same));
 }
-resumes_here rest (b ∷ bs) ended stops watches limit e e' s s' t old new same empty at goes =
+resumes_here rest (x ∷ xs) ended asked most a a' b s s' t old new same empty around at goes told =
     absurd (omega (arith, empty))
 
 -- an address
-pub resumes_there : (rest rest' : List ℕ) (address : ℕ) (ended : Bool)
-    (stops : List ℕ) (watches : List Watch) (limit : ℕ) (e e' : Recording) (s s' t : State) (old new : List ℕ)
-    → rest' ≡ rest → IsNumber rest' → address ≡ number rest' → s' ≡ with_pc s address
-    → GoesOnUnless ended stops watches limit e s' e' t
-    → Resumes rest ended stops watches limit e s e' t old new
-resumes_there rest rest' address ended stops watches limit e e' s s' t old new same is value at goes =
+pub resumes_there : (rest rest' : List ℕ) (address : ℕ) (ended : Bool) (asked : Asked) (most : Most)
+    (a a' b : Around) (s s' t : State) (old new : List ℕ)
+    → rest' ≡ rest → IsNumber rest' → address ≡ number rest' → a' ≡ forgotten a → s' ≡ with_pc s address
+    → GoesOnUnless ended asked most a' s' b t → new ≡ old ++ stop_text b.stop
+    → Resumes rest ended asked most a s b t old new
+resumes_there rest rest' address ended asked most a a' b s s' t old new same is value around at goes told =
     let some : 0 < length rest = subst (λ (xs : List ℕ). 0 < length xs) same is.0.0 in
     record {
       here = λ none. absurd (omega (arith, some, ap length none));
       from_address = λ is'.
-          subst (λ (u : State). GoesOnUnless ended stops watches limit e u e' t)
-          (at ∙ ap (λ (n : ℕ). with_pc s n) (value ∙ ap number same)) goes;
+          subst (λ (x : Around). GoesOnUnless ended asked most x (with_pc s (number rest)) b t) around
+          (subst (λ (u : State). GoesOnUnless ended asked most a' u b t)
+          (at ∙ ap (λ (n : ℕ). with_pc s n) (value ∙ ap number same)) goes);
+      told = λ _. told;
       refused = λ some none. absurd (none (subst (λ (xs : List ℕ). IsNumber xs) same is));
     }
 
 -- neither
-pub resumes_not : (rest rest' : List ℕ) (ended : Bool) (stops : List ℕ)
-    (watches : List Watch) (limit : ℕ) (e e' : Recording) (s t : State) (old new : List ℕ) → rest' ≡ rest
+pub resumes_not : (rest rest' : List ℕ) (ended : Bool) (asked : Asked) (most : Most)
+    (a b : Around) (s t : State) (old new : List ℕ) → rest' ≡ rest
     → 0 < length rest' → ¬ IsNumber rest' → IsError old new
-    → Resumes rest ended stops watches limit e s e' t old new
-resumes_not rest rest' ended stops watches limit e e' s t old new same some other error = record {
-  here = λ none. absurd (omega (arith, some, ap length (same ∙ none)));
-  from_address = λ is. absurd (other (subst (λ (xs : List ℕ). IsNumber xs) (sym same) is));
-  refused = λ some none. error;
-}
+    → Resumes rest ended asked most a s b t old new
+resumes_not rest rest' ended asked most a b s t old new same some other error =
+    let other' : ¬ IsNumber rest = λ is. other (subst (λ (xs : List ℕ). IsNumber xs) (sym same) is) in
+    let none : ¬ (rest ≡ []) = λ none. absurd (omega (arith, some, ap length (same ∙ none))) in
+    record {
+      here = λ is. absurd (none is);
+      from_address = λ is. absurd (other' is);
+      told = λ is. not_either is none other';
+      refused = λ some none. error;
+    }
 
 -- ---- a program that goes on by a signal
 
@@ -238,85 +348,86 @@ no_signal None action text same none =
 no_signal (Some x) action text same none = tt
 
 -- there is no signal
-pub signals_not : (text : List ℕ) (ended : Bool) (stops : List ℕ)
-    (watches : List Watch) (limit : ℕ) (e e' : Recording) (s t : State) (old new : List ℕ) (at : Stop)
-    → ¬ IsSignal (before 59 text) → IsError old new
-    → Signals text ended stops watches limit e s e' t old new at
-signals_not text ended stops watches limit e e' s t old new at not error = record {
+pub signals_not : (text : List ℕ) (ended : Bool) (asked : Asked) (most : Most)
+    (a b : Around) (s t : State) (old new : List ℕ) → ¬ IsSignal (before 59 text) → IsError old new
+    → Signals text ended asked most a s b t old new
+signals_not text ended asked most a b s t old new not error = record {
   none = λ is_number nought. absurd (not (is_number, omega (arith, nought)));
-  kills = λ is some nothing runs. absurd (not is);
+  kills = λ is some nothing. absurd (not is);
   refused = λ none. error;
 }
 
 -- behind the signal stands something that is no address
-pub signals_nowhere : (text rest : List ℕ) (by going : Going) (ended : Bool)
-    (stops : List ℕ) (watches : List Watch) (limit : ℕ) (e e' : Recording) (s t : State) (old new : List ℕ) (at : Stop)
+pub signals_nowhere : (text rest : List ℕ) (by going : Going) (ended : Bool) (asked : Asked) (most : Most)
+    (a b : Around) (s t : State) (old new : List ℕ)
     → BySignal text by going rest → 0 < length rest → ¬ IsNumber rest → IsError old new
-    → Signals text ended stops watches limit e s e' t old new at
-signals_nowhere text rest by going ended stops watches limit e e' s t old new at is some other error = record {
+    → Signals text ended asked most a s b t old new
+signals_nowhere text rest by going ended asked most a b s t old new is some other error = record {
   none = λ is_number nought.
-      resumes_not (behind 59 text) rest ended stops watches limit e e' s t old new is.1 some other error;
-  kills = λ signal one nothing runs. absurd (omega (arith, some, ap length (is.1 ∙ nothing)));
+      resumes_not (behind 59 text) rest ended asked most a b s t old new is.1 some other error;
+  kills = λ signal one nothing. absurd (omega (arith, some, ap length (is.1 ∙ nothing)));
   refused = λ not. absurd (not is.0);
 }
 
 -- nothing stands behind it
-pub signals_here : (text rest : List ℕ) (by going : Going) (ended : Bool)
-    (stops : List ℕ) (watches : List Watch) (limit most : ℕ) (e e' : Recording) (s s' t : State) (old new : List ℕ)
-    (at : Stop) → ((u : State) → GoesBy by ended stops watches most e u e' t → GoesOnUnless ended stops watches limit e u e' t)
-    → BySignal text by going rest → length rest ≡ 0 → s' ≡ s → GoesBy going ended stops watches most e s' e' t
-    → EndsBy going ended at → Signals text ended stops watches limit e s e' t old new at
-signals_here text rest by going ended stops watches limit most e e' s s' t old new at same is empty begins goes ends = record {
+pub signals_here : (text rest : List ℕ) (by going : Going) (ended : Bool) (asked : Asked) (most : Most) (limit : ℕ)
+    (a a' b : Around) (s s' t : State) (old new : List ℕ)
+    → ((x : Around) (u : State) → GoesBy by ended asked limit x u b t → GoesOnUnless ended asked most x u b t)
+    → BySignal text by going rest → length rest ≡ 0 → a' ≡ a → s' ≡ s → GoesBy going ended asked limit a' s' b t
+    → new ≡ old ++ stop_text b.stop → Signals text ended asked most a s b t old new
+signals_here text rest by going ended asked most limit a a' b s s' t old new same is empty around begins goes told = record {
   none = λ is_number nought.
       let so : going ≡ by = is.2 ∙ ap (λ (n : ℕ). signalled by n) nought in
-      resumes_here (behind 59 text) rest ended stops watches limit e e' s s' t old new is.1 empty begins
-      (same s' (subst (λ (g : Going). GoesBy g ended stops watches most e s' e' t) so goes));
-  kills = λ signal one nothing runs.
+      resumes_here (behind 59 text) rest ended asked most a a' b s s' t old new is.1 empty around begins
+      (same a' s' (subst (λ (g : Going). GoesBy g ended asked limit a' s' b t) so goes)) told;
+  kills = λ signal one nothing.
       let so = is.2 ∙ killed_by by (number (before 59 text)) one in
-      let stays = subst (λ (g : Going). GoesBy g ended stops watches most e s' e' t) so goes in
-      let end = subst (λ (g : Going). EndsBy g ended at) so ends in
-      (stays.0, stays.1 ∙ begins, subst (λ (b : Bool). EndsBy (Killed (number (before 59 text))) b at) runs end);
+      let killed = subst (λ (g : Going). GoesBy g ended asked limit a' s' b t) so goes in (
+        subst (λ (x : Around). KilledUnless ended (number (before 59 text)) x s b t) around
+            (subst (λ (u : State). KilledUnless ended (number (before 59 text)) a' u b t) begins killed),
+        told,
+      );
   refused = λ not. absurd (not is.0);
 }
 
 -- an address stands behind it
-pub signals_there : (text rest : List ℕ) (address : ℕ) (by going : Going) (ended : Bool)
-    (stops : List ℕ) (watches : List Watch) (limit most : ℕ) (e e' : Recording) (s s' t : State) (old new : List ℕ)
-    (at : Stop) → ((u : State) → GoesBy by ended stops watches most e u e' t → GoesOnUnless ended stops watches limit e u e' t)
-    → BySignal text by going rest → IsNumber rest → address ≡ number rest → s' ≡ with_pc s address
-    → GoesBy going ended stops watches most e s' e' t
-    → Signals text ended stops watches limit e s e' t old new at
-signals_there text rest address by going ended stops watches limit most e e' s s' t old new at same is there value begins goes = record {
+pub signals_there : (text rest : List ℕ) (address : ℕ) (by going : Going) (ended : Bool) (asked : Asked) (most : Most)
+    (limit : ℕ) (a a' b : Around) (s s' t : State) (old new : List ℕ)
+    → ((x : Around) (u : State) → GoesBy by ended asked limit x u b t → GoesOnUnless ended asked most x u b t)
+    → BySignal text by going rest → IsNumber rest → address ≡ number rest → a' ≡ forgotten a → s' ≡ with_pc s address
+    → GoesBy going ended asked limit a' s' b t → new ≡ old ++ stop_text b.stop
+    → Signals text ended asked most a s b t old new
+signals_there text rest address by going ended asked most limit a a' b s s' t old new same is there value around begins goes told = record {
   none = λ is_number nought.
       let so : going ≡ by = is.2 ∙ ap (λ (n : ℕ). signalled by n) nought in
-      resumes_there (behind 59 text) rest address ended stops watches limit e e' s s' t old new is.1 there value begins
-      (same s' (subst (λ (g : Going). GoesBy g ended stops watches most e s' e' t) so goes));
-  kills = λ signal one nothing runs. absurd (omega (arith, there.0.0, ap length (is.1 ∙ nothing)));
+      resumes_there (behind 59 text) rest address ended asked most a a' b s s' t old new is.1 there value around begins
+      (same a' s' (subst (λ (g : Going). GoesBy g ended asked limit a' s' b t) so goes)) told;
+  kills = λ signal one nothing. absurd (omega (arith, there.0.0, ap length (is.1 ∙ nothing)));
   refused = λ not. absurd (not is.0);
 }
 
 -- the first action is a step, or to go on
-acts_so : (action actions : List ℕ) (going : Going) (rest : List ℕ) (ended : Bool) (stops : List ℕ)
-    (watches : List Watch) (limit : ℕ) (e e' : Recording) (s t : State) → action ≡ first_action actions
-    → HasAction action going rest → GoesBy going ended stops watches limit e s e' t
-    → Acts actions ended stops watches limit e s e' t
-acts_so action actions going rest ended stops watches limit e e' s t same has goes = record {
+acts_so : (action actions : List ℕ) (going : Going) (rest : List ℕ) (ended : Bool) (asked : Asked) (limit : ℕ)
+    (a b : Around) (s t : State) (old new : List ℕ) → action ≡ first_action actions
+    → HasAction action going rest → GoesBy going ended asked limit a s b t → new ≡ old ++ stop_text b.stop
+    → Acts actions ended asked limit a s b t old new
+acts_so action actions going rest ended asked limit a b s t old new same has goes told = record {
   step = λ is.
       let stepped = has.0 (ap (λ (xs : List ℕ). slice_index xs 0) (same ∙ is)) in
-      subst (λ (g : Going). GoesBy g ended stops watches limit e s e' t) stepped.0 goes;
+      (subst (λ (g : Going). GoesBy g ended asked limit a s b t) stepped.0 goes, told);
   goes_on = λ is.
       let gone_on = has.1 (ap (λ (xs : List ℕ). slice_index xs 0) (same ∙ is)) in
-      subst (λ (g : Going). GoesBy g ended stops watches limit e s e' t) gone_on.0 goes;
+      (subst (λ (g : Going). GoesBy g ended asked limit a s b t) gone_on.0 goes, told);
 }
 
 pub acts : {A F : Type 0} (r : Result A F) (action actions : List ℕ) (going : Going) (rest : List ℕ) (ended : Bool)
-    (stops : List ℕ) (watches : List Watch) (limit : ℕ) (e e' : Recording) (s t : State)
+    (asked : Asked) (limit : ℕ) (a b : Around) (s t : State) (old new : List ℕ)
     → action ≡ first_action actions → HasAction action going rest
-    → OnOk r (GoesBy going ended stops watches limit e s e' t)
-    → OnOk r (Acts actions ended stops watches limit e s e' t)
-acts (Ok x) action actions going rest ended stops watches limit e e' s t same has goes =
-    acts_so action actions going rest ended stops watches limit e e' s t same has goes
-acts (Err f) action actions going rest ended stops watches limit e e' s t same has goes = tt
+    → OnOk r (GoesBy going ended asked limit a s b t) → OnOk r (new ≡ old ++ stop_text b.stop)
+    → OnOk r (Acts actions ended asked limit a s b t old new)
+acts (Ok x) action actions going rest ended asked limit a b s t old new same has goes told =
+    acts_so action actions going rest ended asked limit a b s t old new same has goes told
+acts (Err f) action actions going rest ended asked limit a b s t old new same has goes told = tt
 
 -- ---- a program that goes back
 
@@ -344,41 +455,33 @@ back_to_call stops stops' watches watches' limit s before after t end same same'
 
 -- ---- a program that is to go on, and has ended or not
 
-pub goes_by_step : (going : Going) (stops : List ℕ) (watches : List Watch) (limit most : ℕ) (e e' : Recording)
-    (s t : State) → going ≡ Step → most ≡ 1 → GoesOn stops watches e' t most e s
-    → GoesBy going false stops watches limit e s e' t
-goes_by_step going stops watches limit most e e' s t is one goes =
-    subst (λ (g : Going). GoesBy g false stops watches limit e s e' t) (sym is)
-    (subst (λ (n : ℕ). GoesOn stops watches e' t n e s) one goes)
+pub goes_by_step : (going : Going) (asked : Asked) (limit most : ℕ) (at : Stop) (a b : Around)
+    (s t : State) → going ≡ Step → most ≡ 1 → at ≡ Signal 5 → GoesOn asked at b t most a s
+    → GoesBy going false asked limit a s b t
+goes_by_step going asked limit most at a b s t is one stops goes =
+    subst (λ (g : Going). GoesBy g false asked limit a s b t) (sym is)
+    (subst (λ (x : Stop). GoesOn asked x b t 1 a s) stops
+    (subst (λ (n : ℕ). GoesOn asked at b t n a s) one goes))
 
-pub goes_by_limit : (going : Going) (stops : List ℕ) (watches : List Watch) (limit most : ℕ) (e e' : Recording)
-    (s t : State) → going ≡ Proceed → most ≡ limit → GoesOn stops watches e' t most e s
-    → GoesBy going false stops watches limit e s e' t
-goes_by_limit going stops watches limit most e e' s t is all goes =
-    subst (λ (g : Going). GoesBy g false stops watches limit e s e' t) (sym is)
-    (subst (λ (n : ℕ). GoesOn stops watches e' t n e s) all goes)
+pub goes_by_limit : (going : Going) (asked : Asked) (limit most : ℕ) (at : Stop) (a b : Around)
+    (s t : State) → going ≡ Proceed → most ≡ limit → at ≡ Signal 2 → GoesOn asked at b t most a s
+    → GoesBy going false asked limit a s b t
+goes_by_limit going asked limit most at a b s t is all stops goes =
+    subst (λ (g : Going). GoesBy g false asked limit a s b t) (sym is)
+    (subst (λ (x : Stop). GoesOn asked x b t limit a s) stops
+    (subst (λ (n : ℕ). GoesOn asked at b t n a s) all goes))
 
-stays_so : (going : Going) (stops : List ℕ) (watches : List Watch) (limit : ℕ) (e : Recording) (s : State)
-    → GoesBy going true stops watches limit e s e s
-stays_so Step stops watches limit e s = (refl, refl)
-stays_so Proceed stops watches limit e s = (refl, refl)
-stays_so (Killed signal) stops watches limit e s = (refl, refl)
+stays_so : (going : Going) (asked : Asked) (limit : ℕ) (a : Around) (s : State)
+    → GoesBy going true asked limit a s a s
+stays_so Step asked limit a s = (refl, refl)
+stays_so Proceed asked limit a s = (refl, refl)
+stays_so (Killed signal) asked limit a s = (refl, refl)
 
-pub stays : {A F : Type 0} (r : Result A F) (going : Going) (ended : Bool) (stops : List ℕ) (watches : List Watch)
-    (limit : ℕ) (e : Recording) (s : State) → ended ≡ true → OnOk r (GoesBy going ended stops watches limit e s e s)
-stays (Ok x) going ended stops watches limit e s is =
-    subst (λ (b : Bool). GoesBy going b stops watches limit e s e s) (sym is) (stays_so going stops watches limit e s)
-stays (Err f) going ended stops watches limit e s is = tt
-
-stops_so : (going : Going) (at : Stop) → EndsBy going true at
-stops_so Step at = tt
-stops_so Proceed at = tt
-stops_so (Killed signal) at = tt
-
-pub stays_stopped : {A F : Type 0} (r : Result A F) (going : Going) (ended : Bool) (at : Stop) → ended ≡ true
-    → OnOk r (EndsBy going ended at)
-stays_stopped (Ok x) going ended at is = subst (λ (b : Bool). EndsBy going b at) (sym is) (stops_so going at)
-stays_stopped (Err f) going ended at is = tt
+pub stays : {A F : Type 0} (r : Result A F) (going : Going) (ended : Bool) (asked : Asked)
+    (limit : ℕ) (a : Around) (s : State) → ended ≡ true → OnOk r (GoesBy going ended asked limit a s a s)
+stays (Ok x) going ended asked limit a s is =
+    subst (λ (e : Bool). GoesBy going e asked limit a s a s) (sym is) (stays_so going asked limit a s)
+stays (Err f) going ended asked limit a s is = tt
 
 pub not_ended : {A F : Type 0} (r : Result A F) (P : Bool → Type 0) (ended : Bool) → ended ≡ false → P false
     → OnOk r (P ended)

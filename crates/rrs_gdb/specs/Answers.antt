@@ -1,6 +1,6 @@
 -- What is said of the functions that answer packets: what an answer leaves as it was, and what it
 -- means, by the letter of the packet. No public contract cites this.
-use Rattle.std.specs.Prelude.{◌≡◌, ◌≢◌, ◌⊎◌, ℕ, ◌-◌, ◌^◌, Bool, List, [], ◌∷◌, ◌++◌, drop, Ok}
+use Rattle.std.specs.Prelude.{◌≡◌, ◌≢◌, ◌⊎◌, ℕ, ◌-◌, ◌^◌, Bool, List, [], ◌∷◌, ◌++◌, drop, Ok, IsOk}
 use Rattle.std.specs.Bool.{OnTrue, OnFalse}
 use Rattle.hex.specs.Hex.{decode_of}
 use Rattle.rrs_lib.specs.Machine.{State, with_pc}
@@ -10,7 +10,7 @@ use Rattle.rrs_gdb.specs.declared.session.Subject.TheVariants.{Shown, Changed, R
 use Rattle.rrs_gdb.specs.declared.state.SessionState.{SessionState}
 use Rattle.rrs_gdb.specs.Packets.{IsNumber, number, behind}
 use Rattle.rrs_gdb.specs.Shown.{registers_text}
-use Rattle.rrs_gdb.specs.Sessions.{letter, ChangesNone, RunsNone, ChangesRegister, ChangesMemory, BreaksNone, MemoryKept, RegistersKept, BreaksKept, SessionKept, has_ended, IsError, ShowsRegister, SetsRegister, SetsRegisters, ShowsMemory, SetsMemory, GoesOnOrStays, GoesOnFrom, Resumes, Signals, Acts, SessionGoesBack}
+use Rattle.rrs_gdb.specs.Sessions.{letter, ChangesNone, RunsNone, ChangesRegister, ChangesMemory, BreaksNone, MemoryKept, RegistersKept, BreaksKept, SessionKept, has_ended, IsError, ForgetsOrStays, ShowsRegister, SetsRegister, SetsRegisters, ShowsMemory, SetsMemory, Around, around, asked_by, forgotten, Most, one_step, up_to, GoesOnOrStays, GoesOnFrom, Resumes, Signals, Acts, SessionGoesBack}
 
 -- a session, the environment and the state of its program, and what is answered so far
 pub record Moment : Type 0 where
@@ -56,6 +56,8 @@ pub record Sets (payload : List ℕ) (s t : State) (old new : List ℕ) : Type 0
   pub memory : letter payload ≡ 77 → (values : List ℕ)
       → decode_of (behind 58 (drop 1 payload)) ≡ Ok values
       → SetsMemory values (drop 1 payload) s t old new
+  pub no_values : letter payload ≡ 77 → ¬ IsOk (decode_of (behind 58 (drop 1 payload)))
+      → IsError old new
   pub bytes : letter payload ≡ 88
       → SetsMemory (behind 58 (drop 1 payload)) (drop 1 payload) s t old new
 
@@ -67,39 +69,45 @@ pub record IsDone (is_changed : Bool) (s t : State) (old new : List ℕ) : Type 
 -- ---- the program goes on and back
 
 -- the address to go on from stands behind the letter, or nothing does
-pub data BeginsBy (rest : List ℕ) (s s' : State) : Type 0 where
-  Here : rest ≡ [] → s' ≡ s → BeginsBy rest s s'
-  There : IsNumber rest → s' ≡ with_pc s (number rest) → BeginsBy rest s s'
+pub data BeginsBy (rest : List ℕ) (a : Around) (s : State) (a' : Around) (s' : State)
+    : Type 0 where
+  Here : rest ≡ [] → a' ≡ a → s' ≡ s → BeginsBy rest a s a' s'
+  There : IsNumber rest → a' ≡ forgotten a → s' ≡ with_pc s (number rest)
+      → BeginsBy rest a s a' s'
+
+-- what is around the machine of a moment
+abbrev pub around_in : Moment → Around
+around_in m = around m.session m.environment
 
 -- `s`, `c`, `S` and `C`
 pub record Goes (payload : List ℕ) (m n : Moment) : Type 0 where
   pub step : (letter payload ≡ 115) ⊎ (letter payload ≡ 83)
-      → GoesOnFrom m.session.breaks.stops.items m.session.breaks.watches.items 1
-      m.environment m.state n.environment n.state
+      → GoesOnFrom (asked_by m.session) one_step (around_in m) m.state (around_in n) n.state
   pub goes_on : (letter payload ≡ 99) ⊎ (letter payload ≡ 67)
-      → GoesOnFrom m.session.breaks.stops.items m.session.breaks.watches.items
-      m.session.settings.limit m.environment m.state n.environment n.state
-  pub steps : letter payload ≡ 115 → Resumes (drop 1 payload) (has_ended m.session)
-      m.session.breaks.stops.items m.session.breaks.watches.items 1
-      m.environment m.state n.environment n.state m.reply n.reply
-  pub continues : letter payload ≡ 99 → Resumes (drop 1 payload) (has_ended m.session)
-      m.session.breaks.stops.items m.session.breaks.watches.items m.session.settings.limit
-      m.environment m.state n.environment n.state m.reply n.reply
-  pub step_signal : letter payload ≡ 83 → Signals (drop 1 payload) (has_ended m.session)
-      m.session.breaks.stops.items m.session.breaks.watches.items 1
-      m.environment m.state n.environment n.state m.reply n.reply n.session.stop
-  pub signal : letter payload ≡ 67 → Signals (drop 1 payload) (has_ended m.session)
-      m.session.breaks.stops.items m.session.breaks.watches.items m.session.settings.limit
-      m.environment m.state n.environment n.state m.reply n.reply n.session.stop
+      → GoesOnFrom (asked_by m.session) (up_to m.session.settings.limit)
+      (around_in m) m.state (around_in n) n.state
+  pub steps : letter payload ≡ 115
+      → Resumes (drop 1 payload) (has_ended m.session) (asked_by m.session) one_step
+      (around_in m) m.state (around_in n) n.state m.reply n.reply
+  pub continues : letter payload ≡ 99
+      → Resumes (drop 1 payload) (has_ended m.session) (asked_by m.session)
+      (up_to m.session.settings.limit)
+      (around_in m) m.state (around_in n) n.state m.reply n.reply
+  pub step_signal : letter payload ≡ 83
+      → Signals (drop 1 payload) (has_ended m.session) (asked_by m.session) one_step
+      (around_in m) m.state (around_in n) n.state m.reply n.reply
+  pub signal : letter payload ≡ 67
+      → Signals (drop 1 payload) (has_ended m.session) (asked_by m.session)
+      (up_to m.session.settings.limit)
+      (around_in m) m.state (around_in n) n.state m.reply n.reply
 
 -- `v`
 pub record ActsBy (payload : List ℕ) (m n : Moment) : Type 0 where
-  pub goes_on : letter payload ≡ 118 → (limit : ℕ) × GoesOnOrStays m.session.breaks.stops.items
-      m.session.breaks.watches.items limit m.environment m.state n.environment n.state
+  pub goes_on : letter payload ≡ 118 → (most : Most)
+      × GoesOnOrStays (asked_by m.session) most (around_in m) m.state (around_in n) n.state
   pub acts : (actions : List ℕ) → payload ≡ 118 ∷ 67 ∷ 111 ∷ 110 ∷ 116 ∷ 59 ∷ actions
-      → Acts actions (has_ended m.session) m.session.breaks.stops.items
-      m.session.breaks.watches.items m.session.settings.limit
-      m.environment m.state n.environment n.state
+      → Acts actions (has_ended m.session) (asked_by m.session) m.session.settings.limit
+      (around_in m) m.state (around_in n) n.state m.reply n.reply
 
 -- `bs` and `bc`
 pub record Returns (payload : List ℕ) (m n : Moment) : Type 0 where
@@ -134,4 +142,6 @@ pub record Means (payload : List ℕ) (m n : Moment) : Type 0 where
   pub goes : Goes payload m n
   pub acts : ActsBy payload m n
   pub returns : Returns payload m n
+  pub forgets : ChangesRegister payload ⊎ ChangesMemory payload
+      → ForgetsOrStays m.state n.state m.session n.session
   pub error : letter payload ≢ 113 → IsError m.reply n.reply → Stays m n

@@ -1,7 +1,7 @@
 -- Where the machine stops (gdb's manual, "Remote Serial Protocol", "Packets": Z, c, bc), forward and
 -- back: before the instruction at a breakpoint, and before one whose load or store touches a
 -- watchpoint.
-use Rattle.std.specs.Prelude.{◌≡◌, ◌≢◌, ◌≤◌, ℕ, ◌+◌, ◌<◌, ◌⊎◌, List, [], ◌∷◌, ◌++◌, All, Contains, length, Ok}
+use Rattle.std.specs.Prelude.{◌≡◌, ◌≢◌, ◌≤◌, ℕ, ◌+◌, ◌<◌, ◌⊎◌, ◌↔◌, List, [], ◌∷◌, ◌++◌, All, Contains, length, Ok}
 use Rattle.rrs_lib.specs.Bytes.{width}
 use Rattle.rrs_lib.specs.Machine.{State}
 use Rattle.rrs_lib.specs.Accesses.{Access, Read, Write}
@@ -12,13 +12,23 @@ use Rattle.rrs_trace.specs.Stops.{PassesNone, RunsToStop}
 use Rattle.rrs_trace.specs.declared.stops.StopReason.{StopReason}
 use Rattle.rrs_trace.specs.declared.stops.StopReason.TheVariants as Stop
 use Rattle.rrs_history.specs.declared.history.History.{History}
-use Rattle.rrs_history.specs.Histories.{changes, past}
+use Rattle.rrs_history.specs.Histories.{changes, room, past}
 use Rattle.rrs_gdb.specs.declared.breaks.Watch.{Watch}
 use Rattle.rrs_gdb.specs.declared.breaks.WatchKind.TheVariants as Kind
 use Rattle.rrs_gdb.specs.declared.forward.ForwardReason.{ForwardReason}
 use Rattle.rrs_gdb.specs.declared.forward.ForwardReason.TheVariants.{AtStop, Touches, Limit, Fault}
 use Rattle.rrs_gdb.specs.declared.back.BackEnd.{BackEnd}
 use Rattle.rrs_gdb.specs.declared.back.BackEnd.TheVariants as Back
+
+-- ---- breakpoints and watchpoints are set and removed
+
+-- this one is set, if it was not, and the others are as they were
+abbrev pub WithEntry : {X : Type 0} → List X → X → List X → Type 0
+WithEntry {X} old entry new = (other : X) → Contains new other ↔ (Contains old other ⊎ (other ≡ entry))
+
+-- this one is not set, and the others are as they were
+abbrev pub WithoutEntry : {X : Type 0} → List X → X → List X → Type 0
+WithoutEntry {X} old entry new = (other : X) → Contains new other ↔ (Contains old other × (other ≢ entry))
 
 -- ---- watchpoints
 
@@ -82,8 +92,9 @@ IsTrail [] s t = t ≡ s
 IsTrail (m ∷ ms) s t = Step m t (Ok tt) × IsTrail ms s m
 
 -- So many steps were made from s, and the history keeps them: from t it leads back to each state on
--- the way, and then to where it led before. The oldest states may be forgotten. A step that raised
--- an exception leaves t with no last written register, and is not kept.
+-- the way, and then to where it led before. The oldest states may be forgotten, if the history is
+-- full then. A step that raised an exception leaves t with no last written register, and is not
+-- kept.
 pub record KeepsSteps (steps : ℕ) (old : History) (s : State) (new : History) (t : State)
     : Type 0 where
   pub end : State
@@ -93,6 +104,8 @@ pub record KeepsSteps (steps : ℕ) (old : History) (s : State) (new : History) 
   pub ends : (t ≡ end) ⊎ (t ≡ cleared end)
   pub forgotten : List State
   pub leads_back : trail ++ past (changes old) s ≡ past (changes new) t ++ forgotten
+  pub when_full : (forgotten ≡ []) ⊎ (room new ≤ length (changes new))
+  pub room_kept : room new ≡ room old
 
 -- ---- back
 

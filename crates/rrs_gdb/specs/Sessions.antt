@@ -1,29 +1,31 @@
 -- What a packet may change, by its letter (gdb's manual, "Remote Serial Protocol", "Packets"). Most
 -- packets ask, and change nothing of the program.
-use Rattle.std.specs.Prelude.{◌≡◌, ◌≢◌, ◌⊎◌, ℕ, zero, suc, ◌+◌, ◌-◌, ◌*◌, ◌^◌, ◌<◌, ◌≤◌, List, [], ◌∷◌, ◌++◌, Contains, Bool, true, false, drop, length, slice_index, None, Ok, IsOk}
+use Rattle.std.specs.Prelude.{◌≡◌, ◌≢◌, ◌⊎◌, ℕ, zero, suc, ◌+◌, ◌-◌, ◌*◌, ◌%◌, ◌^◌, ◌<◌, ◌≤◌, List, [], ◌∷◌, ◌++◌, Contains, Bool, true, false, drop, length, slice_index, Option, Some, None, Ok, Err, IsOk}
 use Rattle.hex.specs.Hex.{decode_of, decode_sized}
 use Rattle.rrs_lib.specs.Bytes.{ByteMap}
 use Rattle.rrs_lib.specs.Loading.{Loaded}
-use Rattle.rrs_lib.specs.declared.instruction_executor.InstructionException.TheVariants.{EnvironmentCall}
+use Rattle.rrs_lib.specs.declared.instruction_executor.InstructionException.{InstructionException}
+use Rattle.rrs_lib.specs.declared.instruction_executor.InstructionException.TheVariants.{IllegalInstruction, Breakpoint, AlignmentFault, FetchError, LoadAccessFault, StoreAccessFault, EnvironmentCall}
 use Rattle.rrs_lib.specs.Accesses.{Access}
-use Rattle.rrs_lib.specs.Machine.{State, with_pc}
+use Rattle.rrs_lib.specs.Machine.{State, reg, with_pc}
 use Rattle.rrs_linux.specs.Recording.{Recording, Records}
-use Rattle.rrs_history.specs.Calls.{IsServedStep, ServedAnswer}
+use Rattle.rrs_history.specs.Calls.{IsServedStep, RemembersCall}
 use Rattle.rrs_gdb.specs.declared.breaks.Watch.{Watch}
 use Rattle.rrs_gdb.specs.declared.forward.ForwardReason.{ForwardReason}
-use Rattle.rrs_gdb.specs.declared.forward.ForwardReason.TheVariants.{Fault}
+use Rattle.rrs_gdb.specs.declared.forward.ForwardReason.TheVariants.{AtStop, Touches, Limit, Fault}
 use Rattle.rrs_gdb.specs.declared.session.Going.{Going}
 use Rattle.rrs_gdb.specs.declared.session.Going.TheVariants.{Step, Proceed, Killed}
 use Rattle.rrs_gdb.specs.declared.state.SessionState.{SessionState}
 use Rattle.rrs_gdb.specs.declared.state.Stop.{Stop}
 use Rattle.rrs_gdb.specs.declared.state.Stop.TheVariants.{Signal, Touched, AtBegin, Entry, Return, Exited}
 use Rattle.rrs_gdb.specs.declared.state.Stop.TheVariants as stop
-use Rattle.rrs_history.specs.Histories.{changes, past}
+use Rattle.rrs_history.specs.declared.history.History.{History}
+use Rattle.rrs_history.specs.Histories.{changes, room, past}
 use Rattle.rrs_gdb.specs.declared.back.BackEnd.{BackEnd}
 use Rattle.rrs_gdb.specs.declared.back.BackEnd.TheVariants as Back
-use Rattle.rrs_gdb.specs.Breaks.{GoesForward, GoesBack}
+use Rattle.rrs_gdb.specs.Breaks.{GoesForward, GoesBack, KeepsSteps}
 use Rattle.rrs_gdb.specs.Packets.{IsNumber, number, before, behind, IsPlace, address_in, length_in}
-use Rattle.rrs_gdb.specs.Shown.{register, register_text, text_of, with_register, word_at, HasBytes}
+use Rattle.rrs_gdb.specs.Shown.{register, register_text, text_of, with_register, word_at, HasBytes, stop_text}
 
 -- the letter of a packet: the first byte of its payload
 abbrev pub letter : List ℕ → ℕ
@@ -75,11 +77,12 @@ pub record SettingsKept (old new : SessionState) : Type 0 where
   pub settings_kept : new.settings ≡ old.settings
   pub history_kept : new.history ≡ old.history
 
--- the breakpoints, the watchpoints and the settings are as they were
+-- the breakpoints, the watchpoints, the settings, and which calls are caught are as they were
 pub record PlacesKept (old new : SessionState) : Type 0 where
   pub stops_kept : new.breaks.stops.items ≡ old.breaks.stops.items
   pub watches_kept : new.breaks.watches.items ≡ old.breaks.watches.items
   pub settings_kept : new.settings ≡ old.settings
+  pub caught_kept : new.caught ≡ old.caught
 
 -- the breakpoints, the watchpoints, the settings and the history are as they were
 pub record SessionKept (old new : SessionState) : Type 0 where
@@ -105,6 +108,10 @@ has_ended session = is_end session.stop
 -- what was appended is an error: it begins with `E`
 abbrev pub IsError : List ℕ → List ℕ → Type 0
 IsError old new = (rest : List ℕ) × (new ≡ old ++ 69 ∷ rest)
+
+-- after a change the history is empty; or nothing is changed
+abbrev pub ForgetsOrStays : State → State → SessionState → SessionState → Type 0
+ForgetsOrStays s t old new = (changes new.history ≡ []) ⊎ ((t ≡ s) × SessionKept old new)
 
 -- ---- what the text of a packet means
 
@@ -164,13 +171,99 @@ pub data SetsBytes (address : ℕ) (values : List ℕ) (s t : State) (old new : 
       → SetsBytes address values s t old new
 
 -- `M addr,length:digits`, and `X addr,length:bytes`: as many values as the length says are to stand
--- behind the colon, and one at least.
+-- behind the colon. Of none nothing is changed.
 pub record SetsMemory (values : List ℕ) (text : List ℕ) (s t : State) (old new : List ℕ)
     : Type 0 where
   pub set : IsPlace (before 58 text) → length values ≡ length_in (before 58 text)
       → 1 ≤ length values → SetsBytes (address_in (before 58 text)) values s t old new
+  pub none : values ≡ [] → t ≡ s
+  pub refused : ¬ (IsPlace (before 58 text) × (length values ≡ length_in (before 58 text)))
+      → IsError old new
 
--- ---- the program goes on
+-- ---- where the program stops
+
+-- what gdb asked for: breakpoints, watchpoints, calls that are caught, all or those of these
+-- numbers, and whether the program stops before it exits
+pub record Asked : Type 0 where
+  pub stops : List ℕ
+  pub watches : List Watch
+  pub all_calls : Bool
+  pub calls : List ℕ
+  pub stops_at_exit : Bool
+
+abbrev pub asked_by : SessionState → Asked
+asked_by session = record {
+  stops = session.breaks.stops.items;
+  watches = session.breaks.watches.items;
+  all_calls = session.caught.are_all;
+  calls = session.caught.numbers.items;
+  stops_at_exit = session.settings.stops_at_exit;
+}
+
+-- What is around the machine: the environment of the program, the steps that can be taken back,
+-- whether the call at the pc, or the exit there, was told before it is made, and where the program
+-- stopped last.
+pub record Around : Type 0 where
+  pub environment : Recording
+  pub history : History
+  pub entered : Bool
+  pub told_exit : Bool
+  pub stop : Stop
+
+abbrev pub around : SessionState → Recording → Around
+around session environment = record {
+  environment = environment;
+  history = session.history;
+  entered = session.has_entered;
+  told_exit = session.has_told_exit;
+  stop = session.stop;
+}
+
+abbrev pub stopped_at : Around → Stop → Around
+stopped_at a at = record a { stop = at }
+
+-- no step can be taken back, and nothing was told of the call at the pc
+abbrev pub emptied : History → History
+emptied h = record { ring = record { items = []; capacity = room h } }
+
+abbrev pub forgotten : Around → Around
+forgotten a = record a { history = emptied a.history; entered = false; told_exit = false }
+
+-- gdb's number of the signal of an exception: SIGILL is 4, SIGTRAP 5, SIGBUS 10, SIGSEGV 11 and
+-- SIGSYS 12
+abbrev pub signal_of : InstructionException → ℕ
+signal_of (IllegalInstruction pc word) = 4
+signal_of (Breakpoint pc) = 5
+signal_of (AlignmentFault a) = 10
+signal_of (FetchError a) = 11
+signal_of (LoadAccessFault a) = 11
+signal_of (StoreAccessFault a) = 11
+signal_of (EnvironmentCall pc) = 12
+
+-- where a run stops; at its limit it does so as it was asked to
+abbrev pub stop_of : Stop → ForwardReason → Stop
+stop_of at_limit AtStop = Signal 5
+stop_of at_limit (Touches watch) = Touched watch
+stop_of at_limit Limit = at_limit
+stop_of at_limit (Fault fault) = Signal (signal_of fault)
+
+-- a run ended at a call
+abbrev pub is_call : InstructionException → Bool
+is_call (EnvironmentCall pc) = true
+is_call (IllegalInstruction pc word) = false
+is_call (Breakpoint pc) = false
+is_call (AlignmentFault a) = false
+is_call (FetchError a) = false
+is_call (LoadAccessFault a) = false
+is_call (StoreAccessFault a) = false
+
+abbrev pub ends_at_call : ForwardReason → Bool
+ends_at_call AtStop = false
+ends_at_call (Touches watch) = false
+ends_at_call Limit = false
+ends_at_call (Fault fault) = is_call fault
+
+-- ---- calls
 
 -- Of the environment of the program the output that was recorded is taken away, and nothing else
 -- changes.
@@ -180,87 +273,166 @@ pub record OutputTaken (e e' : Recording) : Type 0 where
   pub output_taken : e'.output.items ≡ []
   pub errors_taken : e'.errors.items ≡ []
 
--- from m a call is served, after which the program goes on at no stop
-pub record CallMade (stops : List ℕ) (e : Recording) (m : State) (e' : Recording) (t : State)
+-- the number of the call at the pc
+abbrev pub call_number : State → ℕ
+call_number s = reg s 17
+
+abbrev pub IsCaught : Asked → ℕ → Type 0
+IsCaught asked number = (asked.all_calls ≡ true) ⊎ Contains asked.calls number
+
+-- `exit` and `exit_group`
+abbrev pub IsExit : ℕ → Type 0
+IsExit number = (number ≡ 93) ⊎ (number ≡ 94)
+
+-- The program stops before the call of this number, once: where it is caught, or before the exit.
+pub data StopsBefore (asked : Asked) (a : Around) (number : ℕ) (b : Around) : Type 0 where
+  AtEntry : IsCaught asked number → a.entered ≡ false
+      → b ≡ record a { entered = true; stop = Entry number } → StopsBefore asked a number b
+  AtExit : IsExit number → asked.stops_at_exit ≡ true → a.told_exit ≡ false
+      → b ≡ record a { told_exit = true; stop = Signal 5 } → StopsBefore asked a number b
+
+-- it does not
+pub record PassesBefore (asked : Asked) (a : Around) (number : ℕ) : Type 0 where
+  pub entered : IsCaught asked number → a.entered ≡ true
+  pub told : IsExit number → asked.stops_at_exit ≡ true → a.told_exit ≡ true
+
+-- why the program stops behind a call of this number that leads to this pc
+pub data StopsBehind (entered : Bool) (stops : List ℕ) (number pc : ℕ) (at : Stop) : Type 0 where
+  -- the call was told before it was made
+  AtReturn : entered ≡ true → at ≡ Return number → StopsBehind entered stops number pc at
+  AtBreakpoint : entered ≡ false → Contains stops pc → at ≡ Signal 5
+      → StopsBehind entered stops number pc at
+
+-- From m a call is served, after which the program goes on, or has ended with a status. The history
+-- keeps it, and the output that was recorded is taken away.
+pub record CallServed (a : Around) (m : State) (end : Option ℕ) (b : Around) (t : State)
     : Type 0 where
   pub after : Recording
   pub is_call : Bool
   pub accesses : List Access
-  pub served : IsServedStep Records is_call e m (Ok None) after t accesses
-  pub output_taken : OutputTaken after e'
-  pub no_stop : ¬ Contains stops t.pc
+  pub served : IsServedStep Records is_call a.environment m (Ok end) after t accesses
+  pub output_taken : OutputTaken after b.environment
+  pub remembered : RemembersCall is_call a.history m b.history t (length accesses)
+
+-- a call is served, and the program goes on: it is at no stop, and was not told of the call before
+pub record CallMade (asked : Asked) (a : Around) (m : State) (b : Around) (t : State)
+    : Type 0 where
+  pub passes : PassesBefore asked a (call_number m)
+  pub served : CallServed a m None b t
+  pub not_entered : a.entered ≡ false
+  pub no_stop : ¬ Contains asked.stops t.pc
+  pub entered_kept : b.entered ≡ false
+  pub told_kept : b.told_exit ≡ a.told_exit
 
 -- the program stops before a call, or behind it
-pub data CallStops (e : Recording) (m : State) (e' : Recording) (t : State) : Type 0 where
+pub data CallStops (asked : Asked) (a : Around) (m : State) (b : Around) (t : State)
+    : Type 0 where
   -- nothing is served
-  Before : e' ≡ e → t ≡ m → CallStops e m e' t
-  -- the call is served
-  Behind : (is_call : Bool) (answer : ServedAnswer) (after : Recording) (accesses : List Access)
-      → IsServedStep Records is_call e m answer after t accesses
-      → (e' ≡ after) ⊎ OutputTaken after e'
-      → CallStops e m e' t
+  Before : StopsBefore asked a (call_number m) b → t ≡ m → CallStops asked a m b t
+  -- the call ends the program
+  Ends : (status : ℕ) → PassesBefore asked a (call_number m) → CallServed a m (Some status) b t
+      → b.stop ≡ Exited (status % 256) → CallStops asked a m b t
+  -- the call is served, and the program goes on
+  Behind : PassesBefore asked a (call_number m) → CallServed a m None b t
+      → StopsBehind a.entered asked.stops (call_number m) t.pc b.stop → CallStops asked a m b t
+  -- an exception that is no call
+  Faults : (is_call : Bool) (fault : InstructionException) (accesses : List Access)
+      → IsServedStep Records is_call a.environment m (Err fault) b.environment t accesses
+      → b.stop ≡ Signal (signal_of fault) → CallStops asked a m b t
 
--- From e and s the program goes on to e' and t, within a limit of steps and calls: by runs up to
--- stops and watchpoints, and between two of them by a call that is served.
-pub data GoesOn (stops : List ℕ) (watches : List Watch) (e' : Recording) (t : State)
-    : ℕ → Recording → State → Type 0 where
-  -- a run
-  Runs : (limit : ℕ) (e : Recording) (s : State) (steps : ℕ) (reason : ForwardReason)
-      → GoesForward stops watches limit s steps reason t → e' ≡ e
-      → GoesOn stops watches e' t limit e s
+-- ---- the program goes on
+
+-- the most steps and calls that a program may make, and where it stops after these
+pub record Most : Type 0 where
+  pub steps : ℕ
+  pub at : Stop
+
+-- one step or call is a stop by SIGTRAP, and the limit of a `continue` one by SIGINT, 2
+abbrev pub one_step : Most
+one_step = record { steps = 1; at = Signal 5 }
+
+abbrev pub up_to : ℕ → Most
+up_to limit = record { steps = limit; at = Signal 2 }
+
+-- what was told of the call at the pc is so still, if no step was made
+abbrev pub still : ℕ → Bool → Bool
+still zero told = told
+still (suc steps) told = false
+
+-- So many steps were made from s to t. The history keeps them, if there is room for one at least.
+pub record Ran (steps : ℕ) (a : Around) (s : State) (b : Around) (t : State) : Type 0 where
+  pub environment_kept : b.environment ≡ a.environment
+  pub kept : 1 ≤ room a.history → KeepsSteps steps a.history s b.history t
+  pub entered_kept : b.entered ≡ still steps a.entered
+  pub told_kept : b.told_exit ≡ still steps a.told_exit
+
+-- From a and s the program goes on to b and t, within a limit of steps and calls: by runs up to
+-- stops and watchpoints, and between two of them by a call that is served. It stops at no call but
+-- by what gdb asked for.
+pub data GoesOn (asked : Asked) (at_limit : Stop) (b : Around) (t : State)
+    : ℕ → Around → State → Type 0 where
+  -- a run, to no call
+  Runs : (limit : ℕ) (a : Around) (s : State) (steps : ℕ) (reason : ForwardReason)
+      → GoesForward asked.stops asked.watches limit s steps reason t
+      → ends_at_call reason ≡ false
+      → Ran steps a s b t → b.stop ≡ stop_of at_limit reason
+      → GoesOn asked at_limit b t limit a s
   -- a run to a call, and a stop there
-  Stops : (limit : ℕ) (e : Recording) (s : State) (steps pc : ℕ) (m : State)
-      → GoesForward stops watches limit s steps (Fault (EnvironmentCall pc)) m
-      → CallStops e m e' t
-      → GoesOn stops watches e' t limit e s
+  Stops : (limit : ℕ) (a : Around) (s : State) (steps pc : ℕ) (c : Around) (m : State)
+      → GoesForward asked.stops asked.watches limit s steps (Fault (EnvironmentCall pc)) m
+      → Ran steps a s c m → CallStops asked c m b t
+      → GoesOn asked at_limit b t limit a s
   -- a run to a call, the call, and what follows within what is left of the limit
-  Calls : (limit : ℕ) (e : Recording) (s : State) (steps pc : ℕ) (m : State)
-      (d : Recording) (u : State)
-      → GoesForward stops watches limit s steps (Fault (EnvironmentCall pc)) m
-      → CallMade stops e m d u
-      → GoesOn stops watches e' t (limit - steps - 1) d u
-      → GoesOn stops watches e' t limit e s
+  Calls : (limit : ℕ) (a : Around) (s : State) (steps pc : ℕ) (c : Around) (m : State)
+      (d : Around) (u : State)
+      → GoesForward asked.stops asked.watches limit s steps (Fault (EnvironmentCall pc)) m
+      → Ran steps a s c m → CallMade asked c m d u
+      → GoesOn asked at_limit b t (limit - steps - 1) d u
+      → GoesOn asked at_limit b t limit a s
 
--- A program that is asked to go on does so, or nothing changes, as where it ended before. `limit`
--- is how many steps and calls it may make.
-abbrev pub GoesOnOrStays : List ℕ → List Watch → ℕ → Recording → State → Recording → State → Type 0
-GoesOnOrStays stops watches limit e s e' t =
-    ((e' ≡ e) × (t ≡ s)) ⊎ GoesOn stops watches e' t limit e s
+-- A program that is asked to go on does so, or nothing changes, as where it ended before.
+abbrev pub GoesOnOrStays : Asked → Most → Around → State → Around → State → Type 0
+GoesOnOrStays asked most a s b t =
+    ((b.environment ≡ a.environment) × (t ≡ s)) ⊎ GoesOn asked most.at b t most.steps a s
 
--- the same from this state, or from there with another pc
-abbrev pub GoesOnFrom : List ℕ → List Watch → ℕ → Recording → State → Recording → State → Type 0
-GoesOnFrom stops watches limit e s e' t =
-    GoesOnOrStays stops watches limit e s e' t
-    ⊎ ((pc : ℕ) × GoesOnOrStays stops watches limit e (with_pc s pc) e' t)
+-- The same from this state, or from there with another pc. A history leads nowhere from there.
+abbrev pub GoesOnFrom : Asked → Most → Around → State → Around → State → Type 0
+GoesOnFrom asked most a s b t =
+    GoesOnOrStays asked most a s b t
+    ⊎ ((pc : ℕ) × GoesOnOrStays asked most (forgotten a) (with_pc s pc) b t)
 
 -- A program that is asked to go on does so. One that has ended stays as it is.
-abbrev pub GoesOnUnless : Bool → List ℕ → List Watch → ℕ → Recording → State → Recording → State
-    → Type 0
-GoesOnUnless true stops watches limit e s e' t = (e' ≡ e) × (t ≡ s)
-GoesOnUnless false stops watches limit e s e' t = GoesOn stops watches e' t limit e s
+abbrev pub GoesOnUnless : Bool → Asked → Most → Around → State → Around → State → Type 0
+GoesOnUnless true asked most a s b t = (b ≡ a) × (t ≡ s)
+GoesOnUnless false asked most a s b t = GoesOn asked most.at b t most.steps a s
 
--- `s` and `c`, behind which nothing stands, or the address to go on from
-pub record Resumes (rest : List ℕ) (ended : Bool) (stops : List ℕ) (watches : List Watch)
-    (limit : ℕ) (e : Recording) (s : State) (e' : Recording) (t : State) (old new : List ℕ)
-    : Type 0 where
-  pub here : rest ≡ [] → GoesOnUnless ended stops watches limit e s e' t
+-- `s` and `c`, behind which nothing stands, or the address to go on from. gdb is told where the
+-- program stops.
+pub record Resumes (rest : List ℕ) (ended : Bool) (asked : Asked) (most : Most)
+    (a : Around) (s : State) (b : Around) (t : State) (old new : List ℕ) : Type 0 where
+  pub here : rest ≡ [] → GoesOnUnless ended asked most a s b t
   pub from_address : IsNumber rest
-      → GoesOnUnless ended stops watches limit e (with_pc s (number rest)) e' t
+      → GoesOnUnless ended asked most (forgotten a) (with_pc s (number rest)) b t
+  pub told : (rest ≡ []) ⊎ IsNumber rest → new ≡ old ++ stop_text b.stop
   pub refused : rest ≢ [] → ¬ IsNumber rest → IsError old new
 
 -- the number of a signal
 abbrev pub IsSignal : List ℕ → Type 0
 IsSignal digits = IsNumber digits × (number digits ≤ 255)
 
+-- a program ends by a signal, where it is, unless it has ended
+abbrev pub KilledUnless : Bool → ℕ → Around → State → Around → State → Type 0
+KilledUnless true signal a s b t = (b ≡ a) × (t ≡ s)
+KilledUnless false signal a s b t = (b ≡ stopped_at a (stop.Killed signal)) × (t ≡ s)
+
 -- `S` and `C`: a signal, behind which nothing stands, or a semicolon and the address to go on from.
 -- Signal 0 is none. By another one the program ends, where it is.
-pub record Signals (text : List ℕ) (ended : Bool) (stops : List ℕ) (watches : List Watch)
-    (limit : ℕ) (e : Recording) (s : State) (e' : Recording) (t : State) (old new : List ℕ)
-    (at : Stop) : Type 0 where
+pub record Signals (text : List ℕ) (ended : Bool) (asked : Asked) (most : Most)
+    (a : Around) (s : State) (b : Around) (t : State) (old new : List ℕ) : Type 0 where
   pub none : IsNumber (before 59 text) → number (before 59 text) ≡ 0
-      → Resumes (behind 59 text) ended stops watches limit e s e' t old new
+      → Resumes (behind 59 text) ended asked most a s b t old new
   pub kills : IsSignal (before 59 text) → 1 ≤ number (before 59 text) → behind 59 text ≡ []
-      → ended ≡ false → (e' ≡ e) × (t ≡ s) × (at ≡ stop.Killed (number (before 59 text)))
+      → KilledUnless ended (number (before 59 text)) a s b t × (new ≡ old ++ stop_text b.stop)
   pub refused : ¬ IsSignal (before 59 text) → IsError old new
 
 -- the first action of `vCont`, without the thread that it is for
@@ -268,10 +440,12 @@ abbrev pub first_action : List ℕ → List ℕ
 first_action actions = before 58 (before 59 actions)
 
 -- `vCont;actions`: the first action counts.
-pub record Acts (actions : List ℕ) (ended : Bool) (stops : List ℕ) (watches : List Watch)
-    (limit : ℕ) (e : Recording) (s : State) (e' : Recording) (t : State) : Type 0 where
-  pub step : first_action actions ≡ 115 ∷ [] → GoesOnUnless ended stops watches 1 e s e' t
-  pub goes_on : first_action actions ≡ 99 ∷ [] → GoesOnUnless ended stops watches limit e s e' t
+pub record Acts (actions : List ℕ) (ended : Bool) (asked : Asked) (limit : ℕ)
+    (a : Around) (s : State) (b : Around) (t : State) (old new : List ℕ) : Type 0 where
+  pub step : first_action actions ≡ 115 ∷ []
+      → GoesOnUnless ended asked one_step a s b t × (new ≡ old ++ stop_text b.stop)
+  pub goes_on : first_action actions ≡ 99 ∷ []
+      → GoesOnUnless ended asked (up_to limit) a s b t × (new ≡ old ++ stop_text b.stop)
 
 -- ---- the program goes back
 
@@ -311,12 +485,11 @@ SessionGoesBack limit old e s new e' t =
 
 -- ---- of the code
 
--- What comes of going on so. A program that is killed is left as it is.
-abbrev pub GoesBy : Going → Bool → List ℕ → List Watch → ℕ → Recording → State → Recording → State
-    → Type 0
-GoesBy Step ended stops watches limit e s e' t = GoesOnUnless ended stops watches 1 e s e' t
-GoesBy Proceed ended stops watches limit e s e' t = GoesOnUnless ended stops watches limit e s e' t
-GoesBy (Killed signal) ended stops watches limit e s e' t = (e' ≡ e) × (t ≡ s)
+-- what comes of going on so
+abbrev pub GoesBy : Going → Bool → Asked → ℕ → Around → State → Around → State → Type 0
+GoesBy Step ended asked limit a s b t = GoesOnUnless ended asked one_step a s b t
+GoesBy Proceed ended asked limit a s b t = GoesOnUnless ended asked (up_to limit) a s b t
+GoesBy (Killed signal) ended asked limit a s b t = KilledUnless ended signal a s b t
 
 -- the action is to go on so, and this stands behind its letter
 abbrev pub HasAction : List ℕ → Going → List ℕ → Type 0
@@ -352,10 +525,3 @@ abbrev pub HasNoSignal : List ℕ → Type 0
 HasNoSignal action =
     (letter action ≡ 83 → ¬ IsSignal (before 59 (drop 1 action)))
     × (letter action ≡ 67 → ¬ IsSignal (before 59 (drop 1 action)))
-
--- a program that had not ended ends by the signal that kills it
-abbrev pub EndsBy : Going → Bool → Stop → Type 0
-EndsBy Step ended at = Unit {0}
-EndsBy Proceed ended at = Unit {0}
-EndsBy (Killed signal) true at = Unit {0}
-EndsBy (Killed signal) false at = at ≡ stop.Killed signal

@@ -1,9 +1,15 @@
 -- How gdb is shown the machine (gdb's manual, "Remote Serial Protocol", "Packets": g, p and m): each
 -- byte as two hexadecimal digits, and a register as its bytes, the lowest first. The registers are x0
--- to x31 and then the pc, by the numbers of the target's description.
-use Rattle.std.specs.Prelude.{◌≡◌, ℕ, zero, suc, ◌+◌, ◌*◌, ◌/◌, ◌%◌, ◌<◌, ◌==◌, if◌then◌else◌, List, [], ◌∷◌, ◌++◌, length, slice_index, slice_set, Some}
+-- to x31 and then the pc, by the numbers of the target's description. And how it is told where the
+-- program stopped ("Stop Reply Packets": S, T, W and X).
+use Rattle.std.specs.Prelude.{◌≡◌, ℕ, zero, suc, ◌+◌, ◌*◌, ◌/◌, ◌%◌, ◌<◌, ◌==◌, if◌then◌else◌, List, [], ◌∷◌, ◌++◌, length, slice_index, slice_set, false, Some, codes}
+use Rattle.std.specs.Fmt.{digits}
 use Rattle.rrs_lib.specs.Bytes.{ByteMap}
 use Rattle.rrs_lib.specs.Machine.{State, reg, with_pc}
+use Rattle.rrs_gdb.specs.declared.breaks.WatchKind.{WatchKind}
+use Rattle.rrs_gdb.specs.declared.breaks.WatchKind.TheVariants as Kind
+use Rattle.rrs_gdb.specs.declared.state.Stop.{Stop}
+use Rattle.rrs_gdb.specs.declared.state.Stop.TheVariants.{Signal, Touched, AtBegin, Entry, Return, Exited, Killed}
 use Rattle.rrs_gdb.specs.Packets.{digits_of}
 
 -- bytes as digits
@@ -48,3 +54,24 @@ word_at bytes i =
 -- the memory has these bytes from a on
 abbrev pub HasBytes : ByteMap → ℕ → List ℕ → Type 0
 HasBytes bytes a values = (i : ℕ) → i < length values → bytes (a + i) ≡ Some (slice_index values i)
+
+-- ---- where the program stopped
+
+-- the kind of a watchpoint
+abbrev pub kind_name : WatchKind → List ℕ
+kind_name Kind.Write = codes "watch"
+kind_name Kind.Read = codes "rwatch"
+kind_name Kind.Access = codes "awatch"
+
+-- by SIGTRAP, 5, with what is to be told, and a number in hexadecimal digits
+abbrev pub named_text : List ℕ → ℕ → List ℕ
+named_text name number = codes "T05" ++ (name ++ (codes ":" ++ (digits 16 false number ++ codes ";")))
+
+abbrev pub stop_text : Stop → List ℕ
+stop_text (Signal signal) = 83 ∷ digits_of signal
+stop_text (Touched watch) = named_text (kind_name watch.kind) watch.address
+stop_text AtBegin = codes "T05replaylog:begin;"
+stop_text (Entry number) = named_text (codes "syscall_entry") number
+stop_text (Return number) = named_text (codes "syscall_return") number
+stop_text (Exited status) = 87 ∷ digits_of status
+stop_text (Killed signal) = 88 ∷ digits_of signal

@@ -1,12 +1,13 @@
 //! Where a run stops.
 
-ghost use Rattle.std.specs.Prelude.{◌≡◌, ◌≤◌, Contains, MatchOption, Ok, OnErr};
+ghost use Rattle.std.specs.Prelude.{◌≡◌, ◌≤◌, Contains, MatchOption, Ok, OnErr, OnOk};
 ghost use Rattle.std.specs.Bool.{OnTrue, OnFalse};
 ghost use Rattle.rrs_lib.specs.Bytes.{width};
 ghost use Rattle.rrs_lib.specs.Executor.{state_in, KeepsTheRest};
 ghost use Rattle.rrs_trace.specs.Outside.{AccessesAfterFetch, WithEachMemory, requested};
 ghost use Rattle.rrs_gdb.specs.declared.breaks.Watch.{Watch};
-ghost use Rattle.rrs_gdb.specs.Breaks.{IsWatched, IsAskedOf, TouchesNone, TouchesOne};
+ghost use Rattle.rrs_gdb.specs.Shown.{kind_name};
+ghost use Rattle.rrs_gdb.specs.Breaks.{WithEntry, WithoutEntry, IsWatched, IsAskedOf, TouchesNone, TouchesOne};
 
 use rrs_lib::instruction_executor::{InstructionExecutor, fetch_word};
 use rrs_lib::{HartState, MemAccessSize, Memory};
@@ -37,7 +38,9 @@ pub struct Watch {
 
 impl Watch {
     /// The name of its kind, as gdb is told.
-    pub(crate) fn name(&self) -> &'static [u8] {
+    pub(crate) fn name(&self) -> &'static [u8]
+        ensures { result.now ≡ kind_name self.now.kind }
+    {
         match self.kind {
             WatchKind::Write => b"watch",
             WatchKind::Read => b"rwatch",
@@ -111,17 +114,21 @@ impl Breaks {
     ///
     /// Out of memory. Then the breakpoints are as they were.
     pub fn set_stop(&mut self, address: u32) -> Result<(), AllocError>
+        ensures set { OnOk result
+            (WithEntry self.old.stops.items address self.new.stops.items) }
         ensures watches { self.new.watches.items ≡ self.old.watches.items }
         ensures none { OnErr result (self.new.stops.items ≡ self.old.stops.items) }
     {
-        if !self.stops.contains(&address) {
-            self.stops.push(address)?;
+        if self.stops.contains(&address) {
+            return Ok(());
         }
+        self.stops.push(address)?;
         Ok(())
     }
 
     /// Removes a breakpoint, if it is set.
     pub fn remove_stop(&mut self, address: u32)
+        ensures removed { WithoutEntry self.old.stops.items address self.new.stops.items }
         ensures watches { self.new.watches.items ≡ self.old.watches.items }
     {
         self.stops.retain(|stop| *stop != address);
@@ -133,17 +140,21 @@ impl Breaks {
     ///
     /// Out of memory. Then the watchpoints are as they were.
     pub fn set_watch(&mut self, watch: Watch) -> Result<(), AllocError>
+        ensures set { OnOk result
+            (WithEntry self.old.watches.items watch self.new.watches.items) }
         ensures stops { self.new.stops.items ≡ self.old.stops.items }
         ensures none { OnErr result (self.new.watches.items ≡ self.old.watches.items) }
     {
-        if !self.watches.contains(&watch) {
-            self.watches.push(watch)?;
+        if self.watches.contains(&watch) {
+            return Ok(());
         }
+        self.watches.push(watch)?;
         Ok(())
     }
 
     /// Removes a watchpoint, if it is set.
     pub fn remove_watch(&mut self, watch: Watch)
+        ensures removed { WithoutEntry self.old.watches.items watch self.new.watches.items }
         ensures stops { self.new.stops.items ≡ self.old.stops.items }
     {
         self.watches.retain(|other| *other != watch);

@@ -1,5 +1,9 @@
 //! The two streams of a session.
 
+ghost use Rattle.std.specs.Prelude.{◌≡◌, OnOk};
+ghost use Rattle.std.specs.Io.KnownBytes.{Appends};
+ghost use Rattle.rrs_gdb.specs.Packets.{packet};
+
 use crate::framing::{PacketError, decode, encode};
 use std::alloc::{AllocError, AllocFailed, Global};
 use std::io::{Read, Write};
@@ -125,20 +129,32 @@ fn read_frame<R: Read>(alloc: Global, reader: &mut R) -> Result<Option<Frame>, A
 }
 
 /// Writes bytes at once.
-fn write_at_once<W: Write>(writer: &mut W, bytes: &[u8]) -> Result<(), LinkError> {
-    if writer.write_all(bytes).is_err() || writer.flush().is_err() {
+fn write_at_once<W: Write>(writer: &mut W, bytes: &[u8]) -> Result<(), LinkError>
+    ensures { OnOk result (Appends (W.contents writer.old) (W.contents writer.new) bytes.now) }
+{
+    if writer.write_all(bytes).is_err() {
         return Err(LinkError::Output);
     }
-    Ok(())
+    match writer.flush() {
+        Ok(()) => Ok(()),
+        Err(_) => Err(LinkError::Output),
+    }
 }
 
 impl<R: Read, W: Write> Link<R, W> {
-    /// Sends a payload.
+    /// Sends a payload: its packet is written, behind what was written before (`sent`), and kept, so
+    /// that a `-` has it sent again (`last`).
     ///
     /// # Errors
     ///
     /// Out of memory, and a write that fails.
-    pub fn send(&mut self, payload: &[u8]) -> Result<(), LinkError> {
+    pub fn send(&mut self, payload: &[u8]) -> Result<(), LinkError>
+        ensures sent { OnOk result (Appends (W.contents self.old.writer) (W.contents self.new.writer)
+            (packet payload.now)) }
+        ensures last { OnOk result (self.new.last.items ≡ packet payload.now) }
+        ensures reader { self.new.reader ≡ self.old.reader }
+        ensures acknowledges { self.new.acknowledges ≡ self.old.acknowledges }
+    {
         let frame = encode(self.alloc, payload)?;
         write_at_once(&mut self.writer, &frame)?;
         self.last = frame;
@@ -191,6 +207,9 @@ impl<R: Read, W: Write> Link<R, W> {
 
     /// The next packet. What lies between two packets is skipped; a `-` there has the last packet
     /// sent again.
+    ///
+    /// Which payload a packet has is proved (`decode`). That the bytes that are read come to it as
+    /// they are, and none is left out, is tested alone (`examples/gdb/check`).
     ///
     /// # Errors
     ///

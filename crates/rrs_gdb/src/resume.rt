@@ -1,10 +1,11 @@
 //! The program goes on, forward and back.
 
-ghost use Rattle.std.specs.Prelude.{◌≡◌, ◌≢◌, ◌-◌, ◌^◌, Contains, IfNone, IfOk, MatchOption, OnOk};
+ghost use Rattle.std.specs.Prelude.{◌≡◌, ◌≢◌, ◌%◌, false, Contains, IfOk, MatchOption, OnOk};
 ghost use Rattle.std.specs.Bool.{OnTrue, OnFalse};
 ghost use Rattle.rrs_gdb.specs.declared.back.BackEnd.{BackEnd};
 ghost use Rattle.rrs_lib.specs.Executor.{state_in};
-ghost use Rattle.rrs_gdb.specs.Sessions.{CallMade, CallStops, CallTakenBack, GoesOn, OutputTaken, PlacesKept, SessionGoesBack};
+ghost use Rattle.rrs_linux.specs.Recording.{Recording};
+ghost use Rattle.rrs_gdb.specs.Sessions.{CallMade, CallStops, CallTakenBack, GoesOn, OutputTaken, PassesBefore, PlacesKept, SessionGoesBack, StopsBefore, StopsBehind, around, asked_by, ends_at_call, is_call, signal_of, still, stop_of, stopped_at};
 
 use crate::back::{BackEnd, go_back};
 use crate::forward::{ForwardEnd, ForwardReason, go_forward, is_stop};
@@ -30,7 +31,9 @@ const EXIT_GROUP: u32 = 94;
 const OUTPUT_BYTES: usize = 2048;
 
 /// gdb's number of the signal that a program gets for an exception.
-pub(crate) fn signal_of(fault: &InstructionException) -> u8 {
+fn signal_of(fault: &InstructionException) -> u8
+    ensures { result ≡ signal_of fault.now }
+{
     match fault {
         InstructionException::IllegalInstruction(_, _) => 4,
         InstructionException::Breakpoint(_) => 5,
@@ -64,7 +67,8 @@ fn send_new<R: Read, W: Write>(
     link: &mut Link<R, W>,
     bytes: &[u8],
 ) -> Result<(), LinkError>
-    ensures { PlacesKept state.old state.new }
+    ensures places { PlacesKept state.old state.new }
+    ensures around { (e : Recording) → around state.new e ≡ around state.old e }
 {
     let known = state.sent.saturating_sub(state.made);
     state.made = state.made.saturating_add(bytes.len() as u64);
@@ -82,6 +86,7 @@ fn send_made<R: Read, W: Write>(
     link: &mut Link<R, W>,
 ) -> Result<(), LinkError>
     ensures places { PlacesKept state.old state.new }
+    ensures around { (e : Recording) → around state.new e ≡ around state.old e }
     ensures taken { OnOk result (OutputTaken environment.old environment.new) }
 {
     send_new(state, link, &environment.output)?;
@@ -93,7 +98,12 @@ fn send_made<R: Read, W: Write>(
 
 /// Whether a stop comes before the call at the pc is made.
 fn stop_before(state: &mut SessionState<'_>, number: u32) -> Option<Stop>
-    ensures { PlacesKept state.old state.new }
+    ensures places { PlacesKept state.old state.new }
+    ensures stop { (e : Recording) → MatchOption result
+        ((around state.new e ≡ around state.old e)
+        × PassesBefore (asked_by state.old) (around state.old e) number)
+        (λ at. StopsBefore (asked_by state.old) (around state.old e) number
+        (stopped_at (around state.new e) at)) }
 {
     if state.catches(number) && !state.has_entered {
         state.has_entered = true;
@@ -107,10 +117,14 @@ fn stop_before(state: &mut SessionState<'_>, number: u32) -> Option<Stop>
     None
 }
 
-/// Whether a stop comes behind a call that was made.
+/// Whether a stop comes behind a call that was made, and after which the program goes on.
 fn stop_behind(state: &mut SessionState<'_>, number: u32, pc: u32) -> Option<Stop>
     ensures places { PlacesKept state.old state.new }
-    ensures none { IfNone result (Contains state.old.breaks.stops.items pc → ⊥) }
+    ensures around { (e : Recording)
+        → around state.new e ≡ record (around state.old e) { entered = false } }
+    ensures stop { MatchOption result
+        ((state.old.has_entered ≡ false) × ¬ Contains state.old.breaks.stops.items pc)
+        (λ at. StopsBehind state.old.has_entered state.old.breaks.stops.items number pc at) }
 {
     if state.has_entered {
         state.has_entered = false;
@@ -131,10 +145,13 @@ fn make_call<M: Memory, R: Read, W: Write>(
 ) -> Result<Option<Stop>, LinkError>
     ensures places { PlacesKept state.old state.new }
     ensures made { IfOk result (λ stop. MatchOption stop
-        (CallMade state.old.breaks.stops.items environment.old (state_in M.bytes M.writable executor.old)
-        environment.new (state_in M.bytes M.writable executor.new))
-        (λ stop. CallStops environment.old (state_in M.bytes M.writable executor.old)
-        environment.new (state_in M.bytes M.writable executor.new))) }
+        (CallMade (asked_by state.old)
+        (around state.old environment.old) (state_in M.bytes M.writable executor.old)
+        (around state.new environment.new) (state_in M.bytes M.writable executor.new))
+        (λ at. CallStops (asked_by state.old)
+        (around state.old environment.old) (state_in M.bytes M.writable executor.old)
+        (stopped_at (around state.new environment.new) at)
+        (state_in M.bytes M.writable executor.new))) }
 {
     let number = executor.hart_state.read_register(17);
     if let Some(stop) = stop_before(state, number) {
@@ -145,24 +162,69 @@ fn make_call<M: Memory, R: Read, W: Write>(
         top: environment.heap.top,
         made: state.made,
     };
-    match step_served(executor, environment, &mut state.history) {
+    let end = match step_served(executor, environment, &mut state.history) {
+        Ok(end) => end,
         Err(fault) => return Ok(Some(Stop::Signal(signal_of(&fault)))),
-        Ok(Some(status)) => return Ok(Some(Stop::Exited((status % 256) as u8))),
-        Ok(None) => {}
-    }
+    };
     let _oldest = state.calls.push_front(mark);
     send_made(state, environment, link)?;
     state.steps = state.steps.saturating_add(1);
-    Ok(stop_behind(state, number, executor.hart_state.pc))
+    match end {
+        Some(status) => Ok(Some(Stop::Exited((status % 256) as u8))),
+        None => Ok(stop_behind(state, number, executor.hart_state.pc)),
+    }
 }
 
 /// The stop of steps forward that ended, but for a call.
-fn stop_of(reason: &ForwardReason, at_limit: Stop) -> Stop {
+fn stop_of(reason: &ForwardReason, at_limit: Stop) -> Stop
+    ensures { result ≡ stop_of at_limit reason.now }
+{
     match reason {
         ForwardReason::AtStop => Stop::Signal(TRAPPED),
         ForwardReason::Touches(watch) => Stop::Touched(*watch),
         ForwardReason::Limit => at_limit,
         ForwardReason::Fault(fault) => Stop::Signal(signal_of(fault)),
+    }
+}
+
+/// Counts steps that were made. After one nothing is told of the call at the pc.
+fn count_steps(state: &mut SessionState<'_>, steps: u64)
+    ensures places { PlacesKept state.old state.new }
+    ensures around { (e : Recording) → around state.new e ≡ record (around state.old e) {
+      entered = still steps state.old.has_entered;
+      told_exit = still steps state.old.has_told_exit;
+    } }
+{
+    state.steps = state.steps.saturating_add(steps);
+    if steps == 0 {
+        return;
+    }
+    state.has_entered = false;
+    state.has_told_exit = false;
+}
+
+/// Whether a run ended at a call.
+fn ends_at_call(reason: &ForwardReason) -> bool
+    ensures { result ≡ ends_at_call reason.now }
+{
+    match reason {
+        ForwardReason::Fault(fault) => is_call(fault),
+        ForwardReason::AtStop | ForwardReason::Touches(_) | ForwardReason::Limit => false,
+    }
+}
+
+/// Whether an exception is a call.
+fn is_call(fault: &InstructionException) -> bool
+    ensures { result ≡ is_call fault.now }
+{
+    match fault {
+        InstructionException::EnvironmentCall(_) => true,
+        InstructionException::IllegalInstruction(_, _)
+        | InstructionException::Breakpoint(_)
+        | InstructionException::AlignmentFault(_)
+        | InstructionException::FetchError(_)
+        | InstructionException::LoadAccessFault(_)
+        | InstructionException::StoreAccessFault(_) => false,
     }
 }
 
@@ -177,10 +239,10 @@ pub(crate) fn forward<M: Memory, G: StopRunner<M>, R: Read, W: Write>(
     at_limit: Stop,
 ) -> Result<Stop, LinkError>
     ensures places { PlacesKept state.old state.new }
-    ensures goes_on { OnOk result (GoesOn state.old.breaks.stops.items
-        state.old.breaks.watches.items
-        environment.new (state_in M.bytes M.writable executor.new)
-        limit environment.old (state_in M.bytes M.writable executor.old)) }
+    ensures goes_on { IfOk result (λ at. GoesOn (asked_by state.old) at_limit
+        (stopped_at (around state.new environment.new) at)
+        (state_in M.bytes M.writable executor.new)
+        limit (around state.old environment.old) (state_in M.bytes M.writable executor.old)) }
 {
     let mut left = limit;
     'legs: while left > 0 {
@@ -191,14 +253,10 @@ pub(crate) fn forward<M: Memory, G: StopRunner<M>, R: Read, W: Write>(
             left,
             &state.breaks,
         );
-        state.steps = state.steps.saturating_add(steps);
-        if steps > 0 {
-            state.has_entered = false;
-            state.has_told_exit = false;
-        }
-        let ForwardReason::Fault(InstructionException::EnvironmentCall(_)) = reason else {
+        count_steps(state, steps);
+        if !ends_at_call(&reason) {
             return Ok(stop_of(&reason, at_limit));
-        };
+        }
         if let Some(stop) = make_call(state, executor, environment, link)? {
             return Ok(stop);
         }
@@ -223,7 +281,7 @@ fn take_call_back<'a>(state: &mut SessionState<'a>, environment: &mut OutputReco
 }
 
 /// Whether steps back ended behind a call.
-fn is_call(end: &BackEnd) -> bool
+fn is_behind_call(end: &BackEnd) -> bool
     ensures yes { OnTrue result (end.now ≡ BackEnd.Call) }
     ensures no { OnFalse result (end.now ≢ BackEnd.Call) }
 {
@@ -259,7 +317,7 @@ pub(crate) fn backward<'a, M: Memory>(
     let mut left = limit;
     'legs: while left > 0 {
         let end = go_back(executor, &mut state.history, left, &state.breaks);
-        if !is_call(&end) {
+        if !is_behind_call(&end) {
             return stop_back(&end);
         }
         take_call_back(state, environment);

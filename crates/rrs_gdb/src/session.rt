@@ -6,11 +6,12 @@ ghost use Rattle.hex.specs.Hex.{decode_of, decode_sized};
 ghost use Rattle.rrs_lib.specs.Bytes.{ByteMap};
 ghost use Rattle.rrs_lib.specs.Machine.{state_of};
 ghost use Rattle.rrs_lib.specs.Executor.{state_in};
+ghost use Rattle.rrs_linux.specs.Recording.{Recording};
 ghost use Rattle.rrs_gdb.specs.declared.session.Going.{Going};
 ghost use Rattle.rrs_gdb.specs.Answers.{BeginsBy, Goes, HasSubject, IsDone, Leaves, Means, Sets, Shows, moment};
-ghost use Rattle.rrs_gdb.specs.Sessions.{letter, Acts, BreaksKept, BySignal, EndsBy, HasNoSignal, HasSignal, IsSignal, Signals, BreaksNone, GoesBy, GoesOnFrom, GoesOnOrStays, HasAction, HasLetter, HasRegisters, Resumes, SetsRegisters, has_ended, ChangesMemory, ChangesNone, ChangesRegister, IsError, MemoryKept, PlacesKept, RegistersKept, RunsNone, SessionGoesBack, SessionKept, SettingsKept, IsChangeable, SetsBytes, SetsMemory, SetsRegister, ShowsBytes, ShowsMemory, ShowsRegister};
+ghost use Rattle.rrs_gdb.specs.Sessions.{letter, Acts, BreaksKept, BySignal, HasNoSignal, HasSignal, IsSignal, Signals, BreaksNone, GoesBy, GoesOnFrom, GoesOnOrStays, ForgetsOrStays, HasAction, HasLetter, HasRegisters, Most, Resumes, SetsRegisters, around, asked_by, has_ended, one_step, up_to, ChangesMemory, ChangesNone, ChangesRegister, IsError, MemoryKept, PlacesKept, RegistersKept, RunsNone, SessionGoesBack, SessionKept, SettingsKept, IsChangeable, SetsBytes, SetsMemory, SetsRegister, ShowsBytes, ShowsMemory, ShowsRegister};
 ghost use Rattle.rrs_gdb.specs.Packets.{IsNumber, number, before, behind};
-ghost use Rattle.rrs_gdb.specs.Shown.{registers_text, with_register, word_at};
+ghost use Rattle.rrs_gdb.specs.Shown.{registers_text, stop_text, with_register, word_at};
 
 use crate::breaks::{Watch, WatchKind};
 use crate::contents::{read_memory, write_memory};
@@ -286,6 +287,9 @@ fn change_memory<M: Memory>(
     ensures set { length bytes.now ≡ count → 1 ≤ length bytes.now
         → SetsBytes address bytes.now (state_in M.bytes M.writable executor.old)
         (state_in M.bytes M.writable executor.new) [] result.1.now }
+    ensures none { bytes.now ≡ [] → state_in M.bytes M.writable executor.new
+        ≡ state_in M.bytes M.writable executor.old }
+    ensures refused { length bytes.now ≢ count → IsError [] result.1.now }
 {
     if bytes.len() != count as usize {
         return (false, INVALID);
@@ -312,6 +316,8 @@ fn change_by_digits<M: Memory>(
         → decode_of (behind 58 text.now) ≡ Ok values
         → SetsMemory values text.now (state_in M.bytes M.writable executor.old)
         (state_in M.bytes M.writable executor.new) [] outcome.1.now) }
+    ensures no_values { IfOk result (λ outcome. ¬ IsOk (decode_of (behind 58 text.now))
+        → IsError [] outcome.1.now) }
 {
     let Some((address, length, digits)) = place_and_bytes(text) else {
         return Ok((false, INVALID));
@@ -409,6 +415,8 @@ fn alter<M: Memory>(
     ensures sets { OnOk result (Sets payload.now
         (state_in M.bytes M.writable executor.old) (state_in M.bytes M.writable executor.new)
         reply.old.items reply.new.items) }
+    ensures forgets { OnOk result (ForgetsOrStays (state_in M.bytes M.writable executor.old)
+        (state_in M.bytes M.writable executor.new) state.old state.new) }
     ensures error { OnOk result (IsError reply.old.items reply.new.items
         → (state_in M.bytes M.writable executor.new ≡ state_in M.bytes M.writable executor.old)
         × SessionKept state.old state.new) }
@@ -514,7 +522,8 @@ fn signal_and_rest(text: &[u8], going: Going) -> Option<(Going, &[u8])>
 
 /// Appends where the program stopped.
 fn tell_stop(alloc: Global, reply: &mut Vec<u8>, stop: Stop) -> Result<Next, LinkError>
-    ensures { OnOk result (IsError reply.old.items reply.new.items → ⊥) }
+    ensures told { OnOk result (reply.new.items ≡ reply.old.items ++ stop_text stop) }
+    ensures no_error { OnOk result (IsError reply.old.items reply.new.items → ⊥) }
 {
     push_stop(alloc, reply, stop)?;
     Ok(Next::Reply)
@@ -531,11 +540,11 @@ fn go<M: Memory, G: StopRunner<M>, R: Read, W: Write>(
     going: Going,
 ) -> Result<Next, LinkError>
     ensures places { PlacesKept state.old state.new }
-    ensures goes_on { OnOk result (GoesBy going (has_ended state.old) state.old.breaks.stops.items
-        state.old.breaks.watches.items state.old.settings.limit
-        environment.old (state_in M.bytes M.writable executor.old)
-        environment.new (state_in M.bytes M.writable executor.new)) }
-    ensures killed { OnOk result (EndsBy going (has_ended state.old) state.new.stop) }
+    ensures goes_on { OnOk result (GoesBy going (has_ended state.old) (asked_by state.old)
+        state.old.settings.limit
+        (around state.old environment.old) (state_in M.bytes M.writable executor.old)
+        (around state.new environment.new) (state_in M.bytes M.writable executor.new)) }
+    ensures told { OnOk result (reply.new.items ≡ reply.old.items ++ stop_text state.new.stop) }
     ensures error { OnOk result (IsError reply.old.items reply.new.items → ⊥) }
 {
     if state.has_ended() {
@@ -570,9 +579,9 @@ fn begin_at<M: Memory>(
     address: &[u8],
 ) -> bool
     ensures places { PlacesKept state.old state.new }
-    ensures ended { has_ended state.new ≡ has_ended state.old }
-    ensures begins { OnTrue result (BeginsBy address.now
-        (state_in M.bytes M.writable executor.old) (state_in M.bytes M.writable executor.new)) }
+    ensures begins { (e : Recording) → OnTrue result (BeginsBy address.now
+        (around state.old e) (state_in M.bytes M.writable executor.old)
+        (around state.new e) (state_in M.bytes M.writable executor.new)) }
     ensures none { OnFalse result ((0 < length address.now) × ¬ IsNumber address.now) }
     ensures kept { OnFalse result
         ((state_in M.bytes M.writable executor.new ≡ state_in M.bytes M.writable executor.old)
@@ -632,14 +641,14 @@ fn go_on<M: Memory, G: StopRunner<M>, R: Read, W: Write>(
     ensures error { OnOk result (IsError reply.old.items reply.new.items
         → (state_in M.bytes M.writable executor.new ≡ state_in M.bytes M.writable executor.old)
         × (environment.new ≡ environment.old) × SessionKept state.old state.new) }
-    ensures goes_on { OnOk result ((limit : ℕ) × GoesOnOrStays state.old.breaks.stops.items
-        state.old.breaks.watches.items limit
-        environment.old (state_in M.bytes M.writable executor.old)
-        environment.new (state_in M.bytes M.writable executor.new)) }
-    ensures acts { OnOk result (Acts actions.now (has_ended state.old)
-        state.old.breaks.stops.items state.old.breaks.watches.items state.old.settings.limit
-        environment.old (state_in M.bytes M.writable executor.old)
-        environment.new (state_in M.bytes M.writable executor.new)) }
+    ensures goes_on { OnOk result ((most : Most) × GoesOnOrStays (asked_by state.old) most
+        (around state.old environment.old) (state_in M.bytes M.writable executor.old)
+        (around state.new environment.new) (state_in M.bytes M.writable executor.new)) }
+    ensures acts { OnOk result (Acts actions.now (has_ended state.old) (asked_by state.old)
+        state.old.settings.limit
+        (around state.old environment.old) (state_in M.bytes M.writable executor.old)
+        (around state.new environment.new) (state_in M.bytes M.writable executor.new)
+        reply.old.items reply.new.items) }
 {
     let (action, _others) = cut_or_all(actions, b';');
     let (action, _thread) = cut_or_all(action, b':');
@@ -682,7 +691,8 @@ fn run_again(
     reply: &mut Vec<u8>,
     text: &[u8],
 ) -> Result<Next, AllocError>
-    ensures { SessionKept state.old state.new }
+    ensures kept { SessionKept state.old state.new }
+    ensures places { PlacesKept state.old state.new }
 {
     let (_name, arguments) = cut_or_all(text, b';');
     let Some(arguments) = arguments_of(alloc, arguments)? else {
@@ -702,7 +712,8 @@ fn ask(
     reply: &mut Vec<u8>,
     payload: &[u8],
 ) -> Result<Next, AllocError>
-    ensures { SessionKept state.old state.new }
+    ensures kept { SessionKept state.old state.new }
+    ensures places { PlacesKept state.old state.new }
 {
     if let Some(words) = behind(payload, b"vRun;") {
         return run_again(alloc, state, reply, words);
@@ -741,15 +752,15 @@ fn act<M: Memory, G: StopRunner<M>, R: Read, W: Write>(
     ensures error { OnOk result (IsError reply.old.items reply.new.items
         → (state_in M.bytes M.writable executor.new ≡ state_in M.bytes M.writable executor.old)
         × (environment.new ≡ environment.old) × SessionKept state.old state.new) }
-    ensures goes_on { OnOk result ((limit : ℕ) × GoesOnOrStays state.old.breaks.stops.items
-        state.old.breaks.watches.items limit
-        environment.old (state_in M.bytes M.writable executor.old)
-        environment.new (state_in M.bytes M.writable executor.new)) }
+    ensures goes_on { OnOk result ((most : Most) × GoesOnOrStays (asked_by state.old) most
+        (around state.old environment.old) (state_in M.bytes M.writable executor.old)
+        (around state.new environment.new) (state_in M.bytes M.writable executor.new)) }
     ensures acts { (actions : List ℕ) → payload.now ≡ 118 ∷ 67 ∷ 111 ∷ 110 ∷ 116 ∷ 59 ∷ actions
-        → OnOk result (Acts actions (has_ended state.old)
-        state.old.breaks.stops.items state.old.breaks.watches.items state.old.settings.limit
-        environment.old (state_in M.bytes M.writable executor.old)
-        environment.new (state_in M.bytes M.writable executor.new)) }
+        → OnOk result (Acts actions (has_ended state.old) (asked_by state.old)
+        state.old.settings.limit
+        (around state.old environment.old) (state_in M.bytes M.writable executor.old)
+        (around state.new environment.new) (state_in M.bytes M.writable executor.new)
+        reply.old.items reply.new.items) }
 {
     if let Some(actions) = behind(payload, b"vCont;") {
         return go_on(runner, state, executor, environment, link, reply, actions);
@@ -935,55 +946,56 @@ pub fn answer_to<'a, M: Memory, G: StopRunner<M>, R: Read, W: Write>(
         → RegistersKept (state_in M.bytes M.writable executor.old)
         (state_in M.bytes M.writable executor.new) }
     ensures step { (letter payload.now ≡ 115) ⊎ (letter payload.now ≡ 83)
-        → OnOk result (GoesOnFrom state.old.breaks.stops.items
-        state.old.breaks.watches.items 1
-        environment.old (state_in M.bytes M.writable executor.old)
-        environment.new (state_in M.bytes M.writable executor.new)) }
+        → OnOk result (GoesOnFrom (asked_by state.old) one_step
+        (around state.old environment.old) (state_in M.bytes M.writable executor.old)
+        (around state.new environment.new) (state_in M.bytes M.writable executor.new)) }
     ensures goes_on { (letter payload.now ≡ 99) ⊎ (letter payload.now ≡ 67)
-        → OnOk result (GoesOnFrom state.old.breaks.stops.items
-        state.old.breaks.watches.items state.old.settings.limit
-        environment.old (state_in M.bytes M.writable executor.old)
-        environment.new (state_in M.bytes M.writable executor.new)) }
+        → OnOk result (GoesOnFrom (asked_by state.old) (up_to state.old.settings.limit)
+        (around state.old environment.old) (state_in M.bytes M.writable executor.old)
+        (around state.new environment.new) (state_in M.bytes M.writable executor.new)) }
     ensures steps { letter payload.now ≡ 115 → OnOk result (Resumes (drop 1 payload.now)
-        (has_ended state.old) state.old.breaks.stops.items state.old.breaks.watches.items 1
-        environment.old (state_in M.bytes M.writable executor.old)
-        environment.new (state_in M.bytes M.writable executor.new)
+        (has_ended state.old) (asked_by state.old) one_step
+        (around state.old environment.old) (state_in M.bytes M.writable executor.old)
+        (around state.new environment.new) (state_in M.bytes M.writable executor.new)
         reply.old.items reply.new.items) }
     ensures continues { letter payload.now ≡ 99 → OnOk result (Resumes (drop 1 payload.now)
-        (has_ended state.old) state.old.breaks.stops.items state.old.breaks.watches.items
-        state.old.settings.limit environment.old (state_in M.bytes M.writable executor.old)
-        environment.new (state_in M.bytes M.writable executor.new)
+        (has_ended state.old) (asked_by state.old) (up_to state.old.settings.limit)
+        (around state.old environment.old) (state_in M.bytes M.writable executor.old)
+        (around state.new environment.new) (state_in M.bytes M.writable executor.new)
         reply.old.items reply.new.items) }
     ensures step_signal { letter payload.now ≡ 83 → OnOk result (Signals (drop 1 payload.now)
-        (has_ended state.old) state.old.breaks.stops.items state.old.breaks.watches.items 1
-        environment.old (state_in M.bytes M.writable executor.old)
-        environment.new (state_in M.bytes M.writable executor.new)
-        reply.old.items reply.new.items state.new.stop) }
+        (has_ended state.old) (asked_by state.old) one_step
+        (around state.old environment.old) (state_in M.bytes M.writable executor.old)
+        (around state.new environment.new) (state_in M.bytes M.writable executor.new)
+        reply.old.items reply.new.items) }
     ensures signal { letter payload.now ≡ 67 → OnOk result (Signals (drop 1 payload.now)
-        (has_ended state.old) state.old.breaks.stops.items state.old.breaks.watches.items
-        state.old.settings.limit environment.old (state_in M.bytes M.writable executor.old)
-        environment.new (state_in M.bytes M.writable executor.new)
-        reply.old.items reply.new.items state.new.stop) }
-    ensures resumes { letter payload.now ≡ 118 → OnOk result ((limit : ℕ)
-        × GoesOnOrStays state.old.breaks.stops.items
-        state.old.breaks.watches.items limit
-        environment.old (state_in M.bytes M.writable executor.old)
-        environment.new (state_in M.bytes M.writable executor.new)) }
+        (has_ended state.old) (asked_by state.old) (up_to state.old.settings.limit)
+        (around state.old environment.old) (state_in M.bytes M.writable executor.old)
+        (around state.new environment.new) (state_in M.bytes M.writable executor.new)
+        reply.old.items reply.new.items) }
+    ensures resumes { letter payload.now ≡ 118 → OnOk result ((most : Most)
+        × GoesOnOrStays (asked_by state.old) most
+        (around state.old environment.old) (state_in M.bytes M.writable executor.old)
+        (around state.new environment.new) (state_in M.bytes M.writable executor.new)) }
     ensures environment { RunsNone payload.now → environment.new ≡ environment.old }
     ensures breaks { BreaksNone payload.now → BreaksKept state.old state.new }
     ensures settings { letter payload.now ≢ 113 → state.new.settings ≡ state.old.settings }
     ensures history { ChangesNone payload.now → RunsNone payload.now → letter payload.now ≢ 113
         → state.new.history ≡ state.old.history }
+    ensures forgets { ChangesRegister payload.now ⊎ ChangesMemory payload.now
+        → OnOk result (ForgetsOrStays (state_in M.bytes M.writable executor.old)
+        (state_in M.bytes M.writable executor.new) state.old state.new) }
     ensures error { letter payload.now ≢ 113 → OnOk result
         (IsError reply.old.items reply.new.items
         → (state_in M.bytes M.writable executor.new ≡ state_in M.bytes M.writable executor.old)
         × (environment.new ≡ environment.old) × SessionKept state.old state.new) }
     ensures acts { (actions : List ℕ)
         → payload.now ≡ 118 ∷ 67 ∷ 111 ∷ 110 ∷ 116 ∷ 59 ∷ actions
-        → OnOk result (Acts actions (has_ended state.old)
-        state.old.breaks.stops.items state.old.breaks.watches.items state.old.settings.limit
-        environment.old (state_in M.bytes M.writable executor.old)
-        environment.new (state_in M.bytes M.writable executor.new)) }
+        → OnOk result (Acts actions (has_ended state.old) (asked_by state.old)
+        state.old.settings.limit
+        (around state.old environment.old) (state_in M.bytes M.writable executor.old)
+        (around state.new environment.new) (state_in M.bytes M.writable executor.new)
+        reply.old.items reply.new.items) }
     ensures steps_back { payload.now ≡ 98 ∷ 115 ∷ [] → OnOk result (SessionGoesBack 1
         state.old environment.old (state_in M.bytes M.writable executor.old)
         state.new environment.new (state_in M.bytes M.writable executor.new)) }
@@ -1008,6 +1020,9 @@ pub fn answer_to<'a, M: Memory, G: StopRunner<M>, R: Read, W: Write>(
         → decode_of (behind 58 (drop 1 payload.now)) ≡ Ok values
         → SetsMemory values (drop 1 payload.now) (state_in M.bytes M.writable executor.old)
         (state_in M.bytes M.writable executor.new) reply.old.items reply.new.items) }
+    ensures no_values { letter payload.now ≡ 77
+        → OnOk result (¬ IsOk (decode_of (behind 58 (drop 1 payload.now)))
+        → IsError reply.old.items reply.new.items) }
     ensures sets_bytes { letter payload.now ≡ 88 → OnOk result (SetsMemory
         (behind 58 (drop 1 payload.now)) (drop 1 payload.now)
         (state_in M.bytes M.writable executor.old) (state_in M.bytes M.writable executor.new)

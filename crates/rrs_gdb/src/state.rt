@@ -1,10 +1,16 @@
 //! What a session keeps beside the machine.
 
-ghost use Rattle.std.specs.Prelude.{◌≡◌, ◌++◌, ◌∷◌, ℕ, [], List, OnErr, OnOk};
+ghost use Rattle.std.specs.Prelude.{◌≡◌, ◌++◌, ◌∷◌, [], false, OnErr, OnOk};
+ghost use Rattle.std.specs.Bool.{OnTrue, OnFalse};
+ghost use Rattle.std.specs.Fmt.{digits};
 ghost use Rattle.rrs_history.specs.Histories.{changes};
-ghost use Rattle.rrs_gdb.specs.Sessions.{BreaksKept, IsError, PlacesKept, has_ended};
+ghost use Rattle.rrs_linux.specs.Recording.{Recording};
+ghost use Rattle.rrs_gdb.specs.Packets.{digits_of};
+ghost use Rattle.rrs_gdb.specs.Shown.{named_text, stop_text};
+ghost use Rattle.rrs_gdb.specs.Sessions.{BreaksKept, IsCaught, IsError, PlacesKept, around, asked_by, forgotten, has_ended};
 
 use crate::breaks::{Breaks, Watch};
+use crate::forward::is_stop;
 use crate::framing::push_hex;
 use circular_buffer::HeapCircularBuffer;
 use rrs_history::History;
@@ -166,8 +172,9 @@ impl<'a> SessionState<'a> {
     /// Forgets the history, as after a change that is not kept.
     pub(crate) fn forget(&mut self)
         ensures kept { PlacesKept self.old self.new }
-        ensures ended { has_ended self.new ≡ has_ended self.old }
-        ensures forgotten { changes self.new.history ≡ [] }
+        ensures emptied { changes self.new.history ≡ [] }
+        ensures forgotten { (environment : Recording)
+            → around self.new environment ≡ forgotten (around self.old environment) }
     {
         self.history.clear();
         self.calls.clear();
@@ -193,8 +200,14 @@ impl<'a> SessionState<'a> {
     }
 
     /// Whether a call of this number is caught.
-    pub(crate) fn catches(&self, number: u32) -> bool {
-        self.caught.are_all || self.caught.numbers.contains(&number)
+    pub(crate) fn catches(&self, number: u32) -> bool
+        ensures yes { OnTrue result (IsCaught (asked_by self.now) number) }
+        ensures no { OnFalse result (¬ IsCaught (asked_by self.now) number) }
+    {
+        if self.caught.are_all {
+            return true;
+        }
+        is_stop(&self.caught.numbers, number)
     }
 }
 
@@ -211,7 +224,7 @@ pub fn push_text(text: &mut Vec<u8>, bytes: &[u8]) -> Result<(), AllocError>
 
 /// Appends a number as hexadecimal digits.
 pub(crate) fn push_number(alloc: Global, text: &mut Vec<u8>, number: u32) -> Result<(), AllocError>
-    ensures { OnOk result ((rest : List ℕ) × (text.new.items ≡ text.old.items ++ rest)) }
+    ensures { OnOk result (text.new.items ≡ text.old.items ++ digits 16 false number) }
 {
     let digits = format!(in alloc; "{number:x}")?;
     text.extend_from_slice(digits.as_bytes())
@@ -219,7 +232,7 @@ pub(crate) fn push_number(alloc: Global, text: &mut Vec<u8>, number: u32) -> Res
 
 /// Appends a signal or a status behind a letter.
 fn push_code(text: &mut Vec<u8>, letter: u8, code: u8) -> Result<(), AllocError>
-    ensures { OnOk result ((rest : List ℕ) × (text.new.items ≡ text.old.items ++ letter ∷ rest)) }
+    ensures { OnOk result (text.new.items ≡ text.old.items ++ letter ∷ digits_of code) }
 {
     text.push(letter)?;
     push_hex(text, code)
@@ -227,7 +240,7 @@ fn push_code(text: &mut Vec<u8>, letter: u8, code: u8) -> Result<(), AllocError>
 
 /// Appends a stop with a name and a number.
 fn push_named(alloc: Global, text: &mut Vec<u8>, name: &[u8], number: u32) -> Result<(), AllocError>
-    ensures { OnOk result ((rest : List ℕ) × (text.new.items ≡ text.old.items ++ 84 ∷ rest)) }
+    ensures { OnOk result (text.new.items ≡ text.old.items ++ named_text name.now number) }
 {
     push_text(text, b"T05")?;
     push_text(text, name)?;
@@ -238,7 +251,8 @@ fn push_named(alloc: Global, text: &mut Vec<u8>, name: &[u8], number: u32) -> Re
 
 /// Appends where a program stopped, as gdb is told.
 pub(crate) fn push_stop(alloc: Global, text: &mut Vec<u8>, stop: Stop) -> Result<(), AllocError>
-    ensures { OnOk result (IsError text.old.items text.new.items → ⊥) }
+    ensures told { OnOk result (text.new.items ≡ text.old.items ++ stop_text stop) }
+    ensures no_error { OnOk result (IsError text.old.items text.new.items → ⊥) }
 {
     match stop {
         Stop::Signal(signal) => push_code(text, b'S', signal),

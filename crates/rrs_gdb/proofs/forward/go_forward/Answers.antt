@@ -5,7 +5,7 @@ use Rattle.rrs_lib.specs.Steps.{RunsOk, Step, StepAnswer}
 use Rattle.rrs_lib.proofs.Stepping.{RunsOk-more, KeepsTheRest-trans}
 use Rattle.rrs_history.specs.Histories.{Remembers}
 use Rattle.rrs_trace.proofs.Stopping.{passes_more}
-use Rattle.rrs_gdb.proofs.BreakLemmas.{KeptSoFar, none_kept, one_more, kept_whole, none_stepped}
+use Rattle.rrs_gdb.proofs.BreakLemmas.{KeptSoFar, none_kept, one_more, kept_whole, kept_fault, none_stepped}
 use Rattle.rrs_gdb.specs.Breaks.{TouchesOne}
 use Rattle.rrs_gdb.proofs.WatchLemmas.{none_made, one_more_untouched}
 use Rattle.rrs_gdb.proofs.forward.go_forward.Goals as goal
@@ -94,3 +94,10 @@ returns-in-Some-clause-kept g c = λ room.
     kept_whole _ _ _ _ _
     (subst (λ (m : State). KeptSoFar c.loop-steps.steps c.args.history.now (state c.args.executor.now) c.loop-steps.history m)
     (sym c.watch_at.ensures.kept) c.loop-steps.invariant.kept)
+
+pub returns-in-Err-clause-kept : goal.returns-in-Err-clause-kept
+returns-in-Err-clause-kept g c = λ room.
+    let state = state_in g.M.Memory.bytes g.M.Memory.writable in
+    let so_far = subst (λ (m : State). KeptSoFar c.loop-steps.steps c.args.history.now (state c.args.executor.now) c.loop-steps.history m)
+    (sym c.watch_at.ensures.kept) c.loop-steps.invariant.kept in
+    kept_fault _ _ c.loop-steps.history _ _ _ _ so_far c.in-Err.ensures.fault c.in-Err.ensures.kept c.in-Err.ensures.room

@@ -8,12 +8,12 @@ use Rattle.rrs_gdb.specs.Sessions.{RunsBack, StopsBack, CallsBack}
 use Rattle.rrs_gdb.proofs.SessionLemmas.{nothing_back, same_back, back_to_call}
 use Rattle.rrs_gdb.proofs.resume.backward.Goals as goal
 
-pub returns-then-not-is_call-clause-back : goal.returns-then-not-is_call-clause-back
-returns-then-not-is_call-clause-back g c =
+pub returns-then-not-is_behind_call-clause-back : goal.returns-then-not-is_behind_call-clause-back
+returns-then-not-is_behind_call-clause-back g c =
     let i = c.legs.invariant in
     i.goes_back _ _ _ (RunsBack _ _ _ _ c.go_back-end.result
     (same_back _ _ _ _ _ _ _ _ _ c.go_back-end.result i.places.stops_kept i.places.watches_kept
-    c.go_back-end.ensures.back) c.if-not-is_call.ensures.no refl)
+    c.go_back-end.ensures.back) c.if-not-is_behind_call.ensures.no refl)
 
 pub returns-then-is_stop-clause-back : goal.returns-then-is_stop-clause-back
 returns-then-is_stop-clause-back g c =
@@ -25,7 +25,7 @@ returns-then-is_stop-clause-back g c =
     c.legs.left s (past (changes c.legs.state.history) s) (past (changes h) t) t Back.Call)
     (sym c.take_call_back.ensures.history)
     (back_to_call _ _ _ _ _ _ _ _ _ c.go_back-end.result i.places.stops_kept i.places.watches_kept
-    c.if-not-is_call.ensures.yes c.go_back-end.ensures.back) in
+    c.if-not-is_behind_call.ensures.yes c.go_back-end.ensures.back) in
     i.goes_back _ _ _ (StopsBack _ _ _ _ back c.take_call_back.ensures.taken
     (subst (λ (xs : List ℕ). Contains xs t.pc) (c.take_call_back.ensures.places.stops_kept ∙ i.places.stops_kept)
     (rw c.deref.ensures.value at c.if-is_stop.ensures.yes)))
@@ -41,7 +41,7 @@ legs-preserved g c =
     c.legs.left s (past (changes c.legs.state.history) s) (past (changes h) t) t Back.Call)
     (sym c.take_call_back.ensures.history)
     (back_to_call _ _ _ _ _ _ _ _ _ c.go_back-end.result i.places.stops_kept i.places.watches_kept
-    c.if-not-is_call.ensures.yes c.go_back-end.ensures.back) in
+    c.if-not-is_behind_call.ensures.yes c.go_back-end.ensures.back) in
     let none = subst (λ (xs : List ℕ). ¬ Contains xs t.pc) (kept.stops_kept ∙ i.places.stops_kept)
     (rw c.deref.ensures.value at c.if-is_stop.ensures.no) in
     record {
@@ -49,6 +49,7 @@ legs-preserved g c =
         stops_kept = kept.stops_kept ∙ i.places.stops_kept;
         watches_kept = kept.watches_kept ∙ i.places.watches_kept;
         settings_kept = kept.settings_kept ∙ i.places.settings_kept;
+        caught_kept = kept.caught_kept ∙ i.places.caught_kept;
       };
       goes_back = λ e' u after later. i.goes_back e' u after
           (CallsBack _ _ _ _ _ _ _ back c.take_call_back.ensures.taken none later);

@@ -1,16 +1,71 @@
-use Rattle.std.proofs.Common.{refl, ◌∙◌, inl}
-use Rattle.rrs_gdb.specs.Sessions.{Behind}
-use Rattle.rrs_gdb.proofs.SessionLemmas.{call_made}
+-- A stop before the call, or what comes of the call.
+use Rattle.std.proofs.Common.{◌≡◌, ◌%◌, ℕ, ◌∙◌, Option, Some, None, refl, sym, subst, ap}
+use Rattle.rrs_lib.specs.Executor.{state_in}
+use Rattle.rrs_gdb.specs.declared.state.Stop.{Stop}
+use Rattle.rrs_gdb.specs.declared.state.Stop.TheVariants.{Signal, Exited}
+use Rattle.rrs_gdb.specs.Sessions.{Around, Before, CallServed, Ends, Faults, PassesBefore, StopsBefore, around, asked_by, call_number, stopped_at}
+use Rattle.rrs_gdb.proofs.SessionLemmas.{behind_call, call_made, call_served}
 use Rattle.rrs_gdb.proofs.resume.make_call.Goals as goal
 
+pub returns-in-Some-clause-made : goal.returns-in-Some-clause-made
+returns-in-Some-clause-made g c =
+    let e = c.args.environment.now in
+    let mem = c.args.executor.now.mem.now in
+    let a = around c.args.state.now e in
+    let b = stopped_at (around c.stop_before.new.state e) c.in-Some.stop in
+    Before (subst (λ (n : ℕ). StopsBefore (asked_by c.args.state.now) a n b)
+    (c.read_register-number.ensures (g.M.Memory.bytes mem) (g.M.Memory.writable mem)) (c.in-Some.ensures.stop e)) refl
+
 pub returns-in-Err-clause-made : goal.returns-in-Err-clause-made
-returns-in-Err-clause-made g c = Behind _ _ _ _ c.in-Err.ensures.served.these.1 (inl refl)
+returns-in-Err-clause-made g c =
+    Faults _ c.in-Err.fault _ c.in-Err.ensures.served.these.1 (ap Signal c.signal_of.ensures)
 
-pub returns-in-Ok-Some-clause-made : goal.returns-in-Ok-Some-clause-made
-returns-in-Ok-Some-clause-made g c = Behind _ _ _ _ c.in-Ok-Some.ensures.served.these.1 (inl refl)
+pub returns-in-Some-end-clause-made : goal.returns-in-Some-end-clause-made
+returns-in-Some-end-clause-made g c =
+    let e = c.args.environment.now in
+    let mem = c.args.executor.now.mem.now in
+    let a = around c.args.state.now e in
+    let s = state_in g.M.Memory.bytes g.M.Memory.writable c.args.executor.now in
+    let t = state_in g.M.Memory.bytes g.M.Memory.writable c.step_served.new.executor in
+    let number = c.read_register-number.ensures (g.M.Memory.bytes mem) (g.M.Memory.writable mem) in
+    let passed = c.in_default.ensures.stop e in
+    let made = c.in-Ok.ensures.served.these in
+    let sent = c.send_made.new in
+    let status = c.in-Some-end.status in
+    let b = stopped_at (around sent.state sent.environment) (Exited (status % 256)) in
+    let same = ap (λ (x : Around). x.history) (c.send_made.ensures.around sent.environment) in
+    let served = call_served (around c.stop_before.new.state e) b s t c.in-Ok.end made.0 _ _ _ made.1 made.2
+    c.in_ok-send_made.ensures.taken same in
+    Ends status (subst (λ (n : ℕ). PassesBefore (asked_by c.args.state.now) a n) number passed.1)
+    (subst (λ (o : Option ℕ). CallServed a s o b t) c.in-Some-end.is
+    (subst (λ (x : Around). CallServed x s c.in-Ok.end b t) passed.0 served)) refl
 
-pub returns-clause-made : goal.returns-clause-made
-returns-clause-made g c =
-    call_made _ _ _ _ _ _ _ _ c.in-Ok-None.field-0 c.stop_behind.result _ c.in-Ok-None.field-0-is
-    c.in-Ok-None.ensures.served.these.1 c.in_ok-send_made.ensures.taken
-    (c.send_made.ensures.places.stops_kept ∙ c.stop_before.ensures.stops_kept) c.stop_behind.ensures.none
+pub returns-in-None-clause-made : goal.returns-in-None-clause-made
+returns-in-None-clause-made g c =
+    let e = c.args.environment.now in
+    let mem = c.args.executor.now.mem.now in
+    let a = around c.args.state.now e in
+    let s = state_in g.M.Memory.bytes g.M.Memory.writable c.args.executor.now in
+    let t = state_in g.M.Memory.bytes g.M.Memory.writable c.step_served.new.executor in
+    let number = c.read_register-number.ensures (g.M.Memory.bytes mem) (g.M.Memory.writable mem) in
+    let passed = c.in_default.ensures.stop e in
+    let made = c.in-Ok.ensures.served.these in
+    let sent = c.send_made.new in
+    let told = c.send_made.ensures.around sent.environment in
+    let last = c.stop_behind.ensures.around sent.environment in
+    let b = around c.stop_behind.new.state sent.environment in
+    let same = ap (λ (x : Around). x.history) last ∙ ap (λ (x : Around). x.history) told in
+    let served = call_served (around c.stop_before.new.state e) b s t c.in-Ok.end made.0 _ _ _ made.1 made.2
+    c.in_ok-send_made.ensures.taken same in
+    let stopped : (at : Stop) → CallServed (around c.stop_before.new.state e) s c.in-Ok.end (stopped_at b at) t = λ at.
+    call_served (around c.stop_before.new.state e) (stopped_at b at) s t c.in-Ok.end made.0 _ _ _ made.1 made.2
+    c.in_ok-send_made.ensures.taken same in
+    call_made (asked_by c.args.state.now) a b s t c.in-Ok.end c.read_register-number.result c.stop_behind.result c.in-None.is
+    (subst (λ (n : ℕ). PassesBefore (asked_by c.args.state.now) a n) number passed.1)
+    (λ at. subst (λ (x : Around). CallServed x s c.in-Ok.end (stopped_at b at) t) passed.0 (stopped at))
+    (subst (λ (x : Around). CallServed x s c.in-Ok.end b t) passed.0 served) number
+    (behind_call c.stop_behind.result _ _ _ _ _ _
+    (ap (λ (x : Around). x.entered) told ∙ ap (λ (x : Around). x.entered) passed.0)
+    (c.send_made.ensures.places.stops_kept ∙ c.stop_before.ensures.places.stops_kept) c.stop_behind.ensures.stop)
+    (ap (λ (x : Around). x.entered) last)
+    (ap (λ (x : Around). x.told_exit) last ∙ ap (λ (x : Around). x.told_exit) told ∙ ap (λ (x : Around). x.told_exit) passed.0)

@@ -21,7 +21,8 @@ returns-in-Changed-clause-leaves g c =
 pub returns-in-Changed-clause-means : goal.returns-in-Changed-clause-means
 returns-in-Changed-clause-means g c =
     behind_answer _ c.reply_behind-in-Changed.result c.alter.result c.reply_behind-in-Changed.ensures
-    (means_changed_ok c.alter.result _ _ _ c.in-Changed.ensures refl c.alter.ensures.sets c.alter.ensures.error)
+    (means_changed_ok c.alter.result _ _ _ c.in-Changed.ensures refl c.alter.ensures.sets
+    c.alter.ensures.forgets c.alter.ensures.error)
 
 pub returns-in-Run-clause-leaves : goal.returns-in-Run-clause-leaves
 returns-in-Run-clause-leaves g c = leaves_run _ _ _ c.in-Run.ensures c.go_from.ensures.places

@@ -71,6 +71,12 @@ returns-clause-sets_memory g c = λ is. on_means _ _ _ _ c.answer_by_subject.ens
 pub returns-clause-sets_bytes : goal.returns-clause-sets_bytes
 returns-clause-sets_bytes g c = λ is. on_means _ _ _ _ c.answer_by_subject.ensures.means (λ m. m.sets.bytes is)
 
+pub returns-clause-no_values : goal.returns-clause-no_values
+returns-clause-no_values g c = λ is. on_means _ _ _ _ c.answer_by_subject.ensures.means (λ m. m.sets.no_values is)
+
+pub returns-clause-forgets : goal.returns-clause-forgets
+returns-clause-forgets g c = λ is. on_means _ _ _ _ c.answer_by_subject.ensures.means (λ m. m.forgets is)
+
 pub returns-clause-acts : goal.returns-clause-acts
 returns-clause-acts g c = λ actions is. on_means _ _ _ _ c.answer_by_subject.ensures.means (λ m. m.acts.acts actions is)
 

@@ -2,7 +2,7 @@
 use Rattle.std.proofs.Common.{◌≡◌, rules}
 use Rattle.rrs_gdb.specs.Sessions.{letter}
 use Rattle.rrs_gdb.proofs.SessionLemmas.{rest_whole}
-use Rattle.rrs_gdb.proofs.ChangeLemmas.{if_ok, sets_G, sets_M, sets_P, sets_X}
+use Rattle.rrs_gdb.proofs.ChangeLemmas.{both_ok, if_ok, sets_G, sets_M, sets_P, sets_X}
 use Rattle.rrs_gdb.proofs.session.change.Goals as goal
 
 pub returns-in-71-clause-done : goal.returns-in-71-clause-done
@@ -31,8 +31,9 @@ pub returns-in-77-clause-sets : goal.returns-in-77-clause-sets
 returns-in-77-clause-sets g c =
     let payload = c.args.payload.now in
     let at : letter payload ≡ 77 = search rules in
-    if_ok c.change_by_digits.result _ _
+    both_ok c.change_by_digits.result _ _ _
     (λ outcome. sets_M payload _ _ _ _ _ at (rest_whole payload)) c.change_by_digits.ensures.set
+    c.change_by_digits.ensures.no_values
 
 pub returns-in-88-clause-done : goal.returns-in-88-clause-done
 returns-in-88-clause-done g c = c.change_by_bytes.ensures.done

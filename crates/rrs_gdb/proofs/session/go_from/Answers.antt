@@ -10,8 +10,8 @@ returns-clause-goes g c =
     let found = c.in-Some.ensures in
     goes_begun c.go.result c.args.payload.now c.in-Some.address.now c.in-Some.going _ _ begun.state
     (state_in g.M.Memory.bytes g.M.Memory.writable begun.executor) c.begin_at.result found.letter found.action
-    found.signal c.begin_at.ensures.places c.begin_at.ensures.ended c.if-not-begin_at.false c.begin_at.ensures.begins
-    c.go.ensures.goes_on c.go.ensures.killed
+    found.signal c.begin_at.ensures.places c.if-not-begin_at.false (c.begin_at.ensures.begins c.args.environment.now)
+    c.go.ensures.goes_on c.go.ensures.told
 
 -- it is no action
 pub returns-in_default-clause-goes : goal.returns-in_default-clause-goes
@@ -37,13 +37,15 @@ returns-clause-places g c =
       stops_kept = gone.stops_kept ∙ begun.stops_kept;
       watches_kept = gone.watches_kept ∙ begun.watches_kept;
       settings_kept = gone.settings_kept ∙ begun.settings_kept;
+      caught_kept = gone.caught_kept ∙ begun.caught_kept;
     }
 
 pub returns-clause-error : goal.returns-clause-error
 returns-clause-error g c = no_such c.go.result _ _ c.go.ensures.error
 
 pub returns-in_default-clause-places : goal.returns-in_default-clause-places
-returns-in_default-clause-places g c = record { stops_kept = refl; watches_kept = refl; settings_kept = refl }
+returns-in_default-clause-places g c =
+    record { stops_kept = refl; watches_kept = refl; settings_kept = refl; caught_kept = refl }
 
 pub returns-in_default-clause-error : goal.returns-in_default-clause-error
 returns-in_default-clause-error g c =

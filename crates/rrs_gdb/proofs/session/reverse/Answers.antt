@@ -17,10 +17,15 @@ returns-in_default-clause-goes_back g c = λ is.
 pub returns-clause-places : goal.returns-clause-places
 returns-clause-places g c =
     let kept = c.backward-stop.ensures.places in
-    record { stops_kept = kept.stops_kept; watches_kept = kept.watches_kept; settings_kept = kept.settings_kept }
+    record {
+      stops_kept = kept.stops_kept;
+      watches_kept = kept.watches_kept;
+      settings_kept = kept.settings_kept;
+      caught_kept = kept.caught_kept;
+    }
 
 pub returns-clause-error : goal.returns-clause-error
-returns-clause-error g c = c.push_stop.ensures
+returns-clause-error g c = c.push_stop.ensures.no_error
 
 pub returns-clause-step : goal.returns-clause-step
 returns-clause-step g c = λ is.

@@ -1,0 +1,6 @@
+use Rattle.std.proofs.Common.{rules}
+use Rattle.rrs_gdb.proofs.EntryLemmas.{without_entry}
+use Rattle.rrs_gdb.proofs.breaks.Breaks.remove_watch.Goals as goal
+
+pub returns-clause-removed : goal.returns-clause-removed
+returns-clause-removed c = without_entry _ c.args.watch _ (λ x b g k. search rules) _ _ c.retain.ensures.filtered
