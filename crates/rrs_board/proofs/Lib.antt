@@ -2,3 +2,4 @@
 pub mod RegisterBytes
 pub mod BoardBytes
 pub mod Sessions
+pub mod Loaded

@@ -1,16 +1,17 @@
 -- A board, its steps and runs. A step of the hart is that of machine mode (rrs_privileged) over the
 -- memory of the board. Then the devices answer to its access, and time goes on.
-use Rattle.std.specs.Prelude.{◌≡◌, ℕ, zero, suc, ◌≤◌, List, replicate, Option, Some, None}
+use Rattle.std.specs.Prelude.{◌≡◌, ℕ, zero, suc, ◌+◌, ◌<◌, ◌≤◌, List, length, replicate, Option, Some, None}
 use Rattle.rrs_lib.specs.Accesses.{MakesExactly}
 use Rattle.rrs_privileged.specs.declared.machine.MachineAnswer.{MachineAnswer}
 use Rattle.rrs_privileged.specs.MachineSteps.{MachineState, machine_of, MachineStep, AccessesOfMachineStep}
 use Rattle.rrs_board.specs.declared.board.Board.{Board}
 use Rattle.rrs_board.specs.declared.effects.BoardEvent.{BoardEvent}
 use Rattle.rrs_board.specs.declared.memory.BoardMemory.{BoardMemory}
-use Rattle.rrs_board.specs.Registers.{board_bytes, board_writable, BoardReads, BoardWrites}
+use Rattle.rrs_board.specs.Registers.{board_bytes, board_writable, ram_start, BoardReads, BoardWrites}
 use Rattle.rrs_board.specs.Effects.{inputs_of, settled, event_after, reset_devices}
-use Rattle.rrs_elf.specs.Headers.{e_entry, e_phnum}
-use Rattle.rrs_elf.specs.Loading.{Stands}
+use Rattle.rrs_elf.specs.Headers.{e_entry, e_phnum, p_vaddr}
+use Rattle.rrs_elf.specs.Loading.{Stands, loaded_size}
+use Rattle.rrs_memory.specs.SliceBytes.{bytes_from, lies_from}
 use Rattle.rrs_memory.specs.declared.memories.VecMemory.{VecMemory}
 use Rattle.rrs_privileged.specs.Csrs.{reset_file}
 
@@ -58,19 +59,13 @@ pub record IsReset (ram : VecMemory) (pc : ℕ) (b : Board) : Type 0 where
   pub ram_is : b.memory.ram ≡ ram
   pub devices : b.memory.devices ≡ reset_devices
 
--- a board at reset with so many words of RAM, all 0
-pub record IsEmpty (words pc : ℕ) (b : Board) : Type 0 where
-  pub ram : VecMemory
-  pub zeros : ram.mem.items ≡ replicate words 0
-  pub reset : IsReset ram pc b
-
--- The board starts with an executable: it is a board at reset, at the entry, but for the bytes of
--- its segments, which stand in its memory. No device was written to.
+-- The board starts with an executable: it is at reset, at the entry, with so many words of RAM, which
+-- are 0 but for the bytes of the segments. All of these are in RAM.
 pub record StartsWith (file : List ℕ) (words : ℕ) (b : Board) : Type 0 where
-  pub empty : Board
-  pub is_empty : IsEmpty words (e_entry file) empty
-  pub loaded : Stands file (board_bytes empty.memory) (board_bytes b.memory)
-      (board_writable empty.memory) (e_phnum file) 0
-  pub hart : b.hart ≡ empty.hart
-  pub csrs : b.csrs ≡ empty.csrs
-  pub no_access : b.memory.devices.access ≡ None
+  pub reset : IsReset b.memory.ram (e_entry file) b
+  pub size : length b.memory.ram.mem.items ≡ words
+  pub loaded : Stands file (bytes_from ram_start (replicate words 0))
+      (bytes_from ram_start b.memory.ram.mem.items)
+      (lies_from ram_start b.memory.ram.mem.items) (e_phnum file) 0
+  pub in_ram : (i j : ℕ) → i < e_phnum file → j < loaded_size file i
+      → ram_start ≤ p_vaddr file i + j

@@ -1,25 +1,39 @@
--- The executable is loaded into a board at reset.
-use Rattle.std.proofs.Common.{◌≡◌, ap, subst, refl, ◌∙◌, rules}
-use Rattle.rrs_elf.specs.Headers.{e_entry, e_phnum}
-use Rattle.rrs_elf.specs.Loading.{Stands}
-use Rattle.rrs_board.specs.Registers.{board_bytes, board_writable}
-use Rattle.rrs_board.specs.Boards.{IsReset}
+-- The executable is loaded into the zeros of a board at reset.
+use Rattle.std.proofs.Common.{◌≡◌, length, replicate, ap, ◌∙◌, refl, arith, rules}
+use Rattle.std.proofs.lemmas.List.{with_items_is}
+use Rattle.rrs_memory.specs.declared.memories.VecMemory.{VecMemory}
+use Rattle.rrs_elf.specs.Headers.{e_entry}
+use Rattle.rrs_board.proofs.Loaded.{stands_in_ram, all_in_ram}
 use Rattle.rrs_board.proofs.board.Board.load.Goals as goal
 
-pub returns-in-None : goal.returns-in-None
-returns-in-None c =
-    let same : c.in-Ok.executable.file.now ≡ c.args.file.now = search rules in
-    let empty = c.new-board.result in
+pub returns-in-Ok-load_words : goal.returns-in-Ok-load_words
+returns-in-Ok-load_words c =
+    let file = c.args.file.now in
+    let read = c.in-Ok.executable.file.now in
+    let same : read ≡ file = search rules in
+    let empty = c.new-board.ensures in
+    let ram = c.new-board.result.memory.ram.mem in
+    let old = c.deref_mut.result.now in
+    let new = c.load_words.new.words in
+    let first = c.new.result.mem.items in
+    let same_ram : old ≡ first = c.deref_mut.ensures.value ∙ ap (λ (r : VecMemory). r.mem.items) empty.ram_is in
+    let zeros : first ≡ replicate c.args.words 0 = search rules in
+    let many : length first ≡ c.args.words = search rules in
+    let is_zeros : old ≡ replicate c.args.words 0 = same_ram ∙ zeros in
+    let kept : length new ≡ length old = c.load_words.ensures.length_kept in
+    let count : length old ≡ c.args.words = ap length same_ram ∙ many in
+    let is_new = with_items_is ram new (omega (arith, kept, c.deref_mut.ensures.len)) in
+    let stands = stands_in_ram file read old (replicate c.args.words 0) new _ same is_zeros is_new kept
+    c.in-Ok-load_words.ensures.loaded in
     record {
-      empty = empty;
-      is_empty = record {
-        ram = c.new.result;
-        zeros = search rules;
-        reset = subst (λ pc. IsReset c.new.result pc empty) (c.entry.ensures.value ∙ ap e_entry same) c.new-board.ensures;
+      reset = record {
+        registers = empty.registers;
+        at = empty.at ∙ c.entry.ensures.value ∙ ap e_entry same;
+        csrs = empty.csrs;
+        ram_is = refl;
+        devices = empty.devices;
       };
-      loaded = subst (λ file. Stands file (board_bytes empty.memory) (board_bytes c.load.new.memory)
-          (board_writable empty.memory) (e_phnum file) 0) same c.in-Ok-load.ensures.loaded;
-      hart = refl;
-      csrs = refl;
-      no_access = search rules;
+      size = ap length is_new ∙ kept ∙ count;
+      loaded = stands;
+      in_ram = all_in_ram file _ _ _ stands;
     }

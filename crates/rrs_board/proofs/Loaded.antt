@@ -1,0 +1,30 @@
+-- An executable in the words of RAM.
+use Rattle.std.proofs.Common.{◌≡◌, ℕ, ◌+◌, ◌<◌, ◌≤◌, true, List, length, sym, subst, arith}
+use Rattle.std.proofs.lemmas.Bool.Decides.{nat_tests}
+use Rattle.rrs_memory.specs.Bytes.{ByteMap}
+use Rattle.rrs_memory.specs.SliceBytes.{bytes_from, lies_from}
+use Rattle.rrs_memory.proofs.SliceWords.{lies_same}
+use Rattle.rrs_elf.specs.Headers.{e_phnum, p_vaddr}
+use Rattle.rrs_elf.specs.Loading.{Stands, loaded_size}
+use Rattle.rrs_board.specs.Registers.{ram_start}
+
+-- a byte of RAM is not below it
+lies_above : (words : List ℕ) (a : ℕ) → lies_from ram_start words a ≡ true → ram_start ≤ a
+lies_above words a lies = grind (arith, nat_tests)
+
+-- the segments stand in the words that were zeros
+pub stands_in_ram : (file read old zeros new items : List ℕ)
+    → read ≡ file → old ≡ zeros → items ≡ new → length new ≡ length old
+    → Stands read (bytes_from ram_start old) (bytes_from ram_start new) (lies_from ram_start old) (e_phnum read) 0
+    → Stands file (bytes_from ram_start zeros) (bytes_from ram_start items) (lies_from ram_start items) (e_phnum file) 0
+stands_in_ram file read old zeros new items same is_zeros is_new kept stands =
+    subst (λ f. Stands f (bytes_from ram_start zeros) (bytes_from ram_start items) (lies_from ram_start items) (e_phnum f) 0) same
+    (subst (λ xs. Stands read (bytes_from ram_start zeros) (bytes_from ram_start xs) (lies_from ram_start xs) (e_phnum read) 0) (sym is_new)
+    (subst (λ w. Stands read (bytes_from ram_start zeros) (bytes_from ram_start new) w (e_phnum read) 0) (sym (lies_same ram_start old new kept))
+    (subst (λ xs. Stands read (bytes_from ram_start xs) (bytes_from ram_start new) (lies_from ram_start old) (e_phnum read) 0) is_zeros stands)))
+
+pub all_in_ram : (file items : List ℕ) (old new : ByteMap)
+    → Stands file old new (lies_from ram_start items) (e_phnum file) 0
+    → (i j : ℕ) → i < e_phnum file → j < loaded_size file i → ram_start ≤ p_vaddr file i + j
+all_in_ram file items old new stands i j numbered within =
+    lies_above items (p_vaddr file i + j) (stands.segments_writable i j numbered within)
