@@ -1,15 +1,15 @@
--- A session at a terminal: where it starts, and what one event more makes of it.
-use Rattle.std.proofs.Common.{◌≡◌, ℕ, ◌≤◌, MatchOption, Result, Ok, Err, IfOk, IfErr, arith, ◌+◌, ◌-◌, List, [], ◌∷◌, ◌++◌, Option, Some, None, IfSome, refl, sym, subst, append-nil}
+-- A session at a terminal: where it starts, what one event more makes of it, and how it ends.
+use Rattle.std.proofs.Common.{◌≡◌, ℕ, ◌≤◌, Bool, true, MatchOption, Result, Ok, Err, IfOk, IfErr, arith, ◌+◌, ◌-◌, List, [], ◌∷◌, ◌++◌, Option, Some, None, IfSome, refl, sym, subst, append-nil}
 use Rattle.std.specs.Io.KnownBytes.{Appends, Consumes, Keeps, IsAtEnd}
-use Rattle.std.proofs.KnownBytes.{Consumes-nil, Appends-nil, Appends-trans, Appends-kept, Consumes-trans, Consumes-whole}
+use Rattle.std.proofs.KnownBytes.{Consumes-nil, Appends-nil, Appends-trans, Appends-kept, Consumes-trans, Consumes-whole, Keeps-refl}
 use Rattle.rrs_board.specs.declared.board.Board.{Board}
 use Rattle.rrs_board.specs.declared.board.BoardEnd.{BoardEnd}
 use Rattle.rrs_board.specs.declared.effects.BoardEvent.{BoardEvent}
-use Rattle.rrs_board.specs.declared.effects.BoardEvent.TheVariants.{Transmitted, WantsInput, Finished, NothingWakes}
+use Rattle.rrs_board.specs.declared.effects.BoardEvent.TheVariants.{Transmitted, Looked, Finished, Waits, NothingWakes}
 use Rattle.rrs_board.specs.declared.terminal.TerminalError.{TerminalError}
-use Rattle.rrs_board.specs.declared.terminal.TerminalError.TheVariants.{Output}
+use Rattle.rrs_board.specs.declared.terminal.TerminalError.TheVariants.{Input, Output}
 use Rattle.rrs_board.specs.Boards.{BoardRun}
-use Rattle.rrs_board.specs.Terminals.{with_input, Session, Served, ServedAndRun, EndsSession, EndedSession, StoppedSession}
+use Rattle.rrs_board.specs.Terminals.{printed_by, Goes, Session, Served, ServedAndRun, EndsSession, EndedSession, Asks, StoppedSession, GoesOn, EndsBy, Asked, Untouched}
 
 pub session_starts : (limit : ℕ) (start : Board) (input before : Option (List ℕ))
     → Served limit start input input before before 0 start
@@ -21,22 +21,20 @@ session_starts limit start input before = record {
   appended = Appends-nil before;
 }
 
--- a byte is transmitted and printed
-pub session_prints : (limit : ℕ) (start : Board) (input rest before between after : Option (List ℕ))
-    (steps byte : ℕ) (new : Board)
-    → ServedAndRun limit start input rest before between steps (Some (Transmitted byte)) new
-    → Appends between after (byte ∷ [])
-    → Served limit start input rest before after steps new
-session_prints limit start input rest before between after steps byte new made written =
-    let so_far = made.served in
-    let printed = so_far.printed ++ (byte ∷ []) in
+-- a run of the board, whose event is served
+pub session_goes : (limit : ℕ) (start : Board) (input rest left before between after : Option (List ℕ))
+    (steps more : ℕ) (event : BoardEvent) (old mid new : Board)
+    → Served limit start input rest before between steps old
+    → BoardRun (limit - steps) old more (Some event) mid
+    → GoesOn event mid new rest left between after
+    → Served limit start input left before after (steps + more) new
+session_goes limit start input rest left before between after steps more event old mid new so_far run served =
     record {
-      typed = so_far.typed;
-      printed = printed;
-      session = subst (λ k. Session limit start input k so_far.typed printed new)
-          (sym made.counted) (Session.Prints so_far.session made.last);
-      consumed = so_far.consumed;
-      appended = Appends-trans before between after so_far.printed (byte ∷ []) so_far.appended written;
+      typed = so_far.typed ++ served.bytes;
+      printed = so_far.printed ++ printed_by event;
+      session = Session.Runs served.bytes so_far.session run served.goes served.arrives;
+      consumed = Consumes-trans input rest left so_far.typed served.bytes so_far.consumed served.consumed;
+      appended = Appends-trans before between after so_far.printed (printed_by event) so_far.appended served.appended;
     }
 
 -- nothing more was read
@@ -46,122 +44,162 @@ consumed_none input between rest typed given none =
     subst (λ bs. Consumes input rest bs) (append-nil typed)
     (Consumes-trans input between rest typed [] given none)
 
--- nothing more was read, and the input is at its end
+-- a run of the board, whose event is not served
+abbrev pub session_run : (limit : ℕ) (start : Board) (input rest left before between after : Option (List ℕ))
+    (steps more : ℕ) (event : Option BoardEvent) (old mid new : Board)
+    → Served limit start input rest before between steps old
+    → BoardRun (limit - steps) old more event mid
+    → Untouched mid new rest left between after
+    → ServedAndRun limit start input left before after (steps + more) event new
+session_run limit start input rest left before between after steps more event old mid new so_far run stays =
+    record {
+      earlier = steps;
+      more = more;
+      mid = old;
+      served = record {
+        typed = so_far.typed;
+        printed = so_far.printed;
+        session = so_far.session;
+        consumed = consumed_none input rest left so_far.typed so_far.consumed stays.consumed;
+        appended = Appends-kept before between after so_far.printed so_far.appended stays.kept;
+      };
+      last = subst (λ b. BoardRun (limit - steps) old more event b) (sym stays.same) run;
+      counted = refl;
+    }
+
+-- nothing was touched
+pub untouched : (b : Board) (input before : Option (List ℕ)) → Untouched b b input input before before
+untouched b input before = record {
+  same = refl;
+  consumed = Consumes-nil input;
+  kept = Keeps-refl before;
+}
+
+-- where nothing more was read, and the input is at its end, all of it was typed
 typed_all : (input rest : Option (List ℕ)) (typed : List ℕ)
     → Consumes input rest typed → IsAtEnd rest → IfSome input (λ all. all ≡ typed)
 typed_all input rest typed given ended =
     Consumes-whole input rest typed (λ all. all ≡ typed) given ended refl
 
--- a flush keeps what is printed
-pub session_kept : (limit : ℕ) (start : Board) (input rest before between after : Option (List ℕ))
-    (steps : ℕ) (event : Option BoardEvent) (new : Board)
-    → ServedAndRun limit start input rest before between steps event new
+ends_by : (input rest : Option (List ℕ)) (typed : List ℕ) (event : BoardEvent) (b : Board) (ended : Bool)
+    → EndsBy event b ended → (ended ≡ true → IsAtEnd rest) → Consumes input rest typed
+    → EndsSession (Some event) b input typed
+ends_by input rest typed (Finished status) b ended ends at_end consumed = tt
+ends_by input rest typed NothingWakes b ended ends at_end consumed =
+    λ waits. typed_all input rest typed consumed (at_end (ends waits))
+ends_by input rest typed (Transmitted byte) b ended ends at_end consumed = absurd ends
+ends_by input rest typed Looked b ended ends at_end consumed = absurd ends
+ends_by input rest typed Waits b ended ends at_end consumed = absurd ends
+
+-- the output is flushed at the end
+pub session_finishes : (limit : ℕ) (start : Board) (input rest before between after : Option (List ℕ))
+    (steps : ℕ) (event : Option BoardEvent) (new : Board) (r : Result BoardEnd TerminalError)
+    → (made : ServedAndRun limit start input rest before between steps event new)
+    → EndsSession event new input made.served.typed
     → Keeps between after
-    → ServedAndRun limit start input rest before after steps event new
-session_kept limit start input rest before between after steps event new made kept = record {
-  earlier = made.earlier;
-  more = made.more;
-  mid = made.mid;
-  served = record {
-    typed = made.served.typed;
-    printed = made.served.printed;
-    session = made.served.session;
-    consumed = made.served.consumed;
-    appended = Appends-kept before between after made.served.printed made.served.appended kept;
-  };
-  last = made.last;
-  counted = made.counted;
-}
+    → IfOk r (λ end. (end.steps ≡ steps) × (end.event ≡ event))
+    → IfErr r (λ error. error ≡ Output)
+    → IfOk r (λ end. EndedSession limit start input rest before after end.steps end.event new)
+    × IfErr r (λ error. StoppedSession limit start input rest before after error new)
+session_finishes limit start input rest before between after steps event new (Ok end) made ends kept is fails =
+    let flushed : EndedSession limit start input rest before after steps event new = record {
+      made = record {
+        earlier = made.earlier;
+        more = made.more;
+        mid = made.mid;
+        served = record {
+          typed = made.served.typed;
+          printed = made.served.printed;
+          session = made.served.session;
+          consumed = made.served.consumed;
+          appended = Appends-kept before between after made.served.printed made.served.appended kept;
+        };
+        last = made.last;
+        counted = made.counted;
+      };
+      ends = ends;
+    } in
+    (rw (is.0, is.1) flushed, tt)
+session_finishes limit start input rest before between after steps event new (Err error) made ends kept is fails = (
+  tt,
+  record {
+    steps = steps;
+    event = event;
+    made = record {
+      earlier = made.earlier;
+      more = made.more;
+      mid = made.mid;
+      served = record {
+        typed = made.served.typed;
+        printed = made.served.printed;
+        session = made.served.session;
+        consumed = made.served.consumed;
+        appended = Appends-kept before between after made.served.printed made.served.appended kept;
+      };
+      last = made.last;
+      counted = made.counted;
+    };
+    asked = λ other. cc (other, fails);
+  },
+)
+
+-- the board stays at the event of its last run
+pub session_ends : (limit : ℕ) (start : Board) (input rest left before between flushed after : Option (List ℕ))
+    (steps more : ℕ) (event : BoardEvent) (old mid new : Board) (ended : Bool) (r : Result BoardEnd TerminalError)
+    → Served limit start input rest before between steps old
+    → BoardRun (limit - steps) old more (Some event) mid
+    → Untouched mid new rest left between flushed
+    → EndsBy event new ended → (ended ≡ true → IsAtEnd left)
+    → Keeps flushed after
+    → IfOk r (λ end. (end.steps ≡ steps + more) × (end.event ≡ Some event))
+    → IfErr r (λ error. error ≡ Output)
+    → IfOk r (λ end. EndedSession limit start input left before after end.steps end.event new)
+    × IfErr r (λ error. StoppedSession limit start input left before after error new)
+session_ends limit start input rest left before between flushed after steps more event old mid new ended r so_far run stays ends at_end kept is fails =
+    let made = session_run limit start input rest left before between flushed steps more (Some event) old mid new so_far run stays in
+    session_finishes limit start input left before flushed after (steps + more) (Some event) new r made
+    (ends_by input left so_far.typed event new ended ends at_end made.served.consumed) kept is fails
+
+-- an event that can't be served
+pub session_stops : (limit : ℕ) (start : Board) (input rest left before between after : Option (List ℕ))
+    (steps more : ℕ) (event : BoardEvent) (old mid new : Board) (error : TerminalError)
+    → Served limit start input rest before between steps old
+    → BoardRun (limit - steps) old more (Some event) mid
+    → (error ≡ Input → Asks event) × Untouched mid new rest left between after
+    → StoppedSession limit start input left before after error new
+session_stops limit start input rest left before between after steps more event old mid new error so_far run failed =
+    record {
+      steps = steps + more;
+      event = Some event;
+      made = session_run limit start input rest left before between after steps more (Some event) old mid new
+          so_far run failed.1;
+      asked = λ is. failed.0 is;
+    }
 
 -- an event that is named
-pub event_is : (e : Option BoardEvent) (x y : BoardEvent) → e ≡ Some x → x ≡ y → e ≡ Some y
-event_is e x y is named = subst (λ z. e ≡ Some z) named is
+pub run_is : (limit more : ℕ) (old mid : Board) (e f : Option BoardEvent)
+    → BoardRun limit old more e mid → e ≡ f → BoardRun limit old more f mid
+run_is limit more old mid e f run is = subst (λ x. BoardRun limit old more x mid) is run
 
--- the session so far, and a further run
-pub session_run : (limit : ℕ) (start : Board) (input rest before after : Option (List ℕ))
-    (steps more : ℕ) (event found : Option BoardEvent) (mid new : Board)
-    → Served limit start input rest before after steps mid
-    → BoardRun (limit - steps) mid more event new
-    → event ≡ found
-    → ServedAndRun limit start input rest before after (steps + more) found new
-session_run limit start input rest before after steps more event found mid new so_far run is = record {
-  earlier = steps;
-  more = more;
-  mid = mid;
-  served = so_far;
-  last = subst (λ e. BoardRun (limit - steps) mid more e new) is run;
-  counted = refl;
-}
-
--- input is wanted, and a byte or the end of the input is handed in
-pub session_given : (limit : ℕ) (start : Board) (input between rest before after : Option (List ℕ))
-    (steps : ℕ) (new : Board) (byte : Option ℕ)
-    → ServedAndRun limit start input between before after steps (Some WantsInput) new
-    → MatchOption byte (Consumes between rest [] × IsAtEnd rest)
-    (λ b. Consumes between rest (b ∷ []))
-    → Served limit start input rest before after steps (with_input byte new)
-session_given limit start input between rest before after steps new None made given =
-    let so_far = made.served in
-    let none = consumed_none input between rest so_far.typed so_far.consumed given.0 in
-    record {
-      typed = so_far.typed;
-      printed = so_far.printed;
-      session = subst (λ k. Session limit start input k so_far.typed so_far.printed (with_input None new))
-          (sym made.counted)
-          (Session.Ends (typed_all input rest so_far.typed none given.1) so_far.session made.last);
-      consumed = none;
-      appended = so_far.appended;
-    }
-session_given limit start input between rest before after steps new (Some byte) made given =
-    let so_far = made.served in
-    let typed = so_far.typed ++ (byte ∷ []) in
-    record {
-      typed = typed;
-      printed = so_far.printed;
-      session = subst (λ k. Session limit start input k typed so_far.printed (with_input (Some byte) new))
-          (sym made.counted) (Session.Reads so_far.session made.last);
-      consumed = Consumes-trans input between rest so_far.typed (byte ∷ []) so_far.consumed given;
-      appended = so_far.appended;
-    }
-
--- a write or a flush fails
-pub stopped_by_output : (limit : ℕ) (start : Board) (input rest before after : Option (List ℕ))
-    (steps : ℕ) (event : Option BoardEvent) (error : TerminalError) (new : Board)
-    → ServedAndRun limit start input rest before after steps event new
-    → error ≡ Output
-    → StoppedSession limit start input rest before after error new
-stopped_by_output limit start input rest before after steps event error new made is = record {
-  steps = steps;
-  event = event;
-  made = made;
-  asked = λ other. cc;
-}
-
--- a read fails
-pub stopped_by_input : (limit : ℕ) (start : Board) (input between rest before after : Option (List ℕ))
-    (steps : ℕ) (error : TerminalError) (new : Board)
-    → ServedAndRun limit start input between before after steps (Some WantsInput) new
-    → Consumes between rest []
-    → StoppedSession limit start input rest before after error new
-stopped_by_input limit start input between rest before after steps error new made none = record {
-  steps = steps;
-  event = Some WantsInput;
-  made = record {
-    earlier = made.earlier;
-    more = made.more;
-    mid = made.mid;
-    served = record {
-      typed = made.served.typed;
-      printed = made.served.printed;
-      session = made.served.session;
-      consumed = consumed_none input between rest made.served.typed made.served.consumed none;
-      appended = made.served.appended;
-    };
-    last = made.last;
-    counted = made.counted;
-  };
-  asked = λ is. refl;
-}
+-- the limit is reached
+pub session_at_limit : (limit : ℕ) (start : Board) (input rest before between after : Option (List ℕ))
+    (steps : ℕ) (new : Board) (r : Result BoardEnd TerminalError)
+    → Served limit start input rest before between steps new
+    → limit ≤ steps
+    → Keeps between after
+    → IfOk r (λ end. (end.steps ≡ steps) × (end.event ≡ None))
+    → IfErr r (λ error. error ≡ Output)
+    → IfOk r (λ end. EndedSession limit start input rest before after end.steps end.event new)
+    × IfErr r (λ error. StoppedSession limit start input rest before after error new)
+session_at_limit limit start input rest before between after steps new r so_far reached kept is fails =
+    session_finishes limit start input rest before between after steps None new r (record {
+      earlier = steps;
+      more = 0;
+      mid = new;
+      served = so_far;
+      last = (omega arith, refl);
+      counted = omega arith;
+    }) tt kept is fails
 
 -- what a later read gives
 pub given_later : (input between rest : Option (List ℕ)) (byte : Option ℕ)
@@ -175,44 +213,46 @@ given_later input between rest None none given =
 given_later input between rest (Some b) none given =
     Consumes-trans input between rest [] (b ∷ []) none given
 
--- events that end a session
-pub ended_by_program : (e : BoardEvent) (status : ℕ) → e ≡ Finished status → EndsSession (Some e)
-ended_by_program e status is = subst (λ x. EndsSession (Some x)) (sym is) tt
+-- ---- one event
 
-pub ended_by_wait : (e : BoardEvent) → e ≡ NothingWakes → EndsSession (Some e)
-ended_by_wait e is = subst (λ x. EndsSession (Some x)) (sym is) tt
-
--- the limit is reached
-pub session_at_limit : (limit : ℕ) (start : Board) (input rest before after : Option (List ℕ))
-    (steps : ℕ) (new : Board)
-    → Served limit start input rest before after steps new
-    → limit ≤ steps
-    → ServedAndRun limit start input rest before after steps None new
-session_at_limit limit start input rest before after steps new so_far reached = record {
-  earlier = steps;
-  more = 0;
-  mid = new;
-  served = so_far;
-  last = (omega arith, refl);
-  counted = omega arith;
+-- a byte is printed
+pub goes_printed : (b : Board) (event : BoardEvent) (byte : ℕ) (input before after : Option (List ℕ))
+    → event ≡ Transmitted byte → Appends before after (byte ∷ [])
+    → GoesOn event b b input input before after
+goes_printed b event byte input before after is printed = record {
+  bytes = [];
+  goes = subst (λ e. Goes e b) (sym is) tt;
+  arrives = refl;
+  consumed = Consumes-nil input;
+  appended = subst (λ e. Appends before after (printed_by e)) (sym is) printed;
 }
 
--- the output is flushed at the end
-pub session_finishes : (limit : ℕ) (start : Board) (input rest before between after : Option (List ℕ))
-    (steps : ℕ) (event : Option BoardEvent) (new : Board) (r : Result BoardEnd TerminalError)
-    → ServedAndRun limit start input rest before between steps event new
-    → EndsSession event
-    → Keeps between after
-    → IfOk r (λ end. (end.steps ≡ steps) × (end.event ≡ event))
-    → IfErr r (λ error. error ≡ Output)
-    → IfOk r (λ end. EndedSession limit start input rest before after end.steps end.event new)
-    × IfErr r (λ error. StoppedSession limit start input rest before after error new)
-session_finishes limit start input rest before between after steps event new (Ok end) made ends kept is fails =
-    let flushed : ServedAndRun limit start input rest before after steps event new =
-    session_kept limit start input rest before between after steps event new made kept in
-    (rw (is.0, is.1) (record { made = flushed; ends = ends }), tt)
-session_finishes limit start input rest before between after steps event new (Err error) made ends kept is fails = (
-  tt,
-  stopped_by_output limit start input rest before after steps event error new
-      (session_kept limit start input rest before between after steps event new made kept) fails,
-)
+-- nothing is printed at the events at which a byte may be read
+prints_none : (event : BoardEvent) → Asks event → printed_by event ≡ []
+prints_none (Transmitted byte) asks = absurd asks
+prints_none (Finished status) asks = absurd asks
+prints_none Looked asks = refl
+prints_none Waits asks = refl
+prints_none NothingWakes asks = refl
+
+-- a byte may be read
+pub goes_asked : (old new : Board) (event : BoardEvent) (input rest before after : Option (List ℕ))
+    → Asks event → Goes event old → Asked old new input rest before after
+    → GoesOn event old new input rest before after
+goes_asked old new event input rest before after asks goes asked = record {
+  bytes = asked.bytes;
+  goes = goes;
+  arrives = asked.arrives;
+  consumed = asked.consumed;
+  appended = subst (λ bs. Appends before after bs) (sym (prints_none event asks))
+      (Appends-kept before before after [] (Appends-nil before) asked.kept);
+}
+
+-- none is read
+pub asked_none : (b : Board) (input before : Option (List ℕ)) → Asked b b input input before before
+asked_none b input before = record {
+  bytes = [];
+  arrives = refl;
+  consumed = Consumes-nil input;
+  kept = Keeps-refl before;
+}

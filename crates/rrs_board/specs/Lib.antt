@@ -1,5 +1,8 @@
--- A board: its registers, its memory, what the devices do between two steps, runs, and a board at a
--- terminal.
+-- A board: its devices, by their data sheets; its registers and its memory; what the devices do
+-- between two steps; runs, and a board at a terminal.
+pub mod Uart
+pub mod Clint
+pub mod Finisher
 pub mod Registers
 pub mod Effects
 pub mod Boards

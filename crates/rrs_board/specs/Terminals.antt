@@ -1,50 +1,47 @@
--- A board at a terminal. What the program transmits is printed, and what its UART wants is typed.
--- Between two runs of the board a byte is printed, or what was typed is handed to the UART.
-use Rattle.std.specs.Prelude.{◌≡◌, ℕ, ◌+◌, ◌-◌, List, [], ◌∷◌, ◌++◌, Option, Some, None, IfSome}
-use Rattle.std.specs.Io.KnownBytes.{Appends, Consumes}
+-- A board at a terminal. What the program transmits is printed, and what is typed arrives at its UART.
+-- Between two runs of the board a byte may arrive, where the UART holds none. When that is so is no
+-- part of this: a person types when he likes.
+use Rattle.std.specs.Prelude.{◌≡◌, ℕ, ◌+◌, ◌-◌, Bool, true, List, [], ◌∷◌, ◌++◌, Option, Some, None, IfSome}
+use Rattle.std.specs.Io.KnownBytes.{Appends, Consumes, Keeps}
 use Rattle.rrs_board.specs.declared.board.Board.{Board}
 use Rattle.rrs_board.specs.declared.effects.BoardEvent.{BoardEvent}
-use Rattle.rrs_board.specs.declared.effects.BoardEvent.TheVariants.{Transmitted, WantsInput, Finished, NothingWakes}
+use Rattle.rrs_board.specs.declared.effects.BoardEvent.TheVariants.{Transmitted, Finished, NothingWakes}
 use Rattle.rrs_board.specs.declared.terminal.TerminalError.{TerminalError}
 use Rattle.rrs_board.specs.declared.terminal.TerminalError.TheVariants.{Input}
-use Rattle.rrs_board.specs.Effects.{handed}
+use Rattle.rrs_board.specs.Effects.{arrived, waits_for_input}
 use Rattle.rrs_board.specs.Boards.{BoardRun}
 
--- the board with a byte handed to its UART, or, by None, the end of the input
-abbrev pub with_input : Option ℕ → Board → Board
+-- the board after a byte arrived at its UART
+abbrev pub with_input : ℕ → Board → Board
 with_input byte b =
-    record b { memory = record b.memory { devices = handed byte b.memory.devices } }
+    record b { memory = record b.memory { devices = arrived byte b.memory.devices } }
+
+-- none or one byte arrives, where the UART holds none
+abbrev pub Arrives : List ℕ → Board → Board → Type 0
+Arrives [] old new = new ≡ old
+Arrives (byte ∷ []) old new = (old.memory.devices.uart.received ≡ None) × (new ≡ with_input byte old)
+Arrives (byte ∷ (other ∷ bytes)) old new = ⊥
+
+abbrev pub printed_by : BoardEvent → List ℕ
+printed_by (Transmitted byte) = byte ∷ []
+printed_by _ = []
+
+-- the events after which a board goes on: a wait that no alarm can end is one where input can end it
+abbrev pub Goes : BoardEvent → Board → Type 0
+Goes (Finished status) b = ⊥
+Goes NothingWakes b = waits_for_input b.memory.devices ≡ true
+Goes event b = Unit {0}
 
 -- From a board on so many steps were made, these bytes of the input were typed and these printed,
 -- and then the board is this one.
-pub data Session (limit : ℕ) (start : Board) (input : Option (List ℕ))
-    : ℕ → List ℕ → List ℕ → Board → Type 0 where
-  Starts : Session limit start input 0 [] [] start
-  -- the program transmits a byte, which is printed
-  Prints : {steps more byte : ℕ} {typed printed : List ℕ} {mid new : Board}
-      → Session limit start input steps typed printed mid
-      → BoardRun (limit - steps) mid more (Some (Transmitted byte)) new
-      → Session limit start input (steps + more) typed (printed ++ (byte ∷ [])) new
-  -- it looks for input, and a byte is there
-  Reads : {steps more byte : ℕ} {typed printed : List ℕ} {mid new : Board}
-      → Session limit start input steps typed printed mid
-      → BoardRun (limit - steps) mid more (Some WantsInput) new
-      → Session limit start input (steps + more) (typed ++ (byte ∷ [])) printed
-      (with_input (Some byte) new)
-  -- it looks for input, all of which was typed
-  Ends : {steps more : ℕ} {typed printed : List ℕ} {mid new : Board}
-      → IfSome input (λ all. all ≡ typed)
-      → Session limit start input steps typed printed mid
-      → BoardRun (limit - steps) mid more (Some WantsInput) new
-      → Session limit start input (steps + more) typed printed (with_input None new)
-
--- the events at which a session ends
-abbrev pub EndsSession : Option BoardEvent → Type 0
-EndsSession None = Unit {0}
-EndsSession (Some (Finished status)) = Unit {0}
-EndsSession (Some NothingWakes) = Unit {0}
-EndsSession (Some (Transmitted byte)) = ⊥
-EndsSession (Some WantsInput) = ⊥
+pub data Session (limit : ℕ) (start : Board) : ℕ → List ℕ → List ℕ → Board → Type 0 where
+  Starts : Session limit start 0 [] [] start
+  -- a run of the board, what it transmits is printed, and then a byte may arrive
+  Runs : {steps more : ℕ} {typed printed : List ℕ} {event : BoardEvent} {old mid new : Board}
+      → (bytes : List ℕ) → Session limit start steps typed printed old
+      → BoardRun (limit - steps) old more (Some event) mid
+      → Goes event mid → Arrives bytes mid new
+      → Session limit start (steps + more) (typed ++ bytes) (printed ++ printed_by event) new
 
 -- A session so far, by the bytes of the input and of the output before and after it, where these
 -- are known: what was typed was read, what was transmitted was printed, and nothing else.
@@ -52,11 +49,11 @@ pub record Served (limit : ℕ) (start : Board) (input rest before after : Optio
     (steps : ℕ) (new : Board) : Type 0 where
   pub typed : List ℕ
   pub printed : List ℕ
-  pub session : Session limit start input steps typed printed new
+  pub session : Session limit start steps typed printed new
   pub consumed : Consumes input rest typed
   pub appended : Appends before after printed
 
--- the session so far, and a further run of the board, whose event is not served yet
+-- the session so far, and a further run of the board, whose event is not served
 pub record ServedAndRun (limit : ℕ) (start : Board) (input rest before after : Option (List ℕ))
     (steps : ℕ) (event : Option BoardEvent) (new : Board) : Type 0 where
   pub earlier : ℕ
@@ -66,11 +63,29 @@ pub record ServedAndRun (limit : ℕ) (start : Board) (input rest before after :
   pub last : BoardRun (limit - earlier) mid more event new
   pub counted : steps ≡ earlier + more
 
+-- the events at which a session ends: at a wait that input can end all of the input was typed
+abbrev pub EndsSession : Option BoardEvent → Board → Option (List ℕ) → List ℕ → Type 0
+EndsSession None b input typed = Unit {0}
+EndsSession (Some (Finished status)) b input typed = Unit {0}
+EndsSession (Some NothingWakes) b input typed =
+    waits_for_input b.memory.devices ≡ true → IfSome input (λ all. all ≡ typed)
+EndsSession (Some event) b input typed = ⊥
+
 -- A session ends at the limit, with the program, or at a wait that nothing ends.
 pub record EndedSession (limit : ℕ) (start : Board) (input rest before after : Option (List ℕ))
     (steps : ℕ) (event : Option BoardEvent) (new : Board) : Type 0 where
   pub made : ServedAndRun limit start input rest before after steps event new
-  pub ends : EndsSession event
+  pub ends : EndsSession event new input made.served.typed
+
+-- the events at which a byte may be read
+abbrev pub Asks : BoardEvent → Type 0
+Asks (Transmitted byte) = ⊥
+Asks (Finished status) = ⊥
+Asks event = Unit {0}
+
+abbrev pub AsksAt : Option BoardEvent → Type 0
+AsksAt None = ⊥
+AsksAt (Some event) = Asks event
 
 -- A session is stopped where a read of the input fails, or a write or a flush of the output: the
 -- event of the last run was not served.
@@ -79,4 +94,35 @@ pub record StoppedSession (limit : ℕ) (start : Board) (input rest before after
   pub steps : ℕ
   pub event : Option BoardEvent
   pub made : ServedAndRun limit start input rest before after steps event new
-  pub asked : error ≡ Input → event ≡ Some WantsInput
+  pub asked : error ≡ Input → AsksAt event
+
+-- ---- one event
+
+-- An event was served, by the bytes of the input and of the output before and after it, and the board
+-- goes on.
+pub record GoesOn (event : BoardEvent) (old new : Board) (input rest before after : Option (List ℕ))
+    : Type 0 where
+  pub bytes : List ℕ
+  pub goes : Goes event old
+  pub arrives : Arrives bytes old new
+  pub consumed : Consumes input rest bytes
+  pub appended : Appends before after (printed_by event)
+
+-- the end of the input was seen at a wait that input can end
+abbrev pub EndsBy : BoardEvent → Board → Bool → Type 0
+EndsBy (Finished status) b ended = Unit {0}
+EndsBy NothingWakes b ended = waits_for_input b.memory.devices ≡ true → ended ≡ true
+EndsBy event b ended = ⊥
+
+-- a byte was read and arrived, or none was
+pub record Asked (old new : Board) (input rest before after : Option (List ℕ)) : Type 0 where
+  pub bytes : List ℕ
+  pub arrives : Arrives bytes old new
+  pub consumed : Consumes input rest bytes
+  pub kept : Keeps before after
+
+-- nothing was read, and nothing written
+pub record Untouched (old new : Board) (input rest before after : Option (List ℕ)) : Type 0 where
+  pub same : new ≡ old
+  pub consumed : Consumes input rest []
+  pub kept : Keeps before after

@@ -5,6 +5,7 @@ ghost use Rattle.rrs_memory.specs.Bytes.{width};
 ghost use Rattle.rrs_board.specs.Registers.{register, with_register, start_of, with_bytes, noted, after_read};
 ghost use Rattle.rrs_board.specs.Effects.{reset_devices};
 
+use crate::uart::Uart;
 use rrs_memory::{MemAccessSize, Memory};
 
 /// An access to a register of a device.
@@ -27,16 +28,13 @@ pub struct Devices {
     pub alarm: u64,
     /// `mtime`, at 0x200bff8.
     pub time: u64,
-    /// Registers 0 to 3 of the UART, at 0x10000000, the first in the lowest byte.
+    /// The UART.
+    pub uart: Uart,
+    /// What registers 0 to 3 of the UART show at 0x10000000, the first in the lowest byte, and what
+    /// was written there in this step.
     pub uart_low: u32,
-    /// Registers 4 to 7 of the UART.
+    /// The same of registers 4 to 7.
     pub uart_high: u32,
-    /// The byte that the UART received and that the program has not read yet.
-    pub received: Option<u8>,
-    /// Whether the program looked for input, and has transmitted nothing since.
-    pub is_polled: bool,
-    /// Whether the input is at its end.
-    pub has_ended: bool,
     /// The access to a register that the devices have not answered to yet.
     pub access: Option<DeviceAccess>,
 }
@@ -108,11 +106,9 @@ impl Devices {
             software: 0,
             alarm: u64::MAX,
             time: 0,
+            uart: Uart::new(),
             uart_low: 0x0001_0000,
             uart_high: 0x00b0_6000,
-            received: None,
-            is_polled: false,
-            has_ended: false,
             access: None,
         }
     }

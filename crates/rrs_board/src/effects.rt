@@ -1,9 +1,12 @@
 //! What the devices do between two steps.
 
-ghost use Rattle.std.specs.Prelude.{◌≡◌, ◌+◌, ◌/◌, ◌%◌, ◌^◌, ◌==◌};
-ghost use Rattle.rrs_board.specs.Effects.{inputs_of, wrote, read, has_divisor, transmits, takes_byte, has_byte, finds_none, shown_byte, line_status, shown_low, shown_high, showing, handed, received_after, polled_after, answered_access, answered, finish_event, access_event, ticked, can_wake, forwarded, waited, settled, event_after};
+ghost use Rattle.std.specs.Prelude.{◌≡◌, ◌+◌, ◌/◌, ◌%◌, ◌^◌, ◌<◌, ◌==◌};
+ghost use Rattle.rrs_board.specs.Clint.{can_wake};
+ghost use Rattle.rrs_board.specs.Finisher.{status_of};
+ghost use Rattle.rrs_board.specs.Effects.{inputs_of, shown_word, showing, wrote, looked_at, transmits, finds_none, byte_at, uart_after, answered_access, answered, ended_with, access_event, ticked, waited, settled, event_after, arrived, waits_for_input};
 
 use crate::devices::{DeviceAccess, Devices};
+use crate::uart::Uart;
 use rrs_privileged::{CsrFile, Inputs, MachineAnswer};
 
 /// What a device has for the caller.
@@ -11,15 +14,18 @@ use rrs_privileged::{CsrFile, Inputs, MachineAnswer};
 pub enum BoardEvent {
     /// The program transmitted this byte.
     Transmitted(u8),
-    /// The program looks for input again and again, and there is none: hand some to
-    /// [Devices::receive], or say that the input is at its end.
-    WantsInput,
+    /// The program looked at LSR or IIR, and the UART held no byte.
+    Looked,
     /// The program ended with this status.
     Finished(u32),
-    /// A `wfi` waits, and nothing on the board can wake it.
+    /// A `wfi` waits for the alarm, and time went forward to it.
+    Waits,
+    /// A `wfi` waits, and no alarm can end that.
     NothingWakes,
 }
 
+/// The address of the finisher.
+const FINISHER: u32 = 0x0010_0000;
 /// The address of the UART.
 const UART: u32 = 0x1000_0000;
 
@@ -34,8 +40,8 @@ fn wrote(address: u32, access: Option<DeviceAccess>) -> bool
 }
 
 /// Whether the program read from this address.
-fn read(address: u32, access: Option<DeviceAccess>) -> bool
-    ensures { result ≡ read address access }
+fn looked_at(address: u32, access: Option<DeviceAccess>) -> bool
+    ensures { result ≡ looked_at address access }
 {
     match access {
         Some(access) => !access.is_write && access.address == address,
@@ -43,48 +49,38 @@ fn read(address: u32, access: Option<DeviceAccess>) -> bool
     }
 }
 
-/// The byte that RBR shows.
-fn shown_byte(received: Option<u8>) -> u32
-    ensures { result ≡ shown_byte received }
+/// Four registers of the UART from an offset on.
+fn shown_word(uart: &Uart, offset: u32) -> u32
+    requires { offset < 8 }
+    ensures { result ≡ shown_word uart.now offset }
 {
-    match received {
-        Some(byte) => u32::from(byte),
-        None => 0,
-    }
+    u32::from(uart.shown(offset))
+        + u32::from(uart.shown(offset + 1)) * 0x100
+        + u32::from(uart.shown(offset + 2)) * 0x1_0000
+        + u32::from(uart.shown(offset + 3)) * 0x100_0000
 }
 
-/// LSR.
-fn line_status(received: Option<u8>) -> u32
-    ensures { result ≡ line_status received }
-{
-    match received {
-        Some(_) => 0x61,
-        None => 0x60,
-    }
-}
-
-/// Registers 0 to 3 of the UART as they are read.
-fn shown_low(received: Option<u8>, low: u32) -> u32
-    ensures { result ≡ shown_low received low }
-{
-    low / 0x100_0000 * 0x100_0000 + 0x1_0000 + low / 0x100 % 0x10 * 0x100 + shown_byte(received)
-}
-
-/// Registers 4 to 7 of the UART as they are read.
-fn shown_high(received: Option<u8>, high: u32) -> u32
-    ensures { result ≡ shown_high received high }
-{
-    high / 0x100_0000 * 0x100_0000 + 0xb0_0000 + line_status(received) * 0x100 + high % 0x20
-}
-
-/// What the finisher does with a word.
-fn finish_event(word: u32) -> Option<BoardEvent>
-    ensures { result ≡ finish_event word }
+/// The status with which a word for the finisher ends the program.
+fn status_of(word: u32) -> Option<u32>
+    ensures { result ≡ status_of word }
 {
     match word % 0x1_0000 {
-        0x5555 => Some(BoardEvent::Finished(0)),
-        0x3333 => Some(BoardEvent::Finished(word / 0x1_0000)),
+        0x5555 => Some(0),
+        0x3333 => Some(word / 0x1_0000),
         _ => None,
+    }
+}
+
+/// A byte of a word.
+fn byte_of(word: u32, place: u32) -> u8
+    requires { place < 4 }
+    ensures { result ≡ word / 256 ^ place % 256 }
+{
+    match place {
+        0 => (word % 0x100) as u8,
+        1 => (word / 0x100 % 0x100) as u8,
+        2 => (word / 0x1_0000 % 0x100) as u8,
+        _ => (word / 0x100_0000 % 0x100) as u8,
     }
 }
 
@@ -102,83 +98,84 @@ impl Devices {
         }
     }
 
-    /// Hands a byte to the UART, which the program reads next, or, by `None`, says that the input is
-    /// at its end.
-    ///
-    /// The program has read the byte before it: this is for the answer to
-    /// [BoardEvent::WantsInput].
-    pub fn receive(&mut self, byte: Option<u8>)
-        ensures { self.new ≡ handed byte self.old }
+    /// Hands the UART a byte that arrives. Where it holds one already, the byte is lost: ask
+    /// [Uart::has_byte] first.
+    pub fn receive(&mut self, byte: u8)
+        ensures { self.new ≡ arrived byte self.old }
     {
-        self.has_ended = byte.is_none();
-        self.show(byte);
+        let mut uart = self.uart;
+        uart.receive(byte);
+        self.show(uart);
     }
 
-    /// Whether the divisor is in the place of registers 0 and 1.
-    fn has_divisor(&self) -> bool
-        ensures { result ≡ has_divisor self.now }
+    /// Whether the UART asks for received data, and holds none.
+    pub fn waits_for_input(&self) -> bool
+        ensures { result ≡ waits_for_input self.now }
     {
-        self.uart_low / 0x8000_0000 % 2 == 1
+        self.uart.asks_for_data() && !self.uart.has_byte()
+    }
+
+    /// Shows the registers of a UART.
+    fn show(&mut self, uart: Uart)
+        ensures { self.new ≡ showing uart self.old }
+    {
+        self.uart = uart;
+        self.uart_low = shown_word(&uart, 0);
+        self.uart_high = shown_word(&uart, 4);
     }
 
     /// Whether the program transmitted a byte.
     fn transmits(&self) -> bool
         ensures { result ≡ transmits self.now }
     {
-        wrote(UART, self.access) && !self.has_divisor()
+        wrote(UART, self.access) && !self.uart.has_divisor()
     }
 
-    /// Whether the program took the byte that was received.
-    fn takes_byte(&self) -> bool
-        ensures { result ≡ takes_byte self.now }
-    {
-        read(UART, self.access) && !self.has_divisor()
-    }
-
-    /// Whether the program looked at the line status, and no byte was there.
+    /// Whether the program looked at LSR or IIR, and no byte was there.
     fn finds_none(&self) -> bool
         ensures { result ≡ finds_none self.now }
     {
-        read(UART + 5, self.access) && self.received.is_none()
+        (looked_at(UART + 5, self.access) || looked_at(UART + 2, self.access))
+            && !self.uart.has_byte()
     }
 
-    /// Shows a byte that was received, or none.
-    fn show(&mut self, received: Option<u8>)
-        ensures { self.new ≡ showing received self.old }
+    /// The byte that a register of the UART has after a write.
+    fn byte_at(&self, offset: u32) -> u8
+        ensures { result ≡ byte_at offset self.now }
     {
-        self.received = received;
-        self.uart_low = shown_low(received, self.uart_low);
-        self.uart_high = shown_high(received, self.uart_high);
-    }
-
-    /// Whether the program looks for input, after an access.
-    fn polled_after(&self) -> bool
-        ensures { result ≡ polled_after self.now }
-    {
-        if self.transmits() || self.takes_byte() {
-            false
-        } else if self.finds_none() {
-            true
+        let word = if offset < 4 {
+            self.uart_low
         } else {
-            self.is_polled
+            self.uart_high
+        };
+        byte_of(word, offset % 4)
+    }
+
+    /// The UART after an access.
+    fn uart_after(&self, access: DeviceAccess) -> Uart
+        ensures { result ≡ uart_after access self.now }
+    {
+        let mut uart = self.uart;
+        if access.address >= UART {
+            let offset = access.address - UART;
+            if access.is_write {
+                uart.write(offset, self.byte_at(offset));
+            } else {
+                uart.look(offset);
+            }
         }
+        uart
     }
 
     /// Answers to an access.
-    fn answer_access(&mut self)
-        ensures { self.new ≡ answered_access self.old }
+    fn answer_access(&mut self, access: DeviceAccess)
+        ensures { self.new ≡ answered_access access self.old }
     {
-        let polled = self.polled_after();
-        let received = if self.takes_byte() {
-            None
-        } else {
-            self.received
-        };
+        let uart = self.uart_after(access);
         self.finisher = 0;
         self.software %= 2;
-        self.is_polled = polled;
         self.access = None;
-        self.show(received);
+        self.show(uart);
     }
 
     /// Answers to an access, where there was one.
@@ -187,7 +184,7 @@ impl Devices {
         ensures { self.new ≡ answered self.old }
     {
         match self.access {
-            Some(_) => self.answer_access(),
+            Some(access) => self.answer_access(access),
             None => {}
         }
     }
@@ -196,12 +193,15 @@ impl Devices {
     fn access_event(&self) -> Option<BoardEvent>
         ensures { result ≡ access_event self.now }
     {
-        if wrote(0x0010_0000, self.access) {
-            finish_event(self.finisher)
+        if wrote(FINISHER, self.access) {
+            match status_of(self.finisher) {
+                Some(status) => Some(BoardEvent::Finished(status)),
+                None => None,
+            }
         } else if self.transmits() {
-            Some(BoardEvent::Transmitted((self.uart_low % 0x100) as u8))
-        } else if self.finds_none() && self.is_polled && !self.has_ended {
-            Some(BoardEvent::WantsInput)
+            Some(BoardEvent::Transmitted(self.byte_at(0)))
+        } else if self.finds_none() {
+            Some(BoardEvent::Looked)
         } else {
             None
         }
@@ -222,7 +222,7 @@ impl Devices {
 
     /// Whether an alarm can end a wait.
     fn can_wake(&self, csrs: &CsrFile) -> bool
-        ensures { result ≡ can_wake csrs.now self.now }
+        ensures { result ≡ can_wake csrs.now self.now.alarm }
     {
         csrs.mie / 0x80 % 2 == 1 && self.alarm < u64::MAX
     }
@@ -243,7 +243,7 @@ impl Devices {
         ensures { result ≡ event_after answer csrs.now self.now }
     {
         match answer {
-            MachineAnswer::Waiting if self.can_wake(csrs) => None,
+            MachineAnswer::Waiting if self.can_wake(csrs) => Some(BoardEvent::Waits),
             MachineAnswer::Waiting => Some(BoardEvent::NothingWakes),
             _ => self.access_event(),
         }

@@ -2,26 +2,30 @@
 //! a finisher.
 //!
 //! [Board::step] makes a step of the hart, and then the devices answer to what it did. [Board::run]
-//! makes steps until a device has an event for the caller: a byte that is transmitted, input that
-//! is wanted, the end of the program, or a `wfi` that nothing wakes. The caller has the terminal:
-//! nothing here reads or writes a file.
+//! makes steps until a device has an event for the caller: a byte that is transmitted, a look that
+//! finds none received, the end of the program, or a `wfi` that waits. The caller has the terminal:
+//! nothing here reads or writes a file. A byte may arrive at the UART after any step.
 //!
 //! During a step the registers of the devices are a lawful memory (`specs/Registers.antt`): a byte
 //! that is written reads back. What they do of their own they do between two steps
-//! (`specs/Effects.antt`).
+//! (`specs/Effects.antt`), by their data sheets (`specs/Uart.antt` and the two beside it).
 
 #![tactic(auto)]
 
+pub mod asking;
 pub mod board;
 pub mod devices;
 pub mod effects;
 pub mod loading;
 pub mod memory;
 pub mod terminal;
+pub mod uart;
 
+pub use asking::Asking;
 pub use board::{Board, BoardEnd, BoardStep};
 pub use devices::{DeviceAccess, Devices};
 pub use effects::BoardEvent;
 pub use loading::BoardError;
 pub use memory::BoardMemory;
 pub use terminal::{TerminalError, run_at_terminal};
+pub use uart::Uart;

@@ -1,9 +1,11 @@
-//! A board at a terminal: what its UART transmits is written, and what it wants is read.
+//! A board at a terminal: what its UART transmits is written, and what it receives is read.
 
-ghost use Rattle.std.specs.Prelude.{◌≡◌, [], ◌∷◌, IfOk, OnOk, IfErr, MatchOption, MatchResult};
+ghost use Rattle.std.specs.Prelude.{◌≡◌, [], ◌∷◌, true, IfOk, OnOk, IfErr, MatchOption, MatchResult};
+ghost use Rattle.std.specs.Bool.{OnTrue, OnFalse};
 ghost use Rattle.std.specs.Io.KnownBytes.{Appends, Consumes, Keeps, IsAtEnd};
-ghost use Rattle.rrs_board.specs.Terminals.{EndedSession, StoppedSession};
+ghost use Rattle.rrs_board.specs.Terminals.{Asks, EndsBy, GoesOn, Asked, Untouched, EndedSession, StoppedSession};
 
+use crate::asking::Asking;
 use crate::board::{Board, BoardEnd};
 use crate::effects::BoardEvent;
 use std::io::{self, ErrorKind, Read, Write};
@@ -18,13 +20,17 @@ pub enum TerminalError {
 }
 
 /// Runs a board until it ends or `limit` steps were made. Each byte that it transmits is written to
-/// `output`, which is flushed before input is read and at the end; input is read byte by byte, when
-/// the program looks for it again and again.
+/// `output`, which is flushed before input is read and at the end. Input is read byte by byte, and
+/// each byte arrives at the UART: after a thousand looks in a row that find none, between which
+/// nothing is transmitted, and at a `wfi` that no alarm can end where IER asks for received data.
+/// Where the input is polled (`is_polled`) it is read at each `wfi` that waits too, and a read of no
+/// bytes means that there is none yet. Otherwise the input is then at its end.
 ///
 /// The clauses: a chain of runs leads from the board before to that after, with what was typed and
 /// printed between them; what was typed is what was read of the input, and what was printed is what
-/// the output got, where these bytes are known (`session`). After an error the same holds of the
-/// runs up to there, and the event of the last one was not served (`stopped`).
+/// the output got, where these bytes are known; a wait that only input can end is the end where all
+/// of the input was typed (`session`). After an error the same holds of the runs up to there, and
+/// the event of the last one was not served (`stopped`). When the input is read is no part of them.
 ///
 /// # Errors
 ///
@@ -32,6 +38,7 @@ pub enum TerminalError {
 pub fn run_at_terminal<R: Read, W: Write>(
     board: &mut Board,
     limit: u64,
+    is_polled: bool,
     input: &mut R,
     output: &mut W,
 ) -> Result<BoardEnd, TerminalError>
@@ -42,25 +49,104 @@ pub fn run_at_terminal<R: Read, W: Write>(
         (R.remaining input.old) (R.remaining input.new)
         (W.contents output.old) (W.contents output.new) error board.new) }
 {
+    let mut asking = Asking::new(is_polled);
     let mut steps = 0;
     'runs: while steps < limit {
         let end = board.run(limit - steps);
         steps += end.steps;
         match end.event {
-            Some(event) => match event {
-                BoardEvent::Transmitted(byte) => print(output, byte)?,
-                BoardEvent::WantsInput => {
-                    flush(output)?;
-                    let byte = next_byte(input)?;
-                    board.memory.devices.receive(byte);
+            Some(event) => {
+                if !serve(board, &mut asking, event, input, output)? {
+                    return finish(output, steps, Some(event));
                 }
-                BoardEvent::Finished(_) => return finish(output, steps, Some(event)),
-                BoardEvent::NothingWakes => return finish(output, steps, Some(event)),
-            },
+            }
             None => return finish(output, steps, None),
         }
     }
     finish(output, steps, None)
+}
+
+/// Serves an event, and says whether the board goes on.
+fn serve<R: Read, W: Write>(
+    board: &mut Board,
+    asking: &mut Asking,
+    event: BoardEvent,
+    input: &mut R,
+    output: &mut W,
+) -> Result<bool, TerminalError>
+    ensures goes { IfOk result (λ goes. OnTrue goes (GoesOn event board.old board.new
+        (R.remaining input.old) (R.remaining input.new)
+        (W.contents output.old) (W.contents output.new))) }
+    ensures ends { IfOk result (λ goes. OnFalse goes (EndsBy event board.new asking.new.has_ended
+        × Untouched board.old board.new (R.remaining input.old) (R.remaining input.new)
+        (W.contents output.old) (W.contents output.new))) }
+    ensures at_end { (asking.old.has_ended ≡ true → IsAtEnd (R.remaining input.old))
+        → asking.new.has_ended ≡ true → IsAtEnd (R.remaining input.new) }
+    ensures failed { IfErr result (λ error. (error ≡ TerminalError.Input → Asks event)
+        × Untouched board.old board.new (R.remaining input.old) (R.remaining input.new)
+        (W.contents output.old) (W.contents output.new)) }
+{
+    match event {
+        BoardEvent::Transmitted(byte) => {
+            asking.note_output();
+            print(output, byte)?;
+            Ok(true)
+        }
+        BoardEvent::Looked => {
+            if asking.count_look() {
+                ask(board, asking, input, output)?;
+            }
+            Ok(true)
+        }
+        BoardEvent::Waits => {
+            if asking.is_polled {
+                ask(board, asking, input, output)?;
+            }
+            Ok(true)
+        }
+        BoardEvent::NothingWakes if board.memory.devices.waits_for_input() => {
+            ask(board, asking, input, output)
+        }
+        BoardEvent::NothingWakes | BoardEvent::Finished(_) => Ok(false),
+    }
+}
+
+/// Reads a byte that arrives at the UART, if it holds none, and says whether there may be more.
+fn ask<R: Read, W: Write>(
+    board: &mut Board,
+    asking: &mut Asking,
+    input: &mut R,
+    output: &mut W,
+) -> Result<bool, TerminalError>
+    ensures asked { IfOk result (λ more. Asked board.old board.new
+        (R.remaining input.old) (R.remaining input.new)
+        (W.contents output.old) (W.contents output.new)) }
+    ensures ended { IfOk result (λ more. OnFalse more ((asking.new.has_ended ≡ true)
+        × Untouched board.old board.new (R.remaining input.old) (R.remaining input.new)
+        (W.contents output.old) (W.contents output.new))) }
+    ensures at_end { (asking.old.has_ended ≡ true → IsAtEnd (R.remaining input.old))
+        → asking.new.has_ended ≡ true → IsAtEnd (R.remaining input.new) }
+    ensures failed { IfErr result (λ error. Untouched board.old board.new
+        (R.remaining input.old) (R.remaining input.new)
+        (W.contents output.old) (W.contents output.new)) }
+{
+    if asking.has_ended {
+        return Ok(false);
+    }
+    if board.memory.devices.uart.has_byte() {
+        return Ok(true);
+    }
+    flush(output)?;
+    match next_byte(input)? {
+        Some(byte) => {
+            board.memory.devices.receive(byte);
+            Ok(true)
+        }
+        None => {
+            asking.note_none();
+            Ok(!asking.has_ended)
+        }
+    }
 }
 
 /// Flushes the output at the end of a session.

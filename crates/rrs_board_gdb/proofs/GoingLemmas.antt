@@ -1,9 +1,28 @@
 -- Steps of a board under gdb, one after another.
-use Rattle.std.proofs.Common.{◌≡◌, ℕ, zero, suc, ◌+◌, ◌≤◌, List, ◌++◌, Contains, Option, None, refl, sym, subst, ap, ◌∙◌, arith, append-nil, append_assoc}
+use Rattle.std.proofs.Common.{◌≡◌, ℕ, zero, suc, ◌+◌, ◌≤◌, List, ◌++◌, Contains, Option, None, Result, Ok, Err, IfOk, refl, sym, subst, ap, ◌∙◌, arith, append-nil, append_assoc}
+use Rattle.std.specs.declared.alloc.AllocError.{AllocError}
+use Rattle.rrs_privileged.specs.declared.machine.MachineAnswer.{MachineAnswer}
+use Rattle.rrs_board.specs.declared.board.Board.{Board}
 use Rattle.rrs_board.specs.declared.effects.BoardEvent.{BoardEvent}
+use Rattle.rrs_board.specs.Boards.{BoardStepped}
 use Rattle.rrs_board_gdb.specs.declared.going.GoReason.{GoReason}
 use Rattle.rrs_board_gdb.specs.declared.going.GoReason.TheVariants as Reason
-use Rattle.rrs_board_gdb.specs.Going.{Debugged, printed_by, ending, ServedStep, PassingSteps, EndsBy, GoesTo}
+use Rattle.rrs_board_gdb.specs.Going.{Debugged, printed_by, ending, Serves, ServedStep, PassingSteps, EndsBy, GoesTo}
+
+-- a step of the board, and what it tells is served
+pub served_step : (d t : Debugged) (after : Board) (answer : MachineAnswer) (event : Option BoardEvent)
+    (r : Result (Option BoardEvent) AllocError)
+    → BoardStepped d.board after answer event
+    → IfOk r (λ left. Serves event d.input after left t)
+    → IfOk r (λ left. ServedStep d left t)
+served_step d t after answer event (Ok left) stepped serves = record {
+  after = after;
+  answer = answer;
+  event = event;
+  stepped = stepped;
+  serves = serves;
+}
+served_step d t after answer event (Err error) stepped serves = tt
 
 -- a step that leads to an end, after some that do not
 pub ends_at : (stops : List ℕ) (limit n steps : ℕ) (d m t : Debugged) (before printed : List ℕ)

@@ -1,13 +1,14 @@
 -- How a board goes on under gdb (gdb's manual, "Remote Serial Protocol", "Packets": c, s, Z): by the
 -- board's own steps, so that traps and interrupts are taken, up to a breakpoint. What a step tells is
--- served: what the UART transmits is printed, and what it wants is handed in.
-use Rattle.std.specs.Prelude.{◌≡◌, ℕ, zero, suc, ◌≤◌, List, [], ◌∷◌, ◌++◌, Contains, Option, Some, None}
+-- served: what the UART transmits is printed, and bytes of the input arrive at it.
+use Rattle.std.specs.Prelude.{◌≡◌, ℕ, zero, suc, ◌≤◌, true, List, [], ◌∷◌, ◌++◌, Contains, Option, Some, None}
 use Rattle.rrs_privileged.specs.declared.machine.MachineAnswer.{MachineAnswer}
 use Rattle.rrs_board.specs.declared.board.Board.{Board}
 use Rattle.rrs_board.specs.declared.effects.BoardEvent.{BoardEvent}
 use Rattle.rrs_board.specs.declared.effects.BoardEvent.TheVariants as Event
 use Rattle.rrs_board.specs.Boards.{BoardStepped}
-use Rattle.rrs_board.specs.Terminals.{with_input}
+use Rattle.rrs_board.specs.Effects.{waits_for_input}
+use Rattle.rrs_board.specs.Terminals.{with_input, AsksAt}
 use Rattle.rrs_board_gdb.specs.declared.going.DebuggedBoard.{DebuggedBoard}
 use Rattle.rrs_board_gdb.specs.declared.going.GoReason.{GoReason}
 use Rattle.rrs_board_gdb.specs.declared.going.GoReason.TheVariants as Reason
@@ -25,14 +26,25 @@ debugged d = with_left d.board d.input.now
 
 -- ---- what a step tells
 
--- the first byte that is left is handed in, or, where none is, the end
-abbrev pub handed_in : List ℕ → Board → Debugged
-handed_in [] b = with_left (with_input None b) []
-handed_in (byte ∷ rest) b = with_left (with_input (Some byte) b) rest
+-- the first byte that is left arrives at the UART, which holds none
+pub record HandsIn (input : List ℕ) (b : Board) (t : Debugged) : Type 0 where
+  pub byte : ℕ
+  pub rest : List ℕ
+  pub has_byte : input ≡ byte ∷ rest
+  pub has_room : b.memory.devices.uart.received ≡ None
+  pub handed : t ≡ with_left (with_input byte b) rest
 
-abbrev pub served : Option BoardEvent → List ℕ → Board → Debugged
-served (Some Event.WantsInput) input b = handed_in input b
-served _ input b = with_left b input
+-- a wait that no alarm can end is left to be told only where no byte can end it
+abbrev pub EndsWait : Option BoardEvent → List ℕ → Board → Type 0
+EndsWait (Some Event.NothingWakes) input b =
+    waits_for_input b.memory.devices ≡ true → input ≡ []
+EndsWait _ input b = Unit {0}
+
+-- What a step tells is left to be told, or a byte arrives instead. When it does is no part of this.
+pub data Serves (event : Option BoardEvent) (input : List ℕ) (b : Board)
+    (left : Option BoardEvent) (t : Debugged) : Type 0 where
+  Leaves : left ≡ event → t ≡ with_left b input → EndsWait event input b → Serves event input b left t
+  Arrives : left ≡ None → AsksAt event → HandsIn input b t → Serves event input b left t
 
 abbrev pub printed_by : Option BoardEvent → List ℕ
 printed_by (Some (Event.Transmitted byte)) = byte ∷ []
@@ -46,12 +58,13 @@ ending _ = None
 
 -- ---- steps
 
--- a step of the board, and what it tells is served
-pub record ServedStep (d : Debugged) (event : Option BoardEvent) (t : Debugged) : Type 0 where
+-- a step of the board, which tells something, and what is left of that once it is served
+pub record ServedStep (d : Debugged) (left : Option BoardEvent) (t : Debugged) : Type 0 where
   pub after : Board
   pub answer : MachineAnswer
+  pub event : Option BoardEvent
   pub stepped : BoardStepped d.board after answer event
-  pub serves : t ≡ served event d.input after
+  pub serves : Serves event d.input after left t
 
 -- so many steps, none of which leads to a stop or ends the program, and what they print
 abbrev pub PassingSteps : List ℕ → ℕ → Debugged → List ℕ → Debugged → Type 0

@@ -1,9 +1,11 @@
 //! A board that goes on under gdb.
 
-ghost use Rattle.std.specs.Prelude.{◌≡◌, ◌≤◌, ◌++◌, List, ℕ, None, Contains, IfOk, OnOk, MatchOption};
-ghost use Rattle.rrs_board_gdb.specs.Going.{debugged, handed_in, served, printed_by, ending, EndsBy, ServedStep, GoesTo};
+ghost use Rattle.std.specs.Prelude.{◌≡◌, ◌≤◌, ◌++◌, [], List, ℕ, true, None, Contains, IfOk, MatchOption};
+ghost use Rattle.std.specs.Bool.{OnTrue, OnFalse};
+ghost use Rattle.rrs_board.specs.Effects.{waits_for_input};
+ghost use Rattle.rrs_board_gdb.specs.Going.{debugged, HandsIn, Serves, printed_by, ending, EndsBy, ServedStep, GoesTo};
 
-use rrs_board::{Board, BoardEvent};
+use rrs_board::{Asking, Board, BoardEvent};
 use rrs_gdb::{Link, LinkError, push_hex};
 use std::alloc::AllocError;
 use std::io::{Read, Write};
@@ -20,6 +22,8 @@ pub struct DebuggedBoard<'a> {
     pub board: Board,
     /// What is left of the input of the UART.
     pub input: &'a [u8],
+    /// When a byte of it arrives: as for a program at a terminal.
+    pub asking: Asking,
     /// What the UART transmitted, and gdb was not sent.
     pub output: Vec<u8>,
 }
@@ -60,33 +64,53 @@ fn send_output<R: Read, W: Write>(link: &mut Link<R, W>, bytes: &[u8]) -> Result
 }
 
 impl<'a> DebuggedBoard<'a> {
-    /// Hands the UART the next byte of the input, or its end.
-    fn hand_in(&mut self)
-        ensures board { debugged self.new ≡ handed_in self.old.input.now self.old.board }
+    /// Lets the next byte of the input arrive at the UART, if it holds none, and says whether one
+    /// did.
+    fn hand_in(&mut self) -> bool
+        ensures handed { OnTrue result
+            (HandsIn self.old.input.now self.old.board (debugged self.new)) }
+        ensures kept { OnFalse result (debugged self.new ≡ debugged self.old) }
+        ensures none { OnFalse result (waits_for_input self.old.board.memory.devices ≡ true
+            → self.old.input.now ≡ []) }
         ensures output { self.new.output ≡ self.old.output }
     {
         match self.input {
-            [byte, rest @ ..] => {
-                self.board.memory.devices.receive(Some(*byte));
+            [byte, rest @ ..] if !self.board.memory.devices.uart.has_byte() => {
+                self.board.memory.devices.receive(*byte);
                 self.input = rest;
+                true
             }
-            [] => self.board.memory.devices.receive(None),
+            _ => false,
         }
     }
 
-    /// Serves what a step tells.
-    fn serve(&mut self, event: Option<BoardEvent>) -> Result<(), AllocError>
-        ensures board { OnOk result
-            (debugged self.new ≡ served event self.old.input.now self.old.board) }
-        ensures output { OnOk result
-            (self.new.output.items ≡ self.old.output.items ++ printed_by event) }
+    /// Serves what a step tells, and returns what is left to be told.
+    fn serve(&mut self, event: Option<BoardEvent>) -> Result<Option<BoardEvent>, AllocError>
+        ensures board { IfOk result (λ left. Serves event self.old.input.now self.old.board left
+            (debugged self.new)) }
+        ensures output { IfOk result (λ left.
+            self.new.output.items ≡ self.old.output.items ++ printed_by left) }
     {
         match event {
-            Some(BoardEvent::Transmitted(byte)) => self.output.push(byte)?,
-            Some(BoardEvent::WantsInput) => self.hand_in(),
-            _ => {}
+            Some(BoardEvent::Transmitted(byte)) => {
+                self.asking.note_output();
+                self.output.push(byte)?;
+                Ok(event)
+            }
+            Some(BoardEvent::Looked) => {
+                if self.asking.count_look() && self.hand_in() {
+                    return Ok(None);
+                }
+                Ok(event)
+            }
+            Some(BoardEvent::NothingWakes) => {
+                if self.board.memory.devices.waits_for_input() && self.hand_in() {
+                    return Ok(None);
+                }
+                Ok(event)
+            }
+            _ => Ok(event),
         }
-        Ok(())
     }
 
     /// Makes a step, and serves what it tells.
@@ -97,8 +121,7 @@ impl<'a> DebuggedBoard<'a> {
             self.new.output.items ≡ self.old.output.items ++ printed_by event) }
     {
         let event = self.board.step().event;
-        self.serve(event)?;
-        Ok(event)
+        self.serve(event)
     }
 
     /// Why a board goes no further behind a step, if it does not.

@@ -16,7 +16,7 @@ use crate::ram::{change_ram, show_ram};
 use crate::registers::{change_register, show_register};
 use crate::target::push_target;
 use hex::FromHexError;
-use rrs_board::Board;
+use rrs_board::{Asking, Board};
 use rrs_gdb::{
     BAD_ADDRESS, Breaks, INVALID, Link, LinkError, NO_MEMORY, Next, Received, address_and_length,
     behind, cut, cut_or_all, number_of, place_and_bytes, push_done, push_hex, push_part,
@@ -74,6 +74,7 @@ impl<'a> BoardSession<'a> {
             debugged: DebuggedBoard {
                 board,
                 input,
+                asking: Asking::new(false),
                 output: Vec::new(alloc),
             },
             breaks: Breaks::new(alloc),

@@ -209,7 +209,7 @@ const BOARD: Subcommand = Subcommand {
     task: Task::Board,
     command: Command {
         name: "rrs board",
-        usage: "rrs board [--limit STEPS] [--memory BYTES] PROGRAM",
+        usage: "rrs board [--limit STEPS] [--memory BYTES] [--input polled] PROGRAM",
     },
     summary: "runs firmware on a board with machine mode",
     help: "Runs PROGRAM, an ELF executable for RV32IM, on a board like QEMU's virt: RAM of
@@ -218,6 +218,11 @@ sides are standard output and standard input, a CLINT at 0x2000000, a finisher a
 0x100000. The hart has machine mode alone, and starts at the entry. It makes at
 most STEPS steps, or any number. Time goes by the instructions that retire, and
 wfi goes forward to the next alarm.
+
+Input is read where PROGRAM looks a thousand times in a row and finds none, and at a
+wfi that no alarm can end where IER asks for received data. With --input polled it is
+read at each wfi that waits too, and a read that gives nothing is not its end: for a
+terminal that examples/board/console sets.
 
 Status: that of the finisher; 124 at the limit; 125 where it can't be run; 126 where
 wfi waits and nothing can wake it.

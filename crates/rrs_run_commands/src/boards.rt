@@ -25,6 +25,8 @@ struct BoardRequest<'a> {
     limit: u64,
     /// How many bytes of RAM there are.
     memory: u64,
+    /// Whether the input is polled.
+    is_polled: bool,
     /// The firmware's path.
     path: &'a str,
 }
@@ -54,8 +56,8 @@ pub fn number_behind<'a>(
     }
 }
 
-/// The firmware that is to be run: the options `--limit N` and `--memory BYTES`, each once at most
-/// and the first before the second, and then its path.
+/// The firmware that is to be run: the options `--limit N`, `--memory BYTES` and `--input polled`,
+/// each once at most and in this order, and then its path.
 ///
 /// # Errors
 ///
@@ -63,10 +65,12 @@ pub fn number_behind<'a>(
 fn board_request_of(words: &[String]) -> Result<BoardRequest<'_>, Refusal> {
     let (limit, words) = number_behind(words, "--limit", u64::MAX)?;
     let (memory, words) = number_behind(words, "--memory", RAM_BYTES)?;
-    match words {
-        [path] => Ok(BoardRequest {
+    let (input, words) = behind_option(words, "--input").unwrap_or(("", words));
+    match (input, words) {
+        ("" | "polled", [path]) => Ok(BoardRequest {
             limit,
             memory,
+            is_polled: input == "polled",
             path: path.as_str(),
         }),
         _ => Err(Refusal::Failed(Failure::Usage)),
@@ -126,7 +130,13 @@ pub fn run_board<H: Files + Eprint + AllocGlobal, R: Read, W: Write>(
     let request = board_request_of(words)?;
     let mut board = board_of(rt, request.path, request.memory)?;
     let mut out = buffered(rt.alloc(), output)?;
-    match run_at_terminal(&mut board, request.limit, input, &mut out) {
+    match run_at_terminal(
+        &mut board,
+        request.limit,
+        request.is_polled,
+        input,
+        &mut out,
+    ) {
         Ok(end) => Ok(ending_of(rt, &board, end)),
         Err(TerminalError::Input) => Err(Refusal::UnreadableInput),
         Err(TerminalError::Output) => Err(failed(RunFault::Output)),

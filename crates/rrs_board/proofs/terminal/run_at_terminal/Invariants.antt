@@ -1,14 +1,16 @@
-use Rattle.std.proofs.Common.{◌≤◌, ◌-◌}
+use Rattle.std.proofs.Common.{◌≡◌, ◌≤◌, ◌-◌, true}
+use Rattle.std.specs.Io.KnownBytes.{IsAtEnd}
 use Rattle.rrs_board.specs.Terminals.{Served}
 use Rattle.rrs_board.proofs.terminal.run_at_terminal.Given as goal
 
--- the session so far
+-- the session so far, and that the input is at its end where that was seen
 abbrev pub invariant-runs : goal.invariant-runs
 invariant-runs g l = record {
   within : l.steps ≤ l.fn.limit;
   served : Served l.fn.limit l.fn.board
       (g.R.Read.remaining l.fn.input) (g.R.Read.remaining l.input)
       (g.W.Write.contents l.fn.output) (g.W.Write.contents l.output) l.steps l.board;
+  at_end : l.asking.has_ended ≡ true → IsAtEnd (g.R.Read.remaining l.input);
 }
 
 abbrev pub decreases-runs : goal.decreases-runs

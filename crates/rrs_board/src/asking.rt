@@ -1,0 +1,57 @@
+//! When a driver asks the host for input. That is its own choice: by the definition of the board a
+//! byte may arrive after any step.
+
+ghost use Rattle.std.specs.Prelude.{◌≡◌, false};
+
+/// So many looks in a row at LSR or IIR, which find no byte and between which nothing is
+/// transmitted, ask for input.
+const LOOKS: u32 = 1000;
+
+/// A driver's choice, and what it has seen.
+#[derive(Debug, PartialEq, Clone, Copy)]
+pub struct Asking {
+    /// Whether each `wfi` that waits asks too, and a read of no bytes says "nothing yet". Otherwise
+    /// it says that the input is at its end.
+    pub is_polled: bool,
+    /// How many looks there were in a row.
+    pub looks: u32,
+    /// Whether the input is at its end.
+    pub has_ended: bool,
+}
+
+impl Asking {
+    /// A driver that has seen nothing.
+    pub fn new(is_polled: bool) -> Asking
+        ensures { result.has_ended ≡ false }
+    {
+        Asking {
+            is_polled,
+            looks: 0,
+            has_ended: false,
+        }
+    }
+
+    /// Counts a look, and says whether there were enough.
+    pub fn count_look(&mut self) -> bool
+        ensures { self.new.has_ended ≡ self.old.has_ended }
+    {
+        self.looks = self.looks.saturating_add(1);
+        if self.looks < LOOKS {
+            return false;
+        }
+        self.looks = 0;
+        true
+    }
+
+    /// A byte was transmitted.
+    pub fn note_output(&mut self)
+        ensures { self.new.has_ended ≡ self.old.has_ended }
+    {
+        self.looks = 0;
+    }
+
+    /// A read gave no byte.
+    pub fn note_none(&mut self) {
+        self.has_ended = !self.is_polled;
+    }
+}
