@@ -1,7 +1,7 @@
 //! Packets for firmware on a board, and what they are answered.
 
 use crate::packets::wanted;
-use rrs_board::Board;
+use rrs_board::{Board, BoardEnd, BoardError, BoardEvent, TerminalError, run_at_terminal};
 use rrs_board_gdb::{BoardSession, serve};
 use rrs_gdb::{Link, LinkError, encode};
 use rrs_lib::memories::VecMemory;
@@ -191,7 +191,7 @@ fn each_packet_of_a_board_is_answered(rt: HostRuntime) -> Result<(), Fail> {
     let alloc = rt.alloc();
     let mut wrong = Vec::new(alloc);
     for (index, (payloads, answers)) in PACKETS.iter().enumerate() {
-        let (sent, end) = answers_to(alloc, payloads, 100)?;
+        let (sent, end) = answers_to(alloc, payloads, 5000)?;
         if sent.as_slice() != wanted(alloc, answers)?.as_slice() || end != Ok(()) {
             wrong.push(index)?;
         }
@@ -224,5 +224,110 @@ fn output_is_sent_in_parts(rt: HostRuntime) -> Result<(), Fail> {
         wanted.extend_from_slice(&frame)?;
     }
     assert_eq!(rt; sent.as_slice(), wanted.as_slice());
+    Ok(())
+}
+
+/// An executable whose one segment, at an address, ends the program with status 7.
+fn executable_at(alloc: Global, address: u32) -> Result<Vec<u8>, AllocError> {
+    let mut file = b"\x7fELF\x01\x01\x01\0\0\0\0\0\0\0\0\0\x02\0\xf3\0".to_vec(alloc)?;
+    for word in [
+        1, // e_version
+        address, // e_entry
+        52, // e_phoff
+        0, // e_shoff
+        0, // e_flags
+        0x0020_0034, // e_ehsize, e_phentsize
+        0x0028_0001, // e_phnum, e_shentsize
+        0, // e_shnum, e_shstrndx
+        1, // p_type
+        84, // p_offset
+        address, // p_vaddr
+        address, // p_paddr
+        16, // p_filesz
+        16, // p_memsz
+        5, // p_flags
+        4, // p_align
+        0x0010_03b7, // lui x7, 0x100
+        0x0007_3437, // lui x8, 0x73
+        0x3334_0413, // addi x8, x8, 0x333
+        0x0083_a023, // sw x8, 0(x7)
+    ] {
+        file.extend_from_slice(&u32::to_le_bytes(word))?;
+    }
+    Ok(file)
+}
+
+/// How such an executable ends on a board with 64 bytes of RAM.
+fn loaded_end(alloc: Global, address: u32) -> Result<Result<BoardEnd, BoardError>, AllocError> {
+    let file = executable_at(alloc, address)?;
+    Ok(match Board::load(alloc, &file, 16) {
+        Ok(mut board) => Ok(board.run(10)),
+        Err(error) => Err(error),
+    })
+}
+
+#[test]
+fn a_segment_is_in_ram_or_refused(rt: HostRuntime) -> Result<(), Fail> {
+    let alloc = rt.alloc();
+    let mut ends = Vec::new(alloc);
+    for address in [
+        0x8000_0000,
+        0x8000_0030,
+        0x8000_0034,
+        0x7fff_fffc,
+        0x1000_0000,
+    ] {
+        ends.push(loaded_end(alloc, address)?)?;
+    }
+    let end = BoardEnd {
+        steps: 4,
+        event: Some(BoardEvent::Finished(7)),
+    };
+    assert_eq!(rt;
+        ends.as_slice(),
+        [
+            Ok(end),
+            Ok(end),
+            Err(BoardError::Refused(0x8000_0040)),
+            Err(BoardError::Refused(0x7fff_fffc)),
+            Err(BoardError::Refused(0x1000_0000)),
+        ]
+        .as_slice()
+    );
+    Ok(())
+}
+
+/// What firmware prints at a terminal with this input, from a pc on, and what it ends with.
+fn at_terminal(
+    alloc: Global,
+    pc: u32,
+    mut input: &[u8],
+    output: &mut Vec<u8>,
+) -> Result<Result<Option<BoardEvent>, TerminalError>, AllocError> {
+    let mut board = Board::new(VecMemory::new(FIRMWARE.to_vec(alloc)?), pc);
+    Ok(
+        match run_at_terminal(&mut board, 10_000, false, &mut input, output) {
+            Ok(end) => Ok(end.event),
+            Err(error) => Err(error),
+        },
+    )
+}
+
+#[test]
+fn a_board_runs_at_a_terminal(rt: HostRuntime) -> Result<(), Fail> {
+    let alloc = rt.alloc();
+    let mut output = Vec::new(alloc);
+    let echoes = at_terminal(alloc, 0x8000_0000, b"xyz", &mut output)?;
+    let lacks_input = at_terminal(alloc, 0x8000_0000, b"", &mut output)?;
+    let waits = at_terminal(alloc, 0x8000_0058, b"xyz", &mut output)?;
+    assert_eq!(rt;
+        (echoes, lacks_input, waits, output.as_slice()),
+        (
+            Ok(Some(BoardEvent::Finished(5))),
+            Ok(None),
+            Ok(Some(BoardEvent::NothingWakes)),
+            b"AxA".as_slice(),
+        )
+    );
     Ok(())
 }
