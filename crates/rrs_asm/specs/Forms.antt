@@ -13,7 +13,7 @@ use Rattle.rrs_asm.specs.declared.sections.Layout.{Layout}
 use Rattle.rrs_asm.specs.declared.assembling.Reading.{Reading}
 use Rattle.rrs_lines.specs.Lines.{lines, parts}
 use Rattle.rrs_asm.specs.Source.{Item, items_of_parts, items_from}
-use Rattle.rrs_asm.specs.Names.{load_name, store_name}
+use Rattle.rrs_asm.specs.Names.{branch_name, load_name, store_name}
 use Rattle.rrs_asm.specs.Names.{unary_name, zero_branch_name, swapped_name, comparison_name, is_one_of, data_names, fill_names, is_silent_name, is_section_name, is_common_name, IsNamed}
 use Rattle.rrs_asm.specs.Statements.{IsMade}
 use Rattle.rrs_asm.specs.Sections.{names_of, open_behind, in_section, first_open, AllFound, AreLaidOut, AreSectionsOf}
@@ -83,6 +83,7 @@ abbrev pub IsRowForm : List ℕ → RowForm → Type 0
 IsRowForm name RowForm.Fence = name ≡ codes "fence"
 IsRowForm name RowForm.Jal = name ≡ codes "jal"
 IsRowForm name RowForm.Jalr = name ≡ codes "jalr"
+IsRowForm name (RowForm.Branch branch) = branch_name branch ≡ name
 IsRowForm name (RowForm.Load load) = load_name load ≡ name
 IsRowForm name (RowForm.Store store) = store_name store ≡ name
 IsRowForm name _ = Unit {0}

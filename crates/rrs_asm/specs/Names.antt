@@ -7,6 +7,7 @@ use Rattle.std.specs.Str.{bytes_eq}
 use Rattle.rrs_instruction.specs.Table.{table}
 use Rattle.rrs_instruction.specs.Instructions.{row_of}
 use Rattle.rrs_asm.specs.declared.pseudo.Unary.{Unary}
+use Rattle.rrs_asm.specs.declared.pseudo.Branch.{Branch}
 use Rattle.rrs_asm.specs.declared.pseudo.ZeroBranch.{ZeroBranch}
 use Rattle.rrs_asm.specs.declared.pseudo.SwappedBranch.{SwappedBranch}
 use Rattle.rrs_asm.specs.declared.pseudo.SwappedComparison.{SwappedComparison}
@@ -26,6 +27,14 @@ unary_name Unary.Snez = codes "snez"
 unary_name Unary.Sltz = codes "sltz"
 unary_name Unary.Sgtz = codes "sgtz"
 unary_name Unary.ZextB = codes "zext.b"
+
+abbrev pub branch_name : Branch → List ℕ
+branch_name Branch.Beq = codes "beq"
+branch_name Branch.Bne = codes "bne"
+branch_name Branch.Blt = codes "blt"
+branch_name Branch.Bge = codes "bge"
+branch_name Branch.Bltu = codes "bltu"
+branch_name Branch.Bgeu = codes "bgeu"
 
 abbrev pub zero_branch_name : ZeroBranch → List ℕ
 zero_branch_name ZeroBranch.Beqz = codes "beqz"
@@ -71,6 +80,9 @@ pseudo_name (Pseudo.Jump rt offset) = codes "jump"
 pseudo_name (Pseudo.OfOne name rd rs) = unary_name name
 pseudo_name (Pseudo.AgainstZero name rs offset) = zero_branch_name name
 pseudo_name (Pseudo.Swapped name rs rt offset) = swapped_name name
+pseudo_name (Pseudo.Far name rs rt offset) = branch_name name
+pseudo_name (Pseudo.FarFromZero name rs offset) = zero_branch_name name
+pseudo_name (Pseudo.FarSwapped name rs rt offset) = swapped_name name
 pseudo_name (Pseudo.J offset) = codes "j"
 pseudo_name (Pseudo.Jal offset) = codes "jal"
 pseudo_name (Pseudo.Jr rs) = codes "jr"

@@ -1,11 +1,13 @@
 -- The pseudo-instructions of the RISC-V assembly language (RISC-V unprivileged specification,
 -- "RISC-V Assembly Programmer's Handbook"): which instructions each one is. Registers go by their
 -- numbers: x1 is the link register, and x6 the one that `tail` uses. An offset is in bytes, from
--- the address of the pseudo-instruction.
+-- the address of the pseudo-instruction; where a branch is a branch over a jump, from that of the
+-- jump.
 use Rattle.std.specs.Prelude.{◌≡◌, ℕ, ◌+◌, ◌*◌, ◌/◌, ◌%◌, ◌^◌, ℤ, pos, neg_ℤ, ◌+ℤ◌, ◌-ℤ◌, ◌≤ℤ◌, nat_lt, ◌==◌, if◌then◌else◌, List, [], ◌∷◌, option_to_list}
 use Rattle.rrs_instruction.specs.declared.instruction.Instruction.{Instruction}
 use Rattle.rrs_instruction.specs.Words.{signed, word, floor_mod}
 use Rattle.rrs_asm.specs.declared.pseudo.Unary.{Unary}
+use Rattle.rrs_asm.specs.declared.pseudo.Branch.{Branch}
 use Rattle.rrs_asm.specs.declared.pseudo.ZeroBranch.{ZeroBranch}
 use Rattle.rrs_asm.specs.declared.pseudo.SwappedBranch.{SwappedBranch}
 use Rattle.rrs_asm.specs.declared.pseudo.SwappedComparison.{SwappedComparison}
@@ -70,6 +72,44 @@ of_one Unary.Sgtz rd rs =
     Instruction.Slt (record { funct7 = 0; rs2 = rs; rs1 = 0; funct3 = 2; rd = rd })
 of_one Unary.ZextB rd rs =
     Instruction.Andi (record { imm = pos 0xff; rs1 = rs; funct3 = 7; rd = rd })
+
+abbrev pub branch : Branch → ℕ → ℕ → ℤ → Instruction
+branch Branch.Beq rs rt offset =
+    Instruction.Beq (record { imm = offset; rs2 = rt; rs1 = rs; funct3 = 0 })
+branch Branch.Bne rs rt offset =
+    Instruction.Bne (record { imm = offset; rs2 = rt; rs1 = rs; funct3 = 1 })
+branch Branch.Blt rs rt offset =
+    Instruction.Blt (record { imm = offset; rs2 = rt; rs1 = rs; funct3 = 4 })
+branch Branch.Bge rs rt offset =
+    Instruction.Bge (record { imm = offset; rs2 = rt; rs1 = rs; funct3 = 5 })
+branch Branch.Bltu rs rt offset =
+    Instruction.Bltu (record { imm = offset; rs2 = rt; rs1 = rs; funct3 = 6 })
+branch Branch.Bgeu rs rt offset =
+    Instruction.Bgeu (record { imm = offset; rs2 = rt; rs1 = rs; funct3 = 7 })
+
+-- the branch that is taken where another is not
+
+abbrev pub opposite : Branch → Branch
+opposite Branch.Beq = Branch.Bne
+opposite Branch.Bne = Branch.Beq
+opposite Branch.Blt = Branch.Bge
+opposite Branch.Bge = Branch.Blt
+opposite Branch.Bltu = Branch.Bgeu
+opposite Branch.Bgeu = Branch.Bltu
+
+abbrev pub opposite_of_zero : ZeroBranch → ZeroBranch
+opposite_of_zero ZeroBranch.Beqz = ZeroBranch.Bnez
+opposite_of_zero ZeroBranch.Bnez = ZeroBranch.Beqz
+opposite_of_zero ZeroBranch.Blez = ZeroBranch.Bgtz
+opposite_of_zero ZeroBranch.Bgez = ZeroBranch.Bltz
+opposite_of_zero ZeroBranch.Bltz = ZeroBranch.Bgez
+opposite_of_zero ZeroBranch.Bgtz = ZeroBranch.Blez
+
+abbrev pub opposite_of_swapped : SwappedBranch → SwappedBranch
+opposite_of_swapped SwappedBranch.Bgt = SwappedBranch.Ble
+opposite_of_swapped SwappedBranch.Ble = SwappedBranch.Bgt
+opposite_of_swapped SwappedBranch.Bgtu = SwappedBranch.Bleu
+opposite_of_swapped SwappedBranch.Bleu = SwappedBranch.Bgtu
 
 abbrev pub against_zero : ZeroBranch → ℕ → ℤ → Instruction
 against_zero ZeroBranch.Beqz rs offset =
@@ -140,6 +180,12 @@ expanded (Pseudo.Jump rt offset) = auipc rt (upper offset) ∷ jalr 0 (lower off
 expanded (Pseudo.OfOne name rd rs) = of_one name rd rs ∷ []
 expanded (Pseudo.AgainstZero name rs offset) = against_zero name rs offset ∷ []
 expanded (Pseudo.Swapped name rs rt offset) = swapped name rs rt offset ∷ []
+expanded (Pseudo.Far name rs rt offset) =
+    branch (opposite name) rs rt (pos 8) ∷ jal 0 offset ∷ []
+expanded (Pseudo.FarFromZero name rs offset) =
+    against_zero (opposite_of_zero name) rs (pos 8) ∷ jal 0 offset ∷ []
+expanded (Pseudo.FarSwapped name rs rt offset) =
+    swapped (opposite_of_swapped name) rs rt (pos 8) ∷ jal 0 offset ∷ []
 expanded (Pseudo.J offset) = jal 0 offset ∷ []
 expanded (Pseudo.Jal offset) = jal 1 offset ∷ []
 expanded (Pseudo.Jr rs) = jalr 0 (pos 0) rs ∷ []

@@ -1,14 +1,14 @@
 -- The sections of a source: the items that stand in each, and what is made of them (GNU assembler
 -- manual, "Sections and Relocation"). What follows a directive that opens a section stands in it, up
 -- to the next such directive. At first the section `.text` is open.
-use Rattle.std.specs.Prelude.{◌≡◌, ℕ, ◌+◌, ◌-◌, ◌<◌, ◌≤◌, Bool, true, false, not, ◌&&◌, ◌==◌, if◌then◌else◌, List, [], ◌∷◌, ◌++◌, length, replicate, codes, None}
+use Rattle.std.specs.Prelude.{◌≡◌, ℕ, ◌+◌, ◌-◌, ◌<◌, ◌≤◌, Bool, true, false, not, ◌&&◌, ◌||◌, ◌==◌, if◌then◌else◌, List, [], ◌∷◌, ◌++◌, length, replicate, drop, codes, Option, None, Some, IfSome, All}
 use Rattle.std.specs.Int.{next_multiple_of}
 use Rattle.std.specs.Option.{option_map_or}
 use Rattle.std.specs.Str.{bytes_eq}
 use Rattle.rrs_asm.specs.declared.sections.Section.{Section}
 use Rattle.rrs_asm.specs.declared.sections.SectionKind.{SectionKind}
 use Rattle.rrs_asm.specs.declared.sections.Layout.{Layout}
-use Rattle.rrs_asm.specs.Source.{Item, is_empty, is_laid_out}
+use Rattle.rrs_asm.specs.Source.{Item, begins_as, is_empty, is_laid_out}
 use Rattle.rrs_asm.specs.Statements.{IsMade, LaysOut}
 
 -- the names of sections
@@ -93,6 +93,32 @@ AllFound names (Item.Common line directive symbol ∷ items) =
     (common names < length names) × AllFound names items
 AllFound names (Item.Section name ∷ items) =
     (is_laid_out name ≡ true → index_of name names < length names) × AllFound names items
+
+-- ---- what sections hold
+
+abbrev pub ends_name : List ℕ → Bool
+ends_name [] = true
+ends_name (b ∷ bs) = b == 46
+
+-- a name is this one, or goes on behind it with a dot
+abbrev pub is_name_of : List ℕ → List ℕ → Bool
+is_name_of first name = begins_as name first && ends_name (drop (length first) name)
+
+-- what a section of a name holds, where the name says it
+abbrev pub kind_of_name : List ℕ → Option SectionKind
+kind_of_name name =
+    if is_name_of (codes ".text") name then Some SectionKind.Code
+    else (if is_name_of (codes ".rodata") name || is_name_of (codes ".srodata") name
+    then Some SectionKind.ReadOnly
+    else (if is_name_of (codes ".data") name || is_name_of (codes ".sdata") name
+    then Some SectionKind.Data
+    else (if is_name_of (codes ".bss") name || is_name_of (codes ".sbss") name
+    then Some SectionKind.Zero
+    else None)))
+
+-- a section holds what its name says
+abbrev pub HasItsKind : {A : Type 0} → Section A → Type 0
+HasItsKind s = IfSome (kind_of_name s.name.now) (λ kind. s.kind ≡ kind)
 
 -- ---- where sections lie
 
@@ -182,9 +208,10 @@ IsImage address sections bytes = AreBytesFrom address (with_bytes sections) byte
 
 -- ---- a whole source
 
--- the sections are those of these items, and lie where the layout says
+-- the sections are those of these items, hold what their names say, and lie where the layout says
 pub record AreSectionsOf {A : Type 0} (layout : Layout) (items : List Item) (sections : List (Section A)) : Type 0
   where
     pub made : AreMade items sections
     pub all_found : AllFound (names_of sections) (Item.Section (codes ".text") ∷ items)
+    pub kinds : All HasItsKind sections
     pub placed : ArePlaced layout sections

@@ -4,7 +4,7 @@ ghost use Rattle.std.specs.Prelude.{◌≡◌, ◌<◌, ℕ, List, [], ◌∷◌
 ghost use Rattle.rrs_lines.specs.Lines.{Part, shown, word, parts};
 ghost use Rattle.rrs_asm.specs.Names.{is_one_of, fill_names, IsNamed};
 ghost use Rattle.rrs_asm.specs.Source.{Item, is_laid_out, items_of, items_in, items_named, items_behind, items_in_statement, items_of_parts};
-ghost use Rattle.rrs_asm.specs.Sections.{names_of, index_of, first_open, in_common, AreMade, AreLaidOut, AllFound, ArePlaced};
+ghost use Rattle.rrs_asm.specs.Sections.{names_of, index_of, first_open, in_common, AreMade, AreLaidOut, AllFound, ArePlaced, HasItsKind};
 ghost use Rattle.rrs_asm.specs.Forms.{items_of_read, HasItsName, IsNoSection, IsNew, IsGood, IsRead, ReadsOn, AreAssembled};
 
 use crate::directives::{Common, Read, read_directive};
@@ -13,8 +13,8 @@ use crate::instructions::read_instruction;
 use crate::output::MOST_BYTES;
 use crate::program::Program;
 use crate::sections::{
-    Layout, Section, SectionKind, are_placed, are_steady, clear_all, insert, insert_first,
-    is_laid_out, place,
+    Layout, Section, SectionKind, are_placed, are_steady, clear_all, has_wrong_kind, insert,
+    insert_first, is_laid_out, place,
 };
 use crate::statements::Statement;
 use rrs_lines::{
@@ -22,6 +22,9 @@ use rrs_lines::{
     begins_with, behind_blanks, first_line, first_part, is_name, split_word,
 };
 use std::alloc::{Allocator, Global};
+
+/// The most times that a source is read for what symbols stand for.
+const MOST_READINGS: usize = 50;
 
 /// The most sections of a source.
 const MOST_SECTIONS: usize = 256;
@@ -32,8 +35,9 @@ const MOST_SECTIONS: usize = 256;
 /// bytes out (`items_of`). What is made of each section is made of the items in it, in their order:
 /// of each label and of each statement, with its line, its name and its address, from the address of
 /// the section on (`items`). The statements stand one behind the other (`laid_out`). Each section that
-/// is opened is there, but for those with debugging data and notes (`all_found`). Each begins where
-/// the layout says: the first at its address, and each other behind the one before (`placed`).
+/// is opened is there, but for those with debugging data and notes (`all_found`). Each holds what its
+/// name says, where that says it (`kinds`): instructions, data that is not written, data, or zeros.
+/// Each begins where the layout says: the first at its address, and each other behind the one before (`placed`).
 ///
 /// # Errors
 ///
@@ -47,6 +51,7 @@ pub fn assemble_source<A: Allocator + Copy>(
     ensures laid_out { IfOk result (λ program. AreLaidOut program.sections.items) }
     ensures all_found { IfOk result (λ program. AllFound (names_of program.sections.items)
         (Item.Section (codes ".text") ∷ items_of source.now)) }
+    ensures kinds { IfOk result (λ program. All HasItsKind program.sections.items) }
     ensures placed { IfOk result (λ program. ArePlaced layout program.sections.items) }
 {
     let mut symbols = Symbols::new(alloc);
@@ -56,8 +61,8 @@ pub fn assemble_source<A: Allocator + Copy>(
 }
 
 /// Reads a source three times: for the sizes of the sections, for what symbols stand for, and for the
-/// statements. One with `%pcrel_hi` is read once more before the last time, for how far each of them
-/// reaches: a `%pcrel_lo` may stand before it.
+/// statements; more often while the lengths of branches change. One with `%pcrel_hi` is read once
+/// more before the last time, for how far each of them reaches: a `%pcrel_lo` may stand before it.
 fn read_all<'a, A: Allocator + Copy>(
     source: &'a [u8],
     layout: Layout,
@@ -73,23 +78,50 @@ fn read_all<'a, A: Allocator + Copy>(
         reading.errors.clear();
         return reading.tell(TOO_LONG);
     }
-    read_again(source, Pass::Second, symbols, reading);
+    if !settle(source, layout, symbols, reading) {
+        reading.errors.clear();
+        return reading.tell(TOO_LONG);
+    }
     if symbols.has_distances() {
         read_again(source, Pass::Third, symbols, reading);
     }
     read_again(source, Pass::Last, symbols, reading);
-    if reading.errors.is_empty() && !is_right(&reading.sections, layout) {
+    if reading.errors.is_empty() && !is_right(&reading.sections, layout, symbols.is_moved()) {
         reading.tell(MOVED_END);
     }
 }
 
-/// Whether each section has as many bytes as in the reading before and lies where the layout says,
-/// and `.text` is one of them.
-fn is_right<A: Allocator>(sections: &[Section<A>], layout: Layout) -> bool
+/// Reads the source for what symbols stand for, until each label stays where it is in its section:
+/// a branch whose target is out of reach is longer, which may put others out of reach. The sections
+/// are placed anew each time. Whether all end within the addresses.
+fn settle<'a, A: Allocator + Copy>(
+    source: &'a [u8],
+    layout: Layout,
+    symbols: &mut Symbols<'a, A>,
+    reading: &mut Reading<'a, A>,
+) -> bool {
+    for _ in 0..MOST_READINGS {
+        read_again(source, Pass::Second, symbols, reading);
+        if !symbols.is_moved() && are_steady(&reading.sections) {
+            break;
+        }
+        if !place(&mut reading.sections, layout) {
+            return false;
+        }
+    }
+    true
+}
+
+/// Whether no label is moved, each section has as many bytes as in the reading before, holds what its
+/// name says and lies where the layout says, and `.text` is one of them.
+fn is_right<A: Allocator>(sections: &[Section<A>], layout: Layout, is_moved: bool) -> bool
     ensures found { result ≡ true → first_open (names_of sections.now) < length sections.now }
+    ensures kinds { result ≡ true → All HasItsKind sections.now }
     ensures placed { result ≡ true → ArePlaced layout sections.now }
 {
-    section_named(sections, b".text") < sections.len()
+    !is_moved
+        && !has_wrong_kind(sections)
+        && section_named(sections, b".text") < sections.len()
         && are_steady(sections)
         && are_placed(sections, layout)
 }
@@ -213,15 +245,19 @@ impl<'a, A: Allocator> Reading<'a, A> {
     }
 
     /// Where the next statement stands.
-    fn site(&self) -> Site {
+    fn site(&self) -> Site<'a> {
         match self.sections.get(self.current) {
             Some(section) => Site {
                 here: section.here(),
+                section: section.name,
+                start: section.address,
                 is_code: matches!(section.kind, SectionKind::Code),
                 is_skipped: false,
             },
             None => Site {
                 here: 0,
+                section: &[],
+                start: 0,
                 is_code: false,
                 is_skipped: true,
             },
@@ -357,7 +393,7 @@ fn read_part<'a, A: Allocator>(
     part: Part<'a>,
     behind: usize,
     symbols: &Scope<'a, '_>,
-    site: Site,
+    site: Site<'a>,
     data: &mut Vec<u8, A>,
 ) -> Result<Read<'a>, Halt>
     ensures items { (number : ℕ) → IfOk result (λ read.
@@ -398,7 +434,7 @@ fn read_statement<'a, A: Allocator>(
     text: &'a [u8],
     behind: usize,
     symbols: &Scope<'a, '_>,
-    site: Site,
+    site: Site<'a>,
     data: &mut Vec<u8, A>,
 ) -> Result<Read<'a>, Halt>
     ensures items { (number : ℕ) → IfOk result (λ read.
@@ -561,7 +597,7 @@ fn define_constant<'a, A: Allocator>(
 )
     ensures { ReadsOn [] reading.old reading.new }
 {
-    if let Some(kind) = symbols.define(name, value, false) {
+    if let Some(kind) = symbols.define_constant(name, value) {
         reading.fail(start.with_kind(kind));
     }
 }
@@ -569,18 +605,19 @@ fn define_constant<'a, A: Allocator>(
 /// Defines a label. Tells what is wrong with it, and what is known of it then.
 fn define_label<'a, A: Allocator>(
     name: &'a [u8],
-    here: u32,
+    site: Site<'a>,
     symbols: &mut Symbols<'a, A>,
 ) -> (Option<SourceErrorKind>, Known) {
     match name {
         [digit @ b'0'..=b'9'] => {
             let digit = *digit - b'0';
-            symbols.define_local(digit, here);
-            (None, symbols.scope().local_value(digit, true))
+            symbols.define_local(digit, site);
+            let found = symbols.scope().local_value(digit, true, site);
+            (None, found.known)
         }
         _ => {
-            let wrong = symbols.define(name, u64::from(here), true);
-            (wrong, symbols.scope().value_of(name))
+            let wrong = symbols.define_label(name, site);
+            (wrong, symbols.scope().value_of(name, site).known)
         }
     }
 }
@@ -595,7 +632,7 @@ fn put_label<'a, A: Allocator>(
 )
     ensures { ReadsOn (Item.Label number name.now ∷ []) reading.old reading.new }
 {
-    let (wrong, known) = define_label(name, reading.site().here, symbols);
+    let (wrong, known) = define_label(name, reading.site(), symbols);
     if let Some(kind) = wrong {
         return reading.fail(start.with_kind(kind));
     }

@@ -123,15 +123,36 @@ fn read_section<'a>(
     }
     let (section, rest) = split_word(operands);
     line.want(!section.is_empty(), SourceErrorKind::Section);
-    line.skip_all();
     if !is_laid_out(section) {
+        line.skip_all();
         return Read::Section(section, None);
     }
     let kind = kind_of_name(section).or(kind_of_flags(rest));
     if kind.is_none() {
         line.fail(error.with_kind(SourceErrorKind::Section));
     }
+    let _name = line.word();
+    for _ in 0..u64::MAX {
+        if !line.take(b',') {
+            break;
+        }
+        skip_flag(line);
+    }
     Read::Section(section, kind)
+}
+
+/// Takes the flags, the type, or what else stands between two commas behind the name of a section.
+fn skip_flag(line: &mut Line) {
+    if line.take(b'"') {
+        for _ in 0..u64::MAX {
+            if matches!(line.next_byte(), None | Some(b'"')) {
+                break;
+            }
+        }
+    } else {
+        let _type = line.take(b'@') || line.take(b'%');
+        let _word = line.word();
+    }
 }
 
 /// Reads a symbol in `COMMON`, with its size and its alignment. Where there is no alignment, it is

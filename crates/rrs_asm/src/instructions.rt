@@ -3,11 +3,11 @@
 ghost use Rattle.std.specs.Prelude.{◌≡◌, ◌<◌, IfOk, codes};
 ghost use Rattle.rrs_instruction.specs.Table.{table};
 ghost use Rattle.rrs_instruction.specs.Instructions.{row_of};
-ghost use Rattle.rrs_asm.specs.Names.{IsNamed, pseudo_name, load_name, store_name};
+ghost use Rattle.rrs_asm.specs.Names.{IsNamed, pseudo_name, branch_name, load_name, store_name};
 ghost use Rattle.rrs_asm.specs.Forms.{form_name, IsRowForm};
 
 use crate::names::{PseudoForm, pseudo_named};
-use crate::pseudo::{Load, Pseudo, Store};
+use crate::pseudo::{Branch, Load, Pseudo, Store};
 use crate::statements::Statement;
 use rrs_encode::{Operands, instruction_named, with_operands};
 use rrs_instruction::instruction::{Instruction, InstructionFields};
@@ -58,6 +58,7 @@ fn read_row(line: &mut Line, template: Instruction) -> Statement
         RowForm::Fence => read_fence(line, template),
         RowForm::Jal => read_jal(line, template),
         RowForm::Jalr => read_jalr(line, template),
+        RowForm::Branch(branch) => read_branch(line, template, branch),
         RowForm::Load(load) => read_load(line, template, load),
         RowForm::Store(store) => read_store(line, template, store),
         RowForm::Format => {
@@ -75,6 +76,7 @@ pub enum RowForm {
     Fence,
     Jal,
     Jalr,
+    Branch(Branch),
     Load(Load),
     Store(Store),
     /// As those of others of its format.
@@ -90,6 +92,12 @@ fn row_form(template: Instruction) -> RowForm
         Instruction::Fence(_) => RowForm::Fence,
         Instruction::Jal(_) => RowForm::Jal,
         Instruction::Jalr(_) => RowForm::Jalr,
+        Instruction::Beq(_) => RowForm::Branch(Branch::Beq),
+        Instruction::Bne(_) => RowForm::Branch(Branch::Bne),
+        Instruction::Blt(_) => RowForm::Branch(Branch::Blt),
+        Instruction::Bge(_) => RowForm::Branch(Branch::Bge),
+        Instruction::Bltu(_) => RowForm::Branch(Branch::Bltu),
+        Instruction::Bgeu(_) => RowForm::Branch(Branch::Bgeu),
         Instruction::Lb(_) => RowForm::Load(Load::Lb),
         Instruction::Lbu(_) => RowForm::Load(Load::Lbu),
         Instruction::Lh(_) => RowForm::Load(Load::Lh),
@@ -100,6 +108,19 @@ fn row_form(template: Instruction) -> RowForm
         Instruction::Sw(_) => RowForm::Store(Store::Sw),
         _ => RowForm::Format,
     }
+}
+
+/// Reads `rs1, rs2, target`. A branch whose target is out of reach is two instructions.
+fn read_branch(line: &mut Line, template: Instruction, branch: Branch) -> Statement
+    requires { branch_name branch ≡ (table (row_of template)).name }
+    ensures { IsNamed (table (row_of template)).name result }
+{
+    let operands = read_operands(line, &OF_B);
+    if line.notes.is_far {
+        let Operands { rs1, rs2, imm, .. } = operands;
+        return Statement::Pseudo(Pseudo::Far(branch, rs1, rs2, imm));
+    }
+    statement_of(line, template, operands)
 }
 
 /// Reads `rd, immediate(rs1)`, or `rd, symbol`.
@@ -229,7 +250,7 @@ fn read_operand(line: &mut Line, operand: Operand, operands: &mut Operands) {
         Operand::Rs2 => operands.rs2 = line.register(),
         Operand::Address => (operands.imm, operands.rs1) = line.address(),
         Operand::Immediate => operands.imm = line.immediate(),
-        Operand::Branch => operands.imm = line.offset(BRANCH_REACH),
+        Operand::Branch => operands.imm = line.branch_offset(BRANCH_REACH, JUMP_REACH),
         Operand::Jump => operands.imm = line.offset(JUMP_REACH),
         Operand::Amount => operands.imm = line.below(32, 0).cast_signed(),
         Operand::Upper => operands.imm = (line.upper() << 12).cast_signed(),
@@ -322,7 +343,8 @@ const ACCESSES: &[u8] = b"w r rw o ow or orw i iw ir irw io iow ior iorw";
 fn read_pseudo(line: &mut Line, form: PseudoForm) -> Pseudo
     ensures { pseudo_name result ≡ form_name form }
 {
-    pseudo_of(form, read_operands(line, operands_of_pseudo(form)))
+    let operands = read_operands(line, operands_of_pseudo(form));
+    pseudo_of(form, operands, line.notes.is_far)
 }
 
 /// The operands of pseudo-instructions that are written as no format is.
@@ -359,8 +381,8 @@ fn operands_of_pseudo(form: PseudoForm) -> &'static [Operand] {
     }
 }
 
-/// The pseudo-instruction with these operands.
-fn pseudo_of(form: PseudoForm, operands: Operands) -> Pseudo
+/// The pseudo-instruction with these operands, of a branch where its target is out of reach or not.
+fn pseudo_of(form: PseudoForm, operands: Operands, is_far: bool) -> Pseudo
     ensures { pseudo_name result ≡ form_name form }
 {
     let Operands { rd, rs1, rs2, imm } = operands;
@@ -374,7 +396,9 @@ fn pseudo_of(form: PseudoForm, operands: Operands) -> Pseudo
         PseudoForm::Compared(name) => Pseudo::Compared(name, rd, rs1, rs2),
         PseudoForm::Jump => Pseudo::Jump(rs1, word),
         PseudoForm::OfOne(name) => Pseudo::OfOne(name, rd, rs1),
+        PseudoForm::AgainstZero(name) if is_far => Pseudo::FarFromZero(name, rs1, imm),
         PseudoForm::AgainstZero(name) => Pseudo::AgainstZero(name, rs1, imm),
+        PseudoForm::Swapped(name) if is_far => Pseudo::FarSwapped(name, rs1, rs2, imm),
         PseudoForm::Swapped(name) => Pseudo::Swapped(name, rs1, rs2, imm),
         PseudoForm::J => Pseudo::J(imm),
         PseudoForm::Jr => Pseudo::Jr(rs1),

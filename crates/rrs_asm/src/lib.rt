@@ -30,7 +30,7 @@ pub use errors::{SourceError, SourceFault};
 pub use output::{Assembled, Label, MOST_BYTES, Placed};
 pub use program::{Program, image};
 pub use pseudo::{
-    Expansion, Load, Pseudo, Store, SwappedBranch, SwappedComparison, Unary, ZeroBranch,
+    Branch, Expansion, Load, Pseudo, Store, SwappedBranch, SwappedComparison, Unary, ZeroBranch,
 };
 pub use rrs_lines::SourceErrorKind;
 pub use sections::{Layout, Section, SectionKind};

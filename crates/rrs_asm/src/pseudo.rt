@@ -2,7 +2,7 @@
 
 ghost use Rattle.std.specs.Prelude.{◌≡◌, ◌<◌, ◌^◌, ℕ, pos, neg_ℤ, ◌+ℤ◌, ◌≤ℤ◌, ◌∷◌, []};
 ghost use Rattle.rrs_instruction.specs.Words.{word, floor_mod};
-ghost use Rattle.rrs_asm.specs.Pseudo.{expanded, listed, AreHalves, lower, upper, load_immediate, of_one, against_zero, swapped, compared, load, store, addi, lui, auipc, jal, jalr, fence_all};
+ghost use Rattle.rrs_asm.specs.Pseudo.{expanded, listed, AreHalves, lower, upper, load_immediate, of_one, branch, opposite, opposite_of_zero, opposite_of_swapped, against_zero, swapped, compared, load, store, addi, lui, auipc, jal, jalr, fence_all};
 
 use rrs_instruction::instruction::Instruction;
 use rrs_instruction::instruction_formats::{BType, IType, JType, RType, SType, UType};
@@ -18,6 +18,17 @@ pub enum Unary {
     Sltz,
     Sgtz,
     ZextB,
+}
+
+/// A branch of the table.
+#[derive(Clone, Copy)]
+pub enum Branch {
+    Beq,
+    Bne,
+    Blt,
+    Bge,
+    Bltu,
+    Bgeu,
 }
 
 /// A branch that compares a register with zero.
@@ -95,6 +106,13 @@ pub enum Pseudo {
     AgainstZero(ZeroBranch, usize, i32),
     /// `bgt rs, rt, target`, and those like it: the offset.
     Swapped(SwappedBranch, usize, usize, i32),
+    /// `beq rs, rt, target`, and those like it, where the target is out of reach: the opposite branch
+    /// over a jump, and the offset from the jump.
+    Far(Branch, usize, usize, i32),
+    /// `beqz rs, target`, and those like it, in the same case.
+    FarFromZero(ZeroBranch, usize, i32),
+    /// `bgt rs, rt, target`, and those like it, in the same case.
+    FarSwapped(SwappedBranch, usize, usize, i32),
     /// `j target`: the offset.
     J(i32),
     /// `jal target`: the offset.
@@ -157,6 +175,18 @@ impl Pseudo {
             Pseudo::OfOne(name, rd, rs) => one(of_one(name, rd, rs)),
             Pseudo::AgainstZero(name, rs, offset) => one(against_zero(name, rs, offset)),
             Pseudo::Swapped(name, rs, rt, offset) => one(swapped(name, rs, rt, offset)),
+            Pseudo::Far(name, rs, rt, offset) => {
+                two(make_branch(opposite(name), rs, rt, 8), jal(0, offset))
+            }
+            Pseudo::FarFromZero(name, rs, offset) => {
+                two(against_zero(opposite_of_zero(name), rs, 8), jal(0, offset))
+            }
+            Pseudo::FarSwapped(name, rs, rt, offset) => {
+                two(
+                    swapped(opposite_of_swapped(name), rs, rt, 8),
+                    jal(0, offset),
+                )
+            }
             Pseudo::J(offset) => one(jal(0, offset)),
             Pseudo::Jal(offset) => one(jal(1, offset)),
             Pseudo::Jr(rs) => one(jalr(0, 0, rs)),
@@ -287,16 +317,66 @@ fn stored(funct3: u32, rs1: usize, rs2: usize, imm: i32) -> SType
     }
 }
 
+fn make_branch(name: Branch, rs: usize, rt: usize, offset: i32) -> Instruction
+    ensures { result ≡ branch name rs rt offset }
+{
+    match name {
+        Branch::Beq => Instruction::Beq(branch_format(0, rs, rt, offset)),
+        Branch::Bne => Instruction::Bne(branch_format(1, rs, rt, offset)),
+        Branch::Blt => Instruction::Blt(branch_format(4, rs, rt, offset)),
+        Branch::Bge => Instruction::Bge(branch_format(5, rs, rt, offset)),
+        Branch::Bltu => Instruction::Bltu(branch_format(6, rs, rt, offset)),
+        Branch::Bgeu => Instruction::Bgeu(branch_format(7, rs, rt, offset)),
+    }
+}
+
+fn opposite(name: Branch) -> Branch
+    ensures { result ≡ opposite name }
+{
+    match name {
+        Branch::Beq => Branch::Bne,
+        Branch::Bne => Branch::Beq,
+        Branch::Blt => Branch::Bge,
+        Branch::Bge => Branch::Blt,
+        Branch::Bltu => Branch::Bgeu,
+        Branch::Bgeu => Branch::Bltu,
+    }
+}
+
+fn opposite_of_zero(name: ZeroBranch) -> ZeroBranch
+    ensures { result ≡ opposite_of_zero name }
+{
+    match name {
+        ZeroBranch::Beqz => ZeroBranch::Bnez,
+        ZeroBranch::Bnez => ZeroBranch::Beqz,
+        ZeroBranch::Blez => ZeroBranch::Bgtz,
+        ZeroBranch::Bgez => ZeroBranch::Bltz,
+        ZeroBranch::Bltz => ZeroBranch::Bgez,
+        ZeroBranch::Bgtz => ZeroBranch::Blez,
+    }
+}
+
+fn opposite_of_swapped(name: SwappedBranch) -> SwappedBranch
+    ensures { result ≡ opposite_of_swapped name }
+{
+    match name {
+        SwappedBranch::Bgt => SwappedBranch::Ble,
+        SwappedBranch::Ble => SwappedBranch::Bgt,
+        SwappedBranch::Bgtu => SwappedBranch::Bleu,
+        SwappedBranch::Bleu => SwappedBranch::Bgtu,
+    }
+}
+
 fn against_zero(name: ZeroBranch, rs: usize, offset: i32) -> Instruction
     ensures { result ≡ against_zero name rs offset }
 {
     match name {
-        ZeroBranch::Beqz => Instruction::Beq(branch(0, rs, 0, offset)),
-        ZeroBranch::Bnez => Instruction::Bne(branch(1, rs, 0, offset)),
-        ZeroBranch::Blez => Instruction::Bge(branch(5, 0, rs, offset)),
-        ZeroBranch::Bgez => Instruction::Bge(branch(5, rs, 0, offset)),
-        ZeroBranch::Bltz => Instruction::Blt(branch(4, rs, 0, offset)),
-        ZeroBranch::Bgtz => Instruction::Blt(branch(4, 0, rs, offset)),
+        ZeroBranch::Beqz => Instruction::Beq(branch_format(0, rs, 0, offset)),
+        ZeroBranch::Bnez => Instruction::Bne(branch_format(1, rs, 0, offset)),
+        ZeroBranch::Blez => Instruction::Bge(branch_format(5, 0, rs, offset)),
+        ZeroBranch::Bgez => Instruction::Bge(branch_format(5, rs, 0, offset)),
+        ZeroBranch::Bltz => Instruction::Blt(branch_format(4, rs, 0, offset)),
+        ZeroBranch::Bgtz => Instruction::Blt(branch_format(4, 0, rs, offset)),
     }
 }
 
@@ -304,10 +384,10 @@ fn swapped(name: SwappedBranch, rs: usize, rt: usize, offset: i32) -> Instructio
     ensures { result ≡ swapped name rs rt offset }
 {
     match name {
-        SwappedBranch::Bgt => Instruction::Blt(branch(4, rt, rs, offset)),
-        SwappedBranch::Ble => Instruction::Bge(branch(5, rt, rs, offset)),
-        SwappedBranch::Bgtu => Instruction::Bltu(branch(6, rt, rs, offset)),
-        SwappedBranch::Bleu => Instruction::Bgeu(branch(7, rt, rs, offset)),
+        SwappedBranch::Bgt => Instruction::Blt(branch_format(4, rt, rs, offset)),
+        SwappedBranch::Ble => Instruction::Bge(branch_format(5, rt, rs, offset)),
+        SwappedBranch::Bgtu => Instruction::Bltu(branch_format(6, rt, rs, offset)),
+        SwappedBranch::Bleu => Instruction::Bgeu(branch_format(7, rt, rs, offset)),
     }
 }
 
@@ -334,7 +414,7 @@ fn immediate(funct3: u32, rd: usize, rs1: usize, imm: i32) -> IType
     }
 }
 
-fn branch(funct3: u32, rs1: usize, rs2: usize, imm: i32) -> BType
+fn branch_format(funct3: u32, rs1: usize, rs2: usize, imm: i32) -> BType
     ensures { result ≡ record { imm = imm; rs2 = rs2; rs1 = rs1; funct3 = funct3 } }
 {
     BType {

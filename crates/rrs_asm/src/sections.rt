@@ -3,7 +3,7 @@
 ghost use Rattle.std.specs.Prelude.{◌≡◌, max, ◌≤◌, ◌+◌, ◌%◌, ◌^◌, ℕ, List, [], ◌∷◌, true, false, OnOk, IfOk, IfSome, All, length};
 ghost use Rattle.rrs_asm.specs.Source.{Item, is_laid_out};
 ghost use Rattle.rrs_asm.specs.Names.{IsNamed};
-ghost use Rattle.rrs_asm.specs.Sections.{flat, is_data, data_address, filled_end, start_behind, IsBehind, AreBehind, ArePlaced};
+ghost use Rattle.rrs_asm.specs.Sections.{flat, is_data, data_address, filled_end, start_behind, is_name_of, ends_name, kind_of_name, HasItsKind, IsBehind, AreBehind, ArePlaced};
 ghost use Rattle.rrs_asm.specs.Forms.{Grows, IsNew};
 
 use crate::output::{Assembled, Label};
@@ -208,26 +208,63 @@ pub fn is_laid_out(name: &[u8]) -> bool
 }
 
 /// The kind of a section by its name, if that says it.
-pub fn kind_of_name(name: &[u8]) -> Option<SectionKind> {
-    for (first, kind) in &KINDS {
-        let is_whole = matches!(name.get(first.len()), None | Some(b'.'));
-        if is_whole && name.starts_with(first) {
-            return Some(*kind);
-        }
+pub fn kind_of_name(name: &[u8]) -> Option<SectionKind>
+    ensures { result ≡ kind_of_name name.now }
+{
+    if is_name_of(b".text", name) {
+        Some(SectionKind::Code)
+    } else if is_name_of(b".rodata", name) || is_name_of(b".srodata", name) {
+        Some(SectionKind::ReadOnly)
+    } else if is_name_of(b".data", name) || is_name_of(b".sdata", name) {
+        Some(SectionKind::Data)
+    } else if is_name_of(b".bss", name) || is_name_of(b".sbss", name) {
+        Some(SectionKind::Zero)
+    } else {
+        None
     }
-    None
 }
 
-/// The names that say what a section holds. A name may go on behind them with a dot.
-static KINDS: [(&[u8], SectionKind); 7] = [
-    (b".text", SectionKind::Code),
-    (b".rodata", SectionKind::ReadOnly),
-    (b".srodata", SectionKind::ReadOnly),
-    (b".data", SectionKind::Data),
-    (b".sdata", SectionKind::Data),
-    (b".bss", SectionKind::Zero),
-    (b".sbss", SectionKind::Zero),
-];
+/// Whether a name is this one, or goes on behind it with a dot.
+fn is_name_of(first: &[u8], name: &[u8]) -> bool
+    ensures { result ≡ is_name_of first.now name.now }
+{
+    name.starts_with(first) && ends_name(&name[first.len()..])
+}
+
+/// Whether a text is nothing, or begins with a dot.
+fn ends_name(text: &[u8]) -> bool
+    ensures { result ≡ ends_name text.now }
+{
+    match text {
+        [] => true,
+        [byte, ..] => *byte == b'.',
+    }
+}
+
+/// Whether a section is of another kind than its name says.
+pub fn has_wrong_kind<A: Allocator>(sections: &[Section<A>]) -> bool
+    ensures { result ≡ false → All HasItsKind sections.now }
+{
+    for section in sections {
+        if !is_of_kind(section.kind, kind_of_name(section.name)) {
+            return true;
+        }
+    }
+    false
+}
+
+/// Whether a kind is the one that a name says, if it says one.
+fn is_of_kind(kind: SectionKind, said: Option<SectionKind>) -> bool
+    ensures { result ≡ true → IfSome said (λ own. kind ≡ own) }
+{
+    match (kind, said) {
+        (SectionKind::Code, Some(SectionKind::Code))
+        | (SectionKind::ReadOnly, Some(SectionKind::ReadOnly))
+        | (SectionKind::Data, Some(SectionKind::Data))
+        | (SectionKind::Zero, Some(SectionKind::Zero)) => true,
+        (_, said) => said.is_none(),
+    }
+}
 
 /// What a section takes.
 #[derive(Clone, Copy)]

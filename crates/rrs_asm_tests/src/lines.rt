@@ -1,7 +1,7 @@
 //! Lines, and the words that they are.
 
 use crate::assembled::{bytes_of, same_words};
-use rrs_asm::{Pseudo, SwappedBranch, Unary, ZeroBranch};
+use rrs_asm::{Branch, Pseudo, SwappedBranch, Unary, ZeroBranch};
 use rrs_assembly::gnu_text;
 use rrs_lib::disassembly::Disassembled;
 use rrs_lib::instruction::Instruction;
@@ -60,7 +60,7 @@ static ROWS: [(&str, &[u32]); 48] = [
 ];
 
 /// Pseudo-instructions, and how operands can be written.
-static PSEUDO_INSTRUCTIONS: [(&str, &[u32]); 50] = [
+static PSEUDO_INSTRUCTIONS: [(&str, &[u32]); 54] = [
     ("nop", &[0x00000013]),
     ("ret", &[0x00008067]),
     ("fence", &[0x0ff0000f]),
@@ -91,6 +91,10 @@ static PSEUDO_INSTRUCTIONS: [(&str, &[u32]); 50] = [
     ("ble a0, a1, . + 8", &[0x00a5d463]),
     ("bgtu a0, a1, . + 8", &[0x00a5e463]),
     ("bleu a0, a1, . - 4096", &[0x80a5f063]),
+    ("beq a0, a1, . + 4096", &[0x00b51463, 0x7fd0006f]),
+    ("bgtu a0, a1, . + 4100", &[0x00a5f463, 0x0000106f]),
+    ("bltz a0, . + 0x1000", &[0x00055463, 0x7fd0006f]),
+    ("bne a0, a1, . - 4096", &[0x80b51063]),
     ("j . + 8", &[0x0080006f]),
     ("jal . - 8", &[0xff9ff0ef]),
     ("jr a0", &[0x00050067]),
@@ -114,7 +118,7 @@ static PSEUDO_INSTRUCTIONS: [(&str, &[u32]); 50] = [
 ];
 
 /// Labels before and behind, local labels, constants, comments, and several statements on a line.
-static SYMBOLS: [(&str, &[u32]); 7] = [
+static SYMBOLS: [(&str, &[u32]); 9] = [
     ("a: nop\nj a", &[0x00000013, 0xffdff06f]),
     ("nop\nj a\nnop\na:", &[0x00000013, 0x0080006f, 0x00000013]),
     ("1: nop\n1: j 1b\n1:", &[0x00000013, 0x0000006f]),
@@ -123,6 +127,14 @@ static SYMBOLS: [(&str, &[u32]); 7] = [
     (
         "nop\n.equ n, 5\n.set n, n + 1\nm = n - -1 // m\naddi x1, x0, m",
         &[0x00000013, 0x00700093],
+    ),
+    (
+        "sp: nop\nla a0, sp\n.word sp, 5!!3",
+        &[0x00000013, 0x00000517, 0xffc50513, 0, 6],
+    ),
+    (
+        "s1 = 5\nslli a0, a0, s1\naddi a0, a0, (s1)\nli a0, s1",
+        &[0x00551513, 0x00550513, 0x00500513],
     ),
     (
         ".text\n.globl a, b\nnop\n\ta:b: li a0, 'a' + 1\r\n",
@@ -160,7 +172,7 @@ fn lines_are_their_words(rt: HostRuntime) {
 
 /// Pseudo-instructions, each with the texts at 0 of its instructions, the second of them empty where
 /// there is one alone.
-static EXPANDED: [(Pseudo, &str, &str); 17] = [
+static EXPANDED: [(Pseudo, &str, &str); 20] = [
     (Pseudo::Nop, "addi x0, x0, 0", ""),
     (Pseudo::Ret, "jalr x0, 0x000(x1)", ""),
     (Pseudo::Fence, "fence", ""),
@@ -187,6 +199,21 @@ static EXPANDED: [(Pseudo, &str, &str); 17] = [
         Pseudo::Swapped(SwappedBranch::Bgtu, 5, 6, -8),
         "bltu x6, x5, 0xfffffff8",
         "",
+    ),
+    (
+        Pseudo::Far(Branch::Bltu, 5, 6, 0x1000),
+        "bgeu x5, x6, 0x00000008",
+        "jal x0, 0x00001000",
+    ),
+    (
+        Pseudo::FarFromZero(ZeroBranch::Blez, 5, -8),
+        "blt x0, x5, 0x00000008",
+        "jal x0, 0xfffffff8",
+    ),
+    (
+        Pseudo::FarSwapped(SwappedBranch::Bgtu, 5, 6, 16),
+        "bgeu x6, x5, 0x00000008",
+        "jal x0, 0x00000010",
     ),
     (Pseudo::J(-4), "jal x0, 0xfffffffc", ""),
     (Pseudo::Jal(8), "jal x1, 0x00000008", ""),

@@ -6,7 +6,7 @@ use std::alloc::Global;
 
 /// Sources, each with the line and the column of its mistake. Of several the first of each line is
 /// told, in the order of the lines.
-static MISTAKES: [(&str, &[Wrong]); 42] = [
+static MISTAKES: [(&str, &[Wrong]); 46] = [
     ("nop\n  addx a0, a1", &[(2, 3, SourceErrorKind::Unknown)]),
     (".wrod 1", &[(1, 1, SourceErrorKind::Unknown)]),
     ("addi-1", &[(1, 1, SourceErrorKind::Unknown)]),
@@ -24,7 +24,10 @@ static MISTAKES: [(&str, &[Wrong]); 42] = [
     ("lui a0, 0x100000", &[(1, 9, SourceErrorKind::Range)]),
     (".byte 256", &[(1, 7, SourceErrorKind::Range)]),
     (".balign 3", &[(1, 9, SourceErrorKind::Range)]),
-    ("beq a0, a1, . + 4096", &[(1, 13, SourceErrorKind::Range)]),
+    (
+        "beq a0, a1, . + 0x100004",
+        &[(1, 13, SourceErrorKind::Range)],
+    ),
     ("j . - 0x100002", &[(1, 3, SourceErrorKind::Range)]),
     ("j . + 1", &[(1, 3, SourceErrorKind::Unaligned)]),
     ("add a0 a1, a2", &[(1, 8, SourceErrorKind::Comma)]),
@@ -38,7 +41,20 @@ static MISTAKES: [(&str, &[Wrong]); 42] = [
     ("j 1b\n1:", &[(1, 3, SourceErrorKind::Undefined)]),
     ("li a0, a\na:", &[(1, 8, SourceErrorKind::Later)]),
     ("a:\nnop; a: nop", &[(2, 6, SourceErrorKind::Duplicate)]),
-    ("a0: nop", &[(1, 1, SourceErrorKind::Reserved)]),
+    ("a0: addi a1, a1, a0", &[(1, 18, SourceErrorKind::Value)]),
+    ("a0: lw a1, a0(a2)", &[(1, 12, SourceErrorKind::Value)]),
+    (
+        "addi a0, a0, (1 << 32) + 5",
+        &[(1, 14, SourceErrorKind::Range)],
+    ),
+    (
+        ".equ a, 0xffffffff\n.equ b, a + 6\nli a0, b",
+        &[(3, 8, SourceErrorKind::Range)],
+    ),
+    (
+        ".section .x, \"aw\" junk",
+        &[(1, 19, SourceErrorKind::More)],
+    ),
     (".section", &[(1, 9, SourceErrorKind::Section)]),
     (
         ".section .debug\n.popsection",

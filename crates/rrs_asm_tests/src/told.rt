@@ -5,7 +5,7 @@ use rrs_assembly::{MOST_MISTAKES, Mistake, mistakes_of};
 use std::alloc::{AllocError, Global};
 
 /// Sources, each with what is told of it.
-static TOLD: [(&str, &str); 39] = [
+static TOLD: [(&str, &str); 41] = [
     (
         "addi a0, a1, a2",
         "1:14: a number is wanted here: add takes three registers\n",
@@ -174,10 +174,9 @@ static TOLD: [(&str, &str); 39] = [
         "3:3: symbol is not defined: loop_b; is loop_b1 meant?\n",
     ),
     (
-        "nop\na: nop\nb: a: nop\n.equ b, 1\na0: nop\n.equ c, d\n.equ d, 1",
+        "nop\na: nop\nb: a: nop\n.equ b, 1\na0: nop\n.equ c, d\n.equ d, a0",
         "3:4: symbol is defined already: a, in line 2\n\
          4:1: symbol is defined already: b, in line 3\n\
-         5:1: the name of a register can't be a symbol: a0\n\
          6:9: symbol is defined later, and its value is wanted here: d\n",
     ),
     (
@@ -190,6 +189,21 @@ static TOLD: [(&str, &str); 39] = [
          it stands in no quotation marks\n\
          5:1: a section needs a name, and flags where its name says nothing; is .text meant?\n\
          6:6: the program is too long\n",
+    ),
+    (
+        "inc a0\ndec a0\nli a0, ff\nli a0, 0ff\n.string \u{201c}a\u{201d}\nli a0, \u{2018}a\u{2019}",
+        "1:1: no such instruction or directive: inc; addi rd, rd, 1 adds 1\n\
+         2:1: no such instruction or directive: dec; addi rd, rd, -1 takes 1 away\n\
+         3:8: symbol is not defined: ff; is 0xff meant?\n\
+         4:8: not a number: 0ff; is 0x0ff meant?\n\
+         5:9: a quotation mark of printed text: \" and ' are written here\n\
+         6:8: a quotation mark of printed text: \" and ' are written here\n",
+    ),
+    (
+        "s1: addi a0, a0, s1\nbeqz a0, . + 0x200000\nli a0, 1 << 32",
+        "1:18: a number is wanted here: add takes three registers\n\
+         2:10: value out of range: beqz reaches 1048572 bytes back and 1048578 forward\n\
+         3:8: value out of range: li takes -2147483648 to 4294967295\n",
     ),
     (
         ".section .text.a\n.space 0x4000000\nnop",

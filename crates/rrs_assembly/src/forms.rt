@@ -212,7 +212,7 @@ pub fn range_of(name: &[u8]) -> &'static str {
         Some(Form::Shift) => " takes 0 to 31",
         Some(Form::Load | Form::Store | Form::LinkRegister) => " takes an offset of -2048 to 2047",
         Some(Form::Upper) => " takes 0 to 1048575, the upper 20 bits",
-        Some(Form::Branch | Form::ZeroBranch) => " reaches 4096 bytes back and 4094 forward",
+        Some(Form::Branch | Form::ZeroBranch) => " reaches 1048572 bytes back and 1048578 forward",
         Some(Form::Jump | Form::Link) => " reaches 1048576 bytes back and 1048574 forward",
         Some(Form::Number) => " takes -2147483648 to 4294967295",
         _ => beside(&RANGES, name).unwrap_or(""),

@@ -36,8 +36,6 @@ pub enum SourceErrorKind {
     Later,
     /// The symbol is defined already.
     Duplicate,
-    /// A register's name can't be a symbol.
-    Reserved,
     /// A section is not named, or has neither a name nor flags that say where it lies.
     Section,
     /// There are too many sections.
@@ -84,7 +82,6 @@ impl fmt::Display for SourceErrorKind {
             SourceErrorKind::Undefined => "symbol is not defined",
             SourceErrorKind::Later => "symbol is defined later, and its value is wanted here",
             SourceErrorKind::Duplicate => "symbol is defined already",
-            SourceErrorKind::Reserved => "the name of a register can't be a symbol",
             SourceErrorKind::Section =>
                 "a section needs a name, and flags where its name says nothing",
             SourceErrorKind::Sections => "there are too many sections",

@@ -126,6 +126,7 @@ pub fn operator_between(first: u8, second: u8) -> Option<(Operator, usize)> {
         (b'=', b'=') => Some((Operator::Equal, 2)),
         (b'&', b'&') => Some((Operator::Both, 2)),
         (b'|', b'|') => Some((Operator::Either, 2)),
+        (b'!', b'!') => Some((Operator::Xor, 2)),
         (b'*', _) => Some((Operator::Multiply, 1)),
         (b'/', _) => Some((Operator::Divide, 1)),
         (b'%', _) => Some((Operator::Remainder, 1)),

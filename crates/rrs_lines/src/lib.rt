@@ -25,4 +25,4 @@ pub use lexing::{
 pub use literals::escaped;
 pub use reading::{Line, Notes, Site};
 pub use registers::register_number;
-pub use symbols::{Known, Pass, Scope, Symbols};
+pub use symbols::{Found, Known, Pass, Scope, Symbols};

@@ -7,14 +7,18 @@ use crate::expressions::{LOOSEST, Operator, Waiting, operator_before, operator_b
 use crate::lexing::{behind_blanks, is_name, split_word};
 use crate::literals::{digit_of, escaped, number_of};
 use crate::registers::register_number;
-use crate::symbols::{Known, Scope};
+use crate::symbols::{Found, Known, Scope};
 use std::alloc::AllocError;
 
 /// Where a statement stands.
 #[derive(Clone, Copy)]
-pub struct Site {
+pub struct Site<'a> {
     /// Its address.
     pub here: u32,
+    /// The name of its section.
+    pub section: &'a [u8],
+    /// The address of its section.
+    pub start: u32,
     /// Whether its section holds instructions.
     pub is_code: bool,
     /// Whether its section is not laid out.
@@ -28,7 +32,27 @@ pub struct Notes {
     pub alignment: u32,
     /// How far its `%pcrel_hi` reaches.
     pub distance: Option<u32>,
+    /// Whether its target is out of a branch's reach, so that it is two instructions.
+    pub is_far: bool,
 }
+
+/// What stands in a value.
+#[derive(Clone, Copy)]
+struct Terms {
+    /// An address: a label, or `.`, or what may be one.
+    has_address: bool,
+    /// A symbol of which nothing is known yet.
+    has_unknown: bool,
+    /// A label of another section.
+    has_other: bool,
+}
+
+/// Numbers alone.
+const NUMBERS: Terms = Terms {
+    has_address: false,
+    has_unknown: false,
+    has_other: false,
+};
 
 /// How a number may be written.
 #[derive(Clone, Copy)]
@@ -68,8 +92,10 @@ pub struct Line<'a, 's> {
     /// How many bytes of the line are behind the statement.
     behind: usize,
     symbols: &'s Scope<'a, 's>,
+    /// What stands in the value that was read last.
+    terms: Terms,
     /// Where it stands.
-    pub site: Site,
+    pub site: Site<'a>,
     /// What it asks beside its bytes.
     pub notes: Notes,
     /// The first mistake in it, or that memory is missing.
@@ -78,15 +104,17 @@ pub struct Line<'a, 's> {
 
 impl<'a, 's> Line<'a, 's> {
     /// The rest of a statement at a place, with so many bytes of the line behind it.
-    pub fn new(rest: &'a [u8], behind: usize, symbols: &'s Scope<'a, 's>, site: Site) -> Self {
+    pub fn new(rest: &'a [u8], behind: usize, symbols: &'s Scope<'a, 's>, site: Site<'a>) -> Self {
         let notes = Notes {
             alignment: 1,
             distance: None,
+            is_far: false,
         };
         Line {
             rest,
             behind,
             symbols,
+            terms: NUMBERS,
             site,
             notes,
             mistake: None,
@@ -206,14 +234,26 @@ impl<'a, 's> Line<'a, 's> {
         }
     }
 
-    /// Takes a value. It is taken modulo 2^32.
+    /// Takes a value. A number has 32 bits, signed or not, and an address is taken modulo 2^32.
     pub fn value(&mut self) -> u32 {
-        (self.expression(ANY) % 0x1_0000_0000) as u32
+        self.word_of(ANY)
     }
 
     /// Takes a value that is known here: none of its symbols is defined further on.
     pub fn known_value(&mut self) -> u32 {
-        (self.constant() % 0x1_0000_0000) as u32
+        self.word_of(KNOWN)
+    }
+
+    /// Takes a value of 32 bits.
+    fn word_of(&mut self, wanted: Wanted) -> u32 {
+        self.skip_blanks();
+        let error = self.error(SourceErrorKind::Range);
+        let value = self.expression(wanted);
+        let is_word = value.wrapping_add(0x8000_0000) < 0x1_8000_0000;
+        if !is_word && !self.terms.has_address {
+            self.fail(error);
+        }
+        (value % 0x1_0000_0000) as u32
     }
 
     /// Takes the value of a constant, which is known here. It has 64 bits, since it may be
@@ -230,6 +270,7 @@ impl<'a, 's> Line<'a, 's> {
     /// Takes values with operators and parentheses.
     fn expression(&mut self, wanted: Wanted) -> u64 {
         let mut waiting = Waiting::new();
+        self.terms = NUMBERS;
         for _ in 0..u64::MAX {
             self.operators_before(&mut waiting);
             let term = self.term(wanted, waiting.is_negated());
@@ -313,29 +354,38 @@ impl<'a, 's> Line<'a, 's> {
         }
         let error = self.error(SourceErrorKind::Value);
         let word = self.word();
-        match self.known_of(word) {
-            Some(known) => self.value_known(known, wanted.is_known, error),
+        match self.found_of(word) {
+            Some(found) => self.value_found(found, wanted.is_known, error),
             None => self.number(word, wanted.is_wide, is_negated, error),
         }
     }
 
     /// What is known of a symbol, of a local label, or of `.`. None where the word is a number, or
     /// empty.
-    fn known_of(&self, word: &[u8]) -> Option<Known> {
+    fn found_of(&self, word: &[u8]) -> Option<Found> {
+        let (symbols, site) = (self.symbols, self.site);
         match word {
             [] => None,
-            [b'.'] => Some(Known::Now(u64::from(self.site.here))),
-            [digit @ b'0'..=b'9', b'b'] => Some(self.symbols.local_value(*digit - b'0', true)),
-            [digit @ b'0'..=b'9', b'f'] => Some(self.symbols.local_value(*digit - b'0', false)),
+            [b'.'] => Some(Found {
+                known: Known::Now(u64::from(site.here)),
+                is_label: true,
+                is_elsewhere: false,
+            }),
+            [digit @ b'0'..=b'9', b'b'] => Some(symbols.local_value(*digit - b'0', true, site)),
+            [digit @ b'0'..=b'9', b'f'] => Some(symbols.local_value(*digit - b'0', false, site)),
             [b'0'..=b'9', ..] => None,
-            _ => Some(self.symbols.value_of(word)),
+            _ => Some(symbols.value_of(word, site)),
         }
     }
 
     /// The value of a symbol of which this is known; where it is not known yet, before the last
     /// reading, the address of the statement.
-    fn value_known(&mut self, known: Known, is_known: bool, error: LineError) -> u64 {
-        let kind = match known {
+    fn value_found(&mut self, found: Found, is_known: bool, error: LineError) -> u64 {
+        let is_unknown = matches!(found.known, Known::Perhaps);
+        self.terms.has_address |= found.is_label || is_unknown;
+        self.terms.has_unknown |= is_unknown;
+        self.terms.has_other |= found.is_elsewhere;
+        let kind = match found.known {
             Known::Now(value) => return value,
             Known::Later(value) if !is_known => return value,
             Known::Perhaps if !is_known => return u64::from(self.site.here),
@@ -376,8 +426,11 @@ impl<'a, 's> Line<'a, 's> {
     }
 
     /// Takes a value, or the part of one that a modifier names: its lower 12 bits or its upper 20.
+    /// What begins with the name of a register is none, also where that is a symbol.
     fn part(&mut self, is_low: bool) -> u32 {
         if !self.take(b'%') {
+            let (word, _) = split_word(self.rest);
+            self.want(register_number(word).is_none(), SourceErrorKind::Value);
             return self.value();
         }
         let error = self.error(SourceErrorKind::Value);
@@ -466,6 +519,35 @@ impl<'a, 's> Line<'a, 's> {
         let error = self.error(SourceErrorKind::Range);
         let offset = self.value().wrapping_sub(self.site.here);
         let fits = offset.wrapping_add(reach) < reach.wrapping_mul(2);
+        let offset = self.fitting(offset, fits, error);
+        let unaligned = error.with_kind(SourceErrorKind::Unaligned);
+        self.fitting(offset, offset % 2 == 0, unaligned)
+            .cast_signed()
+    }
+
+    /// Takes the target of a branch, from `-reach` to below `reach`: the offset to it, which is even.
+    /// Where a label is further away, or in another section, the branch is two instructions, the
+    /// second a jump of this far, and the offset is that of the jump.
+    ///
+    /// GNU `as` does the same: while it reads the source it takes a label that was not met to be at
+    /// the beginning of the section, and else where it was in the reading before.
+    pub fn branch_offset(&mut self, reach: u32, far: u32) -> i32 {
+        self.skip_blanks();
+        let error = self.error(SourceErrorKind::Range);
+        let distance = self.value().wrapping_sub(self.site.here);
+        let guess = if self.terms.has_unknown {
+            self.site.start.wrapping_sub(self.site.here)
+        } else {
+            distance
+        };
+        self.notes.is_far = self.terms.has_other
+            || guess.wrapping_add(reach) >= reach.wrapping_mul(2);
+        let (offset, most) = if self.notes.is_far {
+            (distance.wrapping_sub(4), far)
+        } else {
+            (distance, reach)
+        };
+        let fits = offset.wrapping_add(most) < most.wrapping_mul(2);
         let offset = self.fitting(offset, fits, error);
         let unaligned = error.with_kind(SourceErrorKind::Unaligned);
         self.fitting(offset, offset % 2 == 0, unaligned)

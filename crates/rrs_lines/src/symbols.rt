@@ -3,7 +3,7 @@
 //! All are entries of one table, found by a hash of their name or number.
 
 use crate::errors::SourceErrorKind;
-use crate::registers::register_number;
+use crate::reading::Site;
 use std::alloc::{Allocator, Global};
 
 /// A reading of the source.
@@ -11,7 +11,7 @@ use std::alloc::{Allocator, Global};
 pub enum Pass {
     /// For how long the sections are.
     First,
-    /// For what symbols stand for.
+    /// For what symbols stand for. It is read again while the lengths of branches change.
     Second,
     /// For how far each `%pcrel_hi` reaches, where there is one.
     Third,
@@ -37,6 +37,28 @@ pub enum Known {
     Perhaps,
     /// There is no definition.
     Never,
+}
+
+/// What is known of a symbol, and whether it is a label of another section.
+#[derive(Clone, Copy)]
+pub struct Found {
+    /// What is known.
+    pub known: Known,
+    /// Whether it is an address.
+    pub is_label: bool,
+    /// Whether it is a label of another section.
+    pub is_elsewhere: bool,
+}
+
+impl Found {
+    /// What is known of what is no label.
+    fn plain(known: Known) -> Self {
+        Found {
+            known,
+            is_label: false,
+            is_elsewhere: false,
+        }
+    }
 }
 
 /// What an entry is found by.
@@ -96,10 +118,23 @@ struct Entry<'a> {
     value: u64,
     /// Whether it is a label, and no constant, which can be defined again.
     is_label: bool,
+    /// The section of a label.
+    section: &'a [u8],
+    /// The address of that section in the reading.
+    start: u32,
     /// The latest reading in which its definition was met.
     met: Pass,
+    /// The number of that reading.
+    number: u32,
     /// Which entry comes next of those in the same slot. None of them: it is the last.
     next: usize,
+}
+
+impl Entry<'_> {
+    /// How far it is from the beginning of its section.
+    fn offset(self) -> u64 {
+        self.value.wrapping_sub(u64::from(self.start))
+    }
 }
 
 /// Where there is no entry.
@@ -117,6 +152,10 @@ pub struct Symbols<'a, A: Allocator = Global> {
     has_distances: bool,
     /// Whether memory was missing for an entry.
     is_full: bool,
+    /// Whether a label stands at another place of its section than in the reading before.
+    is_moved: bool,
+    /// The number of this reading.
+    number: u32,
     /// Which reading it is.
     pub pass: Pass,
 }
@@ -127,6 +166,8 @@ pub struct Scope<'a, 's> {
     entries: &'s [Entry<'a>],
     slots: &'s [usize],
     counts: [u32; 10],
+    /// The number of this reading.
+    number: u32,
     /// Which reading it is.
     pub pass: Pass,
 }
@@ -165,12 +206,32 @@ impl Scope<'_, '_> {
         }
     }
 
-    /// What is known of a symbol.
-    pub fn value_of(&self, name: &[u8]) -> Known {
+    /// What is known at a place of a symbol.
+    pub fn value_of(&self, name: &[u8], site: Site) -> Found {
         match self.entry(named(name)) {
-            Some(entry) if entry.met == self.pass => Known::Now(entry.value),
-            Some(entry) => Known::Later(entry.value),
-            None => self.absent(),
+            Some(entry) => self.found(entry, entry.number == self.number, site),
+            None => Found::plain(self.absent()),
+        }
+    }
+
+    /// What is known at a place of an entry, whose definition stands before or further on. A label
+    /// further on in the same section lies as far from its beginning as in the reading before.
+    fn found(&self, entry: Entry, is_before: bool, site: Site) -> Found {
+        let is_elsewhere = entry.is_label && entry.section != site.section;
+        let value = if is_before || !entry.is_label || is_elsewhere {
+            entry.value
+        } else {
+            entry.offset().wrapping_add(u64::from(site.start))
+        };
+        let known = if is_before {
+            Known::Now(value)
+        } else {
+            Known::Later(value)
+        };
+        Found {
+            known,
+            is_label: entry.is_label,
+            is_elsewhere,
         }
     }
 
@@ -183,15 +244,14 @@ impl Scope<'_, '_> {
         }
     }
 
-    /// What is known of the nearest local label of a digit, before or behind.
-    pub fn local_value(&self, digit: u8, is_before: bool) -> Known {
+    /// What is known at a place of the nearest local label of a digit, before or behind.
+    pub fn local_value(&self, digit: u8, is_before: bool, site: Site) -> Found {
         let count = self.counts.get(usize::from(digit)).copied().unwrap_or(0);
         let number = count.wrapping_sub(u32::from(is_before));
         match self.entry(numbered(digit, number)) {
-            Some(entry) if is_before => Known::Now(entry.value),
-            Some(entry) => Known::Later(entry.value),
-            None if is_before => Known::Never,
-            None => self.absent(),
+            Some(entry) => self.found(entry, is_before, site),
+            None if is_before => Found::plain(Known::Never),
+            None => Found::plain(self.absent()),
         }
     }
 }
@@ -200,6 +260,8 @@ impl<'a, A: Allocator> Symbols<'a, A> {
     /// Begins another reading.
     pub fn begin(&mut self, pass: Pass) {
         self.counts = [0; 10];
+        self.is_moved = false;
+        self.number = self.number.saturating_add(1);
         self.pass = pass;
     }
 
@@ -209,8 +271,14 @@ impl<'a, A: Allocator> Symbols<'a, A> {
             entries: &self.entries,
             slots: &self.slots,
             counts: self.counts,
+            number: self.number,
             pass: self.pass,
         }
+    }
+
+    /// Whether a label stands at another place of its section than in the reading before.
+    pub fn is_moved(&self) -> bool {
+        self.is_moved
     }
 
     /// Whether a `%pcrel_hi` was met.
@@ -226,54 +294,75 @@ impl<'a, A: Allocator> Symbols<'a, A> {
     /// Keeps how far a `%pcrel_hi` reaches.
     pub fn keep_distance(&mut self, address: u32, distance: u32) {
         self.has_distances = true;
-        self.put(numbered(DISTANCE, address), u64::from(distance), false);
+        self.put(self.constant(numbered(DISTANCE, address), u64::from(distance)));
     }
 
-    /// Defines a local label of a digit.
-    pub fn define_local(&mut self, digit: u8, address: u32) {
+    /// Defines a local label of a digit at a place.
+    pub fn define_local(&mut self, digit: u8, site: Site<'a>) {
         if let Some(count) = self.counts.get_mut(usize::from(digit)) {
             let key = numbered(digit, *count);
             *count = count.saturating_add(1);
-            self.put(key, u64::from(address), true);
+            self.put(self.label(key, site));
         }
     }
 
-    /// Defines a label, or a constant. Tells what is wrong with it: it is defined already, or it is
-    /// the name of a register, or `.`.
-    pub fn define(
-        &mut self,
-        name: &'a [u8],
-        value: u64,
-        is_label: bool,
-    ) -> Option<SourceErrorKind> {
-        if register_number(name).is_some() {
-            return Some(SourceErrorKind::Reserved);
-        }
-        if name == b".".as_slice() {
+    /// Defines a label at a place. Tells what is wrong with it: it is defined already, or it is `.`.
+    pub fn define_label(&mut self, name: &'a [u8], site: Site<'a>) -> Option<SourceErrorKind> {
+        self.define(self.label(named(name), site))
+    }
+
+    /// Defines a constant. Tells what is wrong with it, as of a label. It can be defined again.
+    pub fn define_constant(&mut self, name: &'a [u8], value: u64) -> Option<SourceErrorKind> {
+        self.define(self.constant(named(name), value))
+    }
+
+    /// Puts a symbol that is not defined in this reading.
+    fn define(&mut self, entry: Entry<'a>) -> Option<SourceErrorKind> {
+        if entry.key.name == b".".as_slice() {
             return Some(SourceErrorKind::Unsupported);
         }
-        if let Some(old) = self.scope().entry(named(name)) {
-            if (is_label || old.is_label) && (old.met == self.pass || old.is_label != is_label) {
+        if let Some(old) = self.scope().entry(entry.key) {
+            let is_met = old.number == self.number;
+            let are_labels = entry.is_label == old.is_label;
+            if (entry.is_label || old.is_label) && (is_met || !are_labels) {
                 return Some(SourceErrorKind::Duplicate);
             }
         }
-        self.put(named(name), value, is_label);
+        self.put(entry);
         None
     }
 
-    /// Puts a value in the place of the one with this key, or behind all.
-    fn put(&mut self, key: Key<'a>, value: u64, is_label: bool) {
-        let entry = Entry {
+    /// The entry of a label at a place.
+    fn label(&self, key: Key<'a>, site: Site<'a>) -> Entry<'a> {
+        Entry {
+            is_label: true,
+            section: site.section,
+            start: site.start,
+            ..self.constant(key, u64::from(site.here))
+        }
+    }
+
+    /// The entry of what is no label.
+    fn constant(&self, key: Key<'a>, value: u64) -> Entry<'a> {
+        Entry {
             key,
             value,
-            is_label,
+            is_label: false,
+            section: &[],
+            start: 0,
             met: self.pass,
+            number: self.number,
             next: NONE,
-        };
-        let index = self.scope().find(key);
+        }
+    }
+
+    /// Puts an entry in the place of the one with its key, or behind all.
+    fn put(&mut self, entry: Entry<'a>) {
+        let index = self.scope().find(entry.key);
         match self.entries.get_mut(index) {
             Some(old) => {
                 let next = old.next;
+                self.is_moved |= entry.is_label && old.offset() != entry.offset();
                 *old = Entry { next, ..entry };
             }
             None => self.add(entry),
@@ -321,6 +410,8 @@ impl<'a, A: Allocator + Copy> Symbols<'a, A> {
             counts: [0; 10],
             has_distances: false,
             is_full: false,
+            is_moved: false,
+            number: 0,
             pass: Pass::First,
         }
     }

@@ -83,7 +83,7 @@ const MISTAKES = [
   ["la a0, ¦mesage\nmessage: nop", "symbol is not defined: mesage; is message meant?"],
   ["li a0, ¦x\nx = 3", "symbol is defined later, and its value is wanted here: x"],
   ["a: nop\n¦a: nop", "symbol is defined already: a, in line 1"],
-  ["¦sp: nop", "the name of a register can't be a symbol: sp"],
+  ["li a0, ¦ff", "symbol is not defined: ff; is 0xff meant?"],
   ["¦.section foo", "a section needs a name, and flags where its name says nothing"],
   [".bss\n¦.word 1",
     "this section holds zeros only; .space is written here, and .data before numbers"],
