@@ -58,6 +58,9 @@ pub fn conclude<A: Allocator + Copy>(
         return cursor.fail(start.with_kind(MacroErrorKind::SecondElse));
     }
     let is_else = matches!(directive, Directive::Else);
+    if is_else {
+        cursor.end();
+    }
     let holds = if is_else || condition.is_done {
         is_else
     } else {

@@ -1,10 +1,10 @@
 //! Expanding a source.
 
-ghost use Rattle.std.specs.Prelude.{◌≡◌, ℕ, ◌≤◌, false, true, length, IfOk, OnOk, IfErr};
+ghost use Rattle.std.specs.Prelude.{◌≡◌, ℕ, ◌≤◌, false, true, [], ◌∷◌, ◌++◌, length, IfOk, OnOk, IfErr, IfSome};
 ghost use Rattle.std.specs.List.{list_any};
 ghost use Rattle.rrs_macros.specs.Directives.{begins_one, has_directives};
 ghost use Rattle.rrs_macros.specs.Expansion.{IsExpansion};
-ghost use Rattle.rrs_macros.specs.Lines.{IsMade, IsMapped, IsSame, KeepsAbove, lines};
+ghost use Rattle.rrs_macros.specs.Lines.{IsLine, IsMade, IsMapped, IsSame, KeepsAbove, lines};
 
 use crate::blocks::height;
 use crate::errors::{Halt, MacroError, MacroErrorKind, MacroFault, Slip};
@@ -268,14 +268,16 @@ fn completed<A: Allocator + Copy>(out: Expanded<A>, total: usize) -> Result<Expa
     Ok(out)
 }
 
-/// Appends a part of a text, if one is put, as a line of one of so many lines of the source.
+/// Appends a part of a text, if one is put, as a line of its line of the source, which has so many.
 fn put_span<A: Allocator + Copy>(
     out: &mut Expanded<A>,
     text: &[u8],
     span: Option<Span>,
     total: usize,
 ) -> Result<(), AllocError>
-    ensures { 1 ≤ total → IsMade total out.old → OnOk result (IsMade total out.new) }
+    ensures made { 1 ≤ total → IsMade total out.old → OnOk result (IsMade total out.new) }
+    ensures number { IfSome span (λ s. IsLine total s.number
+        → OnOk result (out.new.lines.items ≡ out.old.lines.items ++ s.number ∷ [])) }
 {
     match span {
         Some(span) => {

@@ -36,7 +36,7 @@ pub const PREFIXES: [(&[u8], Operator); 4] = [
 ];
 
 /// The operators between two values. One with which another begins stands behind that.
-pub const INFIXES: [(&[u8], Operator); 20] = [
+pub const INFIXES: [(&[u8], Operator); 21] = [
     (b"<<", Operator::ShiftLeft),
     (b">>", Operator::ShiftRight),
     (b"<=", Operator::Compared(Comparison::LessOrEqual)),
@@ -46,6 +46,7 @@ pub const INFIXES: [(&[u8], Operator); 20] = [
     (b"==", Operator::Compared(Comparison::Equal)),
     (b"&&", Operator::Both),
     (b"||", Operator::Either),
+    (b"!!", Operator::Xor),
     (b"*", Operator::Multiply),
     (b"/", Operator::Divide),
     (b"%", Operator::Remainder),

@@ -1,6 +1,6 @@
 //! The result: its text, and the line of the source that each of its lines is of.
 
-ghost use Rattle.std.specs.Prelude.{◌≡◌, ℕ, ◌≤◌, length, OnOk, IfOk};
+ghost use Rattle.std.specs.Prelude.{◌≡◌, ℕ, ◌≤◌, [], ◌∷◌, ◌++◌, length, OnOk, IfOk};
 ghost use Rattle.rrs_macros.specs.Lines.{IsLine, IsMade, IsSame};
 
 use crate::blocks::height;
@@ -30,8 +30,9 @@ impl<A: Allocator + Copy> Expanded<A> {
 
     /// Appends the first line of a text, which is of a line of the source.
     pub fn put(&mut self, text: &[u8], number: usize) -> Result<(), AllocError>
-        ensures { (total : ℕ) → IsLine total number → IsMade total self.old
+        ensures made { (total : ℕ) → IsLine total number → IsMade total self.old
             → OnOk result ((1 ≤ length self.new.lines.items) × IsMade total self.new) }
+        ensures number { OnOk result (self.new.lines.items ≡ self.old.lines.items ++ number ∷ []) }
     {
         let (line, _) = first_line(text);
         if !self.lines.is_empty() {

@@ -213,7 +213,7 @@ fn call<A: Allocator + Copy>(
     tables.calls = tables.calls.saturating_add(1);
     let frame = lines?;
     let left = operands.len().saturating_add(site.behind);
-    tables.spend(frame.text.len(), left);
+    tables.enter(frame.text.len(), left);
     Some(frame)
 }
 
@@ -336,7 +336,7 @@ fn repeat<A: Allocator + Copy>(
     if cursor.mistake.is_some() {
         return None;
     }
-    tables.spend(text.len(), much.left);
+    tables.enter(text.len(), much.left);
     Some(Frame::new(tables.alloc, text, first, height(inside), copies))
 }
 

@@ -11,8 +11,11 @@ use crate::symbols::Symbols;
 use std::alloc::Allocator;
 use std::collections::BTreeMap;
 
-/// The most bytes of lines that are read, each as often as it is read.
-const MOST_READ: usize = 0x1000_0000;
+/// The most bytes of lines that are read, each as often as it is read: 64 MiB.
+const MOST_READ: usize = 0x400_0000;
+
+/// What a call, and a repetition, counts beside its lines, in bytes that are read.
+const OF_ENTRY: usize = 256;
 
 /// The lines of a macro.
 #[derive(Drop)]
@@ -81,6 +84,11 @@ impl<A: Allocator + Copy> Tables<A> {
                 self.keep(Some(Halt::Slip(Slip { kind, left })));
             }
         }
+    }
+
+    /// Counts lines of so many bytes that are read next: a call's, or a repetition's.
+    pub fn enter(&mut self, bytes: usize, left: usize) {
+        self.spend(bytes.saturating_add(OF_ENTRY), left);
     }
 
     /// Whether a word is the name of a macro, in capitals or not.

@@ -5,8 +5,12 @@ use rrs_asm::image;
 use std::alloc::Global;
 
 /// Sources with macros, conditions and repetitions, and their bytes.
-static ROWS: [(&str, &[u8]); 42] = [
+static ROWS: [(&str, &[u8]); 43] = [
     (".rept 3\n.byte 1\n.endr\n.byte 2", &[1, 1, 1, 2]),
+    (
+        ".if 5!!3 - 6\n.byte 1\n.else\n.byte 5!!3, 5!3\n.endif",
+        &[6, 253],
+    ),
     (".REPT 2; .byte 1; .ENDR; .byte 2", &[1, 1, 2]),
     (
         ".rep 2\n.byte 1\n.rept 2\n.byte 2\n.endr\n.endr",

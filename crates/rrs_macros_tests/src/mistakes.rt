@@ -5,7 +5,7 @@ use rrs_macros::{MacroError, MacroErrorKind, MacroFault};
 use std::alloc::Global;
 
 /// Sources, each with the line and the column of its mistake.
-static MISTAKES: [(&str, usize, usize, MacroErrorKind); 32] = [
+static MISTAKES: [(&str, usize, usize, MacroErrorKind); 34] = [
     (".macro a\nnop", 1, 1, MacroErrorKind::Unended),
     (".rept 2\nnop\n.endm", 1, 1, MacroErrorKind::Unended),
     (
@@ -70,6 +70,13 @@ static MISTAKES: [(&str, usize, usize, MacroErrorKind); 32] = [
     (".rept -1\n.endr", 1, 7, MacroErrorKind::Negative),
     (".ifc a\n.endif", 1, 6, MacroErrorKind::Strings),
     (".if 1 2\n.endif", 1, 7, MacroErrorKind::More),
+    (".if 0\n.else junk\n.endif", 2, 7, MacroErrorKind::More),
+    (
+        ".if 0\n.if 1\n.else junk\n.endif\n.endif",
+        3,
+        7,
+        MacroErrorKind::More,
+    ),
     (".macro a\na\n.endm\na", 2, 1, MacroErrorKind::Deep),
     (".rept 0x4000000\nnop\n.endr", 1, 7, MacroErrorKind::Much),
     (

@@ -4,7 +4,7 @@ use Rattle.rrs_macros.specs.Lines.{IsMade}
 use Rattle.rrs_macros.proofs.expanding.put_span.Goals as goal
 
 -- the number is that of a line
-pub returns-in-Some : goal.returns-in-Some
-returns-in-Some g c = λ some made.
+pub returns-in-Some-clause-made : goal.returns-in-Some-clause-made
+returns-in-Some-clause-made g c = λ some made.
     let made_so : ((1 ≤ length c.put.new.self.lines.items) × IsMade c.args.total c.put.new.self) → IsMade c.args.total c.put.new.self = λ both. both.1 in
-    on_ok_weaker _ made_so (c.put.ensures c.args.total (omega (arith, c.min.ensures, c.max.ensures, some), omega (arith, c.min.ensures, c.max.ensures, some)) made)
+    on_ok_weaker _ made_so (c.put.ensures.made c.args.total (omega (arith, c.min.ensures, c.max.ensures, some), omega (arith, c.min.ensures, c.max.ensures, some)) made)
