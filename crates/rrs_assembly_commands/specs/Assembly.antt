@@ -1,10 +1,11 @@
 -- What the words of `rrs as` ask for, by its usage, and what is made of a source then. The words
 -- are lists of bytes, and the first of them is the subcommand's own.
 --
---   rrs as [--gnu | --list] [-o OUTPUT] [--rars] [-Ttext ADDRESS] [-Tdata ADDRESS] FILE
+--   rrs as [--gnu | --list] [-o OUTPUT] [--rars] [-Ttext ADDRESS] [-Tdata ADDRESS]
+--       [--incbin-anywhere] FILE
 --
 -- Options stand before FILE and behind it.
-use Rattle.std.specs.Prelude.{ℕ, ◌%◌, ◌≡◌, ◌≤◌, ◌⊎◌, List, [], ◌∷◌, length, take, drop, Option, Some, None, IsSome, Result, Ok, Err, option_map, codes}
+use Rattle.std.specs.Prelude.{ℕ, ◌%◌, ◌≡◌, ◌≤◌, ◌⊎◌, Bool, true, false, List, [], ◌∷◌, length, take, drop, Option, Some, None, IsSome, Result, Ok, Err, option_map, codes}
 use Rattle.std.specs.Option.{option_map_or}
 use Rattle.std.specs.Str.Parse.{IsNumeral, digits_value}
 use Rattle.std.specs.declared.alloc.Global.{Global}
@@ -22,17 +23,19 @@ use Rattle.rrs_requests.specs.declared.refusal.Refusal.TheVariants.{WrongAddress
 use Rattle.rrs_assembly_commands.specs.Files.{Includes}
 use Rattle.rrs_assembly_commands.specs.declared.assembly_requests.Form.{Form}
 use Rattle.rrs_assembly_commands.specs.declared.assembly_requests.AssemblyOption.{AssemblyOption}
-use Rattle.rrs_assembly_commands.specs.declared.assembly_requests.AssemblyOption.TheVariants.{Gnu, Listed, Rars, Text, Data, Output}
+use Rattle.rrs_assembly_commands.specs.declared.assembly_requests.AssemblyOption.TheVariants.{Gnu, Listed, Rars, Anywhere, Text, Data, Output}
 use Rattle.rrs_assembly_commands.specs.declared.assembly_requests.AssemblyRequest.{AssemblyRequest}
 
 -- ---- what the words ask for
 
 -- What is asked for: in which form the program is printed, where its first section lies, and the
--- first one with data that can be written, the path of the executable, and that of the source.
+-- first one with data that can be written, whether the source may name files by any path, the path
+-- of the executable, and that of the source.
 pub record Wanted : Type 0 where
   pub form : Form
   pub text_start : Option ℕ
   pub data_start : Option ℕ
+  pub has_any_file : Bool
   pub output : Option (List ℕ)
   pub file : Option (List ℕ)
 
@@ -42,6 +45,7 @@ unasked = record {
   form = Form.Bytes;
   text_start = None;
   data_start = None;
+  has_any_file = false;
   output = None;
   file = None;
 }
@@ -51,6 +55,7 @@ wanted_of request = record {
   form = request.form;
   text_start = request.text_start;
   data_start = request.data_start;
+  has_any_file = request.has_any_file;
   output = option_map (λ path. path.now) request.output;
   file = option_map (λ path. path.now) request.path;
 }
@@ -60,6 +65,7 @@ abbrev pub word_of : AssemblyOption → List ℕ
 word_of Gnu = codes "--gnu"
 word_of Listed = codes "--list"
 word_of Rars = codes "--rars"
+word_of Anywhere = codes "--incbin-anywhere"
 word_of Text = codes "-Ttext"
 word_of Data = codes "-Tdata"
 word_of Output = codes "-o"
@@ -96,6 +102,8 @@ TakesOption Listed old words new left = (new ≡ record old { form = Form.Listin
 TakesOption Rars old words new left =
     (new ≡ record old { text_start = Some 0x40_0000; data_start = Some 0x1001_0000 })
     × (words ≡ left)
+TakesOption Anywhere old words new left =
+    (new ≡ record old { has_any_file = true }) × (words ≡ left)
 TakesOption Text old words new left =
     (address : ℕ) × BeginsWithAddress words address left
     × (new ≡ record old { text_start = Some address })
@@ -110,6 +118,7 @@ abbrev pub RefusesWords : AssemblyOption → List (List ℕ) → Refusal → Typ
 RefusesWords Gnu words refusal = ⊥
 RefusesWords Listed words refusal = ⊥
 RefusesWords Rars words refusal = ⊥
+RefusesWords Anywhere words refusal = ⊥
 RefusesWords Text words refusal = RefusesAddress words refusal
 RefusesWords Data words refusal = RefusesAddress words refusal
 RefusesWords Output words refusal = RefusesNoWord words refusal

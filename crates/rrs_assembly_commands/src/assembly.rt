@@ -71,7 +71,7 @@ pub fn products_of<H: Files + Eprint + AllocGlobal>(
 {
     let layout = request.layout();
     let expanded = expanded_of(rt, path, source)?;
-    let whole = with_files(rt, path, expanded)?;
+    let whole = with_files(rt, path, expanded, request.has_any_file)?;
     let program = program_of(rt, path, request, &whole, layout)?;
     let executable = executable_for(rt.alloc(), request, &program)?;
     let text = text_of(rt.alloc(), request, &whole, &program, layout.text_start)?;

@@ -39,6 +39,8 @@ pub struct AssemblyRequest<'a> {
     pub text_start: Option<u32>,
     /// Where the first section with data that can be written lies, if a word says it.
     pub data_start: Option<u32>,
+    /// Whether the source may name files by any path.
+    pub has_any_file: bool,
     /// The path of the executable that is written, if one is.
     pub output: Option<&'a str>,
     /// The path of the source.
@@ -73,6 +75,8 @@ enum AssemblyOption {
     Listed,
     /// `--rars`.
     Rars,
+    /// `--incbin-anywhere`.
+    Anywhere,
     /// `-Ttext`, before an address.
     Text,
     /// `-Tdata`, before an address.
@@ -89,6 +93,7 @@ fn option_of(word: &str) -> Option<AssemblyOption>
         "--gnu" => Some(AssemblyOption::Gnu),
         "--list" => Some(AssemblyOption::Listed),
         "--rars" => Some(AssemblyOption::Rars),
+        "--incbin-anywhere" => Some(AssemblyOption::Anywhere),
         "-Ttext" => Some(AssemblyOption::Text),
         "-Tdata" => Some(AssemblyOption::Data),
         "-o" => Some(AssemblyOption::Output),
@@ -113,6 +118,7 @@ pub fn assembly_request_of(words: &[String]) -> Result<AssemblyRequest<'_>, Refu
         form: Form::Bytes,
         text_start: None,
         data_start: None,
+        has_any_file: false,
         output: None,
         path: None,
     };
@@ -192,6 +198,10 @@ fn take_option<'a>(
         AssemblyOption::Rars => {
             request.text_start = Some(RARS_TEXT);
             request.data_start = Some(RARS_DATA);
+            words
+        }
+        AssemblyOption::Anywhere => {
+            request.has_any_file = true;
             words
         }
         AssemblyOption::Text => {

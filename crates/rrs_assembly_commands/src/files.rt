@@ -1,7 +1,8 @@
 //! The files that a source names by `.incbin`.
 //!
 //! A statement `.incbin "NAME", SKIP, COUNT` becomes a `.byte` with the bytes of the file, in the
-//! same line. The file is looked for beside the source.
+//! same line. The file is looked for beside the source, or in a folder there. Another path, and what
+//! is no file, is refused, unless the caller allows any.
 
 ghost use Rattle.std.specs.Prelude.{◌≡◌, true, IfOk};
 ghost use Rattle.rrs_assembly_commands.specs.Files.{Includes, NamesFile};
@@ -12,6 +13,7 @@ use rrs_lines::{Part, begins_with, behind_blanks, first_line, first_part, split_
 use rrs_macros::Expanded;
 use rrs_requests::refusal::{Refusal, out_of_memory};
 use std::alloc::{AllocError, Global};
+use std::fs;
 use std::rt::Files;
 
 /// The name of the directive.
@@ -33,14 +35,16 @@ struct Request<'a> {
 struct Place<'a> {
     /// The path of the source.
     path: &'a str,
+    /// Whether it may name files by any path.
+    has_any_file: bool,
     /// The number of the line.
     line: usize,
     /// The column of the statement.
     column: usize,
 }
 
-/// A text with the bytes of the files that it names. One that names none is as it was. Mistakes are
-/// printed.
+/// A text with the bytes of the files that it names, which lie beside the source, or where any path
+/// is allowed anywhere. One that names none is as it was. Mistakes are printed.
 ///
 /// # Errors
 ///
@@ -50,13 +54,14 @@ pub fn with_files<H: Files + Eprint + AllocGlobal>(
     rt: &H,
     path: &str,
     expanded: Expanded,
+    has_any_file: bool,
 ) -> Result<Expanded, Refusal>
     ensures { IfOk result (λ made. Includes expanded.text.items made.text.items) }
 {
     if !names_file(&expanded.text) {
         return Ok(expanded);
     }
-    let text = text_with_files(rt, path, &expanded)?;
+    let text = text_with_files(rt, path, &expanded, has_any_file)?;
     let lines = expanded.lines;
     Ok(Expanded { text, lines })
 }
@@ -66,6 +71,7 @@ fn text_with_files<H: Files + Eprint + AllocGlobal>(
     rt: &H,
     path: &str,
     expanded: &Expanded,
+    has_any_file: bool,
 ) -> Result<Vec<u8>, Refusal> {
     let mut text = Vec::new(rt.alloc());
     let mut rest = Some(expanded.text.as_slice());
@@ -75,8 +81,13 @@ fn text_with_files<H: Files + Eprint + AllocGlobal>(
             break;
         };
         let (line, others) = first_line(left);
-        let number = number_of(&expanded.lines, number);
-        match put_line(rt, path, number, line, &mut text) {
+        let place = Place {
+            path,
+            has_any_file,
+            line: number_of(&expanded.lines, number),
+            column: 1,
+        };
+        match put_line(rt, place, line, &mut text) {
             Ok(()) => (),
             Err(Refusal::SourceErrors) => wrong = wrong.saturating_add(1),
             Err(refusal) => return Err(refusal),
@@ -119,8 +130,7 @@ fn push(text: &mut Vec<u8>, bytes: &[u8]) -> Result<(), Refusal> {
 /// Appends a line, with the bytes of the files that its statements name.
 fn put_line<H: Files + Eprint + AllocGlobal>(
     rt: &H,
-    path: &str,
-    number: usize,
+    place: Place<'_>,
     line: &[u8],
     text: &mut Vec<u8>,
 ) -> Result<(), Refusal> {
@@ -135,9 +145,8 @@ fn put_line<H: Files + Eprint + AllocGlobal>(
             .len()
             .saturating_sub(others.map_or(0, |others| others.len()));
         let place = Place {
-            path,
-            line: number,
             column: column_of(line, left),
+            ..place
         };
         put_part(rt, place, part, text)?;
         push(text, left.get(own..taken).unwrap_or(&[]))?;
@@ -179,14 +188,24 @@ fn put_part<H: Files + Eprint + AllocGlobal>(
 
 /// Prints what is wrong at a place.
 fn refuse<H: Eprint>(rt: &H, place: Place<'_>, what: &str) -> Result<(), Refusal> {
-    let Place { path, line, column } = place;
+    let Place {
+        path,
+        line,
+        column,
+        ..
+    } = place;
     let _ = eprintln!(rt; "{path}:{line}:{column}: {what}");
     Err(Refusal::SourceErrors)
 }
 
 /// Prints what is wrong with a file that is named at a place.
 fn refuse_file<H: Eprint>(rt: &H, place: Place<'_>, what: &str, name: &str) -> Result<(), Refusal> {
-    let Place { path, line, column } = place;
+    let Place {
+        path,
+        line,
+        column,
+        ..
+    } = place;
     let _ = eprintln!(rt; "{path}:{line}:{column}: {what}: {name}");
     Err(Refusal::SourceErrors)
 }
@@ -201,6 +220,10 @@ fn put_file<H: Files + Eprint + AllocGlobal>(
     let Ok(path) = beside(rt.alloc(), place.path, request.name) else {
         return Err(out_of_memory());
     };
+    if !place.has_any_file && !(is_inside(request.name) && is_file(rt, &path)) {
+        let what = "this is no file beside the source, which --incbin-anywhere allows";
+        return refuse_file(rt, place, what, &path);
+    }
     let bytes = match read_file(rt, &path) {
         Ok(bytes) => bytes,
         Err(Refusal::LargeSource) => return refuse_file(rt, place, "the file is too large", &path),
@@ -216,6 +239,26 @@ fn put_file<H: Files + Eprint + AllocGlobal>(
     match push_numbers(text, bytes) {
         Ok(()) => Ok(()),
         Err(_) => Err(out_of_memory()),
+    }
+}
+
+/// Whether a path is one from a folder into it: it does not begin at the root, and no part of it goes
+/// back.
+fn is_inside(name: &[u8]) -> bool {
+    for part in name.split(|byte| *byte == b'/') {
+        if part == b"..".as_slice() {
+            return false;
+        }
+    }
+    name.first() != Some(&b'/')
+}
+
+/// Whether nothing but a file has a path: a device or a folder is none. What is not there is left to
+/// who reads it.
+fn is_file<H: Files>(rt: &H, path: &str) -> bool {
+    match fs::metadata(rt, path) {
+        Ok(found) => found.is_file(),
+        Err(_) => true,
     }
 }
 

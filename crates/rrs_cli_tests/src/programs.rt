@@ -187,7 +187,7 @@ const COVER_USAGE: &str = "usage: rrs cover [--limit STEPS] [--memory BYTES] [--
 
 /// How `rrs as` is called.
 const ASSEMBLE_USAGE: &str = "usage: rrs as [--gnu | --list] [-o OUTPUT] [--rars] \
-    [-Ttext ADDRESS]\n    [-Tdata ADDRESS] FILE\n";
+    [-Ttext ADDRESS]\n    [-Tdata ADDRESS] [--incbin-anywhere] FILE\n";
 
 /// What is said of a word that is no address.
 const NO_ADDRESS: &str = "rrs as: an address has 0x and hexadecimal digits, is below 2^32, \

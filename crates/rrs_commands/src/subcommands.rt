@@ -149,7 +149,7 @@ const ASSEMBLE: Subcommand = Subcommand {
     command: Command {
         name: "rrs as",
         usage: "rrs as [--gnu | --list] [-o OUTPUT] [--rars] [-Ttext ADDRESS]
-    [-Tdata ADDRESS] FILE",
+    [-Tdata ADDRESS] [--incbin-anywhere] FILE",
     },
     summary: "assembles a source, and writes the bytes of the program",
     help: "Writes the bytes of the program to standard output, the first for address 0; or
@@ -159,7 +159,8 @@ it begins at _start, else at main, else at its first byte. --list prints the sou
 with the address and the word of each line, and --gnu a source of the same bytes that
 GNU as takes. -Ttext says where the first section lies, and -Tdata where the first
 one with data that can be written does, each by 0x and hexadecimal digits; --rars
-says 0x400000 and 0x10010000. Options stand before FILE and behind it.
+says 0x400000 and 0x10010000. .incbin takes a file beside FILE, or in a folder there;
+--incbin-anywhere takes any path. Options stand before FILE and behind it.
 
 Each mistake is a line on standard error, FILE:LINE:COLUMN: and what is wrong, and
 nothing is written then.
