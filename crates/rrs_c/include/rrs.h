@@ -552,7 +552,7 @@ typedef struct rrs_assembled {
     size_t mistakes;   /* How many mistakes, at most 20. */
     size_t texts;      /* How many bytes the labels' names have, or the texts of the mistakes. */
     size_t room;       /* Of RRS_SMALL_ROOM how large a room to lend the next time, at least twice
-                        * as large, and else 0. */
+                        * as large, less than 512 MiB, and else 0. */
 } rrs_assembled;
 
 /* Assembles the `source_length` bytes at `source`, as `rrs as` does: RV32I with multiply and
@@ -566,7 +566,8 @@ typedef struct rrs_assembled {
  *   labels, section by section in the order of their addresses, and in `texts` the labels' names.
  * - RRS_MISTAKES: the mistakes, and in `texts` what is told of each. There are 20 at most, and none
  *   that only follows from another.
- * - RRS_SMALL_ROOM: nothing. All counts are 0.
+ * - RRS_SMALL_ROOM: nothing. All counts are 0. A source for which a room of 256 MiB or more is too
+ *   small has a mistake instead, at line 1. What is freed in a room is not used again.
  * - RRS_SMALL_BUFFER: nothing. The counts say how many of each there are.
  * What is behind the counts stays as it is. Texts lie one behind the other. */
 rrs_assembled rrs_assemble(const uint8_t *source, size_t source_length, uint32_t start,

@@ -6,7 +6,7 @@ ghost use Rattle.rrs_lent.specs.Steps.{counted};
 
 use crate::buffers::put;
 use crate::outcome::{RrsAssembled, RrsMistake, RrsStatement, RrsSymbol, SMALL_BUFFER};
-use crate::told::{Told, told_of};
+use crate::told::{Told, told_at_last};
 use std::alloc::{AllocError, Allocator};
 
 /// Assembles a source, whose sections lie one behind the other from an address on, and puts what is
@@ -16,11 +16,13 @@ use std::alloc::{AllocError, Allocator};
 ///
 /// # Errors
 ///
-/// Out of memory.
+/// Out of memory, if this is not the last time that memory is lent. At the last time that is a
+/// mistake.
 pub fn assemble_into<A: Allocator + Copy>(
     alloc: A,
     source: &[u8],
     start: u32,
+    is_last: bool,
     bytes: &mut [u8],
     statements: &mut [RrsStatement],
     symbols: &mut [RrsSymbol],
@@ -55,7 +57,7 @@ pub fn assemble_into<A: Allocator + Copy>(
     ensures kept { OnErr result ((bytes.new ≡ bytes.old) × (statements.new ≡ statements.old)
         × (symbols.new ≡ symbols.old) × (mistakes.new ≡ mistakes.old) × (texts.new ≡ texts.old)) }
 {
-    let told = told_of(alloc, source, start)?;
+    let told = told_at_last(alloc, source, start, is_last)?;
     let counts = counts_of(&told);
     let fits = counts.bytes <= bytes.len()
         && counts.statements <= statements.len()

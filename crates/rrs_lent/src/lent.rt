@@ -14,13 +14,18 @@ use std::alloc::Allocator;
 /// The least memory that is asked for where there was too little.
 const LEAST_ROOM: usize = 0x1_0000;
 
+/// The least memory of which no more is asked for: 256 MiB. Where that is too little, the source is
+/// refused.
+const MOST_ROOM: usize = 0x1000_0000;
+
 /// Assembles a source in memory that is lent, and gives the memory back. What the source becomes
 /// without its macros is assembled, with sections one behind the other from an address on. What is
 /// told of it is put at the front of the buffers: of a program its bytes, statements and labels
 /// with their names (`assembled`), of mistakes what they are (`refused`). What is behind it stays.
 ///
 /// Where a buffer is too small none is written (`unwritten`), and the counts say how many of each
-/// there are (`needed`). Where the memory is too small all counts are 0 (`no_room`).
+/// there are (`needed`). Where the memory is too small all counts are 0 (`no_room`); where it has
+/// 256 MiB or more and is too small, that is a mistake of the source.
 pub fn assemble_lent(
     source: &[u8],
     start: u32,
@@ -62,12 +67,13 @@ pub fn assemble_lent(
 {
     let heap = LentHeap::new(room.take());
     let next = next_size(heap.size());
+    let is_last = heap.size() >= MOST_ROOM;
     let Ok(arena) = heap.arena() else {
         *room = heap.into_room();
         return without_room(next);
     };
     let told = assemble_into(
-        &arena, source, start, bytes, statements, symbols, mistakes, texts,
+        &arena, source, start, is_last, bytes, statements, symbols, mistakes, texts,
     );
     drop(arena);
     *room = heap.into_room();

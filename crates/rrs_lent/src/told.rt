@@ -42,12 +42,35 @@ const TOO_LONG: SourceError = SourceError {
     kind: SourceErrorKind::TooLong,
 };
 
-/// What is told of a source whose first section lies at an address.
-pub(crate) fn told_of<A: Allocator + Copy>(
+/// What is told of a source that takes more memory than is lent.
+const TOO_LARGE: &str = "what the source makes needs more than 256 MiB of memory";
+
+/// What is told of a source whose first section lies at an address, and at the last time that memory
+/// is lent also where that is too little.
+pub(crate) fn told_at_last<A: Allocator + Copy>(
     alloc: A,
     source: &[u8],
     start: u32,
+    is_last: bool,
 ) -> Result<Told<A>, AllocError>
+    ensures { IfOk result (IsTold source.now start) }
+{
+    let mut text = String::new(alloc);
+    text.push_str(TOO_LARGE)?;
+    let mistake = Mistake {
+        line: 1,
+        column: 1,
+        text,
+    };
+    let large = told_refused(alloc, &[mistake])?;
+    match told_of(alloc, source, start) {
+        Err(_) if is_last => Ok(large),
+        told => told,
+    }
+}
+
+/// What is told of a source whose first section lies at an address.
+fn told_of<A: Allocator + Copy>(alloc: A, source: &[u8], start: u32) -> Result<Told<A>, AllocError>
     ensures { IfOk result (IsTold source.now start) }
 {
     let plain = without_block_comments(alloc, source)?;
