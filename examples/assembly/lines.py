@@ -5,6 +5,8 @@ usage: lines.py SEED COUNT            a source of so many statements, all of the
        lines.py SEED COUNT changed    lines of such a source, cut short or with a byte changed
        lines.py SEED COUNT each       of so many lines each beginning, and each with one byte
                                       changed, at each place
+       lines.py --behind FOLDER       of each directive a source, one of which has a text behind it
+                                      that it does not take
        lines.py --refused SOURCE ERRORS   the lines of a source that GNU as refuses, by the errors
                                       that it printed, but for those that docs/ASSEMBLY.md names;
                                       the status is 1 where there is one
@@ -25,6 +27,19 @@ BRANCHES = "beq bne blt bltu bge bgeu".split()
 SWAPPED = "bgt ble bgtu bleu".split()
 AGAINST_ZERO = "beqz bnez blez bgez bltz bgtz".split()
 OF_ONE = "mv not neg seqz snez sltz sgtz".split()
+INFIX = "!! ! ^ | & + - * == != <> < > <= >= && ||".split()
+# directives, and what each takes; `*` stands where the text goes
+DIRECTIVES = [
+    ".text*", ".data*", ".bss*", ".section .rodata*", '.section .x, "aw"*',
+    '.section .x, "aw", @progbits*', ".word 1*", ".half 1*", ".byte 1*", ".dword 1*", '.ascii "a"*',
+    '.asciz "a"*', '.string "a"*', ".fill 1, 1, 1*", ".align 2*", ".p2align 2, 0*", ".balign 4, 0, 4*",
+    ".space 4, 1*", ".zero 4*", ".skip 4*", ".org 8*", ".equ a, 1*", ".set a, 1*", "a = 1*",
+    ".option norvc*", ".option push*", ".comm a, 4, 4*", ".lcomm a, 4*",
+    ".macro m a = 1, b:req junk:vararg*\n.endm", ".macro m\n.endm\n.purgem m*", ".rept 2*\n.endr",
+    ".if 1*\n.endif", ".if 0\n.elseif 1*\n.endif", ".if 0\n.else*\n.endif", ".if 1\n.else*\n.endif",
+    ".if 0\n.if 1\n.else*\n.endif\n.endif", ".if 1\n.endif*", ".if 1\n.endc*", ".if 1\n.elsec*\n.endc",
+    ".ifdef a*\n.endif", ".ifndef a*\n.endif", '.ifeqs "a", "b"*\n.endif', '.ifnes "a", "b"*\n.endif',
+    ".ifeq 0*\n.endif", ".iflt 0*\n.endif"]
 EDGES = [0, 1, 2047, 2048, 2049, 4095, 4096, 0x7ffff7ff, 0x7ffff800, 0x7fffffff, 0x80000000,
          0xfffff7ff, 0xfffff800, 0xffffffff]
 
@@ -40,7 +55,6 @@ TAKES_NUMBER = {name.encode() for name in IMMEDIATE + SHIFTS + LOADS + STORES
 TWO_PLACES = re.compile(rb"(?<![\w.$])\.(?![\w.$]).*(?<![\w.$])\.(?![\w.$])")
 OPERATOR = re.compile(rb"[*/<>|&^!~=]|%(?!lo|hi|pcrel)")
 MINUS_PLACE = re.compile(rb"[-~!]\s*\.(?![\w.$])")
-FAR_HALF = re.compile(rb"%(?:hi|lo)\(.*[-~]\s*[0-9]{10}")
 PLACE_OPERATED = re.compile(rb"(?<![\w.$])\.(?![\w.$])\s*[*/<>|&^!~=%]")
 
 
@@ -80,6 +94,14 @@ class Source:
     def word(self):
         value = self.random.choice([self.random.getrandbits(32), self.random.choice(EDGES)])
         return self.random.choice([str(value), hex(value)])
+
+    def operated(self):
+        """A value of small numbers, with operators next to one another."""
+        text = str(self.random.randrange(16))
+        for _ in range(self.random.randrange(1, 6)):
+            signs = [self.random.choice("-~!") for _ in range(self.random.choice([0, 0, 1, 1, 2]))]
+            text += self.random.choice(INFIX) + "".join(signs) + str(self.random.randrange(16))
+        return text
 
     def separator(self):
         return self.random.choice([",", ", ", " , ", ",\t"])
@@ -154,10 +176,11 @@ class Source:
                 f".space {4 * self.random.randrange(5)}", f".zero {4 * self.random.randrange(5)}",
                 f".space {4 * self.random.randrange(5)}, {self.number(0, 255)}",
                 ".balign 4", ".p2align 2", ".align 3", ".balign 16",
-                ".text", ".globl first", f".word {self.word()} + 4 - 2"])
+                ".text", ".globl first", f".word {self.word()} - 4 + 2"])
         return pick([f".word constant - {self.random.randrange(9)}",
                      f".equ constant, {self.number(-2048, 2047)}",
                      f".set constant, {self.number(0, 5000)} + 3",
+                     f".word {join(self.operated(), self.operated())}",
                      f".word near{self.labels}, last"])
 
     def make(self, count):
@@ -206,8 +229,10 @@ def changed(source, count):
     for _ in range(count):
         line = pick.choice(lines).encode()
         at = pick.randrange(len(line) + 1)
-        kind = pick.randrange(4)
-        if kind == 0:
+        kind = pick.randrange(5)
+        if kind == 4:
+            yield line + pick.choice([b" junk", b" 1", b", 1", b' "a"', b" )", b" a0"])
+        elif kind == 0:
             yield line[:at]
         elif kind == 1:
             yield line[:at] + line[at + 1:]
@@ -228,13 +253,15 @@ def each(source, count):
 def is_named(statement):
     """Whether docs/ASSEMBLY.md says that GNU as refuses a statement: an address that is negated or
     added to another or has another operator than a sign, an address or %lo where it takes a number
-    alone, a load or a store by a constant, %hi or %lo of a number below -2^31, or `//`."""
+    alone, a load or a store by a constant, `//`, or a text behind a directive that is read over."""
     found = STATEMENT.match(statement)
     if b"//" in statement or not found:
         return bool(found)
     name, operands = found.groups()
+    if name == b".globl":
+        return True
     addresses = [symbol for symbol in SYMBOL.findall(operands) if symbol not in NUMBERS]
-    if FAR_HALF.search(operands) or addresses and OPERATOR.search(operands):
+    if addresses and OPERATOR.search(operands):
         return True
     if name in (b"la", b"call", b"tail"):
         return bool(NEGATED.search(operands)) or len(addresses) > 1
@@ -263,7 +290,17 @@ def refused(source, errors):
     return found
 
 
+def behind(folder):
+    """Writes a source of each directive, and the same with a text behind it."""
+    for number, directive in enumerate(DIRECTIVES):
+        for name, text in [("right", ""), ("behind", " junk")]:
+            with open(f"{folder}/{name}{number}.s", "w") as file:
+                file.write(directive.replace("*", text) + "\n")
+
+
 def main():
+    if sys.argv[1] == "--behind":
+        return behind(sys.argv[2])
     if sys.argv[1] == "--refused":
         sys.exit(refused(*sys.argv[2:]))
     kinds = {"changed": changed, "each": each}
