@@ -435,7 +435,7 @@ enum rrs_elf_refusal {
     RRS_ELF_FLOATING_POINT = 11,       /* e_flags has a floating-point ABI. */
     RRS_ELF_EMBEDDED = 12,             /* e_flags has RVE. */
     RRS_ELF_PROGRAM_HEADER_SIZE = 13,  /* e_phentsize is this number, and not 32. */
-    RRS_ELF_TOO_MANY_PROGRAM_HEADERS = 14, /* e_phnum is 0xffff. */
+    RRS_ELF_TOO_MANY_PROGRAM_HEADERS = 14, /* e_phnum is above 256. */
     RRS_ELF_PROGRAM_HEADERS_CUT_SHORT = 15, /* It ends within the program headers. */
     RRS_ELF_INTERPRETER = 16,          /* The segment of this number names a dynamic linker. */
     RRS_ELF_SEGMENT_CUT_SHORT = 17,    /* It ends within the segment of this number. */

@@ -117,11 +117,11 @@ flags_to : (file : List ℕ) → e_flags file % 2 ≡ 0 → e_flags file / 2 % 4
 unfolding flag_checks
 flags_to file c f e = grind (arith, nat_tests)
 
-table_from : (file : List ℕ) → first_refusal (table_checks file) ≡ Ok tt → (e_phentsize file ≡ 32) × (e_phnum file ≢ 0xffff) × (e_phoff file + 32 * e_phnum file ≤ length file)
+table_from : (file : List ℕ) → first_refusal (table_checks file) ≡ Ok tt → (e_phentsize file ≡ 32) × (e_phnum file ≤ 256) × (e_phoff file + 32 * e_phnum file ≤ length file)
 unfolding table_checks
-table_from file passed = (grind (arith, nat_tests, passed), (λ e. grind (arith, nat_tests, passed, e)), grind (arith, nat_tests, passed))
+table_from file passed = (grind (arith, nat_tests, passed), grind (arith, nat_tests, passed), grind (arith, nat_tests, passed))
 
-table_to : (file : List ℕ) → e_phentsize file ≡ 32 → e_phnum file ≢ 0xffff → e_phoff file + 32 * e_phnum file ≤ length file → first_refusal (table_checks file) ≡ Ok tt
+table_to : (file : List ℕ) → e_phentsize file ≡ 32 → e_phnum file ≤ 256 → e_phoff file + 32 * e_phnum file ≤ length file → first_refusal (table_checks file) ≡ Ok tt
 unfolding table_checks
 table_to file s n w = grind (arith, nat_tests)
 

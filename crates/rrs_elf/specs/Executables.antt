@@ -41,10 +41,9 @@ pub record IsExecutable (file : List ℕ) : Type 0 where
   pub not_compressed : e_flags file % 2 ≡ 0
   pub integers_only : e_flags file / 2 % 4 ≡ 0
   pub all_registers : e_flags file / 8 % 2 ≡ 0
-  -- program headers of 32 bytes, as many as the header says (PN_XNUM would leave that open), all of
-  -- them in the file
+  -- program headers of 32 bytes, 256 at most, all of them in the file
   pub header_size : e_phentsize file ≡ 32
-  pub counted : e_phnum file ≢ 0xffff
+  pub counted : e_phnum file ≤ 256
   pub headers_within : e_phoff file + 32 * e_phnum file ≤ length file
   -- it loads itself
   pub no_interpreter : (i : ℕ) → i < e_phnum file → p_type file i ≢ PT_INTERP

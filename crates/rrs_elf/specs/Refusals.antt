@@ -54,7 +54,7 @@ flag_checks file =
 unfoldable pub table_checks : List ℕ → List Check
 table_checks file =
     (not (e_phentsize file == 32), ProgramHeaderSize (e_phentsize file))
-    ∷ (e_phnum file == 0xffff, TooManyProgramHeaders)
+    ∷ (nat_lt 256 (e_phnum file), TooManyProgramHeaders)
     ∷ (nat_lt (length file) (e_phoff file + 32 * e_phnum file), ProgramHeadersCutShort)
     ∷ []
 

@@ -14,6 +14,9 @@ use crate::segments::{check_segments, one_segment_has};
 /// The size of an ELF header.
 const HEADER_SIZE: usize = 52;
 
+/// The most program headers that a file may have. Each is compared with those before it.
+const MOST_PROGRAM_HEADERS: u16 = 256;
+
 /// Whether a file begins with 0x7f and "ELF".
 fn is_elf(file: &[u8]) -> bool
     ensures { result ≡ begins_as_elf file.now }
@@ -101,7 +104,7 @@ fn check_table(file: &[u8]) -> Result<(), ElfError>
         return Err(ElfError::ProgramHeaderSize(size));
     }
     let count = read_header_count(file);
-    if count == 0xffff {
+    if count > MOST_PROGRAM_HEADERS {
         return Err(ElfError::TooManyProgramHeaders);
     }
     if file.len() < read_word(file, 28) as usize + 32 * usize::from(count) {

@@ -37,7 +37,7 @@ pub enum ElfError {
     Embedded,
     /// `e_phentsize` is this, and not 32.
     ProgramHeaderSize(u16),
-    /// `e_phnum` is 0xffff, `PN_XNUM`: there are as many program headers or more.
+    /// `e_phnum` is above 256: so many program headers no linker makes.
     TooManyProgramHeaders,
     /// The file ends within the program headers, by `e_phoff` and `e_phnum`.
     ProgramHeadersCutShort,
@@ -101,7 +101,7 @@ static TEXTS: [(&str, &str, &str); 30] = [
     ("ProgramHeaderSize", "e_phentsize is ", ", not 32"),
     (
         "TooManyProgramHeaders",
-        "e_phnum is 65535: too many program headers",
+        "e_phnum is above 256: too many program headers",
         "",
     ),
     (

@@ -9,7 +9,7 @@ use std::test::Fail;
 type Change = (usize, usize, usize, u32);
 
 /// Changes, each with the refusal and its text.
-static REFUSED: [(Change, ElfError, &str); 32] = [
+static REFUSED: [(Change, ElfError, &str); 33] = [
     ((428, 0, 1, 0x7e), ElfError::NotElf, "not an ELF file"),
     ((3, 0, 0, 0), ElfError::NotElf, "not an ELF file"),
     (
@@ -73,9 +73,14 @@ static REFUSED: [(Change, ElfError, &str); 32] = [
         "e_phentsize is 56, not 32",
     ),
     (
-        (428, 44, 2, 0xffff),
+        (428, 44, 2, 257),
         ElfError::TooManyProgramHeaders,
-        "e_phnum is 65535: too many program headers",
+        "e_phnum is above 256: too many program headers",
+    ),
+    (
+        (428, 44, 2, 256),
+        ElfError::ProgramHeadersCutShort,
+        "e_phoff, e_phnum: the file ends within the program headers",
     ),
     (
         (147, 0, 0, 0),
