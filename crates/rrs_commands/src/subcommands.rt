@@ -262,10 +262,10 @@ const HELP: Subcommand = Subcommand {
         name: "rrs",
         usage: "rrs run|exec|trace|cover|as|dis|elf|board|gdb|help ..",
     },
-    summary: "says this, as --help does",
-    help: "A subcommand's own --help says more, such as rrs run --help. The status is 0, 1
-where something fails, and 2 for other words; rrs exec, rrs trace and rrs
-cover end with that of their program.
+    summary: "prints this, or the help of a subcommand: rrs help run",
+    help: "rrs help run, rrs run --help and rrs run -h print the help of rrs run, and rrs --version
+the version. The status is 0, 1 where something fails, and 2 for other words; rrs exec,
+rrs trace and rrs cover end with that of their program.
 ",
 };
 
