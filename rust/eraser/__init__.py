@@ -1,0 +1,1 @@
+"""What writes the sources of Rattle as sources of Rust."""

@@ -1,0 +1,210 @@
+"""The crates that are written: which, of what, and their manifests."""
+
+import os
+import re
+from pathlib import Path
+
+from . import docs, rules, sites
+from .text import Code
+
+ROOT = Path(__file__).resolve().parent.parent.parent
+VERSION = "0.2.0"
+
+# The crates that do not go over, each with the reason.
+NOT_OVER = {
+    "rrs_c": "a static library: what it exports needs unsafe code",
+    "rrs_room": "an allocator of lent memory: Rust's containers take no allocator as yet",
+    "rrs_lent": "the assembler in lent memory, over rrs_room",
+    "rrs_cli_tests": "its machine is a runtime of the toolchain's, by traits that rattle_std has not",
+}
+# The modules that do not, in crates that do: they are tests of the crates above.
+MODULES_NOT_OVER = {("rrs_macros_tests", "lent"), ("rrs_macros_tests", "room")}
+# The modules that need the feature `std`, in crates that otherwise do not.
+NEED_STD = {("rrs_memory", "load"), ("rrs_board", "terminal")}
+# The crates with fields, functions or variants that a proof alone reads.
+READ_BY_PROOFS = {"rrs_asm", "rrs_cli", "rrs_tests"}
+# Crates of others: the folder of ours that stands for it without a registry, or always.
+OUTSIDE = {
+    "arrayvec": ("stand-in", "arrayvec", "0.7"),
+    "itoa": ("stand-in", "itoa", "1"),
+    "hex": ("own", "rrs-kit-hex", VERSION),
+    "circular_buffer": ("own", "rrs-kit-circular-buffer", VERSION),
+}
+HOST = re.compile(r"\bstd::(?:\{[^}]*\b)?(?:io|fs|env|rt|process|time|os)\b")
+
+
+def package_of(name):
+    """The name of a crate's package. That of rrs_lib is not the original's."""
+    if name in OUTSIDE:
+        return OUTSIDE[name][1]
+    return name if name == "rrs" else "rrs-kit-" + name.removeprefix("rrs_").replace("_", "-")
+
+
+def all_crates():
+    """Each crate that goes over, with the crates that it uses, in the order of crates.txt."""
+    crates = {}
+    for line in (ROOT / "crates.txt").read_text().splitlines():
+        if ":" in line and not line.startswith("#"):
+            head, used = line.split(":")
+            name = head.split()[0]
+            if name not in NOT_OVER:
+                crates[name] = [crate for crate in used.split() if crate not in NOT_OVER]
+    return {
+        name: [crate for crate in used if crate in crates or crate in OUTSIDE]
+        for name, used in crates.items()
+    }
+
+
+def with_all_below(crates, names):
+    """Crates with all that they use, in the order of the list."""
+    wanted = set(names)
+    while True:
+        more = {used for name in wanted for used in crates.get(name, ())} - wanted
+        if not more:
+            return [name for name in crates if name in wanted]
+        wanted |= more
+
+
+def source_files(name):
+    """The sources of a crate, each by its path from `crates/` on."""
+    found = []
+    for path in sorted((ROOT / "crates" / name / "src").rglob("*.rt")):
+        if (name, path.stem) not in MODULES_NOT_OVER:
+            found.append(path.relative_to(ROOT / "crates"))
+    return found
+
+
+def is_root(path):
+    """Whether a source is the root of its crate."""
+    return path.parts[1:] in (("src", "lib.rt"), ("src", "main.rt"))
+
+
+def needs_host(name):
+    """Whether a crate can't do without the feature `std`."""
+    for path in source_files(name):
+        text = (ROOT / "crates" / path).read_text()
+        if (name, path.stem) not in NEED_STD and HOST.search(text):
+            return True
+    return False
+
+
+def public_modules(name):
+    """The paths whose names an example in the docs may use: the crate, and its public modules."""
+    root = ROOT / "crates" / name / "src/lib.rt"
+    text = root.read_text() if root.exists() else ""
+    return [f"{name}::*", *(f"{name}::{module}::*" for module in re.findall(r"^pub mod (\w+);", text, re.M))]
+
+
+def erased(name, path, crates):
+    """The text of Rust of a source."""
+    text = sites.put(str(path), (ROOT / "crates" / path).read_text())
+    for crate, module in MODULES_NOT_OVER:
+        if crate == name:
+            text = re.sub(rf"#\[cfg\(test\)\]\nmod {module};\n", "", text)
+    for crate, module in NEED_STD:
+        if crate == name:
+            text = re.sub(rf"^((?:pub )?mod|pub use) {module}\b", rf'#[cfg(feature = "std")]\n\1 {module}', text, flags=re.M)
+    text = docs.clause_names_are_no_links(text)
+    code = Code(text)
+    ghosts = set(re.findall(r"\w+", " ".join(t.text for t in code.tokens if t.kind in ("ghost", "clause"))))
+    docs.contracts_are_shown(code)
+    if is_root(path):
+        rules.root_names_the_library(code, has_macros(name), name)
+    for rule in rules.RULES:
+        rule(code, ghosts) if rule is rules.unused_imports_go else rule(code)
+    text = re.sub(r"\n{3,}", "\n\n", code.text())
+    text = re.sub(r"\{\n\n", "{\n", text)
+    kit = [crate for crate in [name, *crates[name]] if crate.startswith("rrs_")]
+    imports = [module for crate in kit for module in public_modules(crate)]
+    text = docs.examples_are_doctests(text, imports)
+    return docs.claim_is_first(text, name) if is_root(path) else text
+
+
+def has_macros(name):
+    """Whether a crate uses macros of Rattle's library."""
+    marks = r"\b(?:vec!\[in|format!\(in|e?println!\(|assert(?:_eq)?!\(|prove!\()"
+    return any(
+        re.search(marks, (ROOT / "crates" / path).read_text()) for path in source_files(name)
+    )
+
+
+def write_crate(output, name, crates, registry):
+    """Writes a crate as a package into `output/crates`."""
+    target, written = Path(output) / "crates" / name, set()
+    for path in source_files(name):
+        to = (target.parent / path).with_suffix(".rs")
+        write(to, erased(name, path, crates))
+        written.add(to)
+    for stale in set((target / "src").rglob("*.rs")) - written:
+        stale.unlink()
+    write(target / "Cargo.toml", manifest(name, crates, registry))
+    write(target / "README.md", readme(name))
+    write(target / "LICENSE", (ROOT / "LICENSE").read_text())
+
+
+def write(path, text):
+    """Writes a file, where it is not the same: cargo builds again what is newer."""
+    path.parent.mkdir(parents=True, exist_ok=True)
+    if not path.exists() or path.read_text() != text:
+        path.write_text(text)
+
+
+def description(name):
+    """The first sentence of the docs of a crate."""
+    root = next(path for path in source_files(name) if is_root(path))
+    text = (ROOT / "crates" / root).read_text()
+    first = re.match(r"((?://![^\n]*\n)+?)(?://!\n|\n)", text).group(1)
+    words = " ".join(line[3:].strip() for line in first.splitlines())
+    return words.split(". ")[0].split(": ")[0].rstrip(".").replace('"', "'")
+
+
+def readme(name):
+    """The README of a crate."""
+    claim = docs.CLAIM.format(name=name).replace("\n", " ")
+    return f"# {package_of(name)}\n\n{description(name)}. {claim}\n\nA part of `rrs-kit`.\n"
+
+
+def dependency(name, registry, features=""):
+    """A line of a manifest for a crate that is used."""
+    if name in OUTSIDE:
+        folder, package, version = OUTSIDE[name]
+        if registry and folder == "stand-in":
+            return f'{name} = {{ version = "{version}", default-features = false }}'
+        place = f"../../{folder}/{name}"
+    else:
+        package, version, place = package_of(name), VERSION, f"../{name}"
+    renamed = f'package = "{package}", ' if package != name else ""
+    return f'{name} = {{ {renamed}version = "{version}", path = "{place}"{features} }}'
+
+
+def manifest(name, crates, registry):
+    """The manifest of a crate."""
+    package, used = package_of(name), crates[name]
+    kit = [crate for crate in used if crate not in OUTSIDE]
+    is_program = (ROOT / "crates" / name / "src/main.rt").exists()
+    lines = ["[package]", f'name = "{package}"', f'version = "{VERSION}"', 'edition = "2024"']
+    lines += ['rust-version = "1.85"', 'license = "Apache-2.0"', f'description = "{description(name)}"']
+    lines += ['readme = "README.md"', 'keywords = ["riscv", "simulator", "emulator", "rv32im"]']
+    lines += ['categories = ["emulators", "no-std"]' if not needs_host(name) else 'categories = ["emulators"]']
+    if name.endswith("_tests") or name.endswith("_test_machines"):
+        lines.append("publish = false")
+    target = ["[[bin]]", f'name = "{name.replace("_", "-")}"', 'path = "src/main.rs"']
+    lines += ["", *(target if is_program else ["[lib]", f'name = "{name}"'])]
+    lines += ["", "[features]", 'default = ["std"]']
+    lines.append("std = [%s]" % ", ".join(f'"{crate}/std"' for crate in ["rattle_std", *kit]))
+    lines += ["", "[dependencies]"]
+    std = f'rattle_std = {{ package = "rrs-kit-std", version = "{VERSION}", path = "../../rattle_std", '
+    lines.append(std + ("}" if needs_host(name) else "default-features = false }").replace(", }", " }"))
+    lines[-1] = lines[-1].replace(", }", " }")
+    bare = "" if needs_host(name) else ", default-features = false"
+    lines += [dependency(crate, registry, "" if crate in OUTSIDE else bare) for crate in used]
+    lines += ["", "[dev-dependencies]", 'rattle_std = { package = "rrs-kit-std", path = "../../rattle_std" }']
+    lines += ["", "[lints.rust]", 'unsafe_code = "forbid"']
+    if name in READ_BY_PROOFS:
+        lines.append('dead_code = "allow"')
+    lines += ["", "[lints.clippy]", *(f'{lint} = "allow"' for lint in CLIPPY)]
+    return "\n".join(lines) + "\n"
+
+
+# What clippy would write otherwise, and the proved text does not.
+CLIPPY = ()

@@ -1,0 +1,52 @@
+"""The substitutions at one place each: the source, what stands there once, what is put there, and
+why. A place that is not found once is an error."""
+
+SITES = (
+    (
+        "rrs_lib/src/instruction_executor/engine.rt",
+        "self.registers[index]",
+        "self.registers[index & 31]",
+        "An index is below 32, by the contract, so the mask changes nothing, and the compiler leaves"
+        " the check of the bound out.",
+    ),
+    (
+        "rrs_lib/src/instruction_executor/engine.rt",
+        "self.registers[rd] = value",
+        "self.registers[rd & 31] = value",
+        "As for a register that is read.",
+    ),
+    (
+        "rrs_lines/src/lexing.rt",
+        "(line: &[u8]) -> (Part, Option<&[u8]>)",
+        "(line: &[u8]) -> (Part<'_>, Option<&[u8]>)",
+        "Rust warns where a lifetime is not shown.",
+    ),
+    (
+        "rrs_macros_tests/src/expansions.rt",
+        "Result<Program, SourceFault>",
+        "Result<Program<'_>, SourceFault>",
+        "As in rrs_lines.",
+    ),
+    (
+        "rrs_tests/src/loading.rt",
+        "fn reader_of(bytes: &[u8]) -> Failing",
+        "fn reader_of(bytes: &[u8]) -> Failing<'_>",
+        "As in rrs_lines.",
+    ),
+    (
+        "rrs_memory/src/memories/load.rt",
+        "#[derive(Drop)]\npub enum LoadFault",
+        "#[derive(Debug)]\npub enum LoadFault",
+        "`unwrap` and `expect` of Rust ask for `Debug`.",
+    ),
+)
+
+
+def put(path, text):
+    """The text of a source with what is put at its places."""
+    for source, old, new, _ in SITES:
+        if source == path:
+            if text.count(old) != 1:
+                raise SystemExit(f"crates/{path}: `{old}` stands {text.count(old)} times, not once")
+            text = text.replace(old, new)
+    return text
