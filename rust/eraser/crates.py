@@ -9,6 +9,8 @@ from .text import Code
 
 ROOT = Path(__file__).resolve().parent.parent.parent
 VERSION = "0.2.0"
+# The first Rust with all that the text calls: `cast_signed` is of 1.87.
+RUST = "1.87"
 
 # The crates that do not go over, each with the reason.
 NOT_OVER = {
@@ -23,6 +25,12 @@ MODULES_NOT_OVER = {("rrs_macros_tests", "lent"), ("rrs_macros_tests", "room")}
 NEED_STD = {("rrs_memory", "load"), ("rrs_board", "terminal")}
 # The crates with fields, functions or variants that a proof alone reads.
 READ_BY_PROOFS = {"rrs_asm", "rrs_cli", "rrs_tests"}
+# The crates whose examples in the docs use a crate above them.
+EXAMPLES_ABOVE = {"rrs_instruction": "rrs_lib"}
+# The groups of clippy's lints, and those of others, that say how to write what is right otherwise:
+# the proved text stays as it is.
+STYLE = ("complexity", "style")
+STYLE_LINTS = ("manual_unwrap_or_default", "unnecessary_get_then_check")
 # Crates of others: the folder of ours that stands for it without a registry, or always.
 OUTSIDE = {
     "arrayvec": ("stand-in", "arrayvec", "0.7"),
@@ -109,23 +117,31 @@ def erased(name, path, crates):
     ghosts = set(re.findall(r"\w+", " ".join(t.text for t in code.tokens if t.kind in ("ghost", "clause"))))
     docs.contracts_are_shown(code)
     if is_root(path):
-        rules.root_names_the_library(code, has_macros(name), name)
+        rules.root_names_the_library(code, has_macros(name), has_tests(name))
     for rule in rules.RULES:
         rule(code, ghosts) if rule is rules.unused_imports_go else rule(code)
     text = re.sub(r"\n{3,}", "\n\n", code.text())
     text = re.sub(r"\{\n\n", "{\n", text)
-    kit = [crate for crate in [name, *crates[name]] if crate.startswith("rrs_")]
+    above = [EXAMPLES_ABOVE[name]] if name in EXAMPLES_ABOVE else []
+    kit = [crate for crate in [name, *crates[name], *above] if crate not in OUTSIDE]
     imports = [module for crate in kit for module in public_modules(crate)]
     text = docs.examples_are_doctests(text, imports)
     return docs.claim_is_first(text, name) if is_root(path) else text
 
 
 def has_macros(name):
-    """Whether a crate uses macros of Rattle's library."""
-    marks = r"\b(?:vec!\[in|format!\(in|e?println!\(|assert(?:_eq)?!\(|prove!\()"
-    return any(
-        re.search(marks, (ROOT / "crates" / path).read_text()) for path in source_files(name)
-    )
+    """Whether the code of a crate uses macros of Rattle's library."""
+    ours = {"vec", "format", "println", "eprintln", "assert", "assert_eq", "prove"}
+    for path in source_files(name):
+        code = Code((ROOT / "crates" / path).read_text())
+        if any(code.at(i - 1) in ours for i in code.places("!")):
+            return True
+    return False
+
+
+def has_tests(name):
+    """Whether a crate has modules that are tests alone."""
+    return any("cfg(test)" in (ROOT / "crates" / path).read_text() for path in source_files(name))
 
 
 def write_crate(output, name, crates, registry):
@@ -183,7 +199,7 @@ def manifest(name, crates, registry):
     kit = [crate for crate in used if crate not in OUTSIDE]
     is_program = (ROOT / "crates" / name / "src/main.rt").exists()
     lines = ["[package]", f'name = "{package}"', f'version = "{VERSION}"', 'edition = "2024"']
-    lines += ['rust-version = "1.85"', 'license = "Apache-2.0"', f'description = "{description(name)}"']
+    lines += [f'rust-version = "{RUST}"', 'license = "Apache-2.0"', f'description = "{description(name)}"']
     lines += ['readme = "README.md"', 'keywords = ["riscv", "simulator", "emulator", "rv32im"]']
     lines += ['categories = ["emulators", "no-std"]' if not needs_host(name) else 'categories = ["emulators"]']
     if name.endswith("_tests") or name.endswith("_test_machines"):
@@ -199,12 +215,12 @@ def manifest(name, crates, registry):
     bare = "" if needs_host(name) else ", default-features = false"
     lines += [dependency(crate, registry, "" if crate in OUTSIDE else bare) for crate in used]
     lines += ["", "[dev-dependencies]", 'rattle_std = { package = "rrs-kit-std", path = "../../rattle_std" }']
+    if name in EXAMPLES_ABOVE:
+        above = EXAMPLES_ABOVE[name]
+        lines.append(f'{above} = {{ package = "{package_of(above)}", path = "../{above}" }}')
     lines += ["", "[lints.rust]", 'unsafe_code = "forbid"']
     if name in READ_BY_PROOFS:
         lines.append('dead_code = "allow"')
-    lines += ["", "[lints.clippy]", *(f'{lint} = "allow"' for lint in CLIPPY)]
+    lines += ["", "[lints.clippy]", *(f'{group} = {{ level = "allow", priority = -1 }}' for group in STYLE)]
+    lines += [f'{lint} = "allow"' for lint in STYLE_LINTS]
     return "\n".join(lines) + "\n"
-
-
-# What clippy would write otherwise, and the proved text does not.
-CLIPPY = ()

@@ -119,13 +119,15 @@ def drop_bounds_go(code):
 # ------------------------------------------------------------------ what Rust says otherwise
 
 
-def root_names_the_library(code, has_macros, name):
+def root_names_the_library(code, has_macros, has_tests):
     """`std` is in each crate the support crate, whose paths and macros are those of Rattle's
-    library. So no path of the text changes. It stands where `tactic(auto)` stood."""
+    library. So no path of the text changes. It stands where `tactic(auto)` stood. The macros may be
+    those of tests alone."""
     where = code.places("#", "!", "[", "tactic")[0]
     lines = ["#![no_std]", ""]
     if has_macros:
-        lines += ["#[allow(unused_imports)]", "#[macro_use]"]
+        lines += ["#[allow(unused_imports)]"] if has_tests else []
+        lines += ["#[macro_use]"]
     code.put(where, code.close(where + 2) + 1, "\n".join([*lines, "extern crate rattle_std as std;"]))
 
 

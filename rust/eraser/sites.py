@@ -34,6 +34,12 @@ SITES = (
         "As in rrs_lines.",
     ),
     (
+        "rrs_asm_tests/src/assembled.rt",
+        "Result<Program, SourceFault>",
+        "Result<Program<'_>, SourceFault>",
+        "As in rrs_lines.",
+    ),
+    (
         "rrs_memory/src/memories/load.rt",
         "#[derive(Drop)]\npub enum LoadFault",
         "#[derive(Debug)]\npub enum LoadFault",
