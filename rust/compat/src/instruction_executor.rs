@@ -1,0 +1,79 @@
+//! The execution of instructions.
+
+use crate::rows::{by_handle, for_each_row};
+use crate::{HartState, InstructionProcessor, Lent, Memory};
+use rrs_kit::InstructionHandler;
+use rrs_kit::instruction::Instruction;
+use rrs_kit::instruction_executor as kit;
+
+/// The words of `ecall` and `ebreak`.
+const ECALL: u32 = 0x0000_0073;
+const EBREAK: u32 = 0x0010_0073;
+
+/// Why a step could not be made.
+#[derive(Debug, PartialEq)]
+pub enum InstructionException {
+    /// The word at the pc is no instruction: the pc and the word.
+    IllegalInstruction(u32, u32),
+    /// There are no four bytes at the pc: the pc.
+    FetchError(u32),
+    /// A load's bytes are not there: their address.
+    LoadAccessFault(u32),
+    /// A store's bytes are not there: their address.
+    StoreAccessFault(u32),
+    /// An address is misaligned: that of a load or a store, or the pc.
+    AlignmentFault(u32),
+}
+
+impl From<kit::InstructionException> for InstructionException {
+    fn from(exception: kit::InstructionException) -> Self {
+        use kit::InstructionException as Kit;
+        match exception {
+            Kit::IllegalInstruction(pc, word) => Self::IllegalInstruction(pc, word),
+            Kit::FetchError(pc) => Self::FetchError(pc),
+            Kit::LoadAccessFault(address) => Self::LoadAccessFault(address),
+            Kit::StoreAccessFault(address) => Self::StoreAccessFault(address),
+            Kit::AlignmentFault(address) => Self::AlignmentFault(address),
+            Kit::EnvironmentCall(pc) => Self::IllegalInstruction(pc, ECALL),
+            Kit::Breakpoint(pc) => Self::IllegalInstruction(pc, EBREAK),
+        }
+    }
+}
+
+/// A processor that executes an instruction, on a hart and a memory.
+pub struct InstructionExecutor<'a, M: Memory> {
+    /// What loads read and stores write.
+    pub mem: &'a mut M,
+    /// The registers and the pc.
+    pub hart_state: &'a mut HartState,
+}
+
+impl<M: Memory> InstructionExecutor<'_, M> {
+    /// Does something by the executor of `rrs-kit` over the same hart and memory.
+    #[inline]
+    fn by_kit<T>(
+        &mut self,
+        act: impl FnOnce(&mut kit::InstructionExecutor<'_, Lent<'_, M>>) -> T,
+    ) -> T {
+        let mem = &mut Lent(&mut *self.mem);
+        act(&mut kit::InstructionExecutor { mem, hart_state: self.hart_state })
+    }
+
+    /// Executes the instruction at the pc. After an error the registers, the pc and the bytes are
+    /// as they were, and `last_register_write` is `None`.
+    #[inline]
+    pub fn step(&mut self) -> Result<(), InstructionException> {
+        self.by_kit(|executor| executor.step()).map_err(InstructionException::from)
+    }
+
+    fn handle(&mut self, instruction: Instruction) -> Result<bool, InstructionException> {
+        self.by_kit(|executor| executor.handle(&instruction)).map_err(InstructionException::from)
+    }
+}
+
+/// A function returns whether the instruction wrote the pc.
+impl<M: Memory> InstructionProcessor for InstructionExecutor<'_, M> {
+    type InstructionResult = Result<bool, InstructionException>;
+
+    for_each_row!(by_handle);
+}
