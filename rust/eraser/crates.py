@@ -31,20 +31,14 @@ EXAMPLES_ABOVE = {"rrs_instruction": "rrs_lib"}
 # the proved text stays as it is.
 STYLE = ("complexity", "style")
 STYLE_LINTS = ("manual_unwrap_or_default", "unnecessary_get_then_check")
-# Crates of others: the folder of ours that stands for it without a registry, or always.
-OUTSIDE = {
-    "arrayvec": ("stand-in", "arrayvec", "0.7"),
-    "itoa": ("stand-in", "itoa", "1"),
-    "hex": ("own", "rrs-kit-hex", VERSION),
-    "circular_buffer": ("own", "rrs-kit-circular-buffer", VERSION),
-}
+# Crates of others, for which those of stand-in/ stand. A registry has the ones with a version; those
+# without take an allocator in Rattle, and the crates of these names in a registry do not.
+OUTSIDE = {"arrayvec": "0.7", "itoa": "1", "hex": None, "circular_buffer": None}
 HOST = re.compile(r"\bstd::(?:\{[^}]*\b)?(?:io|fs|env|rt|process|time|os)\b")
 
 
 def package_of(name):
     """The name of a crate's package. That of rrs_lib is not the original's."""
-    if name in OUTSIDE:
-        return OUTSIDE[name][1]
     return name if name == "rrs" else "rrs-kit-" + name.removeprefix("rrs_").replace("_", "-")
 
 
@@ -182,15 +176,11 @@ def readme(name):
 
 def dependency(name, registry, features=""):
     """A line of a manifest for a crate that is used."""
-    if name in OUTSIDE:
-        folder, package, version = OUTSIDE[name]
-        if registry and folder == "stand-in":
-            return f'{name} = {{ version = "{version}", default-features = false }}'
-        place = f"../../{folder}/{name}"
-    else:
-        package, version, place = package_of(name), VERSION, f"../{name}"
-    renamed = f'package = "{package}", ' if package != name else ""
-    return f'{name} = {{ {renamed}version = "{version}", path = "{place}"{features} }}'
+    if registry and OUTSIDE.get(name):
+        return f'{name} = {{ version = "{OUTSIDE[name]}", default-features = false }}'
+    place = f"../../stand-in/{name}" if name in OUTSIDE else f"../{name}"
+    renamed = f'package = "{package_of(name)}", ' if name != "rrs" else ""
+    return f'{name} = {{ {renamed}version = "{VERSION}", path = "{place}"{features} }}'
 
 
 def manifest(name, crates, registry):
@@ -200,7 +190,7 @@ def manifest(name, crates, registry):
     is_program = (ROOT / "crates" / name / "src/main.rt").exists()
     lines = ["[package]", f'name = "{package}"', f'version = "{VERSION}"', 'edition = "2024"']
     lines += [f'rust-version = "{RUST}"', 'license = "Apache-2.0"', f'description = "{description(name)}"']
-    lines += ['readme = "README.md"', 'keywords = ["riscv", "simulator", "emulator", "rv32im"]']
+    lines += ['documentation = "https://docs.rs/rrs-kit"', 'readme = "README.md"', 'keywords = ["riscv", "simulator", "emulator", "rv32im"]']
     lines += ['categories = ["emulators", "no-std"]' if not needs_host(name) else 'categories = ["emulators"]']
     if name.endswith("_tests") or name.endswith("_test_machines"):
         lines.append("publish = false")

@@ -45,6 +45,12 @@ SITES = (
         "#[derive(Debug)]\npub enum LoadFault",
         "`unwrap` and `expect` of Rust ask for `Debug`.",
     ),
+    (
+        "rrs_gdb/src/lib.rt",
+        "//! A [Session] answers",
+        "//! A session answers",
+        "There is no item of that name to link to.",
+    ),
 )
 
 
