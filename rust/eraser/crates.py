@@ -23,6 +23,9 @@ NOT_OVER = {
 MODULES_NOT_OVER = {("rrs_macros_tests", "lent"), ("rrs_macros_tests", "room")}
 # The modules that need the feature `std`, in crates that otherwise do not.
 NEED_STD = {("rrs_memory", "load"), ("rrs_board", "terminal")}
+# The crates that need a `usize` of 64 bits, where others need one of 32: sums of addresses and lengths
+# of theirs are not mended. Those above them need it too.
+NEED_64 = {"rrs_linux", "rrs_process", "rrs_asm", "rrs_macros", "rrs_gdb"}
 # The crates with fields, functions or variants that a proof alone reads.
 READ_BY_PROOFS = {"rrs_asm", "rrs_cli", "rrs_tests"}
 # The crates whose examples in the docs use a crate above them.
@@ -111,7 +114,7 @@ def erased(name, path, crates):
     ghosts = set(re.findall(r"\w+", " ".join(t.text for t in code.tokens if t.kind in ("ghost", "clause"))))
     docs.contracts_are_shown(code)
     if is_root(path):
-        rules.root_names_the_library(code, has_macros(name), has_tests(name))
+        rules.root_names_the_library(code, has_macros(name), has_tests(name), name in NEED_64)
     for rule in rules.RULES:
         rule(code, ghosts) if rule is rules.unused_imports_go else rule(code)
     text = re.sub(r"\n{3,}", "\n\n", code.text())

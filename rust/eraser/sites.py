@@ -1,6 +1,8 @@
 """The substitutions at one place each: the source, what stands there once, what is put there, and
 why. A place that is not found once is an error."""
 
+WIDE = "On a `usize` of 32 bits the sum may not fit. Then it is past each file."
+
 SITES = (
     (
         "rrs_lib/src/instruction_executor/engine.rt",
@@ -44,6 +46,42 @@ SITES = (
         "#[derive(Drop)]\npub enum LoadFault",
         "#[derive(Debug)]\npub enum LoadFault",
         "`unwrap` and `expect` of Rust ask for `Debug`.",
+    ),
+    (
+        "rrs_elf/src/accepting.rt",
+        "read_word(file, 28) as usize + 32 * usize::from(count)",
+        "(read_word(file, 28) as usize).saturating_add(32 * usize::from(count))",
+        WIDE,
+    ),
+    (
+        "rrs_elf/src/segments.rt",
+        "header.offset as usize + header.file_size as usize",
+        "(header.offset as usize).saturating_add(header.file_size as usize)",
+        WIDE,
+    ),
+    (
+        "rrs_elf/src/symbol_table.rt",
+        "read_word(file, 32) as usize + 40 * usize::from(count)",
+        "(read_word(file, 32) as usize).saturating_add(40 * usize::from(count))",
+        WIDE,
+    ),
+    (
+        "rrs_elf/src/symbol_table.rt",
+        "section.offset as usize + section.size as usize",
+        "(section.offset as usize).saturating_add(section.size as usize)",
+        WIDE,
+    ),
+    (
+        "rrs_elf/src/symbol_table.rt",
+        "strings.offset as usize + read_word(file, start_of_symbol(file, table, index)) as usize",
+        "(strings.offset as usize).saturating_add(\n        read_word(file, start_of_symbol(file, table, index)) as usize,\n    )",
+        WIDE,
+    ),
+    (
+        "rrs_history/src/change.rt",
+        "prove!(size_of::<Change>() == 32)",
+        "prove!(size_of::<usize>() != 8 || size_of::<Change>() == 32)",
+        "On a `usize` of 32 bits it is smaller.",
     ),
     (
         "rrs_gdb/src/lib.rt",

@@ -13,6 +13,9 @@
 
 #![no_std]
 
+#[cfg(target_pointer_width = "16")]
+compile_error!("an address of 32 bits does not fit into a usize of 16");
+
 extern crate alloc as heap;
 #[cfg(feature = "std")]
 extern crate std as host;

@@ -44,10 +44,10 @@ impl Numbers {
     fn word(&mut self) -> u32 {
         let opcodes = [0x33, 0x13, 0x37, 0x17, 0x63, 0x03, 0x23, 0x6f, 0x67, 0x0f, 0x73];
         let mut word = self.next();
-        if self.next() % 16 != 0 {
+        if !self.next().is_multiple_of(16) {
             word = (word & !0x7f) | self.of_these(&opcodes);
         }
-        if self.next() % 2 == 0 {
+        if self.next().is_multiple_of(2) {
             word = (word & 0x01ff_ffff) | self.of_these(&[0, 0x0200_0000, 0x4000_0000]);
         }
         word
@@ -71,7 +71,7 @@ impl Numbers {
                 (near >> 5) << 25 | rs2 << 20 | funct3 << 12 | (near & 31) << 7 | 0x23
             }
             12..=13 => {
-                let by = if self.next() % 2 == 0 { near % 64 } else { 0x2000 - near % 64 };
+                let by = if self.next().is_multiple_of(2) { near % 64 } else { 0x2000 - near % 64 };
                 let high = (by >> 12 & 1) << 31 | (by >> 5 & 63) << 25;
                 let low = (by >> 1 & 15) << 8 | (by >> 11 & 1) << 7;
                 high | place | self.of_these(&[0, 1, 4, 5, 6, 7]) << 12 | low | 0x63

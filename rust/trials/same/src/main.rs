@@ -46,7 +46,7 @@ mod theirs {
             let pc = executor.hart_state.pc;
             let word = words_at(executor.mem.mem.as_slice(), pc);
             end = match word {
-                _ if pc % 4 != 0 => Some(InstructionException::AlignmentFault(pc)),
+                _ if !pc.is_multiple_of(4) => Some(InstructionException::AlignmentFault(pc)),
                 Some(word) if crate::cases::is_of_a_stricter_row(word) => {
                     Some(InstructionException::IllegalInstruction(pc, word))
                 }
