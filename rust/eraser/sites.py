@@ -42,12 +42,6 @@ SITES = (
         "As in rrs_lines.",
     ),
     (
-        "rrs_memory/src/memories/load.rt",
-        "#[derive(Drop)]\npub enum LoadFault",
-        "#[derive(Debug)]\npub enum LoadFault",
-        "`unwrap` and `expect` of Rust ask for `Debug`.",
-    ),
-    (
         "rrs_elf/src/accepting.rt",
         "read_word(file, 28) as usize + 32 * usize::from(count)",
         "(read_word(file, 28) as usize).saturating_add(32 * usize::from(count))",
@@ -92,9 +86,31 @@ SITES = (
 )
 
 
+# Types that get `Debug`, which `unwrap`, `assert_eq` and a `derive` of a user's type ask for.
+DEBUG = (
+    ("rrs_memory/src/memories/load.rt", "#[derive(Drop)]", "pub enum LoadFault"),
+    ("rrs_memory/src/memories.rt", "#[derive(Drop)]", "pub struct VecMemory"),
+    ("rrs_memory/src/memories/slice.rt", "#[derive(Drop)]", "pub struct SliceMemory"),
+    ("rrs_memory/src/memories/space.rt", "#[derive(Drop)]", "pub struct MemorySpace"),
+    ("rrs_memory/src/memories/space.rt", "#[derive(Drop)]", "struct MemoryRegion"),
+    ("rrs_lib/src/lib.rt", "#[derive(Drop)]", "pub struct HartState"),
+    ("rrs_extra/src/paged.rt", "#[derive(Drop)]", "pub struct PagedMemory"),
+    ("rrs_extra/src/paged.rt", "#[derive(Drop)]", "struct PageContents"),
+    ("rrs_elf/src/accepting.rt", "#[derive(Clone, Copy)]", "pub struct Executable"),
+)
+
+
+def all_sites():
+    """Each substitution: the source, what stands there, what is put there, and why."""
+    for source, derive, item in DEBUG:
+        more = derive.replace("derive(", "derive(Debug, ")
+        yield source, f"{derive}\n{item}", f"{more}\n{item}", "`unwrap` and `assert_eq` ask for it."
+    yield from SITES
+
+
 def put(path, text):
     """The text of a source with what is put at its places."""
-    for source, old, new, _ in SITES:
+    for source, old, new, _ in all_sites():
         if source == path:
             if text.count(old) != 1:
                 raise SystemExit(f"crates/{path}: `{old}` stands {text.count(old)} times, not once")
