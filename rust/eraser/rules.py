@@ -1,6 +1,6 @@
 """The rules by which a source of Rattle becomes one of Rust, each with its reason.
 
-A rule takes away what is only for the proof, or writes in Rust what Rust says otherwise. What a rule
+A rule takes away what is only for the proof, or writes in Rust what Rust says otherwise. What it
 changes in code is listed by rust/residue.
 """
 
@@ -56,8 +56,8 @@ def drops_that_take_apart_go(code):
     for i in code.places("Drop", "for"):
         body = code.find(i, "{")
         end = code.close(body)
-        is_apart = code.texts(body, end).count(";") == 1 and code.has(end - 4, "=", "self", ";", "}")
-        if is_apart:
+        is_one = code.texts(body, end).count(";") == 1
+        if is_one and code.has(end - 4, "=", "self", ";", "}"):
             code.cut(code.find_back(i, "impl"), end + 1)
 
 
@@ -127,11 +127,12 @@ def root_names_the_library(code, has_macros, has_tests, needs_64):
     lines = ["#![no_std]", ""]
     if needs_64:
         lines += ['#[cfg(not(target_pointer_width = "64"))]']
-        lines += ['compile_error!("sums of addresses and lengths here need a usize of 64 bits");', ""]
+        lines += ['compile_error!("sums of addresses and lengths need a usize of 64 bits");', ""]
     if has_macros:
         lines += ["#[allow(unused_imports)]"] if has_tests else []
         lines += ["#[macro_use]"]
-    code.put(where, code.close(where + 2) + 1, "\n".join([*lines, "extern crate rattle_std as std;"]))
+    lines.append("extern crate rattle_std as std;")
+    code.put(where, code.close(where + 2) + 1, "\n".join(lines))
 
 
 def allocators_are_the_one(code):
@@ -151,7 +152,7 @@ def allocators_are_the_one(code):
 
 
 def allocator_parameter(code, i):
-    """Takes a parameter or an argument `A` away, or names the allocator. Returns the place after."""
+    """Takes a parameter or an argument `A` away, or names the allocator: returns the place after."""
     end = i + 1
     if code.has(end, ":", "Allocator"):
         end = code.find(end, ",", ">")
@@ -384,7 +385,7 @@ def preludes_are_imported(code):
     if not wanted:
         return
     first = next(
-        (i for i in range(len(code)) if code.at(i) == "use" and code.at(i - 1) in (";", "}", "]", "")),
+        (i for i in code.places("use")[::-1] if code.at(i - 1) in (";", "}", "]", "")),
         None,
     )
     if first is None:
@@ -413,6 +414,6 @@ RULES = (
     main_makes_the_runtime,
     lives_of_nothing_go,
     unused_parameters_are_marked,
-    unused_imports_go,
-    preludes_are_imported,
 )
+# The rules with another form: the first is of roots, and the last two come after the others.
+ALL_RULES = (root_names_the_library, *RULES, unused_imports_go, preludes_are_imported)

@@ -8,8 +8,8 @@ SITES = (
         "rrs_lib/src/instruction_executor/engine.rt",
         "self.registers[index]",
         "self.registers[index & 31]",
-        "An index is below 32, by the contract, so the mask changes nothing, and the compiler leaves"
-        " the check of the bound out.",
+        "An index is below 32, by the contract, so the mask changes nothing, and the compiler"
+        " leaves the check of the bound out.",
     ),
     (
         "rrs_lib/src/instruction_executor/engine.rt",
@@ -68,7 +68,8 @@ SITES = (
     (
         "rrs_elf/src/symbol_table.rt",
         "strings.offset as usize + read_word(file, start_of_symbol(file, table, index)) as usize",
-        "(strings.offset as usize).saturating_add(\n        read_word(file, start_of_symbol(file, table, index)) as usize,\n    )",
+        "(strings.offset as usize).saturating_add(\n"
+        "        read_word(file, start_of_symbol(file, table, index)) as usize,\n    )",
         WIDE,
     ),
     (

@@ -25,9 +25,13 @@ class Token:
     def __init__(self, kind, text, lead):
         self.kind, self.text, self.lead = kind, text, lead
 
+    def words(self):
+        """The words of its text."""
+        return re.findall(r"\w+", self.text)
+
 
 def after_braces(text, at):
-    """The place after the brace that closes the one at a place. Proofs have no other quotes."""
+    """The place after the brace that closes the one at a place, in the words of a definition."""
     depth = 0
     while True:
         if text[at] == '"':
@@ -40,14 +44,14 @@ def after_braces(text, at):
 
 
 def after_ghost(text, at):
-    """The place after a ghost item: after its `;` or `,`, or before the `}` that ends its struct."""
+    """The place after a ghost item: after its `;` or `,`, or before the `}` of its struct."""
     while text[at] not in ";,}":
         at = after_braces(text, at) if text[at] == "{" else at + 1
     return at if text[at] == "}" else at + 1
 
 
 def pieces(text):
-    """The pieces (kind, text) of a source. A ghost item is one of kind `ghost`, a clause `clause`."""
+    """The pieces (kind, text) of a source. A ghost item is one, `ghost`, and a clause, `clause`."""
     at = 0
     while at < len(text):
         begin, found = at, TOKEN.match(text, at)

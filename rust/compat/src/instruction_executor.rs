@@ -56,18 +56,23 @@ impl<M: Memory> InstructionExecutor<'_, M> {
         act: impl FnOnce(&mut kit::InstructionExecutor<'_, Lent<'_, M>>) -> T,
     ) -> T {
         let mem = &mut Lent(&mut *self.mem);
-        act(&mut kit::InstructionExecutor { mem, hart_state: self.hart_state })
+        act(&mut kit::InstructionExecutor {
+            mem,
+            hart_state: self.hart_state,
+        })
     }
 
     /// Executes the instruction at the pc. After an error the registers, the pc and the bytes are
     /// as they were, and `last_register_write` is `None`.
     #[inline]
     pub fn step(&mut self) -> Result<(), InstructionException> {
-        self.by_kit(|executor| executor.step()).map_err(InstructionException::from)
+        self.by_kit(|executor| executor.step())
+            .map_err(InstructionException::from)
     }
 
     fn handle(&mut self, instruction: Instruction) -> Result<bool, InstructionException> {
-        self.by_kit(|executor| executor.handle(&instruction)).map_err(InstructionException::from)
+        self.by_kit(|executor| executor.handle(&instruction))
+            .map_err(InstructionException::from)
     }
 }
 

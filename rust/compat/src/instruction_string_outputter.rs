@@ -13,7 +13,12 @@ pub struct InstructionStringOutputter {
 
 impl InstructionStringOutputter {
     fn handle(&mut self, instruction: Instruction) -> String {
-        Disassembled { instruction, pc: self.insn_pc }.text().to_string()
+        Disassembled {
+            instruction,
+            pc: self.insn_pc,
+        }
+        .text()
+        .to_string()
     }
 }
 

@@ -10,14 +10,20 @@ impl Memory for VecMemory {
     /// Panics where the address is no multiple of the size.
     #[inline]
     fn read_mem(&mut self, addr: u32, size: MemAccessSize) -> Option<u32> {
-        assert!(size.is_aligned(addr), "a read of {size:?} at 0x{addr:08x} is not aligned");
+        assert!(
+            size.is_aligned(addr),
+            "a read of {size:?} at 0x{addr:08x} is not aligned"
+        );
         rrs_kit::Memory::read_mem(self, addr, size)
     }
 
     /// Panics where the address is no multiple of the size.
     #[inline]
     fn write_mem(&mut self, addr: u32, size: MemAccessSize, store_data: u32) -> bool {
-        assert!(size.is_aligned(addr), "a write of {size:?} at 0x{addr:08x} is not aligned");
+        assert!(
+            size.is_aligned(addr),
+            "a write of {size:?} at 0x{addr:08x} is not aligned"
+        );
         rrs_kit::Memory::write_mem(self, addr, size, store_data)
     }
 }
@@ -99,11 +105,13 @@ impl MemorySpace {
         size: u32,
         memory: Box<dyn Memory>,
     ) -> Result<usize, MemorySpaceError> {
-        self.0.add_memory(base, size, Boxed(memory)).map_err(|error| match error {
-            kit::MemorySpaceError::RegionOverlap => MemorySpaceError::RegionOverlap,
-            kit::MemorySpaceError::Unaligned => MemorySpaceError::Unaligned,
-            kit::MemorySpaceError::OutOfMemory => panic!("there is no memory for a region"),
-        })
+        self.0
+            .add_memory(base, size, Boxed(memory))
+            .map_err(|error| match error {
+                kit::MemorySpaceError::RegionOverlap => MemorySpaceError::RegionOverlap,
+                kit::MemorySpaceError::Unaligned => MemorySpaceError::Unaligned,
+                kit::MemorySpaceError::OutOfMemory => panic!("there is no memory for a region"),
+            })
     }
 
     /// The memory of an index, where there is one and it is of type `T`.

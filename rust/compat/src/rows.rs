@@ -35,7 +35,7 @@ macro_rules! declare {
             type InstructionResult;
 
             $(
-                #[doc = concat!("Does what is done with an instruction of the row `", stringify!($row), "`.")]
+                #[doc = concat!("What is done with an instruction `", stringify!($row), "`.")]
                 fn $function(&mut self, dec_insn: $format) -> Self::InstructionResult;
             )*
         }

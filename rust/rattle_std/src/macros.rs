@@ -73,8 +73,8 @@ pub mod hidden {
     use crate::alloc::{AllocError, Global};
     use crate::prelude::{TryString, TryVec};
     use crate::text::WriteText;
-    pub use core::{assert, assert_eq};
     use core::fmt;
+    pub use core::{assert, assert_eq};
     use heap::string::String;
     use heap::vec::Vec;
 

@@ -21,7 +21,10 @@ impl<const N: usize> ArrayString<N> {
     /// The empty text.
     #[inline]
     pub fn new() -> Self {
-        ArrayString { bytes: [0; N], length: 0 }
+        ArrayString {
+            bytes: [0; N],
+            length: 0,
+        }
     }
 
     /// Appends a text. Panics where there is no room.

@@ -35,7 +35,9 @@ impl From<AllocError> for FromHexError {
 /// The value of the digit at a place.
 fn digit(data: &[u8], index: usize) -> Result<u8, FromHexError> {
     let c = char::from(data[index]);
-    let value = c.to_digit(16).ok_or(FromHexError::InvalidHexCharacter { c, index })?;
+    let value = c
+        .to_digit(16)
+        .ok_or(FromHexError::InvalidHexCharacter { c, index })?;
     Ok(value as u8)
 }
 

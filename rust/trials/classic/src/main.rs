@@ -4,8 +4,8 @@
 use rrs_lib::instruction_executor::{InstructionException, InstructionExecutor};
 use rrs_lib::instruction_formats::{self, BType, IType, ITypeShamt, JType, RType, SType, UType};
 use rrs_lib::instruction_string_outputter::InstructionStringOutputter;
-use rrs_lib::memories::{read_to_memory, MemorySpace, MemorySpaceError, VecMemory};
-use rrs_lib::{process_instruction, HartState, InstructionProcessor, MemAccessSize, Memory};
+use rrs_lib::memories::{MemorySpace, MemorySpaceError, VecMemory, read_to_memory};
+use rrs_lib::{HartState, InstructionProcessor, MemAccessSize, Memory, process_instruction};
 
 /// Counts the instructions of each format, and the bits of their first register.
 #[derive(Default, Debug)]
@@ -62,7 +62,9 @@ impl Memory for Port {
 /// What was executed, and the kinds of ends, all of them.
 fn name_of(end: InstructionException) -> String {
     match end {
-        InstructionException::IllegalInstruction(pc, word) => format!("illegal {word:08x} at {pc:x}"),
+        InstructionException::IllegalInstruction(pc, word) => {
+            format!("illegal {word:08x} at {pc:x}")
+        }
         InstructionException::FetchError(pc) => format!("no word at {pc:x}"),
         InstructionException::LoadAccessFault(address) => format!("no load from {address:x}"),
         InstructionException::StoreAccessFault(address) => format!("no store to {address:x}"),
@@ -79,8 +81,12 @@ fn load(file: &str) -> std::io::Result<VecMemory> {
 fn main() {
     let file = std::env::args().nth(1).expect("classic FILE");
     let mut space = MemorySpace::new();
-    let ram = space.add_memory(0, 1 << 12, Box::new(load(&file).unwrap())).unwrap();
-    let port = space.add_memory(0x1000_0000, 4, Box::new(Port { written: vec![] })).unwrap();
+    let ram = space
+        .add_memory(0, 1 << 12, Box::new(load(&file).unwrap()))
+        .unwrap();
+    let port = space
+        .add_memory(0x1000_0000, 4, Box::new(Port { written: vec![] }))
+        .unwrap();
     for (base, size) in [(0x1000, 2), (0x800, 4)] {
         let refused = space.add_memory(base, size, Box::new(VecMemory::new(vec![])));
         match refused.unwrap_err() {
@@ -89,11 +95,21 @@ fn main() {
         }
     }
     let mut small = VecMemory::new(vec![0; 1]);
-    println!("{}", read_to_memory(&[1u8, 2, 3, 4, 5][..], &mut small, 0).unwrap_err());
-    println!("{:?} {:08x?}", small.read_mem(2, MemAccessSize::HalfWord), small.mem);
+    println!(
+        "{}",
+        read_to_memory(&[1u8, 2, 3, 4, 5][..], &mut small, 0).unwrap_err()
+    );
+    println!(
+        "{:?} {:08x?}",
+        small.read_mem(2, MemAccessSize::HalfWord),
+        small.mem
+    );
 
     let (mut counter, mut hart) = (Counter::default(), HartState::default());
-    let mut executor = InstructionExecutor { mem: &mut space, hart_state: &mut hart };
+    let mut executor = InstructionExecutor {
+        mem: &mut space,
+        hart_state: &mut hart,
+    };
     let mut steps = 0;
     let end = loop {
         let pc = executor.hart_state.pc;
@@ -103,7 +119,10 @@ fn main() {
         }
         if steps % 50 < 8 {
             let text = process_instruction(&mut InstructionStringOutputter { insn_pc: pc }, word);
-            println!("{pc:08x} {:?} {:?}", text, executor.hart_state.last_register_write);
+            println!(
+                "{pc:08x} {:?} {:?}",
+                text, executor.hart_state.last_register_write
+            );
         }
         match executor.step() {
             Ok(()) => steps += 1,
@@ -115,12 +134,31 @@ fn main() {
     };
     println!("{steps} steps, then {end}: {counter:?}");
     println!("{:x?}", executor.hart_state.registers);
-    let fields = instruction_formats::RType { funct7: 0, rs2: 1, rs1: 2, funct3: 0, rd: 3 };
-    println!("{:?} {:?}", executor.process_mul(fields), executor.hart_state.registers[3]);
-    println!("{:?}", space.get_memory_ref::<Port>(port).map(|port| port.written.clone()));
+    let fields = instruction_formats::RType {
+        funct7: 0,
+        rs2: 1,
+        rs1: 2,
+        funct3: 0,
+        rd: 3,
+    };
+    println!(
+        "{:?} {:?}",
+        executor.process_mul(fields),
+        executor.hart_state.registers[3]
+    );
+    println!(
+        "{:?}",
+        space
+            .get_memory_ref::<Port>(port)
+            .map(|port| port.written.clone())
+    );
     println!("{}", space.get_memory_ref::<VecMemory>(port).is_none());
     space.get_memory_mut::<VecMemory>(ram).unwrap().mem[3] = 7;
     println!("{:?}", space.read_mem(13, MemAccessSize::Byte));
     let boxed: Box<dyn Memory> = Box::new(space);
-    println!("{} {}", boxed.is::<Port>(), boxed.downcast::<MemorySpace>().is_ok());
+    println!(
+        "{} {}",
+        boxed.is::<Port>(),
+        boxed.downcast::<MemorySpace>().is_ok()
+    );
 }

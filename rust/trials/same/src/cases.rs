@@ -28,7 +28,17 @@ impl Numbers {
     }
 
     fn registers(&mut self) -> [u32; 32] {
-        let edges = [0, 1, 0x7fff_ffff, 0x8000_0000, 0xffff_ffff, 16, 12, 252, 256];
+        let edges = [
+            0,
+            1,
+            0x7fff_ffff,
+            0x8000_0000,
+            0xffff_ffff,
+            16,
+            12,
+            252,
+            256,
+        ];
         let mut registers = [0; 32];
         for register in registers.iter_mut().skip(1) {
             *register = match self.next() % 3 {
@@ -42,7 +52,9 @@ impl Numbers {
 
     /// A word, of an opcode most often.
     fn word(&mut self) -> u32 {
-        let opcodes = [0x33, 0x13, 0x37, 0x17, 0x63, 0x03, 0x23, 0x6f, 0x67, 0x0f, 0x73];
+        let opcodes = [
+            0x33, 0x13, 0x37, 0x17, 0x63, 0x03, 0x23, 0x6f, 0x67, 0x0f, 0x73,
+        ];
         let mut word = self.next();
         if !self.next().is_multiple_of(16) {
             word = (word & !0x7f) | self.of_these(&opcodes);
@@ -71,7 +83,11 @@ impl Numbers {
                 (near >> 5) << 25 | rs2 << 20 | funct3 << 12 | (near & 31) << 7 | 0x23
             }
             12..=13 => {
-                let by = if self.next().is_multiple_of(2) { near % 64 } else { 0x2000 - near % 64 };
+                let by = if self.next().is_multiple_of(2) {
+                    near % 64
+                } else {
+                    0x2000 - near % 64
+                };
                 let high = (by >> 12 & 1) << 31 | (by >> 5 & 63) << 25;
                 let low = (by >> 1 & 15) << 8 | (by >> 11 & 1) << 7;
                 high | place | self.of_these(&[0, 1, 4, 5, 6, 7]) << 12 | low | 0x63
@@ -87,17 +103,24 @@ pub fn step_case(place: u64) -> Case {
     let mut numbers = Numbers::of(place);
     let mut words: Vec<u32> = (0..64).map(|_| numbers.next()).collect();
     words[4] = numbers.word();
-    Case { words, registers: numbers.registers() }
+    Case {
+        words,
+        registers: numbers.registers(),
+    }
 }
 
 /// A case of a run, from address 0 on.
 pub fn run_case(place: u64) -> Case {
     let mut numbers = Numbers::of(place ^ 0x5555_5555);
     let words = (0..64).map(|_| numbers.word_of_program()).collect();
-    Case { words, registers: numbers.registers() }
+    Case {
+        words,
+        registers: numbers.registers(),
+    }
 }
 
-/// Whether a word is of a row that is stricter here: a `slli` with a funct7, a `jalr` with a funct3.
+/// Whether a word is of a row that is stricter here: a `slli` with a funct7, a `jalr` with a
+/// funct3.
 pub fn is_of_a_stricter_row(word: u32) -> bool {
     let (opcode, funct3, funct7) = (word & 0x7f, word >> 12 & 7, word >> 25);
     (opcode == 0x13 && funct3 == 1 && funct7 != 0) || (opcode == 0x67 && funct3 != 0)

@@ -13,7 +13,7 @@ mod cases;
 
 /// The crate here: steps and texts by its signatures, and runs by the fast run of rrs-kit.
 mod ours {
-    use rrs_kit::fast::{run_cached, CachedMemory};
+    use rrs_kit::fast::{CachedMemory, run_cached};
     use rrs_kit::instruction_executor as kit;
     use rrs_lib_compat as rrs_lib;
 
@@ -22,11 +22,21 @@ mod ours {
     pub fn run(words: &[u32], registers: [u32; 32], limit: u64) -> Run {
         let mut memory: CachedMemory<_, 64> = CachedMemory::new(VecMemory::new(words.to_vec()));
         let mut hart = hart_at(registers, 0);
-        let mut executor = kit::InstructionExecutor { mem: &mut memory, hart_state: &mut hart };
+        let mut executor = kit::InstructionExecutor {
+            mem: &mut memory,
+            hart_state: &mut hart,
+        };
         let ended = run_cached(&mut executor, limit);
-        let end = ended.exception.map(|exception| format!("{:?}", InstructionException::from(exception)));
+        let end = ended.exception.map(InstructionException::from);
+        let end = end.map(|exception| format!("{exception:?}"));
         let memory = memory.into_memory().mem;
-        Run { steps: ended.steps, end, registers: hart.registers, pc: hart.pc, memory }
+        Run {
+            steps: ended.steps,
+            end,
+            registers: hart.registers,
+            pc: hart.pc,
+            memory,
+        }
     }
 }
 
@@ -40,7 +50,10 @@ mod theirs {
     pub fn run(words: &[u32], registers: [u32; 32], limit: u64) -> Run {
         let mut memory = VecMemory::new(words.to_vec());
         let mut hart = hart_at(registers, 0);
-        let mut executor = InstructionExecutor { mem: &mut memory, hart_state: &mut hart };
+        let mut executor = InstructionExecutor {
+            mem: &mut memory,
+            hart_state: &mut hart,
+        };
         let (mut steps, mut end) = (0, None);
         while steps < limit && end.is_none() {
             let pc = executor.hart_state.pc;
@@ -55,7 +68,13 @@ mod theirs {
             steps += u64::from(end.is_none());
         }
         let end = end.map(|exception| format!("{exception:?}"));
-        Run { steps, end, registers: hart.registers, pc: hart.pc, memory: memory.mem }
+        Run {
+            steps,
+            end,
+            registers: hart.registers,
+            pc: hart.pc,
+            memory: memory.mem,
+        }
     }
 
     fn words_at(words: &[u32], pc: u32) -> Option<u32> {
