@@ -1,33 +1,10 @@
-"""The part of docs/SURFACE.md that is made from the sources: the public items and their clauses."""
+"""The part of docs/SURFACE.md that is made: the public items, and the names of their clauses."""
 
 import re
 
 BELOW = "<!-- made by docs/check --write: nothing below is kept by hand -->"
 KINDS = ("const", "static", "type", "struct", "enum", "trait", "fn")
 PLAIN = ("From", "PartialEq")
-WORD = re.compile(r"\w+|\S")
-
-
-def paragraph(docs):
-    """The first paragraph of docs in one line, with a [Link] as a name."""
-    lines = []
-    for line in docs:
-        if not line.strip() and lines:
-            break
-        lines.append(line.strip())
-    return re.sub(r"\[(\w+)\](\([\w:]+\))?", r"`\1`", " ".join(lines).strip())
-
-
-def first_sentence(docs):
-    """The first sentence of docs."""
-    text = paragraph(docs)
-    found = re.match(r"(.*?[^.]\.)(?:\s+[A-Z`]|$)", text)
-    return found[1] if found else text
-
-
-def code(text):
-    """A text as code."""
-    return f"``{text}``" if "`" in text else f"`{text}`"
 
 
 class Modules:
@@ -111,31 +88,11 @@ def owner(head):
     return trait, re.sub(r"^&?('\w+ )?(mut )?", "", kind).split("<")[0].strip()
 
 
-def of_type(head):
-    """The type of an `impl`, as it stands."""
-    return head.split(" for ")[-1] if " for " in head else re.sub(r"^impl(<[^>]*>)?\s*", "", head)
-
-
 def signature(item):
     """What stands before an item's body, with no `pub`."""
     text = re.sub(r"^pub ", "", item.head)
     text = re.sub(r"^(unsafe |extern \"C\" )+fn", "fn", text)
     return text.replace("( ", "(").replace(", )", ")").rstrip(",; ")
-
-
-def contents(item):
-    """The public fields of a struct, or the variants of an enum, in one line."""
-    if item.body[:1] != "{":
-        return ""
-    bare = re.sub(r"//[^\n]*|#\[[^\]]*\]", "", item.body)
-    parts = [" ".join(part.split()) for part in split_at_commas(bare.strip()[1:-1])]
-    parts = [part for part in parts if part]
-    if item.kind == "enum":
-        return " { " + ", ".join(parts) + " }"
-    shown = [part.removeprefix("pub ") for part in parts if part.startswith("pub ")]
-    if len(shown) < len(parts):
-        shown.append("..")
-    return " { " + ", ".join(shown) + " }"
 
 
 def split_at_commas(text):
@@ -149,79 +106,54 @@ def split_at_commas(text):
     return parts + [text[start:]]
 
 
-def clauses_text(clauses):
-    """The clauses of a function, each behind a line break."""
-    text = ""
+def names_of(clauses):
+    """The names of clauses, after a colon: conditions with their kind, others by name."""
+    names = []
     for clause in clauses:
         kind = clause.kind if clause.kind == "requires" or not clause.name else ""
-        name = code(clause.name) if clause.name else ""
-        text += f"<br>{' '.join(filter(None, (kind, name)))}: {code(clause.text)}"
-    return text
+        names.append(" ".join(filter(None, (kind, clause.name))))
+    return ": " + ", ".join(names) if names else ""
 
 
-def with_docs(text, docs):
-    """The line of an item: its code, the first sentence of its docs, and their part on errors."""
-    said = first_sentence(docs)
-    line = f"- {code(text)}" + (f": {said}" if said else "")
-    if "# Errors" in docs:
-        line += f"<br>errors: {paragraph(docs[docs.index('# Errors') + 1:])}"
-    return line
+def types_only(text):
+    """A function's signature without the names of its arguments."""
+    found = re.match(r"((?:const )?fn \w+(?:<.*?>)?)\((.*)", text)
+    depth, end = 1, 0
+    while depth:
+        depth += (found[2][end] == "(") - (found[2][end] == ")")
+        end += 1
+    types = (re.sub(r"^(mut )?\w+: ", "", one.strip())
+             for one in split_at_commas(found[2][:end - 1]))
+    return f"{found[1]}({', '.join(types)}){found[2][end:]}"
 
 
-def function_line(item, path):
-    """The line of a function, which is called by this path."""
-    text = re.sub(r"^((?:const )?fn )", rf"\1{path}", signature(item))
-    return with_docs(text, item.docs) + clauses_text(item.clauses)
-
-
-def differing(one, other):
-    """The words of a text where it differs from another of as many words."""
-    left, right = WORD.findall(one), WORD.findall(other)
-    return [word for old, word in zip(left, right) if old != word]
-
-
-def shape(item):
-    """A function's signature and clauses, without what its name alone decides."""
-    clauses = [(clause.kind, len(WORD.findall(clause.text))) for clause in item.clauses]
-    return re.sub(rf"\b{item.name}\b", "_", signature(item)), clauses
-
-
-def likewise(first, other):
-    """The name of a function, with the words of its clauses that are not those of the first."""
-    words = []
-    for one, two in zip(first.clauses, other.clauses):
-        words += differing(one.text, two.text)
-    return code(other.name) + (f" ({', '.join(map(code, words))})" if words else "")
+def function_lines(functions, before):
+    """The lines of functions. Those of one form in a row are one line."""
+    lines, last = [], None
+    for one in functions:
+        text = types_only(signature(one)) + names_of(one.clauses)
+        form = re.sub(rf"\b{one.name}\b", "_", text)
+        if form == last:
+            lines[-1] += f"; {one.name}"
+        else:
+            lines.append(before + text)
+        last = form
+    return lines
 
 
 def ghosts(item):
-    """The types and the ghost members of a trait or of an `impl`."""
-    found = [re.sub(r"^ghost ", "", one.head) for one in item.items
-             if one.kind == "type" or one.kind == "ghost" and not one.head.startswith("ghost use")]
-    return ", ".join(code(re.sub(r"(=|:) \{ (.*) \}$", r"\1 \2", text)) for text in found)
+    """Whether an `impl` says something of itself that is no function."""
+    return any(one.kind == "type" or one.kind == "ghost" and not one.head.startswith("ghost use")
+               for one in item.items)
 
 
-def trait_lines(item, path, modules, traits):
-    """The lines of a trait: its functions, where those of one form in a row are one line."""
-    members = ghosts(item)
-    lines = [with_docs(f"trait {path}{signature(item)[6:]}", item.docs)]
-    lines[0] += f"<br>{members}" if members else ""
+def trait_lines(item, modules, traits):
+    """The lines of a trait: its functions, and the types of others that have it."""
     functions = [one for one in item.items if one.kind == "fn"]
-    while functions:
-        first, alike = functions.pop(0), []
-        while functions and not functions[0].docs and shape(functions[0]) == shape(first):
-            alike.append(functions.pop(0))
-        line = function_line(first, f"{item.name}::")
-        if alike:
-            line += "<br>likewise " + ", ".join(likewise(first, one) for one in alike)
-        lines.append("  " + line)
-    return lines + [impl_line(block, traits) for block in modules.blocks_for_others(item.name)]
-
-
-def derived(item):
-    """The traits that a type derives."""
-    found = [re.match(r".*?derive(?:_where)?\(([^;)]*)", text) for text in item.attributes]
-    return [name for names in found if names for name in re.findall(r"\w+", names[1])]
+    lines = [signature(item), *function_lines(functions, "  ")]
+    for block in modules.blocks_for_others(item.name):
+        lines += impl_lines(block, traits)
+    return lines
 
 
 def last_name(trait):
@@ -229,74 +161,55 @@ def last_name(trait):
     return trait.split("<")[0].split("::")[-1]
 
 
-def type_lines(item, path, modules, traits):
+def type_lines(item, modules, traits):
     """The lines of a struct, an enum or an alias, with the calls of its `impl` blocks."""
-    kind = re.match(r"\w+ ", signature(item))[0]
-    lines = [with_docs(kind + path + signature(item)[len(kind):] + contents(item), item.docs)]
-    names = derived(item)
+    lines = [re.sub(r"(?<!\w)pub ", "", signature(item))]
     for block in modules.blocks_of(item.name):
         trait, _ = owner(block.head)
         if not trait:
-            of = re.sub(r"<(?:'\w+, )?A>|<'\w+>|'\w+, ", "", of_type(block.head))
-            lines += ["  " + function_line(one, f"{of}::") for one in block.items
-                      if one.kind == "fn" and one.public]
+            lines += function_lines([one for one in block.items if one.kind == "fn" and one.public],
+                                    "  ")
         elif last_name(trait) in traits or ghosts(block) and last_name(trait) not in PLAIN:
-            lines.append(impl_line(block, traits))
-        else:
-            names.append(last_name(trait))
-    if names:
-        lines[0] += f" Has {', '.join(map(code, dict.fromkeys(names)))}."
+            lines += impl_lines(block, traits)
     return lines
 
 
-def impl_line(block, traits):
-    """The line of an `impl` of a trait: its relations, and the clauses that the trait lacks."""
+def impl_lines(block, traits):
+    """The lines of an `impl` of a trait: the clauses that the trait lacks, by their functions."""
     known = traits.get(last_name(owner(block.head)[0]), {})
-    said = ghosts(block)
-    line = f"  - {code(block.head)}" + (f": {said}" if said else "")
+    lines = [f"  {block.head}"]
     for one in block.items:
         more = [clause for clause in one.clauses if one.kind == "fn"
                 and clause.kind == "ensures" and clause.name not in known.get(one.name, [""])]
         if more:
-            line += f"<br>{code(one.name)} also ensures" + clauses_text(more)
-    return line
+            lines.append(f"    {one.name}{names_of(more)}")
+    return lines
 
 
-def item_lines(item, path, modules, traits):
+def item_lines(item, modules, traits):
     """The lines of an item of a module."""
     if item.kind == "fn":
-        return [function_line(item, f"{path}::")]
+        return function_lines([item], "")
     if item.kind == "trait":
-        return trait_lines(item, f"{path}::", modules, traits)
+        return trait_lines(item, modules, traits)
     if item.kind in ("struct", "enum", "type"):
-        return type_lines(item, f"{path}::", modules, traits)
-    text = re.sub(r"^(\w+) ", rf"\1 {path}::", signature(item))
-    return [with_docs(text if len(text) < 100 else text.split(" = ")[0], item.docs)]
+        return type_lines(item, modules, traits)
+    text = signature(item)
+    return [text if len(text) < 100 else text.split(" = ")[0]]
 
 
-def module_docs(file):
-    """The docs at the head of a file."""
-    docs = []
-    for line in file.read_text().splitlines():
-        if not line.startswith("//!"):
-            break
-        docs.append(line[3:].removeprefix(" "))
-    return docs
-
-
-def crate_lines(modules, passing, traits):
-    """The section of a crate."""
+def crate_lines(modules, traits):
+    """The section of a crate: a block of lines for each module."""
     crate = modules.crate
-    source = f"../crates/{crate.name}/src"
-    said = [first_sentence(module_docs(modules.source / "lib.rt"))]
-    said += [f"`{by}` re-exports {', '.join(map(code, names))}."
-             for by, of, names in passing if of.split("::")[0] == crate.name]
-    lines = [f"## `{crate.name}`", "", f"{' '.join(said)} Source: [{source[3:]}]({source}).", ""]
+    lines = [f"## `{crate.name}`", ""]
     for path, items in modules.groups:
-        for item in items:
-            if item.kind == "fn" or not crate.is_static_library:
-                lines += item_lines(item, path, modules, traits)
-    return lines + [""]
+        made = [line for item in items if item.kind == "fn" or not crate.is_static_library
+                for line in item_lines(item, modules, traits)]
+        made += [f"pub use {of}: {', '.join(names)}"
+                 for by, of, names in modules.passed if by == path]
+        if made:
+            lines += [f"`{path}`", "", "```text", *made, "```", ""]
+    return lines
 
 
 def all_traits(every):
@@ -315,11 +228,10 @@ def generated(crates):
     """The lines that the page has below its marker, the marker among them."""
     every = [Modules(crate) for crate in crates if crate.is_library()]
     every = [modules for modules in every if any(items for _, items in modules.groups)]
-    passing = [one for modules in every for one in modules.passed]
     traits = all_traits(every)
     lines = [BELOW, ""]
     for modules in every:
-        lines += crate_lines(modules, passing, traits)
+        lines += crate_lines(modules, traits)
     while lines[-1] == "":
         lines.pop()
     return lines

@@ -54,6 +54,10 @@ WRONG = [
     ("docs/PROVED.md", "[`other_name`](../crates/one/src/lib.rt)", "us", "carried by no call"),
     ("crates/one/src/lib.rt", "ensures value", "ensures worth", "ensures no clause `value`"),
     ("docs/SURFACE.md", "one_name", "two_name", "call docs/check --write"),
+    ("crates/one/src/lib.rt", "ensures {", "ensures kept {", "call docs/check --write"),
+    ("crates/one/src/lib.rt", "ensures {", "requires {", "call docs/check --write"),
+    ("crates/one/src/lib.rt", "other_name()", "other_name(word: u32)", "call docs/check --write"),
+    ("crates/one/src/lib.rt", "pub fn one_name", "fn one_name", "call docs/check --write"),
 ]
 
 
