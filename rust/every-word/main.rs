@@ -1,0 +1,182 @@
+//! Compares the kit's decoder, word by word, with the decoder that `decoder.py` makes of QEMU's
+//! table, and the texts' rows; and with the feature `original` with rrs-lib 0.1.0, with its texts.
+//!
+//! usage: every-word all | every-word PART
+//!
+//! A part, 0 to 63, is a 64th of the words, spread over all of them; and `ecall` and `ebreak` are in
+//! each. The status is 0 where all is as it should be, and else 1, after the first words that differ.
+
+use kit::disassembly::Disassembled;
+use kit::instruction::{Instruction, InstructionFields, decode};
+use kit::instruction_formats::{BType, IType, ITypeShamt, JType, RType, SType, UType};
+use std::process::ExitCode;
+use std::sync::atomic::{AtomicU64, Ordering::Relaxed};
+use std::thread;
+
+#[cfg(feature = "original")]
+mod original;
+include!(env!("NAMES"));
+
+/// Words that are instructions: 22 rows with 22 bits that are free, 3 with 25, 21 with 15, and
+/// `ecall` and `ebreak`.
+const INSTRUCTIONS: u64 = (22 << 22) + (3 << 25) + (21 << 15) + 2;
+/// Words that the original takes for `slli`, for 127 more funct7, and for `jalr`, for 7 more funct3;
+/// and `ecall` and `ebreak`, which it does not decode.
+const LISTED: u64 = (127 << 15) + (7 << 22) + 2;
+/// Words are taken in the order of their multiples of this odd number, so that each part has of all.
+const STRIDE: u32 = 0x9e37_79b1;
+const CHUNK: u64 = 1 << 16;
+const ENVIRONMENT: [u32; 2] = [0x0000_0073, 0x0010_0073];
+/// The address of each instruction: the texts of branches and jumps show their targets.
+const PC: u32 = 0x1000_0010;
+
+/// What QEMU's decoder found in a word, as `decoder.py` has it.
+#[derive(Default)]
+#[repr(C)]
+struct Decoded {
+    word: u32,
+    row: u32,
+    format: u32,
+    funct7: u32,
+    funct3: u32,
+    rd: u32,
+    rs1: u32,
+    rs2: u32,
+    shamt: u32,
+    imm: i32,
+}
+
+#[link(name = "qemu_decoder", kind = "static")]
+unsafe extern "C" {
+    fn qemu_decode(word: u32, decoded: *mut Decoded) -> bool;
+}
+
+/// The name of the row that a word is by QEMU's table, and its fields.
+fn decode_by_qemu(word: u32) -> Option<(&'static str, InstructionFields)> {
+    let mut found = Decoded::default();
+    // SAFETY: the function writes the struct, and nothing else.
+    if !unsafe { qemu_decode(word, &mut found) } {
+        return None;
+    }
+    let Decoded { funct7, funct3, shamt, imm, .. } = found;
+    let [rd, rs1, rs2] = [found.rd, found.rs1, found.rs2].map(|register| register as usize);
+    let fields = match found.format {
+        0 => InstructionFields::R(RType { funct7, rs2, rs1, funct3, rd }),
+        1 => InstructionFields::I(IType { imm, rs1, funct3, rd }),
+        2 => InstructionFields::IShamt(ITypeShamt { funct7, shamt, rs1, funct3, rd }),
+        3 => InstructionFields::S(SType { imm, rs2, rs1, funct3 }),
+        4 => InstructionFields::B(BType { imm, rs2, rs1, funct3 }),
+        5 => InstructionFields::U(UType { imm, rd }),
+        _ => InstructionFields::J(JType { imm, rd }),
+    };
+    Some((NAMES[found.row as usize], fields))
+}
+
+/// Whether the kit has the row and the fields that QEMU's decoder has, and the text that row's name.
+fn is_qemus(word: u32, decoded: Option<Instruction>) -> bool {
+    match (decoded, decode_by_qemu(word)) {
+        (None, None) => true,
+        (Some(instruction), Some((name, fields))) => {
+            let text = Disassembled { instruction, pc: PC }.text();
+            instruction.mnemonic() == name
+                && instruction.fields() == fields
+                && text.as_str().split(' ').next() == Some(name)
+        }
+        _ => false,
+    }
+}
+
+/// Whether a word is one of those in which the original differs.
+#[cfg(feature = "original")]
+fn is_listed(word: u32) -> bool {
+    match (word & 0x7f, word >> 12 & 7) {
+        (0x13, 1) => word >> 25 != 0,
+        (0x67, funct3) => funct3 != 0,
+        _ => ENVIRONMENT.contains(&word),
+    }
+}
+
+/// Counts of what was seen.
+#[derive(Default)]
+struct Seen {
+    instructions: AtomicU64,
+    listed: AtomicU64,
+    wrong: AtomicU64,
+    next: AtomicU64,
+}
+
+impl Seen {
+    /// Says that a word is not as it should be: the first ten of them.
+    fn says(&self, word: u32, of: &str) {
+        if self.wrong.fetch_add(1, Relaxed) < 10 {
+            println!("0x{word:08x} differs from {of}");
+        }
+    }
+
+    /// Compares a word. The numbers are of the chunk.
+    fn compare(&self, word: u32, instructions: &mut u64, _listed: &mut u64) {
+        let decoded = decode(word);
+        *instructions += u64::from(decoded.is_some());
+        if !is_qemus(word, decoded) {
+            self.says(word, "QEMU's");
+        }
+        #[cfg(feature = "original")]
+        {
+            let differs = !original::is_same(word, decoded);
+            *_listed += u64::from(differs);
+            if differs != is_listed(word) {
+                self.says(word, "what is listed of the original");
+            }
+        }
+    }
+
+    /// Compares the words of each chunk that nobody has taken yet, up to an index of a word.
+    fn work(&self, end: u64) {
+        loop {
+            let begin = self.next.fetch_add(CHUNK, Relaxed);
+            if begin >= end {
+                return;
+            }
+            let (mut instructions, mut listed) = (0, 0);
+            for index in begin..begin + CHUNK {
+                self.compare((index as u32).wrapping_mul(STRIDE), &mut instructions, &mut listed);
+            }
+            self.instructions.fetch_add(instructions, Relaxed);
+            self.listed.fetch_add(listed, Relaxed);
+        }
+    }
+}
+
+fn main() -> ExitCode {
+    let asked = std::env::args().nth(1).unwrap_or_default();
+    let (begin, end) = match asked.parse::<u64>() {
+        Ok(part) if part < 64 => (part << 26, (part + 1) << 26),
+        Err(_) if asked == "all" => (0, 1 << 32),
+        _ => {
+            eprintln!("usage: every-word all | every-word PART, from 0 to 63");
+            return ExitCode::from(2);
+        }
+    };
+    let seen = Seen { next: AtomicU64::new(begin), ..Seen::default() };
+    thread::scope(|scope| {
+        for _ in 0..thread::available_parallelism().map_or(1, usize::from) {
+            scope.spawn(|| seen.work(end));
+        }
+    });
+    for word in ENVIRONMENT {
+        seen.compare(word, &mut 0, &mut 0);
+    }
+    let (instructions, listed) = (seen.instructions.into_inner(), seen.listed.into_inner());
+    let is_counted = asked != "all"
+        || (instructions == INSTRUCTIONS && (listed == LISTED || !cfg!(feature = "original")));
+    let wrong = seen.wrong.into_inner();
+    if wrong > 0 || !is_counted {
+        println!("{wrong} words are wrong; {instructions} are instructions, and {listed} differ");
+        return ExitCode::FAILURE;
+    }
+    println!("{} words, {instructions} of them instructions: as QEMU's decoder", end - begin);
+    if cfg!(feature = "original") {
+        println!("as the original, but for {listed} words that are listed");
+    }
+    ExitCode::SUCCESS
+}
