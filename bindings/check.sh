@@ -1,6 +1,6 @@
 #!/usr/bin/env bash
 # Builds the library for C, and tries what carries it to people. The same questions go through C,
-# C++, Rust and Python, and their answers are compared with the stored ones. The structs and the
+# C++ and Python, and their answers are compared with the stored ones. The structs and the
 # constants of each face are compared with those of rrs.h, and the names of the library with its
 # functions. The examples in C are built as C99 and as C++, with the address and the undefined
 # behaviour sanitizers, and compared with what they must print. What a face does beside has tests.
@@ -8,7 +8,7 @@
 # usage: check.sh [--self-test]
 #
 # The library is taken as it stands where it is newer than its sources, and else built, over what
-# `rt ci` left. It needs rt, and Debian's packages gcc, g++, binutils, cargo and python3; where CI
+# `rt ci` left. It needs rt, and Debian's packages gcc, g++, binutils and python3; where CI
 # is true those that are missing are installed. The status is 0 where all passed, 1 where something
 # did not, and 2 where a tool is missing, and nothing was tried. --self-test tries this script: on
 # wrong answers, lists and counts it must fail.
@@ -30,7 +30,7 @@ if ! command -v rt >/dev/null; then
     echo "$0: there is no rt" >&2
     exit 2
 fi
-if ! lacking=$("$here/../.ci/tools" gcc=gcc g++=g++ nm=binutils cargo=cargo python3=python3); then
+if ! lacking=$("$here/../.ci/tools" gcc=gcc g++=g++ nm=binutils python3=python3); then
     echo "$0: nothing was tried: not installed: $lacking" >&2
     exit 2
 fi
@@ -294,7 +294,7 @@ assemble_sees() {
 }
 
 # Libraries that the faces must refuse: of another version, one with no rrs_request, and one that
-# gives an unknown kind of exception and access. In the folders `version` and `kind` for Rust.
+# gives an unknown kind of exception and access.
 make_refused() {
     local name flags
     for name in version old kind; do
@@ -317,55 +317,6 @@ c_refuses() {
         "$room/version/librrs_c.a" || return 1
     "$room/refuses" >"$room/printed" 2>&1 && return 1
     echo "rrs.h and librrs_c.a are of two versions" | diff - "$room/printed"
-}
-
-# rust FOLDER WORD ..: cargo, over the library in a folder
-rust() {
-    local folder=$1
-    shift
-    CARGO_TARGET_DIR=$room/rust RUSTFLAGS=-Dwarnings RRS_LIB_DIR=$folder \
-        cargo "$@" --offline --quiet --manifest-path "$here/rust/Cargo.toml"
-}
-
-# rust_refuses LIBRARY COMPARED WORD ..: a test passes over a library that must be refused. Each is put
-# into the same folder, and so the crate has to be linked again.
-rust_refuses() {
-    local name=$1 compared=$2
-    shift 2
-    mkdir -p "$room/refused" && cp "$room/$name/librrs_c.a" "$room/refused" || return 1
-    rust_passes 1 "$compared" "$room/refused" --test refused -- --ignored "$@"
-}
-
-# rust_passes COUNT COMPARED FOLDER WORD ..: so many tests pass, which compare so often
-rust_passes() {
-    local count=$1 compared=$2 folder=$3 passed made
-    shift 3
-    [ $# -gt 0 ] || set -- --
-    CARGO_TARGET_DIR=$room/rust RUSTFLAGS=-Dwarnings RRS_LIB_DIR=$folder \
-        cargo test --offline --manifest-path "$here/rust/Cargo.toml" "$@" --show-output \
-        >"$room/printed" 2>&1 || { cat "$room/printed"; return 1; }
-    passed=$(sed -n 's/^test result: ok\. \([0-9]*\) passed.*/\1/p' "$room/printed" | paste -sd+)
-    made=$(grep -c '^compared$' "$room/printed")
-    [ "$((passed)) $made" = "$count $compared" ] && return
-    cat "$room/printed"
-    echo "$((passed)) tests and $made comparisons, and there must be $count and $compared"
-    return 1
-}
-
-# rust_examples COUNT: the examples of its docs compare so often
-rust_examples() {
-    [ "$(grep -c '^//[/!] assert_eq!' "$here/rust/src/lib.rs")" = "$1" ]
-}
-
-rust_prints() {
-    rust "$crate/out" run --example three_words >"$room/printed" || return 1
-    diff "$here/rust/expected.txt" "$room/printed"
-}
-
-rust_says_what_it_needs() {
-    local needed
-    needed=$(sed -n 's/^rust-version = "\(.*\)"$/\1/p' "$1/rust/Cargo.toml")
-    [ -n "$needed" ] && grep -q "Rust $needed" "$1/rust/README.md"
 }
 
 python() {
@@ -400,15 +351,6 @@ all() {
     examples
     try "libraries that must be refused" make_refused
     try "three_words refuses a library of another version" c_refuses
-    try "rust: its tests" rust_passes 11 77 "$crate/out"
-    try "rust: the examples of its docs" rust_examples 3
-    try "rust: three_words prints what is stored" rust_prints
-    try "rust: replay is built" rust "$crate/out" build --release --example replay
-    try "rust: replay answers as is stored" answers "$room/rust/release/examples/replay"
-    try "rust: replay refuses a line with more" refuses_lines "$room/rust/release/examples/replay"
-    try "rust: a library of another version is refused" rust_refuses version 22 another_version
-    try "rust: an unknown kind is refused" rust_refuses kind 12 unknown_kind
-    try "rust: README says which Rust it needs" rust_says_what_it_needs "$here"
     try "the library for Python" gcc -shared -o "$room/librrs.so" \
         -Wl,--whole-archive "$library" -Wl,--no-whole-archive
     try "python: its tests" python_passes 29 357 14
@@ -416,7 +358,7 @@ all() {
     try "python: replay answers as is stored" answers python replay.py
     try "python: replay refuses a line with more" refuses_lines python replay.py
     try "python: the structs and constants are those of rrs.h" python_has_layouts
-    finish 53
+    finish 44
 }
 
 # The calls that do more than they may: some write a text where there is room for it, and none for
@@ -534,8 +476,6 @@ case "\$*" in
 *layouts.py) cat "\$layouts" ;;
 *test_rrs.py) echo "Ran $((24 - fewer)) tests" && echo "$((5 - ${4:-0})) comparisons, 2 examples" ;;
 *three_words.py) cat "\$here/python/expected.txt" ;;
-run*) cat "\$here/rust/expected.txt" ;;
-test*) echo "test result: ok. $((7 - fewer)) passed" && echo compared && echo ${4:+not }compared ;;
 "") case \$0 in
     */layouts) cat "\$layouts" ;;
     *) cat "\$here/c/expected/three_words.txt" ;;
@@ -545,18 +485,13 @@ ${2:-}
 exit $1
 SH
     chmod +x "$room/bin/tool"
-    for tool in gcc cargo python3; do ln -s tool "$room/bin/$tool"; done
+    for tool in gcc python3; do ln -s tool "$room/bin/$tool"; done
     PATH=$room/bin:$PATH
-    mkdir -p "$room/rust" && cp "$here"/rust/{Cargo.toml,README.md} "$room/rust" || exit 2
-    [ "$fewer" = 0 ] || sed -i 's/^rust-version = .*/rust-version = "1.99"/' "$room/rust/Cargo.toml"
-    try "rust: README says which Rust it needs" rust_says_what_it_needs "$room"
     try "rrs.h has the stored layouts and constants" header_has gcc
     try "rrs.h declares the stored functions" declares
     try "rrs.h asserts each layout" asserts_all
     try "three_words is built" build gcc three_words "$here/c/three_words.c"
     try "three_words prints what is stored" prints three_words
-    try "rust: its tests" rust_passes 7 2 "$crate/out"
-    try "rust: three_words prints what is stored" rust_prints
     try "python: its tests" python_passes 24 5 2
     try "python: three_words prints what is stored" python_prints
     try "python: the structs and constants are those of rrs.h" python_has_layouts
@@ -568,13 +503,13 @@ wrong_tools() {
     local wanted
     case $1 in
     right) wanted=0 && over_tools 0 ;;
-    more) wanted=6 && over_tools 0 "echo more" ;;
-    ended) wanted=9 && over_tools 1 ;;
-    fewer) wanted=3 && over_tools 0 "" 1 ;;
-    uncompared) wanted=2 && over_tools 0 "" 0 1 ;;
+    more) wanted=5 && over_tools 0 "echo more" ;;
+    ended) wanted=7 && over_tools 1 ;;
+    fewer) wanted=1 && over_tools 0 "" 1 ;;
+    uncompared) wanted=1 && over_tools 0 "" 0 1 ;;
     esac
     [ "$fails" = "$wanted" ] || { echo "$fails tries fail, and $wanted must" && exit 3; }
-    finish 11
+    finish 8
 }
 
 # What is small, with something wrong in it: nothing, answers, lines, talks, takes, unwritten, layouts,
