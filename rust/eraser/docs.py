@@ -92,7 +92,9 @@ def doctest(block, margin, imports):
     body = [re.sub(r"\b(assert\w*!)\(rt; ", r"\1(", line) for line in body]
     body = [re.sub(r"vec!\[in alloc; ([^\]]*)\]\?", r"vec![\1]", line) for line in body]
     body = [re.sub(r"return Err\((\".*?\")\)", r"return Err(\1.into())", line) for line in body]
-    before = [f"# use {path};" for path in imports]
+    # modules of one name, as `laws`, have functions of one name: the first is that of this crate
+    firsts = {path.split("::")[-2]: path for path in reversed(imports)}.values()
+    before = [f"# use {path};" for path in imports if path in firsts]
     if any(re.search(r"\balloc\b", line) for line in body):
         before.append("# let alloc = rattle_std::alloc::Global;")
     if any(re.search(r"\?[;.)?]|return Err", line) for line in body):
