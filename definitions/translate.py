@@ -709,19 +709,23 @@ def write(folder, module, text):
     return path
 
 
-def main():
-    if len(sys.argv) != 3 or sys.argv[1].startswith("-"):
-        sys.exit("usage: translate.py CRATES OUTPUT")
-    crates, folder = sys.argv[1:]
-    try:
-        modules = list(Translation(crates).modules())
-    except Untranslatable as error:
-        sys.exit(str(error))
+def write_all(crates, folder):
+    """Writes the modules into a folder, and takes away what stands there and is none of them."""
+    modules = list(Translation(crates).modules())
     every = "\n".join(["-- All of them.", "module Definitions where"]
                       + [f"import {name}" for name, _ in modules]) + "\n"
     written = {write(folder, name, text) for name, text in [*modules, ("Definitions", every)]}
     for path in set(Path(folder).rglob("*.agda")) - written:
         path.unlink()
+
+
+def main():
+    if len(sys.argv) != 3 or sys.argv[1].startswith("-"):
+        sys.exit("usage: translate.py CRATES OUTPUT")
+    try:
+        write_all(*sys.argv[1:])
+    except Untranslatable as error:
+        sys.exit(str(error))
 
 
 if __name__ == "__main__":
