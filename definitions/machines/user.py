@@ -1,0 +1,302 @@
+"""The definitions beside qemu-riscv32: random steps, each with its registers, pc and accesses, and
+compiled programs, with what they leave."""
+
+import random
+import re
+import subprocess
+import struct
+from pathlib import Path
+
+MASK = 0xFFFFFFFF
+EDGES = [0, 1, 2, 31, 32, 0x7F, 0x80, 0xFF, 0x7FFF, 0x8000, 0xFFFF, 0x7FFFFFFF, 0x80000000,
+         0x80000001, 0xFFFFFF80, 0xFFFF8000, 0xFFFFFFFE, MASK]
+DATA, LOW, CODE, END = 8, 9, 0x1000, 0x3000     # two registers with bases; where code is, and the end
+
+
+def elf(entry, base, data):
+    """An executable of one segment, which is readable, writable and executable."""
+    header = b"\x7fELF\1\1\1" + bytes(9) + struct.pack(
+        "<HHIIIIIHHHHHH", 2, 243, 1, entry, 52, 0, 0, 52, 32, 1, 40, 0, 0)
+    segment = struct.pack("<IIIIIIII", 1, 0x1000, base, base, len(data), len(data), 7, 0x1000)
+    return (header + segment).ljust(0x1000, b"\0") + data
+
+
+def r_type(funct7, rs2, rs1, funct3, rd, opcode=0x33):
+    return funct7 << 25 | rs2 << 20 | rs1 << 15 | funct3 << 12 | rd << 7 | opcode
+
+
+def i_type(imm, rs1, funct3, rd, opcode=0x13):
+    return (imm & 0xFFF) << 20 | rs1 << 15 | funct3 << 12 | rd << 7 | opcode
+
+
+def s_type(imm, rs2, rs1, funct3):
+    return (imm >> 5 & 0x7F) << 25 | rs2 << 20 | rs1 << 15 | funct3 << 12 | (imm & 31) << 7 | 0x23
+
+
+def b_type(imm, rs2, rs1, funct3):
+    return ((imm >> 12 & 1) << 31 | (imm >> 5 & 0x3F) << 25 | rs2 << 20 | rs1 << 15
+            | funct3 << 12 | (imm >> 1 & 15) << 8 | (imm >> 11 & 1) << 7 | 0x63)
+
+
+def j_type(imm, rd):
+    return ((imm >> 20 & 1) << 31 | (imm >> 1 & 0x3FF) << 21 | (imm >> 11 & 1) << 20
+            | (imm >> 12 & 0xFF) << 12 | rd << 7 | 0x6F)
+
+
+def load_constant(register, value):
+    """lui and addi."""
+    low = (value & 0xFFF ^ 0x800) - 0x800
+    return [(value - low & 0xFFFFF000) | register << 7 | 0x37, i_type(low, register, 0, register)]
+
+
+def place(chance):
+    """A base register and an offset, by which all sizes of an access are aligned and mapped."""
+    if chance.random() < 0.7:
+        return DATA, chance.randrange(-512, 512) * 4
+    if chance.random() < 0.7:
+        return LOW, chance.randrange(0x200, 0x800, 4)       # past the last address, from 0 on
+    return 0, chance.randrange(0, 0x800, 4)
+
+
+def random_instruction(chance):
+    """One instruction, or two, that go on to the next but for jumps over up to three."""
+    rd = chance.choice([r for r in range(32) if r not in (DATA, LOW)])
+    rs1, rs2 = chance.randrange(32), chance.randrange(32)
+    kind, skip = chance.randrange(20), 4 * chance.randrange(1, 5)
+    imm = chance.choice([chance.randrange(-2048, 2048), -2048, 2047, -1, 0, 1])
+    if kind < 4:
+        return [r_type(1, rs2, rs1, chance.randrange(8), rd)]
+    if kind < 7:
+        funct3 = chance.randrange(8)
+        other = funct3 in (0, 5) and chance.random() < 0.5
+        return [r_type(0x20 * other, rs2, rs1, funct3, rd)]
+    if kind < 10:
+        funct3 = chance.randrange(8)
+        if funct3 in (1, 5):
+            other = funct3 == 5 and chance.random() < 0.5
+            return [r_type(0x20 * other, chance.randrange(32), rs1, funct3, rd, 0x13)]
+        return [i_type(imm, rs1, funct3, rd)]
+    if kind == 10:
+        return [chance.getrandbits(20) << 12 | rd << 7 | chance.choice([0x37, 0x17])]
+    if kind < 14:
+        funct3 = chance.choice([0, 1, 2, 4, 5])
+        base, offset = place(chance)
+        return [i_type(offset + chance.randrange(0, 4, 1 << funct3 % 4), base, funct3, rd, 0x03)]
+    if kind < 16:
+        funct3 = chance.randrange(3)
+        base, offset = place(chance)
+        return [s_type(offset + chance.randrange(0, 4, 1 << funct3), rs2, base, funct3)]
+    if kind < 18:
+        return [b_type(skip, rs2 if chance.random() < 0.8 else rs1, rs1,
+                       chance.choice([0, 1, 4, 5, 6, 7]))]
+    if kind == 18:
+        return [j_type(skip, rd)]
+    if chance.random() < 0.3:
+        return [0x0FF0000F]
+    base = chance.choice([r for r in range(1, 32) if r not in (DATA, LOW)])
+    # no jump over up to three comes between the two
+    return [0x13] * 3 + [base << 7 | 0x17, i_type(8 + chance.randrange(2), base, 0, rd, 0x67)]
+
+
+def random_program(seed, steps):
+    """Memory from address 0 on: low data, a program of about so many steps, and data."""
+    chance = random.Random(seed)
+    words = []
+    for register in range(1, 32):
+        value = {DATA: 0x2800, LOW: 0xFFFFFE00}.get(
+            register, chance.choice(EDGES) if chance.random() < 0.6 else chance.getrandbits(32))
+        words += load_constant(register, value)
+    while len(words) < steps:
+        words += random_instruction(chance)
+    words += [0x13] * 4 + [i_type(93, 0, 0, 17), i_type(0, 0, 0, 10), 0x73]
+    memory = bytearray(chance.getrandbits(8) for _ in range(END))
+    memory[CODE:CODE + 4 * len(words)] = struct.pack(f"<{len(words)}I", *words)
+    return bytes(memory)
+
+
+def memory_words(memory):
+    return ",".join(f"0x{w:08x}" for w in struct.unpack(f"<{len(memory) // 4}I", memory))
+
+
+def registers_words(registers):
+    return ",".join(f"x{i}=0x{v:08x}" for i, v in enumerate(registers) if i and v) or "-"
+
+
+def question(kind, limit, pc, base, registers, memory):
+    return (f"{kind} {limit} pc=0x{pc:08x} base=0x{base:08x} regs={registers_words(registers)} "
+            f"mem={memory_words(memory)}")
+
+
+def ask(answers, questions):
+    """The lines that the program of the definitions answers."""
+    done = subprocess.run([answers], input="\n".join(questions) + "\n", text=True,
+                          capture_output=True, check=True)
+    return done.stdout.splitlines()
+
+
+def qemu_log(room, plugin, program):
+    """What QEMU executes of a program: the registers before each step, and its accesses."""
+    path, log = Path(room, "program"), Path(room, "log")
+    path.write_bytes(elf(CODE, 0, program))
+    path.chmod(0o755)
+    done = subprocess.run(["qemu-riscv32", "-singlestep", "-plugin", plugin, "-d",
+                           "cpu,plugin,nochain", "-D", log, path], check=False)
+    if done.returncode:
+        raise RuntimeError(f"qemu-riscv32: status {done.returncode}")
+    return steps_of(log.read_text())
+
+
+def steps_of(log):
+    """The pc, the registers and the accesses of each step of a log."""
+    steps = []
+    for part in log.split(" pc       ")[1:]:
+        registers = [int(v, 16) for v in re.findall(r"x\d+/\S+ +([0-9a-f]{8})", part)]
+        steps.append((int(part[:8], 16), registers, re.findall(r"^access (\S+)", part, re.M)))
+    return steps
+
+
+def difference(steps, lines, memory):
+    """The first step in which the definitions differ from QEMU, or None."""
+    registers = list(steps[0][1])
+    for number, ((pc, wanted, accesses), line) in enumerate(zip(steps, lines)):
+        m = re.fullmatch(r"0x(\w+) (Ok|EnvironmentCall 0x\w+) (-|x(\d+))=0x(\w+) (\S+)", line)
+        if not m or int(m[1], 16) != pc or wanted != registers:
+            return f"step {number}: {line}: registers or pc"
+        word = int.from_bytes(memory[pc:pc + 4], "little")
+        made = m[6].split(",")
+        fetch, others = made[0], [a.split("=")[0] for a in made[1:]]
+        if fetch != f"r0x{pc:08x}/4=0x{word:08x}" or others != accesses:
+            return f"step {number}: {line}: accesses, and QEMU makes {accesses}"
+        if (m[2] == "Ok") != (word != 0x73):
+            return f"step {number}: {line}: the answer"
+        if m[4]:
+            registers[int(m[4])] = int(m[5], 16)
+    end = f"end pc=0x{steps[-1][0]:08x} last=- regs={registers_words(steps[-1][1])}"
+    if len(lines) != len(steps) + 1 or lines[-1] != end:
+        return f"{len(lines) - 1} steps, and QEMU makes {len(steps)}, or the end: {lines[-1]}"
+    return None
+
+
+def compare_steps(answers, room, plugin, seed, count):
+    """Compares a random program, step by step: how many steps, and the first difference."""
+    memory = random_program(seed, count)
+    steps = qemu_log(room, plugin, memory)
+    pc, registers, _ = steps[0]
+    lines = ask(answers, [question("trace", 2 * len(steps), pc, 0, registers, memory)])
+    return len(steps), difference(steps, lines, memory)
+
+
+# ---- compiled programs
+
+LINK = """ENTRY(_start)
+PHDRS { all PT_LOAD FLAGS(7); }
+SECTIONS {
+  . = 0x10000;
+  all : { *(.text*) *(.rodata* .srodata*) . = ALIGN(16);
+    dump_start = .; *(.data* .sdata*) *(.bss* .sbss* COMMON) . = ALIGN(16); dump_end = .;
+    . += 2048; stack_end = .; LONG(0) } : all
+  /DISCARD/ : { *(.comment) *(.note*) *(.riscv*) *(.eh_frame*) }
+}
+"""
+START = """.globl _start
+_start:
+    la sp, stack_end
+    call main
+    la t0, registers
+""" + "".join(f"    sw x{i}, {4 * i}(t0)\n" for i in range(1, 32)) + """
+    la a1, dump_start
+    la a2, dump_end
+    sub a2, a2, a1
+    li a0, 1
+    li a7, 64
+    ecall
+    li a0, 0
+    li a7, 93
+    ecall
+.bss
+.align 4
+registers: .space 128
+"""
+
+
+def random_c(chance):
+    """A program in C over arrays of bytes, half-words and words."""
+    def value(depth):
+        kind = chance.randrange(9 if depth else 4)
+        name = chance.choice("abcdi")
+        if kind == 0:
+            return str(chance.choice(EDGES)) + "u"
+        if kind == 1:
+            return name
+        if kind == 2:
+            array, last = chance.choice([("w", 15), ("h", 31), ("s", 63), ("u", 63)])
+            return f"{array}[{name} & {last}]"
+        if kind == 3:
+            return f"(int){name}"
+        left, right = value(depth - 1), value(depth - 1)
+        if kind == 4:
+            return f"({left} {chance.choice(['<<', '>>'])} ({right} & 31))"
+        if kind == 5:
+            return f"({left} {chance.choice(['<', '>=', '==', '!='])} {right} ? {left} : {right})"
+        if kind == 6:
+            return f"((int)({left}) {chance.choice(['/', '%', '>>', '<'])} (int)(({right} & 30) + 1))"
+        if kind == 7:
+            return f"(unsigned)((long long)(int)({left}) * (int)({right}) >> 32)"
+        if kind == 8 and chance.random() < 0.3:
+            return f"({left} {chance.choice('/%')} ({right} | 1))"
+        return f"({left} {chance.choice('+-*&|^')} {right})"
+
+    def statement(depth):
+        kind = chance.randrange(6 if depth else 3)
+        if kind == 0:
+            return f"{chance.choice('abcd')} = {value(2)};"
+        if kind < 3:
+            array, last = chance.choice([("w", 15), ("h", 31), ("s", 63), ("u", 63)])
+            return f"{array}[{chance.choice('abcdi')} & {last}] = {value(2)};"
+        body = " ".join(statement(depth - 1) for _ in range(chance.randrange(1, 4)))
+        if kind == 3:
+            return f"if ({value(1)}) {{ {body} }} else {{ {statement(0)} }}"
+        if kind == 4:
+            return f"{chance.choice('ab')} = f{chance.randrange(2)}({value(1)}, {value(1)});"
+        name = "ij"[depth - 1]
+        return f"for ({name} = 0; {name} < {chance.randrange(2, 9)}; {name}++) {{ {body} }}"
+
+    functions = "".join(
+        f"static __attribute__((noinline)) unsigned f{k}(unsigned a, unsigned b) {{\n"
+        "  unsigned c = a ^ b, d = a + b, i = 3;\n  "
+        + "\n  ".join(s for s in (statement(0) for _ in range(3))) + "\n  return a + b + c + d;\n}\n"
+        for k in range(2))
+    body = "\n  ".join(statement(2) for _ in range(chance.randrange(6, 14)))
+    return (f"unsigned w[16]; short h[32]; signed char s[64]; unsigned char u[64];\n{functions}"
+            "int main(void) {\n"
+            f"  unsigned a = {chance.getrandbits(32)}u, b = {chance.choice(EDGES)}u, c = 7, d = 9,"
+            f" i = 0, j = 0;\n  {body}\n  return a + b + c + d;\n}}\n")
+
+
+def compiled(room, seed):
+    """A program, compiled, as its file and its memory."""
+    chance = random.Random(seed)
+    for name, text in ("c.c", random_c(chance)), ("start.S", START), ("link.ld", LINK):
+        Path(room, name).write_text(text)
+    path = Path(room, "compiled")
+    subprocess.run(["riscv64-unknown-elf-gcc", "-march=rv32im", "-mabi=ilp32", "-w", "-nostdlib",
+                    "-ffreestanding", f"-O{chance.choice('012s')}", "-Wl,--no-warn-rwx-segments",
+                    "-T", "link.ld", "start.S", "c.c", "-lgcc", "-o", path],
+                   cwd=room, check=True)
+    data = path.read_bytes()
+    entry, headers = struct.unpack_from("<II", data, 24)
+    offset, base, _, size = struct.unpack_from("<IIII", data, headers + 4)
+    return path, entry, base, data[offset:offset + size]
+
+
+def compare_program(answers, room, seed, limit):
+    """Compares what a compiled program leaves: how many steps it makes, and the difference."""
+    path, entry, base, memory = compiled(room, seed)
+    wanted = subprocess.run(["qemu-riscv32", path], capture_output=True, check=True,
+                            timeout=60).stdout
+    line, = ask(answers, [question("run", limit, entry, base, [0] * 32, memory)])
+    m = re.match(r"steps=(\d+) (\S+) .* bytes=(\S+)$", line)
+    if not m or m[2] == "limit":
+        return limit, None if m else line
+    left = b"".join(int(w, 16).to_bytes(4, "little") for w in m[3].split(","))
+    return int(m[1]), None if left == wanted and m[2] == "EnvironmentCall" else line[:200]
