@@ -80,7 +80,8 @@ memory-text bytes a (suc n) with little-endian bytes a 4
 ... | Some w = word-text w ∷ memory-text bytes (a + 4) n
 
 state-text : ℕ → State → List ℕ
-state-text zero-entry s = codes "pc=" ++ word-text (s .pc·) ++ codes " last=" ++ last-text (s .last·)
+state-text zero-entry s = codes "pc=" ++ word-text (s .pc·)
+  ++ codes " last=" ++ last-text (s .last·)
   ++ codes " regs=" ++ joined (codes ",") (registers-text 0 (zero-entry ∷ s .registers·))
 
 -- ---- states
@@ -149,7 +150,8 @@ anew-if true s = record s { bytes· = remembered 32 (s .bytes·) }
 anew-if false s = s
 
 anew-if-is : (now : Bool) (s : State) → anew-if now s ≡ s
-anew-if-is true s = cong (λ b → record s { bytes· = b }) (extensionality (remembered-is 32 (s .bytes·)))
+anew-if-is true s =
+  cong (λ b → record s { bytes· = b }) (extensionality (remembered-is 32 (s .bytes·)))
 anew-if-is false s = refl
 
 anew : ℕ → State → State

@@ -131,7 +131,8 @@ record _<_ (m n : ℕ) : Set where
 
 -- ---- whole numbers
 
--- lib.IntN: neg_ℤ (pos zero) = pos zero, neg_ℤ (pos (suc n)) = negsuc n, neg_ℤ (negsuc n) = pos (suc n)
+-- lib.IntN: neg_ℤ (pos zero) = pos zero, neg_ℤ (pos (suc n)) = negsuc n,
+-- neg_ℤ (negsuc n) = pos (suc n)
 neg-ℤ : ℤ → ℤ
 neg-ℤ (pos zero) = pos zero
 neg-ℤ (pos (suc n)) = negsuc n
@@ -447,8 +448,8 @@ signed-decimal (negsuc n) = 45 ∷ decimal (suc n)
 
 -- ---- values of the code
 
--- std_alloc: struct Vec, of which vec_items, vec_len and vec_capacity are the parts. Here the length
--- is that of the items, as a Vec keeps it.
+-- std_alloc: struct Vec, of which vec_items, vec_len and vec_capacity are the parts. Here the
+-- length is that of the items, as a Vec keeps it.
 record Vec (A : Set) : Set where
   field
     items· : List A
@@ -549,7 +550,8 @@ coded-list {A} c = record { code = code ; inj = inj }
 coded× : {A B : Set} → Coded A → Coded B → Coded (A × B)
 coded× c d = record
   { code = λ p → gcons (Coded.code c (proj₁ p)) (Coded.code d (proj₂ p))
-  ; inj = λ p q e → cong₂ _,_ (Coded.inj c _ _ (cong first-in e)) (Coded.inj d _ _ (cong second-in e)) }
+  ; inj = λ p q e → cong₂ _,_ (Coded.inj c _ _ (cong first-in e))
+      (Coded.inj d _ _ (cong second-in e)) }
 
 code-by : {A : Set} (B : Set) → Coded B → (to : A → B) (from : B → A)
   → ((x : A) → from (to x) ≡ x) → Coded A

@@ -68,8 +68,9 @@ def entries(text, notation):
             found[last[0]] += "\n" + bare
             last = None if bare.endswith("where") else last
             continue
-        head = re.match(r"(?:(?:abbrev|unfoldable) )?(?:pub )?(?:(record|data|module) )?(\S+)", bare)
-        name = head[2].replace("_", "-").rstrip("·!′") if head[2] != "_" else "_"
+        head = re.match(r"(?:(?:abbrev|unfoldable) )?(?:pub )?(?:(?:record|data|module) )?(\S+)",
+                        bare)
+        name = head[1].replace("_", "-").rstrip("·!′") if head[1] != "_" else "_"
         key, count = (name, 0), 0
         while key in found:
             count += 1

@@ -4,8 +4,8 @@
 usage: translate.py CRATES OUTPUT       CRATES is the folder of the crates
 
 A definition file `crates/NAME/specs/FILE.antt` becomes a module `NAME.FILE`, and the types of the
-code that definitions speak of become `NAME.Declared`. `Definitions` imports all of them. The lines stay in their order, comments and
-all. The rules are those of RULES, of what a line may be, of DECLARATIONS, and of types of the
+code that definitions speak of become `NAME.Declared`. `Definitions` imports all of them. The lines
+stay in their order, comments and all. The rules are those of RULES, of what a line may be, of DECLARATIONS, and of types of the
 code, of RUST. What none of them takes is an error, which names the file and the line.
 """
 
@@ -32,8 +32,8 @@ LEFT_OUT = {
     "rrs_oracle.Taking": "it speaks of the code that reads a line, and no answer depends on it",
 }
 
-# Definitions that Agda is not to unfold. It unfolds the types that it checks, and a number of 2 ^ 31
-# times a variable is 2 ^ 31 sums to it. A program computes them; `refl` does not.
+# Definitions that Agda is not to unfold. It unfolds the types that it checks, and a number of
+# 2 ^ 31 times a variable is 2 ^ 31 sums to it. A program computes them; `refl` does not.
 OPAQUE = {
     "rrs_elf.Numbers": {"half", "word"},
     "rrs_privileged.Csrs": {"both", "either"},

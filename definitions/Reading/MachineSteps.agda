@@ -148,4 +148,5 @@ machine-step i s = by (interrupt-due (s .csrs·) i) refl
   by : (o : Option Interrupt) → interrupt-due (s .csrs·) i ≡ o → MachineStepped i s
   by (Some x) e = stepped _ _ [] (Interrupts x e refl refl) (OfInterrupt x e refl)
   by None e with instruction-step i s
-  ... | t , answer , is = stepped t answer _ (Proceeds e is) (OfInstruction e (Stepped.are-its (step (s .hart·))))
+  ... | t , answer , is = stepped t answer _ (Proceeds e is)
+    (OfInstruction e (Stepped.are-its (step (s .hart·))))

@@ -139,8 +139,8 @@ record Ran (n : ℕ) (s : State) : Set where
     is-run : Run s answers end
     are-its : AccessesOfRun s answers accesses
 
--- What the steps leave that come before an exception or a limit, how many they are, the exception if
--- there is one, and their accesses.
+-- What the steps leave that come before an exception or a limit, how many they are, the exception
+-- if there is one, and their accesses.
 record RanUntil (limit : ℕ) (s : State) : Set where
   constructor ran-until
   field
@@ -161,7 +161,8 @@ module _ (anew : ℕ → State → State) (equal : (n : ℕ) (s : State) → ane
   ...   | ran u answers others many so theirs = ran u (answer ∷ answers) (accesses ++ others)
     (cong suc many)
     (t , is , subst (λ m → Run m answers u) (equal n t) so)
-    (t , accesses , others , is , its , subst (λ m → AccessesOfRun m answers others) (equal n t) theirs , refl)
+    (t , accesses , others , is , its
+    , subst (λ m → AccessesOfRun m answers others) (equal n t) theirs , refl)
 
   -- A run until an exception or a limit, with the number of the steps before.
   run-until : (limit : ℕ) (s : State) → RanUntil limit s
@@ -174,7 +175,8 @@ module _ (anew : ℕ → State → State) (equal : (n : ℕ) (s : State) → ane
     at-end [] = refl
     at-end (x ∷ xs) = cong (x ∷_) (at-end xs)
   ... | stepped t (Ok tt) accesses is its with run-until n (anew n t)
-  ...   | ran-until u k None others (many , so) theirs = ran-until u (suc k) None (accesses ++ others)
+  ...   | ran-until u k None others (many , so) theirs =
+    ran-until u (suc k) None (accesses ++ others)
     (cong suc many , t , is , subst (λ m → RunsOk k m u) (equal n t) so)
     (t , accesses , others , is , its
     , subst (λ m → AccessesOfRun m (replicate k (Ok tt)) others) (equal n t) theirs , refl)

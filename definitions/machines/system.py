@@ -28,8 +28,9 @@ class Stub:
     def __init__(self, room):
         path = f"{room}/gdb"
         self.qemu = subprocess.Popen(
-            ["setpriv", "--pdeathsig", "KILL", "qemu-system-riscv32", "-M", "virt", "-bios", "none", "-display", "none", "-serial",
-             "none", "-monitor", "none", "-m", "2M", "-S", "-singlestep", "-cpu",
+            ["setpriv", "--pdeathsig", "KILL", "qemu-system-riscv32", "-M", "virt", "-bios", "none",
+             "-display", "none", "-serial", "none", "-monitor", "none", "-m", "2M", "-S",
+             "-singlestep", "-cpu",
              "rv32,a=false,c=false,f=false,d=false,h=false,s=false,u=false,pmp=false,mmu=false,"
              "marchid=0,mimpid=0,pmu-num=0,sstc=false,priv_spec=v1.12.0", "-chardev",
              f"socket,path={path},server=on,wait=off,id=gdb", "-gdb", "chardev:gdb"],
@@ -103,7 +104,8 @@ def csr_instruction(chance, rd):
     if kind == 1:
         return i_type(NUMBERS["mstatus"], 8, chance.choice([6, 7]), rd, 0x73)
     if kind == 2:
-        return i_type(NUMBERS["mie"], chance.choice([ENABLE, 0]), chance.choice([1, 2, 3]), rd, 0x73)
+        return i_type(NUMBERS["mie"], chance.choice([ENABLE, 0]), chance.choice([1, 2, 3]), rd,
+                      0x73)
     if kind == 3:
         return i_type(NUMBERS["mie"], 8, chance.choice([5, 6, 7]), rd, 0x73)
     if kind == 4:
@@ -172,7 +174,8 @@ def random_state(chance):
                             (STATUS, 0x1800 | chance.choice([0, 8, 0x80, 0x88])),
                             (ENABLE, chance.choice([0x888, 0x88, 8, 0x80, 0x800]))):
         registers[register] = value
-    csrs = dict(mstatus=0x1800 | chance.choice([0, 8, 0x80, 0x88]), mie=chance.choice([0, 0x888, 8]),
+    csrs = dict(mstatus=0x1800 | chance.choice([0, 8, 0x80, 0x88]),
+                mie=chance.choice([0, 0x888, 8]),
                 mtvec=middle + 4 * chance.randrange(64) + chance.randrange(2),
                 mscratch=chance.getrandbits(32), mepc=middle + 4 * chance.randrange(64),
                 mcause=chance.randrange(12), mtval=chance.getrandbits(32))

@@ -10,7 +10,8 @@ from pathlib import Path
 MASK = 0xFFFFFFFF
 EDGES = [0, 1, 2, 31, 32, 0x7F, 0x80, 0xFF, 0x7FFF, 0x8000, 0xFFFF, 0x7FFFFFFF, 0x80000000,
          0x80000001, 0xFFFFFF80, 0xFFFF8000, 0xFFFFFFFE, MASK]
-DATA, LOW, CODE, END = 8, 9, 0x1000, 0x3000     # two registers with bases; where code is, and the end
+DATA, LOW = 8, 9                    # two registers with bases, which no instruction writes
+CODE, END = 0x1000, 0x3000          # where the code is, and the end of the memory
 
 
 def elf(entry, base, data):
@@ -239,7 +240,8 @@ def random_c(chance):
         if kind == 5:
             return f"({left} {chance.choice(['<', '>=', '==', '!='])} {right} ? {left} : {right})"
         if kind == 6:
-            return f"((int)({left}) {chance.choice(['/', '%', '>>', '<'])} (int)(({right} & 30) + 1))"
+            operator = chance.choice(["/", "%", ">>", "<"])
+        return f"((int)({left}) {operator} (int)(({right} & 30) + 1))"
         if kind == 7:
             return f"(unsigned)((long long)(int)({left}) * (int)({right}) >> 32)"
         if kind == 8 and chance.random() < 0.3:
@@ -264,7 +266,7 @@ def random_c(chance):
     functions = "".join(
         f"static __attribute__((noinline)) unsigned f{k}(unsigned a, unsigned b) {{\n"
         "  unsigned c = a ^ b, d = a + b, i = 3;\n  "
-        + "\n  ".join(s for s in (statement(0) for _ in range(3))) + "\n  return a + b + c + d;\n}\n"
+        + "\n  ".join(statement(0) for _ in range(3)) + "\n  return a + b + c + d;\n}\n"
         for k in range(2))
     body = "\n  ".join(statement(2) for _ in range(chance.randrange(6, 14)))
     return (f"unsigned w[16]; short h[32]; signed char s[64]; unsigned char u[64];\n{functions}"
