@@ -204,11 +204,14 @@ def begin(stub, registers, csrs, words):
 
 
 def told(stub, kind, word, ours, csrs):
-    """Three CSRs that QEMU 7.2 has otherwise: the program goes on with those of the definitions.
-    The specification has the target in mtval after a jump to a misaligned address, and QEMU the
-    jump's own; it lets mtval after an ebreak be 0 or the address; and it has MPP as M after an mret
-    where there is no U mode, and QEMU has U."""
-    if kind == "Raised 0" and csrs[6] == csrs[4] or kind == "Raised 3" and csrs[6] == 0:
+    """What QEMU 7.2 has otherwise in a CSR: the program goes on with that of the definitions. The
+    specification has the target in mtval after a jump to a misaligned address, and QEMU the jump's
+    own; it lets mtval after an ebreak be 0 or the address, and after an illegal instruction the
+    word or its low half, if that says that it is no word; and it has MPP as M after an mret where
+    there is no U mode, and QEMU has U."""
+    half = int(word, 16) % 2 ** 16 if kind == "Raised 2" and int(word, 16) % 4 != 3 else None
+    if (kind == "Raised 0" and csrs[6] == csrs[4] or kind == "Raised 3" and csrs[6] == 0
+            or csrs[6] == half):
         csrs[6] = ours[6]
         stub.set_csr("mtval", ours[6])
     if word == "30200073" and kind == "Retired" and csrs[0] == ours[0] & ~0x1800:
