@@ -118,8 +118,12 @@ def csr_instruction(chance, rd):
         return i_type(NUMBERS[chance.choice(["mscratch", "mcause", "mtval"])],
                       chance.randrange(32), chance.choice([1, 2, 3, 5, 6, 7]), rd, 0x73)
     if kind == 9:
-        return i_type(NUMBERS[chance.choice(["mvendorid", "mhartid", "satp", "none"])],
-                      chance.randrange(32), chance.choice([1, 2, 3, 5, 6, 7]), rd, 0x73)
+        # To QEMU 7.2 csrrs and csrrc of a register with the value 0 write nothing. The specification
+        # says so of x0 alone.
+        funct3 = chance.choice([1, 2, 3, 5, 6, 7])
+        rs1 = chance.choice([0, MIDDLE, STATUS]) if funct3 in (2, 3) else chance.randrange(32)
+        return i_type(NUMBERS[chance.choice(["mvendorid", "mhartid", "satp", "none"])], rs1, funct3,
+                      rd, 0x73)
     return i_type(NUMBERS[chance.choice(list(NUMBERS))], 0, chance.choice([2, 3, 6, 7]), rd, 0x73)
 
 

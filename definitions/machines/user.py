@@ -241,7 +241,7 @@ def random_c(chance):
             return f"({left} {chance.choice(['<', '>=', '==', '!='])} {right} ? {left} : {right})"
         if kind == 6:
             operator = chance.choice(["/", "%", ">>", "<"])
-        return f"((int)({left}) {operator} (int)(({right} & 30) + 1))"
+            return f"((int)({left}) {operator} (int)(({right} & 30) + 1))"
         if kind == 7:
             return f"(unsigned)((long long)(int)({left}) * (int)({right}) >> 32)"
         if kind == 8 and chance.random() < 0.3:
