@@ -24,8 +24,6 @@ test< m n e = N.<ᵇ⇒< m n (subst Holds (sym e) tt) where
 ... | true | _ = refl
 below : {m n : ℕ} → m < n → m N.< n
 below {m} {n} (lt e) = test< m n e
-not-test : (b : Bool) → not b ≡ true → b ≡ false
-not-test false e = refl
 false-test : {m n : ℕ} → n N.≤ m → nat-lt m n ≡ false
 false-test {m} {n} h with nat-lt m n | test< m n
 ... | true | t = ⊥-elim (N.<⇒≱ (t refl) h)
@@ -94,7 +92,8 @@ above : (x e k weight size : ℕ) → 0 N.< weight → 0 N.< size
 above x e k (suc v) (suc s) _ _ = trans (cong (λ z → (z N.+ x) / suc v % suc s) grouped)
   (trans (cong (_% suc s) (trans (N.+-distrib-/-∣ˡ x {suc v} (divides (e * k * suc s) refl))
     (cong (N._+ x / suc v) (N.m*n/n≡m (e * k * suc s) (suc v)))))
-  (trans (cong (_% suc s) (N.+-comm (e * k * suc s) (x / suc v))) (N.[m+kn]%n≡m%n (x / suc v) (e * k) s)))
+  (trans (cong (_% suc s) (N.+-comm (e * k * suc s) (x / suc v)))
+      (N.[m+kn]%n≡m%n (x / suc v) (e * k) s)))
   where
   grouped : e * (k * (suc s * suc v)) ≡ e * k * suc s * suc v
   grouped = trans (sym (N.*-assoc e k (suc s * suc v))) (sym (N.*-assoc (e * k) (suc s) (suc v)))
@@ -114,7 +113,8 @@ digit-below (there d) = digit-below d
 found : {p : Places} {weight size digit : ℕ} → Digit p weight size digit
   → value p / weight % size ≡ digit
 found (first {d} {n} {h}) = trans (cong (_% n) (N.n/1≡n d)) (small d n (below h))
-found (here {p} {d} {m} {h}) = trans (cong (_% m) (high-part (value p) d (limit p) (value-below p))) (small d m (below h))
+found (here {p} {d} {m} {h}) = trans (cong (_% m)
+  (high-part (value p) d (limit p) (value-below p))) (small d m (below h))
 found (there {p} {d = e} {weight = weight} {size} d) with end d
 ... | k , q = trans (cong (λ z → (value p + e * z) / weight % size) q)
   (trans (above (value p) e k weight size (weight-positive d) (positive (digit-below d))) (found d))
@@ -135,21 +135,26 @@ floor-mod-below (pos x) n h = remainder-below x n h
 floor-mod-below (negsuc x) n h = complement-below n (x % n) h
 
 -- Two remainders, one after the other, are one by the product.
-join : (z : ℤ) (a b : ℕ) → 0 N.< a → 0 N.< b → floor-mod z a + floor-mod (floor-div z a) b * a ≡ floor-mod z (b * a)
-join (pos x) a b a>0 b>0 = sym (trans (cong (_% (b * a)) split) (low-part (x % a + x / a % b * a) (x / a / b) (b * a) bound)) where
+join : (z : ℤ) (a b : ℕ) → 0 N.< a → 0 N.< b → floor-mod z a + floor-mod (floor-div z a) b * a
+  ≡ floor-mod z (b * a)
+join (pos x) a b a>0 b>0 = sym (trans (cong (_% (b * a)) split)
+  (low-part (x % a + x / a % b * a) (x / a / b) (b * a) bound)) where
   open +-*-Solver
   bound : x % a + x / a % b * a N.< b * a
   bound = place-below (remainder-below x a a>0) (remainder-below (x / a) b b>0)
   split : x ≡ x % a + x / a % b * a + x / a / b * (b * a)
   split = trans (parts x a) (trans (cong (λ q → x % a + q * a) (parts (x / a) b))
-    (solve 5 (λ s u v a b → (v :* b :+ u) :* a :+ s := v :* (b :* a) :+ (u :* a :+ s)) refl (x % a) (x / a % b) (x / a / b) a b))
-join (negsuc x) a b a>0 b>0 = sym (trans (cong (complement (b * a)) (sym (join (pos x) a b a>0 b>0)))
+    (solve 5 (λ s u v a b → (v :* b :+ u) :* a :+ s := v :* (b :* a) :+ (u :* a :+ s)) refl (x % a)
+        (x / a % b) (x / a / b) a b))
+join (negsuc x) a b a>0 b>0 = sym (trans (cong (complement (b * a))
+  (sym (join (pos x) a b a>0 b>0)))
   (complement-is (b * a) (s + u * a) (complement a s + complement b u * a) whole)) where
   open +-*-Solver
   s = x % a
   u = x / a % b
   whole : suc ((s + u * a) N.+ (complement a s + complement b u * a)) ≡ b * a
-  whole = trans (solve 5 (λ s u t v a → con 1 :+ (u :* a :+ s :+ (v :* a :+ t)) := (con 1 :+ (s :+ t)) :+ (u :+ v) :* a)
+  whole = trans (solve 5 (λ s u t v a → con 1 :+ (u :* a :+ s :+ (v :* a :+ t)) :=
+      (con 1 :+ (s :+ t)) :+ (u :+ v) :* a)
       refl s u (complement a s) (complement b u) a)
     (trans (cong (N._+ (u N.+ complement b u) * a) (complement-sum a s (remainder-below x a a>0)))
       (cong (_* a) (complement-sum b u (remainder-below (x / a) b b>0))))
@@ -169,11 +174,14 @@ within l u (negsuc n) (leℤ e) _ _ = negative (test< n (suc l) e)
 from-complement : ℕ → ℕ → ℤ
 from-complement h x = if nat-lt x h then pos x else pos x -ℤ pos (2 * h)
 from-complement-of : (h : ℕ) (z : ℤ) → Within h z → from-complement h (floor-mod z (2 * h)) ≡ z
-from-complement-of h (pos n) (nonnegative b) with floor-mod (pos n) (2 * h) | small n (2 * h) (N.<-transˡ b (N.m≤m+n h _))
+from-complement-of h (pos n) (nonnegative b) with floor-mod (pos n) (2 * h) | small n (2 * h)
+  (N.<-transˡ b (N.m≤m+n h _))
 ... | _ | refl rewrite <test b = refl
-from-complement-of (suc k) (negsuc n) (negative (N.s≤s b)) = trans (cong (from-complement h) wrapped)
+from-complement-of (suc k) (negsuc n) (negative (N.s≤s b)) = trans
+  (cong (from-complement h) wrapped)
   (trans (cong (λ c → if c then pos x else pos x -ℤ pos (2 * h)) upper-half)
-  (trans (cong (λ c → if c then negsuc (2 * h - suc x) else pos (x - 2 * h)) (<test (complement-below (2 * h) n (N.s≤s N.z≤n))))
+  (trans (cong (λ c → if c then negsuc (2 * h - suc x) else pos (x - 2 * h))
+      (<test (complement-below (2 * h) n (N.s≤s N.z≤n))))
     (cong negsuc taken)))
   where
   h = suc k
@@ -185,7 +193,8 @@ from-complement-of (suc k) (negsuc n) (negative (N.s≤s b)) = trans (cong (from
   sum : suc (n N.+ x) ≡ 2 * h
   sum = complement-sum (2 * h) n n-below
   upper-half : nat-lt x h ≡ false
-  upper-half = false-test (N.+-cancelˡ-≤ h (N.≤-trans (N.≤-reflexive (trans (cong (h N.+_) (sym (N.+-identityʳ h))) (sym sum)))
+  upper-half = false-test (N.+-cancelˡ-≤ h (N.≤-trans
+      (N.≤-reflexive (trans (cong (h N.+_) (sym (N.+-identityʳ h))) (sym sum)))
     (N.+-monoˡ-≤ x (N.s≤s b))))
   taken : 2 * h - suc x ≡ n
   taken = trans (cong (_- suc x) (trans (sym sum) (sym (N.+-suc n x)))) (N.m+n∸n≡m n (suc x))

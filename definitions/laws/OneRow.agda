@@ -39,7 +39,8 @@ marks-in InU op c3 c7 o = (0 , 7 , op) ∷ []
 marks-in InJ op c3 c7 o = (0 , 7 , op) ∷ []
 
 marks : Row → List Mark
-marks row = marks-in (table row .format·) (table row .opcode·) (table row .funct3·) (table row .funct7·) (table row .operands·)
+marks row = marks-in (table row .format·) (table row .opcode·) (table row .funct3·)
+  (table row .funct7·) (table row .operands·)
 
 -- ---- a word of a row shows its marks
 
@@ -47,26 +48,34 @@ Shows : ℕ → Mark → Set
 Shows w (low , width , v) = part w low width ≡ v
 
 also : {w x : ℕ} {marks : List Mark} (low width : ℕ) (c : Constraint)
-  → part w low width ≡ x → Meets c x → Each (Shows w) marks → Each (Shows w) (exactly low width c marks)
+  → part w low width ≡ x → Meets c x → Each (Shows w) marks
+      → Each (Shows w) (exactly low width c marks)
 also low width (Exactly n) e m rest = trans e m ∷ rest
 also low width Absent e m rest = rest
 
 shown-in : (op : ℕ) (c3 c7 : Constraint) (o : Operands) (f : Fields) → op < 2 ^ 7 → IsInRange f
-  → MeetsFuncts c3 c7 f → MeetsOperands o f → Each (Shows (encode op f)) (marks-in (format-of f) op c3 c7 o)
-shown-in op c3 c7 o (R f) h r (m3 , m7) _ = at (R f) h r 0 7 (there (there (there (there (there first)))))
+  → MeetsFuncts c3 c7 f → MeetsOperands o f → Each (Shows (encode op f))
+      (marks-in (format-of f) op c3 c7 o)
+shown-in op c3 c7 o (R f) h r (m3 , m7) _ = at (R f) h r 0 7
+  (there (there (there (there (there first)))))
   ∷ also 12 3 c3 (at (R f) h r 12 3 p3) m3 (also 25 7 c7 (at (R f) h r 25 7 p0) m7 [])
 shown-in op c3 c7 Free (I f) h r m3 _ = at (I f) h r 0 7 (there (there (there (there first))))
   ∷ also 12 3 c3 (at (I f) h r 12 3 p2) m3 []
-shown-in op c3 c7 (Fixed imm) (I f) h r m3 (_ , _ , is) = at (I f) h r 0 7 (there (there (there (there first))))
-  ∷ also 12 3 c3 (at (I f) h r 12 3 p2) m3 (trans (at (I f) h r 20 12 p0) (cong (λ z → floor-mod z (2 ^ 12)) is) ∷ [])
-shown-in op c3 c7 o (IShamt f) h r (m3 , m7) _ = at (IShamt f) h r 0 7 (there (there (there (there (there first)))))
+shown-in op c3 c7 (Fixed imm) (I f) h r m3 (_ , _ , is) = at (I f) h r 0 7
+  (there (there (there (there first))))
+  ∷ also 12 3 c3 (at (I f) h r 12 3 p2) m3 (trans (at (I f) h r 20 12 p0)
+      (cong (λ z → floor-mod z (2 ^ 12)) is) ∷ [])
+shown-in op c3 c7 o (IShamt f) h r (m3 , m7) _ = at (IShamt f) h r 0 7
+  (there (there (there (there (there first)))))
   ∷ also 12 3 c3 (at (IShamt f) h r 12 3 p3) m3 (also 25 7 c7 (at (IShamt f) h r 25 7 p0) m7 [])
 shown-in op c3 c7 o (S f) h r m3 _ = at (S f) h r 0 7 (there (there (there (there (there first)))))
   ∷ also 12 3 c3 (at (S f) h r 12 3 p3) m3 []
-shown-in op c3 c7 o (B f) h r m3 _ = at (B f) h r 0 7 (there (there (there (there (there (there (there first)))))))
+shown-in op c3 c7 o (B f) h r m3 _ = at (B f) h r 0 7
+  (there (there (there (there (there (there (there first)))))))
   ∷ also 12 3 c3 (at (B f) h r 12 3 p4) m3 []
 shown-in op c3 c7 o (U f) h r _ _ = at (U f) h r 0 7 (there (there first)) ∷ []
-shown-in op c3 c7 o (J f) h r _ _ = at (J f) h r 0 7 (there (there (there (there (there first))))) ∷ []
+shown-in op c3 c7 o (J f) h r _ _ = at (J f) h r 0 7
+  (there (there (there (there (there first))))) ∷ []
 
 shows : {w : ℕ} (row : Row) {f : Fields} → Decodes w row f → Each (Shows w) (marks row)
 shows {w} row {f} d = subst (λ k → Each (Shows w) (marks-in k op c3 c7 o)) (d .format·)
@@ -81,7 +90,8 @@ shows {w} row {f} d = subst (λ k → Each (Shows w) (marks-in k op c3 c7 o)) (d
 -- ---- marks that disagree
 
 disagree : Mark → Mark → Bool
-disagree (low , width , v) (low' , width' , v') = nat-eq low low' && (nat-eq width width' && not (nat-eq v v'))
+disagree (low , width , v) (low' , width' , v') = nat-eq low low' &&
+  (nat-eq width width' && not (nat-eq v v'))
 some : {A : Set} → (A → Bool) → List A → Bool
 some test [] = false
 some test (x ∷ xs) = test x || some test xs
@@ -91,7 +101,8 @@ both true true _ = refl , refl
 either : (b c : Bool) → b || c ≡ true → (b ≡ true) ⊎ (c ≡ true)
 either true _ _ = inj₁ refl
 either false _ e = inj₂ e
-one-of : {A : Set} {P : A → Set} (test : A → Bool) {xs : List A} → some test xs ≡ true → Each P xs → Σ A λ x → P x × (test x ≡ true)
+one-of : {A : Set} {P : A → Set} (test : A → Bool) {xs : List A} → some test xs ≡ true → Each P xs
+  → Σ A λ x → P x × (test x ≡ true)
 one-of test {x ∷ xs} e (p ∷ ps) with either (test x) (some test xs) e
 ... | inj₁ yes = x , p , yes
 ... | inj₂ later = one-of test later ps
@@ -106,16 +117,22 @@ not-both {w} (low , width , v) (low' , width' , v') e s s' with both (nat-eq low
   absurd () | true | _
 
 told-apart : Row → Row → Bool
-told-apart row row' = nat-eq (table row .number·) (table row' .number·) || some (λ m → some (disagree m) (marks row')) (marks row)
+told-apart row row' = nat-eq (table row .number·) (table row' .number·) || some
+  (λ m → some (disagree m) (marks row')) (marks row)
 all-told-apart : (row row' : Row) → told-apart row row' ≡ true
 all-told-apart row row' = each-at (table row' .number· - 1) (each-passes (told-apart row) all-rows
-  (each-at (table row .number· - 1) (each-passes (λ row → all-pass (told-apart row) all-rows) all-rows refl) (numbered row))) (numbered row')
+  (each-at (table row .number· - 1) (each-passes
+      (λ row → all-pass (told-apart row) all-rows) all-rows refl) (numbered row))) (numbered row')
 
 -- ---- the law
 
-the-row : {w : ℕ} {row row' : Row} {f f' : Fields} → Decodes w row f → Decodes w row' f' → row ≡ row'
-the-row {w} {row} {row'} d d' with either (nat-eq (table row .number·) (table row' .number·)) _ (all-told-apart row row')
-... | inj₁ e = is-same (trans (sym (numbered row)) (trans (cong (λ n → slice-get all-rows (n - 1)) (same→≡ (table row .number·) (table row' .number·) e)) (numbered row'))) where
+the-row : {w : ℕ} {row row' : Row} {f f' : Fields} → Decodes w row f → Decodes w row' f' → row
+  ≡ row'
+the-row {w} {row} {row'} d d' with either (nat-eq (table row .number·) (table row' .number·)) _
+  (all-told-apart row row')
+... | inj₁ e = is-same (trans (sym (numbered row))
+  (trans (cong (λ n → slice-get all-rows (n - 1))
+  (same→≡ (table row .number·) (table row' .number·) e)) (numbered row'))) where
   is-same : Some row ≡ Some row' → row ≡ row'
   is-same refl = refl
 ... | inj₂ e with one-of (λ m → some (disagree m) (marks row')) e (shows row d)

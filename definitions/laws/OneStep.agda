@@ -37,19 +37,23 @@ is-only-step (Legal _ _ _ _ _ e _ _ _ _ _) _ _ (Misaligned n _ _) = ⊥-elim (n 
 is-only-step (Legal _ _ _ _ _ _ l _ _ _ _) _ _ (Unmapped _ l' _ _) = ⊥-elim (not-none l' l)
 is-only-step (Legal _ row f _ _ _ l d _ _ _) _ _ (Illegal _ _ l' i _ _) =
   ⊥-elim (i row f (subst (λ w → Decodes w row f) (is-some-of (trans (sym l) l')) d))
-is-only-step (Legal w row f _ _ _ l d x t a) _ _ (Legal _ row' f' _ _ _ l' d' x' t' a') with is-some-of (trans (sym l) l')
+is-only-step (Legal w row f _ _ _ l d x t a) _ _
+  (Legal _ row' f' _ _ _ l' d' x' t' a') with is-some-of (trans (sym l) l')
 ... | refl with is-one-row-at-most w row row' f f' d d'
 ... | refl , refl with is-some-of (trans (sym x) x')
 ... | refl = trans t' (sym t) , trans a' (sym a)
 
 -- the law
-one-step : (s : State) → Σ State λ t → Σ StepAnswer λ answer → Step s t answer × IsOnlyStep s t answer
+one-step : (s : State) → Σ State λ t → Σ StepAnswer λ answer
+  → Step s t answer × IsOnlyStep s t answer
 one-step s with step s
 ... | stepped t answer _ is _ = t , answer , is , is-only-step is
 
 -- A run of as many steps is the only one, too.
-is-only-run : (s : State) (answers : List StepAnswer) (t : State) → Run s answers t → IsOnlyRun s answers t
+is-only-run : (s : State) (answers : List StepAnswer) (t : State) → Run s answers t
+  → IsOnlyRun s answers t
 is-only-run s [] t refl [] t' _ refl = refl , refl
-is-only-run s (answer ∷ answers) t (m , is , rest) (answer' ∷ answers') t' as-many (m' , is' , rest') with is-only-step is m' answer' is'
+is-only-run s (answer ∷ answers) t (m , is , rest) (answer' ∷ answers') t' as-many
+  (m' , is' , rest') with is-only-step is m' answer' is'
 ... | refl , refl with is-only-run m answers t rest answers' t' (cong (_- 1) as-many) rest'
 ... | refl , refl = refl , refl

@@ -9,12 +9,14 @@ open import rrs-lib.Texts
 open import laws.OneRow using (is-one-row-at-most)
 
 -- a word has at most one text at an address, whatever row and fields it is read as
-one-text : {w : ℕ} {row row' : Row} {f f' : Fields} (pc : ℕ) → Decodes w row f → Decodes w row' f' → text-of row f pc ≡ text-of row' f' pc
+one-text : {w : ℕ} {row row' : Row} {f f' : Fields} (pc : ℕ) → Decodes w row f → Decodes w row' f'
+  → text-of row f pc ≡ text-of row' f' pc
 one-text {w} {row} {row'} {f} {f'} pc d d' with is-one-row-at-most w row row' f f' d d'
 ... | refl , refl = refl
 
 -- the text of fence shows none of its fields
-fence-text : {w : ℕ} {f : Fields} (pc : ℕ) → Decodes w Fence f → text-of Fence f pc ≡ Some (codes "fence")
+fence-text : {w : ℕ} {f : Fields} (pc : ℕ) → Decodes w Fence f → text-of Fence f pc
+  ≡ Some (codes "fence")
 fence-text {f = I f} pc d = refl
 fence-text {f = R _} pc record { format· = () }
 fence-text {f = IShamt _} pc record { format· = () }
