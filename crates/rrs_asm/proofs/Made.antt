@@ -1,5 +1,5 @@
 -- What is made of items, one item more, and what is read of parts and lines, one more.
-use Rattle.std.proofs.Common.{◌≡◌, ◌≢◌, ℕ, zero, suc, get_or, take, drop, add-one, Bool, true, false, ◌==◌, if◌then◌else◌, ◌+◌, ◌%◌, ◌^◌, ◌++◌, List, [], ◌∷◌, length, codes, ◌<◌, ◌≤◌, Option, Some, None, IfSome, Result, Ok, Err, OnOk, IfOk, All, Bor, refl, sym, subst, ap, ◌∙◌, arith}
+use Rattle.std.proofs.Common.{◌≡◌, ◌≢◌, ℕ, zero, suc, get_or, slice_index_or, take, drop, add-one, Bool, true, false, ◌==◌, if◌then◌else◌, ◌+◌, ◌%◌, ◌^◌, ◌++◌, List, [], ◌∷◌, length, codes, ◌<◌, ◌≤◌, Option, Some, None, IfSome, Result, Ok, Err, OnOk, IfOk, All, Bor, refl, sym, subst, ap, ◌∙◌, arith}
 use Rattle.std.proofs.Math.ListN.{set}
 use Rattle.std.specs.Option.{option_map_or}
 use Rattle.std.proofs.lemmas.List.{append_assoc, append-nil}
@@ -18,7 +18,7 @@ use Rattle.rrs_asm.specs.Names.{IsNamed}
 use Rattle.rrs_asm.specs.declared.directives.Read.{Read}
 use Rattle.rrs_lines.specs.Lines.{Part, lines, parts, begins_with, behind_blanks}
 use Rattle.rrs_asm.specs.Source.{Item, items_in, items_named, items_behind, items_of_parts, items_from, is_laid_out}
-use Rattle.rrs_asm.specs.Sections.{names_of, index_of, open_behind, if_open, in_section, first_open, common, in_common, if_in, AreMadeFrom, AreMade, AreLaidOut, AllFound, IsBehind, AreBehind, ArePlaced}
+use Rattle.rrs_asm.specs.Sections.{names_of, index_of, open_behind, if_open, in_section, first_open, common, in_common, if_in, AreMadeFrom, AreMade, AreLaidOut, AllFound, HasItsKind, IsBehind, AreBehind, ArePlaced}
 use Rattle.rrs_asm.specs.declared.sections.Layout.{Layout}
 use Rattle.rrs_asm.specs.Statements.{AreBytes, LaysOut, IsLabelAt, IsPlacedAt, IsMade, AddsPlaced}
 use Rattle.rrs_asm.specs.Forms.{skipped, items_of_read, IsNoSection, IsNew, IsSectionRead, Grows, AreReadFrom, IsRead, IsGood, AreAssembled, ReadsFrom, ReadsOn, left_in_line, left_in_source}
@@ -512,6 +512,17 @@ New-more zero (s ∷ sections) new is below before (suc k) d least = absurd (ome
 New-more (suc i) (s ∷ sections) new is below before zero d least = before zero d (omega arith)
 New-more (suc i) (s ∷ sections) new is below before (suc k) d least =
     New-more i sections new is (omega arith) (λ n e small. before (suc n) e (omega arith)) k d (omega arith)
+
+-- one section more holds what its name says
+pub Kinds-more : {A : Type 0} (i : ℕ) (sections : List (Section A)) (section : Section A) → HasItsKind section
+    → section ≡ slice_index_or sections i section → i < length sections
+    → ((k : ℕ) (d : Section A) → k < i → HasItsKind (slice_index_or sections k d)) → (k : ℕ) (d : Section A) → k < i + 1 → HasItsKind (slice_index_or sections k d)
+Kinds-more i [] section is here below before k d least = absurd (omega arith)
+Kinds-more zero (s ∷ sections) section is here below before zero d least = let P : Section _ → Type 0 = λ x. HasItsKind x in subst P here is
+Kinds-more zero (s ∷ sections) section is here below before (suc k) d least = absurd (omega arith)
+Kinds-more (suc i) (s ∷ sections) section is here below before zero d least = before zero d (omega arith)
+Kinds-more (suc i) (s ∷ sections) section is here below before (suc k) d least =
+    Kinds-more i sections section is here (omega arith) (λ n e small. before (suc n) e (omega arith)) k d (omega arith)
 
 -- nothing of new sections was read
 AreReadFrom-new : {A : Type 0} (names : List (List ℕ)) (k : ℕ) (sections : List (Section A)) → All IsNew sections → AreReadFrom names k [] sections

@@ -117,8 +117,8 @@ kind_of_name name =
     else None)))
 
 -- a section holds what its name says
-abbrev pub HasItsKind : {A : Type 0} → Section A → Type 0
-HasItsKind s = IfSome (kind_of_name s.name.now) (λ kind. s.kind ≡ kind)
+pub record HasItsKind {A : Type 0} (s : Section A) : Type 0 where
+  pub kind : IfSome (kind_of_name s.name.now) (λ kind. s.kind ≡ kind)
 
 -- ---- where sections lie
 

@@ -246,11 +246,18 @@ pub fn has_wrong_kind<A: Allocator>(sections: &[Section<A>]) -> bool
     ensures { result ≡ false → All HasItsKind sections.now }
 {
     for section in sections {
-        if !is_of_kind(section.kind, kind_of_name(section.name)) {
+        if !has_its_kind(section) {
             return true;
         }
     }
     false
+}
+
+/// Whether a section is of the kind that its name says, if it says one.
+fn has_its_kind<A: Allocator>(section: &Section<A>) -> bool
+    ensures { result ≡ true → HasItsKind section.now }
+{
+    is_of_kind(section.kind, kind_of_name(section.name))
 }
 
 /// Whether a kind is the one that a name says, if it says one.
