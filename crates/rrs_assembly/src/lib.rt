@@ -23,3 +23,4 @@ pub use executable::{ExecutableError, executable_of};
 pub use gnu::gnu_text;
 pub use listing::listing_of;
 pub use mistakes::{MOST_MISTAKES, Mistake, mistakes_of, number_of};
+pub use words::are_alike;
