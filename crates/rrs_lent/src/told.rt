@@ -57,12 +57,13 @@ pub(crate) fn told_at_last<A: Allocator + Copy>(
 {
     let mut text = String::new(alloc);
     text.push_str(TOO_LARGE)?;
-    let mistake = Mistake {
+    let mut mistakes = Vec::new(alloc);
+    mistakes.push(Mistake {
         line: 1,
         column: 1,
         text,
-    };
-    let large = told_refused(alloc, &[mistake])?;
+    })?;
+    let large = told_refused(alloc, mistakes.as_slice())?;
     match told_of(alloc, source, start) {
         Err(_) if is_last => Ok(large),
         told => told,
