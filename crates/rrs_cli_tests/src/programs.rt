@@ -223,9 +223,18 @@ static REFUSED: [Refused; 47] = [
         Program::Rrs,
         &[b"rrs", b"runs", b"program", b"10"],
         2,
-        RRS_USAGE,
+        "rrs: no subcommand runs: did you mean run?
+usage: rrs run|exec|trace|cover|as|dis|elf|board|gdb|help ..
+",
     ),
-    (Program::Rrs, &[b"rrs", b"help", b"run"], 2, RRS_USAGE),
+    (
+        Program::Rrs,
+        &[b"rrs", b"help", b"walk"],
+        2,
+        "rrs: no subcommand walk: rrs help lists them
+usage: rrs run|exec|trace|cover|as|dis|elf|board|gdb|help ..
+",
+    ),
     (
         Program::Rrs,
         &[b"rrs", b"run", b"program", b"\xff"],
