@@ -34,7 +34,7 @@ DIRECTIVES = [
     '.section .x, "aw", @progbits*', ".word 1*", ".half 1*", ".byte 1*", ".dword 1*", '.ascii "a"*',
     '.asciz "a"*', '.string "a"*', ".fill 1, 1, 1*", ".align 2*", ".p2align 2, 0*", ".balign 4, 0, 4*",
     ".space 4, 1*", ".zero 4*", ".skip 4*", ".org 8*", ".equ a, 1*", ".set a, 1*", "a = 1*",
-    ".option norvc*", ".option push*", ".comm a, 4, 4*", ".lcomm a, 4*",
+    ".comm a, 4, 4*", ".lcomm a, 4*",
     ".macro m a = 1, b:req junk:vararg*\n.endm", ".macro m\n.endm\n.purgem m*", ".rept 2*\n.endr",
     ".if 1*\n.endif", ".if 0\n.elseif 1*\n.endif", ".if 0\n.else*\n.endif", ".if 1\n.else*\n.endif",
     ".if 0\n.if 1\n.else*\n.endif\n.endif", ".if 1\n.endif*", ".if 1\n.endc*", ".if 1\n.elsec*\n.endc",
