@@ -333,8 +333,11 @@ python_prints() {
 # lines of examples
 python_passes() {
     python test_rrs.py >"$room/printed" 2>&1 || { cat "$room/printed"; return 1; }
-    grep -q "^Ran $1 tests" "$room/printed" &&
-        grep -qx "$2 comparisons, $3 examples" "$room/printed" || { cat "$room/printed"; return 1; }
+    if ! grep -q "^Ran $1 tests" "$room/printed" ||
+        ! grep -qx "$2 comparisons, $3 examples" "$room/printed"; then
+        cat "$room/printed"
+        return 1
+    fi
 }
 
 python_has_layouts() {
@@ -524,6 +527,7 @@ wrong() {
     echo '__attribute__((used)) static int state = 1;' >"$room/state.c"
     printf 'int printf(const char *, ...);\n%s static void more(void) { printf("more"); }\n' \
         '__attribute__((used))' >"$room/asks.c"
+    # shellcheck disable=SC2016 # what the inner shell expands
     case $1 in
     answers) sed -i '39s/.$/#/' "$room/answers" ;;
     lines) sed -i '39d' "$room/answers" ;;
@@ -562,8 +566,12 @@ self_test() {
         nothing:0 | right:0) ;;
         nothing:* | right:* | *:3) cat "$room/seen" && failed=1 ;;
         # what is not built shows nothing
-        *:1) grep -q '^failed: ' "$room/seen" && ! grep -q '^failed: replay, as C99$' "$room/seen" ||
-            { echo "not seen: $what is wrong" && failed=1; } ;;
+        *:1)
+            if ! grep -q '^failed: ' "$room/seen" ||
+                grep -q '^failed: replay, as C99$' "$room/seen"; then
+                echo "not seen: $what is wrong" && failed=1
+            fi
+            ;;
         *) echo "not seen: $what is wrong" && failed=1 ;;
         esac
     done
