@@ -6,9 +6,10 @@ from rrs import Retired, compare
 PORTS = [name for name in Retired._fields if name != "fetched"]
 
 
-async def check_core(dut, edge, model, records):
+async def check_core(dut, edge, model, csrs, records):
     """Compares so many records of ``dut``, whose clock's next edge is awaited by ``edge()``, with
-    those of ``model``, a Machine. One that differs is an AssertionError."""
+    those of ``model``, a Machine with machine mode, and ``csrs``, its Csrs. A trap goes on at the
+    handler that these name. A record that differs is an AssertionError."""
     order = 0
     while order < records:
         await edge()
@@ -16,10 +17,7 @@ async def check_core(dut, edge, model, records):
             continue
         ports = {name: int(getattr(dut, f"rvfi_{name}").value) for name in PORTS}
         core = Retired(fetched=1, **ports)
-        _, want = model.step_rvfi_ialign32(order)
-        if want.trap:  # the core takes the trap, and the model goes on where the core does
-            want = want._replace(pc_wdata=core.pc_wdata)
-            model.pc = core.pc_wdata
+        want = model.machine_step(csrs, order=order)[1].retired
         difference = compare(want, core, by_words=True)
         assert difference is None, f"record {order}, pc 0x{want.pc_rdata:08x}: {difference}"
         order += 1
