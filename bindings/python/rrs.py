@@ -10,8 +10,9 @@ End(steps=3, fault=Fault('FETCH_FAULT', address=0x0000000c), at_stop=False)
 'add x1, x2, x3'
 
 The library is the file that the environment's RRS_LIBRARY names; or ``librrs.so`` beside this module,
-as the wheel has it; or ``crates/rrs_c/out/librrs.so`` of the repository that it stands in. The
-import is an ImportError where it can't be loaded, or has another version than this module.
+as the wheel has it; or ``crates/rrs_c/out/librrs.so`` of the repository that it stands in; or the
+``librrs.so.0`` that the system has. The import is an ImportError where it can't be loaded, or has
+another version than this module.
 
 Only one thread at a time may use a machine, its registers and its memory: a call lets other threads
 go on, and nothing checks this. Different machines may be used at the same time.
@@ -181,10 +182,10 @@ class _Assembled(ctypes.Structure):
 
 def _library():
     here = Path(__file__).resolve().parent
-    beside, default = here / "librrs.so", here / "../../crates/rrs_c/out/librrs.so"
-    path = beside if beside.exists() else default.resolve()
+    paths = here / "librrs.so", (here / "../../crates/rrs_c/out/librrs.so").resolve()
+    found = next((str(path) for path in paths if path.exists()), "librrs.so.0")
     try:
-        return ctypes.CDLL(os.environ.get("RRS_LIBRARY") or str(path))
+        return ctypes.CDLL(os.environ.get("RRS_LIBRARY") or found)
     except OSError as error:
         raise ImportError(f"rrs.py can't load the kit's library: {error}") from error
 
