@@ -183,6 +183,12 @@ def tests(sources, crate=r"\w+"):
                for name in sources.named(rf"crates/(?:{crate})/src/.*\.rt"))
 
 
+def compared(sources, what):
+    """How many things of a kind examples/assembly/check compares, which it asks for."""
+    found = re.search(rf"^compare_{what} (\d+) ", sources.text("examples/assembly/check"), re.M)
+    return int(found[1]) if found else None
+
+
 KIT = "rrs_lib|rrs_memory|rrs_instruction"
 
 # Each count: what gives it, and to what it may be rounded. One with a colon takes what stands
@@ -200,6 +206,7 @@ COUNTS = {
     "answers": (answers, 1),
     "answers-from-elsewhere": (given_questions, 1),
     "own-answers": (own_answers, 1),
+    "compared:": (compared, 1),
     "door-questions": (lambda s: s.lines("bindings/answers/questions"), 1),
     "screens": (lambda s: s.matches("examples/rrs/screens", r"^\$ rrs"), 1),
     "crates": (lambda s: len(s.crates), 1),
