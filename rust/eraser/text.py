@@ -85,8 +85,11 @@ class Code:
 
     def at(self, i):
         """The text of a token. A search that goes far outside is a mistake of a rule."""
-        assert -9 < i < len(self.tokens) + 9, "a rule looks for something that is not there"
-        return self.tokens[i].text if 0 <= i < len(self.tokens) else ""
+        tokens = self.tokens
+        if 0 <= i < len(tokens):
+            return tokens[i].text
+        assert -9 < i < len(tokens) + 9, "a rule looks for something that is not there"
+        return ""
 
     def kind(self, i):
         """The kind of a token."""
@@ -102,7 +105,8 @@ class Code:
 
     def places(self, *texts):
         """The indexes at which tokens with these texts stand, the last first."""
-        return [i for i in reversed(range(len(self))) if self.has(i, *texts)]
+        firsts = [i for i, token in enumerate(self.tokens) if token.text == texts[0]]
+        return [i for i in reversed(firsts) if self.has(i, *texts)]
 
     def find(self, i, *texts):
         """The first index from `i` on at which one of the texts stands."""
