@@ -3,11 +3,11 @@
 import re
 from pathlib import Path
 
-from . import crates, docs
+from . import crates, docs, rules
 
 VERSION = "0.2.0"
-# The first Rust with all that the text calls: `cast_signed` is of 1.87.
-RUST = "1.87"
+# The first Rust of edition 2024. All that the text calls is of it, but for the casts of `rattle_std`.
+RUST = "1.85"
 # The crates with fields, functions or variants that a proof alone reads.
 READ_BY_PROOFS = {"rrs_asm", "rrs_cli", "rrs_tests"}
 # The groups of clippy's lints, and those of others, that say how to write what is right otherwise:
@@ -95,12 +95,18 @@ def manifest(name, used, registry):
     """The manifest of a crate that uses others."""
     has_host = crates.needs_host(name)
     lines = package_lines(name, has_host) + dependency_lines(name, used, registry, has_host)
+    # The casts of `rattle_std` have the names of those that Rust has since.
+    has_casts = any(f".{cast}(" in text for text in crates.texts_of(name) for cast in rules.CASTS)
     lines += ["", "[lints.rust]", 'unsafe_code = "forbid"']
+    if has_casts:
+        lines.append('unstable_name_collisions = "allow"')
     if name in READ_BY_PROOFS:
         lines.append('dead_code = "allow"')
     lines += ["", "[lints.clippy]"]
     lines += [f'{group} = {{ level = "allow", priority = -1 }}' for group in STYLE]
     lines += [f'{lint} = "allow"' for lint in STYLE_LINTS]
+    if has_casts:
+        lines.append('incompatible_msrv = "allow"')
     return "\n".join(lines) + "\n"
 
 

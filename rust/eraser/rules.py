@@ -363,11 +363,14 @@ PRELUDE = {
     "Vec", "String", "Box", "ToString", "ToOwned", "HostRuntime", "AllocGlobal", "Print", "Eprint",
 }  # fmt: skip
 ADDED = {*FALLIBLE.values(), *PASSED.values(), "to_string", "to_vec", "to_owned", "push_reserved"}
+# Methods of Rust 1.87, which `rattle_std` has for those before it. From then on they are Rust's.
+CASTS = ("cast_signed", "cast_unsigned")
 
 
 def preludes_are_imported(code):
     """Rattle's prelude has names that Rust's without `std` has not: a source that uses one imports
-    them. `write!` to a `String` is by `WriteText`, which returns an error where memory ran out."""
+    them. `write!` to a `String` is by `WriteText`, which returns an error where memory ran out.
+    `cast_signed` is Rust's from 1.87 on, and before it by a trait."""
     texts = code.texts()
     wants = "format" in texts and bool(code.places("format", "!"))
     for i, text in enumerate(texts):
@@ -382,6 +385,8 @@ def preludes_are_imported(code):
         wanted.append("use std::text::WriteText;")
         for i in code.places("use", "std", "::", "fmt", "::", "Write", ";"):
             code.cut(i, i + 7)
+    if any(code.places(".", name, "(") for name in CASTS):
+        wanted += ["#[allow(unused_imports)]", "use std::casts::*;"]
     if not wanted:
         return
     first = next(

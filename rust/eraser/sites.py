@@ -79,6 +79,32 @@ SITES = (
         "On a `usize` of 32 bits it is smaller.",
     ),
     (
+        "rrs_oracle/src/lines.rt",
+        "str::from_utf8(line)",
+        "std::str::from_utf8(line)",
+        "Rust 1.85 has it as a function of the module alone.",
+    ),
+    (
+        "rrs_host_tests/src/devices.rt",
+        "    if let Some(memory) = space.get_memory_mut(cell)\n"
+        "        && let Some(word) = memory.mem.get_mut(0)\n    {",
+        "    let Some(memory) = space.get_memory_mut(cell) else {\n        return;\n    };\n"
+        "    if let Some(word) = memory.mem.get_mut(0) {",
+        "Rust 1.85 has one `let` in an `if`.",
+    ),
+    (
+        "rrs_host_tests/src/stopping.rt",
+        "run_before::<_, _, true>",
+        "run_before::<_, 64, true>",
+        "Rust 1.85 has no `_` for a number.",
+    ),
+    (
+        "rrs_host_tests/src/stopping.rt",
+        "run_before::<_, _, false>",
+        "run_before::<_, N, false>",
+        "Rust 1.85 has no `_` for a number.",
+    ),
+    (
         "rrs_gdb/src/lib.rt",
         "//! A [Session] answers",
         "//! A session answers",

@@ -26,6 +26,7 @@ pub use heap::{borrow, boxed, collections, fmt, rc, slice, str, string};
 pub use host::{ffi, os, path, sync};
 
 pub mod alloc;
+pub mod casts;
 #[cfg(feature = "std")]
 pub mod env;
 #[cfg(feature = "std")]

@@ -50,8 +50,8 @@ impl InstructionHandler for Transpiler {
 
     fn handle(&mut self, instruction: &Instruction) -> Operation {
         match *instruction {
-            Instruction::Addi(f) => Operation::AddNumber(f.rd, f.rs1, f.imm.cast_unsigned()),
-            Instruction::Lw(f) => Operation::LoadWord(f.rd, f.rs1, f.imm.cast_unsigned()),
+            Instruction::Addi(f) => Operation::AddNumber(f.rd, f.rs1, f.imm as u32),
+            Instruction::Lw(f) => Operation::LoadWord(f.rd, f.rs1, f.imm as u32),
             Instruction::Bne(f) => Operation::Bne(f.rs1, f.rs2, self.0.wrapping_add_signed(f.imm)),
             Instruction::Ecall(_) => Operation::Call,
             other => Operation::Executed(other),

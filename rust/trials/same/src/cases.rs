@@ -56,10 +56,10 @@ impl Numbers {
             0x33, 0x13, 0x37, 0x17, 0x63, 0x03, 0x23, 0x6f, 0x67, 0x0f, 0x73,
         ];
         let mut word = self.next();
-        if !self.next().is_multiple_of(16) {
+        if self.next() % 16 != 0 {
             word = (word & !0x7f) | self.of_these(&opcodes);
         }
-        if self.next().is_multiple_of(2) {
+        if self.next() % 2 == 0 {
             word = (word & 0x01ff_ffff) | self.of_these(&[0, 0x0200_0000, 0x4000_0000]);
         }
         word
@@ -83,7 +83,7 @@ impl Numbers {
                 (near >> 5) << 25 | rs2 << 20 | funct3 << 12 | (near & 31) << 7 | 0x23
             }
             12..=13 => {
-                let by = if self.next().is_multiple_of(2) {
+                let by = if self.next() % 2 == 0 {
                     near % 64
                 } else {
                     0x2000 - near % 64
