@@ -20,9 +20,6 @@ NOT_OVER = {
 MODULES_NOT_OVER = {("rrs_macros_tests", "lent"), ("rrs_macros_tests", "room")}
 # The modules that need the feature `std`, in crates that otherwise do not.
 NEED_STD = {("rrs_memory", "load"), ("rrs_board", "terminal")}
-# The crates that need a `usize` of 64 bits, where others need one of 32: sums of addresses and
-# lengths of theirs are not mended. Those above them need it too.
-NEED_64 = {"rrs_linux", "rrs_process", "rrs_asm", "rrs_macros", "rrs_gdb"}
 # The crates whose examples in the docs use a crate above them.
 EXAMPLES_ABOVE = {"rrs_instruction": "rrs_lib"}
 # Crates of others, for which those of stand-in/ stand. A registry has those with a version. The
@@ -122,8 +119,7 @@ def erased_code(name, path, text):
     ghosts = {word for t in code.tokens if t.kind in ("ghost", "clause") for word in t.words()}
     docs.contracts_are_shown(code)
     if is_root(path):
-        needs_64 = name in NEED_64
-        rules.root_names_the_library(code, has_macros(name), has_tests(name), needs_64)
+        rules.root_names_the_library(code, has_macros(name), has_tests(name))
     for rule in rules.RULES:
         rule(code)
     rules.unused_imports_go(code, ghosts)

@@ -119,15 +119,12 @@ def drop_bounds_go(code):
 # ------------------------------------------------------------------ what Rust says otherwise
 
 
-def root_names_the_library(code, has_macros, has_tests, needs_64):
+def root_names_the_library(code, has_macros, has_tests):
     """`std` is in each crate the support crate, whose paths and macros are those of Rattle's
     library. So no path of the text changes. It stands where `tactic(auto)` stood. The macros may be
-    those of tests alone. A crate that needs a `usize` of 64 bits compiles on no other."""
+    those of tests alone."""
     where = code.places("#", "!", "[", "tactic")[0]
     lines = ["#![no_std]", ""]
-    if needs_64:
-        lines += ['#[cfg(not(target_pointer_width = "64"))]']
-        lines += ['compile_error!("sums of addresses and lengths need a usize of 64 bits");', ""]
     if has_macros:
         lines += ["#[allow(unused_imports)]"] if has_tests else []
         lines += ["#[macro_use]"]

@@ -2,6 +2,7 @@
 why. A place that is not found once is an error."""
 
 WIDE = "On a `usize` of 32 bits the sum may not fit. Then it is past each file."
+NARROW = "A `usize` of 32 bits has no 2^32."
 
 SITES = (
     (
@@ -77,6 +78,48 @@ SITES = (
         "prove!(size_of::<Change>() == 32)",
         "prove!(size_of::<usize>() != 8 || size_of::<Change>() == 32)",
         "On a `usize` of 32 bits it is smaller.",
+    ),
+    (
+        "rrs_gdb/src/contents.rt",
+        "values.len() > 0x1_0000_0000 - address as usize",
+        "values.len() as u64 > 0x1_0000_0000 - u64::from(address)",
+        NARROW,
+    ),
+    (
+        "rrs_board_gdb/src/ram.rt",
+        "values.len() > 0x1_0000_0000 - address as usize",
+        "values.len() as u64 > 0x1_0000_0000 - u64::from(address)",
+        NARROW,
+    ),
+    (
+        "rrs_assembly/src/accepting.rt",
+        "let at = offset as usize + index;",
+        "let at = (offset as usize).saturating_add(index);",
+        WIDE,
+    ),
+    (
+        "rrs_gdb/src/queries.rt",
+        "(start + length as usize).min(object.len())",
+        "start.saturating_add(length as usize).min(object.len())",
+        "On a `usize` of 32 bits the sum may not fit. Then it is past each object.",
+    ),
+    (
+        "rrs_gdb/src/queries.rt",
+        "if room > 1 << 32 ||",
+        "if room > 1 << 32 || room > usize::MAX as u64 ||",
+        "So much room a `usize` of 32 bits can't count: there is no memory for it.",
+    ),
+    (
+        "rrs_asm/src/sections.rt",
+        "(self.made.bytes.len() % 0x1_0000_0000) as u32",
+        "self.made.bytes.len() as u32",
+        NARROW,
+    ),
+    (
+        "rrs_process/src/stack.rt",
+        "length >= 0x1_0000_0000",
+        "length as u64 >= 0x1_0000_0000",
+        NARROW,
     ),
     (
         "rrs_oracle/src/lines.rt",
