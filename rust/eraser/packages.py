@@ -6,7 +6,7 @@ from pathlib import Path
 from . import crates, docs, rules
 
 VERSION = "0.2.0"
-# The first Rust of edition 2024. All that the text calls is of it, but for the casts of `rattle_std`.
+# The first Rust of edition 2024. What the text has of later ones is in `rattle_std` and sites.py.
 RUST = "1.85"
 # The crates with fields, functions or variants that a proof alone reads.
 READ_BY_PROOFS = {"rrs_asm", "rrs_cli", "rrs_tests"}
