@@ -17,14 +17,16 @@ static void number(const char *text)
     }
 }
 
-int main(int count, char *words[])
+extern char **environ;
+
+int main(int count, char *words[], char *names[])
 {
     for (int i = 1; i < count; i++) {
         const char *space = strchr(words[i], ' ');
         printf("%d: %zu bytes, %s\n", i, strlen(words[i]), space ? space + 1 : "no space");
         number(words[i]);
     }
-    printf("%d\n", words[count] == NULL);
+    printf("%d %d\n", words[count] == NULL, names == environ);
     static const char *const texts[] = {"0", "-17", "0x7fffffff", "077", "12 apples", "9223372036854775808", "-x"};
     for (size_t i = 0; i < sizeof texts / sizeof *texts; i++) {
         number(texts[i]);

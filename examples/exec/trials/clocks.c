@@ -3,6 +3,7 @@
 #include <stdio.h>
 #include <string.h>
 #include <sys/time.h>
+#include <sys/times.h>
 #include <time.h>
 
 #define CLOCK_GETTIME64 403
@@ -57,8 +58,22 @@ static int is_between(void)
         told <= nanoseconds(&after) / 1000;
 }
 
-int main(void)
+// Whether times gives how long the process has run, a few seconds at most. On the raw machine, whose
+// main has no arguments, there is no such clock.
+static int is_of_process(int count)
 {
+    struct tms ran = {0};
+    clock_t ticks = times(&ran);
+    if (count == 0) {
+        return ticks == (clock_t)-1 && errno == ENOSYS && clock() == (clock_t)-1;
+    }
+    return ticks == ran.tms_utime && ran.tms_stime == 0 && ran.tms_cutime == 0 &&
+        ran.tms_cstime == 0 && ticks < 20 * CLOCKS_PER_SEC;
+}
+
+int main(int count, char **words)
+{
+    (void)words;
     struct timespec64 now[2];
     time_t seconds = time(NULL);
     printf("time %d\n", seconds > 1600000000 && seconds < 4000000000);
@@ -67,7 +82,7 @@ int main(void)
     printf(", %d", now[0].seconds - seconds == 0 || now[0].seconds - seconds == 1);
     printf(", %lld %lld behind it\n", now[1].seconds, now[1].nanoseconds);
     printf("monotonic %d, process %d, thread %d\n", goes_on(1), goes_on(2), goes_on(3));
-    printf("gettimeofday %d\n", is_between());
+    printf("gettimeofday %d, times %d\n", is_between(), is_of_process(count));
     printf("no clock %ld, %ld\n", clock_gettime64(1000, now), clock_gettime64(-1000, now));
     printf("no room %ld\n", clock_gettime64(0, (void *)0x7ff00000));
     return 0;

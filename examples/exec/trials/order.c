@@ -1,4 +1,4 @@
-// Says what is called before main and after it.
+// Says what is called before main and after it, and whether main's arguments end as they must.
 #include <stdio.h>
 #include <stdlib.h>
 
@@ -31,8 +31,9 @@ __attribute__((destructor(200))) static void destruct_last(void)
     printf("a destructor of a higher priority");
 }
 
-int main(void)
+int main(int count, char **words)
 {
-    printf("main, after %d constructors\n", constructed);
+    int ends = count == 0 ? words == NULL : words[count] == NULL;
+    printf("main, after %d constructors: %s\n", constructed, ends ? "as it must be" : "other arguments");
     return atexit(at_exit);
 }
