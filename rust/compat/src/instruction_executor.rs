@@ -82,3 +82,35 @@ impl<M: Memory> InstructionProcessor for InstructionExecutor<'_, M> {
 
     for_each_row!(by_handle);
 }
+
+#[cfg(test)]
+mod tests {
+    use super::{InstructionException, InstructionExecutor};
+    use crate::memories::VecMemory;
+    use crate::{HartState, process_instruction};
+
+    #[test]
+    fn each_exception_is_the_one_of_the_original() {
+        use InstructionException as Is;
+        for (word, pc, wanted) in [
+            (0x0000_0073, 0, Is::IllegalInstruction(0, 0x0000_0073)), // ecall
+            (0x0010_0073, 0, Is::IllegalInstruction(0, 0x0010_0073)), // ebreak
+            (0, 0, Is::IllegalInstruction(0, 0)),
+            (0, 4, Is::FetchError(4)),
+            (0, 2, Is::AlignmentFault(2)),
+            (0x0040_a103, 0, Is::LoadAccessFault(0x1004)), // lw x2, 4(x1)
+            (0x0020_a423, 0, Is::StoreAccessFault(0x1008)), // sw x2, 8(x1)
+            (0x0010_a103, 0, Is::AlignmentFault(0x1001)),  // lw x2, 1(x1)
+        ] {
+            let mut hart = HartState::new();
+            (hart.pc, hart.registers[1]) = (pc, 0x1000);
+            let mut mem = VecMemory::new(vec![word]);
+            let mut executor = InstructionExecutor {
+                mem: &mut mem,
+                hart_state: &mut hart,
+            };
+            let has_row = process_instruction(&mut executor, word).is_some();
+            assert_eq!((has_row, executor.step()), (word & 127 != 0x73 && word != 0, Err(wanted)));
+        }
+    }
+}

@@ -142,3 +142,61 @@ impl Memory for MemorySpace {
         rrs_kit::Memory::write_mem(&mut self.0, addr, size, store_data)
     }
 }
+
+#[cfg(test)]
+mod tests {
+    use super::{MemorySpace, VecMemory, read_to_memory};
+    use crate::{MemAccessSize, Memory};
+    use std::io::{self, ErrorKind, Read};
+
+    /// A reader that is interrupted, gives a byte, and then fails or ends.
+    struct Tired(Vec<Result<u8, ErrorKind>>);
+
+    impl Read for Tired {
+        fn read(&mut self, buffer: &mut [u8]) -> io::Result<usize> {
+            match self.0.pop() {
+                Some(Err(kind)) => Err(kind.into()),
+                Some(Ok(byte)) => {
+                    buffer[0] = byte;
+                    Ok(1)
+                }
+                None => Ok(0),
+            }
+        }
+    }
+
+    #[test]
+    fn a_loader_goes_on_and_tells_why_it_ends() {
+        let (again, broken) = (ErrorKind::Interrupted, ErrorKind::BrokenPipe);
+        for (mut reads, wanted) in [
+            (vec![Err(again), Ok(1), Err(again), Ok(2)], (Ok(()), 0x201)),
+            (vec![Ok(1), Err(broken), Ok(2)], (Err(broken), 1)),
+            (vec![Ok(1), Ok(2), Ok(3), Ok(4), Ok(5)], (Err(ErrorKind::Other), 0x0403_0201)),
+        ] {
+            reads.reverse();
+            let mut memory = VecMemory::new(vec![0]);
+            let loaded = read_to_memory(Tired(reads), &mut memory, 0);
+            assert_eq!((loaded.map_err(|error| error.kind()), memory.mem[0]), wanted);
+        }
+    }
+
+    #[test]
+    fn a_memory_is_of_its_type_alone() {
+        let mut space = MemorySpace::default();
+        let ram = space.add_memory(16, 4, Box::new(VecMemory::new(vec![5])));
+        let mut boxed: Box<dyn Memory> = Box::new(space);
+        let seen = (
+            (boxed.is::<VecMemory>(), boxed.is::<MemorySpace>()),
+            boxed.downcast_ref::<VecMemory>().is_none(),
+            boxed.downcast_mut::<VecMemory>().is_none(),
+            boxed.downcast_mut::<MemorySpace>().is_some(),
+        );
+        assert_eq!(seen, ((false, true), true, true, true));
+        let boxed = boxed.downcast::<VecMemory>().map(|_| ()).unwrap_err();
+        let mut space = boxed.downcast::<MemorySpace>().ok().unwrap();
+        let other = space.get_memory_mut::<MemorySpace>(0).is_none();
+        let seen = (ram, other, space.get_memory_ref::<VecMemory>(1).is_none());
+        assert_eq!(seen, (Ok(0), true, true));
+        assert_eq!(space.read_mem(16, MemAccessSize::Byte), Some(5));
+    }
+}
