@@ -519,15 +519,15 @@ class Csrs:
         return bool(_csr_write(self._pointer, _word_of(number), _word_of(value)))
 
     def __reduce__(self) -> tuple:
-        return _restored_csrs, (bytes(self._csrs),)
+        return _restored_csrs, (type(self), bytes(self._csrs))
 
     def __repr__(self) -> str:
         return f"Csrs({', '.join(f'{name}=0x{getattr(self, name):x}' for name, _ in _Csrs._fields_)})"
 
 
-def _restored_csrs(data):
+def _restored_csrs(kind, data):
     """The CSRs that were copied, or pickled."""
-    csrs = Csrs()
+    csrs = kind()
     ctypes.memmove(csrs._pointer, data, len(data))
     return csrs
 
@@ -647,7 +647,10 @@ class ElfError(ValueError):
 
     def __init__(self, refusal: str, number: int = 0, other: int = 0) -> None:
         self.refusal, self.number, self.other = refusal, number, other
-        super().__init__(f"{refusal} {number} {other}")
+        super().__init__(refusal, number, other)
+
+    def __str__(self) -> str:
+        return f"{self.refusal} {self.number} {self.other}"
 
 
 class Segment(NamedTuple):
@@ -768,7 +771,10 @@ class AssemblyError(ValueError):
 
     def __init__(self, mistakes: list[Mistake]) -> None:
         self.mistakes = mistakes
-        super().__init__("; ".join(f"{m.line}:{m.column}: {m.text}" for m in mistakes))
+        super().__init__(mistakes)
+
+    def __str__(self) -> str:
+        return "; ".join(f"{m.line}:{m.column}: {m.text}" for m in self.mistakes)
 
 
 def assemble(source: Union[str, bytes], start: int = 0) -> Program:
@@ -837,8 +843,9 @@ class Machine:
 
     ``program`` is bytes, or a sequence of words. ``size`` is the number of words of memory, at
     least those of the program; the others are 0. The pc begins at ``base``, a multiple of 4. A copy
-    has a hart and words of its own. Only one thread at a time may use a machine. Its runs keep
-    decoded words from one to the next, in 20 KiB; the memory may be written between two of them.
+    has a hart and words of its own, and the attributes that a subclass added. Only one thread at a
+    time may use a machine. Its runs keep decoded words from one to the next, in 20 KiB; the memory
+    may be written between two of them.
     """
 
     def __init__(
@@ -1059,15 +1066,21 @@ class Machine:
         return _fault_of(fault), _new(Retired, _record(self._record))
 
     def __reduce__(self) -> tuple:
-        return _restored, (type(self), bytes(self._memory), self._base, bytes(self._hart))
+        own = (bytes(self._memory), self._base, bytes(self._hart))
+        others = {name: value for name, value in vars(self).items() if name not in _OWN}
+        return _restored, (type(self), *own), others
 
     def __repr__(self) -> str:
         return f"Machine(pc=0x{self.pc:08x}, {len(self.memory)} words from 0x{self.base:08x})"
 
 
+_OWN = frozenset(vars(Machine([])))  # the attributes that a copy has of its own
+
+
 def _restored(kind, memory, base, hart):
-    """The machine that was copied, or pickled."""
-    machine = kind(memory, base)
+    """The machine that was copied, or pickled, of a class whose __init__ may be another."""
+    machine = kind.__new__(kind)
+    Machine.__init__(machine, memory, base)
     ctypes.memmove(machine._arguments[0], hart, len(hart))
     return machine
 

@@ -3,10 +3,12 @@
 
 import copy
 import doctest
+import faulthandler
 import inspect
 import os
 import pickle
 import pydoc
+import shutil
 import struct
 import subprocess
 import sys
@@ -15,6 +17,7 @@ import typing
 import unittest
 from pathlib import Path
 from types import SimpleNamespace
+from unittest import mock
 
 import rrs
 from core_check import PORTS, check_core
@@ -42,11 +45,41 @@ for _name in "Equal In IsNone Raises Greater True".split():
     setattr(Counted, f"assert{_name}", counted(f"assert{_name}"))
 
 
+class Board(Machine):
+    """A machine of one's own, whose __init__ is another, with a device."""
+
+    def __init__(self, *, sent=()):
+        super().__init__([0x00108093], 64)
+        self._sent = [*sent]
+
+
+class Loaded(Machine):
+    """A machine of one's own."""
+
+
+class File(rrs.Csrs):
+    """CSRs of one's own."""
+
+
+class Signal:
+    """A value of a port, as cocotb has it: a number only where it is asked for one."""
+
+    def __init__(self, value):
+        self.value = self
+        self._number = value
+
+    def __int__(self):
+        return self._number
+
+
 class Faces(Counted):
     def test_faults_and_ends_are_shown(self):
         shown = {
             Fault(FaultKind.ILLEGAL_INSTRUCTION, 4, 5): (
                 "Fault('ILLEGAL_INSTRUCTION', address=0x00000004, word=0x00000005)"
+            ),
+            Fault(FaultKind.ILLEGAL_INSTRUCTION, 8, 0): (
+                "Fault('ILLEGAL_INSTRUCTION', address=0x00000008, word=0x00000000)"
             ),
             Fault(FaultKind.FETCH_FAULT, 2**31, 0): "Fault('FETCH_FAULT', address=0x80000000)",
             Fault(FaultKind.EBREAK, 8, 0): "Fault('EBREAK', address=0x00000008)",
@@ -73,7 +106,8 @@ class Faces(Counted):
             self.assertRaises(ValueError, registers.__setitem__, 1, value)
 
     def test_wrong_arguments_are_refused(self):
-        for arguments in (([0], 2), ([0], -(2**40)), ([2**32], 0), ([1, 2], 0, 1), ([0], 2**32)):
+        for arguments in (([0], 2), ([0], -(2**40)), ([2**32], 0), ([1, 2], 0, 1), ([0], 2**32),
+                          ([0], 0, 0)):
             self.assertRaises(ValueError, Machine, *arguments)
         machine = Machine([0x00108093] * 2)
         for call in (
@@ -85,6 +119,17 @@ class Faces(Counted):
             (rrs.disassemble, 0, 2**32),
             (rrs.disassemble, -(2**31) - 1),
             (setattr, machine, "pc", 2**32),
+            (machine.complete_rvfi, 2**32, 0),
+            (machine.complete_rvfi, 0x00008103, 2**32),
+            (machine.complete_rvfi, 0x00108093, 0, 2**64),
+            (machine.step_rvfi_ialign32, 2**64),
+            (machine.machine_step, rrs.Csrs(), 0, 0, 2**64),
+            (rrs.Csrs().read, 0x344, 2**32),
+            (Fault(FaultKind.MISALIGNED, 0, 0).cause, 2**32, 0),
+            (Fault(FaultKind.MISALIGNED, 0, 0).cause, 0, 2**32),
+            (rrs.row_name, 2**32 + 1),
+            (rrs.compare, [2**64] + [0] * 16, [0] * 17),
+            (rrs.compare, [0] * 17, [0] * 16 + [2**32]),
         ):
             self.assertRaises(ValueError, *call)
         self.assertEqual((machine.pc, machine.registers[:]), (0, [0] * 32))
@@ -106,6 +151,11 @@ class Faces(Counted):
         machine = Machine([0x00108093])
         self.assertEqual((machine.pc, machine.last, machine.base), (0, None, 0))
         self.assertEqual(machine.step_rvfi()[1].order, 0)
+        # a store of the byte 1, which the core tells of the word
+        model, core = ([0] * 12 + [address, 0, mask, 0, 0] for address, mask in ((1, 1), (0, 2)))
+        found = rrs.compare(model, core)
+        self.assertEqual((found, rrs.compare(model, core, True)), ((rrs.Field.MEM_ADDR, 1, 0), None))
+        self.assertEqual(type(found.field), rrs.Field)
         self.assertEqual(rrs.disassemble(0x0000006F), "jal x0, 0x00000000")
         self.assertEqual((rrs.decode(-1), rrs.disassemble(-1)), (None, None))
 
@@ -146,7 +196,7 @@ class Faces(Counted):
 
         def access(made):
             asked.append(made)
-            return None if len(asked) == refused else 0x80
+            return None if len(asked) == refused else 0 if limit == 5 else 0x80
 
         for refused, limit, wanted in (
             (0, 5, (5, None, False)),  # the limit is reached behind an access
@@ -161,7 +211,8 @@ class Faces(Counted):
             machine = Machine([0x100000B7, load, 0x13, store, 0x13, 0x13], base=16)  # lui x1
             self.assertEqual(machine.run(limit, access), wanted)
             self.assertEqual(machine.pc, 16 + 4 * wanted[0])
-            self.assertEqual(asked, [loads, stores][: 2 if wanted[0] > 2 else int(limit > 1)])
+            last = stores._replace(value=0) if limit == 5 else stores
+            self.assertEqual(asked, [loads, last][: 2 if wanted[0] > 2 else int(limit > 1)])
         machine = Machine([add, load], base=16)
         self.assertRaises(ZeroDivisionError, machine.run, 9, lambda made: 1 // 0)
         self.assertRaises(ValueError, machine.run, 9, lambda made: 2**32)
@@ -173,33 +224,35 @@ class Faces(Counted):
         words = [0x00108093, 0x00000073, 0, 0x0210C133, 0x04100AA3, 0]
         core, ports = Machine(words, 64), dict.fromkeys(PORTS, 0)
 
-        def records(handler, more):
+        def records(handler, wrong):
             for order in range(4):
                 yield {"valid": 0, **ports}
                 record = core.step_rvfi_ialign32(order)[1]._asdict()
                 if record["trap"]:
                     record["pc_wdata"] = core.pc = handler
-                if order == 2:
-                    record["rd_wdata"] += more
                 if order == 3:  # the core tells the word
                     self.assertEqual(record["mem_addr"], 0x55)
                     record.update(mem_addr=0x54, mem_wmask=2, mem_wdata=0x100)
+                if order in wrong:
+                    record[wrong[order]] += 1
                 yield {"valid": 1, **record}
 
-        for handler, more, wanted in (
-            (76, 0, ""),
-            (76, 1, "record 2, pc 0x0000004c: "
-                    "Difference(field=<Field.RD_WDATA: 11>, model=1, core=2)"),
-            (80, 0, "record 1, pc 0x00000044: "
-                    "Difference(field=<Field.PC_WDATA: 5>, model=76, core=80)"),
+        for handler, wrong, wanted in (
+            (76, {}, ""),
+            (76, {2: "rd_wdata"}, "record 2, pc 0x0000004c: "
+             "Difference(field=<Field.RD_WDATA: 11>, model=1, core=2)"),
+            (76, {3: "order"}, "record 3, pc 0x00000050: "
+             "Difference(field=<Field.ORDER: 1>, model=3, core=4)"),
+            (80, {}, "record 1, pc 0x00000044: "
+             "Difference(field=<Field.PC_WDATA: 5>, model=76, core=80)"),
         ):
             core.pc, core.registers[1], dut = 64, 0, SimpleNamespace()
-            edges, csrs = records(handler, more), rrs.Csrs()
+            edges, csrs = records(handler, wrong), rrs.Csrs()
             csrs.mtvec = 76
 
             async def edge():
                 values = next(edges)
-                vars(dut).update((f"rvfi_{n}", SimpleNamespace(value=v)) for n, v in values.items())
+                vars(dut).update((f"rvfi_{name}", Signal(number)) for name, number in values.items())
 
             try:
                 check_core(dut, edge, Machine(words, 64), csrs, 4).send(None)
@@ -221,7 +274,10 @@ class Faces(Counted):
                 if not inspect.isfunction(function) or function.__module__ != "rrs":
                     continue
                 hints = typing.get_type_hints(function)
-                wanted = [*inspect.signature(function).parameters, "return"]
+                parameters = inspect.signature(function).parameters
+                wanted = [*parameters, "return"]
+                given = [one.default for one in parameters.values() if one.default is not one.empty]
+                self.assertEqual([value for value in given if value], [], (name, function.__name__))
                 self.assertEqual([n for n in wanted if n != "self" and n not in hints], [],
                                  (name, function.__name__))
                 self.assertTrue(function.__doc__ or function.__name__.startswith("__"))
@@ -262,6 +318,21 @@ class Faces(Counted):
             self.assertEqual((other.registers[2], other.pc), (9, 72))
         self.assertEqual((machine.pc, machine.registers[:4]), (68, [0, 1, 0, 7]))
         self.assertEqual(machine.memory[2], 5)
+        board = Board(sent=[1])
+        board.step()
+        for other, shared in ((copy.copy(board), True), (copy.deepcopy(board), False),
+                              (pickle.loads(pickle.dumps(board)), False)):
+            self.assertEqual((type(other), other.pc, other.registers[1]), (Board, 68, 1))
+            self.assertEqual((other._sent, other._sent is board._sent), ([1], shared))
+            self.assertEqual((other.run(1).fault.address, board.pc), (68, 68))
+
+    def test_an_error_may_be_pickled(self):
+        for error, text in (
+            (rrs.ElfError("NOT_IN_WORDS", 4, 5), "NOT_IN_WORDS 4 5"),
+            (rrs.AssemblyError([rrs.Mistake(1, 2, "a"), rrs.Mistake(3, 4, "b")]), "1:2: a; 3:4: b"),
+        ):
+            other = pickle.loads(pickle.dumps(error))
+            self.assertEqual((type(other), str(other), vars(other)), (type(error), text, vars(error)))
 
     def test_each_machine_keeps_decoded_words_of_its_own(self):
         machine = Machine([0x00128293, 0xFFDFF06F])  # addi t0, t0, 1; j -4
@@ -277,25 +348,31 @@ class Faces(Counted):
 
     def test_an_executable_is_loaded_where_it_says(self):
         words = [0x00108093, 0x0000A103]  # addi x1, x1, 1; lw x2, (x1)
-        head = struct.pack("<16sHHIIIIIHHHHHH", b"\x7fELF\1\1\1", 2, 243, 1, 0x12F44, 52, 128, 0, 52,
-                           32, 1, 40, 3, 0)
-        body = struct.pack("<8I", 1, 84, 0x12F40, 0, 8, 13, 5, 4) + struct.pack("<2I", *words)
+        head = struct.pack("<16sHHIIIIIHHHHHH", b"\x7fELF\1\1\1", 2, 243, 1, 0x12F44, 52, 192, 0, 52,
+                           32, 3, 40, 3, 0)
+        # one that is not loaded, one of no bytes, and one of 13, of which the file has 8
+        body = struct.pack("<16I", 4, 0, 0, 0, 0, 0, 4, 4, 1, 0, 0, 0, 0, 0, 4, 4)
+        body += struct.pack("<8I", 1, 148, 0x12F40, 0, 8, 13, 5, 4) + struct.pack("<2I", *words)
         # a function whose name is no UTF-8
         body += struct.pack("<16xIIIBBH4s", 1, 0x12F44, 4, 0x12, 0, 1, b"\0f\xff")
-        body += struct.pack("<40x20I", 0, 2, 0, 0, 92, 32, 2, 1, 4, 16, 0, 3, 0, 0, 124, 4, 0, 0, 1, 0)
+        body += struct.pack("<40x20I", 0, 2, 0, 0, 156, 32, 2, 1, 4, 16, 0, 3, 0, 0, 188, 4, 0, 0, 1, 0)
         with tempfile.NamedTemporaryFile() as file:
             file.write(head + body)
             file.flush()
             machine = Machine.from_elf(file.name)
             larger = Machine.from_elf(file.name, size=4096)
-            smaller = Machine.from_elf(file.name, size=1)
+            smaller = Loaded.from_elf(file.name, size=1)
         self.assertEqual((machine.base, machine.pc, len(machine.memory)), (0x12000, 0x12F44, 980))
         self.assertEqual(machine.memory[976:], [*words, 0, 0])
         self.assertEqual((len(larger.memory), sum(machine.memory)), (4096, sum(words)))
         self.assertEqual(smaller.memory[:], machine.memory[:])
         self.assertIsNone(machine.elf.function_at(0x12F40))
         self.assertEqual(machine.elf.function_at(0x12F47), ("f\udcff", 3, True))
-        self.assertEqual(machine.elf.segments, [rrs.Segment(0x12F40, 13, 84, 8, 5)])
+        self.assertEqual(machine.elf.segments, [
+            rrs.Segment(0, 0, 0, 0, 4), rrs.Segment(0x12F40, 13, 148, 8, 5)])
+        self.assertEqual((type(smaller), copy.copy(smaller).elf is smaller.elf), (Loaded, True))
+        for call in (machine.elf.segment, machine.elf.function_at):
+            self.assertRaises(ValueError, call, 2**32)
         with self.assertRaises(rrs.ElfError) as caught:
             rrs.Elf(b"none")
         self.assertEqual(caught.exception.refusal, "NOT_ELF")
@@ -312,8 +389,11 @@ class Faces(Counted):
                          (0xFFFFFFFD, 2**32 - 1, None))
         self.assertEqual((csrs.read(0x344, mip=-1), csrs.read(0xC81, time=2**32)), (0x888, 1))
         self.assertEqual((csrs.write(0xC00, 1), csrs.write(0xB00, 1)), (False, True))
+        self.assertEqual((csrs.read(0x344), csrs.read(0xC01), csrs.read(0x342)), (0, 0, 0))
+        self.assertEqual(repr(csrs.write(0xB00, 1)), "True")
         for other in (copy.copy(csrs), copy.deepcopy(csrs), pickle.loads(pickle.dumps(csrs))):
             self.assertEqual(repr(other), repr(csrs))
+            self.assertEqual(type(pickle.loads(pickle.dumps(File()))), File)
             other.mie = 8
             self.assertEqual((other.mie, csrs.mie, csrs.mcycle), (8, 0, 0xFFFFFFFF00000001))
         self.assertIn("mtvec=0xffffffff", repr(csrs))
@@ -368,10 +448,47 @@ class Assembling(Counted):
         self.assertEqual(rrs.assemble(SOURCE.encode(), 0x1000), program)
         self.assertEqual(rrs.assemble(""), rrs.Program(0, 0, b"", [], []))
 
+    def test_a_source_is_a_text_or_bytes(self):
+        source, start = 'a: b: .ascii "é"', 2**32 - 4
+        data = source.encode()
+        wanted = (start, start, "é".encode(), [(1, start, 2)], [("a", 1, start), ("b", 1, start)])
+        for given in (source, data, bytearray(data), memoryview(data)):
+            self.assertEqual(rrs.assemble(given, -4), wanted)
+
     def test_what_is_too_small_grows(self):
         program = rrs.assemble(".zero 1000000\n.rept 20000\n1: .byte 1, 2\n.endr")
         self.assertEqual((len(program.bytes), len(program.statements)), (1040000, 20001))
         self.assertEqual(program.bytes[999999:1000003], b"\0\1\2\1")
+        # each of what is lent is exceeded alone, or by more than another
+        for source, wanted in (
+            (".rept 1000\nnop\n.endr", (4000, 1000, 0)),
+            (".rept 1000\n1:\n.endr", (0, 0, 1000)),
+            (".zero 100000", (100000, 1, 0)),
+            ("\n".join(f"{'a' * 99}{n}:" for n in range(99)), (0, 0, 99)),
+        ):
+            program = rrs.assemble(source)
+            self.assertEqual(tuple(map(len, program[2:])), wanted)
+        self.assertEqual(program.symbols[98], ("a" * 99 + "98", 99, 0))
+
+    def test_what_is_lent_is_there(self):
+        lent = []
+        call = rrs._assemble
+
+        def look(*arguments):
+            lent.append(arguments)
+            return call(*arguments)
+
+        buffers = []
+        make = rrs.ctypes.create_string_buffer
+        with mock.patch.object(rrs, "_assemble", look), mock.patch.object(
+            rrs.ctypes, "create_string_buffer", lambda size: buffers.append(make(size)) or buffers[-1]
+        ):
+            rrs.assemble(SOURCE)
+        room, memory = lent[0][3]._obj, buffers[0]
+        first = rrs.ctypes.addressof(memory)
+        self.assertEqual((len(lent), room.start % 16), (1, 0))
+        self.assertTrue(first <= room.start and room.start + room.size <= first + len(memory))
+        self.assertEqual([len(part) for part in lent[0][4::2]], [*lent[0][5::2]])
 
     def test_mistakes_are_an_error(self):
         with self.assertRaises(rrs.AssemblyError) as raised:
@@ -381,6 +498,11 @@ class Assembling(Counted):
         self.assertEqual(second.text, "symbol is not defined: lop; is loop meant?")
         self.assertEqual(str(raised.exception), f"1:18: {first.text}; 2:7: {second.text}")
         self.assertRaises(ValueError, rrs.assemble, "nop", 2**32)
+        for count in (19, 20, 21):
+            with self.assertRaises(rrs.AssemblyError) as raised:
+                rrs.assemble(b"\n".join(b"j " + b"\xff" * 400 for _ in range(count)))
+            lines = [mistake.line for mistake in raised.exception.mistakes]
+            self.assertEqual(lines, [*range(1, min(count, 20) + 1)])
 
 
 class Libraries(Counted):
@@ -400,6 +522,7 @@ class Libraries(Counted):
         folder = os.environ["RRS_REFUSED"]
         for library, wanted in {
             "version.so": f"rrs.py is for version 512 of {folder}/version.so, which has 768",
+            "older.so": f"rrs.py is for version 512 of {folder}/older.so, which has 256",
             "old.so": f"the kit's library has no rrs_request: {folder}/old.so",
             "none.so": "rrs.py can't load the kit's library: ",
         }.items():
@@ -414,6 +537,15 @@ class Libraries(Counted):
             status, printed, _ = self.run_over(library, lines)
             self.assertEqual(status, 0)
             self.assertIn(str(default) if default.exists() else "librrs.so.0", printed)
+
+    def test_a_library_beside_the_module_is_taken_but_for_the_one_that_is_named(self):
+        with tempfile.TemporaryDirectory(prefix="a b") as folder:
+            shutil.copy(rrs.__file__, folder)
+            shutil.copy(os.environ["RRS_LIBRARY"], f"{folder}/librrs.so")
+            lines = f"import sys\nsys.path.insert(0, {folder!r})\nimport rrs\nprint(rrs._lib._name)"
+            for library in (None, os.environ["RRS_LIBRARY"]):
+                printed = self.run_over(library, lines)[1]
+                self.assertEqual(printed, f"{library or folder + '/librrs.so'}\n")
 
     def test_an_unknown_kind_is_an_error(self):
         folder = os.environ["RRS_REFUSED"]
@@ -438,6 +570,7 @@ def load_tests(loader, tests, pattern):
 
 
 if __name__ == "__main__":
+    faulthandler.dump_traceback_later(300, exit=True)  # what hangs is told, and fails
     run = unittest.main(exit=False)
     examples = sum(len(test.examples) for test in doctest.DocTestFinder().find(rrs))
     print(f"{Counted.made} comparisons, {examples} examples")
