@@ -23,6 +23,7 @@ header=$crate/include/rrs.h
 library=$crate/out/librrs_c.a
 replay=$here/../crates/rrs_replay
 layouts=$here/layouts
+encode=$here/c/encode.h
 room=$(mktemp -d) || exit 2
 trap 'rm -rf "$room"' EXIT
 
@@ -63,14 +64,14 @@ finish() {
 }
 
 warnings='-Wall -Wextra -Werror -pedantic'
-checks='-O1 -g -fsanitize=address,undefined -fno-sanitize-recover=all'
+checks=(-O1 -g "-fsanitize=address,undefined" -fno-sanitize-recover=all)
 
 # build COMPILER PROGRAM FILE ..
 build() {
     local compiler=$1 program=$2
     shift 2
     # shellcheck disable=SC2086 # the flags are words
-    $compiler $warnings $checks -I"$crate/include" -o "$room/$program" "$@" -x none "$library"
+    $compiler $warnings "${checks[@]}" -I"$crate/include" -o "$room/$program" "$@" -x none "$library"
 }
 
 # prints PROGRAM: it ends with status 0, and prints what is stored
@@ -150,22 +151,25 @@ header_has() {
     "$room/layouts" | diff "$layouts" -
 }
 
-# The header alone is C of each standard, and C++; and with a field of another offset it is none.
+# The header alone is C of each standard, and C++, as they are and as GNU has them; and with a field of
+# another offset it is none.
 header_asserts() {
-    local dialect language tried=0
+    local dialect language flags tried=0
     sed 's/offsetof(rrs_hart, pc) == 128/offsetof(rrs_hart, pc) == 124/' "$header" >"$room/wrong.h"
     ! cmp -s "$header" "$room/wrong.h" || return 1
-    for dialect in c99 c11 c17 c2x c++98 c++11 c++17 c++20; do
-        language=${dialect%%[0-9]*}
+    for dialect in c99 c11 c17 c2x c++98 c++11 c++17 c++20 gnu99 gnu17 gnu++17; do
+        language=c flags=$warnings
+        [[ $dialect != *++* ]] || language=c++
+        [[ $dialect != gnu* ]] || flags='-Wall -Wextra -Werror'
         # shellcheck disable=SC2086 # the flags are words
-        gcc -std="$dialect" $warnings -fsyntax-only -x "$language" "$header" || return 1
+        gcc -std="$dialect" $flags -fsyntax-only -x "$language" "$header" || return 1
         # shellcheck disable=SC2086 # the flags are words
-        ! gcc -std="$dialect" $warnings -fsyntax-only -x "$language" "$room/wrong.h" 2>"$room/wrong" ||
+        ! gcc -std="$dialect" $flags -fsyntax-only -x "$language" "$room/wrong.h" 2>"$room/wrong" ||
             return 1
         grep -q hart_pc "$room/wrong" || return 1
         tried=$((tried + 1))
     done
-    [ "$tried" = 8 ]
+    [ "$tried" = 11 ]
 }
 
 # RRS_VERSION has each of its three parts, and is one operand.
@@ -174,6 +178,68 @@ counts_version() {
         s/\(#define RRS_VERSION_PATCH\) .*/\1 3/' "$header" >"$room/version.h"
     echo 'int version[2 * RRS_VERSION == 2 * 0x010203 ? 1 : -1];' >>"$room/version.h"
     gcc -std=c99 -fsyntax-only -x c "$room/version.h"
+}
+
+# The words of encode.h are the instructions that they are meant to be, by each bit of an offset.
+encodes() {
+    cat >"$room/encode.c" <<'C'
+#include <stdio.h>
+#include "encode.h"
+#include "rrs.h"
+int main(void) {
+    static const int32_t offsets[] = {2, 8, 16, 32, 1024, 2048, 4094, -4096};
+    uint32_t words[40];
+    unsigned count = 0, i;
+    words[count++] = r_type(0x20, 5, 1, 2, 3);
+    words[count++] = r_type(1, 6, 29, 30, 31);
+    words[count++] = i_type(0x13, 7, 31, 16, 0x7ff);
+    words[count++] = addi(1, 2, -2048);
+    words[count++] = load(5, 17, 18, -2);
+    words[count++] = jalr(5, 6, 1);
+    words[count++] = s_type(1, 3, 28, 0x55e);
+    words[count++] = s_type(2, 31, 1, -2048);
+    words[count++] = u_type(0x37, 9, 0x80001fff);
+    for (i = 0; i < 8; i++) words[count++] = b_type(7, 4, 27, offsets[i]);
+    for (i = 0; i < 8; i++) words[count++] = jal(1, offsets[i] * (i < 5 ? 1 : 256));
+    for (i = 0; i < count; i++) {
+        char text[RRS_TEXT_SIZE] = "";
+        rrs_disassemble(words[i], 0x100000, text, sizeof text);
+        puts(text);
+    }
+    return 0;
+}
+C
+    cp "$encode" "$room/encode.h" &&
+        build "gcc -std=c99 -x c" encode "$room/encode.c" && "$room/encode" | diff - <(cat <<'END'
+sra x1, x2, x3
+rem x29, x30, x31
+andi x31, x16, 2047
+addi x1, x2, -2048
+lhu x17, -2(x18)
+jalr x5, 0x001(x6)
+sh x28, 1374(x3)
+sw x1, -2048(x31)
+lui x9, 0x80001000
+END
+        for number in 2 8 16 32 1024 2048 4094 -4096; do
+            printf 'bgeu x4, x27, 0x%08x\n' "$((0x100000 + number))"
+        done
+        for number in 2 8 16 32 1024 $((2048 * 256)) $((4094 * 256)) $((-4096 * 256)); do
+            printf 'jal x1, 0x%08x\n' "$((0x100000 + number))"
+        done)
+}
+
+# Each example is built as people do it, with what a compiler has by itself.
+builds_plainly() {
+    local source compiler=gcc
+    for source in three_words uart shadow assemble lockstep/main; do
+        set -- "$here/c/$source.c"
+        [ "$source" != lockstep/main ] || set -- "$@" "$here/c/lockstep/design.c"
+        for compiler in gcc "gcc -O2 -flto" "g++ -x c++"; do
+            # shellcheck disable=SC2086 # the flags are words
+            $compiler -Werror -I"$crate/include" -o "$room/plain" "$@" -x none "$library" || return 1
+        done
+    done
 }
 
 declares() {
@@ -210,6 +276,8 @@ examples() {
     try "replay, as C99, answers as is stored" answers "$room/replay"
     try "replay refuses a line with more" refuses_lines "$room/replay"
     try "the sanitizers see what is wrong" sanitizers_see
+    try "the words of encode.h are those of the table" encodes
+    try "each example, as people build theirs" builds_plainly
     try "replay, as C++" build "g++ -std=c++11 -x c++" replay "$here/c/replay.c"
     try "replay, as C++, answers as is stored" answers "$room/replay"
 }
@@ -228,7 +296,7 @@ fails_with() {
 # uart where its program sends before the device is ready.
 examples_see() {
     local field lockstep=$here/c/lockstep
-    local checks="-O1 -Drrs_step_rvfi=wrong_step_rvfi -I$here/c/lockstep"
+    local checks=(-O1 -Drrs_step_rvfi=wrong_step_rvfi "-I$lockstep")
     local steps='rrs_hart *hart, uint32_t *words, size_t count, uint32_t base, uint64_t order,
         rrs_retired *retired'
     cat >"$room/record.c" <<C
@@ -267,7 +335,7 @@ C
         FIELD=$field fails_with "^    ${names[field]:-.*}: 0x\|found after" wrong_kit || return 1
         [ "$field" -gt 15 ] || grep -q "^    ${names[field]}: 0x" "$room/printed" || return 1
     done
-    checks="-O1 -I$lockstep -I$here/c"
+    checks=(-O1 "-I$lockstep" "-I$here/c")
     build "gcc -std=c99 -x c" unplanted "$lockstep/main.c" "$room/unplanted.c" &&
         fails_with "^5 of 6 planted faults found" unplanted || return 1
     sed 's/b_type(0, 13, 0, -8)/addi(0, 0, 0)/' "$here/c/uart.c" >"$room/hasty.c"
@@ -293,13 +361,14 @@ assemble_sees() {
     done
 }
 
-# Libraries that the faces must refuse: of another version, one with no rrs_request, and one that
-# gives an unknown kind of exception and access.
+# Libraries that the faces must refuse: of a newer and of an older version, one with no rrs_request,
+# and one that gives an unknown kind of exception and access.
 make_refused() {
     local name flags
-    for name in version old kind; do
+    for name in version older old kind; do
         case $name in
         version) flags="-DVERSION=768 -DKIND=9" ;;
+        older) flags="-DVERSION=256 -DKIND=9" ;;
         old) flags="-DVERSION=512 -DKIND=9 -DOLD" ;;
         kind) flags="-DVERSION=512 -DKIND=9" ;;
         esac
@@ -313,10 +382,13 @@ make_refused() {
 }
 
 c_refuses() {
-    gcc -std=c99 -I"$crate/include" -o "$room/refuses" "$here/c/three_words.c" \
-        "$room/version/librrs_c.a" || return 1
-    "$room/refuses" >"$room/printed" 2>&1 && return 1
-    echo "rrs.h and librrs_c.a are of two versions" | diff - "$room/printed"
+    local name
+    for name in version older; do
+        gcc -std=c99 -I"$crate/include" -o "$room/refuses" "$here/c/three_words.c" \
+            "$room/$name/librrs_c.a" || return 1
+        "$room/refuses" >"$room/printed" 2>&1 && return 1
+        echo "rrs.h and librrs_c.a are of two versions" | diff - "$room/printed" || return 1
+    done
 }
 
 python() {
@@ -356,12 +428,12 @@ all() {
     try "three_words refuses a library of another version" c_refuses
     try "the library for Python" gcc -shared -o "$room/librrs.so" \
         -Wl,--whole-archive "$library" -Wl,--no-whole-archive
-    try "python: its tests" python_passes 29 357 14
+    try "python: its tests" python_passes 33 474 14
     try "python: three_words prints what is stored" python_prints
     try "python: replay answers as is stored" answers python replay.py
     try "python: replay refuses a line with more" refuses_lines python replay.py
     try "python: the structs and constants are those of rrs.h" python_has_layouts
-    finish 44
+    finish 46
 }
 
 # The calls that do more than they may: some write a text where there is room for it, and none for
@@ -461,14 +533,14 @@ C
 }
 
 # The tries of what is compared and counted, where each tool answers as is stored, and ends with a status.
-# They print a line more, or say of so many tests fewer that they passed, or of so many comparisons fewer
-# that they were made: STATUS [MORE] [FEWER] [UNCOMPARED]
+# They print a line more, or say of so many tests fewer that they passed, or of so many comparisons or
+# examples fewer that they were made: STATUS [MORE] [FEWER] [UNCOMPARED] [UNSHOWN]
 over_tools() {
     local tool fewer=${3:-0}
     mkdir "$room/bin"
     cat >"$room/bin/tool" <<SH
 #!/bin/sh
-here=$here layouts=$layouts
+$(printf 'here=%q layouts=%q' "$here" "$layouts")
 case "\$*" in
 *" -o "*)
     while [ "\$1" != -o ]; do shift; done
@@ -477,7 +549,7 @@ case "\$*" in
     ;;
 *"functions "*) cat "\$here/functions" ;;
 *layouts.py) cat "\$layouts" ;;
-*test_rrs.py) echo "Ran $((24 - fewer)) tests" && echo "$((5 - ${4:-0})) comparisons, 2 examples" ;;
+*test_rrs.py) echo "Ran $((24 - fewer)) tests" && echo "$((5 - ${4:-0})) comparisons, $((2 - ${5:-0})) examples" ;;
 *three_words.py) cat "\$here/python/expected.txt" ;;
 "") case \$0 in
     */layouts) cat "\$layouts" ;;
@@ -501,7 +573,7 @@ SH
 }
 
 # Tools that answer as is stored; that print more, end otherwise, run fewer tests, or compare less. Each
-# try that looks at this must fail: right, more, ended, fewer or uncompared
+# try that looks at this must fail: right, more, ended, fewer, uncompared or unshown
 wrong_tools() {
     local wanted
     case $1 in
@@ -510,16 +582,17 @@ wrong_tools() {
     ended) wanted=7 && over_tools 1 ;;
     fewer) wanted=1 && over_tools 0 "" 1 ;;
     uncompared) wanted=1 && over_tools 0 "" 0 1 ;;
+    unshown) wanted=1 && over_tools 0 "" 0 0 1 ;;
     esac
     [ "$fails" = "$wanted" ] || { echo "$fails tries fail, and $wanted must" && exit 3; }
     finish 8
 }
 
 # What is small, with something wrong in it: nothing, answers, lines, talks, takes, unwritten, layouts,
-# assertions, asserted, names, asks, state, tries, or one of the calls
+# assertions, asserted, functions, version, comma, words, names, asks, state, tries, or one of the calls
 wrong() {
     local more=() driver=("$room/replay")
-    checks=-O0
+    checks=(-O0)
     gather_questions || exit 2
     # some of each kind
     sed -n -i '1~19p' "$room/questions" "$room/answers"
@@ -536,29 +609,40 @@ wrong() {
     assertions) grep -v 'fault_word' "$header" >"$room/rrs.h" && header=$room/rrs.h ;;
     asserted) sed 's/^RRS_ASSERT(fault_word, .*/RRS_ASSERT(fault_more, sizeof(rrs_fault) == 12);/' \
         "$header" >"$room/rrs.h" && header=$room/rrs.h ;;
+    functions) grep -v '^uint32_t rrs_version' "$header" >"$room/rrs.h" && header=$room/rrs.h ;;
+    version) sed 's/^\(#define RRS_VERSION\) (\(.*\))$/\1 \2/' "$header" >"$room/rrs.h" &&
+        header=$room/rrs.h ;;
+    comma) sed 's/^    RRS_EBREAK = 7/&,/' "$header" >"$room/rrs.h" && header=$room/rrs.h ;;
+    words) sed 's/(bits >> 12 & 0xff)/(bits >> 12 \& 0x7f)/' "$encode" >"$room/other.h" &&
+        encode=$room/other.h ;;
     talks) driver=(sh -c 'echo more >&2; exec "$0"' "$room/replay") ;;
     takes) driver=(sh -c 'sed "s/ more\$//" | "$0"' "$room/replay") ;;
     unwritten) driver=(sh -c 'said=$("$0") && { echo "$said" 2>/dev/null; true; }' "$room/replay") ;;
     names | asks | state) cp "$library" "$room/wrong.a" && library=$room/wrong.a &&
         gcc -c -o "$room/more.o" "$room/$1.c" && ar r "$library" "$room/more.o" ;;
     nothing | tries) ;;
-    *) make_wrong_calls && more=("$room/calls.c") && checks+=" -Drrs_$1=wrong_$1" ;;
+    *) make_wrong_calls && more=("$room/calls.c") && checks+=("-Drrs_$1=wrong_$1") ;;
     esac
     try "rrs.h has the stored layouts and constants, in C" header_has "gcc -std=c99 -x c"
     try "rrs.h asserts each layout" asserts_all
+    try "rrs.h declares the stored functions" declares
+    try "rrs.h counts its version" counts_version
+    try "rrs.h is C99 to C++20" header_asserts
+    try "the words of encode.h" encodes
     try "replay, as C99" build "gcc -std=c99 -x c" replay "$here/c/replay.c" "${more[@]}"
     try "replay, as C99, answers as is stored" answers "${driver[@]}"
     try "replay refuses a line with more" refuses_lines "${driver[@]}"
     try "the names of the library" has_names
-    [ "$1" != tries ] || tries=5
-    finish 6
+    [ "$1" != tries ] || tries=9
+    finish 10
 }
 
 # Each wrong subject must be seen, and the right one must pass.
 self_test() {
     local what status tried=0
-    for what in nothing right more ended fewer uncompared answers lines talks takes unwritten layouts \
-        assertions asserted names asks state tries $wrong_calls; do
+    for what in nothing right more ended fewer uncompared unshown answers lines talks takes unwritten \
+        layouts assertions asserted functions version comma words names asks state tries \
+        $wrong_calls; do
         status=0
         tried=$((tried + 1))
         "$here/check.sh" --wrong "$what" >"$room/seen" 2>&1 || status=$?
@@ -575,7 +659,7 @@ self_test() {
         *) echo "not seen: $what is wrong" && failed=1 ;;
         esac
     done
-    [ "$tried" = 35 ] || { echo "$tried subjects, and there must be 35" && failed=1; }
+    [ "$tried" = 40 ] || { echo "$tried subjects, and there must be 40" && failed=1; }
     echo "self-test: status $failed"
     exit "$failed"
 }
@@ -583,7 +667,7 @@ self_test() {
 case "$*" in
 "") all ;;
 --self-test) self_test ;;
---wrong\ right | --wrong\ more | --wrong\ ended | --wrong\ fewer | --wrong\ uncompared)
+--wrong\ right | --wrong\ more | --wrong\ ended | --wrong\ fewer | --wrong\ un[cs]*)
     wrong_tools "$2"
     ;;
 --wrong\ *) wrong "$2" ;;

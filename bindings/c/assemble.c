@@ -65,16 +65,20 @@ static void print_mistakes(rrs_assembled made) {
                (int)mistakes[i].length, texts + mistakes[i].text);
 }
 
+static void print(rrs_assembled made) {
+    switch (made.end) {
+    case RRS_ASSEMBLED: print_program(made); break;
+    case RRS_MISTAKES: print_mistakes(made); break;
+    case RRS_SMALL_ROOM: printf("a room of %u bytes is wanted\n", (unsigned)made.room); break;
+    case RRS_SMALL_BUFFER: printf("%u bytes are wanted\n", (unsigned)made.bytes); break;
+    }
+}
+
 int main(void) {
-    rrs_assembled made = assemble(program, ROOM, sizeof bytes);
-    if (made.end == RRS_ASSEMBLED) print_program(made);
-    made = assemble(wrong, ROOM, sizeof bytes);
-    if (made.end == RRS_MISTAKES) print_mistakes(made);
-    made = assemble(program, ROOM, 23);
-    if (made.end == RRS_SMALL_BUFFER) printf("%u bytes are wanted\n", (unsigned)made.bytes);
-    made = assemble(program, 496, sizeof bytes);
-    if (made.end == RRS_SMALL_ROOM) printf("a room of %u bytes is wanted\n", (unsigned)made.room);
-    made = assemble(program, 0, sizeof bytes);
-    if (made.end == RRS_SMALL_ROOM) printf("a room of %u bytes is wanted\n", (unsigned)made.room);
+    print(assemble(program, ROOM, sizeof bytes));
+    print(assemble(wrong, ROOM, sizeof bytes));
+    print(assemble(program, ROOM, 23));
+    print(assemble(program, 496, sizeof bytes));
+    print(assemble(program, 0, sizeof bytes));
     return 0;
 }

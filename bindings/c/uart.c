@@ -11,6 +11,7 @@
 #define RAM 0x80000000u
 #define RAM_SIZE 256u
 #define WORD (RAM_SIZE - 4) /* the offset of the last word of RAM, which the program stores to */
+#define TEXT 144            /* the offset of the text, behind the program */
 
 /* As a 16550 has them: the data at offset 0, and the line status at 5. */
 enum { DATA = 0, STATUS = 5, RECEIVED = 0x01, READY = 0x20 };
@@ -105,7 +106,7 @@ static void make_program(uint8_t *ram, const char *text) {
     unsigned i = 0, k;
     words[i++] = u_type(0x37, 10, UART);       /* lui   x10, UART */
     words[i++] = u_type(0x17, 11, 0);          /* auipc x11, 0 */
-    words[i++] = addi(11, 11, 124);            /* addi  x11, x11, 124: the text */
+    words[i++] = addi(11, 11, TEXT - 4);       /* addi  x11, x11, TEXT - 4 */
     words[i++] = load(4, 12, 11, 0);           /* next: lbu x12, (x11) */
     words[i++] = b_type(0, 12, 0, 4 * 7);      /* beq   x12, x0, receive */
     i += put_send(words + i);
@@ -117,7 +118,9 @@ static void make_program(uint8_t *ram, const char *text) {
     words[i++] = load(4, 12, 10, DATA);        /* lbu   x12, DATA(x10): takes the byte away */
     i += put_send(words + i);
     words[i++] = jal(0, -4 * 8);               /* j     receive */
-    words[i++] = u_type(0x37, 14, RAM);        /* done: lui x14, RAM */
+    words[i++] = load(4, 17, 10, DATA);        /* done: lbu x17, DATA(x10): nothing is received */
+    words[i++] = load(4, 17, 10, DATA);
+    words[i++] = u_type(0x37, 14, RAM);        /* lui   x14, RAM */
     words[i++] = u_type(0x37, 15, 0x12345000); /* lui   x15, 0x12345000 */
     words[i++] = addi(15, 15, 0x678);          /* addi  x15, x15, 0x678 */
     words[i++] = s_type(1, 14, 15, WORD);      /* sh    x15, WORD(x14) */
@@ -127,12 +130,14 @@ static void make_program(uint8_t *ram, const char *text) {
     words[i++] = load(2, 15, 0, 0);            /* lw    x15, 0(x0) */
     words[i++] = s_type(0, 10, 15, STATUS);    /* sb    x15, STATUS(x10) */
     words[i++] = load(1, 15, 10, DATA);        /* lh    x15, DATA(x10) */
+    words[i++] = load(0, 15, 14, RAM_SIZE);    /* lb    x15, RAM_SIZE(x14) */
+    words[i++] = load(0, 15, 14, -1);          /* lb    x15, -1(x14) */
     for (k = 0; k < i; k++) {
         unsigned b;
         for (b = 0; b < 4; b++) ram[4 * k + b] = (uint8_t)(words[k] >> 8 * b);
     }
     memset(ram + WORD, 255, 4);
-    memcpy(ram + 128, text, strlen(text) + 1);
+    memcpy(ram + TEXT, text, strlen(text) + 1);
 }
 
 int main(void) {
@@ -148,7 +153,7 @@ int main(void) {
     } while (fault.kind == RRS_OK && steps < 100000);
     printf("steps %u, fault kind %u at 0x%08x, bytes refused %u, x16 = 0x%08x\n", steps - 1,
            fault.kind, fault.address, machine.uart.refused, machine.hart.x[16]);
-    for (i = 0; i < 4; i++) {
+    for (i = 0; i < 6; i++) {
         machine.hart.pc += 4;
         refused = step(&machine);
         printf("fault kind %u at 0x%08x\n", refused.kind, refused.address);
