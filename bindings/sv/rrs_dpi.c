@@ -258,7 +258,8 @@ uint32_t rrs_dpi_request(void *handle, uint32_t word, uint32_t *kind, uint32_t *
 /* rrs_complete. Returns the kind of the exception. */
 uint32_t rrs_dpi_complete(void *handle, uint32_t word, uint32_t granted, uint32_t value) {
     struct rrs_dpi *model = handle;
-    return rrs_complete(&model->hart, word, granted, value).kind;
+    model->fault = rrs_complete(&model->hart, word, granted, value);
+    return model->fault.kind;
 }
 
 /* The text of a word at an address, up to the next call over this instance. */

@@ -31,6 +31,7 @@ tohost:
     .dword 0
 
     .data
+begin_signature_of_another: # whose name begins as that of the one below
 word:
     .word 0x12345678
     .balign 16
