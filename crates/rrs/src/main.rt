@@ -27,5 +27,12 @@ fn main(rt: HostRuntime) -> ExitCode {
     let mut errors = Erasing::new(rt.stderr(), &terminal);
     let line = ProgressLine::new(rt, &terminal);
     let mut progress = rt.stderr().is_terminal().then_some(line);
-    run_rrs(&rt, &mut environment, &mut errors, &mut progress, &Gdb)
+    run_rrs(
+        &rt,
+        &mut environment,
+        &mut errors,
+        &mut progress,
+        &Gdb,
+        rt.stdout().is_terminal(),
+    )
 }

@@ -7,29 +7,32 @@ ghost use Rattle.rrs_asm.specs.Sections.{AreSectionsOf, ArePlaced, IsImage};
 ghost use Rattle.rrs_assembly.specs.Executables.{IsExecutableOf};
 ghost use Rattle.rrs_macros.specs.Comments.{without_comments};
 ghost use Rattle.rrs_macros.specs.Expansion.{Becomes};
-ghost use Rattle.rrs_assembly_commands.specs.Assembly.{IsExecutableFrom, IsImageFrom, layout_of, wanted_of};
+ghost use Rattle.rrs_requests.specs.Requests.{wanted_of};
+ghost use Rattle.rrs_assembly_commands.specs.Assembly.{IsExecutableFrom, IsImageFrom, layout_of};
 
-use crate::assembly_requests::{AssemblyRequest, Form};
 use crate::files::with_files;
 use rrs_asm::{Layout, MOST_BYTES, Program, SourceError, SourceFault, assemble_source, image};
 use rrs_assembly::{
     ExecutableError, MOST_MISTAKES, Mistake, executable_of, gnu_text, listing_of, mistakes_of,
     number_of,
 };
-use rrs_cli::command::Failure;
 use rrs_cli::report::{flush, write_text};
 use rrs_macros::{Expanded, MacroFault, expand, without_block_comments};
-use rrs_requests::files::created;
-use rrs_requests::refusal::{Refusal, failed, out_of_memory};
+use rrs_requests::files::{created, read_source};
+use rrs_requests::refusal::{FileFault, Refusal, failed, named, out_of_memory};
+use rrs_requests::requests::{Form, Request};
 use std::alloc::Global;
 use std::fs::Permissions;
-use std::io::{ErrorKind, Read};
+use std::io::Write;
 use std::os::unix::fs::PermissionsExt;
 use std::rt::Files;
-use std::{fs, io, str};
+use std::{fs, str};
 
-/// The most bytes of a source, 64 MiB. A device may have bytes without an end.
-const SOURCE_BYTES: u64 = 1 << 26;
+/// Where an executable has its first section.
+const EXECUTABLE_TEXT: u32 = 0x1_0000;
+
+/// The distance of pages in an executable.
+const PAGE: u32 = 0x1000;
 
 /// What is made of a source.
 #[derive(Drop)]
@@ -49,16 +52,15 @@ pub struct Products {
 ///
 /// # Errors
 ///
-/// `Refusal::SourceErrors` where the source has mistakes, which were printed;
-/// `Refusal::EmptyProgram`, `Refusal::WrongEntry` or `Refusal::NoExecutable` where an executable is
-/// asked for and the program has none; `Refusal::LargeImage` where its bytes are more than 64 MiB;
+/// `Refusal::SourceErrors` where the source has mistakes, which were printed; `Refusal::File` where
+/// an executable is asked for and the program has none, and where its bytes are more than 64 MiB;
 /// out of memory as a failure.
-pub fn products_of<H: Files + Eprint + AllocGlobal>(
+pub fn products_of<'a, H: Files + Eprint + AllocGlobal>(
     rt: &H,
-    path: &str,
+    path: &'a str,
     source: &[u8],
-    request: AssemblyRequest<'_>,
-) -> Result<Products, Refusal>
+    request: Request<'a>,
+) -> Result<Products, Refusal<'a>>
     ensures bytes { request.entry.form ≡ Form.Bytes → request.entry.output ≡ None
         → IfOk result (λ products.
         IsImageFrom (layout_of (wanted_of request.entry)) source.now products.text.items) }
@@ -69,13 +71,37 @@ pub fn products_of<H: Files + Eprint + AllocGlobal>(
     ensures nothing { request.entry.form ≡ Form.Bytes → IsSome request.entry.output
         → IfOk result (λ products. products.text.items ≡ []) }
 {
-    let layout = request.layout();
+    let layout = layout_of(request);
     let expanded = expanded_of(rt, path, source)?;
     let whole = with_files(rt, path, expanded, request.has_any_file)?;
     let program = program_of(rt, path, request, &whole, layout)?;
-    let executable = executable_for(rt.alloc(), request, &program)?;
-    let text = text_of(rt.alloc(), request, &whole, &program, layout.text_start)?;
+    let executable = executable_for(rt.alloc(), path, request, &program)?;
+    let text = text_of(
+        rt.alloc(),
+        path,
+        request,
+        &whole,
+        &program,
+        layout.text_start,
+    )?;
     Ok(Products { text, executable })
+}
+
+/// Where the sections lie: where the words say, and else those of an executable from 0x10000 on, with
+/// data that can be written on a page of its own, and all others one behind the other from address 0
+/// on.
+fn layout_of(request: Request<'_>) -> Layout
+    ensures { result ≡ layout_of (wanted_of request.entry) }
+{
+    let (text, page) = match request.output {
+        Some(_) => (EXECUTABLE_TEXT, PAGE),
+        None => (0, 1),
+    };
+    Layout {
+        text_start: request.text_start.unwrap_or(text),
+        data_start: request.data_start,
+        page,
+    }
 }
 
 /// The text that a source becomes without its block comments, macros, conditions and repetitions.
@@ -84,11 +110,11 @@ pub fn products_of<H: Files + Eprint + AllocGlobal>(
 /// # Errors
 ///
 /// `Refusal::SourceErrors` where there are mistakes, and out of memory as a failure.
-fn expanded_of<H: Eprint + AllocGlobal>(
+fn expanded_of<'a, H: Eprint + AllocGlobal>(
     rt: &H,
-    path: &str,
+    path: &'a str,
     source: &[u8],
-) -> Result<Expanded, Refusal>
+) -> Result<Expanded, Refusal<'a>>
     ensures { IfOk result (λ expanded.
         Becomes (without_comments source.now) expanded.text.items) }
 {
@@ -116,13 +142,13 @@ fn expanded_of<H: Eprint + AllocGlobal>(
 /// # Errors
 ///
 /// `Refusal::SourceErrors` where the text has mistakes, and out of memory as a failure.
-fn program_of<'a, H: Eprint + AllocGlobal>(
+fn program_of<'a, 'e, H: Eprint + AllocGlobal>(
     rt: &H,
-    path: &str,
-    request: AssemblyRequest<'_>,
-    expanded: &'a Expanded,
+    path: &'a str,
+    request: Request<'a>,
+    expanded: &'e Expanded,
     layout: Layout,
-) -> Result<Program<'a>, Refusal>
+) -> Result<Program<'e>, Refusal<'a>>
     ensures { IfOk result (λ program.
         AreSectionsOf layout (items_of expanded.now.text.items) program.sections.items) }
 {
@@ -144,11 +170,12 @@ fn program_of<'a, H: Eprint + AllocGlobal>(
 /// # Errors
 ///
 /// What `refused` says of why there is none.
-fn executable_for(
+fn executable_for<'a>(
     alloc: Global,
-    request: AssemblyRequest<'_>,
+    path: &'a str,
+    request: Request<'a>,
     program: &Program,
-) -> Result<Option<Vec<u8>>, Refusal>
+) -> Result<Option<Vec<u8>>, Refusal<'a>>
     ensures { IfOk result (λ executable.
         MatchOption executable (request.entry.output ≡ None) (λ file.
         IsSome request.entry.output × IsExecutableOf program.now.sections.items file.items)) }
@@ -158,33 +185,35 @@ fn executable_for(
     }
     match executable_of(alloc, program) {
         Ok(file) => Ok(Some(file)),
-        Err(error) => Err(refused(error)),
+        Err(error) => Err(refused(path, error)),
     }
 }
 
 /// Why a program has no executable, as the refusal of the subcommand.
-fn refused(error: ExecutableError) -> Refusal {
-    match error {
-        ExecutableError::Empty => Refusal::EmptyProgram,
-        ExecutableError::Entry(address) => Refusal::WrongEntry(address),
-        ExecutableError::Unlike => Refusal::NoExecutable,
-        ExecutableError::OutOfMemory => out_of_memory(),
-    }
+fn refused(path: &str, error: ExecutableError) -> Refusal<'_> {
+    let fault = match error {
+        ExecutableError::Empty => FileFault::EmptyProgram,
+        ExecutableError::Entry(address) => FileFault::WrongEntry(address),
+        ExecutableError::Unlike => FileFault::NoExecutable,
+        ExecutableError::OutOfMemory => return out_of_memory(),
+    };
+    Refusal::File(path, fault)
 }
 
 /// What is printed of a program whose first section lies at an address.
 ///
 /// # Errors
 ///
-/// `Refusal::LargeImage` where its bytes are asked for and are more than 64 MiB, and out of memory
+/// `Refusal::File` where its bytes are asked for and are more than 64 MiB, and out of memory
 /// as a failure.
-fn text_of(
+fn text_of<'a>(
     alloc: Global,
-    request: AssemblyRequest<'_>,
+    path: &'a str,
+    request: Request<'a>,
     expanded: &Expanded,
     program: &Program,
     text_start: u32,
-) -> Result<Vec<u8>, Refusal>
+) -> Result<Vec<u8>, Refusal<'a>>
     ensures bytes { request.entry.form ≡ Form.Bytes → request.entry.output ≡ None
         → (layout : Layout) → layout.text_start ≡ text_start
         → ArePlaced layout program.now.sections.items
@@ -194,9 +223,9 @@ fn text_of(
 {
     match request.form {
         Form::Bytes if request.output.is_some() => Ok(Vec::new(alloc)),
-        Form::Bytes => bytes_of(alloc, program, text_start),
+        Form::Bytes => bytes_of(alloc, path, program, text_start),
         Form::Source => {
-            let bytes = bytes_of(alloc, program, text_start)?;
+            let bytes = bytes_of(alloc, path, program, text_start)?;
             match gnu_text(alloc, &bytes) {
                 Ok(text) => Ok(text.into_bytes()),
                 Err(_) => Err(out_of_memory()),
@@ -213,14 +242,19 @@ fn text_of(
 ///
 /// # Errors
 ///
-/// `Refusal::LargeImage` where they are more than 64 MiB, and out of memory as a failure.
-fn bytes_of(alloc: Global, program: &Program, text_start: u32) -> Result<Vec<u8>, Refusal>
+/// `Refusal::File` where they are more than 64 MiB, and out of memory as a failure.
+fn bytes_of<'a>(
+    alloc: Global,
+    path: &'a str,
+    program: &Program,
+    text_start: u32,
+) -> Result<Vec<u8>, Refusal<'a>>
     ensures { (layout : Layout) → layout.text_start ≡ text_start
         → ArePlaced layout program.now.sections.items
         → IfOk result (λ bytes. IsImage text_start program.now.sections.items bytes.items) }
 {
     if size_from(program, text_start) > MOST_BYTES as u64 {
-        return Err(Refusal::LargeImage);
+        return Err(Refusal::File(path, FileFault::LargeImage));
     }
     match image(alloc, program, text_start) {
         Ok(bytes) => Ok(bytes),
@@ -247,12 +281,12 @@ fn size_from(program: &Program, start: u32) -> u64 {
 /// # Errors
 ///
 /// Out of memory as a failure.
-fn print_mistakes<H: Eprint + AllocGlobal>(
+fn print_mistakes<'a, H: Eprint + AllocGlobal>(
     rt: &H,
-    path: &str,
+    path: &'a str,
     expanded: &Expanded,
     errors: &[SourceError],
-) -> Result<(), Refusal> {
+) -> Result<(), Refusal<'a>> {
     match mistakes_of(rt.alloc(), &expanded.text, &expanded.lines, errors) {
         Ok(mistakes) => {
             for mistake in &mistakes {
@@ -303,50 +337,64 @@ fn print_all<H: Eprint>(rt: &H, path: &str, expanded: &Expanded, errors: &[Sourc
     }
 }
 
-/// Assembles a file, writes the executable that is asked for, and prints what else is.
+/// Assembles a file, writes the executable that is asked for, and prints what else is to `out`, which
+/// may be a terminal.
 ///
 /// # Errors
 ///
-/// `Refusal::CannotCreate` where the executable's file is the source, or can't be created. Those of
-/// `read_file` and of `products_of`: nothing is written then. `Refusal::Failed` for a write that
+/// `Refusal::File` where the executable's file is the source, or can't be created. Those of
+/// `read_source` and of `products_of`: nothing is written then. `Refusal::Terminal` where the bytes
+/// of the program would go to a terminal. `Refusal::File` and `Refusal::Output` for a write that
 /// fails.
-pub fn assemble_file<H: Files + Print + Eprint + AllocGlobal>(
+pub fn assemble_file<'a, H: Files + Eprint + AllocGlobal, O: Write>(
     rt: &H,
-    path: &str,
-    request: AssemblyRequest<'_>,
-) -> Result<(), Refusal> {
-    let source = read_file(rt, path)?;
+    request: Request<'a>,
+    out: &mut O,
+    is_terminal: bool,
+) -> Result<(), Refusal<'a>> {
+    let path = request.path();
+    let source = read_source(rt, path)?;
     let products = products_of(rt, path, &source, request)?;
     if let (Some(executable), Some(output)) = (&products.executable, request.output) {
         write_executable(rt, path, executable, output)?;
     }
-    let mut out = io::writer(rt);
-    write_text(&mut out, &products.text).map_err(failed)?;
-    flush(&mut out).map_err(failed)
+    if is_terminal && request.form == Form::Bytes && !products.text.is_empty() {
+        return Err(Refusal::Terminal);
+    }
+    write_all(out, &products.text)
 }
 
 /// Writes an executable into a file that is not the source.
 ///
 /// # Errors
 ///
-/// `Refusal::CannotCreate` where the file is the source, or can't be created, and `Refusal::Failed`
-/// for a write that fails.
-fn write_executable<H: Files + AllocGlobal>(
+/// `Refusal::File` where the file is the source, or can't be created, and where a write fails.
+fn write_executable<'a, H: Files + AllocGlobal>(
     rt: &H,
-    path: &str,
+    path: &'a str,
     executable: &[u8],
-    output: &str,
-) -> Result<(), Refusal> {
+    output: &'a str,
+) -> Result<(), Refusal<'a>> {
     if is_same_file(rt, path, output) {
-        return Err(Refusal::CannotCreate);
+        return Err(Refusal::File(output, FileFault::IsSource));
     }
-    let Some(mut file) = created(rt, Some(output))? else {
-        return Err(Refusal::CannotCreate);
-    };
-    write_text(&mut file, executable).map_err(failed)?;
-    flush(&mut file).map_err(failed)?;
-    let_run(rt, output);
+    if let Some(mut file) = created(rt, Some(output))? {
+        let written = write_all(&mut file, executable);
+        named(written, output, file.fault)?;
+        let_run(rt, output);
+    }
     Ok(())
+}
+
+/// Writes bytes, and flushes the writer.
+fn write_all<'a, O: Write>(out: &mut O, bytes: &[u8]) -> Result<(), Refusal<'a>> {
+    if let Err(fault) = write_text(out, bytes) {
+        return Err(failed(fault));
+    }
+    match flush(out) {
+        Ok(()) => Ok(()),
+        Err(fault) => Err(failed(fault)),
+    }
 }
 
 /// Lets a file be run by those who may read it. Where that can't be, it stays as it is.
@@ -365,33 +413,5 @@ fn is_same_file<H: Files + AllocGlobal>(rt: &H, path: &str, other: &str) -> bool
     match (fs::canonicalize(rt, path), fs::canonicalize(rt, other)) {
         (Ok(path), Ok(other)) => path == other,
         _ => path == other,
-    }
-}
-
-/// The bytes of a source.
-///
-/// # Errors
-///
-/// `Failure::CannotOpen` where the file can't be opened, and what `read_source` refuses.
-pub(crate) fn read_file<H: Files + AllocGlobal>(rt: &H, path: &str) -> Result<Vec<u8>, Refusal> {
-    match fs::open(rt, path) {
-        Ok(file) => read_source(rt.alloc(), file),
-        Err(_) => Err(Refusal::Failed(Failure::CannotOpen)),
-    }
-}
-
-/// The bytes that a reader has left.
-///
-/// # Errors
-///
-/// `Refusal::LargeSource` where it has more than `SOURCE_BYTES`, `Refusal::UnreadableSource` where
-/// a read fails, and out of memory for the bytes as a failure.
-fn read_source<R: Read + Drop>(alloc: Global, reader: R) -> Result<Vec<u8>, Refusal> {
-    let mut source = Vec::new(alloc);
-    match reader.take(SOURCE_BYTES + 1).read_to_end(&mut source) {
-        Ok(_) if source.len() as u64 > SOURCE_BYTES => Err(Refusal::LargeSource),
-        Ok(_) => Ok(source),
-        Err(error) if error.kind() == ErrorKind::OutOfMemory => Err(out_of_memory()),
-        Err(_) => Err(Refusal::UnreadableSource),
     }
 }

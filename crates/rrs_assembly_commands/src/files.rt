@@ -7,11 +7,11 @@
 ghost use Rattle.std.specs.Prelude.{◌≡◌, true, IfOk};
 ghost use Rattle.rrs_assembly_commands.specs.Files.{Includes, NamesFile};
 
-use crate::assembly::read_file;
 use rrs_assembly::{MOST_MISTAKES, number_of};
 use rrs_lines::{Part, begins_with, behind_blanks, first_line, first_part, split_word};
 use rrs_macros::Expanded;
-use rrs_requests::refusal::{Refusal, out_of_memory};
+use rrs_requests::files::read_file;
+use rrs_requests::refusal::{FileFault, Refusal, out_of_memory};
 use std::alloc::{AllocError, Global};
 use std::fs;
 use std::rt::Files;
@@ -50,12 +50,12 @@ struct Place<'a> {
 ///
 /// `Refusal::SourceErrors` where a file can't be read, or is not named as it has to be, and out of
 /// memory as a failure.
-pub fn with_files<H: Files + Eprint + AllocGlobal>(
+pub fn with_files<'a, H: Files + Eprint + AllocGlobal>(
     rt: &H,
     path: &str,
     expanded: Expanded,
     has_any_file: bool,
-) -> Result<Expanded, Refusal>
+) -> Result<Expanded, Refusal<'a>>
     ensures { IfOk result (λ made. Includes expanded.text.items made.text.items) }
 {
     if !names_file(&expanded.text) {
@@ -67,12 +67,12 @@ pub fn with_files<H: Files + Eprint + AllocGlobal>(
 }
 
 /// The text with the bytes of its files. The first 20 lines with mistakes are told.
-fn text_with_files<H: Files + Eprint + AllocGlobal>(
+fn text_with_files<'a, H: Files + Eprint + AllocGlobal>(
     rt: &H,
     path: &str,
     expanded: &Expanded,
     has_any_file: bool,
-) -> Result<Vec<u8>, Refusal> {
+) -> Result<Vec<u8>, Refusal<'a>> {
     let mut text = Vec::new(rt.alloc());
     let mut rest = Some(expanded.text.as_slice());
     let mut wrong = 0usize;
@@ -120,7 +120,7 @@ fn names_file(text: &[u8]) -> bool
 }
 
 /// Appends bytes.
-fn push(text: &mut Vec<u8>, bytes: &[u8]) -> Result<(), Refusal> {
+fn push<'a>(text: &mut Vec<u8>, bytes: &[u8]) -> Result<(), Refusal<'a>> {
     match text.extend_from_slice(bytes) {
         Ok(()) => Ok(()),
         Err(_) => Err(out_of_memory()),
@@ -128,12 +128,12 @@ fn push(text: &mut Vec<u8>, bytes: &[u8]) -> Result<(), Refusal> {
 }
 
 /// Appends a line, with the bytes of the files that its statements name.
-fn put_line<H: Files + Eprint + AllocGlobal>(
+fn put_line<'a, H: Files + Eprint + AllocGlobal>(
     rt: &H,
     place: Place<'_>,
     line: &[u8],
     text: &mut Vec<u8>,
-) -> Result<(), Refusal> {
+) -> Result<(), Refusal<'a>> {
     let mut rest = Some(line);
     for _ in 0..=line.len() {
         let Some(left) = rest else {
@@ -163,12 +163,12 @@ fn column_of(line: &[u8], left: &[u8]) -> usize {
 }
 
 /// Appends a label or a statement, or the bytes of the file that it names.
-fn put_part<H: Files + Eprint + AllocGlobal>(
+fn put_part<'a, H: Files + Eprint + AllocGlobal>(
     rt: &H,
     place: Place<'_>,
     part: Part<'_>,
     text: &mut Vec<u8>,
-) -> Result<(), Refusal> {
+) -> Result<(), Refusal<'a>> {
     let Part::Statement(own) = part else {
         return push(text, part.text());
     };
@@ -187,7 +187,7 @@ fn put_part<H: Files + Eprint + AllocGlobal>(
 }
 
 /// Prints what is wrong at a place.
-fn refuse<H: Eprint>(rt: &H, place: Place<'_>, what: &str) -> Result<(), Refusal> {
+fn refuse<'a, H: Eprint>(rt: &H, place: Place<'_>, what: &str) -> Result<(), Refusal<'a>> {
     let Place {
         path,
         line,
@@ -199,7 +199,12 @@ fn refuse<H: Eprint>(rt: &H, place: Place<'_>, what: &str) -> Result<(), Refusal
 }
 
 /// Prints what is wrong with a file that is named at a place.
-fn refuse_file<H: Eprint>(rt: &H, place: Place<'_>, what: &str, name: &str) -> Result<(), Refusal> {
+fn refuse_file<'a, H: Eprint>(
+    rt: &H,
+    place: Place<'_>,
+    what: &str,
+    name: &str,
+) -> Result<(), Refusal<'a>> {
     let Place {
         path,
         line,
@@ -211,12 +216,12 @@ fn refuse_file<H: Eprint>(rt: &H, place: Place<'_>, what: &str, name: &str) -> R
 }
 
 /// Appends the bytes of a file as the operands of `.byte`.
-fn put_file<H: Files + Eprint + AllocGlobal>(
+fn put_file<'a, H: Files + Eprint + AllocGlobal>(
     rt: &H,
     place: Place<'_>,
     request: Request<'_>,
     text: &mut Vec<u8>,
-) -> Result<(), Refusal> {
+) -> Result<(), Refusal<'a>> {
     let Ok(path) = beside(rt.alloc(), place.path, request.name) else {
         return Err(out_of_memory());
     };
@@ -226,7 +231,9 @@ fn put_file<H: Files + Eprint + AllocGlobal>(
     }
     let bytes = match read_file(rt, &path) {
         Ok(bytes) => bytes,
-        Err(Refusal::LargeSource) => return refuse_file(rt, place, "the file is too large", &path),
+        Err(Refusal::File(_, FileFault::LargeSource)) => {
+            return refuse_file(rt, place, "the file is too large", &path);
+        }
         Err(_) => return refuse_file(rt, place, "the file can't be read", &path),
     };
     let end = match request.count {

@@ -3,5 +3,4 @@
 #![tactic(auto)]
 
 pub mod assembly;
-pub mod assembly_requests;
 mod files;

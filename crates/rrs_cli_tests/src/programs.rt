@@ -9,7 +9,9 @@ use rrs_commands::program::run_rrs;
 use rrs_env::Ending;
 use rrs_exec::NoProgress;
 use rrs_linux::{Heap, Linux, LinuxClocks, StoppedClocks};
+use rrs_requests::options::Task;
 use rrs_requests::refusal::Refusal;
+use rrs_requests::requests::Request;
 use rrs_run_commands::debugger::Debugger;
 use rrs_run_commands::execution::{HEAP_END, HEAP_START};
 use std::alloc::Global;
@@ -46,19 +48,24 @@ enum Program {
     Rrs,
 }
 
-/// A debugger that runs nothing, and ends with the number of its words.
+/// A debugger that runs nothing, and ends with the number of its words; with 100 more, and the
+/// number of MiB, for firmware.
 struct CountsWords;
 
 impl Debugger for CountsWords {
-    fn debug<H: Env + Files + AllocGlobal, R: Read, W: Write>(
+    fn debug<'a, H: Env + Files + AllocGlobal, R: Read, W: Write>(
         &self,
         _rt: &H,
-        words: &[String],
+        task: Task,
+        request: Request<'a>,
         _input: &mut R,
         _output: &mut W,
-    ) -> Result<Ending, Refusal> {
-        let status = u32::try_from(words.len()).unwrap_or(u32::MAX);
-        Ok(Ending::Exit(status))
+    ) -> Result<Ending, Refusal<'a>> {
+        let status = match task {
+            Task::DebugBoard => (request.memory >> 20).saturating_add(100),
+            _ => request.words.len() as u64,
+        };
+        Ok(Ending::Exit(u32::try_from(status).unwrap_or(u32::MAX)))
     }
 }
 
@@ -82,6 +89,7 @@ fn status_of(
                 report,
                 &mut NoProgress,
                 &CountsWords,
+                false,
             )
         }
     }
@@ -189,15 +197,11 @@ const COVER_USAGE: &str = "usage: rrs cover [--limit STEPS] [--memory BYTES] [--
 const ASSEMBLE_USAGE: &str = "usage: rrs as [--gnu | --list] [-o OUTPUT] [--rars] \
     [-Ttext ADDRESS]\n    [-Tdata ADDRESS] [--incbin-anywhere] FILE\n";
 
-/// What is said of a word that is no address.
-const NO_ADDRESS: &str = "rrs as: an address has 0x and hexadecimal digits, is below 2^32, \
-    and a multiple of 4\n";
-
 /// A program, words of its command line of which it does not do what they ask, its status, and its
 /// line on standard error.
 type Refused = (Program, &'static [&'static [u8]], u8, &'static str);
 
-static REFUSED: [Refused; 47] = [
+static REFUSED: [Refused; 24] = [
     (Program::Run, &[], 2, RUN_USAGE),
     (Program::Run, &[b"rrs-run"], 2, RUN_USAGE),
     (Program::Run, &[b"rrs-run", b"program"], 2, RUN_USAGE),
@@ -259,32 +263,158 @@ usage: rrs run|exec|trace|cover|as|dis|elf|board|gdb|help ..
         Program::Rrs,
         &[b"rrs", b"run", b"--quiet", b"program", b"1a"],
         2,
-        QUIET_USAGE,
+        "rrs run: 1a is no LIMIT, which has one to nine digits\n",
     ),
     (
         Program::Rrs,
-        &[b"rrs", b"run", b"--quiet", b"10", b"program"],
+        &[b"rrs", b"run", b"program", b"1234567890"],
         2,
-        QUIET_USAGE,
+        "rrs run: 1234567890 is no LIMIT, which has one to nine digits\n",
     ),
     (
         Program::Rrs,
-        &[b"rrs", b"run", b"program", b"10", b"10"],
+        &[b"rrs", b"run", b"program", b"10", b"20", b"--quiet"],
         2,
-        QUIET_USAGE,
+        "rrs run: one word too many: 20\nusage: rrs run [--quiet] FILE LIMIT\n",
     ),
+    (
+        Program::Rrs,
+        &[b"rrs", b"run", b"--raw", b"program", b"10"],
+        2,
+        "rrs run: no option --raw: rrs help run lists them\n",
+    ),
+    (
+        Program::Rrs,
+        &[b"rrs", b"run", b"--quiet=1", b"program", b"10"],
+        2,
+        "rrs run: --quiet=1: --quiet takes no value\n",
+    ),
+    (
+        Program::Rrs,
+        &[b"rrs", b"run", b"--", b"--quiet", b"10"],
+        1,
+        "rrs run: --quiet: No such file or directory\n",
+    ),
+];
+
+#[test]
+fn refuses_other_words(rt: HostRuntime) {
+    for (index, &(program, words, status, line)) in REFUSED.iter().enumerate() {
+        let is_refused = refuses(rt.alloc(), program, words, &FILES, status, line);
+        assert!(rt; is_refused, "at {index}");
+    }
+}
+
+/// The same, of what runs executables.
+static REFUSED_PROGRAMS: [Refused; 25] = [
     (
         Program::Rrs,
         &[b"rrs", b"exec", b"--limit", b"10", b"--raw", b"program"],
         132,
         "rrs exec: IllegalInstruction pc=0x0000000c word=0x00000000\n",
     ),
+    (
+        Program::Rrs,
+        &[b"rrs", b"exec", b"--limt", b"5", b"process"],
+        125,
+        "rrs exec: no option --limt: did you mean --limit?\n",
+    ),
+    (
+        Program::Rrs,
+        &[b"rrs", b"exec", b"--limit"],
+        125,
+        "rrs exec: --limit takes a value, and none is there\n",
+    ),
+    (
+        Program::Rrs,
+        &[b"rrs", b"exec", b"--limit=", b"process"],
+        125,
+        "rrs exec: --limit:  is no number below 2^64, of decimal digits, or of 0x and hexadecimal ones\n",
+    ),
+    (
+        Program::Rrs,
+        &[b"rrs", b"exec", b"--limit", b"0x+1", b"process"],
+        125,
+        "rrs exec: --limit: 0x+1 is no number below 2^64, of decimal digits, or of 0x and hexadecimal ones\n",
+    ),
+    (
+        Program::Rrs,
+        &[
+            b"rrs",
+            b"exec",
+            b"--limit",
+            b"0x10000000000000000",
+            b"process",
+        ],
+        125,
+        "rrs exec: --limit: 0x10000000000000000 is no number below 2^64, of decimal digits, or of 0x and hexadecimal ones\n",
+    ),
+    (
+        Program::Rrs,
+        &[b"rrs", b"exec", b"--memory=16Q", b"process"],
+        125,
+        "rrs exec: --memory: 16Q is no size below 2^64: a number of bytes, or of KiB, MiB or GiB with K, M or G behind it\n",
+    ),
+    (
+        Program::Rrs,
+        &[b"rrs", b"exec", b"--memory", b"17179869184G", b"process"],
+        125,
+        "rrs exec: --memory: 17179869184G is no size below 2^64: a number of bytes, or of KiB, MiB or GiB with K, M or G behind it\n",
+    ),
+    (
+        Program::Rrs,
+        &[b"rrs", b"exec", b"--memory", b"4294967297", b"process"],
+        125,
+        "rrs exec: --memory: 4294967297 is more than there can be, 4294967296 bytes\n",
+    ),
+    (
+        Program::Rrs,
+        &[b"rrs", b"board", b"--memory", b"3G", b"process"],
+        125,
+        "rrs board: --memory: 3G is more than there can be, 2147483648 bytes\n",
+    ),
+    (
+        Program::Rrs,
+        &[b"rrs", b"board", b"process", b"--input", b"file"],
+        125,
+        "rrs board: --input: file is no value that it takes: polled alone is one\n",
+    ),
+    (
+        Program::Rrs,
+        &[b"rrs", b"gdb", b"--limit", b"5", b"process"],
+        2,
+        "rrs gdb: no option --limit: rrs help gdb lists them\n",
+    ),
+    (
+        Program::Rrs,
+        &[b"rrs", b"gdb", b"--board", b"--raw", b"process"],
+        2,
+        "rrs gdb: no option --raw: rrs help gdb lists them\n",
+    ),
+    (
+        Program::Rrs,
+        &[b"rrs", b"gdb", b"--raw", b"--board", b"process"],
+        2,
+        "rrs gdb: --board stands right behind rrs gdb\n",
+    ),
+    (
+        Program::Rrs,
+        &[b"rrs", b"exec", b"missing"],
+        125,
+        "rrs exec: missing: No such file or directory\n",
+    ),
+    (
+        Program::Rrs,
+        &[b"rrs", b"exec", b"program"],
+        125,
+        "rrs exec: program: not an ELF file\n",
+    ),
     (Program::Rrs, &[b"rrs", b"trace"], 125, TRACE_USAGE),
     (
         Program::Rrs,
         &[b"rrs", b"trace", b"--from"],
         125,
-        TRACE_USAGE,
+        "rrs trace: --from takes a value, and none is there\n",
     ),
     (
         Program::Rrs,
@@ -296,129 +426,141 @@ usage: rrs run|exec|trace|cover|as|dis|elf|board|gdb|help ..
         Program::Rrs,
         &[b"rrs", b"cover", b"--from", b"0", b"process"],
         125,
-        "rrs cover: cannot open file\n",
+        "rrs cover: no option --from: rrs help cover lists them\n",
     ),
     (
         Program::Rrs,
         &[b"rrs", b"trace", b"--annotate", b"process"],
         125,
-        "rrs trace: cannot open file\n",
+        "rrs trace: no option --annotate: rrs help trace lists them\n",
     ),
     (
         Program::Rrs,
         &[b"rrs", b"trace", b"--from", b"main", b"process"],
         125,
-        "rrs trace: --from: no address, and no symbol of PROGRAM\n",
+        "rrs trace: --from: main is no address, and no symbol of PROGRAM\n",
     ),
     (
         Program::Rrs,
         &[b"rrs", b"trace", b"--output", b"missing", b"process"],
         125,
-        "rrs trace: cannot create file\n",
+        "rrs trace: missing: No such file or directory\n",
     ),
     (
         Program::Rrs,
         &[b"rrs", b"cover", b"--callgrind", b"missing", b"process"],
         125,
-        "rrs cover: cannot create file\n",
+        "rrs cover: missing: No such file or directory\n",
     ),
     (
         Program::Rrs,
         &[b"rrs", b"trace", b"--output", b"loop", b"process"],
         125,
-        "rrs trace: cannot write output\n",
+        "rrs trace: loop: Operation not supported\n",
     ),
+];
+
+#[test]
+fn refuses_programs(rt: HostRuntime) {
+    for (index, &(program, words, status, line)) in REFUSED_PROGRAMS.iter().enumerate() {
+        let is_refused = refuses(rt.alloc(), program, words, &FILES, status, line);
+        assert!(rt; is_refused, "at {index}");
+    }
+}
+
+/// The same, of what assembles and lists.
+static REFUSED_FILES: [Refused; 16] = [
     (Program::Rrs, &[b"rrs", b"as"], 2, ASSEMBLE_USAGE),
     (Program::Rrs, &[b"rrs", b"as", b"--gnu"], 2, ASSEMBLE_USAGE),
     (
         Program::Rrs,
         &[b"rrs", b"as", b"source", b"--lists"],
         2,
-        ASSEMBLE_USAGE,
+        "rrs as: no option --lists: did you mean --list?\n",
     ),
     (
         Program::Rrs,
         &[b"rrs", b"as", b"source", b"-o"],
         2,
-        ASSEMBLE_USAGE,
-    ),
-    (
-        Program::Rrs,
-        &[b"rrs", b"as", b"source", b"-Tdata"],
-        2,
-        ASSEMBLE_USAGE,
+        "rrs as: -o takes a value, and none is there\n",
     ),
     (
         Program::Rrs,
         &[b"rrs", b"as", b"-Ttext", b"1000", b"source"],
         2,
-        NO_ADDRESS,
+        "rrs as: -Ttext: 1000 is no address: 0x and hexadecimal digits, below 2^32, a multiple of 4\n",
     ),
     (
         Program::Rrs,
-        &[b"rrs", b"as", b"-Ttext", b"0x1002", b"source"],
+        &[b"rrs", b"as", b"-Ttext=0x1002", b"source"],
         2,
-        NO_ADDRESS,
+        "rrs as: -Ttext: 0x1002 is no address: 0x and hexadecimal digits, below 2^32, a multiple of 4\n",
     ),
     (
         Program::Rrs,
         &[b"rrs", b"as", b"-Tdata", b"0x100000000", b"source"],
         2,
-        NO_ADDRESS,
+        "rrs as: -Tdata: 0x100000000 is no address: 0x and hexadecimal digits, below 2^32, a multiple of 4\n",
     ),
     (
         Program::Rrs,
         &[b"rrs", b"as", b"-Tdata", b"0x+8", b"source"],
         2,
-        NO_ADDRESS,
-    ),
-    (
-        Program::Rrs,
-        &[b"rrs", b"as", b"--lists"],
-        1,
-        "rrs as: cannot open file\n",
+        "rrs as: -Tdata: 0x+8 is no address: 0x and hexadecimal digits, below 2^32, a multiple of 4\n",
     ),
     (
         Program::Rrs,
         &[b"rrs", b"as", b"--rars", b"source"],
         1,
-        "rrs as: the program has more than 64 MiB from its first byte to its last\n",
+        "rrs as: source: the program has more than 64 MiB from its first byte to its last\n",
     ),
     (
         Program::Rrs,
         &[b"rrs", b"as", b"empty", b"-o", b"loop"],
         1,
-        "rrs as: the program is empty\n",
+        "rrs as: empty: the program is empty\n",
     ),
     (
         Program::Rrs,
         &[b"rrs", b"as", b"misaligned", b"-o", b"loop"],
         1,
-        "rrs as: no instruction can begin at the entry 0x00010001\n",
+        "rrs as: misaligned: no instruction can begin at the entry 0x00010001\n",
     ),
     (
         Program::Rrs,
         &[b"rrs", b"as", b"source", b"-o", b"source"],
         1,
-        "rrs as: cannot create file\n",
+        "rrs as: source: this is the source, which stays as it is\n",
     ),
     (
         Program::Rrs,
         &[b"rrs", b"as", b"source", b"-o", b"missing"],
         1,
-        "rrs as: cannot create file\n",
+        "rrs as: missing: No such file or directory\n",
     ),
     (
         Program::Rrs,
         &[b"rrs", b"as", b"--rars", b"source", b"-o", b"loop"],
         1,
-        "rrs as: cannot write output\n",
+        "rrs as: loop: Operation not supported\n",
+    ),
+    (
+        Program::Rrs,
+        &[b"rrs", b"dis", b"process", b"program"],
+        2,
+        "rrs dis: one word too many: program\nusage: rrs dis FILE\n",
+    ),
+    (
+        Program::Rrs,
+        &[b"rrs", b"elf", b"-x"],
+        2,
+        "rrs elf: no option -x: rrs help elf lists them\n",
     ),
 ];
 
 #[test]
-fn refuses_other_words(rt: HostRuntime) {
-    for (index, &(program, words, status, line)) in REFUSED.iter().enumerate() {
+fn refuses_sources_and_listings(rt: HostRuntime) {
+    for (index, &(program, words, status, line)) in REFUSED_FILES.iter().enumerate() {
         let is_refused = refuses(rt.alloc(), program, words, &FILES, status, line);
         assert!(rt; is_refused, "at {index}");
     }
@@ -481,9 +623,9 @@ fn file<'a>(name: &'a str, bytes: &'a [u8], fails: bool) -> Contents<'a> {
     Contents { name, bytes, fails }
 }
 
-/// Whether `rrs-run` and `rrs run` say this of a file, where there are these four: a directory, one
-/// that is cut off, one that is full and cut off, and one that is too long.
-fn both_say_of(alloc: Global, too_long: &[u8], path: &[u8], line: &str) -> bool {
+/// Whether `rrs-run` and `rrs run` say this of a file, each its own, where there are these four: a
+/// directory, one that is cut off, one that is full and cut off, and one that is too long.
+fn both_say_of(alloc: Global, too_long: &[u8], path: &[u8], lines: (&str, &str)) -> bool {
     let files = [
         file("directory", b"", true),
         file("cut off", THREE_WORDS, true),
@@ -500,38 +642,55 @@ fn both_say_of(alloc: Global, too_long: &[u8], path: &[u8], line: &str) -> bool 
         &[b"rrs-run", path, b"10"],
         &files,
         1,
-        line,
+        lines.0,
     ) && refuses(
         alloc,
         Program::Rrs,
         &[b"rrs", b"run", b"--quiet", path, b"10"],
         &files,
         1,
-        line,
+        lines.1,
     )
 }
 
-/// What is said of a file that can't be read to its end.
+/// What `rrs-run` says of a file that can't be read to its end.
 const CANNOT_READ: &str = "rrs-run: Could not read byte\n";
 
-/// The name of each file that is not run, and what is said of it.
-static NOT_RUN: [(&[u8], &str); 5] = [
-    (b"missing", "rrs-run: cannot open file\n"),
-    (b"directory", CANNOT_READ),
-    (b"cut off", CANNOT_READ),
-    (b"full and cut off", CANNOT_READ),
+/// The name of each file that is not run, and what is said of it by `rrs-run` and by `rrs run`.
+static NOT_RUN: [(&[u8], &str, &str); 5] = [
+    (
+        b"missing",
+        "rrs-run: cannot open file\n",
+        "rrs run: missing: No such file or directory\n",
+    ),
+    (
+        b"directory",
+        CANNOT_READ,
+        "rrs run: directory: Is a directory\n",
+    ),
+    (
+        b"cut off",
+        CANNOT_READ,
+        "rrs run: cut off: Is a directory\n",
+    ),
+    (
+        b"full and cut off",
+        CANNOT_READ,
+        "rrs run: full and cut off: Is a directory\n",
+    ),
     (
         b"too long",
         "rrs-run: Could not write byte at address 0x00010000\n",
+        "rrs run: too long: more bytes than the memory, which ends at 0x00010000\n",
     ),
 ];
 
 #[test]
 fn says_why_a_file_is_not_run(rt: HostRuntime) -> Result<(), Fail> {
     let too_long = vec![in rt.alloc(); 0; 65537]?;
-    for (index, (path, line)) in NOT_RUN.iter().enumerate() {
+    for (index, &(path, line, other)) in NOT_RUN.iter().enumerate() {
         assert!(rt;
-            both_say_of(rt.alloc(), &too_long, path, line),
+            both_say_of(rt.alloc(), &too_long, path, (line, other)),
             "at {index}"
         );
     }
@@ -595,7 +754,7 @@ static CASES: [Case; 9] = [
     ),
     (
         Program::Rrs,
-        &[b"rrs", b"run", b"--quiet", b"loop", b"0"],
+        &[b"rrs", b"run", b"loop", b"0", b"--quiet"],
         "end: limit, steps 0\n",
     ),
     (
@@ -642,8 +801,44 @@ type Reported = (
     &'static str,
 );
 
-static REPORTED: [Reported; 6] = [
-    (&[b"rrs", b"gdb", b"--raw", b"process"], 2, "", "", ""),
+static REPORTED: [Reported; 9] = [
+    (&[b"rrs", b"gdb", b"--raw", b"process"], 0, "", "", ""),
+    (
+        &[b"rrs", b"gdb", b"process", b"--raw", b"-x"],
+        3,
+        "",
+        "",
+        "",
+    ),
+    (
+        &[
+            b"rrs",
+            b"gdb",
+            b"--board",
+            b"process",
+            b"--memory=64M",
+            b"--limit=0x5",
+        ],
+        164,
+        "",
+        "",
+        "",
+    ),
+    (
+        &[
+            b"rrs",
+            b"trace",
+            b"--limit=6",
+            b"--",
+            b"process",
+            b"--",
+            b"-x",
+        ],
+        7,
+        "",
+        FIRST_LINES,
+        LAST_LINES,
+    ),
     (
         &[b"rrs", b"trace", b"process", b"argument"],
         7,

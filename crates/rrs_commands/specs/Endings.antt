@@ -8,10 +8,12 @@ use Rattle.rrs_lib.specs.declared.instruction_executor.InstructionException.TheV
 use Rattle.rrs_env.specs.declared.Ending.{Ending}
 use Rattle.rrs_env.specs.declared.Ending.TheVariants.{Limit, Fault, Exit}
 use Rattle.rrs_cli.specs.Failures as Failures
+use Rattle.rrs_requests.specs.declared.options.Task.{Task}
+use Rattle.rrs_requests.specs.declared.options.Task.TheVariants.{Execute, Trace, Cover, Board}
+use Rattle.rrs_requests.specs.declared.refusal.FileFault.TheVariants.{Host}
+use Rattle.rrs_requests.specs.declared.refusal.HostFault.TheVariants.{Closed}
 use Rattle.rrs_requests.specs.declared.refusal.Refusal.{Refusal}
-use Rattle.rrs_requests.specs.declared.refusal.Refusal.TheVariants.{SourceErrors, UnreadableSource, LargeSource, UnreadableInput, LargeProgram, WrongLimit, Image, IsElf, NoAddress, WrongAddress, EmptyProgram, WrongEntry, NoExecutable, LargeImage, CannotCreate, Failed}
-use Rattle.rrs_commands.specs.declared.subcommands.Task.{Task}
-use Rattle.rrs_commands.specs.declared.subcommands.Task.TheVariants.{Execute, Trace, Cover, Board}
+use Rattle.rrs_requests.specs.declared.refusal.Refusal.TheVariants.{Words, File, Terminal, Failed}
 
 abbrev pub signal_of : InstructionException → ℕ
 signal_of (IllegalInstruction pc word) = 4  -- SIGILL
@@ -22,28 +24,17 @@ signal_of (LoadAccessFault address) = 11
 signal_of (StoreAccessFault address) = 11
 signal_of (EnvironmentCall pc) = 31  -- SIGSYS; each call is served
 
--- where a subcommand refuses what it is asked
+-- where a subcommand refuses what it is asked; nobody reads what it writes: SIGPIPE
 abbrev pub refused_status : Task → Refusal → ℕ
+refused_status task (File path (Host Closed)) = 141
 refused_status Execute refusal = 125
 refused_status Trace refusal = 125
 refused_status Cover refusal = 125
 refused_status Board refusal = 125
-refused_status task SourceErrors = 1
-refused_status task UnreadableSource = 1
-refused_status task LargeSource = 1
-refused_status task UnreadableInput = 1
-refused_status task LargeProgram = 1
-refused_status task WrongLimit = 2
-refused_status task (Image error) = 1
-refused_status task IsElf = 1
-refused_status task NoAddress = 1
-refused_status task WrongAddress = 2
-refused_status task EmptyProgram = 1
-refused_status task (WrongEntry address) = 1
-refused_status task NoExecutable = 1
-refused_status task LargeImage = 1
-refused_status task CannotCreate = 1
+refused_status task (Words mistake) = 2
+refused_status task Terminal = 2
 refused_status task (Failed failure) = Failures.status_of failure
+refused_status task refusal = 1
 
 abbrev pub status_of : Task → Result Ending Refusal → ℕ
 status_of task (Ok (Exit status)) = status % 256

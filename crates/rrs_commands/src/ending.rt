@@ -4,12 +4,14 @@ ghost use Rattle.std.specs.Prelude.{◌≡◌};
 ghost use Rattle.std.specs.Process.{exit_status};
 ghost use Rattle.rrs_commands.specs.Endings.{refused_status, signal_of, status_of};
 
-use crate::image_errors::ToldImageError;
-use crate::subcommands::{Subcommand, Task};
+use crate::faults::ToldFault;
+use crate::mistakes::tell_mistake;
+use crate::subcommands::Subcommand;
 use rrs_cli::command::{Command, NamedFailure};
 use rrs_env::Ending;
 use rrs_lib::instruction_executor::InstructionException;
-use rrs_requests::refusal::Refusal;
+use rrs_requests::options::Task;
+use rrs_requests::refusal::{FileFault, HostFault, Refusal};
 use std::fmt::Display;
 use std::io;
 use std::process::ExitCode;
@@ -30,19 +32,20 @@ fn signal_of(fault: &InstructionException) -> u8
 }
 
 /// The status where a subcommand refuses what it is asked.
-fn refused_status(task: Task, refusal: &Refusal) -> u8
+fn refused_status(task: Task, refusal: &Refusal<'_>) -> u8
     ensures { result ≡ refused_status task refusal.now }
 {
     match (task, refusal) {
+        (_, Refusal::File(_, FileFault::Host(HostFault::Closed))) => 141,
         (Task::Execute | Task::Trace | Task::Cover | Task::Board, _) => 125,
-        (_, Refusal::WrongLimit | Refusal::WrongAddress) => 2,
+        (_, Refusal::Words(_) | Refusal::Terminal) => 2,
         (_, Refusal::Failed(failure)) => failure.status(),
         (_, _) => 1,
     }
 }
 
 /// The status of `rrs`.
-fn status_of(task: Task, outcome: &Result<Ending, Refusal>) -> u8
+fn status_of(task: Task, outcome: &Result<Ending, Refusal<'_>>) -> u8
     ensures { result ≡ status_of task outcome.now }
 {
     match outcome {
@@ -60,15 +63,15 @@ fn status_of(task: Task, outcome: &Result<Ending, Refusal>) -> u8
 pub fn conclude<H: Eprint>(
     rt: &H,
     subcommand: &Subcommand,
-    outcome: Result<Ending, Refusal>,
+    outcome: Result<Ending, Refusal<'_>>,
 ) -> ExitCode
-    ensures { exit_status result ≡ status_of subcommand.now.task outcome }
+    ensures { exit_status result ≡ status_of subcommand.now.task outcome.entry }
 {
     let program = subcommand.command;
     let status = status_of(subcommand.task, &outcome);
     let _ = match outcome {
         Ok(ending) => tell_ending(rt, program, &ending),
-        Err(refusal) => tell_refusal(rt, program, refusal),
+        Err(refusal) => tell_refusal(rt, subcommand, refusal),
     };
     ExitCode::from(status)
 }
@@ -87,45 +90,33 @@ fn tell_ending<H: Eprint>(rt: &H, program: Command, ending: &Ending) -> io::Resu
     }
 }
 
-/// Prints why a subcommand did not do what it was asked. The mistakes of a source were printed.
-fn tell_refusal<H: Eprint>(rt: &H, program: Command, refusal: Refusal) -> io::Result<()> {
-    if let Some(text) = text_of(&refusal) {
-        return tell(rt, program, text);
-    }
+/// Prints why a subcommand did not do what it was asked. The mistakes of a source were printed, and
+/// of an output that nobody reads any more nothing is said.
+fn tell_refusal<H: Eprint>(
+    rt: &H,
+    subcommand: &Subcommand,
+    refusal: Refusal<'_>,
+) -> io::Result<()> {
+    let program = subcommand.command;
+    let name = program.name;
     match refusal {
-        Refusal::Image(error) => tell(rt, program, &ToldImageError(error)),
-        Refusal::WrongEntry(address) => {
-            let name = program.name;
-            eprintln!(rt; "{name}: no instruction can begin at the entry 0x{address:08x}")
+        Refusal::Words(mistake) => tell_mistake(rt, subcommand, mistake),
+        Refusal::File(_, FileFault::Host(HostFault::Closed)) | Refusal::SourceErrors => Ok(()),
+        Refusal::File(path, fault) => {
+            let fault = ToldFault(fault);
+            eprintln!(rt; "{name}: {path}: {fault}")
         }
+        Refusal::NoAddress(word) => {
+            eprintln!(rt; "{name}: --from: {word} is no address, and no symbol of PROGRAM")
+        }
+        Refusal::Terminal => {
+            eprintln!(rt;
+                "{name}: the bytes are not written to a terminal; -o OUTPUT writes an executable"
+            )
+        }
+        Refusal::Output => tell(rt, program, "cannot write output"),
+        Refusal::Input => tell(rt, program, "cannot read input"),
         Refusal::Failed(failure) => rt.eprintln(NamedFailure { program, failure }),
-        _ => Ok(()),
-    }
-}
-
-/// What is said of a refusal, where that is always the same.
-fn text_of(refusal: &Refusal) -> Option<&'static str> {
-    match refusal {
-        Refusal::UnreadableSource => Some("cannot read file"),
-        Refusal::UnreadableInput => Some("cannot read input"),
-        Refusal::LargeSource => Some("a source has at most 64 MiB"),
-        Refusal::WrongLimit => {
-            Some("a limit, or a number of bytes, has decimal digits and is below 2^64")
-        }
-        Refusal::LargeProgram => Some("a program has at most 256 MiB"),
-        Refusal::IsElf => Some("an ELF file: rrs exec runs it"),
-        Refusal::NoAddress => Some("--from: no address, and no symbol of PROGRAM"),
-        Refusal::WrongAddress => {
-            Some("an address has 0x and hexadecimal digits, is below 2^32, and a multiple of 4")
-        }
-        Refusal::LargeImage => {
-            Some("the program has more than 64 MiB from its first byte to its last")
-        }
-        Refusal::EmptyProgram => Some("the program is empty"),
-        Refusal::NoExecutable => Some("no executable of the program"),
-        Refusal::CannotCreate => Some("cannot create file"),
-        Refusal::SourceErrors | Refusal::Image(_) | Refusal::WrongEntry(_) | Refusal::Failed(_) =>
-            None,
     }
 }
 

@@ -7,6 +7,7 @@
 #![tactic(auto)]
 
 pub mod ending;
-pub mod image_errors;
+mod faults;
+mod mistakes;
 pub mod program;
 pub mod subcommands;

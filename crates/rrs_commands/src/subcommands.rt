@@ -1,31 +1,7 @@
 //! The subcommands of `rrs`: how each is called, and what its help says.
 
 use rrs_cli::command::Command;
-
-/// What a subcommand does.
-#[derive(Clone, Copy, PartialEq)]
-pub enum Task {
-    /// It runs a file, and prints what it does.
-    Run,
-    /// It runs a program that makes system calls.
-    Execute,
-    /// It runs such a program, and writes the log of the run.
-    Trace,
-    /// It runs such a program, and writes what the run covered.
-    Cover,
-    /// It assembles a source.
-    Assemble,
-    /// It lists what an executable has.
-    List,
-    /// It disassembles an executable.
-    Disassemble,
-    /// It runs firmware on a board.
-    Board,
-    /// It runs a program under gdb.
-    Debug,
-    /// It says what the others do.
-    Help,
-}
+use rrs_requests::options::Task;
 
 /// A subcommand.
 #[derive(Clone, Copy)]
@@ -58,12 +34,12 @@ pub static SUBCOMMANDS: [Subcommand; 9] = [
 /// The program itself, where it is asked for help or for no subcommand.
 pub static ITSELF: Subcommand = HELP;
 
-/// `rrs run`, which says what `rrs-run` says.
+/// `rrs run`.
 const RUN: Subcommand = Subcommand {
     word: "run",
     task: Task::Run,
     command: Command {
-        name: "rrs-run",
+        name: "rrs run",
         usage: "rrs run [--quiet] FILE LIMIT",
     },
     summary: "runs a file's bytes, and prints each instruction and the registers",
@@ -86,12 +62,13 @@ const EXECUTE: Subcommand = Subcommand {
     },
     summary: "runs a program that makes system calls of Linux",
     help: "Runs PROGRAM, an ELF executable for RV32IM, as a process of Linux with these
-ARGUMENTs: in a memory of 16 MiB (--memory), with its heap behind its segments,
-its stack at the end, and a gap between them; code and constants are read-only.
-It makes at most STEPS steps, of which each system call is one, or any number.
-The program has standard input, output and error. A fault is told with its pc.
-With --raw the file's bytes stand at address 0 of 1 MiB and sp at its end, and
-there are no ARGUMENTs.
+ARGUMENTs: in a memory of 16 MiB (--memory, up to 4G), with its heap behind its
+segments, its stack at the end, and a gap between them; code and constants are
+read-only. It makes at most STEPS steps, of which each system call is one, or any
+number. The program has standard input, output and error. A fault is told with its
+pc. Options stand before PROGRAM: the words behind it are the program's own. With
+--raw the file's bytes stand at address 0 of 1 MiB and sp at its end, and there are
+no ARGUMENTs.
 
 Status: the program's own; 124 at the limit; 125 where it can't be run; 128 and
 the number of a signal for a fault: 132 illegal instruction, 133 breakpoint,
@@ -160,7 +137,7 @@ with the address and the word of each line, and --gnu a source of the same bytes
 GNU as takes. -Ttext says where the first section lies, and -Tdata where the first
 one with data that can be written does, each by 0x and hexadecimal digits; --rars
 says 0x400000 and 0x10010000. .incbin takes a file beside FILE, or in a folder there;
---incbin-anywhere takes any path. Options stand before FILE and behind it.
+--incbin-anywhere takes any path. A terminal is not sent the bytes of a program.
 
 Each mistake is a line on standard error, FILE:LINE:COLUMN: and what is wrong, and
 nothing is written then.
@@ -214,7 +191,7 @@ const BOARD: Subcommand = Subcommand {
     },
     summary: "runs firmware on a board with machine mode",
     help: "Runs PROGRAM, an ELF executable for RV32IM, on a board like QEMU's virt: RAM of
-128 MiB (--memory) from 0x80000000 on, a UART 16550 at 0x10000000, whose two
+128 MiB (--memory, up to 2G) from 0x80000000 on, a UART 16550 at 0x10000000, whose two
 sides are standard output and standard input, a CLINT at 0x2000000, a finisher at
 0x100000. The hart has machine mode alone, and starts at the entry. It makes at
 most STEPS steps, or any number. Time goes by the instructions that retire, and
@@ -264,8 +241,15 @@ const HELP: Subcommand = Subcommand {
     },
     summary: "prints this, or the help of a subcommand: rrs help run",
     help: "rrs help run, rrs run --help and rrs run -h print the help of rrs run, and rrs --version
-the version. The status is 0, 1 where something fails, and 2 for other words; rrs exec,
-rrs trace and rrs cover end with that of their program.
+the version.
+
+Options stand in any order, before FILE and behind it, and -- ends them; but the words
+behind a PROGRAM with ARGUMENTs are its own. --limit 10 is --limit=10. STEPS is decimal
+digits, or 0x and hexadecimal ones. BYTES is such a number too, or one with K, M or G
+behind it, of KiB, MiB or GiB. A FILE or PROGRAM that is read may be -, standard input.
+
+The status is 0, 1 where something fails, 2 for other words, and 141 where nobody reads
+what rrs prints; rrs exec, rrs trace and rrs cover end with that of their program.
 ",
 };
 

@@ -1,8 +1,6 @@
 //! `rrs gdb`: a program under gdb, which speaks by standard input and standard output.
 
 use crate::board_debugging::debug_board;
-use crate::debugging_request::{DebugRequest, debug_request_of};
-use rrs_cli::fault::RunFault;
 use rrs_cli::loading::load;
 use rrs_elf::Executable;
 use rrs_env::Ending;
@@ -14,8 +12,10 @@ use rrs_lib::memories::SliceMemory;
 use rrs_lib::{HartState, Memory};
 use rrs_linux::{Heap, OutputRecorder};
 use rrs_process::{Image, ProtectedMemory, fill, image_of};
-use rrs_requests::files::read_program;
-use rrs_requests::refusal::{Refusal, failed, no_executable, out_of_memory};
+use rrs_requests::files::{Noting, STANDARD_OUTPUT, read_program};
+use rrs_requests::options::Task;
+use rrs_requests::refusal::{Refusal, named, no_executable, no_image, out_of_memory, unloaded};
+use rrs_requests::requests::Request;
 use rrs_run_commands::debugger::Debugger;
 use rrs_run_commands::execution::{HEAP_END, HEAP_START};
 use std::alloc::Global;
@@ -31,34 +31,34 @@ const WORDS: usize = 262_144;
 const MEMORY_END: u32 = 0x0010_0000;
 
 /// The refusal that an error of the streams is.
-pub(crate) fn refused(error: LinkError) -> Refusal {
+pub(crate) fn refused<'a>(error: LinkError) -> Refusal<'a> {
     match error {
         LinkError::OutOfMemory => out_of_memory(),
-        LinkError::Output => failed(RunFault::Output),
+        LinkError::Output => Refusal::Output,
     }
 }
 
 /// A program that is debugged: its file, how it is asked for, and its input.
 #[derive(Drop)]
-struct Program<'a> {
+struct Program<'f, 'a> {
     /// The bytes of the file.
-    file: &'a [u8],
+    file: &'f [u8],
     /// How it is asked for.
-    request: DebugRequest<'a>,
+    request: Request<'a>,
     /// Its input.
-    input: &'a [u8],
+    input: &'f [u8],
 }
 
 /// Serves gdb's packets for a program that starts, with a hart and a memory.
-fn debug_from<'a, M: Memory, R: Read, W: Write, const N: usize>(
+fn debug_from<'f, 'a, M: Memory, R: Read, W: Write, const N: usize>(
     alloc: Global,
-    state: &mut SessionState<'a>,
+    state: &mut SessionState<'f>,
     link: &mut Link<R, W>,
     memory: &mut CachedMemory<M, N>,
     hart: &mut HartState,
     heap: Heap,
-    input: &'a [u8],
-) -> Result<SessionEnd, Refusal> {
+    input: &'f [u8],
+) -> Result<SessionEnd, Refusal<'a>> {
     let Ok(mut environment) = OutputRecorder::new(alloc, input, OUTPUT_BYTES, heap) else {
         return Err(out_of_memory());
     };
@@ -66,20 +66,23 @@ fn debug_from<'a, M: Memory, R: Read, W: Write, const N: usize>(
         mem: memory,
         hart_state: hart,
     };
-    serve(&mut OwnCache, state, &mut executor, &mut environment, link).map_err(refused)
+    match serve(&mut OwnCache, state, &mut executor, &mut environment, link) {
+        Ok(end) => Ok(end),
+        Err(error) => Err(refused(error)),
+    }
 }
 
 /// Starts a raw program, and serves gdb's packets for it.
-fn debug_raw<'a, R: Read, W: Write>(
+fn debug_raw<'f, 'a, R: Read, W: Write>(
     alloc: Global,
-    program: &Program<'a>,
-    state: &mut SessionState<'a>,
+    program: &Program<'f, 'a>,
+    state: &mut SessionState<'f>,
     link: &mut Link<R, W>,
-) -> Result<SessionEnd, Refusal> {
+) -> Result<SessionEnd, Refusal<'a>> {
     let mut reader = program.file;
     let memory = match load(alloc, WORDS, &mut reader) {
         Ok(memory) => memory,
-        Err(fault) => return Err(failed(fault)),
+        Err(fault) => return Err(unloaded(program.request.path(), fault)),
     };
     let mut cached: CachedMemory<_, DECODED_WORDS> = CachedMemory::new(memory);
     let mut hart = HartState::new();
@@ -97,11 +100,11 @@ fn debug_raw<'a, R: Read, W: Write>(
 }
 
 /// The words of a program: its path, and its arguments.
-fn words_of(
+fn words_of<'a>(
     alloc: Global,
-    request: &DebugRequest<'_>,
+    request: &Request<'a>,
     state: &SessionState<'_>,
-) -> Result<Vec<String>, Refusal> {
+) -> Result<Vec<String>, Refusal<'a>> {
     let mut words = Vec::new(alloc);
     let given = if state.has_arguments {
         state.arguments.as_slice()
@@ -123,7 +126,7 @@ fn words_of(
 }
 
 /// The zero words of a memory of so many bytes.
-fn zeros(alloc: Global, bytes: u32) -> Result<Vec<u32>, Refusal> {
+fn zeros<'a>(alloc: Global, bytes: u32) -> Result<Vec<u32>, Refusal<'a>> {
     match vec![in alloc; 0; (bytes / 4) as usize] {
         Ok(words) => Ok(words),
         Err(_) => Err(out_of_memory()),
@@ -131,36 +134,42 @@ fn zeros(alloc: Global, bytes: u32) -> Result<Vec<u32>, Refusal> {
 }
 
 /// Starts an executable, and serves gdb's packets for it.
-fn debug_executable<'a, R: Read, W: Write>(
+fn debug_executable<'f, 'a, R: Read, W: Write>(
     alloc: Global,
-    program: &Program<'a>,
-    state: &mut SessionState<'a>,
+    program: &Program<'f, 'a>,
+    state: &mut SessionState<'f>,
     link: &mut Link<R, W>,
-) -> Result<SessionEnd, Refusal> {
+) -> Result<SessionEnd, Refusal<'a>> {
+    let path = program.request.path();
     let arguments = words_of(alloc, &program.request, state)?;
     let executable = match Executable::parse(program.file) {
         Ok(executable) => executable,
-        Err(error) => return Err(no_executable(error)),
+        Err(error) => return Err(no_executable(path, error)),
     };
-    let image = image_of(alloc, &executable, &arguments, program.request.memory)?;
+    let image = match image_of(alloc, &executable, &arguments, program.request.memory) {
+        Ok(image) => image,
+        Err(error) => return Err(no_image(path, error)),
+    };
     let mut words = zeros(alloc, image.layout.end.saturating_sub(image.layout.base))?;
     let mut memory = SliceMemory {
         words: &mut words,
         base: image.layout.base,
     };
-    fill(&executable, image.stack_pointer, &image.stack, &mut memory)?;
+    if let Err(error) = fill(&executable, image.stack_pointer, &image.stack, &mut memory) {
+        return Err(no_image(path, error));
+    }
     debug_image(alloc, image, memory, program.input, state, link)
 }
 
 /// Serves gdb's packets for a process whose memory is filled.
-fn debug_image<'a, R: Read, W: Write>(
+fn debug_image<'f, 'a, R: Read, W: Write>(
     alloc: Global,
     image: Image,
     memory: SliceMemory<'_>,
-    input: &'a [u8],
-    state: &mut SessionState<'a>,
+    input: &'f [u8],
+    state: &mut SessionState<'f>,
     link: &mut Link<R, W>,
-) -> Result<SessionEnd, Refusal> {
+) -> Result<SessionEnd, Refusal<'a>> {
     let Image {
         layout,
         entry,
@@ -178,12 +187,12 @@ fn debug_image<'a, R: Read, W: Write>(
 }
 
 /// Serves gdb's packets for a program, which begins again where gdb asks for that.
-fn debug_program<'a, R: Read, W: Write>(
+fn debug_program<'f, 'a, R: Read, W: Write>(
     alloc: Global,
-    program: &Program<'a>,
-    state: &mut SessionState<'a>,
+    program: &Program<'f, 'a>,
+    state: &mut SessionState<'f>,
     link: &mut Link<R, W>,
-) -> Result<(), Refusal> {
+) -> Result<(), Refusal<'a>> {
     for _ in 0..u64::MAX {
         let end = if program.request.is_raw {
             debug_raw(alloc, program, state, link)?
@@ -199,44 +208,53 @@ fn debug_program<'a, R: Read, W: Write>(
 }
 
 /// The bytes of a file, or none where there is no path.
-pub(crate) fn input_of<H: Files + AllocGlobal>(rt: &H, path: &str) -> Result<Vec<u8>, Refusal> {
-    if path.is_empty() {
-        return Ok(Vec::new(rt.alloc()));
+pub(crate) fn input_of<'a, H: Files + AllocGlobal>(
+    rt: &H,
+    path: Option<&'a str>,
+) -> Result<Vec<u8>, Refusal<'a>> {
+    match path {
+        Some(path) => read_program(rt, path),
+        None => Ok(Vec::new(rt.alloc())),
     }
-    read_program(rt, path)
 }
 
 /// The absolute path of a file, as gdb wants it.
-fn absolute<H: Env + AllocGlobal>(rt: &H, path: &str) -> Result<String, Refusal> {
+fn absolute<'a, H: Env + AllocGlobal>(rt: &H, path: &'a str) -> Result<String, Refusal<'a>> {
     let directory = if path.as_bytes().first().copied() == Some(b'/') {
         String::new(rt.alloc())
     } else {
         directory_of(rt)?
     };
     let joined = format!(in rt.alloc(); "{directory}{path}");
-    joined.map_err(|_| out_of_memory())
+    match joined {
+        Ok(path) => Ok(path),
+        Err(_) => Err(out_of_memory()),
+    }
 }
 
 /// The present directory, with a slash behind it; nothing where it can't be told.
-fn directory_of<H: Env + AllocGlobal>(rt: &H) -> Result<String, Refusal> {
+fn directory_of<'a, H: Env + AllocGlobal>(rt: &H) -> Result<String, Refusal<'a>> {
     let Ok(directory) = env::current_dir(rt) else {
         return Ok(String::new(rt.alloc()));
     };
     let joined = format!(in rt.alloc(); "{}/", directory.display());
-    joined.map_err(|_| out_of_memory())
+    match joined {
+        Ok(path) => Ok(path),
+        Err(_) => Err(out_of_memory()),
+    }
 }
 
 /// Debugs a program whose file and whose input were read: gdb's packets come from `packets`, and go
 /// to `output`.
-fn debug_file<R: Read, W: Write>(
+fn debug_file<'a, R: Read, W: Write>(
     alloc: Global,
-    request: DebugRequest<'_>,
+    request: Request<'a>,
     file: &[u8],
     input: &[u8],
     path: &[u8],
     packets: &mut R,
     output: &mut W,
-) -> Result<Ending, Refusal> {
+) -> Result<Ending, Refusal<'a>> {
     let program = Program {
         file,
         request,
@@ -253,45 +271,43 @@ fn debug_file<R: Read, W: Write>(
     Ok(Ending::Exit(0))
 }
 
-/// `rrs gdb`, by `debug`.
+/// `rrs gdb`: a program by `debug_process`, and firmware by `debug_board`.
 #[derive(Clone, Copy, Debug)]
 pub struct Gdb;
 
 impl Debugger for Gdb {
-    fn debug<H: Env + Files + AllocGlobal, R: Read, W: Write>(
+    fn debug<'a, H: Env + Files + AllocGlobal, R: Read, W: Write>(
         &self,
         rt: &H,
-        words: &[String],
+        task: Task,
+        request: Request<'a>,
         input: &mut R,
         output: &mut W,
-    ) -> Result<Ending, Refusal> {
-        debug(rt, words, input, output)
+    ) -> Result<Ending, Refusal<'a>> {
+        let mut output = Noting::new(output);
+        let ended = match task {
+            Task::DebugBoard => debug_board(rt, request, input, &mut output),
+            _ => debug_process(rt, request, input, &mut output),
+        };
+        named(ended, STANDARD_OUTPUT, output.fault)
     }
 }
 
-/// Debugs a program as the words say, or firmware where the first of them is `--board`: gdb's
-/// packets come from `input`, and go to `output`.
+/// Debugs a program as a request says: gdb's packets come from `input`, and go to `output`.
 ///
 /// # Errors
 ///
-/// Those of `debug_board`, of `debug_request_of` and of `read_program`; `Refusal::Image` where it
-/// is no executable that can be run; `RunFault::OutOfMemory`, and `RunFault::Output` where a write
-/// fails.
-pub fn debug<H: Env + Files + AllocGlobal, R: Read, W: Write>(
+/// Those of `read_program`; `Refusal::File` where it is no executable that can be run;
+/// `Refusal::Output` where a write fails; out of memory as a failure.
+pub fn debug_process<'a, H: Env + Files + AllocGlobal, R: Read, W: Write>(
     rt: &H,
-    words: &[String],
+    request: Request<'a>,
     input: &mut R,
     output: &mut W,
-) -> Result<Ending, Refusal> {
-    if let [word, words @ ..] = words {
-        if word.as_str() == "--board" {
-            return debug_board(rt, words, input, output);
-        }
-    }
-    let request = debug_request_of(words)?;
-    let file = read_program(rt, request.path)?;
+) -> Result<Ending, Refusal<'a>> {
+    let file = read_program(rt, request.path())?;
     let given = input_of(rt, request.input)?;
-    let path = absolute(rt, request.path)?;
+    let path = absolute(rt, request.path())?;
     debug_file(
         rt.alloc(),
         request,

@@ -4,4 +4,3 @@
 
 pub mod board_debugging;
 pub mod debugging;
-pub mod debugging_request;

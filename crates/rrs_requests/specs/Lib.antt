@@ -1,2 +1,4 @@
--- Why a subcommand refuses what it is asked, and what its words are.
+-- What the words of a command line are, and what they ask a subcommand for.
 pub mod Words
+pub mod Options
+pub mod Requests

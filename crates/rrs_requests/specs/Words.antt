@@ -1,50 +1,52 @@
--- What the words of a command line are, as lists of bytes, and what they ask for, one after the
--- other.
-use Rattle.std.specs.Prelude.{ℕ, ◌^◌, ◌<◌, ◌≡◌, List, [], ◌∷◌, length, true, Result, Err}
-use Rattle.std.specs.Str.{all_ascii_digits}
+-- What the words of a command line are, as lists of bytes.
+use Rattle.std.specs.Prelude.{ℕ, ◌^◌, ◌<◌, ◌≤◌, ◌≡◌, ◌+◌, ◌-◌, ◌*◌, ◌%◌, ◌⊎◌, ◌==◌, List, length, take, drop, codes, slice_index}
+use Rattle.std.specs.List.{position_or_len, before_first, after_first}
 use Rattle.std.specs.Str.Parse.{IsNumeral, digits_value}
-use Rattle.rrs_cli.specs.declared.command.Failure.TheVariants.{Usage}
-use Rattle.rrs_requests.specs.declared.refusal.Refusal.{Refusal}
-use Rattle.rrs_requests.specs.declared.refusal.Refusal.TheVariants.{WrongLimit, Failed}
 
--- A number is decimal digits, one at least, and below 2^64.
-abbrev pub IsNumber : List ℕ → Type 0
-IsNumber word =
-    (all_ascii_digits word ≡ true) × (0 < length word) × (digits_value 10 word < 2 ^ 64)
+-- A number is decimal digits, or `0x` and hexadecimal ones, one at least, and below 2^64.
+abbrev pub IsNumber : List ℕ → ℕ → Type 0
+IsNumber word n =
+    (n < 2 ^ 64)
+    × (((take 2 word ≡ codes "0x" → ⊥) × IsNumeral 10 word × (n ≡ digits_value 10 word))
+    ⊎ ((take 2 word ≡ codes "0x") × IsNumeral 16 (drop 2 word)
+    × (n ≡ digits_value 16 (drop 2 word))))
 
--- A hexadecimal number is hexadecimal digits, one at least, and below 2^32.
-abbrev pub IsHexadecimal : List ℕ → Type 0
-IsHexadecimal word = IsNumeral 16 word × (digits_value 16 word < 2 ^ 32)
+-- so many of a unit, whose letter stands behind the number
+abbrev pub IsInUnit : List ℕ → ℕ → List ℕ → ℕ → Type 0
+IsInUnit letter unit word n =
+    (n < 2 ^ 64)
+    × ((count : ℕ) × (drop (length word - length letter) word ≡ letter)
+    × IsNumber (take (length word - length letter) word) count × (n ≡ count * unit))
 
--- the first word is this number, and these are behind it
-abbrev pub BeginsWithNumber : List (List ℕ) → ℕ → List (List ℕ) → Type 0
-BeginsWithNumber [] number others = ⊥
-BeginsWithNumber (word ∷ words) number others =
-    IsNumber word × (number ≡ digits_value 10 word) × (words ≡ others)
+-- A size is a number of bytes, of KiB (K), of MiB (M), or of GiB (G), and below 2^64 bytes.
+abbrev pub IsSize : List ℕ → ℕ → Type 0
+IsSize word n =
+    IsNumber word n
+    ⊎ (IsInUnit (codes "K") (2 ^ 10) word n
+    ⊎ (IsInUnit (codes "M") (2 ^ 20) word n ⊎ IsInUnit (codes "G") (2 ^ 30) word n))
 
--- the first word is no number, or there is none
-abbrev pub RefusesNumber : List (List ℕ) → Refusal → Type 0
-RefusesNumber [] refusal = refusal ≡ Failed Usage
-RefusesNumber (word ∷ words) refusal = (IsNumber word → ⊥) × (refusal ≡ WrongLimit)
+-- An address of a section is `0x` and one to eight hexadecimal digits, and a multiple of 4.
+pub record IsAddress (word : List ℕ) (address : ℕ) : Type 0 where
+  pub prefix : take 2 word ≡ codes "0x"
+  pub digits : IsNumeral 16 (drop 2 word)
+  pub eight : length (drop 2 word) ≤ 8
+  pub value : address ≡ digits_value 16 (drop 2 word)
+  pub aligned : address % 4 ≡ 0
 
--- no word is there
-abbrev pub RefusesNoWord : List (List ℕ) → Refusal → Type 0
-RefusesNoWord words refusal = (words ≡ []) × (refusal ≡ Failed Usage)
+-- A word is an option where a minus is its first byte and not the only one.
+abbrev pub IsDashed : List ℕ → Type 0
+IsDashed word = (slice_index word 0 ≡ 45) × (1 < length word)
 
--- What words ask for, where those before them ask for `wanted`: a word, with words behind it, is
--- taken and says more of what is wanted (`Takes`), or is refused (`Refuses`), or the words say no
--- more of it (`Ends`).
-pub data Asks {Wanted : Type 0}
-    (Takes : List ℕ → Wanted → List (List ℕ) → Wanted → List (List ℕ) → Type 0)
-    (Refuses : List ℕ → Wanted → List (List ℕ) → Refusal → Type 0)
-    (Ends : Wanted → List (List ℕ) → Result Wanted Refusal → Type 0)
-    : Wanted → List (List ℕ) → Result Wanted Refusal → Type 0 where
-  Taken : (old new : Wanted) (word : List ℕ) (words left : List (List ℕ))
-      (asked : Result Wanted Refusal)
-      → Takes word old words new left → Asks Takes Refuses Ends new left asked
-      → Asks Takes Refuses Ends old (word ∷ words) asked
-  Wrong : (wanted : Wanted) (word : List ℕ) (words : List (List ℕ)) (refusal : Refusal)
-      → Refuses word wanted words refusal
-      → Asks Takes Refuses Ends wanted (word ∷ words) (Err refusal)
-  Ended : (wanted : Wanted) (words : List (List ℕ)) (asked : Result Wanted Refusal)
-      → Ends wanted words asked → Asks Takes Refuses Ends wanted words asked
+-- the word behind which no word is an option
+abbrev pub ends_options : List ℕ
+ends_options = codes "--"
+
+-- An option's name ends before the first `=`, behind which its value is.
+abbrev pub name_in : List ℕ → List ℕ
+name_in word = before_first (λ byte. byte == 61) word
+
+abbrev pub value_in : List ℕ → List ℕ
+value_in word = after_first (λ byte. byte == 61) word
+
+abbrev pub HasValue : List ℕ → Type 0
+HasValue word = position_or_len (λ byte. byte == 61) word < length word

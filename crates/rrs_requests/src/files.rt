@@ -1,35 +1,141 @@
 //! The files that a subcommand reads and writes.
 
-use crate::refusal::{Refusal, failed, out_of_memory};
-use rrs_cli::command::open_file;
-use rrs_cli::fault::RunFault;
+ghost use Rattle.std.specs.Prelude.{◌≡◌};
+
+use crate::refusal::{FileFault, HostFault, Refusal, out_of_memory};
 use std::alloc::Global;
-use std::fs::File;
+use std::fs::{self, File};
 use std::io::{self, BufWriter, ErrorKind, Read, Write};
 use std::rt::Files;
 
 /// The most bytes of a program's file, 256 MiB.
-const FILE_BYTES: u64 = 1 << 28;
+const PROGRAM_BYTES: u64 = 1 << 28;
 
-/// The bytes of a program's file.
+/// The most bytes of a source, 64 MiB. A device may have bytes without an end.
+const SOURCE_BYTES: u64 = 1 << 26;
+
+/// The path by which standard input is opened.
+const INPUT_PATH: &str = "/dev/stdin";
+
+/// The names of the standard streams in messages.
+pub const STANDARD_INPUT: &str = "standard input";
+
+pub const STANDARD_OUTPUT: &str = "standard output";
+
+pub const STANDARD_ERROR: &str = "standard error";
+
+/// Why the host did not do what it was called for: by the kind of the error, and where that says too
+/// little by its number.
+pub fn fault_of(error: &io::Error) -> HostFault {
+    match error.raw_os_error() {
+        Some(1) => HostFault::NotPermitted,
+        Some(5) => HostFault::InputOutput,
+        Some(6) => HostFault::NoDevice,
+        Some(9) => HostFault::BadDescriptor,
+        Some(24) => HostFault::ManyFiles,
+        Some(40) => HostFault::Loop,
+        _ => fault_of_kind(error.kind()),
+    }
+}
+
+/// Why the host did not do what it was called for, by the kind of the error.
+fn fault_of_kind(kind: ErrorKind) -> HostFault {
+    match kind {
+        ErrorKind::BrokenPipe => HostFault::Closed,
+        ErrorKind::NotFound => HostFault::NotFound,
+        ErrorKind::PermissionDenied => HostFault::Denied,
+        ErrorKind::IsADirectory => HostFault::IsDirectory,
+        ErrorKind::NotADirectory => HostFault::NotDirectory,
+        ErrorKind::StorageFull => HostFault::NoSpace,
+        ErrorKind::ReadOnlyFilesystem => HostFault::ReadOnly,
+        ErrorKind::QuotaExceeded => HostFault::Quota,
+        ErrorKind::FileTooLarge => HostFault::Large,
+        ErrorKind::ExecutableFileBusy => HostFault::Busy,
+        ErrorKind::InvalidFilename => HostFault::LongName,
+        ErrorKind::InvalidInput => HostFault::Invalid,
+        ErrorKind::Unsupported => HostFault::Unsupported,
+        _ => HostFault::Unknown,
+    }
+}
+
+/// The refusal of a file by the host.
+pub fn refused_by_host<'a>(path: &'a str, error: &io::Error) -> Refusal<'a> {
+    Refusal::File(path, FileFault::Host(fault_of(error)))
+}
+
+/// The bytes of a program's file; `-` is standard input.
 ///
 /// # Errors
 ///
-/// `Failure::CannotOpen` where it can't be opened, `Refusal::UnreadableSource` where it can't be
-/// read, and `Refusal::LargeProgram` where it is too large.
-pub fn read_program<H: Files + AllocGlobal>(rt: &H, path: &str) -> Result<Vec<u8>, Refusal> {
-    let reader = open_file(rt, path)?;
-    read_all(rt.alloc(), reader)
+/// `Refusal::File` where it can't be opened or read, or has more than 256 MiB; out of memory as a
+/// failure.
+pub fn read_program<'a, H: Files + AllocGlobal>(
+    rt: &H,
+    path: &'a str,
+) -> Result<Vec<u8>, Refusal<'a>> {
+    let fault = FileFault::LargeProgram;
+    read_most(rt, path, place_of(path), PROGRAM_BYTES, fault)
 }
 
-/// The bytes that a reader has left.
-fn read_all<R: Read + Drop>(alloc: Global, reader: R) -> Result<Vec<u8>, Refusal> {
+/// The bytes of a source; `-` is standard input.
+///
+/// # Errors
+///
+/// `Refusal::File` where it can't be opened or read, or has more than 64 MiB; out of memory as a
+/// failure.
+pub fn read_source<'a, H: Files + AllocGlobal>(
+    rt: &H,
+    path: &'a str,
+) -> Result<Vec<u8>, Refusal<'a>> {
+    let fault = FileFault::LargeSource;
+    read_most(rt, path, place_of(path), SOURCE_BYTES, fault)
+}
+
+/// The bytes of a file that a source names.
+///
+/// # Errors
+///
+/// Those of `read_source`.
+pub fn read_file<'a, H: Files + AllocGlobal>(
+    rt: &H,
+    path: &'a str,
+) -> Result<Vec<u8>, Refusal<'a>> {
+    read_most(rt, path, path, SOURCE_BYTES, FileFault::LargeSource)
+}
+
+/// The path by which a file is opened.
+fn place_of(path: &str) -> &str {
+    if path == "-" { INPUT_PATH } else { path }
+}
+
+/// The bytes of a file, of which there are so many at most, and that is opened by this place.
+fn read_most<'a, H: Files + AllocGlobal>(
+    rt: &H,
+    path: &'a str,
+    place: &str,
+    most: u64,
+    fault: FileFault,
+) -> Result<Vec<u8>, Refusal<'a>> {
+    match fs::open(rt, place) {
+        Ok(file) => read_all(rt.alloc(), path, file, most, fault),
+        Err(error) => Err(refused_by_host(path, &error)),
+    }
+}
+
+/// The bytes that a reader has left, of which there are so many at most.
+fn read_all<'a, R: Read + Drop>(
+    alloc: Global,
+    path: &'a str,
+    reader: R,
+    most: u64,
+    fault: FileFault,
+) -> Result<Vec<u8>, Refusal<'a>> {
     let mut file = Vec::new(alloc);
-    match reader.take(FILE_BYTES + 1).read_to_end(&mut file) {
-        Ok(_) if file.len() as u64 > FILE_BYTES => Err(Refusal::LargeProgram),
+    match reader.take(most.saturating_add(1)).read_to_end(&mut file) {
+        Ok(_) if file.len() as u64 > most => Err(Refusal::File(path, fault)),
         Ok(_) => Ok(file),
         Err(error) if error.kind() == ErrorKind::OutOfMemory => Err(out_of_memory()),
-        Err(_) => Err(Refusal::UnreadableSource),
+        Err(error) => Err(refused_by_host(path, &error)),
     }
 }
 
@@ -37,14 +143,17 @@ fn read_all<R: Read + Drop>(alloc: Global, reader: R) -> Result<Vec<u8>, Refusal
 ///
 /// # Errors
 ///
-/// `Refusal::CannotCreate` where it can't be created.
-pub fn created<H: Files>(rt: &H, path: Option<&str>) -> Result<Option<H::File>, Refusal> {
+/// `Refusal::File` where it can't be created.
+pub fn created<'a, H: Files>(
+    rt: &H,
+    path: Option<&'a str>,
+) -> Result<Option<Noting<H::File>>, Refusal<'a>> {
     let Some(path) = path else {
         return Ok(None);
     };
     match File::create(rt, path) {
-        Ok(file) => Ok(Some(file)),
-        Err(_) => Err(Refusal::CannotCreate),
+        Ok(file) => Ok(Some(Noting::new(file))),
+        Err(error) => Err(refused_by_host(path, &error)),
     }
 }
 
@@ -53,7 +162,7 @@ pub fn created<H: Files>(rt: &H, path: Option<&str>) -> Result<Option<H::File>, 
 /// # Errors
 ///
 /// Out of memory.
-pub fn buffered<W: Write + Drop>(alloc: Global, out: W) -> Result<BufWriter<W>, Refusal> {
+pub fn buffered<'a, W: Write + Drop>(alloc: Global, out: W) -> Result<BufWriter<W>, Refusal<'a>> {
     match BufWriter::new(alloc, out) {
         Ok(out) => Ok(out),
         Err(_) => Err(out_of_memory()),
@@ -61,6 +170,61 @@ pub fn buffered<W: Write + Drop>(alloc: Global, out: W) -> Result<BufWriter<W>, 
 }
 
 /// The refusal that an error of a write is.
-pub fn unwritten(_error: io::Error) -> Refusal {
-    failed(RunFault::Output)
+pub fn unwritten<'a>(_error: io::Error) -> Refusal<'a> {
+    Refusal::Output
+}
+
+/// A stream that keeps why a read or a write of it failed.
+#[derive(Drop)]
+pub struct Noting<S> {
+    /// The stream.
+    pub stream: S,
+    /// Why the latest read or write that failed did.
+    pub fault: Option<HostFault>,
+}
+
+impl<S> Noting<S> {
+    /// A stream of which no read or write has failed.
+    pub fn new(stream: S) -> Noting<S>
+        ensures { result.stream ≡ stream }
+    {
+        Noting {
+            stream,
+            fault: None,
+        }
+    }
+}
+
+/// What is read is what the stream gives.
+impl<S: Read> Read for Noting<S> {
+    ghost remaining = { λ noting. S.remaining noting.stream };
+
+    fn read(&mut self, buf: &mut [u8]) -> io::Result<usize> {
+        let read = self.stream.read(buf);
+        if let Err(error) = &read {
+            self.fault = Some(fault_of(error));
+        }
+        read
+    }
+}
+
+/// What is written is what the stream takes.
+impl<S: Write> Write for Noting<S> {
+    ghost contents = { λ noting. S.contents noting.stream };
+
+    fn write(&mut self, buf: &[u8]) -> io::Result<usize> {
+        let written = self.stream.write(buf);
+        if let Err(error) = &written {
+            self.fault = Some(fault_of(error));
+        }
+        written
+    }
+
+    fn flush(&mut self) -> io::Result<()> {
+        let flushed = self.stream.flush();
+        if let Err(error) = &flushed {
+            self.fault = Some(fault_of(error));
+        }
+        flushed
+    }
 }

@@ -4,5 +4,7 @@
 #![tactic(auto)]
 
 pub mod files;
+pub mod options;
 pub mod refusal;
+pub mod requests;
 pub mod words;

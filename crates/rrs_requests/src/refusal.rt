@@ -1,33 +1,92 @@
 //! Why a subcommand of `rrs` did not do what it was asked.
 
+use crate::options::Setting;
 use rrs_cli::command::Failure;
 use rrs_cli::fault::RunFault;
 use rrs_elf::ElfError;
 use rrs_process::ImageError;
 
-/// Why a subcommand did not do what it was asked.
-#[derive(Drop)]
-pub enum Refusal {
-    /// The source has mistakes, which were printed.
-    SourceErrors,
-    /// The source can't be read to its end.
-    UnreadableSource,
+/// Why the words of a command line ask for nothing that can be done. Each word is one of these.
+#[derive(Clone, Copy)]
+pub enum Mistake<'a> {
+    /// A file or another word that has to be there is missing.
+    Missing,
+    /// This word is one too many.
+    Surplus(&'a str),
+    /// There is no such option.
+    Unknown(&'a str),
+    /// The option takes no value, and has one.
+    TakesNone(&'a str),
+    /// The option takes a value, and has none.
+    HasNone(&'a str),
+    /// The value of the option is not what it takes.
+    Wrong(Setting, &'a str),
+    /// The value asks for more bytes of memory than there can be, which are so many at most.
+    Large(&'a str, u64),
+    /// The word for the steps of `rrs run` is no limit.
+    WrongSteps(&'a str),
+}
+
+/// Why the host did not do what it was called for.
+#[derive(Clone, Copy)]
+pub enum HostFault {
+    /// Nobody reads what is written any more.
+    Closed,
+    /// Operation not permitted.
+    NotPermitted,
+    /// Input/output error.
+    InputOutput,
+    /// No such device or address.
+    NoDevice,
+    /// Bad file descriptor.
+    BadDescriptor,
+    /// Too many open files.
+    ManyFiles,
+    /// Too many levels of symbolic links.
+    Loop,
+    /// No such file or directory.
+    NotFound,
+    /// Permission denied.
+    Denied,
+    /// Is a directory.
+    IsDirectory,
+    /// Not a directory.
+    NotDirectory,
+    /// No space left on device.
+    NoSpace,
+    /// Read-only file system.
+    ReadOnly,
+    /// Disk quota exceeded.
+    Quota,
+    /// File too large.
+    Large,
+    /// Text file busy.
+    Busy,
+    /// File name too long.
+    LongName,
+    /// Invalid argument.
+    Invalid,
+    /// Operation not supported.
+    Unsupported,
+    /// It gives no reason that is listed here.
+    Unknown,
+}
+
+/// What is wrong with a file.
+#[derive(Clone, Copy)]
+pub enum FileFault {
+    /// The host does not open, read, create or write it.
+    Host(HostFault),
     /// The source has more bytes than are read.
     LargeSource,
-    /// The input of a board can't be read.
-    UnreadableInput,
-    /// The program's file has more bytes than are read.
+    /// The program has more bytes than are read.
     LargeProgram,
-    /// The word for a limit, or for a number of bytes, is no number.
-    WrongLimit,
-    /// The file can't be made a process.
+    /// It can't be made a process, or the firmware of a board.
     Image(ImageError),
-    /// The file is an ELF file, and its bytes are not to be run as they stand.
+    /// It is an ELF file, and its bytes are not to be run as they stand.
     IsElf,
-    /// The word for an address is none, and no symbol has this name.
-    NoAddress,
-    /// The word for where a section lies is no address.
-    WrongAddress,
+    /// Its bytes are more than the memory has, which ends at this address.
+    TooLong(u32),
     /// The program that was assembled has no executable, since it has no bytes.
     EmptyProgram,
     /// It has none, since no instruction can begin at its entry, which is this address.
@@ -36,35 +95,89 @@ pub enum Refusal {
     NoExecutable,
     /// The bytes of the program, with the zeros between its sections, are too many.
     LargeImage,
-    /// A file that is to be written can't be created, or is the one that is read.
-    CannotCreate,
+    /// The file that is to be written is the source.
+    IsSource,
+}
+
+/// Why a subcommand did not do what it was asked.
+#[derive(Drop)]
+pub enum Refusal<'a> {
+    /// The words ask for nothing that it does.
+    Words(Mistake<'a>),
+    /// The source has mistakes, which were printed.
+    SourceErrors,
+    /// Something is wrong with the file of this path.
+    File(&'a str, FileFault),
+    /// This word behind `--from` is no address, and no symbol has this name.
+    NoAddress(&'a str),
+    /// The bytes of a program are not written to a terminal.
+    Terminal,
+    /// What is written can't be written. `named` says where to.
+    Output,
+    /// What the firmware reads can't be read. `named` says where from.
+    Input,
     /// Something else failed.
     Failed(Failure),
 }
 
-impl From<Failure> for Refusal {
-    fn from(failure: Failure) -> Refusal {
+impl<'a> From<Failure> for Refusal<'a> {
+    fn from(failure: Failure) -> Refusal<'a> {
         Refusal::Failed(failure)
     }
 }
 
-impl From<ImageError> for Refusal {
-    fn from(error: ImageError) -> Refusal {
-        Refusal::Image(error)
+impl<'a> From<Mistake<'a>> for Refusal<'a> {
+    fn from(mistake: Mistake<'a>) -> Refusal<'a> {
+        Refusal::Words(mistake)
     }
 }
 
 /// The refusal that an error of a run is.
-pub fn failed(fault: RunFault) -> Refusal {
-    Refusal::Failed(Failure::Run(fault))
+pub fn failed<'a>(fault: RunFault) -> Refusal<'a> {
+    match fault {
+        RunFault::Output => Refusal::Output,
+        fault => Refusal::Failed(Failure::Run(fault)),
+    }
+}
+
+/// The refusal that an error of the run of a raw program is.
+pub fn unloaded(path: &str, fault: RunFault) -> Refusal<'_> {
+    match fault {
+        RunFault::Refused(address) => Refusal::File(path, FileFault::TooLong(address)),
+        fault => failed(fault),
+    }
 }
 
 /// The refusal for want of memory.
-pub fn out_of_memory() -> Refusal {
+pub fn out_of_memory<'a>() -> Refusal<'a> {
     failed(RunFault::OutOfMemory)
 }
 
 /// The refusal of a file that is no executable.
-pub fn no_executable(error: ElfError) -> Refusal {
-    Refusal::Image(ImageError::Elf(error))
+pub fn no_executable(path: &str, error: ElfError) -> Refusal<'_> {
+    no_image(path, ImageError::Elf(error))
+}
+
+/// The refusal of a file that can't be made a process.
+pub fn no_image(path: &str, error: ImageError) -> Refusal<'_> {
+    Refusal::File(path, FileFault::Image(error))
+}
+
+/// An outcome, and where it was refused since something can't be read or written the name of that,
+/// and why.
+///
+/// # Errors
+///
+/// Those of the outcome.
+pub fn named<'a, T>(
+    outcome: Result<T, Refusal<'a>>,
+    path: &'a str,
+    fault: Option<HostFault>,
+) -> Result<T, Refusal<'a>> {
+    match (outcome, fault) {
+        (Err(Refusal::Output | Refusal::Input), Some(fault)) => {
+            Err(Refusal::File(path, FileFault::Host(fault)))
+        }
+        (outcome, _) => outcome,
+    }
 }

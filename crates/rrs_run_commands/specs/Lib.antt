@@ -1,8 +1,6 @@
--- What subcommands that run something are asked, and what they do. Definitions of rrs_cli and
--- rrs_linux are passed on, since contracts here cite them.
+-- What subcommands that run something do. Definitions of rrs_cli and rrs_linux are passed on, since
+-- contracts here cite them.
 pub use Rattle.rrs_linux.specs.SystemCalls
 pub use Rattle.rrs_cli.specs.Faults
 pub mod Quiet
 pub mod Execution
-pub mod Requests
-pub mod ProgramRequests

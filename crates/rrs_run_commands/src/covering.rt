@@ -2,24 +2,24 @@
 
 use crate::disassembling::{code_of, flushed};
 use crate::executables::tell;
-use crate::program_requests::{ProgramRequest, Report, program_request_of};
 use rrs_env::Ending;
 use rrs_exec::Progress;
 use rrs_linux::Linux;
 use rrs_reports::{Code, Profile, cover_process, write_annotated, write_callgrind, write_summary};
-use rrs_requests::files::{buffered, created, read_program};
-use rrs_requests::refusal::Refusal;
+use rrs_requests::files::{Noting, STANDARD_ERROR, buffered, created, read_program};
+use rrs_requests::refusal::{Refusal, named, no_image};
+use rrs_requests::requests::Request;
 use std::alloc::Global;
 use std::io::{Read, Write};
 use std::rt::Files;
 
 /// Writes what a run covered: by function, or beside the disassembly.
-fn write_report<O: Write + Drop>(
+fn write_report<'a, O: Write + Drop>(
     alloc: Global,
-    request: ProgramRequest<'_>,
+    request: Request<'a>,
     profile: &Profile<'_, '_>,
     out: O,
-) -> Result<(), Refusal> {
+) -> Result<(), Refusal<'a>> {
     let mut out = buffered(alloc, out)?;
     let written = if request.is_annotated {
         write_annotated(&mut out, request.path(), profile.code, &profile.coverage)
@@ -30,12 +30,12 @@ fn write_report<O: Write + Drop>(
 }
 
 /// Writes what a run covered in Callgrind's profile format.
-fn write_profile<O: Write + Drop>(
+fn write_profile<'a, O: Write + Drop>(
     alloc: Global,
-    request: ProgramRequest<'_>,
+    request: Request<'a>,
     profile: &Profile<'_, '_>,
     out: O,
-) -> Result<(), Refusal> {
+) -> Result<(), Refusal<'a>> {
     let mut out = buffered(alloc, out)?;
     let written = write_callgrind(&mut out, request.path(), profile);
     flushed(written, &mut out)
@@ -43,59 +43,67 @@ fn write_profile<O: Write + Drop>(
 
 /// Writes what a run covered: to a file or to `errors`, and a profile to a file, if there is one for
 /// it.
-fn write_reports<F: Write + Drop, E: Write>(
+fn write_reports<'a, F: Write + Drop, E: Write>(
     alloc: Global,
-    request: ProgramRequest<'_>,
+    request: Request<'a>,
     profile: &Profile<'_, '_>,
-    output: Option<F>,
-    callgrind: Option<F>,
+    output: Option<Noting<F>>,
+    callgrind: Option<Noting<F>>,
     errors: &mut E,
-) -> Result<(), Refusal> {
+) -> Result<(), Refusal<'a>> {
     match output {
-        Some(report) => write_report(alloc, request, profile, report)?,
-        None => write_report(alloc, request, profile, errors)?,
+        Some(mut report) => {
+            let written = write_report(alloc, request, profile, &mut report);
+            named(written, request.output.unwrap_or(""), report.fault)?;
+        }
+        None => {
+            let mut report = Noting::new(errors);
+            let written = write_report(alloc, request, profile, &mut report);
+            named(written, STANDARD_ERROR, report.fault)?;
+        }
     }
     match callgrind {
-        Some(out) => write_profile(alloc, request, profile, out),
+        Some(mut out) => {
+            let written = write_profile(alloc, request, profile, &mut out);
+            named(written, request.callgrind.unwrap_or(""), out.fault)
+        }
         None => Ok(()),
     }
 }
 
-/// Runs a program as the words say, and writes what the run covered: to the file that they name, or
-/// to `errors`, which is standard error; and a profile to the file that they name for it.
+/// Runs a program as a request says, and writes what the run covered: to the file that it names, or
+/// to `errors`, which is standard error; and a profile to the file that it names for it.
 ///
 /// # Errors
 ///
-/// Those of `program_request_of` and `read_program`; `Refusal::CannotCreate` where a file can't be
-/// created; `Refusal::Image` where it is no executable that can be run, or has a symbol table that
-/// can't be read. No step is made then. `RunFault::OutOfMemory`, and `RunFault::Output` where a
-/// write fails, which is after the run.
-pub fn cover<H: Files + Eprint + AllocGlobal, R: Read, W: Write, E: Write, P: Progress>(
+/// Those of `read_program`; `Refusal::File` where a file can't be created, where it is no executable
+/// that can be run, and where it has a symbol table that can't be read. No step is made then. The
+/// same where a write fails, which is after the run; out of memory as a failure.
+pub fn cover<'a, H: Files + Eprint + AllocGlobal, R: Read, W: Write, E: Write, P: Progress>(
     rt: &H,
-    words: &[String],
+    request: Request<'a>,
     environment: &mut Linux<R, W, E>,
     errors: &mut E,
     progress: &mut P,
-) -> Result<Ending, Refusal> {
-    let request = program_request_of(Report::Coverage, words)?;
+) -> Result<Ending, Refusal<'a>> {
     let file = read_program(rt, request.path())?;
-    let code = code_of(rt.alloc(), &file)?;
+    let code = code_of(rt.alloc(), request.path(), &file)?;
     cover_code(rt, request, &file, &code, environment, errors, progress)
 }
 
 /// Runs a program with this code, and writes what the run covered.
-fn cover_code<H: Files + Eprint + AllocGlobal, R: Read, W: Write, E: Write, P: Progress>(
+fn cover_code<'a, H: Files + Eprint + AllocGlobal, R: Read, W: Write, E: Write, P: Progress>(
     rt: &H,
-    request: ProgramRequest<'_>,
+    request: Request<'a>,
     file: &[u8],
     code: &Code<'_>,
     environment: &mut Linux<R, W, E>,
     errors: &mut E,
     progress: &mut P,
-) -> Result<Ending, Refusal> {
+) -> Result<Ending, Refusal<'a>> {
     let output = created(rt, request.output)?;
     let callgrind = created(rt, request.callgrind)?;
-    let (end, profile) = cover_process(
+    match cover_process(
         rt.alloc(),
         file,
         code,
@@ -104,8 +112,12 @@ fn cover_code<H: Files + Eprint + AllocGlobal, R: Read, W: Write, E: Write, P: P
         request.limit,
         environment,
         progress,
-    )?;
-    write_reports(rt.alloc(), request, &profile, output, callgrind, errors)?;
-    tell(rt, "rrs cover", file, &end);
-    Ok(end.ending)
+    ) {
+        Ok((end, profile)) => {
+            write_reports(rt.alloc(), request, &profile, output, callgrind, errors)?;
+            tell(rt, "rrs cover", file, &end);
+            Ok(end.ending)
+        }
+        Err(error) => Err(no_image(request.path(), error)),
+    }
 }

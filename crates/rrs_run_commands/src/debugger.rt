@@ -2,23 +2,26 @@
 //! so the rest of `rrs` is proved beside it.
 
 use rrs_env::Ending;
+use rrs_requests::options::Task;
 use rrs_requests::refusal::Refusal;
+use rrs_requests::requests::Request;
 use std::io::{Read, Write};
 use std::rt::{Env, Files};
 
 /// What runs a program, or firmware, under gdb.
 pub trait Debugger {
-    /// Debugs what the words ask for, which stand behind the subcommand's own: gdb's packets come
-    /// from `input`, and go to `output`.
+    /// Debugs what a request asks for, firmware where the task is `Task::DebugBoard`: gdb's packets
+    /// come from `input`, and go to `output`.
     ///
     /// # Errors
     ///
-    /// Why it does not do what the words ask for.
-    fn debug<H: Env + Files + AllocGlobal, R: Read, W: Write>(
+    /// Why it does not do what is asked for.
+    fn debug<'a, H: Env + Files + AllocGlobal, R: Read, W: Write>(
         &self,
         rt: &H,
-        words: &[String],
+        task: Task,
+        request: Request<'a>,
         input: &mut R,
         output: &mut W,
-    ) -> Result<Ending, Refusal>;
+    ) -> Result<Ending, Refusal<'a>>;
 }

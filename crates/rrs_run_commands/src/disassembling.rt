@@ -1,9 +1,8 @@
 //! `rrs dis`: the disassembly of an executable.
 
-use rrs_cli::command::output;
 use rrs_elf::Executable;
 use rrs_reports::{Code, write_disassembly};
-use rrs_requests::files::{read_program, unwritten};
+use rrs_requests::files::{buffered, read_program, unwritten};
 use rrs_requests::refusal::{Refusal, no_executable, out_of_memory};
 use std::alloc::{AllocError, Global};
 use std::io::{self, Write};
@@ -13,11 +12,21 @@ use std::rt::Files;
 ///
 /// # Errors
 ///
-/// `Refusal::Image` where the file is no executable, or has a symbol table that can't be read, and
+/// `Refusal::File` where the file is no executable, or has a symbol table that can't be read, and
 /// out of memory.
-pub(crate) fn code_of(alloc: Global, file: &[u8]) -> Result<Code<'_>, Refusal> {
-    let program = Executable::parse(file).map_err(no_executable)?;
-    let symbols = program.symbols().map_err(no_executable)?;
+pub(crate) fn code_of<'a, 'f>(
+    alloc: Global,
+    path: &'a str,
+    file: &'f [u8],
+) -> Result<Code<'f>, Refusal<'a>> {
+    let program = match Executable::parse(file) {
+        Ok(program) => program,
+        Err(error) => return Err(no_executable(path, error)),
+    };
+    let symbols = match program.symbols() {
+        Ok(symbols) => symbols,
+        Err(error) => return Err(no_executable(path, error)),
+    };
     match Code::new(alloc, file, &program, symbols) {
         Ok(code) => Ok(code),
         Err(AllocError) => Err(out_of_memory()),
@@ -25,22 +34,32 @@ pub(crate) fn code_of(alloc: Global, file: &[u8]) -> Result<Code<'_>, Refusal> {
 }
 
 /// Flushes a writer behind what was written, if no write failed.
-pub(crate) fn flushed<W: Write>(written: io::Result<()>, out: &mut W) -> Result<(), Refusal> {
+pub(crate) fn flushed<'a, W: Write>(
+    written: io::Result<()>,
+    out: &mut W,
+) -> Result<(), Refusal<'a>> {
     match written {
-        Ok(()) => out.flush().map_err(unwritten),
+        Ok(()) => match out.flush() {
+            Ok(()) => Ok(()),
+            Err(error) => Err(unwritten(error)),
+        },
         Err(error) => Err(unwritten(error)),
     }
 }
 
-/// Writes the disassembly of an executable to standard output.
+/// Writes the disassembly of an executable.
 ///
 /// # Errors
 ///
-/// Those of `read_program` and of `code_of`, and a write that fails.
-pub fn disassemble_file<H: Files + Print + AllocGlobal>(rt: &H, path: &str) -> Result<(), Refusal> {
+/// Those of `read_program` and of `code_of`, and `Refusal::Output` where a write fails.
+pub fn disassemble_file<'a, H: Files + AllocGlobal, O: Write>(
+    rt: &H,
+    path: &'a str,
+    out: &mut O,
+) -> Result<(), Refusal<'a>> {
     let file = read_program(rt, path)?;
-    let code = code_of(rt.alloc(), &file)?;
-    let mut out = output(rt)?;
+    let code = code_of(rt.alloc(), path, &file)?;
+    let mut out = buffered(rt.alloc(), out)?;
     let written = write_disassembly(&mut out, path, &code);
     flushed(written, &mut out)
 }

@@ -8,7 +8,7 @@ use rrs_reports::Pieces;
 use rrs_requests::files::read_program;
 use rrs_requests::refusal::{Refusal, failed, no_executable, out_of_memory};
 use std::alloc::Global;
-use std::io;
+use std::io::Write;
 use std::rt::Files;
 
 /// The types of segments that have names here, from 0 on.
@@ -112,10 +112,16 @@ fn write_symbols(out: &mut Pieces<'_, Vec<u8>>, symbols: &Symbols<'_>) {
 ///
 /// # Errors
 ///
-/// `Refusal::Image` where the file is no executable, or has a symbol table that can't be read.
-fn listing_of(alloc: Global, file: &[u8]) -> Result<Vec<u8>, Refusal> {
-    let program = Executable::parse(file).map_err(no_executable)?;
-    let symbols = program.symbols().map_err(no_executable)?;
+/// `Refusal::File` where the file is no executable, or has a symbol table that can't be read.
+fn listing_of<'a>(alloc: Global, path: &'a str, file: &[u8]) -> Result<Vec<u8>, Refusal<'a>> {
+    let program = match Executable::parse(file) {
+        Ok(program) => program,
+        Err(error) => return Err(no_executable(path, error)),
+    };
+    let symbols = match program.symbols() {
+        Ok(symbols) => symbols,
+        Err(error) => return Err(no_executable(path, error)),
+    };
     let mut text = Vec::new(alloc);
     let mut out = Pieces::new(&mut text);
     write_segments(&mut out, &program);
@@ -128,16 +134,24 @@ fn listing_of(alloc: Global, file: &[u8]) -> Result<Vec<u8>, Refusal> {
     }
 }
 
-/// Lists an executable on standard output.
+/// Lists an executable.
 ///
 /// # Errors
 ///
-/// Those of `read_program`; `Refusal::Image` where the file is no executable, or has a symbol table
-/// that can't be read, and nothing is written then; and a write that fails.
-pub fn list_file<H: Files + Print + AllocGlobal>(rt: &H, path: &str) -> Result<(), Refusal> {
+/// Those of `read_program`; `Refusal::File` where the file is no executable, or has a symbol table
+/// that can't be read, and nothing is written then; `Refusal::Output` where a write fails.
+pub fn list_file<'a, H: Files + AllocGlobal, O: Write>(
+    rt: &H,
+    path: &'a str,
+    out: &mut O,
+) -> Result<(), Refusal<'a>> {
     let file = read_program(rt, path)?;
-    let text = listing_of(rt.alloc(), &file)?;
-    let mut out = io::writer(rt);
-    write_text(&mut out, &text).map_err(failed)?;
-    flush(&mut out).map_err(failed)
+    let text = listing_of(rt.alloc(), path, &file)?;
+    if let Err(fault) = write_text(out, &text) {
+        return Err(failed(fault));
+    }
+    match flush(out) {
+        Ok(()) => Ok(()),
+        Err(fault) => Err(failed(fault)),
+    }
 }

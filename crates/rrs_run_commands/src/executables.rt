@@ -1,13 +1,13 @@
 //! Executables as the subcommands take them: read, run, and what is told where they fail.
 
-use crate::program_requests::ProgramRequest;
 use rrs_elf::Executable;
 use rrs_env::Ending;
 use rrs_exec::{ProcessEnd, Progress, execute_process};
 use rrs_lib::instruction_executor::InstructionException;
 use rrs_linux::Linux;
 use rrs_requests::files::read_program;
-use rrs_requests::refusal::Refusal;
+use rrs_requests::refusal::{Refusal, no_image};
+use rrs_requests::requests::Request;
 use std::io::{Read, Write};
 use std::rt::Files;
 use std::str;
@@ -17,10 +17,9 @@ use std::str;
 ///
 /// # Errors
 ///
-/// `Failure::CannotOpen` where the file can't be opened, and `Refusal::UnreadableSource` where it
-/// can't be read; `Refusal::LargeProgram` where it is too large; `Refusal::Image` where it is no
-/// executable that can be run.
+/// Those of `read_program`, and `Refusal::File` where it is no executable that can be run.
 pub fn execute_executable<
+    'a,
     H: Files + Eprint + AllocGlobal,
     R: Read,
     W: Write,
@@ -28,12 +27,11 @@ pub fn execute_executable<
     P: Progress,
 >(
     rt: &H,
-    path: &str,
-    request: ProgramRequest<'_>,
+    request: Request<'a>,
     environment: &mut Linux<R, W, E>,
     progress: &mut P,
-) -> Result<Ending, Refusal> {
-    let file = read_program(rt, path)?;
+) -> Result<Ending, Refusal<'a>> {
+    let file = read_program(rt, request.path())?;
     let run = execute_process(
         rt.alloc(),
         &file,
@@ -48,7 +46,7 @@ pub fn execute_executable<
             tell(rt, "rrs exec", &file, &end);
             Ok(end.ending)
         }
-        Err(error) => Err(Refusal::Image(error)),
+        Err(error) => Err(no_image(request.path(), error)),
     }
 }
 

@@ -4,7 +4,6 @@ ghost use Rattle.std.specs.Prelude.{◌≡◌, IfOk, IfErr, OnErr};
 ghost use Rattle.rrs_cli.specs.Faults.{StopsLoadInto};
 ghost use Rattle.rrs_run_commands.specs.Execution.{ExecutesProgram};
 
-use rrs_cli::command::{Failure, open_file};
 use rrs_cli::fault::RunFault;
 use rrs_cli::loading::load;
 use rrs_env::{Ending, ServedEnd, run_served};
@@ -13,6 +12,8 @@ use rrs_fast::{CachedMemory, OwnCache};
 use rrs_lib::HartState;
 use rrs_lib::instruction_executor::InstructionExecutor;
 use rrs_linux::Linux;
+use rrs_requests::files::read_program;
+use rrs_requests::refusal::{Refusal, unloaded};
 use std::alloc::Global;
 use std::io::{Read, Write};
 use std::rt::Files;
@@ -67,15 +68,23 @@ pub fn execute<F: Read, R: Read, W: Write, E: Write, P: Progress>(
 ///
 /// # Errors
 ///
-/// `Failure::CannotOpen` where the file can't be opened, and `Failure::Run` where it can't be
-/// loaded, or out of memory.
-pub fn execute_file<H: Files + AllocGlobal, R: Read, W: Write, E: Write, P: Progress>(
+/// Those of `read_program`, `Refusal::File` where it is too long, and out of memory as a failure.
+pub fn execute_file<'a, H: Files + AllocGlobal, R: Read, W: Write, E: Write, P: Progress>(
     rt: &H,
-    path: &str,
+    path: &'a str,
     limit: u64,
     environment: &mut Linux<R, W, E>,
     progress: &mut P,
-) -> Result<Ending, Failure> {
-    let mut reader = open_file(rt, path)?;
-    execute(rt.alloc(), &mut reader, limit, environment, progress).map_err(Failure::Run)
+) -> Result<Ending, Refusal<'a>> {
+    let file = read_program(rt, path)?;
+    match execute(
+        rt.alloc(),
+        &mut file.as_slice(),
+        limit,
+        environment,
+        progress,
+    ) {
+        Ok(ending) => Ok(ending),
+        Err(fault) => Err(unloaded(path, fault)),
+    }
 }

@@ -11,8 +11,6 @@ pub mod disassembling;
 pub mod elf_listing;
 pub mod executables;
 pub mod execution;
-pub mod program_requests;
 pub mod progress_line;
 pub mod quiet;
-pub mod requests;
 pub mod tracing;

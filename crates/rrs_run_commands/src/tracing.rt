@@ -1,29 +1,17 @@
 //! `rrs trace`: the commit log of a run, as Spike writes it.
 
 use crate::executables::tell;
-use crate::program_requests::{ProgramRequest, Report, program_request_of};
-use rrs_cli::fault::RunFault;
 use rrs_elf::{Executable, Symbols};
 use rrs_env::Ending;
 use rrs_exec::Progress;
 use rrs_linux::Linux;
 use rrs_reports::{TraceError, trace_process};
-use rrs_requests::files::{buffered, created, read_program, unwritten};
-use rrs_requests::refusal::{Refusal, failed, no_executable};
-use rrs_requests::words::{hexadecimal_of, number_of};
+use rrs_requests::files::{Noting, STANDARD_ERROR, buffered, created, read_program, unwritten};
+use rrs_requests::refusal::{Refusal, named, no_executable, no_image};
+use rrs_requests::requests::Request;
+use rrs_requests::words::number_of;
 use std::io::{Read, Write};
 use std::rt::Files;
-
-/// The address that a word is: `0x` and hexadecimal digits, or decimal digits.
-fn address_of(word: &str) -> Option<u32> {
-    if let Some(digits) = word.strip_prefix("0x") {
-        return hexadecimal_of(digits);
-    }
-    match number_of(word) {
-        Ok(address) => u32::try_from(address).ok(),
-        Err(_) => None,
-    }
-}
 
 /// The value of the first symbol of a name, if there is one in a section.
 fn value_of(symbols: &Symbols<'_>, name: &[u8]) -> Option<u32> {
@@ -37,39 +25,48 @@ fn value_of(symbols: &Symbols<'_>, name: &[u8]) -> Option<u32> {
     None
 }
 
-/// The address from which on lines are written, if a word asks for one.
+/// The address from which on lines are written, if a word asks for one: a number, or the name of a
+/// symbol.
 ///
 /// # Errors
 ///
-/// `Refusal::NoAddress` where the word is no address, and no symbol has this name; `Refusal::Image`
+/// `Refusal::NoAddress` where the word is no address, and no symbol has this name; `Refusal::File`
 /// where the file is no executable, or has a symbol table that can't be read.
-fn start_of(file: &[u8], word: Option<&str>) -> Result<Option<u32>, Refusal> {
-    let Some(word) = word else {
+fn start_of<'a>(file: &[u8], request: Request<'a>) -> Result<Option<u32>, Refusal<'a>> {
+    let Some(word) = request.from else {
         return Ok(None);
     };
-    if let Some(address) = address_of(word) {
-        return Ok(Some(address));
+    if let Some(address) = number_of(word) {
+        return match u32::try_from(address) {
+            Ok(address) => Ok(Some(address)),
+            Err(_) => Err(Refusal::NoAddress(word)),
+        };
     }
-    let program = Executable::parse(file).map_err(no_executable)?;
-    let Some(symbols) = program.symbols().map_err(no_executable)? else {
-        return Err(Refusal::NoAddress);
+    let program = match Executable::parse(file) {
+        Ok(program) => program,
+        Err(error) => return Err(no_executable(request.path(), error)),
+    };
+    let symbols = match program.symbols() {
+        Ok(Some(symbols)) => symbols,
+        Ok(None) => return Err(Refusal::NoAddress(word)),
+        Err(error) => return Err(no_executable(request.path(), error)),
     };
     match value_of(&symbols, word.as_bytes()) {
         Some(address) => Ok(Some(address)),
-        None => Err(Refusal::NoAddress),
+        None => Err(Refusal::NoAddress(word)),
     }
 }
 
 /// Runs a file's bytes, and writes the log of the run.
-fn trace_to<H: Eprint + AllocGlobal, R: Read, W: Write, E: Write, O: Write + Drop, P: Progress>(
+fn trace_to<'a, H: Eprint + AllocGlobal, R: Read, W: Write, E: Write, O: Write, P: Progress>(
     rt: &H,
     file: &[u8],
-    request: ProgramRequest<'_>,
+    request: Request<'a>,
     from: Option<u32>,
     environment: &mut Linux<R, W, E>,
-    out: O,
+    out: &mut O,
     progress: &mut P,
-) -> Result<Ending, Refusal> {
+) -> Result<Ending, Refusal<'a>> {
     let mut out = buffered(rt.alloc(), out)?;
     let run = trace_process(
         rt.alloc(),
@@ -84,45 +81,44 @@ fn trace_to<H: Eprint + AllocGlobal, R: Read, W: Write, E: Write, O: Write + Dro
     );
     match run {
         Ok(end) => {
-            out.flush().map_err(unwritten)?;
+            if let Err(error) = out.flush() {
+                return Err(unwritten(error));
+            }
             tell(rt, "rrs trace", file, &end);
             Ok(end.ending)
         }
-        Err(TraceError::Image(error)) => Err(Refusal::Image(error)),
-        Err(TraceError::Output) => Err(failed(RunFault::Output)),
+        Err(TraceError::Image(error)) => Err(no_image(request.path(), error)),
+        Err(TraceError::Output) => Err(Refusal::Output),
     }
 }
 
-/// Runs a program as the words say, and writes the log of the run: to the file that they name, or
+/// Runs a program as a request says, and writes the log of the run: to the file that it names, or
 /// to `errors`, which is standard error.
 ///
 /// # Errors
 ///
-/// Those of `program_request_of` and `read_program`; `Refusal::NoAddress` where the word behind
-/// `--from` is no address and no symbol; `Refusal::CannotCreate` where the file for the log can't
-/// be created; `Refusal::Image` where it is no executable that can be run. No step is made then.
-/// `RunFault::OutOfMemory`, and `RunFault::Output` where a write of the log fails, which ends the
-/// run.
-pub fn trace<H: Files + Eprint + AllocGlobal, R: Read, W: Write, E: Write, P: Progress>(
+/// Those of `read_program`; `Refusal::NoAddress` where the word behind `--from` is no address and no
+/// symbol; `Refusal::File` where the file for the log can't be created, and where it is no executable
+/// that can be run. No step is made then. The same where a write of the log fails, which ends the
+/// run; out of memory as a failure.
+pub fn trace<'a, H: Files + Eprint + AllocGlobal, R: Read, W: Write, E: Write, P: Progress>(
     rt: &H,
-    words: &[String],
+    request: Request<'a>,
     environment: &mut Linux<R, W, E>,
     errors: &mut E,
     progress: &mut P,
-) -> Result<Ending, Refusal> {
-    let request = program_request_of(Report::Log, words)?;
+) -> Result<Ending, Refusal<'a>> {
     let file = read_program(rt, request.path())?;
-    let from = start_of(&file, request.from)?;
+    let from = start_of(&file, request)?;
     match created(rt, request.output)? {
-        Some(log) => trace_to(rt, &file, request, from, environment, log, progress),
-        None => trace_to(
-            rt,
-            &file,
-            request,
-            from,
-            environment,
-            &mut *errors,
-            progress,
-        ),
+        Some(mut log) => {
+            let ended = trace_to(rt, &file, request, from, environment, &mut log, progress);
+            named(ended, request.output.unwrap_or(""), log.fault)
+        }
+        None => {
+            let mut log = Noting::new(errors);
+            let ended = trace_to(rt, &file, request, from, environment, &mut log, progress);
+            named(ended, STANDARD_ERROR, log.fault)
+        }
     }
 }

@@ -1,0 +1,78 @@
+//! What is said of a file that a subcommand can't use.
+
+use rrs_exec::ImageError;
+use rrs_requests::refusal::{FileFault, HostFault};
+use std::fmt;
+
+/// What is wrong with a file, as a line on standard error has it behind the file's path.
+#[derive(Clone, Copy)]
+pub struct ToldFault(pub FileFault);
+
+impl fmt::Display for ToldFault {
+    fn fmt<W: fmt::Write>(&self, f: &mut fmt::Formatter<W>) -> fmt::Result {
+        match &self.0 {
+            FileFault::Host(fault) => f.write_str(reason_of(*fault)),
+            FileFault::LargeSource => f.write_str("a source has at most 64 MiB"),
+            FileFault::LargeProgram => f.write_str("a program has at most 256 MiB"),
+            FileFault::Image(error) => ToldImageError(*error).fmt(f),
+            FileFault::IsElf => f.write_str("an ELF file: rrs exec runs it"),
+            FileFault::TooLong(address) => {
+                write!(
+                    f,
+                    "more bytes than the memory, which ends at 0x{address:08x}"
+                )
+            }
+            FileFault::EmptyProgram => f.write_str("the program is empty"),
+            FileFault::WrongEntry(address) => {
+                write!(f, "no instruction can begin at the entry 0x{address:08x}")
+            }
+            FileFault::NoExecutable => f.write_str("no executable of the program"),
+            FileFault::LargeImage => {
+                f.write_str("the program has more than 64 MiB from its first byte to its last")
+            }
+            FileFault::IsSource => f.write_str("this is the source, which stays as it is"),
+        }
+    }
+}
+
+/// What the C library says where the host did not do what it was called for.
+fn reason_of(fault: HostFault) -> &'static str {
+    match fault {
+        HostFault::Closed => "Broken pipe",
+        HostFault::NotPermitted => "Operation not permitted",
+        HostFault::InputOutput => "Input/output error",
+        HostFault::NoDevice => "No such device or address",
+        HostFault::BadDescriptor => "Bad file descriptor",
+        HostFault::ManyFiles => "Too many open files",
+        HostFault::Loop => "Too many levels of symbolic links",
+        HostFault::NotFound => "No such file or directory",
+        HostFault::Denied => "Permission denied",
+        HostFault::IsDirectory => "Is a directory",
+        HostFault::NotDirectory => "Not a directory",
+        HostFault::NoSpace => "No space left on device",
+        HostFault::ReadOnly => "Read-only file system",
+        HostFault::Quota => "Disk quota exceeded",
+        HostFault::Large => "File too large",
+        HostFault::Busy => "Text file busy",
+        HostFault::LongName => "File name too long",
+        HostFault::Invalid => "Invalid argument",
+        HostFault::Unsupported => "Operation not supported",
+        HostFault::Unknown => "the host gives no reason",
+    }
+}
+
+/// Why an executable can't be run.
+#[derive(Clone, Copy)]
+struct ToldImageError(ImageError);
+
+impl fmt::Display for ToldImageError {
+    fn fmt<W: fmt::Write>(&self, f: &mut fmt::Formatter<W>) -> fmt::Result {
+        match &self.0 {
+            ImageError::Elf(error) => error.fmt(f),
+            ImageError::NoRoom => f.write_str("there are no addresses for a heap and a stack"),
+            ImageError::LongArguments => f.write_str("the arguments do not fit in the stack"),
+            ImageError::Refused(address) => write!(f, "cannot load at address 0x{address:08x}"),
+            ImageError::OutOfMemory => f.write_str("out of memory"),
+        }
+    }
+}
