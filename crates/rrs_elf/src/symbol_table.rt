@@ -1,6 +1,6 @@
 //! The symbol table.
 
-ghost use Rattle.std.specs.Prelude.{◌≡◌, ◌↔◌, ◌+◌, ◌≤◌, ◌<◌, ◌/◌, ◌%◌, ◌^◌, ℕ, length, IfOk, OnOk, IfErr, IsSome, IfSome, IsTrue, Ok, Err};
+ghost use Rattle.std.specs.Prelude.{◌≡◌, ◌↔◌, ◌+◌, ◌≤◌, ◌<◌, ◌/◌, ◌%◌, ◌^◌, ℕ, length, min, IfOk, OnOk, IfErr, IsSome, IfSome, IsTrue, Ok, Err};
 ghost use Rattle.std.specs.Option.{option_map};
 ghost use Rattle.rrs_elf.specs.Headers.{e_shnum};
 ghost use Rattle.rrs_elf.specs.Refusals.{first_refusal, checks_below};
@@ -258,10 +258,38 @@ impl<'a> Symbols<'a> {
         if self.count() <= index {
             return None;
         }
+        let (from, end) = self.place_of_name(index);
+        Some(text_at(self.file, from, end))
+    }
+
+    /// The first bytes of that name, at most so many. No others are looked at.
+    pub fn name_up_to(&self, index: u32, most: usize) -> Option<&'a [u8]>
+        ensures there { IsSome result ↔ (index < symbol_count self.now.file.now self.now.table) }
+        ensures value { IfSome result (λ name. IsText self.now.file.now
+            (name_start self.now.file.now self.now.table index)
+            (min (name_start self.now.file.now self.now.table index + most)
+            (strings_end self.now.file.now self.now.table)) name.now) }
+    {
+        if self.count() <= index {
+            return None;
+        }
+        let (from, end) = self.place_of_name(index);
+        let stop = from.saturating_add(most).min(end);
+        Some(text_at(self.file, from, stop))
+    }
+
+    /// Where the name of a symbol begins in the file, and where the strings end.
+    fn place_of_name(&self, index: u32) -> (usize, usize)
+        requires { index < symbol_count self.now.file.now self.now.table }
+        ensures start { result.0 ≡ name_start self.now.file.now self.now.table index }
+        ensures end { result.1 ≡ strings_end self.now.file.now self.now.table }
+        ensures ordered { result.0 < result.1 }
+        ensures within { result.1 ≤ length self.now.file.now }
+    {
         let symbols = read_section(self.file, u32::from(self.table));
         let strings = read_section(self.file, symbols.link);
         let start = start_of_symbol(self.file, self.table, index);
         let from = strings.offset as usize + read_word(self.file, start) as usize;
-        Some(text_at(self.file, from, end_of(&strings)))
+        (from, end_of(&strings))
     }
 }

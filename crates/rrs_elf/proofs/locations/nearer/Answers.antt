@@ -1,8 +1,7 @@
 -- The first one, one that is nearer, or one that is not.
-use Rattle.std.proofs.Common.{◌≡◌, ◌∙◌, ◌+◌, Some, true, false, sym, subst, Option, ℕ}
-use Rattle.rrs_elf.specs.SymbolTables.{st_value, st_size}
-use Rattle.rrs_elf.specs.Symbols.{IsNearestBelow, is_before}
-use Rattle.rrs_elf.proofs.Nearest.{nearer, nearest_first, nearest_moves, nearest_stays}
+use Rattle.std.proofs.Common.{◌≡◌, ◌∙◌, true, sym}
+use Rattle.rrs_elf.specs.Symbols.{is_before}
+use Rattle.rrs_elf.proofs.Nearest.{nearest_first, nearest_moves, nearest_stays}
 use Rattle.rrs_elf.proofs.locations.nearer.Goals as goal
 
 pub returns-in_default : goal.returns-in_default
