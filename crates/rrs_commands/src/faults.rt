@@ -70,6 +70,9 @@ impl fmt::Display for ToldImageError {
         match &self.0 {
             ImageError::Elf(error) => error.fmt(f),
             ImageError::NoRoom => f.write_str("there are no addresses for a heap and a stack"),
+            ImageError::NeedsMemory(bytes) => {
+                write!(f, "it needs {bytes} bytes of memory: --memory {bytes}")
+            }
             ImageError::LongArguments => f.write_str("the arguments do not fit in the stack"),
             ImageError::Refused(address) => write!(f, "cannot load at address 0x{address:08x}"),
             ImageError::OutOfMemory => f.write_str("out of memory"),

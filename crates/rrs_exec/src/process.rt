@@ -1,6 +1,8 @@
 //! An executable that runs as a process of Linux.
 
-ghost use Rattle.std.specs.Prelude.{◌≡◌, ◌-◌, ◌/◌, ◌≤◌, ℕ, Bool, Option, map, replicate, string_bytes, IfOk, OnErr};
+ghost use Rattle.std.specs.Prelude.{◌≡◌, ◌-◌, ◌/◌, ◌≤◌, ℕ, Bool, Option, map, replicate, string_bytes, IfOk, IfSome, OnErr};
+ghost use Rattle.rrs_elf.specs.Executables.{IsExecutable};
+ghost use Rattle.rrs_process.specs.Images.{memory_refusal};
 ghost use Rattle.rrs_lib.specs.Machine.{state_of};
 ghost use Rattle.rrs_exec.specs.Processes.{started, RunsImage, RunsProcess};
 ghost use Rattle.rrs_lib.specs.SliceBytes.{slice_bytes, slice_writable};
@@ -57,7 +59,7 @@ pub fn started(entry: u32, sp: u32) -> HartState
 }
 
 /// Runs a file's bytes as an executable with these arguments, of which the first is its name, in a
-/// memory of so many bytes or more, and serves its system calls, for `limit` steps or until it ends
+/// memory of so many bytes, and serves its system calls, for `limit` steps or until it ends
 /// or raises an exception. Its break begins behind its segments, and the heap of the environment
 /// is set so. The end has the steps that were made and the pc after them. The progress is told of
 /// its steps, and of its end.
@@ -65,7 +67,8 @@ pub fn started(entry: u32, sp: u32) -> HartState
 /// # Errors
 ///
 /// `ImageError`, where the file is no executable or can't be made a process. No step is made then,
-/// and the environment is as it was.
+/// and the environment is as it was. An executable that needs more bytes than are wanted, or leaves
+/// no room for a heap and a stack, is refused so before memory is taken for it (`ceiling`).
 pub fn execute_process<R: Read, W: Write, E: Write, P: Progress>(
     alloc: Global,
     file: &[u8],
@@ -78,6 +81,8 @@ pub fn execute_process<R: Read, W: Write, E: Write, P: Progress>(
     ensures executed { IfOk result (λ end. RunsProcess R.remaining W.contents E.contents
         file.now (map string_bytes arguments.now) wanted limit
         environment.old environment.new end.steps end.pc end.ending) }
+    ensures ceiling { IsExecutable file.now
+        → IfSome (memory_refusal file.now wanted) (λ error. result ≡ Err error) }
     ensures kept { OnErr result (environment.new ≡ environment.old) }
 {
     let executable = match Executable::parse(file) {

@@ -1,6 +1,8 @@
 //! Runs of which each step is shown to a watcher.
 
-ghost use Rattle.std.specs.Prelude.{◌≡◌, Bool, map, string_bytes, IfOk, OnErr};
+ghost use Rattle.std.specs.Prelude.{◌≡◌, Bool, map, string_bytes, IfOk, IfSome, OnErr};
+ghost use Rattle.rrs_elf.specs.Executables.{IsExecutable};
+ghost use Rattle.rrs_process.specs.Images.{memory_refusal};
 ghost use Rattle.rrs_lib.specs.Executor.{state_in, KeepsTheRest};
 ghost use Rattle.rrs_lib.specs.SliceBytes.{slice_bytes, slice_writable};
 ghost use Rattle.rrs_trace.specs.declared.retired.Retired.{Retired};
@@ -211,6 +213,8 @@ pub fn watch_process<R: Read, W: Write, E: Write, V: Watcher, P: Progress>(
         V.sees V.wants file.now (map string_bytes arguments.now) wanted limit
         environment.old environment.new watcher.old watcher.new
         end.steps end.pc end.ending) }
+    ensures ceiling { IsExecutable file.now
+        → IfSome (memory_refusal file.now wanted) (λ error. result ≡ Err error) }
     ensures kept { OnErr result (environment.new ≡ environment.old) }
     ensures unseen { OnErr result (watcher.new ≡ watcher.old) }
 {

@@ -1,3 +1,4 @@
 pub mod Pages
 pub mod StackWords
 pub mod Filling
+pub mod Bounds

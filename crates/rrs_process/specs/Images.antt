@@ -1,6 +1,6 @@
 -- What a process starts from that runs an executable (System V ABI, "Process Initialization" and
 -- "Program Loading").
-use Rattle.std.specs.Prelude.{◌≡◌, ◌==◌, ◌≢◌, ◌⊎◌, ℕ, zero, suc, ◌+◌, ◌-◌, ◌*◌, ◌/◌, ◌%◌, ◌^◌, ◌<◌, ◌≤◌, Bool, ◌&&◌, ◌||◌, nat_le, nat_lt, if◌then◌else◌, List, [], ◌∷◌, ◌++◌, length, slice_index, Some}
+use Rattle.std.specs.Prelude.{◌≡◌, ◌==◌, ◌≢◌, ◌⊎◌, ℕ, zero, suc, ◌+◌, ◌-◌, ◌/◌, ◌%◌, ◌^◌, ◌<◌, ◌≤◌, Bool, ◌&&◌, ◌||◌, nat_le, nat_lt, min, max, if◌then◌else◌, List, [], ◌∷◌, ◌++◌, length, slice_index, Option, Some, None}
 use Rattle.rrs_memory.specs.Bytes.{ByteMap}
 use Rattle.rrs_elf.specs.Headers.{e_entry, e_phoff, e_phnum, p_type, p_offset, p_vaddr, p_filesz, p_memsz, p_flags}
 use Rattle.rrs_elf.specs.Executables.{PT_LOAD}
@@ -13,12 +13,57 @@ use Rattle.rrs_process.specs.declared.stack.ProgramHeaders.{ProgramHeaders}
 use Rattle.rrs_process.specs.declared.image.Image.{Image}
 use Rattle.rrs_process.specs.Protection.{IsMarkedBy}
 use Rattle.rrs_process.specs.InitialStack.{stack_bytes, stack_pointer, stack_block}
-use Rattle.rrs_process.specs.Layouts.{IsLayout}
+use Rattle.rrs_process.specs.declared.image.ImageError.{ImageError}
+use Rattle.rrs_process.specs.declared.image.ImageError.TheVariants.{NoRoom, NeedsMemory, LongArguments, OutOfMemory}
+use Rattle.rrs_process.specs.Layouts.{has_room, needed, IsLayout}
 
 -- the addresses of the first n segments that are loaded lie from start to before end
 abbrev pub AllWithin : List ℕ → ℕ → ℕ → ℕ → Type 0
 AllWithin file n start end = (i j : ℕ) → i < n → j < loaded_size file i
     → (start ≤ p_vaddr file i + j) × (p_vaddr file i + j < end)
+
+-- ---- which addresses it has
+
+-- the lower of an address and the first of segment i, if it is loaded and has one
+abbrev pub first_with : List ℕ → ℕ → ℕ → ℕ
+first_with file i other =
+    if loaded_size file i == 0 then other else min other (p_vaddr file i)
+
+-- the higher of an address and the one behind its last
+abbrev pub end_with : List ℕ → ℕ → ℕ → ℕ
+end_with file i other =
+    if loaded_size file i == 0 then other else max other (p_vaddr file i + loaded_size file i)
+
+-- the lowest address of the first n segments, and 2^32 - 1 where they have none
+abbrev pub first_below : List ℕ → ℕ → ℕ
+first_below file zero = 2 ^ 32 - 1
+first_below file (suc n) = first_with file n (first_below file n)
+
+-- the address behind their last, and 0 where they have none
+abbrev pub end_below : List ℕ → ℕ → ℕ
+end_below file zero = 0
+end_below file (suc n) = end_with file n (end_below file n)
+
+abbrev pub first_address : List ℕ → ℕ
+first_address file = first_below file (e_phnum file)
+
+abbrev pub end_address : List ℕ → ℕ
+end_address file = end_below file (e_phnum file)
+
+-- Why no process is made of a program with addresses from start to before end, where so many bytes of
+-- memory are wanted: there is no room behind it, or it needs more bytes.
+abbrev pub refusal_between : ℕ → ℕ → ℕ → Option ImageError
+refusal_between start end wanted =
+    if has_room end
+    then (if nat_lt wanted (needed start end) then Some (NeedsMemory (needed start end)) else None)
+    else Some NoRoom
+
+abbrev pub memory_refusal : List ℕ → ℕ → Option ImageError
+memory_refusal file wanted = refusal_between (first_address file) (end_address file) wanted
+
+-- another reason: its arguments, or the memory of the host
+abbrev pub IsOtherReason : ImageError → Type 0
+IsOtherReason error = (error ≡ LongArguments) ⊎ (error ≡ OutOfMemory)
 
 -- ---- what may be done at which addresses
 
@@ -86,6 +131,8 @@ pub record IsImage (file : List ℕ) (arguments : List (List ℕ)) (wanted : ℕ
   -- the program has addresses from start to before end, and the memory is laid out around it
   pub start : ℕ
   pub end : ℕ
+  pub starts : start ≡ first_address file
+  pub ends : end ≡ end_address file
   pub program : AllWithin file (e_phnum file) start end
   pub laid_out : IsLayout start end wanted image.layout
   pub entry_is : image.entry ≡ e_entry file

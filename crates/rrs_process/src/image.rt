@@ -1,14 +1,14 @@
 //! What a process starts from: an executable's entry, its stack, and the marks of its pages.
 
-ghost use Rattle.std.specs.Prelude.{◌≡◌, ◌≤◌, ◌<◌, ◌+◌, ◌%◌, ◌^◌, ◌++◌, ◌∷◌, [], ℕ, List, map, string_bytes, IfOk, OnOk};
+ghost use Rattle.std.specs.Prelude.{◌≡◌, ◌≤◌, ◌<◌, ◌+◌, ◌%◌, ◌^◌, ◌++◌, ◌∷◌, [], ℕ, List, map, string_bytes, IsOk, IfOk, IfErr, OnOk, MatchOption};
 ghost use Rattle.rrs_elf.specs.Headers.{e_phnum, p_vaddr};
 ghost use Rattle.rrs_elf.specs.Loading.{loaded_size};
 ghost use Rattle.rrs_elf.specs.ProgramHeaders.{IsProgramHeader};
 ghost use Rattle.rrs_process.specs.InitialStack.{stack_bytes, stack_pointer, stack_block};
 ghost use Rattle.rrs_process.specs.Layouts.{IsLayout};
-ghost use Rattle.rrs_process.specs.Images.{AllWithin, IsImage, Filled, headers_in, headers_at, headers_of, protection_by, range_of, segment_range, segment_ranges, writable_range, ranges_of};
+ghost use Rattle.rrs_process.specs.Images.{first_with, end_with, first_address, end_address, memory_refusal, refusal_between, IsOtherReason, IsImage, Filled, headers_in, headers_at, headers_of, protection_by, range_of, segment_range, segment_ranges, writable_range, ranges_of};
 
-use crate::layout::{Layout, layout_of};
+use crate::layout::{Layout, has_room, layout_of, needed_bytes};
 use crate::marks::{PAGE_BYTES, PageRange, Protection, marks_of};
 use crate::stack::{ProgramHeaders, initial_stack, stack_pointer};
 use rrs_elf::{ElfError, Executable, ProgramHeader};
@@ -23,6 +23,9 @@ pub enum ImageError {
     Elf(ElfError),
     /// The program leaves less than 1 MiB of addresses behind it for its heap and its stack.
     NoRoom,
+    /// The program needs so many bytes of memory, and fewer are wanted: those of the pages from its
+    /// first address to its last, and 1 MiB for its heap and its stack.
+    NeedsMemory(u64),
     /// The arguments don't fit in the stack.
     LongArguments,
     /// The memory refused the byte for this address.
@@ -46,15 +49,15 @@ pub struct Image {
     pub marks: Vec<Protection>,
 }
 
-/// The addresses of some segments, and of another one if it is loaded: the first, and the one
-/// behind the last.
+/// The addresses of some segments and of another one, if that is loaded and has some: the first,
+/// and the one behind the last.
 fn widened(segment: &ProgramHeader, bounds: (u32, u64)) -> (u32, u64)
-    ensures wider { (result.0 ≤ bounds.0) × (bounds.1 ≤ result.1) }
-    ensures within { (file : List ℕ) (i j : ℕ) → IsProgramHeader file i segment.now
-        → j < loaded_size file i
-        → (result.0 ≤ p_vaddr file i + j) × (p_vaddr file i + j < result.1) }
+    ensures first { (file : List ℕ) (i : ℕ) → IsProgramHeader file i segment.now
+        → result.0 ≡ first_with file i bounds.0 }
+    ensures end { (file : List ℕ) (i : ℕ) → IsProgramHeader file i segment.now
+        → result.1 ≡ end_with file i bounds.1 }
 {
-    if segment.is_loaded() {
+    if segment.is_loaded() && segment.memory_size > 0 {
         (bounds.0.min(segment.address), bounds.1.max(segment.end()))
     } else {
         bounds
@@ -64,10 +67,8 @@ fn widened(segment: &ProgramHeader, bounds: (u32, u64)) -> (u32, u64)
 /// The same of the segment of this number.
 fn bounds_with(executable: &Executable<'_>, index: u16, bounds: (u32, u64)) -> (u32, u64)
     requires { index < e_phnum executable.now.file.now }
-    ensures wider { (result.0 ≤ bounds.0) × (bounds.1 ≤ result.1) }
-    ensures within { (j : ℕ) → j < loaded_size executable.now.file.now index
-        → (result.0 ≤ p_vaddr executable.now.file.now index + j)
-        × (p_vaddr executable.now.file.now index + j < result.1) }
+    ensures first { result.0 ≡ first_with executable.now.file.now index bounds.0 }
+    ensures end { result.1 ≡ end_with executable.now.file.now index bounds.1 }
 {
     match executable.program_header(index) {
         Some(segment) => widened(&segment, bounds),
@@ -77,8 +78,8 @@ fn bounds_with(executable: &Executable<'_>, index: u16, bounds: (u32, u64)) -> (
 
 /// The first address of a program, and the one behind its last.
 fn bounds_of(executable: &Executable<'_>) -> (u32, u64)
-    ensures { AllWithin executable.now.file.now (e_phnum executable.now.file.now)
-        result.0 result.1 }
+    ensures first { result.0 ≡ first_address executable.now.file.now }
+    ensures end { result.1 ≡ end_address executable.now.file.now }
 {
     let mut bounds = (u32::MAX, 0);
     for index in 0..executable.program_header_count() {
@@ -215,48 +216,66 @@ fn headers_of(executable: &Executable<'_>) -> ProgramHeaders
     }
 }
 
-/// Where a process has its memory, and where sp points to.
-fn placed(
-    bounds: (u32, u64),
-    arguments: &[String],
-    wanted: u64,
-) -> Result<(Layout, u32), ImageError>
-    ensures layout { IfOk result (λ place. IsLayout bounds.0 bounds.1 wanted place.0) }
-    ensures pointer { IfOk result (λ place.
-        place.1 ≡ stack_pointer place.0.end (map string_bytes arguments.now)) }
-    ensures fits { IfOk result (λ place.
-        place.1 + stack_bytes (map string_bytes arguments.now) ≤ place.0.end) }
-    ensures on_stack { IfOk result (λ place. place.0.stack_start ≤ place.1) }
-    ensures aligned { IfOk result (λ place. place.1 % 16 ≡ 0) }
+/// Where a process has its memory whose program has these addresses.
+///
+/// # Errors
+///
+/// `ImageError::NoRoom` and `ImageError::NeedsMemory`.
+fn laid_out(bounds: (u32, u64), wanted: u64) -> Result<Layout, ImageError>
+    ensures refused { MatchOption (refusal_between bounds.0 bounds.1 wanted)
+        (IsOk result) (λ error. result ≡ Err error) }
+    ensures layout { IfOk result (IsLayout bounds.0 bounds.1 wanted) }
 {
-    if bounds.1 > 0x1_0000_0000 {
+    let (start, end) = bounds;
+    if end > 0x1_0000_0000 || !has_room(end) {
         return Err(ImageError::NoRoom);
     }
-    let Some(layout) = layout_of(bounds.0, bounds.1, wanted) else {
-        return Err(ImageError::NoRoom);
-    };
+    match layout_of(start, end, wanted) {
+        Some(layout) => Ok(layout),
+        None => Err(ImageError::NeedsMemory(needed_bytes(start, end))),
+    }
+}
+
+/// Where sp points to.
+///
+/// # Errors
+///
+/// `ImageError::LongArguments`.
+fn pointer_of(layout: &Layout, arguments: &[String]) -> Result<u32, ImageError>
+    ensures pointer { IfOk result (λ sp.
+        sp ≡ stack_pointer layout.now.end (map string_bytes arguments.now)) }
+    ensures fits { IfOk result (λ sp.
+        sp + stack_bytes (map string_bytes arguments.now) ≤ layout.now.end) }
+    ensures on_stack { IfOk result (λ sp. layout.now.stack_start ≤ sp) }
+    ensures aligned { IfOk result (λ sp. sp % 16 ≡ 0) }
+    ensures refused { IfErr result (λ error. error ≡ ImageError.LongArguments) }
+{
     match stack_pointer(layout.end, arguments) {
-        Some(sp) if sp >= layout.stack_start => Ok((layout, sp)),
+        Some(sp) if sp >= layout.stack_start => Ok(sp),
         _ => Err(ImageError::LongArguments),
     }
 }
 
 /// What a process starts from that runs an executable with these arguments, of which the first is
-/// the program's name, with so many bytes of memory or more.
+/// the program's name, with so many bytes of memory.
 ///
 /// # Errors
 ///
-/// `ImageError::NoRoom` and `ImageError::LongArguments`, and out of memory.
+/// `ImageError::NoRoom` and `ImageError::NeedsMemory`, of the addresses of its segments alone;
+/// `ImageError::LongArguments`, and out of memory.
 pub fn image_of(
     alloc: Global,
     executable: &Executable<'_>,
     arguments: &[String],
     wanted: u64,
 ) -> Result<Image, ImageError>
-    ensures { IfOk result
+    ensures image { IfOk result
         (IsImage executable.now.file.now (map string_bytes arguments.now) wanted) }
+    ensures refused { MatchOption (memory_refusal executable.now.file.now wanted)
+        (IfErr result IsOtherReason) (λ error. result ≡ Err error) }
 {
-    let (layout, sp) = placed(bounds_of(executable), arguments, wanted)?;
+    let layout = laid_out(bounds_of(executable), wanted)?;
+    let sp = pointer_of(&layout, arguments)?;
     let Ok(stack) = initial_stack(alloc, arguments, headers_of(executable), sp) else {
         return Err(ImageError::OutOfMemory);
     };

@@ -1,7 +1,7 @@
 //! Where a process has its heap and its stack.
 
-ghost use Rattle.std.specs.Prelude.{◌≡◌, ◌≤◌, ◌^◌, IfSome};
-ghost use Rattle.rrs_process.specs.Layouts.{IsLayout};
+ghost use Rattle.std.specs.Prelude.{◌≡◌, ◌≤◌, ◌^◌, ◌↔◌, true, IsSome, IfSome};
+ghost use Rattle.rrs_process.specs.Layouts.{has_room, needed, page_from, IsLayout};
 
 use crate::marks::PAGE_BYTES;
 
@@ -31,18 +31,44 @@ pub struct Layout {
     pub end: u32,
 }
 
-/// Where a process has its memory whose program has addresses from `start` to before `end`, if so
-/// many bytes are wanted for all of it. It has more where the program leaves less than 1 MiB of
-/// them, and less where they would pass the last addresses. `None` where the program leaves less
-/// than 1 MiB of these.
-pub fn layout_of(start: u32, end: u64, wanted: u64) -> Option<Layout>
+/// The first page that lies behind an address, or begins there.
+fn page_from(address: u64) -> u64
+    requires { address ≤ 2 ^ 32 }
+    ensures { result ≡ page_from address }
+{
+    (address + PAGE - 1) / PAGE * PAGE
+}
+
+/// Whether a program that ends there leaves 1 MiB of addresses behind it, below the last page.
+pub fn has_room(end: u64) -> bool
     requires { end ≤ 2 ^ 32 }
-    ensures { IfSome result (IsLayout start end wanted) }
+    ensures { result ≡ has_room end }
+{
+    page_from(end) + LEAST_BYTES <= (1 << 32) - PAGE
+}
+
+/// How many bytes of memory a process needs whose program has addresses from `start` to before
+/// `end`: those of the pages from its first to its last, and 1 MiB.
+pub fn needed_bytes(start: u32, end: u64) -> u64
+    requires { end ≤ 2 ^ 32 }
+    ensures { result ≡ needed start end }
 {
     let base = start - start % PAGE_BYTES;
-    let heap_start = (end + PAGE - 1) / PAGE * PAGE;
+    (page_from(end) + LEAST_BYTES).saturating_sub(u64::from(base))
+}
+
+/// Where a process has its memory whose program has addresses from `start` to before `end`: as much
+/// as is wanted, and less where it would pass the last addresses. `None` where the program needs
+/// more than that.
+pub fn layout_of(start: u32, end: u64, wanted: u64) -> Option<Layout>
+    requires { end ≤ 2 ^ 32 }
+    ensures there { IsSome result ↔ ((has_room end ≡ true) × (needed start end ≤ wanted)) }
+    ensures layout { IfSome result (IsLayout start end wanted) }
+{
+    let base = start - start % PAGE_BYTES;
+    let heap_start = page_from(end);
     let most = (1 << 32) - PAGE;
-    let room = (u64::from(base) + wanted.min(most)).max(heap_start + LEAST_BYTES);
+    let room = u64::from(base) + wanted.min(most);
     let memory_end = room.min(most) / PAGE * PAGE;
     if memory_end < heap_start + LEAST_BYTES {
         return None;

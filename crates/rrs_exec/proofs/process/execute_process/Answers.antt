@@ -9,7 +9,7 @@ use Rattle.rrs_exec.proofs.process.execute_process.Goals as goal
 
 pub fill-requires : goal.fill-requires
 fill-requires g c =
-    let im = c.in_ok-image.ensures in
+    let im = c.in_ok-image.ensures.image in
     λ i j numbered within.
     omega (arith, (im.program i j numbered within).1, im.laid_out.behind, im.laid_out.heap, im.laid_out.gap, im.on_stack)
 
@@ -17,7 +17,7 @@ pub returns-clause-executed : goal.returns-clause-executed
 returns-clause-executed g c =
     let image = c.in_ok-image.image in
     let layout = image.layout in
-    let im = c.in_ok-image.ensures in
+    let im = c.in_ok-image.ensures.image in
     let same = c.in-Ok.ensures.same in
     let words = c.fill.new.memory.words.now in
     let first = c.fill.new.memory.base in
