@@ -1,9 +1,11 @@
 //! An executable that runs as a process of Linux.
 
-ghost use Rattle.std.specs.Prelude.{◌≡◌, ◌-◌, ◌/◌, ◌≤◌, ℕ, Bool, Option, map, replicate, string_bytes, IfOk, IfSome, OnErr};
+ghost use Rattle.std.specs.Prelude.{◌≡◌, ◌-◌, ◌/◌, ◌≤◌, ℕ, Bool, Option, Err, map, replicate, string_bytes, IfOk, IfErr, IfSome, OnErr};
 ghost use Rattle.rrs_elf.specs.Executables.{IsExecutable};
 ghost use Rattle.rrs_process.specs.Images.{memory_refusal};
 ghost use Rattle.rrs_lib.specs.Machine.{state_of};
+ghost use Rattle.rrs_elf.specs.declared.errors.ElfError.{ElfError};
+ghost use Rattle.rrs_elf.specs.Refusals.{first_refusal, checks};
 ghost use Rattle.rrs_exec.specs.Processes.{started, RunsImage, RunsProcess};
 ghost use Rattle.rrs_lib.specs.SliceBytes.{slice_bytes, slice_writable};
 
@@ -67,7 +69,8 @@ pub fn started(entry: u32, sp: u32) -> HartState
 /// # Errors
 ///
 /// `ImageError`, where the file is no executable or can't be made a process. No step is made then,
-/// and the environment is as it was. An executable that needs more bytes than are wanted, or leaves
+/// and the environment is as it was. A file that is no executable is refused for the first of the
+/// reasons in their order (`refused`). An executable that needs more bytes than are wanted, or leaves
 /// no room for a heap and a stack, is refused so before memory is taken for it (`ceiling`).
 pub fn execute_process<R: Read, W: Write, E: Write, P: Progress>(
     alloc: Global,
@@ -84,6 +87,8 @@ pub fn execute_process<R: Read, W: Write, E: Write, P: Progress>(
     ensures ceiling { IsExecutable file.now
         → IfSome (memory_refusal file.now wanted) (λ error. result ≡ Err error) }
     ensures kept { OnErr result (environment.new ≡ environment.old) }
+    ensures refused { (refusal : ElfError) → first_refusal (checks file.now) ≡ Err refusal
+        → IfErr result (λ error. error ≡ ImageError.Elf refusal) }
 {
     let executable = match Executable::parse(file) {
         Ok(executable) => executable,

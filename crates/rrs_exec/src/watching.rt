@@ -1,12 +1,14 @@
 //! Runs of which each step is shown to a watcher.
 
-ghost use Rattle.std.specs.Prelude.{◌≡◌, Bool, map, string_bytes, IfOk, IfSome, OnErr};
+ghost use Rattle.std.specs.Prelude.{◌≡◌, Bool, Err, map, string_bytes, IfOk, IfErr, IfSome, OnErr};
 ghost use Rattle.rrs_elf.specs.Executables.{IsExecutable};
 ghost use Rattle.rrs_process.specs.Images.{memory_refusal};
 ghost use Rattle.rrs_lib.specs.Executor.{state_in, KeepsTheRest};
 ghost use Rattle.rrs_lib.specs.SliceBytes.{slice_bytes, slice_writable};
 ghost use Rattle.rrs_trace.specs.declared.retired.Retired.{Retired};
 ghost use Rattle.rrs_env.specs.Serving.{MakesSome};
+ghost use Rattle.rrs_elf.specs.declared.errors.ElfError.{ElfError};
+ghost use Rattle.rrs_elf.specs.Refusals.{first_refusal, checks};
 ghost use Rattle.rrs_exec.specs.Watching.{ServesAt, Turn, IsWatched, WatchesImage, WatchesProcess};
 
 use crate::process::{ProcessEnd, started, zeros};
@@ -217,6 +219,8 @@ pub fn watch_process<R: Read, W: Write, E: Write, V: Watcher, P: Progress>(
         → IfSome (memory_refusal file.now wanted) (λ error. result ≡ Err error) }
     ensures kept { OnErr result (environment.new ≡ environment.old) }
     ensures unseen { OnErr result (watcher.new ≡ watcher.old) }
+    ensures refused { (refusal : ElfError) → first_refusal (checks file.now) ≡ Err refusal
+        → IfErr result (λ error. error ≡ ImageError.Elf refusal) }
 {
     let executable = match Executable::parse(file) {
         Ok(executable) => executable,

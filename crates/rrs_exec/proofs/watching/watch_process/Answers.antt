@@ -3,6 +3,8 @@ use Rattle.std.proofs.Common.{◌≡◌, ℕ, List, length, get_or, replicate, m
 use Rattle.std.proofs.lemmas.List.{length-replicate}
 use Rattle.std.specs.String.{string_bytes}
 use Rattle.rrs_lib.specs.SliceBytes.{bytes_from, lies_from}
+use Rattle.rrs_elf.specs.Executables.{IsExecutable}
+use Rattle.rrs_elf.proofs.Accepted.{accepted_to}
 use Rattle.rrs_process.specs.Images.{IsImage, Filled}
 use Rattle.rrs_exec.specs.Watching.{WatchesImage}
 use Rattle.rrs_exec.proofs.watching.watch_process.Goals as goal
@@ -51,3 +53,22 @@ returns-clause-watched g c =
       };
       shown = watched.shown;
     }
+
+-- a file that is no executable is refused for what it is
+pub returns-in-Err-clause-refused : goal.returns-in-Err-clause-refused
+returns-in-Err-clause-refused g c = λ refusal is. cc (is, c.in-Err.ensures.refused)
+
+pub returns-in_err-image-clause-refused : goal.returns-in_err-image-clause-refused
+returns-in_err-image-clause-refused g c = λ refusal is.
+    let executable : IsExecutable c.args.file.now = search rules in
+    absurd (cc (is, accepted_to c.args.file.now executable))
+
+pub returns-in_err-words-clause-refused : goal.returns-in_err-words-clause-refused
+returns-in_err-words-clause-refused g c = λ refusal is.
+    let executable : IsExecutable c.args.file.now = search rules in
+    absurd (cc (is, accepted_to c.args.file.now executable))
+
+pub returns-in_err-fill-clause-refused : goal.returns-in_err-fill-clause-refused
+returns-in_err-fill-clause-refused g c = λ refusal is.
+    let executable : IsExecutable c.args.file.now = search rules in
+    absurd (cc (is, accepted_to c.args.file.now executable))
