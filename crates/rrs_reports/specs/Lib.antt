@@ -1,4 +1,6 @@
--- What is written of a run: the commit log, and how often each word was executed.
+-- What is written of a run: the commit log, and how often each word was executed. And how names are
+-- shown.
 pub mod Records
 pub mod CommitLogs
 pub mod Coverages
+pub mod ShownNames

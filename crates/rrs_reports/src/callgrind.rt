@@ -51,16 +51,17 @@ fn write_calls<W: Write>(out: &mut Pieces<'_, W>, profile: &Profile<'_, '_>, add
 /// Writes the counts and the calls of a function, or of the code that belongs to none.
 fn write_costs<W: Write>(out: &mut Pieces<'_, W>, profile: &Profile<'_, '_>, number: u32) {
     write_function(out, profile, "fn", number);
-    for part in &profile.code.parts {
-        let (first, last) = profile.places_of(number, part.words(), part.address);
-        for index in first..last {
-            let address = part.address_of(index);
-            let steps = profile.coverage.count(address);
-            if steps > 0 && profile.code.owner_of(address) == number {
-                write_steps(out, address, steps);
-                write_calls(out, profile, address);
-            }
+    let mut next = profile.code.first_of(number);
+    for _ in 0..u32::MAX {
+        let Some((address, behind)) = profile.code.word_of(next) else {
+            return;
+        };
+        let steps = profile.coverage.count(address);
+        if steps > 0 {
+            write_steps(out, address, steps);
+            write_calls(out, profile, address);
         }
+        next = behind;
     }
 }
 

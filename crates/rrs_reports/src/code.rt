@@ -1,6 +1,6 @@
 //! The code of an executable.
 
-use crate::functions::{Function, add_functions, name_words};
+use crate::functions::{Function, add_functions, name_words, shown_part};
 use crate::sections::{CodePart, add_code_parts};
 use rrs_elf::{Executable, Symbols};
 use std::alloc::{AllocError, Global};
@@ -23,6 +23,11 @@ pub struct Code<'a> {
     functions: Vec<Function<'a>>,
     /// Of each word from the base on 1 and the number of its function, or 0.
     owners: Vec<u32>,
+    /// Of each function 1 and the place of its first word that a part has, or 0; entry 0 is for the
+    /// words that belong to none.
+    firsts: Vec<u32>,
+    /// Of each word 1 and the place of the next of the same function, or 0.
+    nexts: Vec<u32>,
 }
 
 /// The entry at a place, or 0 where there is none.
@@ -65,8 +70,11 @@ impl<'a> Code<'a> {
             names: Vec::new(alloc),
             functions: Vec::new(alloc),
             owners: Vec::new(alloc),
+            firsts: Vec::new(alloc),
+            nexts: Vec::new(alloc),
         };
         code.read(file, program)?;
+        code.chain(alloc)?;
         Ok(code)
     }
 
@@ -81,6 +89,62 @@ impl<'a> Code<'a> {
         }
         let (functions, owners) = (&mut self.functions, &mut self.owners);
         add_functions(functions, owners, self.symbols, base, &self.names)
+    }
+
+    /// The parts that have the words, by where each ends: of each word the lowest place at which a
+    /// part begins that ends with it.
+    fn starts_of_parts(&self, alloc: Global) -> Result<Vec<u32>, AllocError> {
+        let mut starts = vec![in alloc; u32::MAX; self.owners.len()]?;
+        for part in &self.parts {
+            let first = self.place_of(part.address);
+            let behind = first
+                .saturating_add(part.words() as usize)
+                .min(starts.len());
+            if first < behind {
+                let start = &mut starts[behind - 1];
+                *start = (*start).min(first.min(u32::MAX as usize) as u32);
+            }
+        }
+        Ok(starts)
+    }
+
+    /// Chains the words of each function that parts have, from the last to the first.
+    fn chain(&mut self, alloc: Global) -> Result<(), AllocError> {
+        let starts = self.starts_of_parts(alloc)?;
+        self.firsts
+            .resize(self.functions.len().saturating_add(1), 0)?;
+        self.nexts.resize(starts.len(), 0)?;
+        let mut start = u32::MAX;
+        for (place, begun) in starts.iter().enumerate().rev() {
+            start = start.min(*begun);
+            if start as usize <= place {
+                self.put_first(place);
+            }
+        }
+        Ok(())
+    }
+
+    /// Puts a word before those of its function.
+    fn put_first(&mut self, place: usize) {
+        let owner = entry(&self.owners, place) as usize;
+        if let (Some(first), Some(next)) = (self.firsts.get_mut(owner), self.nexts.get_mut(place)) {
+            *next = *first;
+            *first = (place.min(u32::MAX as usize) as u32).wrapping_add(1);
+        }
+    }
+
+    /// 1 and the place of the first word that belongs to the function of a number and that a part
+    /// has, or 0.
+    pub(crate) fn first_of(&self, number: u32) -> u32 {
+        entry(&self.firsts, number as usize)
+    }
+
+    /// The address of the word at a place, to which 1 was added, and the next word of its function;
+    /// or `None` for 0.
+    pub(crate) fn word_of(&self, next: u32) -> Option<(u32, u32)> {
+        let place = next.checked_sub(1)?;
+        let address = self.base.wrapping_add(place.wrapping_mul(4));
+        Some((address, entry(&self.nexts, place as usize)))
     }
 
     /// The lowest address of code.
@@ -113,13 +177,13 @@ impl<'a> Code<'a> {
         (address.wrapping_sub(self.base) / 4) as usize
     }
 
-    /// The name of an address, if a symbol has it.
+    /// The name of an address, if a symbol has it, as far as it is shown.
     pub fn name_at(&self, address: u32) -> Option<&'a [u8]> {
         let name = entry(&self.names, self.place_of(address));
         if name == 0 || address % 4 != 0 {
             return None;
         }
-        self.symbols?.name(name - 1)
+        shown_part(&self.symbols?, name - 1)
     }
 
     /// The number of the function that the word at an address belongs to: 1 more than its place

@@ -1,12 +1,13 @@
 //! The functions of an executable, by the words that belong to each.
 
+use crate::names::SHOWN_BYTES;
 use rrs_elf::{Symbol, Symbols};
 use std::alloc::AllocError;
 
 /// A function, or a label of assembly with what follows it.
 #[derive(Clone, Copy)]
 pub struct Function<'a> {
-    /// Its name.
+    /// Its name, of which no more bytes are kept than tell that it is not shown to its end.
     pub name: &'a [u8],
     /// The address of its first instruction.
     pub start: u32,
@@ -16,8 +17,13 @@ pub struct Function<'a> {
     pub is_sized: bool,
 }
 
-/// How well a symbol names an address: the highest is taken, and of equal ones the first. 0 is for
-/// symbols that name none.
+/// The bytes of the name of a symbol that are shown, and one more, if there are more.
+pub fn shown_part<'a>(symbols: &Symbols<'a>, index: u32) -> Option<&'a [u8]> {
+    symbols.name_up_to(index, SHOWN_BYTES + 1)
+}
+
+/// How well a symbol names an address, whose name begins so: the highest is taken, and of equal ones
+/// the first. 0 is for symbols that name none.
 fn rank(symbol: &Symbol, name: &[u8]) -> u8 {
     let has_section = symbol.section > 0 && symbol.section < 0xff00;
     let is_mapping = matches!(name, [b'$', ..] | []);
@@ -37,7 +43,7 @@ fn rank(symbol: &Symbol, name: &[u8]) -> u8 {
 /// The rank of the symbol of a number less 1, 0 where there is none.
 fn rank_of(symbols: &Symbols<'_>, number: u32) -> u8 {
     let index = number.wrapping_sub(1);
-    match (symbols.symbol(index), symbols.name(index)) {
+    match (symbols.symbol(index), symbols.name_up_to(index, 1)) {
         (Some(symbol), Some(name)) => rank(&symbol, name),
         _ => 0,
     }
@@ -92,7 +98,7 @@ fn named(symbols: Option<Symbols<'_>>, number: u32) -> Option<Function<'_>> {
     let is_sized = symbol.kind() == 2 && symbol.size > 0;
     let size = if is_sized { symbol.size } else { 0 };
     Some(Function {
-        name: symbols.name(index)?,
+        name: shown_part(&symbols, index)?,
         start: symbol.value,
         end: symbol.value.saturating_add(size),
         is_sized,

@@ -14,6 +14,7 @@ mod commit_log;
 mod coverage;
 mod disassembly;
 mod functions;
+mod names;
 mod pieces;
 mod profile;
 mod sections;
@@ -28,6 +29,7 @@ pub use commit_log::{
 pub use coverage::Coverage;
 pub use disassembly::{write_annotated, write_disassembly};
 pub use functions::Function;
+pub use names::{SHOWN_BYTES, ShownName};
 pub use pieces::Pieces;
 pub use profile::{Profile, cover_process};
 pub use sections::CodePart;

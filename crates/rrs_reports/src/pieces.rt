@@ -2,6 +2,7 @@
 
 ghost use Rattle.std.specs.Prelude.{◌≤◌};
 
+use crate::names::ShownName;
 use itoa::Buffer;
 use rrs_lib::disassembly::hexadecimal_digits;
 use std::io::{self, Write};
@@ -35,10 +36,12 @@ impl<'a, W: Write> Pieces<'a, W> {
         self.bytes(text.as_bytes());
     }
 
-    /// Writes a name, which may be any bytes, between two texts.
+    /// Writes a name as it is shown, which may be any bytes, between two texts.
     pub fn name(&mut self, before: &str, name: &[u8], behind: &str) {
         self.text(before);
-        self.bytes(name);
+        if self.written.is_ok() {
+            self.written = write!(self.out, "{}", ShownName { name });
+        }
         self.text(behind);
     }
 

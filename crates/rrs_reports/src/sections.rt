@@ -1,5 +1,6 @@
 //! The parts of a file that have code: by its sections, or, where it has none, by its segments.
 
+use crate::names::SHOWN_BYTES;
 use rrs_elf::Executable;
 use std::alloc::AllocError;
 
@@ -11,7 +12,7 @@ const HAS_BYTES: u32 = 1;
 /// A part of an executable that has code.
 #[derive(Clone, Copy)]
 pub struct CodePart<'a> {
-    /// The name of the section, or none of a segment.
+    /// The name of the section, as far as it is shown, or none of a segment.
     pub name: &'a [u8],
     /// The address of its first byte, a multiple of 4.
     pub address: u32,
@@ -88,11 +89,12 @@ fn header_of(file: &[u8], index: u32) -> Option<[u32; 6]> {
     Some(header)
 }
 
-/// The name of a section, by the section with the names: it begins there at a place.
+/// The bytes of the name of a section that are shown, and one more, if there are more, by the
+/// section with the names: it begins there at a place.
 fn name_of(file: &[u8], place: u32) -> Option<&[u8]> {
     let [.., offset, size] = header_of(file, half_at(file, 50)?)?;
-    let names = bytes_at(file, offset, size);
-    Some(text_of(behind(names, place as usize)))
+    let names = behind(bytes_at(file, offset, size), place as usize);
+    Some(text_of(&names[..names.len().min(SHOWN_BYTES + 1)]))
 }
 
 /// The code of a section, if it has some.

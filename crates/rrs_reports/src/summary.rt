@@ -40,33 +40,21 @@ impl Profile<'_, '_> {
             steps: 0,
             entries: self.calls.entries(number),
         };
-        for part in &self.code.parts {
-            let (first, last) = self.places_of(number, part.words(), part.address);
-            for index in first..last {
-                let address = part.address_of(index);
-                if self.code.owner_of(address) == number {
-                    let steps = self.coverage.count(address);
-                    covered = covered.and(Covered {
-                        words: 1,
-                        executed: u64::from(steps > 0),
-                        steps,
-                        entries: 0,
-                    });
-                }
-            }
+        let mut next = self.code.first_of(number);
+        for _ in 0..u32::MAX {
+            let Some((address, behind)) = self.code.word_of(next) else {
+                break;
+            };
+            let steps = self.coverage.count(address);
+            covered = covered.and(Covered {
+                words: 1,
+                executed: u64::from(steps > 0),
+                steps,
+                entries: 0,
+            });
+            next = behind;
         }
         covered
-    }
-
-    /// The numbers of the words of a part, of so many from an address on, among which those of a
-    /// function are.
-    pub(crate) fn places_of(&self, number: u32, words: u32, address: u32) -> (u32, u32) {
-        let Some(function) = self.function(number) else {
-            return (0, words);
-        };
-        let first = function.start.saturating_sub(address) / 4;
-        let last = (function.end.saturating_sub(address) / 4).saturating_add(1);
-        (first.min(words), last.min(words))
     }
 
     /// How many functions the code has, whose numbers begin at 1.

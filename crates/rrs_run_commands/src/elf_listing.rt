@@ -1,14 +1,13 @@
 //! What is listed of an executable: its entry, its segments, and its symbols, as `readelf -lsW`
 //! lists them.
 
-use rrs_cli::report::{flush, write_text};
+use crate::disassembling::flushed;
 use rrs_elf::{Executable, ProgramHeader, Symbol, Symbols};
 use rrs_lib::disassembly::hexadecimal_digits;
-use rrs_reports::Pieces;
-use rrs_requests::files::read_program;
-use rrs_requests::refusal::{Refusal, failed, no_executable, out_of_memory};
-use std::alloc::Global;
-use std::io::Write;
+use rrs_reports::{Pieces, SHOWN_BYTES};
+use rrs_requests::files::{buffered, read_program};
+use rrs_requests::refusal::{Refusal, no_executable};
+use std::io::{self, Write};
 use std::rt::Files;
 
 /// The types of segments that have names here, from 0 on.
@@ -28,7 +27,7 @@ static BINDINGS: [&str; 3] = ["LOCAL", "GLOBAL", "WEAK"];
 static VISIBILITIES: [&str; 4] = ["DEFAULT", "INTERNAL", "HIDDEN", "PROTECTED"];
 
 /// Writes the name of a number, or its digits, in a column of a width.
-fn write_named(out: &mut Pieces<'_, Vec<u8>>, names: &[&str], width: usize, number: u32) {
+fn write_named<W: Write>(out: &mut Pieces<'_, W>, names: &[&str], width: usize, number: u32) {
     match names.get(number as usize) {
         Some(name) => out.left(width, name),
         None => {
@@ -43,7 +42,7 @@ fn write_named(out: &mut Pieces<'_, Vec<u8>>, names: &[&str], width: usize, numb
 }
 
 /// Writes the section of a symbol: its number, or a name.
-fn write_section(out: &mut Pieces<'_, Vec<u8>>, section: u16) {
+fn write_section<W: Write>(out: &mut Pieces<'_, W>, section: u16) {
     match section {
         0 => out.text(" UND "),
         0xfff1 => out.text(" ABS "),
@@ -53,7 +52,7 @@ fn write_section(out: &mut Pieces<'_, Vec<u8>>, section: u16) {
 }
 
 /// Writes the line of a segment.
-fn write_segment(out: &mut Pieces<'_, Vec<u8>>, header: ProgramHeader) {
+fn write_segment<W: Write>(out: &mut Pieces<'_, W>, header: ProgramHeader) {
     out.text("  ");
     write_named(out, &SEGMENT_TYPES, 14, header.kind);
     out.hexadecimal("0x", 6, header.offset);
@@ -69,7 +68,7 @@ fn write_segment(out: &mut Pieces<'_, Vec<u8>>, header: ProgramHeader) {
 }
 
 /// Writes the entry and the segments.
-fn write_segments(out: &mut Pieces<'_, Vec<u8>>, program: &Executable<'_>) {
+fn write_segments<W: Write>(out: &mut Pieces<'_, W>, program: &Executable<'_>) {
     let count = program.program_header_count();
     let offset = program.program_header_offset();
     out.hexadecimal("Entry point 0x", 1, program.entry());
@@ -83,8 +82,8 @@ fn write_segments(out: &mut Pieces<'_, Vec<u8>>, program: &Executable<'_>) {
     }
 }
 
-/// Writes the line of a symbol, whose name may be any bytes.
-fn write_symbol(out: &mut Pieces<'_, Vec<u8>>, index: u32, symbol: Symbol, name: &[u8]) {
+/// Writes the line of a symbol, with its name as it is shown.
+fn write_symbol<W: Write>(out: &mut Pieces<'_, W>, index: u32, symbol: Symbol, name: &[u8]) {
     out.column(6, u64::from(index), ": ");
     out.hexadecimal("", 8, symbol.value);
     out.text(" ");
@@ -97,41 +96,32 @@ fn write_symbol(out: &mut Pieces<'_, Vec<u8>>, index: u32, symbol: Symbol, name:
 }
 
 /// Writes the symbols.
-fn write_symbols(out: &mut Pieces<'_, Vec<u8>>, symbols: &Symbols<'_>) {
+fn write_symbols<W: Write>(out: &mut Pieces<'_, W>, symbols: &Symbols<'_>) {
     let count = symbols.count();
     out.number("\nSymbol table contains ", u64::from(count));
     out.text(" entries:\n   Num:    Value  Size Type    Bind   Vis      Ndx  Name\n");
     for index in 0..count {
-        if let (Some(symbol), Some(name)) = (symbols.symbol(index), symbols.name(index)) {
+        if let (Some(symbol), Some(name)) = (
+            symbols.symbol(index),
+            symbols.name_up_to(index, SHOWN_BYTES + 1),
+        ) {
             write_symbol(out, index, symbol, name);
         }
     }
 }
 
-/// What is listed of the bytes of a file.
-///
-/// # Errors
-///
-/// `Refusal::File` where the file is no executable, or has a symbol table that can't be read.
-fn listing_of<'a>(alloc: Global, path: &'a str, file: &[u8]) -> Result<Vec<u8>, Refusal<'a>> {
-    let program = match Executable::parse(file) {
-        Ok(program) => program,
-        Err(error) => return Err(no_executable(path, error)),
-    };
-    let symbols = match program.symbols() {
-        Ok(symbols) => symbols,
-        Err(error) => return Err(no_executable(path, error)),
-    };
-    let mut text = Vec::new(alloc);
-    let mut out = Pieces::new(&mut text);
-    write_segments(&mut out, &program);
+/// Writes what is listed of an executable.
+fn write_listing<W: Write>(
+    out: &mut W,
+    program: &Executable<'_>,
+    symbols: Option<Symbols<'_>>,
+) -> io::Result<()> {
+    let mut out = Pieces::new(out);
+    write_segments(&mut out, program);
     if let Some(symbols) = &symbols {
         write_symbols(&mut out, symbols);
     }
-    match out.finish() {
-        Ok(()) => Ok(text),
-        Err(_) => Err(out_of_memory()),
-    }
+    out.finish()
 }
 
 /// Lists an executable.
@@ -146,12 +136,15 @@ pub fn list_file<'a, H: Files + AllocGlobal, O: Write>(
     out: &mut O,
 ) -> Result<(), Refusal<'a>> {
     let file = read_program(rt, path)?;
-    let text = listing_of(rt.alloc(), path, &file)?;
-    if let Err(fault) = write_text(out, &text) {
-        return Err(failed(fault));
-    }
-    match flush(out) {
-        Ok(()) => Ok(()),
-        Err(fault) => Err(failed(fault)),
-    }
+    let program = match Executable::parse(&file) {
+        Ok(program) => program,
+        Err(error) => return Err(no_executable(path, error)),
+    };
+    let symbols = match program.symbols() {
+        Ok(symbols) => symbols,
+        Err(error) => return Err(no_executable(path, error)),
+    };
+    let mut out = buffered(rt.alloc(), out)?;
+    let written = write_listing(&mut out, &program, symbols);
+    flushed(written, &mut out)
 }

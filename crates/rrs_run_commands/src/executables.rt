@@ -5,12 +5,12 @@ use rrs_env::Ending;
 use rrs_exec::{ProcessEnd, Progress, execute_process};
 use rrs_lib::instruction_executor::InstructionException;
 use rrs_linux::Linux;
+use rrs_reports::{SHOWN_BYTES, ShownName};
 use rrs_requests::files::read_program;
 use rrs_requests::refusal::{Refusal, no_image};
 use rrs_requests::requests::Request;
 use std::io::{Read, Write};
 use std::rt::Files;
-use std::str;
 
 /// Runs an executable as a process, and serves its system calls. A fault is told on standard error:
 /// where it was, and after how many steps.
@@ -59,6 +59,7 @@ pub fn tell<H: Eprint>(rt: &H, program: &str, file: &[u8], end: &ProcessEnd) {
     let (pc, steps) = (end.pc, end.steps);
     let _ = match place_of(file, pc) {
         Some((name, distance)) => {
+            let name = ShownName { name };
             eprintln!(rt; "{program}: at pc 0x{pc:08x}, {name} + {distance}, after {steps} steps")
         }
         None => eprintln!(rt; "{program}: at pc 0x{pc:08x}, after {steps} steps"),
@@ -73,7 +74,7 @@ pub fn tell<H: Eprint>(rt: &H, program: &str, file: &[u8], end: &ProcessEnd) {
 
 /// The function in which an address lies, or else the nearest before it, and how far behind its
 /// first instruction it is.
-fn place_of(file: &[u8], address: u32) -> Option<(&str, u32)> {
+fn place_of(file: &[u8], address: u32) -> Option<(&[u8], u32)> {
     let Ok(executable) = Executable::parse(file) else {
         return None;
     };
@@ -81,9 +82,6 @@ fn place_of(file: &[u8], address: u32) -> Option<(&str, u32)> {
         return None;
     };
     let location = symbols.function_at(address)?;
-    let name = symbols.name(location.symbol)?;
-    match str::from_utf8(name) {
-        Ok(name) => Some((name, location.distance)),
-        Err(_) => None,
-    }
+    let name = symbols.name_up_to(location.symbol, SHOWN_BYTES + 1)?;
+    Some((name, location.distance))
 }

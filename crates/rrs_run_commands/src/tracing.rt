@@ -15,8 +15,10 @@ use std::rt::Files;
 
 /// The value of the first symbol of a name, if there is one in a section.
 fn value_of(symbols: &Symbols<'_>, name: &[u8]) -> Option<u32> {
+    let most = name.len().saturating_add(1);
     for index in 0..symbols.count() {
-        if let (Some(symbol), Some(other)) = (symbols.symbol(index), symbols.name(index)) {
+        let other = symbols.name_up_to(index, most);
+        if let (Some(symbol), Some(other)) = (symbols.symbol(index), other) {
             if other == name && symbol.section > 0 {
                 return Some(symbol.value);
             }
