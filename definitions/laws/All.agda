@@ -13,6 +13,6 @@ import laws.OneStep
 import laws.SmallSteps
 -- a program of seven words reaches its end after 6n + 2 steps with the sum of n words: sum-loop
 import laws.SumLoop
--- of a word's texts, one half: one word has one text at an address, and fences have the same:
--- one-text, fence-text
+-- two words have equal texts at one address exactly where they are one word, or two of fence:
+-- one-or-fences, equal-texts
 import laws.Texts

@@ -126,15 +126,17 @@ all-told-apart row row' = each-at (table row' .number· - 1) (each-passes (told-
 
 -- ---- the law
 
+one-number : (row row' : Row) → table row .number· ≡ table row' .number· → row ≡ row'
+one-number row row' e = is-same (trans (sym (numbered row))
+  (trans (cong (λ n → slice-get all-rows (n - 1)) e) (numbered row'))) where
+  is-same : Some row ≡ Some row' → row ≡ row'
+  is-same refl = refl
+
 the-row : {w : ℕ} {row row' : Row} {f f' : Fields} → Decodes w row f → Decodes w row' f' → row
   ≡ row'
 the-row {w} {row} {row'} d d' with either (nat-eq (table row .number·) (table row' .number·)) _
   (all-told-apart row row')
-... | inj₁ e = is-same (trans (sym (numbered row))
-  (trans (cong (λ n → slice-get all-rows (n - 1))
-  (same→≡ (table row .number·) (table row' .number·) e)) (numbered row'))) where
-  is-same : Some row ≡ Some row' → row ≡ row'
-  is-same refl = refl
+... | inj₁ e = one-number row row' (same→≡ (table row .number·) (table row' .number·) e)
 ... | inj₂ e with one-of (λ m → some (disagree m) (marks row')) e (shows row d)
 ... | m , s , e' with one-of (disagree m) e' (shows row' d')
 ... | n , s' , e'' = ⊥-elim (not-both m n e'' s s')
