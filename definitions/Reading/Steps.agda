@@ -87,17 +87,23 @@ written NoEffect row (I f) pc e = _ , refl
 written CallEnvironment row (I f) pc e = _ , refl
 written Break row (I f) pc e = _ , refl
 
+-- What there is, as the definition itself has it: where it had nothing, nothing would be found here,
+-- whatever the proof's cases say.
+there-is : {A : Set} (o : Option A) → (Σ A λ x → o ≡ Some x) → Σ A λ x → o ≡ Some x
+there-is (Some x) _ = x , refl
+there-is None (x , ())
+
 -- what a row with its fields does to a state
 executed : {w : ℕ} {row : Row} {f : Fields} → Decodes w row f → (s : State)
   → Σ Outcome λ o → execute row f s ≡ Some o
-executed {row = row} {f} d s =
-  outcome-of (table row .action·) f s (trans (d .format·) (format-agrees row))
+executed {row = row} {f} d s = there-is (execute row f s) (
+  outcome-of (table row .action·) f s (trans (d .format·) (format-agrees row)))
 
 -- the text of a row with its fields at an address
 text : {w : ℕ} {row : Row} {f : Fields} → Decodes w row f → (pc : ℕ)
   → Σ (List ℕ) λ text → text-of row f pc ≡ Some text
-text {row = row} {f} d pc =
-  written (table row .action·) row f pc (trans (d .format·) (format-agrees row))
+text {row = row} {f} d pc = there-is (text-of row f pc) (
+  written (table row .action·) row f pc (trans (d .format·) (format-agrees row)))
 
 -- ---- one step
 
