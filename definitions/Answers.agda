@@ -195,14 +195,13 @@ exception-text : Option InstructionException → List ℕ
 exception-text None = codes "limit"
 exception-text (Some e) = fault-text e
 
--- A run to an exception or a limit, what it leaves, and the bytes that are asked for by a call of
--- `write`: x12 bytes from x11 on.
-finished : ℕ → State → List (List ℕ)
-finished limit s with run-until anew anew-is limit s
+-- A run to an exception or a limit, and what it leaves: the memory as words from a base on.
+finished : ℕ → ℕ → ℕ → State → List (List ℕ)
+finished base count limit s with run-until anew anew-is limit s
 ... | ran-until t steps e accesses _ _ = (codes "steps=" ++ decimal steps ++ codes " "
   ++ exception-text e ++ codes " accesses=" ++ decimal (length accesses) ++ codes " "
-  ++ state-text 0 t ++ codes " bytes="
-  ++ joined (codes ",") (memory-text (t .bytes·) (reg t 11) (reg t 12 / 4))) ∷ []
+  ++ state-text 0 t ++ codes " mem="
+  ++ joined (codes ",") (memory-text (t .bytes·) base count)) ∷ []
 
 -- A machine with two devices, each a word: the lowest bit of that at 0x02000000 is the software
 -- interrupt, and the timer's is pending where that at 0x02004004 is 0.
@@ -248,24 +247,43 @@ machine-steps (suc n) s with machine-step (inputs-of s) s
   ++ joined (codes ",") (csr-texts (inputs-of t) (t .csrs·)) ++ codes " "
   ++ state-text 0 (t .hart·)) ∷ machine-steps n t
 
--- `trace` or `run` or `machine`, and then `N pc=PC base=BASE regs=REGS mem=MEM`, where the memory
--- begins at the base, and for `machine` the CSRs
-reads-state : {B : Set} → (ℕ → State → List (List ℕ) → Option B) → List (List ℕ) → Option B
+-- a state with more words, from a base on
+also : ℕ → List ℕ → State → State
+also base words s = record s
+  { bytes· = λ a → option-or (more a) (s .bytes· a)
+  ; writable· = λ a → is-some (more a) || s .writable· a }
+  where
+  more : ByteMap
+  more = bytes-in (tabled 24 words) (length words) base
+
+-- `N pc=PC base=BASE regs=REGS mem=MEM`, where the memory begins at the base: the number, the
+-- base, the number of words and the state
+reads-state : {B : Set} → (ℕ → ℕ → ℕ → State → List (List ℕ) → Option B) → List (List ℕ) → Option B
 reads-state follows = reads count-of λ n → reads (value-as (codes "pc") word-of) λ pc →
   reads (value-as (codes "base") word-of) λ base →
   reads (value-as (codes "regs") registers-of) λ registers →
   reads (value-as (codes "mem") memory-of) λ memory →
-  follows n (state-from registers pc None base memory)
+  follows n base (length memory) (state-from registers pc None base memory)
 
+-- `base=BASE mem=MEM`: more memory
+reads-more : {B : Set} → (State → List (List ℕ) → Option B) → State → List (List ℕ) → Option B
+reads-more follows s = reads (value-as (codes "base") word-of) λ base →
+  reads (value-as (codes "mem") memory-of) λ memory → follows (also base memory s)
+
+-- `trace`, `far`, `run` or `machine`, and then a state; for `far` twice more memory, and for
+-- `machine` the CSRs
 asks-more : List (List ℕ) → Option (List (List ℕ))
 asks-more [] = None
 asks-more (w ∷ ws) =
-  if bytes-eq w (codes "trace") then reads-state (λ n s → ends (traced n s)) ws
-  else (if bytes-eq w (codes "run") then reads-state (λ n s → ends (finished n s)) ws
+  if bytes-eq w (codes "trace") then reads-state (λ n _ _ s → ends (traced n s)) ws
+  else (if bytes-eq w (codes "far")
+  then reads-state (λ n _ _ → reads-more (reads-more (λ s → ends (traced n s)))) ws
+  else (if bytes-eq w (codes "run")
+  then reads-state (λ n base count s → ends (finished base count n s)) ws
   else (if bytes-eq w (codes "machine")
-  then reads-state (λ n s → reads (value-as (codes "csrs") memory-of)
+  then reads-state (λ n _ _ s → reads (value-as (codes "csrs") memory-of)
     λ csrs → ends (machine-steps n (with-devices (machine s (file-of csrs))))) ws
-  else None))
+  else None)))
 
 -- ---- input and output
 

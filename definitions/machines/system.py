@@ -240,7 +240,7 @@ def compare(answers, stub, seed):
     """Compares a random program: the answers of its steps, and the first difference."""
     registers, csrs, words = random_state(random.Random(seed))
     memory = b"".join(w.to_bytes(4, "little") for w in words)
-    asked = user.question("machine", STEPS, registers[32], BASE, registers[:32], memory)
+    asked = user.question("machine", STEPS, registers[32], registers[:32], [(BASE, memory)])
     lines = user.ask(answers, [asked + " csrs=" + ",".join(f"0x{v:08x}" for v in csrs.values())])
     kinds = []
     begin(stub, registers, csrs, words)

@@ -14,12 +14,17 @@ DATA, LOW = 8, 9                    # two registers with bases, which no instruc
 CODE, END = 0x1000, 0x3000          # where the code is, and the end of the memory
 
 
-def elf(entry, base, data):
-    """An executable of one segment, which is readable, writable and executable."""
-    header = b"\x7fELF\1\1\1" + bytes(9) + struct.pack(
-        "<HHIIIIIHHHHHH", 2, 243, 1, entry, 52, 0, 0, 52, 32, 1, 40, 0, 0)
-    segment = struct.pack("<IIIIIIII", 1, 0x1000, base, base, len(data), len(data), 7, 0x1000)
-    return (header + segment).ljust(0x1000, b"\0") + data
+def elf(entry, segments):
+    """An executable of segments, (base, data), which are readable, writable and executable."""
+    made = b"\x7fELF\1\1\1" + bytes(9) + struct.pack(
+        "<HHIIIIIHHHHHH", 2, 243, 1, entry, 52, 0, 0, 52, 32, len(segments), 40, 0, 0)
+    at = 0x1000
+    for base, data in segments:
+        made += struct.pack("<IIIIIIII", 1, at, base, base, len(data), len(data), 7, 0x1000)
+        at += -(-len(data) // 0x1000) * 0x1000
+    for _, data in segments:
+        made = made.ljust(-(-len(made) // 0x1000) * 0x1000, b"\0") + data
+    return made
 
 
 def r_type(funct7, rs2, rs1, funct3, rd, opcode=0x33):
@@ -123,9 +128,11 @@ def registers_words(registers):
     return ",".join(f"x{i}=0x{v:08x}" for i, v in enumerate(registers) if i and v) or "-"
 
 
-def question(kind, limit, pc, base, registers, memory):
-    return (f"{kind} {limit} pc=0x{pc:08x} base=0x{base:08x} regs={registers_words(registers)} "
-            f"mem={memory_words(memory)}")
+def question(kind, limit, pc, registers, segments):
+    """A question about a state. The registers stand after the first base."""
+    parts = [f"base=0x{base:08x} mem={memory_words(data)}" for base, data in segments]
+    parts[0] = parts[0].replace(" mem", f" regs={registers_words(registers)} mem")
+    return f"{kind} {limit} pc=0x{pc:08x} {' '.join(parts)}"
 
 
 def ask(answers, questions):
@@ -135,10 +142,10 @@ def ask(answers, questions):
     return done.stdout.splitlines()
 
 
-def qemu_log(room, plugin, program):
+def qemu_log(room, plugin, entry, segments):
     """What QEMU executes of a program: the registers before each step, and its accesses."""
     path, log = Path(room, "program"), Path(room, "log")
-    path.write_bytes(elf(CODE, 0, program))
+    path.write_bytes(elf(entry, segments))
     path.chmod(0o755)
     done = subprocess.run(["qemu-riscv32", "-singlestep", "-plugin", plugin, "-d",
                            "cpu,plugin,nochain", "-D", log, path], check=False)
@@ -156,14 +163,20 @@ def steps_of(log):
     return steps
 
 
-def difference(steps, lines, memory):
+def word_at(segments, address):
+    """The word at an address, as it is at first."""
+    return next(int.from_bytes(data[address - base:address - base + 4], "little")
+                for base, data in segments if base <= address < base + len(data))
+
+
+def difference(steps, lines, segments):
     """The first step in which the definitions differ from QEMU, or None."""
     registers = list(steps[0][1])
     for number, ((pc, wanted, accesses), line) in enumerate(zip(steps, lines)):
         m = re.fullmatch(r"0x(\w+) (Ok|EnvironmentCall 0x\w+) (-|x(\d+))=0x(\w+) (\S+)", line)
         if not m or int(m[1], 16) != pc or wanted != registers:
             return f"step {number}: {line}: registers or pc"
-        word = int.from_bytes(memory[pc:pc + 4], "little")
+        word = word_at(segments, pc)
         made = m[6].split(",")
         fetch, others = made[0], [a.split("=")[0] for a in made[1:]]
         if fetch != f"r0x{pc:08x}/4=0x{word:08x}" or others != accesses:
@@ -178,13 +191,58 @@ def difference(steps, lines, memory):
     return None
 
 
-def compare_steps(answers, room, plugin, seed, count):
-    """Compares a random program, step by step: how many steps, and the first difference."""
-    memory = random_program(seed, count)
-    steps = qemu_log(room, plugin, memory)
+def compare_trace(answers, room, plugin, kind, entry, segments):
+    """Compares a program, step by step: how many steps, and the first difference."""
+    steps = qemu_log(room, plugin, entry, segments)
     pc, registers, _ = steps[0]
-    lines = ask(answers, [question("trace", 2 * len(steps), pc, 0, registers, memory)])
-    return len(steps), difference(steps, lines, memory)
+    lines = ask(answers, [question(kind, 2 * len(steps), pc, registers, segments)])
+    return len(steps), difference(steps, lines, segments)
+
+
+def compare_steps(answers, room, plugin, seed, count):
+    return compare_trace(answers, room, plugin, "trace", CODE, [(0, random_program(seed, count))])
+
+
+# ---- jumps to far places
+
+NEAR = 0x00200000
+FAR = [NEAR, NEAR + 0xFE000, 0xA0000000]    # jal goes from the first to the second, and back
+SIZE, SLOT, JUMPS = 0x2000, 0x80, 40
+
+
+def far_jump(chance, here, there):
+    """The words of a jump from one address to another: jal or a branch that is taken, if it goes as
+    far, or else jalr."""
+    distance, register = there - here, chance.choice(range(1, 32))
+    if -4096 <= distance < 4096 and chance.random() < 0.6:
+        return [b_type(distance, register, register, chance.choice([0, 5, 7]))]
+    if -2 ** 20 <= distance < 2 ** 20 and chance.random() < 0.7:
+        return [j_type(distance, chance.randrange(32))]
+    relative = chance.random() < 0.5
+    value = (distance if relative else there) & MASK
+    low = (value & 0xFFF ^ 0x800) - 0x800
+    upper = (value - low) & 0xFFFFF000 | register << 7 | (0x17 if relative else 0x37)
+    odd = low < 2047 and chance.random() < 0.5      # the target is made even
+    return [upper, i_type(low + odd, register, 0, chance.randrange(32), 0x67)]
+
+
+def far_program(seed):
+    """Where it begins, and three segments, between which it jumps from slot to slot."""
+    chance = random.Random(f"far {seed}")
+    parts = {base: bytearray(chance.getrandbits(8) for _ in range(SIZE)) for base in FAR}
+    slots = chance.sample([base + at for base in FAR for at in range(0, SIZE, SLOT)], JUMPS)
+    slots = [slot + 4 * chance.randrange(SLOT // 4 - 4) for slot in slots]
+    for here, there in zip(slots, slots[1:] + [None]):
+        base = max(b for b in FAR if b <= here)
+        words = far_jump(chance, here, there) if there else [
+            i_type(93, 0, 0, 17), i_type(0, 0, 0, 10), 0x73]
+        parts[base][here - base:here - base + 4 * len(words)] = struct.pack(f"<{len(words)}I",
+                                                                            *words)
+    return slots[0], [(base, bytes(data)) for base, data in parts.items()]
+
+
+def compare_far(answers, room, plugin, seed):
+    return compare_trace(answers, room, plugin, "far", *far_program(seed))
 
 
 # ---- compiled programs
@@ -193,9 +251,8 @@ LINK = """ENTRY(_start)
 PHDRS { all PT_LOAD FLAGS(7); }
 SECTIONS {
   . = 0x10000;
-  all : { *(.text*) *(.rodata* .srodata*) . = ALIGN(16);
-    dump_start = .; *(.data* .sdata*) *(.bss* .sbss* COMMON) . = ALIGN(16); dump_end = .;
-    . += 2048; stack_end = .; LONG(0) } : all
+  all : { dump_start = .; *(.text*) *(.rodata* .srodata*) *(.data* .sdata*) *(.bss* .sbss* COMMON)
+    . = ALIGN(16); . += 2048; stack_end = .; LONG(0) dump_end = .; } : all
   /DISCARD/ : { *(.comment) *(.note*) *(.riscv*) *(.eh_frame*) }
 }
 """
@@ -294,11 +351,11 @@ def compiled(room, seed):
 def compare_program(answers, room, seed, limit):
     """Compares what a compiled program leaves: how many steps it makes, and the difference."""
     path, entry, base, memory = compiled(room, seed)
+    line, = ask(answers, [question("run", limit, entry, [0] * 32, [(base, memory)])])
+    m = re.match(r"steps=(\d+) (\S+) .* mem=(\S+)$", line)
+    if not m or m[2] == "limit":
+        return limit, None if m else line[:200]
     wanted = subprocess.run(["qemu-riscv32", path], capture_output=True, check=True,
                             timeout=60).stdout
-    line, = ask(answers, [question("run", limit, entry, base, [0] * 32, memory)])
-    m = re.match(r"steps=(\d+) (\S+) .* bytes=(\S+)$", line)
-    if not m or m[2] == "limit":
-        return limit, None if m else line
     left = b"".join(int(w, 16).to_bytes(4, "little") for w in m[3].split(","))
     return int(m[1]), None if left == wanted and m[2] == "EnvironmentCall" else line[:200]
