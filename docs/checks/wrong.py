@@ -36,12 +36,15 @@ pub fn one_name() -> u32 {
 # a file, what stands in it, what stands there instead, and what is told of it
 WRONG = [
     ("README.md", "    1\n", "    2\n", "no copy of crates/one/src/lib.rt: not there: `2`"),
+    ("README.md", "    1\n", "      1\n", "no copy of crates/one/src/lib.rt: not there"),
     ("README.md", "from crates/one/src/lib.rt", "from none", "from none, which is not there"),
     ("README.md", "<!-- from", "<!-- of", "neither `<!-- from PATH -->` nor"),
     ("README.md", "    1\n```", "    1\n", "a code block that nothing ends"),
     ("README.md", "OTHER.md#", "NONE.md#", "there is no such file"),
     ("README.md", "#a-heading", "#another", "there is no such heading"),
     ("README.md", "`one_name`", "`two_name`", "no source has `two_name`"),
+    ("README.md", "`one_name`", "`src/lib.r`", "no source has `src/lib.r`"),
+    ("README.md", "`one_name`", "`src/lib.s`", "no source has `src/lib.s`"),
     ("README.md", "1<!--", "2<!--", "`crates` is 1, and not 2"),
     ("README.md", "count crates", "count none", "there is no count `none`"),
     ("crates/one/must-fail/tried-alone.md", "old:     1", "old:     3", "this stands 0 times"),
