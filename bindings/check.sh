@@ -589,7 +589,8 @@ wrong_tools() {
 }
 
 # What is small, with something wrong in it: nothing, answers, lines, talks, takes, unwritten, layouts,
-# assertions, asserted, functions, version, comma, words, names, asks, state, tries, or one of the calls
+# assertions, asserted, functions, version, comma, words, names, asks, state, zeros, tries, or one of the
+# calls
 wrong() {
     local more=() driver=("$room/replay")
     checks=(-O0)
@@ -598,6 +599,7 @@ wrong() {
     sed -n -i '1~19p' "$room/questions" "$room/answers"
     echo 'void rrs_more(void) {}' >"$room/names.c"
     echo '__attribute__((used)) static int state = 1;' >"$room/state.c"
+    echo '__attribute__((used)) static int zeros;' >"$room/zeros.c"
     printf 'int printf(const char *, ...);\n%s static void more(void) { printf("more"); }\n' \
         '__attribute__((used))' >"$room/asks.c"
     # shellcheck disable=SC2016 # what the inner shell expands
@@ -618,7 +620,7 @@ wrong() {
     talks) driver=(sh -c 'echo more >&2; exec "$0"' "$room/replay") ;;
     takes) driver=(sh -c 'sed "s/ more\$//" | "$0"' "$room/replay") ;;
     unwritten) driver=(sh -c 'said=$("$0") && { echo "$said" 2>/dev/null; true; }' "$room/replay") ;;
-    names | asks | state) cp "$library" "$room/wrong.a" && library=$room/wrong.a &&
+    names | asks | state | zeros) cp "$library" "$room/wrong.a" && library=$room/wrong.a &&
         gcc -c -o "$room/more.o" "$room/$1.c" && ar r "$library" "$room/more.o" ;;
     nothing | tries) ;;
     *) make_wrong_calls && more=("$room/calls.c") && checks+=("-Drrs_$1=wrong_$1") ;;
@@ -641,7 +643,7 @@ wrong() {
 self_test() {
     local what status tried=0
     for what in nothing right more ended fewer uncompared unshown answers lines talks takes unwritten \
-        layouts assertions asserted functions version comma words names asks state tries \
+        layouts assertions asserted functions version comma words names asks state zeros tries \
         $wrong_calls; do
         status=0
         tried=$((tried + 1))
@@ -659,7 +661,7 @@ self_test() {
         *) echo "not seen: $what is wrong" && failed=1 ;;
         esac
     done
-    [ "$tried" = 40 ] || { echo "$tried subjects, and there must be 40" && failed=1; }
+    [ "$tried" = 41 ] || { echo "$tried subjects, and there must be 41" && failed=1; }
     echo "self-test: status $failed"
     exit "$failed"
 }
