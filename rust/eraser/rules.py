@@ -366,8 +366,9 @@ CASTS = ("cast_signed", "cast_unsigned")
 
 def preludes_are_imported(code):
     """Rattle's prelude has names that Rust's without `std` has not: a source that uses one imports
-    them. `write!` to a `String` is by `WriteText`, which returns an error where memory ran out.
-    `cast_signed` is Rust's from 1.87 on, and before it by a trait."""
+    them. `write!` to a `String` is by `WriteText`, which returns an error where memory ran out; where
+    `Write` of `io` is there, it writes to a file. `cast_signed` is Rust's from 1.87 on, and before it
+    by a trait."""
     texts = code.texts()
     wants = "format" in texts and bool(code.places("format", "!"))
     for i, text in enumerate(texts):
@@ -378,7 +379,8 @@ def preludes_are_imported(code):
         wants |= text == "alloc" and before == "." and texts[i + 1 : i + 3] == ["(", ")"]
     wanted = ["use std::prelude::*;"] if wants else []
     writes = any(code.places(name, "!") for name in ("write", "writeln"))
-    if writes and "String" in texts and "Formatter" not in texts:
+    to_file = re.search(r"use std :: io :: [^;]*\bWrite\b", " ".join(texts))
+    if writes and "String" in texts and "Formatter" not in texts and not to_file:
         wanted.append("use std::text::WriteText;")
         for i in code.places("use", "std", "::", "fmt", "::", "Write", ";"):
             code.cut(i, i + 7)
