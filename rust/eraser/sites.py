@@ -128,6 +128,12 @@ SITES = (
         "Rust 1.85 has it as a function of the module alone.",
     ),
     (
+        "rrs_requests/src/files.rt",
+        "        ErrorKind::InvalidFilename => HostFault::LongName,\n",
+        "",
+        "Rust has this kind from 1.87 on. Before it no reason is told.",
+    ),
+    (
         "rrs_host_tests/src/devices.rt",
         "    if let Some(memory) = space.get_memory_mut(cell)\n"
         "        && let Some(word) = memory.mem.get_mut(0)\n    {",
