@@ -6,8 +6,8 @@ use rrs_cli::command::{Command, Failure, conclude, run_program, take_no_argument
 use rrs_cli::fault::RunFault;
 use rrs_cli::programs::{RRS_REPLAY, RRS_RUN};
 use rrs_commands::program::run_rrs;
-use rrs_env::Ending;
 use rrs_exec::NoProgress;
+use rrs_fast::Ending;
 use rrs_linux::{Heap, Linux, LinuxClocks, StoppedClocks};
 use rrs_requests::options::Task;
 use rrs_requests::refusal::Refusal;

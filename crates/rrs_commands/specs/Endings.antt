@@ -5,8 +5,8 @@
 use Rattle.std.specs.Prelude.{ℕ, ◌+◌, ◌%◌, Result, Ok, Err}
 use Rattle.rrs_lib.specs.declared.instruction_executor.InstructionException.{InstructionException}
 use Rattle.rrs_lib.specs.declared.instruction_executor.InstructionException.TheVariants.{IllegalInstruction, FetchError, LoadAccessFault, StoreAccessFault, AlignmentFault, EnvironmentCall, Breakpoint}
-use Rattle.rrs_env.specs.declared.Ending.{Ending}
-use Rattle.rrs_env.specs.declared.Ending.TheVariants.{Limit, Fault, Exit}
+use Rattle.rrs_fast.specs.declared.serving.Ending.{Ending}
+use Rattle.rrs_fast.specs.declared.serving.Ending.TheVariants.{Limit, Fault, Exit}
 use Rattle.rrs_cli.specs.Failures as Failures
 use Rattle.rrs_requests.specs.declared.options.Task.{Task}
 use Rattle.rrs_requests.specs.declared.options.Task.TheVariants.{Execute, Trace, Cover, Board}

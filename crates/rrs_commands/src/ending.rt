@@ -8,7 +8,7 @@ use crate::faults::ToldFault;
 use crate::mistakes::tell_mistake;
 use crate::subcommands::Subcommand;
 use rrs_cli::command::{Command, NamedFailure};
-use rrs_env::Ending;
+use rrs_fast::Ending;
 use rrs_lib::instruction_executor::InstructionException;
 use rrs_requests::options::Task;
 use rrs_requests::refusal::{FileFault, HostFault, Refusal};

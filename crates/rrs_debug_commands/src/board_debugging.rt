@@ -2,7 +2,7 @@
 
 use crate::debugging::{input_of, refused};
 use rrs_board_gdb::{BoardSession, serve};
-use rrs_env::Ending;
+use rrs_fast::Ending;
 use rrs_gdb::Link;
 use rrs_requests::refusal::{Refusal, out_of_memory};
 use rrs_requests::requests::Request;

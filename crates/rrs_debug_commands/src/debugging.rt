@@ -3,9 +3,8 @@
 use crate::board_debugging::debug_board;
 use rrs_cli::loading::load;
 use rrs_elf::Executable;
-use rrs_env::Ending;
 use rrs_exec::DECODED_WORDS;
-use rrs_fast::{CachedMemory, OwnCache};
+use rrs_fast::{CachedMemory, Ending, OwnCache};
 use rrs_gdb::{Link, LinkError, SessionEnd, SessionState, Settings, serve};
 use rrs_lib::instruction_executor::InstructionExecutor;
 use rrs_lib::memories::SliceMemory;

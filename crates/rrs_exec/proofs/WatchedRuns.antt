@@ -9,10 +9,10 @@ use Rattle.rrs_lib.specs.Steps.{Step, RunUntil}
 use Rattle.rrs_lib.specs.Accesses.{Access, AccessesOf, AccessesOfRun, answers_of_run, Makes}
 use Rattle.rrs_lib.proofs.Making.{Makes-append}
 use Rattle.rrs_trace.specs.declared.retired.Retired.{Retired}
-use Rattle.rrs_env.specs.declared.Ending.{Ending}
-use Rattle.rrs_env.specs.declared.Ending.TheVariants.{Limit, Fault, Exit}
-use Rattle.rrs_env.specs.Serving.{Relation, EndsBy, Called, Served, Last, Exits, GoesOn, MakesSome}
-use Rattle.rrs_env.proofs.Rounds.{ends_by_fault}
+use Rattle.rrs_fast.specs.declared.serving.Ending.{Ending}
+use Rattle.rrs_fast.specs.declared.serving.Ending.TheVariants.{Limit, Fault, Exit}
+use Rattle.rrs_fast.specs.Serving.{Relation, EndsBy, Called, Served, Last, Exits, GoesOn, MakesSome}
+use Rattle.rrs_fast.proofs.Rounds.{ends_by_fault}
 use Rattle.rrs_exec.specs.Watching.{ServesAt, Turn, Stepped, Faulted, Turns, NoTurn, OneMore, ToLimit, ToExit, ToFault, IsWatched}
 use Rattle.rrs_exec.specs.Watching.{Called as CalledTurn}
 

@@ -8,8 +8,8 @@ use Rattle.rrs_elf.specs.Executables.{IsExecutable}
 use Rattle.rrs_process.specs.declared.image.Image.{Image}
 use Rattle.rrs_process.specs.Protection.{bytes_under, writable_under}
 use Rattle.rrs_process.specs.Images.{IsImage, Filled}
-use Rattle.rrs_env.specs.declared.Ending.{Ending}
-use Rattle.rrs_env.specs.Serving.{Served}
+use Rattle.rrs_fast.specs.declared.serving.Ending.{Ending}
+use Rattle.rrs_fast.specs.Serving.{Served}
 use Rattle.rrs_linux.specs.declared.Heap.{Heap}
 use Rattle.rrs_linux.specs.declared.Process.{Process}
 use Rattle.rrs_linux.specs.declared.host_writer.HostWriter.{HostWriter}

@@ -11,9 +11,9 @@ use Rattle.rrs_trace.specs.declared.retired.Retired.{Retired}
 use Rattle.rrs_trace.specs.Retired.{Retires}
 use Rattle.rrs_process.specs.declared.image.Image.{Image}
 use Rattle.rrs_process.specs.Protection.{bytes_under, writable_under}
-use Rattle.rrs_env.specs.declared.Ending.{Ending}
-use Rattle.rrs_env.specs.declared.Ending.TheVariants.{Limit, Fault, Exit}
-use Rattle.rrs_env.specs.Serving.{Relation, resumed, Served}
+use Rattle.rrs_fast.specs.declared.serving.Ending.{Ending}
+use Rattle.rrs_fast.specs.declared.serving.Ending.TheVariants.{Limit, Fault, Exit}
+use Rattle.rrs_fast.specs.Serving.{Relation, resumed, Served}
 use Rattle.rrs_linux.specs.declared.Process.{Process}
 use Rattle.rrs_linux.specs.declared.host_writer.HostWriter.{HostWriter}
 use Rattle.rrs_linux.specs.declared.host_side.HostSide.{HostSide}

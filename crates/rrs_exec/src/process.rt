@@ -11,8 +11,7 @@ ghost use Rattle.rrs_lib.specs.SliceBytes.{slice_bytes, slice_writable};
 
 use crate::progress::{InPieces, Progress};
 use rrs_elf::Executable;
-use rrs_env::{Ending, ServedEnd, run_served};
-use rrs_fast::{CachedMemory, OwnCache};
+use rrs_fast::{CachedMemory, Ending, OwnCache, ServedEnd, run_served};
 use rrs_lib::HartState;
 use rrs_lib::instruction_executor::InstructionExecutor;
 use rrs_lib::memories::SliceMemory;

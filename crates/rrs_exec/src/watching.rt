@@ -6,7 +6,7 @@ ghost use Rattle.rrs_process.specs.Images.{memory_refusal};
 ghost use Rattle.rrs_lib.specs.Executor.{state_in, KeepsTheRest};
 ghost use Rattle.rrs_lib.specs.SliceBytes.{slice_bytes, slice_writable};
 ghost use Rattle.rrs_trace.specs.declared.retired.Retired.{Retired};
-ghost use Rattle.rrs_env.specs.Serving.{MakesSome};
+ghost use Rattle.rrs_fast.specs.Serving.{MakesSome};
 ghost use Rattle.rrs_elf.specs.declared.errors.ElfError.{ElfError};
 ghost use Rattle.rrs_elf.specs.Refusals.{first_refusal, checks};
 ghost use Rattle.rrs_exec.specs.Watching.{ServesAt, Turn, IsWatched, WatchesImage, WatchesProcess};
@@ -14,7 +14,7 @@ ghost use Rattle.rrs_exec.specs.Watching.{ServesAt, Turn, IsWatched, WatchesImag
 use crate::process::{ProcessEnd, started, zeros};
 use crate::progress::Progress;
 use rrs_elf::Executable;
-use rrs_env::{Ending, Environment, ServedEnd};
+use rrs_fast::{Ending, Environment, ServedEnd};
 use rrs_lib::Memory;
 use rrs_lib::instruction_executor::{InstructionException, InstructionExecutor};
 use rrs_lib::memories::SliceMemory;

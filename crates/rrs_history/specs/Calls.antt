@@ -10,7 +10,7 @@ use Rattle.rrs_lib.specs.Bytes.{ByteMap}
 use Rattle.rrs_lib.specs.Machine.{State, state_of}
 use Rattle.rrs_lib.specs.Steps.{Step}
 use Rattle.rrs_lib.specs.Accesses.{Access, Read, Write, Makes}
-use Rattle.rrs_env.specs.Serving.{Relation, resumed}
+use Rattle.rrs_fast.specs.Serving.{Relation, resumed}
 use Rattle.rrs_history.specs.declared.change.Change.{Change}
 use Rattle.rrs_history.specs.declared.history.History.{History}
 use Rattle.rrs_history.specs.declared.calls.RecordedMemory.{RecordedMemory}

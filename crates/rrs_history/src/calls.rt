@@ -3,7 +3,7 @@
 ghost use Rattle.std.specs.Prelude.{◌≡◌, ℕ, Bool, true, Option, length, drop, slice_index, OnOk, OnErr, IsTrue};
 ghost use Rattle.rrs_lib.specs.Machine.{State, state_of};
 ghost use Rattle.rrs_lib.specs.Executor.{state_in, KeepsTheRest};
-ghost use Rattle.rrs_env.specs.Serving.{MakesSome, resumed};
+ghost use Rattle.rrs_fast.specs.Serving.{MakesSome, resumed};
 ghost use Rattle.rrs_history.specs.Changes.{undone};
 ghost use Rattle.rrs_history.specs.Histories.{changes, past};
 ghost use Rattle.rrs_history.specs.Calls.{IsServedStep, RemembersCall, ServesCall, IsRecorded, Carries, part_stored, part_written};
@@ -11,7 +11,7 @@ ghost use Rattle.rrs_history.specs.Calls.{IsServedStep, RemembersCall, ServesCal
 use crate::change::{Change, step_noted};
 use crate::history::History;
 use crate::noting::write_noted;
-use rrs_env::Environment;
+use rrs_fast::Environment;
 use rrs_lib::instruction_executor::{InstructionException, InstructionExecutor};
 use rrs_lib::{HartState, MemAccessSize, Memory};
 

@@ -4,7 +4,7 @@ ghost use Rattle.std.specs.Prelude.{List, Option};
 ghost use Rattle.rrs_lib.specs.Machine.{State};
 
 use crate::machines::memory_of;
-use rrs_env::Environment;
+use rrs_fast::Environment;
 use rrs_history::{History, look_ahead, step_back, step_recorded, step_served};
 use rrs_lib::instruction_executor::{InstructionException, InstructionExecutor};
 use rrs_lib::memories::VecMemory;

@@ -3,8 +3,7 @@
 ghost use Rattle.std.specs.Prelude.{◌≡◌};
 ghost use Rattle.rrs_host_tests.specs.Consoles.{Serves};
 
-use rrs_env::{Ending, Environment, ServedEnd, run_served};
-use rrs_fast::DecodeCache;
+use rrs_fast::{DecodeCache, Ending, Environment, ServedEnd, run_served};
 use rrs_lib::instruction_executor::InstructionExecutor;
 use rrs_lib::memories::VecMemory;
 use rrs_lib::{HartState, MemAccessSize, Memory};

@@ -1,4 +1,4 @@
-//! The tests of what stands around a machine, written as a user's crate would be: of `rrs_env` and
+//! The tests of what stands around a machine, written as a user's crate would be: of `rrs_fast` and
 //! `rrs_linux`, which serve the calls of a program, of `rrs_trace`, of `rrs_history`, and of the
 //! proved programs of `rrs_programs`.
 //!

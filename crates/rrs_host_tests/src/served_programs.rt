@@ -9,8 +9,7 @@ ghost use Rattle.rrs_programs.specs.WritingAndExiting.{write_and_exit_program};
 ghost use Rattle.rrs_host_tests.specs.ProgramExamples.{words_to_write, words_to_echo};
 
 use crate::machines::streams_of;
-use rrs_env::{Ending, Environment, ServedEnd, run_served};
-use rrs_fast::DecodeCache;
+use rrs_fast::{DecodeCache, Ending, Environment, ServedEnd, run_served};
 use rrs_lib::instruction_executor::InstructionExecutor;
 use rrs_lib::memories::VecMemory;
 use rrs_lib::{HartState, Memory};

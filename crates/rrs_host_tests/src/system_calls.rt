@@ -2,7 +2,7 @@
 //! go on.
 
 use crate::machines::streams_of;
-use rrs_env::Environment;
+use rrs_fast::Environment;
 use rrs_lib::HartState;
 use rrs_lib::instruction_executor::InstructionExecutor;
 use rrs_lib::memories::VecMemory;

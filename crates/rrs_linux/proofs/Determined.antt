@@ -13,7 +13,7 @@ use Rattle.rrs_lib.specs.Bytes.{ByteMap}
 use Rattle.rrs_lib.specs.AccessLists.{Access}
 use Rattle.rrs_lib.specs.Loading.{Loaded, byte_writes}
 use Rattle.rrs_lib.specs.Machine.{State}
-use Rattle.rrs_env.specs.Serving.{IsDeterminedBy}
+use Rattle.rrs_fast.specs.Serving.{IsDeterminedBy}
 use Rattle.rrs_linux.specs.declared.clocks.TimeForm.TheVariants.{Timespec, Timeval}
 use Rattle.rrs_linux.specs.declared.recorder.Known.{Known}
 use Rattle.rrs_linux.specs.declared.requests.Request.{Request}

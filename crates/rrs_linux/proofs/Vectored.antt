@@ -6,7 +6,7 @@ use Rattle.rrs_lib.specs.declared.MemAccessSize.{MemAccessSize}
 use Rattle.rrs_lib.specs.Bytes.{ByteMap, little_endian}
 use Rattle.rrs_lib.specs.AccessLists.{Access, Makes}
 use Rattle.rrs_lib.proofs.Making.{Makes-append}
-use Rattle.rrs_env.specs.Serving.{MakesSome}
+use Rattle.rrs_fast.specs.Serving.{MakesSome}
 use Rattle.rrs_linux.specs.Transfers.{Takes, Stands, most_bytes}
 use Rattle.rrs_linux.specs.Vectors.{IsPiece, HasNoNegative, WritesPieces, together}
 

@@ -9,7 +9,7 @@ use Rattle.rrs_lib.specs.declared.MemAccessSize.TheVariants.{Byte}
 use Rattle.rrs_lib.specs.Bytes.{ByteMap, little_endian, sum_if_both, at_place}
 use Rattle.rrs_lib.specs.AccessLists.{Access, Read, Makes}
 use Rattle.rrs_lib.proofs.Making.{Makes-append}
-use Rattle.rrs_env.specs.Serving.{MakesSome}
+use Rattle.rrs_fast.specs.Serving.{MakesSome}
 use Rattle.rrs_linux.specs.Transfers.{Stands, byte_reads, WriteEnds, WritesText}
 
 -- ---- one byte

@@ -3,7 +3,7 @@
 ghost use Rattle.std.specs.Prelude.{◌≡◌, ◌++◌, ℕ, Option};
 ghost use Rattle.std.specs.Duration.{as_nanos};
 ghost use Rattle.std.specs.Int.{to_le_bytes, w64};
-ghost use Rattle.rrs_env.specs.Serving.{MakesSome};
+ghost use Rattle.rrs_fast.specs.Serving.{MakesSome};
 ghost use Rattle.rrs_linux.specs.Clocks.{Tells, TellsStopped, TellsOf, PutsTime, form_of};
 
 use crate::buffers::put_bytes;

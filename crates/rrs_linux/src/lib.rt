@@ -40,7 +40,7 @@ pub use host_writer::HostWriter;
 pub use input_buffer::InputBuffer;
 pub use recorder::{Known, OutputRecorder, records_determined};
 pub use requests::Request;
-use rrs_env::Environment;
+use rrs_fast::Environment;
 use rrs_lib::instruction_executor::InstructionExecutor;
 use rrs_lib::{HartState, Memory};
 pub use statuses::Lookup;

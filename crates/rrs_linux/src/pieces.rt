@@ -3,7 +3,7 @@
 ghost use Rattle.std.specs.Prelude.{◌≡◌, ◌≤◌, ◌<◌, ◌+◌, ◌*◌, ◌^◌, ℕ, Option, Some, length};
 ghost use Rattle.std.specs.Bool.{OnTrue, OnFalse};
 ghost use Rattle.rrs_lib.specs.Bytes.{little_endian};
-ghost use Rattle.rrs_env.specs.Serving.{MakesSome};
+ghost use Rattle.rrs_fast.specs.Serving.{MakesSome};
 ghost use Rattle.rrs_linux.specs.Transfers.{Stands};
 ghost use Rattle.rrs_linux.specs.Vectors.{HasNegative, HasNoNegative, WritesPieces, WritesVector, together};
 

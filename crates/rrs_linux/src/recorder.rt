@@ -1,7 +1,7 @@
 //! Streams that are bytes in the host's memory.
 
 ghost use Rattle.std.specs.Prelude.{◌≡◌, [], IfOk, vec_capacity};
-ghost use Rattle.rrs_env.specs.Serving.{IsDeterminedBy};
+ghost use Rattle.rrs_fast.specs.Serving.{IsDeterminedBy};
 ghost use Rattle.rrs_linux.specs.Recording.{GivesInput, TakesOutput, TellsKnown, AlikeInputs, AlikeRecords, Records, AlikeRecordings};
 
 use crate::buffers::{BAD_ADDRESS, answer_of, give_bytes, most_of};

@@ -1,7 +1,7 @@
 //! The status of a stream, and what a path names.
 
 ghost use Rattle.std.specs.Prelude.{◌≡◌, ◌≤◌, ◌<◌, length};
-ghost use Rattle.rrs_env.specs.Serving.{MakesSome};
+ghost use Rattle.rrs_fast.specs.Serving.{MakesSome};
 ghost use Rattle.rrs_linux.specs.Statuses.{PutsBytes, PutsNamed, failed, stream_status, extended_status};
 ghost use Rattle.rrs_linux.specs.Transfers.{most_bytes};
 

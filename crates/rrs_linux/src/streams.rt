@@ -1,7 +1,7 @@
 //! What a stream does with the bytes of a program's buffers.
 
 ghost use Rattle.std.specs.Prelude.{◌≡◌};
-ghost use Rattle.rrs_env.specs.Serving.{MakesSome};
+ghost use Rattle.rrs_fast.specs.Serving.{MakesSome};
 ghost use Rattle.rrs_linux.specs.Transfers.{Gives, Takes};
 
 use rrs_lib::Memory;

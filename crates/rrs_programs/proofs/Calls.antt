@@ -10,10 +10,10 @@ use Rattle.rrs_lib.specs.Bytes.{ByteMap}
 use Rattle.rrs_lib.specs.AccessLists.{Access}
 use Rattle.rrs_lib.specs.Words.{word}
 use Rattle.rrs_lib.specs.Machine.{State, reg, with_pc}
-use Rattle.rrs_env.specs.declared.Ending.{Ending}
-use Rattle.rrs_env.specs.declared.Ending.TheVariants.{Exit as Exits}
-use Rattle.rrs_env.specs.Serving.{Relation, Served}
-use Rattle.rrs_env.proofs.Following.{Follows, Ended, WentOn}
+use Rattle.rrs_fast.specs.declared.serving.Ending.{Ending}
+use Rattle.rrs_fast.specs.declared.serving.Ending.TheVariants.{Exit as Exits}
+use Rattle.rrs_fast.specs.Serving.{Relation, Served}
+use Rattle.rrs_fast.proofs.Following.{Follows, Ended, WentOn}
 use Rattle.rrs_extra.specs.Programs.{IsWritable}
 use Rattle.rrs_linux.specs.declared.Process.{Process}
 use Rattle.rrs_linux.specs.declared.host_writer.HostWriter.{HostWriter}

@@ -12,10 +12,10 @@ use Rattle.rrs_lib.specs.Machine.{State, reg, with_pc}
 use Rattle.rrs_lib.specs.Steps.{RunsOk, RunUntil}
 use Rattle.rrs_lib.proofs.Programs
 use Rattle.rrs_lib.proofs.Programs.{at, RunsOk-append}
-use Rattle.rrs_env.specs.declared.Ending.{Ending}
-use Rattle.rrs_env.specs.declared.Ending.TheVariants.{Exit}
-use Rattle.rrs_env.specs.Serving.{Served}
-use Rattle.rrs_env.proofs.Following.{Follows, follows}
+use Rattle.rrs_fast.specs.declared.serving.Ending.{Ending}
+use Rattle.rrs_fast.specs.declared.serving.Ending.TheVariants.{Exit}
+use Rattle.rrs_fast.specs.Serving.{Served}
+use Rattle.rrs_fast.proofs.Following.{Follows, follows}
 use Rattle.rrs_linux.specs.Transfers.{Stands, most_bytes}
 use Rattle.rrs_linux.specs.Recording.{Recording, Records, GivesInput, TakesOutput, TellsKnown}
 use Rattle.rrs_linux.proofs.Placed.{no_length}

@@ -7,10 +7,10 @@ use Rattle.rrs_lib.specs.AccessLists.{Access}
 use Rattle.rrs_lib.specs.Machine.{State, reg, with_pc}
 use Rattle.rrs_lib.specs.Steps.{RunUntil}
 use Rattle.rrs_lib.proofs.Programs.{at}
-use Rattle.rrs_env.specs.declared.Ending.{Ending}
-use Rattle.rrs_env.specs.declared.Ending.TheVariants.{Exit}
-use Rattle.rrs_env.specs.Serving.{Relation, Served}
-use Rattle.rrs_env.proofs.Following.{follows}
+use Rattle.rrs_fast.specs.declared.serving.Ending.{Ending}
+use Rattle.rrs_fast.specs.declared.serving.Ending.TheVariants.{Exit}
+use Rattle.rrs_fast.specs.Serving.{Relation, Served}
+use Rattle.rrs_fast.proofs.Following.{follows}
 use Rattle.rrs_linux.specs.declared.Process.{Process}
 use Rattle.rrs_linux.specs.declared.requests.Request.TheVariants.{WriteOutput}
 use Rattle.rrs_linux.specs.Clocks.{Tells}

@@ -4,15 +4,14 @@ ghost use Rattle.std.specs.Prelude.{◌≡◌, ◌⊎◌, ℕ, ◌+◌, ◌*◌,
 ghost use Rattle.rrs_lib.specs.AccessLists.{Makes};
 ghost use Rattle.rrs_lib.specs.Executor.{state_in, KeepsTheRest};
 ghost use Rattle.rrs_lib.specs.Machine.{reg};
-ghost use Rattle.rrs_env.specs.Serving.{Served, IsOnlyAlike, MakesSome};
-ghost use Rattle.rrs_env.specs.declared.Ending.TheVariants.{Exit};
+ghost use Rattle.rrs_fast.specs.Serving.{Served, IsOnlyAlike, MakesSome};
+ghost use Rattle.rrs_fast.specs.declared.serving.Ending.TheVariants.{Exit};
 ghost use Rattle.rrs_linux.specs.Recording.{Records, AlikeRecordings};
 ghost use Rattle.rrs_linux.specs.Transfers.{most_bytes};
 ghost use Rattle.rrs_programs.specs.Echoing.{EchoStarts, TakesRounds};
 
 use crate::writing::arguments_of_call;
-use rrs_env::{ServedEnd, run_served};
-use rrs_fast::DecodeCache;
+use rrs_fast::{DecodeCache, ServedEnd, run_served};
 use rrs_lib::Memory;
 use rrs_lib::instruction_executor::InstructionExecutor;
 use rrs_linux::OutputRecorder;

@@ -5,14 +5,13 @@ ghost use Rattle.std.specs.Io.KnownBytes.{Appends};
 ghost use Rattle.rrs_lib.specs.AccessLists.{Makes};
 ghost use Rattle.rrs_lib.specs.Executor.{state_in, KeepsTheRest};
 ghost use Rattle.rrs_lib.specs.Machine.{state_of, reg};
-ghost use Rattle.rrs_env.specs.Serving.{Served, IsOnlyAlike, MakesSome};
-ghost use Rattle.rrs_env.specs.declared.Ending.TheVariants.{Exit};
+ghost use Rattle.rrs_fast.specs.Serving.{Served, IsOnlyAlike, MakesSome};
+ghost use Rattle.rrs_fast.specs.declared.serving.Ending.TheVariants.{Exit};
 ghost use Rattle.rrs_linux.specs.Recording.{Records, AlikeRecordings};
 ghost use Rattle.rrs_linux.specs.SystemCalls.{Serves};
 ghost use Rattle.rrs_programs.specs.WritingAndExiting.{WriteAndExitStarts, EndsOver};
 
-use rrs_env::{ServedEnd, run_served};
-use rrs_fast::DecodeCache;
+use rrs_fast::{DecodeCache, ServedEnd, run_served};
 use rrs_lib::instruction_executor::InstructionExecutor;
 use rrs_lib::{HartState, Memory};
 use rrs_linux::{Linux, OutputRecorder};

@@ -3,15 +3,15 @@ use Rattle.std.proofs.Common.{◌≡◌, ℕ, List, [], ◌∷◌, ◌++◌, Boo
 use Rattle.rrs_lib.specs.Machine.{State}
 use Rattle.rrs_lib.specs.Accesses.{Access}
 use Rattle.rrs_trace.specs.declared.retired.Retired.{Retired}
-use Rattle.rrs_env.specs.declared.Ending.{Ending}
-use Rattle.rrs_env.specs.Serving.{Relation}
+use Rattle.rrs_fast.specs.declared.serving.Ending.{Ending}
+use Rattle.rrs_fast.specs.Serving.{Relation}
 use Rattle.rrs_linux.specs.declared.Process.{Process}
 use Rattle.rrs_linux.specs.declared.host_writer.HostWriter.{HostWriter}
 use Rattle.rrs_linux.specs.declared.host_side.HostSide.{HostSide}
 use Rattle.rrs_linux.specs.SystemCalls.{Serves}
 use Rattle.rrs_exec.specs.Processes.{started, heap_of}
 use Rattle.rrs_exec.specs.Watching.{start_in, WatchesProcess}
-use Rattle.rrs_env.specs.Serving.{Served}
+use Rattle.rrs_fast.specs.Serving.{Served}
 use Rattle.rrs_process.specs.Protection.{bytes_under, writable_under}
 use Rattle.rrs_lib.specs.SliceBytes.{bytes_from, lies_from}
 use Rattle.rrs_exec.specs.Watching.{TurnAnswer, Turn, Stepped, Faulted, Called, Turns, NoTurn, OneMore, Shown, ToLimit, ToExit, ToFault}

@@ -1,7 +1,7 @@
 -- How often each word of code was executed: the steps whose pc it was. A fault is no step.
 use Rattle.std.specs.Prelude.{◌≡◌, ℕ, ◌+◌, ◌-◌, ◌*◌, ◌/◌, ◌%◌, ◌^◌, ◌<◌, ◌==◌, nat_lt, cond, min, List, length, get_or, count_by, Bool, true, false, Option, Some, None}
 use Rattle.rrs_trace.specs.declared.retired.Retired.{Retired}
-use Rattle.rrs_env.specs.declared.Ending.{Ending}
+use Rattle.rrs_fast.specs.declared.serving.Ending.{Ending}
 use Rattle.rrs_linux.specs.declared.Process.{Process}
 use Rattle.rrs_linux.specs.declared.host_writer.HostWriter.{HostWriter}
 use Rattle.rrs_linux.specs.declared.host_side.HostSide.{HostSide}

@@ -2,7 +2,7 @@
 use Rattle.std.specs.Prelude.{◌≡◌, ℕ, List, [], ◌∷◌, ◌++◌, Bool, true, Option}
 use Rattle.rrs_lib.specs.SliceBytes.{bytes_from, lies_from}
 use Rattle.rrs_trace.specs.declared.retired.Retired.{Retired}
-use Rattle.rrs_env.specs.declared.Ending.{Ending}
+use Rattle.rrs_fast.specs.declared.serving.Ending.{Ending}
 use Rattle.rrs_linux.specs.declared.Process.{Process}
 use Rattle.rrs_linux.specs.declared.host_writer.HostWriter.{HostWriter}
 use Rattle.rrs_linux.specs.declared.host_side.HostSide.{HostSide}

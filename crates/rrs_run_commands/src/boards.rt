@@ -1,8 +1,8 @@
 //! `rrs board`: firmware on a board with a hart of machine mode.
 
 use rrs_board::{Board, BoardEnd, BoardError, BoardEvent, TerminalError, run_at_terminal};
-use rrs_env::Ending;
 use rrs_exec::ImageError;
+use rrs_fast::Ending;
 use rrs_requests::files::{Noting, STANDARD_INPUT, STANDARD_OUTPUT, buffered, read_program};
 use rrs_requests::options::{Task, most_memory};
 use rrs_requests::refusal::{Refusal, named, no_image};

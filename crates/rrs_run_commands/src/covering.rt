@@ -2,8 +2,8 @@
 
 use crate::disassembling::{code_of, flushed};
 use crate::executables::tell;
-use rrs_env::Ending;
 use rrs_exec::Progress;
+use rrs_fast::Ending;
 use rrs_linux::Linux;
 use rrs_reports::{Code, Profile, cover_process, write_annotated, write_callgrind, write_summary};
 use rrs_requests::files::{Noting, STANDARD_ERROR, buffered, created, read_program};

@@ -1,7 +1,7 @@
 //! What runs a program under gdb, as the program `rrs` calls it. The debugger takes the gate longest,
 //! so the rest of `rrs` is proved beside it.
 
-use rrs_env::Ending;
+use rrs_fast::Ending;
 use rrs_requests::options::Task;
 use rrs_requests::refusal::Refusal;
 use rrs_requests::requests::Request;

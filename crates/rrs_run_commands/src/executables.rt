@@ -1,8 +1,8 @@
 //! Executables as the subcommands take them: read, run, and what is told where they fail.
 
 use rrs_elf::Executable;
-use rrs_env::Ending;
 use rrs_exec::{ProcessEnd, Progress, execute_process};
+use rrs_fast::Ending;
 use rrs_lib::instruction_executor::InstructionException;
 use rrs_linux::Linux;
 use rrs_reports::{SHOWN_BYTES, ShownName};

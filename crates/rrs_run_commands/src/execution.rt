@@ -6,9 +6,8 @@ ghost use Rattle.rrs_run_commands.specs.Execution.{ExecutesProgram};
 
 use rrs_cli::fault::RunFault;
 use rrs_cli::loading::load;
-use rrs_env::{Ending, ServedEnd, run_served};
 use rrs_exec::{DECODED_WORDS, InPieces, Progress};
-use rrs_fast::{CachedMemory, OwnCache};
+use rrs_fast::{CachedMemory, Ending, OwnCache, ServedEnd, run_served};
 use rrs_lib::HartState;
 use rrs_lib::instruction_executor::InstructionExecutor;
 use rrs_linux::Linux;

@@ -2,8 +2,8 @@
 
 use crate::executables::tell;
 use rrs_elf::{Executable, Symbols};
-use rrs_env::Ending;
 use rrs_exec::Progress;
+use rrs_fast::Ending;
 use rrs_linux::Linux;
 use rrs_reports::{TraceError, trace_process};
 use rrs_requests::files::{Noting, STANDARD_ERROR, buffered, created, read_program, unwritten};

@@ -49,7 +49,7 @@ pub mod linux {
     pub use rrs_linux::*;
 
     /// Environments, which serve the `ecall`s of a run.
-    pub use rrs_env as env;
+    pub use rrs_fast as env;
     /// A process from its executable to its end.
     pub use rrs_exec as exec;
     /// The image of a process: its segments, its stack and its rights.

@@ -5,7 +5,7 @@ use Rattle.rrs_lib.specs.Executor.{state_in}
 use Rattle.rrs_lib.specs.SliceBytes.{slice_bytes, slice_writable}
 use Rattle.rrs_process.specs.Protection.{bytes_under, writable_under, protected_bytes, protected_writable}
 use Rattle.rrs_process.specs.declared.protected.ProtectedMemory.{ProtectedMemory}
-use Rattle.rrs_env.specs.Serving.{Served}
+use Rattle.rrs_fast.specs.Serving.{Served}
 use Rattle.rrs_linux.specs.declared.Heap.{Heap}
 use Rattle.rrs_linux.specs.SystemCalls.{Serves}
 use Rattle.rrs_exec.specs.Processes.{started}

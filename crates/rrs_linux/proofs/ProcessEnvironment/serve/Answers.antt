@@ -3,7 +3,7 @@ use Rattle.rrs_lib.specs.declared.MemAccessSize.{MemAccessSize}
 use Rattle.rrs_lib.specs.AccessLists.{Access, Makes}
 use Rattle.rrs_lib.specs.Bytes.{ByteMap}
 use Rattle.rrs_lib.specs.Machine.{State, state_of}
-use Rattle.rrs_env.specs.Serving.{MakesSome}
+use Rattle.rrs_fast.specs.Serving.{MakesSome}
 use Rattle.rrs_lib.specs.declared.HartState.{HartState}
 use Rattle.rrs_linux.specs.declared.Process.{Process}
 use Rattle.rrs_linux.specs.declared.requests.Request.{Request}

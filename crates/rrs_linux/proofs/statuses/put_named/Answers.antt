@@ -3,7 +3,7 @@ use Rattle.rrs_lib.specs.declared.MemAccessSize.{MemAccessSize}
 use Rattle.rrs_lib.specs.declared.MemAccessSize.TheVariants.{Byte}
 use Rattle.rrs_lib.specs.Bytes.{ByteMap}
 use Rattle.rrs_lib.specs.AccessLists.{Read}
-use Rattle.rrs_env.specs.Serving.{MakesSome}
+use Rattle.rrs_fast.specs.Serving.{MakesSome}
 use Rattle.rrs_linux.specs.declared.statuses.Lookup.{Lookup}
 use Rattle.rrs_linux.specs.Statuses.{PutsBytes, PutsNamed, IsNamed, HasFailed, failed}
 use Rattle.rrs_linux.proofs.Written.{byte_read}

@@ -3,7 +3,7 @@ use Rattle.std.proofs.Common.{◌≡◌, ◌++◌, ◌%◌, ap, arith, inl, inr}
 use Rattle.std.proofs.lemmas.List.{length-drop}
 use Rattle.rrs_lib.specs.Executor.{state_in}
 use Rattle.rrs_lib.specs.Machine.{reg}
-use Rattle.rrs_env.specs.declared.Ending.TheVariants.{Exit}
+use Rattle.rrs_fast.specs.declared.serving.Ending.TheVariants.{Exit}
 use Rattle.rrs_linux.specs.Recording.{GivesInput, TakesOutput, TellsKnown}
 use Rattle.rrs_programs.proofs.Calls.{took_all, taking_goes_on}
 use Rattle.rrs_programs.proofs.WriteAndExit.{writes_and_exits}

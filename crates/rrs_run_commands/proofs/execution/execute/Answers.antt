@@ -3,7 +3,7 @@ use Rattle.rrs_lib.specs.VecBytes.{bytes_of_words, lies_in_words, vec_bytes, vec
 use Rattle.rrs_lib.specs.Executor.{state_in}
 use Rattle.rrs_lib.specs.Machine.{State, state_of}
 use Rattle.rrs_lib.specs.declared.memories.VecMemory.{VecMemory}
-use Rattle.rrs_env.specs.Serving.{Served}
+use Rattle.rrs_fast.specs.Serving.{Served}
 use Rattle.rrs_linux.specs.SystemCalls.{Serves}
 use Rattle.rrs_cli.proofs.Printed.{start_is}
 use Rattle.rrs_run_commands.proofs.execution.execute.Goals as goal

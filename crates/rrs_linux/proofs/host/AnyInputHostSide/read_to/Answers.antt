@@ -1,7 +1,7 @@
 use Rattle.std.proofs.Common.{◌≡◌, ℕ, Bool, List, Option, ◌<◌, [], length, refl, sym, ◌∙◌, inl, inr, arith}
 use Rattle.rrs_lib.specs.declared.MemAccessSize.{MemAccessSize}
 use Rattle.rrs_lib.specs.AccessLists.{Access}
-use Rattle.rrs_env.specs.Serving.{MakesSome}
+use Rattle.rrs_fast.specs.Serving.{MakesSome}
 use Rattle.rrs_linux.specs.declared.clocks.LinuxClocks.{LinuxClocks}
 use Rattle.rrs_linux.specs.BufferedBytes.{buffered_bytes}
 use Rattle.rrs_linux.specs.Transfers.{IsNone, HasFailed, PassesEnd}

@@ -1,10 +1,10 @@
 -- The rounds of a run that is served, of which each is a run and the call that it comes to.
 use Rattle.std.specs.Prelude.{ℕ, ◌<◌, ◌≤◌, List, None}
-use Rattle.rrs_env.specs.declared.Round.{Round}
-use Rattle.rrs_env.specs.declared.Round.TheVariants.{GoneOn, Ended}
+use Rattle.rrs_fast.specs.declared.serving.Round.{Round}
+use Rattle.rrs_fast.specs.declared.serving.Round.TheVariants.{GoneOn, Ended}
 use Rattle.rrs_lib.specs.Machine.{State}
 use Rattle.rrs_lib.specs.Accesses.{Access}
-use Rattle.rrs_env.specs.Serving.{Relation, Called, Served}
+use Rattle.rrs_fast.specs.Serving.{Relation, Called, Served}
 
 -- what a round did: it came to a call and goes on, or it was the last
 abbrev pub RoundOf : {E : Type 0} → Relation E

@@ -5,17 +5,17 @@ use Rattle.std.proofs.lemmas.Option.{none-some, same_Some}
 use Rattle.rrs_lib.specs.declared.MemAccessSize.{MemAccessSize}
 use Rattle.rrs_lib.specs.declared.instruction_executor.InstructionException.{InstructionException}
 use Rattle.rrs_lib.specs.declared.instruction_executor.InstructionException.TheVariants.{EnvironmentCall}
-use Rattle.rrs_env.specs.declared.Ending.{Ending}
-use Rattle.rrs_env.specs.declared.Ending.TheVariants.{Fault, Exit}
+use Rattle.rrs_fast.specs.declared.serving.Ending.{Ending}
+use Rattle.rrs_fast.specs.declared.serving.Ending.TheVariants.{Fault, Exit}
 use Rattle.rrs_lib.specs.Machine.{State}
 use Rattle.rrs_lib.specs.Steps.{RunUntil}
 use Rattle.rrs_lib.specs.Accesses.{Access, AccessesOfRun, answers_of_run, Makes, MakesExactly}
 use Rattle.rrs_lib.proofs.Making.{Makes-append, AccessesOfRun-unique}
 use Rattle.rrs_lib.proofs.Rows.{one_row_at_most}
 use Rattle.rrs_lib.proofs.Stepping.{RunUntil-unique}
-use Rattle.rrs_env.specs.Serving.{Relation, resumed, EndsBy, Called, Served, Last, Exits, GoesOn}
-use Rattle.rrs_env.specs.Serving.{IsDetermined, IsOnlyServed, IsDeterminedBy, IsOnlyAlike}
-use Rattle.rrs_env.specs.Serving.{MakesSome}
+use Rattle.rrs_fast.specs.Serving.{Relation, resumed, EndsBy, Called, Served, Last, Exits, GoesOn}
+use Rattle.rrs_fast.specs.Serving.{IsDetermined, IsOnlyServed, IsDeterminedBy, IsOnlyAlike}
+use Rattle.rrs_fast.specs.Serving.{MakesSome}
 
 -- ---- ends
 

@@ -1,8 +1,8 @@
 use Rattle.std.proofs.Common.{Some, None, refl, sym, subst, ap, ◌∙◌}
-use Rattle.rrs_env.specs.declared.Ending.TheVariants.{Limit, Fault}
-use Rattle.rrs_env.specs.Serving.{EndsBy}
-use Rattle.rrs_env.proofs.Rounds.{last_round, call_round, exit_round, ends_by_fault, run_within}
-use Rattle.rrs_env.proofs.serve_next.Goals as goal
+use Rattle.rrs_fast.specs.declared.serving.Ending.TheVariants.{Limit, Fault}
+use Rattle.rrs_fast.specs.Serving.{EndsBy}
+use Rattle.rrs_fast.proofs.Rounds.{last_round, call_round, exit_round, ends_by_fault, run_within}
+use Rattle.rrs_fast.proofs.serving.serve_next.Goals as goal
 
 pub returns-in_default-clause-round : goal.returns-in_default-clause-round
 returns-in_default-clause-round g c =

@@ -6,15 +6,15 @@ use Rattle.std.proofs.Common.{◌≡◌, ℕ, ◌+◌, ◌-◌, List, Option, So
 use Rattle.std.proofs.lemmas.Option.{same_Some}
 use Rattle.std.specs.Prelude.{pos}
 use Rattle.rrs_lib.specs.declared.instruction_executor.InstructionException.TheVariants.{EnvironmentCall}
-use Rattle.rrs_env.specs.declared.Ending.{Ending}
-use Rattle.rrs_env.specs.declared.Ending.TheVariants.{Exit}
+use Rattle.rrs_fast.specs.declared.serving.Ending.{Ending}
+use Rattle.rrs_fast.specs.declared.serving.Ending.TheVariants.{Exit}
 use Rattle.rrs_lib.specs.Words.{word}
 use Rattle.rrs_lib.specs.Machine.{State, with_pc}
 use Rattle.rrs_lib.specs.Steps.{RunUntil}
 use Rattle.rrs_lib.specs.Accesses.{Access}
 use Rattle.rrs_lib.proofs.Rows.{one_row_at_most}
 use Rattle.rrs_lib.proofs.Stepping.{RunUntil-unique}
-use Rattle.rrs_env.specs.Serving.{Relation, EndsBy, Called, Served, Last, Exits, GoesOn, resumed}
+use Rattle.rrs_fast.specs.Serving.{Relation, EndsBy, Called, Served, Last, Exits, GoesOn, resumed}
 
 module _ {E : Type 0} (serves : Relation E) where
   -- What follows n steps to an ecall at pc, in the state u, within a limit: its call ends the program, or the chain

@@ -3,8 +3,8 @@ use Rattle.std.proofs.lemmas.Bool.{cases_lt}
 use Rattle.rrs_lib.specs.AccessLists.{Makes}
 use Rattle.rrs_lib.specs.Bytes.{EndsAtLastAddress}
 use Rattle.rrs_lib.proofs.Stepping.{KeepsTheRest-trans}
-use Rattle.rrs_env.proofs.Rounds.{reached_more, reached_end, only_served, only_alike}
-use Rattle.rrs_env.proofs.run_served.Goals as goal
+use Rattle.rrs_fast.proofs.Rounds.{reached_more, reached_end, only_served, only_alike}
+use Rattle.rrs_fast.proofs.serving.run_served.Goals as goal
 
 -- where addresses end, by the first round
 ends_at : {X : Type 0} (aligned : X → Type 0) (ends : X → Type 0) (now start : X) (steps limit : ℕ)

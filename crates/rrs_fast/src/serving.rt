@@ -5,17 +5,15 @@
 //! and any [Environment]. The clauses speak of the machine as those of `run` do. What a served run
 //! is, a chain of runs and calls, is written in `specs/Serving.antt`.
 
-#![tactic(auto)]
-
 ghost use Rattle.std.specs.Prelude.{◌≡◌, ◌%◌, ◌<◌, ◌≤◌, ℕ, List, Option, None};
 ghost use Rattle.rrs_lib.specs.Machine.{State};
 ghost use Rattle.rrs_lib.specs.Executor.{state_in, KeepsTheRest};
 ghost use Rattle.rrs_lib.specs.Accesses.{Access, Makes};
 ghost use Rattle.rrs_lib.specs.Bytes.{EndsAtLastAddress};
-ghost use Rattle.rrs_env.specs.Serving.{Served, IsOnlyServed, IsDeterminedBy, IsOnlyAlike, MakesSome};
-ghost use Rattle.rrs_env.specs.Rounds.{RoundOf, StepsWithin};
+ghost use Rattle.rrs_fast.specs.Serving.{Served, IsOnlyServed, IsDeterminedBy, IsOnlyAlike, MakesSome};
+ghost use Rattle.rrs_fast.specs.Rounds.{RoundOf, StepsWithin};
 
-use rrs_fast::Runner;
+use crate::runner::Runner;
 use rrs_lib::Memory;
 use rrs_lib::instruction_executor::{InstructionException, InstructionExecutor};
 

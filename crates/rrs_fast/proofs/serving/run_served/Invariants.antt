@@ -1,8 +1,8 @@
 use Rattle.std.proofs.Common.{◌≡◌, ◌<◌, ◌≤◌, ◌-◌, ◌%◌}
 use Rattle.rrs_lib.specs.Bytes.{EndsAtLastAddress}
 use Rattle.rrs_lib.specs.Executor.{state_in, KeepsTheRest}
-use Rattle.rrs_env.proofs.Rounds.{Reached}
-use Rattle.rrs_env.proofs.run_served.Given as goal
+use Rattle.rrs_fast.proofs.Rounds.{Reached}
+use Rattle.rrs_fast.proofs.serving.run_served.Given as goal
 
 -- the rounds so far
 abbrev pub invariant-rounds : goal.invariant-rounds
