@@ -116,7 +116,7 @@ SITES = (
         NARROW,
     ),
     (
-        "rrs_process/src/stack.rt",
+        "rrs_exec/src/stack.rt",
         "length >= 0x1_0000_0000",
         "length as u64 >= 0x1_0000_0000",
         NARROW,

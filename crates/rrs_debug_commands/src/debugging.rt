@@ -3,14 +3,13 @@
 use crate::board_debugging::debug_board;
 use rrs_cli::loading::load;
 use rrs_elf::Executable;
-use rrs_exec::DECODED_WORDS;
+use rrs_exec::{DECODED_WORDS, Image, ProtectedMemory, fill, image_of};
 use rrs_fast::{CachedMemory, Ending, OwnCache};
 use rrs_gdb::{Link, LinkError, SessionEnd, SessionState, Settings, serve};
 use rrs_lib::instruction_executor::InstructionExecutor;
 use rrs_lib::memories::SliceMemory;
 use rrs_lib::{HartState, Memory};
 use rrs_linux::{Heap, OutputRecorder};
-use rrs_process::{Image, ProtectedMemory, fill, image_of};
 use rrs_requests::files::{Noting, STANDARD_OUTPUT, read_program};
 use rrs_requests::options::Task;
 use rrs_requests::refusal::{Refusal, named, no_executable, no_image, out_of_memory, unloaded};

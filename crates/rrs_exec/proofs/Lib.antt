@@ -1,2 +1,6 @@
 pub mod JoinedRuns
 pub mod WatchedRuns
+pub mod Pages
+pub mod StackWords
+pub mod Filling
+pub mod Bounds

@@ -1,6 +1,9 @@
--- What it is to run an executable as a process. Definitions of rrs_process and rrs_linux that
--- contracts here cite are passed on.
+-- What a program finds where it starts as a process, the marks of its pages and its stack, and what it
+-- is to run an executable as one. Definitions of rrs_linux that contracts here cite are passed on.
 pub use Rattle.rrs_linux.specs.SystemCalls
-pub use Rattle.rrs_process.specs.Images
+pub mod Protection
+pub mod InitialStack
+pub mod Layouts
+pub mod Images
 pub mod Processes
 pub mod Watching

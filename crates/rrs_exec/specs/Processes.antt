@@ -5,9 +5,9 @@ use Rattle.rrs_lib.specs.AccessLists.{Access}
 use Rattle.rrs_lib.specs.Machine.{State}
 use Rattle.rrs_lib.specs.SliceBytes.{bytes_from, lies_from}
 use Rattle.rrs_elf.specs.Executables.{IsExecutable}
-use Rattle.rrs_process.specs.declared.image.Image.{Image}
-use Rattle.rrs_process.specs.Protection.{bytes_under, writable_under}
-use Rattle.rrs_process.specs.Images.{IsImage, Filled}
+use Rattle.rrs_exec.specs.declared.image.Image.{Image}
+use Rattle.rrs_exec.specs.Protection.{bytes_under, writable_under}
+use Rattle.rrs_exec.specs.Images.{IsImage, Filled}
 use Rattle.rrs_fast.specs.declared.serving.Ending.{Ending}
 use Rattle.rrs_fast.specs.Serving.{Served}
 use Rattle.rrs_linux.specs.declared.Heap.{Heap}

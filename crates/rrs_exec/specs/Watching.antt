@@ -9,8 +9,8 @@ use Rattle.rrs_lib.specs.Steps.{Step}
 use Rattle.rrs_lib.specs.SliceBytes.{bytes_from, lies_from}
 use Rattle.rrs_trace.specs.declared.retired.Retired.{Retired}
 use Rattle.rrs_trace.specs.Retired.{Retires}
-use Rattle.rrs_process.specs.declared.image.Image.{Image}
-use Rattle.rrs_process.specs.Protection.{bytes_under, writable_under}
+use Rattle.rrs_exec.specs.declared.image.Image.{Image}
+use Rattle.rrs_exec.specs.Protection.{bytes_under, writable_under}
 use Rattle.rrs_fast.specs.declared.serving.Ending.{Ending}
 use Rattle.rrs_fast.specs.declared.serving.Ending.TheVariants.{Limit, Fault, Exit}
 use Rattle.rrs_fast.specs.Serving.{Relation, resumed, Served}

@@ -1,17 +1,32 @@
 //! Runs of executables as processes of Linux.
 //!
-//! [execute_process] loads the bytes of an ELF file, with a stack and with marks of its pages, and
-//! serves its system calls. What that is, is written in `specs/Processes.antt`. [watch_process]
-//! shows each step of such a run to a [Watcher], as `specs/Watching.antt` says. Both tell a
-//! [Progress] of the steps, of which no contract speaks.
+//! What a program finds where it starts: a memory whose pages are mapped, read-only or writable, and
+//! a stack with its arguments. [ProtectedMemory] is a memory of any type under marks, one a page.
+//! [initial_stack] makes the block of bytes that lies at the stack pointer, and [stack_pointer] says
+//! where that is. [image_of] puts these together for an executable, and [fill] writes them into a
+//! memory. What they are is written in `specs/Protection.antt`, `specs/InitialStack.antt`,
+//! `specs/Layouts.antt` and `specs/Images.antt`.
+//!
+//! [execute_process] runs the image of an ELF file and serves its system calls. What that is, is
+//! written in `specs/Processes.antt`. [watch_process] shows each step of such a run to a [Watcher],
+//! as `specs/Watching.antt` says. Both tell a [Progress] of the steps, of which no contract speaks.
 
 #![tactic(auto)]
 
+mod image;
+mod layout;
+mod marks;
 mod process;
 mod progress;
+mod protected;
+mod stack;
 mod watching;
 
+pub use image::{Image, ImageError, fill, image_of};
+pub use layout::{Layout, layout_of};
+pub use marks::{PAGE_BYTES, PageRange, Protection, marks_of};
 pub use process::{DECODED_WORDS, ProcessEnd, execute_process};
 pub use progress::{InPieces, NoProgress, Progress};
-pub use rrs_process::ImageError;
+pub use protected::ProtectedMemory;
+pub use stack::{ProgramHeaders, initial_stack, stack_pointer};
 pub use watching::{Watcher, watch_process};

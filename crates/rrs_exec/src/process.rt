@@ -2,21 +2,23 @@
 
 ghost use Rattle.std.specs.Prelude.{◌≡◌, ◌-◌, ◌/◌, ◌≤◌, ℕ, Bool, Option, Err, map, replicate, string_bytes, IfOk, IfErr, IfSome, OnErr};
 ghost use Rattle.rrs_elf.specs.Executables.{IsExecutable};
-ghost use Rattle.rrs_process.specs.Images.{memory_refusal};
+ghost use Rattle.rrs_exec.specs.Images.{memory_refusal};
 ghost use Rattle.rrs_lib.specs.Machine.{state_of};
 ghost use Rattle.rrs_elf.specs.declared.errors.ElfError.{ElfError};
 ghost use Rattle.rrs_elf.specs.Refusals.{first_refusal, checks};
 ghost use Rattle.rrs_exec.specs.Processes.{started, RunsImage, RunsProcess};
 ghost use Rattle.rrs_lib.specs.SliceBytes.{slice_bytes, slice_writable};
 
+use crate::image::{Image, ImageError, fill, image_of};
+use crate::layout::Layout;
 use crate::progress::{InPieces, Progress};
+use crate::protected::ProtectedMemory;
 use rrs_elf::Executable;
 use rrs_fast::{CachedMemory, Ending, OwnCache, ServedEnd, run_served};
 use rrs_lib::HartState;
 use rrs_lib::instruction_executor::InstructionExecutor;
 use rrs_lib::memories::SliceMemory;
 use rrs_linux::{Heap, Linux};
-use rrs_process::{Image, ImageError, Layout, ProtectedMemory, fill, image_of};
 use std::alloc::Global;
 use std::io::{Read, Write};
 

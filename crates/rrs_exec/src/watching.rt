@@ -2,7 +2,7 @@
 
 ghost use Rattle.std.specs.Prelude.{◌≡◌, Bool, Err, map, string_bytes, IfOk, IfErr, IfSome, OnErr};
 ghost use Rattle.rrs_elf.specs.Executables.{IsExecutable};
-ghost use Rattle.rrs_process.specs.Images.{memory_refusal};
+ghost use Rattle.rrs_exec.specs.Images.{memory_refusal};
 ghost use Rattle.rrs_lib.specs.Executor.{state_in, KeepsTheRest};
 ghost use Rattle.rrs_lib.specs.SliceBytes.{slice_bytes, slice_writable};
 ghost use Rattle.rrs_trace.specs.declared.retired.Retired.{Retired};
@@ -11,15 +11,16 @@ ghost use Rattle.rrs_elf.specs.declared.errors.ElfError.{ElfError};
 ghost use Rattle.rrs_elf.specs.Refusals.{first_refusal, checks};
 ghost use Rattle.rrs_exec.specs.Watching.{ServesAt, Turn, IsWatched, WatchesImage, WatchesProcess};
 
+use crate::image::{Image, ImageError, fill, image_of};
 use crate::process::{ProcessEnd, started, zeros};
 use crate::progress::Progress;
+use crate::protected::ProtectedMemory;
 use rrs_elf::Executable;
 use rrs_fast::{Ending, Environment, ServedEnd};
 use rrs_lib::Memory;
 use rrs_lib::instruction_executor::{InstructionException, InstructionExecutor};
 use rrs_lib::memories::SliceMemory;
 use rrs_linux::{Heap, Linux};
-use rrs_process::{Image, ImageError, ProtectedMemory, fill, image_of};
 use rrs_trace::{Retired, step_retired};
 use std::alloc::Global;
 use std::io::{Read, Write};

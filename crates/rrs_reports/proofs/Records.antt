@@ -12,7 +12,7 @@ use Rattle.rrs_linux.specs.SystemCalls.{Serves}
 use Rattle.rrs_exec.specs.Processes.{started, heap_of}
 use Rattle.rrs_exec.specs.Watching.{start_in, WatchesProcess}
 use Rattle.rrs_fast.specs.Serving.{Served}
-use Rattle.rrs_process.specs.Protection.{bytes_under, writable_under}
+use Rattle.rrs_exec.specs.Protection.{bytes_under, writable_under}
 use Rattle.rrs_lib.specs.SliceBytes.{bytes_from, lies_from}
 use Rattle.rrs_exec.specs.Watching.{TurnAnswer, Turn, Stepped, Faulted, Called, Turns, NoTurn, OneMore, Shown, ToLimit, ToExit, ToFault}
 use Rattle.rrs_reports.specs.Records.{keeps, wants_all, RunsWithRecords}

@@ -4,7 +4,7 @@ use crate::options::Setting;
 use rrs_cli::command::Failure;
 use rrs_cli::fault::RunFault;
 use rrs_elf::ElfError;
-use rrs_process::ImageError;
+use rrs_exec::ImageError;
 
 /// Why the words of a command line ask for nothing that can be done. Each word is one of these.
 #[derive(Clone, Copy)]

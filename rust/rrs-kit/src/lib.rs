@@ -53,7 +53,7 @@ pub mod linux {
     /// A process from its executable to its end.
     pub use rrs_exec as exec;
     /// The image of a process: its segments, its stack and its rights.
-    pub use rrs_process as process;
+    pub use rrs_exec as process;
 }
 
 /// The remote protocol of gdb.

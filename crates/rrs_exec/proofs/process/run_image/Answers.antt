@@ -3,8 +3,8 @@ use Rattle.std.proofs.Common.{refl, subst}
 use Rattle.rrs_lib.specs.Machine.{State, state_of}
 use Rattle.rrs_lib.specs.Executor.{state_in}
 use Rattle.rrs_lib.specs.SliceBytes.{slice_bytes, slice_writable}
-use Rattle.rrs_process.specs.Protection.{bytes_under, writable_under, protected_bytes, protected_writable}
-use Rattle.rrs_process.specs.declared.protected.ProtectedMemory.{ProtectedMemory}
+use Rattle.rrs_exec.specs.Protection.{bytes_under, writable_under, protected_bytes, protected_writable}
+use Rattle.rrs_exec.specs.declared.protected.ProtectedMemory.{ProtectedMemory}
 use Rattle.rrs_fast.specs.Serving.{Served}
 use Rattle.rrs_linux.specs.declared.Heap.{Heap}
 use Rattle.rrs_linux.specs.SystemCalls.{Serves}

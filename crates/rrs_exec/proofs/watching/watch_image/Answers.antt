@@ -3,7 +3,7 @@ use Rattle.std.proofs.Common.{subst, refl}
 use Rattle.rrs_lib.specs.Machine.{State}
 use Rattle.rrs_lib.specs.Executor.{state_in}
 use Rattle.rrs_lib.specs.SliceBytes.{slice_bytes, slice_writable}
-use Rattle.rrs_process.specs.Protection.{protected_bytes, protected_writable}
+use Rattle.rrs_exec.specs.Protection.{protected_bytes, protected_writable}
 use Rattle.rrs_fast.specs.Serving.{Served}
 use Rattle.rrs_linux.specs.declared.Heap.{Heap}
 use Rattle.rrs_linux.specs.SystemCalls.{Serves}

@@ -5,7 +5,7 @@ use Rattle.std.specs.String.{string_bytes}
 use Rattle.rrs_lib.specs.SliceBytes.{bytes_from, lies_from}
 use Rattle.rrs_elf.specs.Executables.{IsExecutable}
 use Rattle.rrs_elf.proofs.Accepted.{accepted_to}
-use Rattle.rrs_process.specs.Images.{IsImage, Filled}
+use Rattle.rrs_exec.specs.Images.{IsImage, Filled}
 use Rattle.rrs_exec.specs.Watching.{WatchesImage}
 use Rattle.rrs_exec.proofs.watching.watch_process.Goals as goal
 

@@ -1,0 +1,23 @@
+-- The segments of a file are written, and then a stack above them.
+use Rattle.std.proofs.Common.{◌≡◌, ◌⊎◌, ℕ, ◌+◌, ◌<◌, ◌≤◌, Bool, List, [], ◌++◌, length, slice_index, Some, inl, sym, ap, subst, ◌∙◌, arith, append-nil}
+use Rattle.rrs_memory.specs.Bytes.{ByteMap}
+use Rattle.rrs_memory.specs.Loading.{Loaded}
+use Rattle.rrs_elf.specs.Headers.{e_phnum, p_vaddr}
+use Rattle.rrs_elf.specs.Loading.{Stands, loaded_size}
+use Rattle.rrs_exec.specs.Images.{Filled}
+
+pub filled_by : (file : List ℕ) (sp : ℕ) (stack input rest : List ℕ) (old mid new : ByteMap) (writable above : ℕ → Bool)
+    → Stands file old mid writable (e_phnum file) 0 → Loaded mid new above sp input
+    → stack ≡ input ++ rest → rest ≡ []
+    → ((i j : ℕ) → i < e_phnum file → j < loaded_size file i → p_vaddr file i + j < sp)
+    → Filled file sp stack old new
+filled_by file sp stack input rest old mid new writable above stands loaded all none below =
+    let same : input ≡ stack = sym (all ∙ ap (λ r. input ++ r) none ∙ append-nil input) in
+    record {
+      segments = λ i j numbered within.
+          loaded.others (p_vaddr file i + j) (inl (below i j numbered within)) ∙ stands.segments i j numbered within;
+      stack_there = subst (λ bytes. (i : ℕ) → i < length bytes → new (sp + i) ≡ Some (slice_index bytes i)) same loaded.loaded;
+      others = λ a apart outside.
+          let out : (a < sp) ⊎ (sp + length input ≤ a) = subst (λ bytes. (a < sp) ⊎ (sp + length bytes ≤ a)) (sym same) outside in
+          loaded.others a out ∙ stands.others a apart (λ j none. absurd (omega (arith, none)));
+    }

@@ -1,0 +1,39 @@
+-- The block of a stack, as it is put together.
+use Rattle.std.proofs.Common.{◌≡◌, ℕ, suc, ◌+◌, ◌<◌, List, [], ◌∷◌, ◌++◌, length, drop, get_or, refl, sym, ap, ◌∙◌, arith, add-one, drop-cons, append_assoc, length-append}
+use Rattle.rrs_exec.specs.InitialStack.{word_bytes, bytes_of_words, strings, addresses}
+
+pub bytes_of_append : (xs ys : List ℕ) → bytes_of_words (xs ++ ys) ≡ bytes_of_words xs ++ bytes_of_words ys
+bytes_of_append [] ys = refl
+bytes_of_append (x ∷ xs) ys = ap (λ l. word_bytes x ++ l) (bytes_of_append xs ys)
+
+-- a word, words, and more words, and then what is behind them
+pub put_together : (n : ℕ) (ws zs r s block : List ℕ)
+    → block ≡ word_bytes n ++ bytes_of_words ws ++ bytes_of_words zs ++ r ++ s
+    → block ≡ bytes_of_words (n ∷ ws ++ zs) ++ r ++ s
+put_together n ws zs r s block is = is ∙ ap (λ l. l ++ r ++ s) (sym (bytes_of_append (n ∷ ws) zs))
+
+-- the rest of a list from an element on
+pub cut_at : {A : Type 0} (xs : List A) (i : ℕ) (x : A) → i < length xs → x ≡ get_or xs i x
+    → drop i xs ≡ x ∷ drop (i + 1) xs
+cut_at xs i x below is =
+    rw add-one (drop-cons xs i x below ∙ ap (λ y. y ∷ drop (suc i) xs) (sym is))
+
+module _ (x : List ℕ) (old rest : List (List ℕ)) (cut : old ≡ x ∷ rest) where
+  -- one more string, and what is left
+  pub string_pushed : (b b1 b2 bytes whole : List ℕ) → b ++ strings old ≡ whole → bytes ≡ x
+      → b1 ≡ b ++ bytes → b2 ≡ b1 ++ 0 ∷ [] → b2 ++ strings rest ≡ whole
+  string_pushed b b1 b2 bytes whole so is first second =
+      rw (second, first, is) (simp append_assoc (rw cut at so))
+
+  -- one more address, and what is left
+  pub address_pushed : (b b1 whole : List ℕ) (a n : ℕ) → n ≡ length x
+      → b ++ bytes_of_words (addresses a old) ≡ whole → b1 ≡ b ++ word_bytes a
+      → b1 ++ bytes_of_words (addresses (a + (n + 1)) rest) ≡ whole
+  address_pushed b b1 whole a n count so first =
+      let next : a + (n + 1) ≡ a + length x + 1 = omega arith in
+      rw (first, next) (append_assoc b (word_bytes a) _ ∙ (rw cut at so))
+
+  pub string_counted : (a n whole : ℕ) → n ≡ length x → a + length (strings old) ≡ whole
+      → a + (n + 1) + length (strings rest) ≡ whole
+  string_counted a n whole count so =
+      omega (arith, (rw cut at so), length-append x (0 ∷ strings rest))

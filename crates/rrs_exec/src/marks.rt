@@ -1,0 +1,87 @@
+//! The marks of pages: what a program may do with each.
+
+ghost use Rattle.std.specs.Prelude.{◌≡◌, ◌≤◌, ◌<◌, ◌^◌, ℕ, length, IfOk, slice_index_or};
+ghost use Rattle.rrs_exec.specs.Protection.{stronger, touches, mark_of, IsMarkedBy};
+
+use std::alloc::{AllocError, Global};
+
+/// The number of bytes of a page.
+pub const PAGE_BYTES: u32 = 4096;
+
+/// What a program may do with a page.
+#[derive(Clone, Copy, Debug, PartialEq)]
+pub enum Protection {
+    /// It is not mapped: no access is granted.
+    Unmapped,
+    /// It can be read, and fetched from.
+    ReadOnly,
+    /// It can be read and written.
+    Writable,
+}
+
+impl Protection {
+    /// The one of two that allows more.
+    fn or(self, other: Protection) -> Protection
+        ensures { result ≡ stronger self other }
+    {
+        match (self, other) {
+            (Protection::Writable, _) | (_, Protection::Writable) => Protection::Writable,
+            (Protection::ReadOnly, _) | (_, Protection::ReadOnly) => Protection::ReadOnly,
+            (Protection::Unmapped, Protection::Unmapped) => Protection::Unmapped,
+        }
+    }
+}
+
+/// Addresses that a program has, and what it may do with them.
+#[derive(Clone, Copy, Debug, PartialEq)]
+pub struct PageRange {
+    /// The first address.
+    pub start: u64,
+    /// The address behind the last.
+    pub end: u64,
+    /// What may be done there, and in the rest of each page that has one of the addresses.
+    pub protection: Protection,
+}
+
+impl PageRange {
+    /// Whether a page has one of the addresses.
+    fn touches(&self, page: u32) -> bool
+        ensures { result ≡ touches self.now page }
+    {
+        let start = u64::from(page) * 4096;
+        self.start < self.end && self.start < start + 4096 && start < self.end
+    }
+}
+
+/// What a program that has these addresses may do with a page: the most that one of them allows
+/// that lies in it.
+fn mark_of(ranges: &[PageRange], page: u32) -> Protection
+    ensures { result ≡ mark_of ranges.now page }
+{
+    let mut mark = Protection::Unmapped;
+    for range in ranges {
+        if range.touches(page) {
+            mark = mark.or(range.protection);
+        }
+    }
+    mark
+}
+
+/// The marks of so many pages, from address 0 on, for a program that has these addresses.
+///
+/// # Errors
+///
+/// Out of memory for the marks.
+pub fn marks_of(
+    alloc: Global,
+    ranges: &[PageRange],
+    pages: u32,
+) -> Result<Vec<Protection>, AllocError>
+    ensures { IfOk result (λ marks. IsMarkedBy ranges.now pages marks.items) }
+{
+    let mut marks = Vec::new(alloc);
+    for page in 0..pages {
+        marks.push(mark_of(ranges, page))?;
+    }
+    Ok(marks)
+}

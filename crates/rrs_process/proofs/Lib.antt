@@ -1,4 +1,0 @@
-pub mod Pages
-pub mod StackWords
-pub mod Filling
-pub mod Bounds

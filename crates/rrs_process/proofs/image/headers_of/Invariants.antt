@@ -1,6 +1,0 @@
-use Rattle.std.proofs.Common.{◌≡◌}
-use Rattle.rrs_process.specs.Images.{headers_at}
-use Rattle.rrs_process.proofs.image.headers_of.Given as goal
-
-abbrev pub invariant-loop-index : goal.invariant-loop-index
-invariant-loop-index l = l.address ≡ headers_at l.executable.file.now l.index
