@@ -22,7 +22,7 @@ CRATES = {
     "rrs_extra": "rrs-extra",
     "rrs_fast": "rrs-fast",
     "rrs_elf": "rrs-elf",
-    "rrs_privileged": "machine-mode",
+    "rrs_machine": "machine-mode",
     "rrs_oracle": "questions",
 }
 
@@ -36,7 +36,7 @@ LEFT_OUT = {
 # 2 ^ 31 times a variable is 2 ^ 31 sums to it. A program computes them; `refl` does not.
 OPAQUE = {
     "rrs_elf.Numbers": {"half", "word"},
-    "rrs_privileged.Csrs": {"both", "either"},
+    "rrs_machine.Csrs": {"both", "either"},
 }
 
 # The libraries of the toolchain: what is imported from one of them is a line of Prelude.agda.

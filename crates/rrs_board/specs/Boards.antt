@@ -1,9 +1,9 @@
--- A board, its steps and runs. A step of the hart is that of machine mode (rrs_privileged) over the
+-- A board, its steps and runs. A step of the hart is that of machine mode (rrs_machine) over the
 -- memory of the board. Then the devices answer to its access, and time goes on.
 use Rattle.std.specs.Prelude.{◌≡◌, ℕ, zero, suc, ◌+◌, ◌<◌, ◌≤◌, List, length, replicate, Option, Some, None}
 use Rattle.rrs_lib.specs.Accesses.{MakesExactly}
-use Rattle.rrs_privileged.specs.declared.machine.MachineAnswer.{MachineAnswer}
-use Rattle.rrs_privileged.specs.MachineSteps.{MachineState, machine_of, MachineStep, AccessesOfMachineStep}
+use Rattle.rrs_machine.specs.declared.machine.MachineAnswer.{MachineAnswer}
+use Rattle.rrs_machine.specs.MachineSteps.{MachineState, machine_of, MachineStep, AccessesOfMachineStep}
 use Rattle.rrs_board.specs.declared.board.Board.{Board}
 use Rattle.rrs_board.specs.declared.effects.BoardEvent.{BoardEvent}
 use Rattle.rrs_board.specs.declared.memory.BoardMemory.{BoardMemory}
@@ -13,7 +13,7 @@ use Rattle.rrs_elf.specs.Headers.{e_entry, e_phnum, p_vaddr}
 use Rattle.rrs_elf.specs.Loading.{Stands, loaded_size}
 use Rattle.rrs_memory.specs.SliceBytes.{bytes_from, lies_from}
 use Rattle.rrs_memory.specs.declared.memories.VecMemory.{VecMemory}
-use Rattle.rrs_privileged.specs.Csrs.{reset_file}
+use Rattle.rrs_machine.specs.Csrs.{reset_file}
 
 -- the machine that a board is, with this memory
 abbrev pub machine_with : Board → BoardMemory → MachineState

@@ -4,9 +4,9 @@
 -- on by 1 with each instruction that retires, and a `wfi` that waits goes forward to the alarm, which
 -- is mtimecmp. Of reset the manual says nothing of mtimecmp: it is 2 ^ 64 - 1, which is no alarm.
 use Rattle.std.specs.Prelude.{ℕ, ◌+◌, ◌-◌, ◌%◌, ◌^◌, ◌==◌, ◌&&◌, nat_le, nat_lt, Bool, if◌then◌else◌}
-use Rattle.rrs_privileged.specs.declared.csrs.CsrFile.{CsrFile}
-use Rattle.rrs_privileged.specs.declared.machine.MachineAnswer.{MachineAnswer}
-use Rattle.rrs_privileged.specs.declared.machine.MachineAnswer.TheVariants.{Raised, Interrupted}
+use Rattle.rrs_machine.specs.declared.csrs.CsrFile.{CsrFile}
+use Rattle.rrs_machine.specs.declared.machine.MachineAnswer.{MachineAnswer}
+use Rattle.rrs_machine.specs.declared.machine.MachineAnswer.TheVariants.{Raised, Interrupted}
 use Rattle.rrs_instruction.specs.Words.{bit}
 
 abbrev pub no_alarm : ℕ

@@ -1,10 +1,10 @@
 -- What the devices do between two steps: they answer to the access that the step made, and time goes
 -- on. What each of them is, is in Uart, Clint and Finisher.
 use Rattle.std.specs.Prelude.{ℕ, ◌+◌, ◌-◌, ◌*◌, ◌/◌, ◌%◌, ◌^◌, ◌==◌, ◌&&◌, ◌||◌, nat_lt, not, Bool, false, if◌then◌else◌, Option, Some, None}
-use Rattle.rrs_privileged.specs.declared.csrs.CsrFile.{CsrFile}
-use Rattle.rrs_privileged.specs.declared.csrs.Inputs.{Inputs}
-use Rattle.rrs_privileged.specs.declared.machine.MachineAnswer.{MachineAnswer}
-use Rattle.rrs_privileged.specs.declared.machine.MachineAnswer.TheVariants.{Waiting}
+use Rattle.rrs_machine.specs.declared.csrs.CsrFile.{CsrFile}
+use Rattle.rrs_machine.specs.declared.csrs.Inputs.{Inputs}
+use Rattle.rrs_machine.specs.declared.machine.MachineAnswer.{MachineAnswer}
+use Rattle.rrs_machine.specs.declared.machine.MachineAnswer.TheVariants.{Waiting}
 use Rattle.rrs_board.specs.declared.devices.Devices.{Devices}
 use Rattle.rrs_board.specs.declared.devices.DeviceAccess.{DeviceAccess}
 use Rattle.rrs_board.specs.declared.uart.Uart.{Uart}

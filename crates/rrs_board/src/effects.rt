@@ -7,7 +7,7 @@ ghost use Rattle.rrs_board.specs.Effects.{inputs_of, shown_word, showing, wrote,
 
 use crate::devices::{DeviceAccess, Devices};
 use crate::uart::Uart;
-use rrs_privileged::{CsrFile, Inputs, MachineAnswer};
+use rrs_machine::{CsrFile, Inputs, MachineAnswer};
 
 /// What a device has for the caller.
 #[derive(Debug, PartialEq, Clone, Copy)]

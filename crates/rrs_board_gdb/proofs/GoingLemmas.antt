@@ -1,7 +1,7 @@
 -- Steps of a board under gdb, one after another.
 use Rattle.std.proofs.Common.{◌≡◌, ℕ, zero, suc, ◌+◌, ◌≤◌, List, ◌++◌, Contains, Option, None, Result, Ok, Err, IfOk, refl, sym, subst, ap, ◌∙◌, arith, append-nil, append_assoc}
 use Rattle.std.specs.declared.alloc.AllocError.{AllocError}
-use Rattle.rrs_privileged.specs.declared.machine.MachineAnswer.{MachineAnswer}
+use Rattle.rrs_machine.specs.declared.machine.MachineAnswer.{MachineAnswer}
 use Rattle.rrs_board.specs.declared.board.Board.{Board}
 use Rattle.rrs_board.specs.declared.effects.BoardEvent.{BoardEvent}
 use Rattle.rrs_board.specs.Boards.{BoardStepped}

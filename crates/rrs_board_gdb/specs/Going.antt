@@ -2,7 +2,7 @@
 -- board's own steps, so that traps and interrupts are taken, up to a breakpoint. What a step tells is
 -- served: what the UART transmits is printed, and bytes of the input arrive at it.
 use Rattle.std.specs.Prelude.{◌≡◌, ℕ, zero, suc, ◌≤◌, true, List, [], ◌∷◌, ◌++◌, Contains, Option, Some, None}
-use Rattle.rrs_privileged.specs.declared.machine.MachineAnswer.{MachineAnswer}
+use Rattle.rrs_machine.specs.declared.machine.MachineAnswer.{MachineAnswer}
 use Rattle.rrs_board.specs.declared.board.Board.{Board}
 use Rattle.rrs_board.specs.declared.effects.BoardEvent.{BoardEvent}
 use Rattle.rrs_board.specs.declared.effects.BoardEvent.TheVariants as Event

@@ -6,8 +6,9 @@ use Rattle.rrs_lib.specs.declared.HartState.{HartState}
 use Rattle.rrs_lib.specs.Machine.{State, state_of}
 use Rattle.rrs_memory.specs.Bytes.{ByteMap}
 use Rattle.rrs_memory.specs.VecBytes.{vec_bytes, vec_writable}
-use Rattle.rrs_privileged.specs.declared.csrs.Csr.{Csr}
-use Rattle.rrs_privileged.specs.Csrs.{csr_at, is_read_only, csr_value, csr_written}
+use Rattle.rrs_words.specs.declared.csrs.Csr.{Csr}
+use Rattle.rrs_words.specs.CsrNumbers.{csr_at, is_read_only}
+use Rattle.rrs_machine.specs.Csrs.{csr_value, csr_written}
 use Rattle.rrs_board.specs.declared.board.Board.{Board}
 use Rattle.rrs_board.specs.Registers.{board_bytes, board_writable, ram_start}
 use Rattle.rrs_board.specs.Effects.{inputs_of}

@@ -7,8 +7,8 @@ ghost use Rattle.rrs_board_gdb.specs.Shown.{csr_shown, shown_register, csr_chang
 use rrs_board::Board;
 use rrs_gdb::{REGISTERS, push_word, register_value};
 use rrs_lib::HartState;
-use rrs_privileged::Csr;
-use rrs_privileged::csrs::is_read_only;
+use rrs_machine::Csr;
+use rrs_words::csrs::is_read_only;
 use std::alloc::AllocError;
 
 /// The number that gdb has for the CSR of number 0.

@@ -4,9 +4,8 @@ ghost use Rattle.std.specs.Prelude.{◌<◌};
 
 use crate::registers::FIRST_CSR;
 use rrs_gdb::{TARGET, cut, push_text};
-use rrs_privileged::Csr;
-use rrs_privileged::instructions::decode_system;
-use rrs_system::system_text;
+use rrs_machine::Csr;
+use rrs_words::{decode_system, system_text};
 use std::alloc::{AllocError, Global};
 
 /// What begins the description of a target.

@@ -1,23 +1,24 @@
 -- Machine mode, as C has it (RISC-V privileged specification 1.12, "Machine-Level CSRs": mcause has
 -- bit 31 and the code of an interrupt, or the code of an exception, whose value is what mtval gets;
 -- mip has a bit for each interrupt that is pending). A step is that of MachineSteps.antt of
--- rrs_privileged, and its record that of MachineRecords.antt of rrs_system.
+-- rrs_machine, and its record that of MachineRecords.antt of rrs_words.
 use Rattle.std.specs.Prelude.{◌≡◌, ◌<◌, ℕ, ◌+◌, ◌^◌, ◌==◌, if◌then◌else◌, List, Option, Some, None}
 use Rattle.rrs_lib.specs.Words.{bit}
-use Rattle.rrs_privileged.specs.declared.csrs.CsrFile.{CsrFile}
-use Rattle.rrs_privileged.specs.declared.csrs.Csr.{Csr}
-use Rattle.rrs_privileged.specs.declared.csrs.Inputs.{Inputs}
-use Rattle.rrs_privileged.specs.declared.traps.Exception.{Exception}
-use Rattle.rrs_privileged.specs.declared.traps.Exception.TheVariants.{InstructionMisaligned, InstructionFault, IllegalInstruction, Breakpoint, LoadMisaligned, LoadFault, StoreMisaligned, StoreFault, EnvironmentCall}
-use Rattle.rrs_privileged.specs.declared.traps.Interrupt.{Interrupt}
-use Rattle.rrs_privileged.specs.declared.traps.Interrupt.TheVariants.{External, Software, Timer}
-use Rattle.rrs_privileged.specs.declared.machine.MachineAnswer.{MachineAnswer}
-use Rattle.rrs_privileged.specs.declared.machine.MachineAnswer.TheVariants.{Retired, Waiting, Raised, Interrupted}
-use Rattle.rrs_privileged.specs.Csrs.{csr_at, is_read_only, csr_value, csr_written}
-use Rattle.rrs_privileged.specs.Traps.{exception_value}
-use Rattle.rrs_privileged.specs.MachineSteps.{MachineState, machine}
-use Rattle.rrs_system.specs.declared.retired.MachineRetired.{MachineRetired}
-use Rattle.rrs_system.specs.MachineRecords.{cause_of}
+use Rattle.rrs_machine.specs.declared.csrs.CsrFile.{CsrFile}
+use Rattle.rrs_words.specs.declared.csrs.Csr.{Csr}
+use Rattle.rrs_machine.specs.declared.csrs.Inputs.{Inputs}
+use Rattle.rrs_machine.specs.declared.traps.Exception.{Exception}
+use Rattle.rrs_machine.specs.declared.traps.Exception.TheVariants.{InstructionMisaligned, InstructionFault, IllegalInstruction, Breakpoint, LoadMisaligned, LoadFault, StoreMisaligned, StoreFault, EnvironmentCall}
+use Rattle.rrs_machine.specs.declared.traps.Interrupt.{Interrupt}
+use Rattle.rrs_machine.specs.declared.traps.Interrupt.TheVariants.{External, Software, Timer}
+use Rattle.rrs_machine.specs.declared.machine.MachineAnswer.{MachineAnswer}
+use Rattle.rrs_machine.specs.declared.machine.MachineAnswer.TheVariants.{Retired, Waiting, Raised, Interrupted}
+use Rattle.rrs_words.specs.CsrNumbers.{csr_at, is_read_only}
+use Rattle.rrs_machine.specs.Csrs.{csr_value, csr_written}
+use Rattle.rrs_machine.specs.Traps.{exception_value}
+use Rattle.rrs_machine.specs.MachineSteps.{MachineState, machine}
+use Rattle.rrs_machine.specs.declared.retired.MachineRetired.{MachineRetired}
+use Rattle.rrs_machine.specs.MachineRecords.{cause_of}
 use Rattle.rrs_c.specs.declared.hart.RrsHart.{RrsHart}
 use Rattle.rrs_c.specs.declared.machine.RrsCsrs.{RrsCsrs}
 use Rattle.rrs_c.specs.declared.machine.RrsCsr.{RrsCsr}

@@ -2,13 +2,12 @@
 
 ghost use Rattle.std.specs.Prelude.{◌≡◌, ℕ, Some, None, ◌==◌, if◌then◌else◌, Option};
 ghost use Rattle.rrs_trace.specs.Retired.{HasRegisterNumbers};
-ghost use Rattle.rrs_privileged.specs.Csrs.{csr_at};
+ghost use Rattle.rrs_words.specs.CsrNumbers.{csr_at};
 ghost use Rattle.rrs_c.specs.Machines.{csrs_in, inputs_in, machine_answer, IsOutcome, machine_retired_in, IsMachineRecord, csr_told, csr_to_write, file_after, was_written};
 
 use crate::retired::{RrsRetired, flag, word_and_flag, written_out};
-use rrs_privileged::csrs::is_read_only;
-use rrs_privileged::{Csr, CsrFile, Exception, Inputs, Interrupt, MachineAnswer};
-use rrs_system::MachineRetired;
+use rrs_machine::{Csr, CsrFile, Exception, Inputs, Interrupt, MachineAnswer, MachineRetired};
+use rrs_words::csrs::is_read_only;
 
 /// The CSRs of a hart, owned by the caller. All 0 is what they are at reset.
 #[repr(C)]

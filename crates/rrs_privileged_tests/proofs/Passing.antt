@@ -1,7 +1,7 @@
 -- Time that passes around a hart.
 use Rattle.std.proofs.Common.{◌≡◌, ℕ, zero, suc, ◌-◌, ◌&&◌, refl, sym, subst, ap, ◌∙◌, arith}
-use Rattle.rrs_privileged.specs.declared.csrs.Inputs.{Inputs}
-use Rattle.rrs_privileged.specs.Runs.{Telling, Tellings, SamePending}
+use Rattle.rrs_machine.specs.declared.csrs.Inputs.{Inputs}
+use Rattle.rrs_machine.specs.Runs.{Telling, Tellings, SamePending}
 use Rattle.rrs_privileged_tests.specs.declared.pulses.Pulse.{Pulse}
 use Rattle.rrs_privileged_tests.specs.Pulses.{later, is_on, told}
 

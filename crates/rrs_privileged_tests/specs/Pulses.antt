@@ -1,6 +1,6 @@
 -- Interrupts that are pending from one time to another. Time counts down to 0, a unit a step.
 use Rattle.std.specs.Prelude.{ℕ, ◌-◌, Bool, ◌&&◌, nat_lt, nat_le}
-use Rattle.rrs_privileged.specs.declared.csrs.Inputs.{Inputs}
+use Rattle.rrs_machine.specs.declared.csrs.Inputs.{Inputs}
 use Rattle.rrs_privileged_tests.specs.declared.pulses.Pulse.{Pulse}
 
 -- after so many steps

@@ -2,7 +2,7 @@
 
 use crate::steps::{START, holds_at, step_word};
 use rrs_lib::HartState;
-use rrs_privileged::{CsrFile, Exception, Inputs, MachineAnswer};
+use rrs_machine::{CsrFile, Exception, Inputs, MachineAnswer};
 use std::alloc::{AllocError, Global};
 use std::test::Fail;
 

@@ -4,7 +4,7 @@
 use crate::steps::{holds_at, step_over};
 use rrs_lib::HartState;
 use rrs_lib::memories::VecMemory;
-use rrs_privileged::{CsrFile, Inputs};
+use rrs_machine::{CsrFile, Inputs};
 use std::alloc::{AllocError, Global};
 use std::test::Fail;
 

@@ -9,7 +9,7 @@ use rrs_fast::CachedMemory;
 use rrs_lib::instruction_executor::InstructionExecutor;
 use rrs_lib::memories::{MemorySpace, VecMemory};
 use rrs_lib::{HartState, MemAccessSize, Memory};
-use rrs_privileged::{CsrFile, Inputs, MachineEnd, run_machine, run_machine_cached};
+use rrs_machine::{CsrFile, Inputs, MachineEnd, run_machine, run_machine_cached};
 use std::alloc::{AllocError, Global};
 use std::test::Fail;
 

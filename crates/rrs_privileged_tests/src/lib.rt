@@ -1,4 +1,4 @@
-//! The tests of `rrs_privileged` and `rrs_system`, written as a user's crate would be.
+//! The tests of `rrs_machine` and `rrs_words`, written as a user's crate would be.
 //!
 //! Each CSR by each of the six instructions, each trap, interrupts, runs, generated programs beside a
 //! model, and the words and texts of the instructions. The answers are those of the RISC-V

@@ -3,7 +3,7 @@
 ghost use Rattle.std.specs.Prelude.{◌≡◌, ◌<◌, ℕ};
 ghost use Rattle.rrs_privileged_tests.specs.Pulses.{is_on, later, told};
 
-use rrs_privileged::{ForeseeableSurroundings, Inputs, Outlook, Surroundings};
+use rrs_machine::{ForeseeableSurroundings, Inputs, Outlook, Surroundings};
 
 /// Interrupts that are pending from one time to another. Time counts down to 0, a unit a step.
 #[derive(Debug, PartialEq, Clone, Copy)]

@@ -3,7 +3,7 @@
 use rrs_lib::HartState;
 use rrs_lib::instruction_executor::InstructionExecutor;
 use rrs_lib::memories::VecMemory;
-use rrs_privileged::{CsrFile, Inputs, MachineAnswer, Surroundings, run_machine, step_machine};
+use rrs_machine::{CsrFile, Inputs, MachineAnswer, Surroundings, run_machine, step_machine};
 use std::alloc::{AllocError, Global};
 use std::process::Abort;
 use std::test::Fail;

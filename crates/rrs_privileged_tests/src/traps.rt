@@ -2,7 +2,7 @@
 
 use crate::steps::{QUIET, START, holds_at, step_word};
 use rrs_lib::HartState;
-use rrs_privileged::{CsrFile, Inputs, Interrupt, MachineAnswer};
+use rrs_machine::{CsrFile, Inputs, Interrupt, MachineAnswer};
 use std::alloc::{AllocError, Global};
 use std::test::Fail;
 

@@ -3,10 +3,9 @@
 use crate::steps::holds_at;
 use rrs_lib::instruction::decode;
 use rrs_lib::instruction_formats::IType;
-use rrs_privileged::instructions::decode_system;
-use rrs_privileged::{SystemInstruction, SystemRow};
-use rrs_system::laws::{decode_of_encode, encode_of_decode};
-use rrs_system::{encode_system, system_text};
+use rrs_machine::{SystemInstruction, SystemRow};
+use rrs_words::laws::{decode_of_encode, encode_of_decode};
+use rrs_words::{decode_system, encode_system, system_text};
 
 /// Words, and their texts as `objdump` writes them with `-M numeric,no-aliases`: each CSR of the
 /// tables, the counters of the performance monitor at both ends, numbers that have no name, and

@@ -35,12 +35,12 @@ pub use rrs_elf as elf;
 /// Machine mode: CSRs, traps and interrupts.
 #[cfg(feature = "machine")]
 pub mod machine {
-    pub use rrs_privileged::*;
+    pub use rrs_machine::*;
 
     /// A board with a UART and a timer.
     pub use rrs_board as board;
     /// The words and texts of the instructions of machine mode, and records of its steps.
-    pub use rrs_system as system;
+    pub use rrs_words as system;
 }
 
 /// The calls of Linux.

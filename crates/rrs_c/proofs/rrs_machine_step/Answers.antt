@@ -1,12 +1,12 @@
 -- The step is the kit's, over the same hart and the same words, and a state has one.
 use Rattle.std.proofs.Common.{◌==◌, rules, sym}
-use Rattle.rrs_privileged.specs.declared.csrs.CsrFile.{CsrFile}
-use Rattle.rrs_privileged.specs.declared.csrs.Inputs.{Inputs}
-use Rattle.rrs_privileged.specs.declared.machine.MachineAnswer.{MachineAnswer}
-use Rattle.rrs_privileged.specs.MachineSteps.{machine, MachineStep}
-use Rattle.rrs_privileged.proofs.MachineStepping.{MachineStep-unique}
-use Rattle.rrs_system.specs.declared.retired.MachineRetired.{MachineRetired}
-use Rattle.rrs_system.specs.MachineRecords.{MachineRetires}
+use Rattle.rrs_machine.specs.declared.csrs.CsrFile.{CsrFile}
+use Rattle.rrs_machine.specs.declared.csrs.Inputs.{Inputs}
+use Rattle.rrs_machine.specs.declared.machine.MachineAnswer.{MachineAnswer}
+use Rattle.rrs_machine.specs.MachineSteps.{machine, MachineStep}
+use Rattle.rrs_machine.proofs.MachineStepping.{MachineStep-unique}
+use Rattle.rrs_machine.specs.declared.retired.MachineRetired.{MachineRetired}
+use Rattle.rrs_machine.specs.MachineRecords.{MachineRetires}
 use Rattle.rrs_lib.specs.Machine.{State}
 use Rattle.rrs_c.specs.Machines.{csrs_in, inputs_in, machine_answer, machine_retired_in}
 use Rattle.rrs_c.proofs.Carrying.{carried}

@@ -1,6 +1,6 @@
 -- So many steps pass at once.
 use Rattle.std.proofs.Common.{subst, sym}
-use Rattle.rrs_privileged.specs.Runs.{Tellings}
+use Rattle.rrs_machine.specs.Runs.{Tellings}
 use Rattle.rrs_privileged_tests.specs.declared.pulses.Pulse.{Pulse}
 use Rattle.rrs_privileged_tests.proofs.Passing.{tells, passing}
 use Rattle.rrs_privileged_tests.proofs.pulses.PulseForeseeableSurroundings.pass.Goals as goal

@@ -1,0 +1,11 @@
+-- Lemmas of this crate.
+pub mod MachineStepping
+pub mod Straying
+pub mod MachineRuns
+pub mod MachineLaws
+pub mod Returning
+pub mod KitRuns
+pub mod Counting
+pub mod Halted
+pub mod Legs
+pub mod TracedSteps

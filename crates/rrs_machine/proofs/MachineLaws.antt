@@ -1,0 +1,224 @@
+-- Laws of a step with machine mode.
+use Rattle.std.proofs.Common.{◌≡◌, ◌≢◌, ℕ, ◌+◌, ◌%◌, ◌^◌, ◌==◌, ◌&&◌, Bool, true, false, if◌then◌else◌, Option, Some, None, Ok, refl, sym, subst, ap, ◌∙◌}
+use Rattle.rrs_instruction.specs.declared.instruction_formats.IType.{IType}
+use Rattle.rrs_machine.specs.declared.csrs.CsrFile.{CsrFile}
+use Rattle.rrs_words.specs.declared.csrs.Csr.{Csr}
+use Rattle.rrs_words.specs.declared.csrs.Csr.TheVariants.{Mcycle, Mcycleh, Minstret, Minstreth}
+use Rattle.rrs_machine.specs.declared.csrs.Inputs.{Inputs}
+use Rattle.rrs_words.specs.declared.instructions.SystemRow.{SystemRow}
+use Rattle.rrs_words.specs.declared.instructions.SystemRow.TheVariants.{Mret, Wfi, FenceI}
+use Rattle.rrs_machine.specs.declared.traps.Exception.TheVariants.{IllegalInstruction, InstructionMisaligned}
+use Rattle.rrs_machine.specs.declared.traps.Interrupt.{Interrupt}
+use Rattle.rrs_machine.specs.declared.machine.MachineAnswer.{MachineAnswer}
+use Rattle.rrs_machine.specs.declared.machine.MachineAnswer.TheVariants.{Retired, Waiting, Raised, Interrupted}
+use Rattle.rrs_instruction.specs.Words.{bit}
+use Rattle.rrs_lib.specs.Machine.{State}
+use Rattle.rrs_lib.specs.Steps.{Step, next_word}
+use Rattle.rrs_words.specs.CsrNumbers.{csr_at, is_read_only}
+use Rattle.rrs_machine.specs.Csrs.{csr_written, cycle_counted, instruction_counted, retired_file, counted_beside}
+use Rattle.rrs_words.specs.SystemInstructions.{csr_number, writes_csr}
+use Rattle.rrs_machine.specs.Traps.{ready_interrupt, trap_file, return_file, exception_of}
+use Rattle.rrs_machine.specs.MachineSteps.{MachineState, MachineOutcome, ends, trapped, raises, accessed, csr_outcome, passed, wait_answer, system_outcome, IsNoSystem, Retires, Strays, Faults, Executes, MachineStep, Interrupts, Proceeds}
+use Rattle.rrs_machine.specs.Laws.{KeepsValues, KeepsUnlessRetired, WritesNeither, instructions_after, cycles_after}
+
+-- ---- what a trap keeps
+
+trap_keeps : (cause value target : ℕ) (s t : MachineState) → t ≡ trapped cause value target s → KeepsValues s.hart t.hart
+trap_keeps cause value target s t after = record {
+  registers_kept = ap (λ (x : MachineState). x.hart.registers) after;
+  bytes_kept = ap (λ (x : MachineState). x.hart.bytes) after;
+  writable_kept = ap (λ (x : MachineState). x.hart.writable) after;
+}
+
+-- an outcome keeps the values, unless an instruction retired
+abbrev Keeping : MachineState → MachineOutcome → Type 0
+Keeping s o = KeepsUnlessRetired o.answer s.hart o.after.hart
+
+raises_keeps : (w : ℕ) (s : MachineState) → Keeping s (raises (IllegalInstruction w) s)
+raises_keeps w s = record { registers_kept = refl; bytes_kept = refl; writable_kept = refl }
+
+choice_keeps : (b : Bool) (s t : MachineState) (x : MachineOutcome) → Keeping s x → Keeping s (if b then x else ends t Retired)
+choice_keeps true s t x keeps = keeps
+choice_keeps false s t x keeps = tt
+
+csr_keeps : (row : SystemRow) (f : IType) (w : ℕ) (csr : Option Csr) (i : Inputs) (s : MachineState) → Keeping s (csr_outcome row f w csr i s)
+csr_keeps row f w None i s = raises_keeps w s
+csr_keeps row f w (Some csr) i s =
+    choice_keeps (writes_csr row f && is_read_only (csr_number f)) s (accessed row f csr i s) (raises (IllegalInstruction w) s) (raises_keeps w s)
+
+wait_keeps : (x : Option Interrupt) (s : MachineState) → Keeping s (ends (passed s) (wait_answer x))
+wait_keeps (Some x) s = tt
+wait_keeps None s = record { registers_kept = refl; bytes_kept = refl; writable_kept = refl }
+
+system_keeps : (row : SystemRow) (f : IType) (w : ℕ) (i : Inputs) (s : MachineState) → Keeping s (system_outcome row f w i s)
+system_keeps Mret f w i s = tt
+system_keeps Wfi f w i s = wait_keeps (ready_interrupt s.csrs i) s
+system_keeps FenceI f w i s = tt
+system_keeps row f w i s = csr_keeps row f w (csr_at (csr_number f)) i s
+
+by_answer : (a b : MachineAnswer) (s t : State) → a ≡ b → KeepsUnlessRetired b s t → KeepsUnlessRetired a s t
+by_answer a b s t is keeps = subst (λ x. KeepsUnlessRetired x s t) (sym is) keeps
+
+pub step_keeps : (i : Inputs) (s t : MachineState) (a : MachineAnswer) → MachineStep i s t a → KeepsUnlessRetired a s.hart t.hart
+step_keeps i s t a (Interrupts x due after is) = by_answer a _ s.hart t.hart is (trap_keeps _ _ _ s t after)
+step_keeps i s t a (Proceeds none (Retires u step even after is)) = by_answer a Retired s.hart t.hart is tt
+step_keeps i s t a (Proceeds none (Strays u step odd after is)) = by_answer a _ s.hart t.hart is (trap_keeps _ _ _ s t after)
+step_keeps i s t a (Proceeds none (Faults u e step spares after is)) = by_answer a _ s.hart t.hart is (trap_keeps _ _ _ s t after)
+step_keeps i s t a (Proceeds none (Executes w row f h outside is leaves)) =
+    subst (Keeping s) (sym leaves) (system_keeps row f w i s)
+
+-- ---- a step of the kit
+
+pub step_of_kit : (i : Inputs) (s t : MachineState) (a : MachineAnswer) → MachineStep i s t a → a ≡ Retired → IsNoSystem s.hart
+    → Step s.hart t.hart (Ok tt)
+step_of_kit i s t a (Interrupts x due after is) retired spares = absurd (cc)
+step_of_kit i s t a (Proceeds none (Retires u step even after is)) retired spares =
+    subst (λ (x : MachineState). Step s.hart x.hart (Ok tt)) (sym after) step
+step_of_kit i s t a (Proceeds none (Strays u step odd after is)) retired spares = absurd (cc)
+step_of_kit i s t a (Proceeds none (Faults u e step spares' after is)) retired spares = absurd (cc)
+step_of_kit i s t a (Proceeds none (Executes w row f h outside is leaves)) retired spares = absurd (spares w row f h outside is)
+
+-- ---- the counters
+
+-- a choice between files that differ in another field
+other_minstret : (b : Bool) (f : CsrFile) (n : ℕ) → (if b then f else record f { mcycle = n }).minstret ≡ f.minstret
+other_minstret true f n = refl
+other_minstret false f n = refl
+
+other_mcycle : (b : Bool) (f : CsrFile) (n : ℕ) → (if b then f else record f { minstret = n }).mcycle ≡ f.mcycle
+other_mcycle true f n = refl
+other_mcycle false f n = refl
+
+other_inhibit : (b : Bool) (f : CsrFile) (n : ℕ) → (if b then f else record f { mcycle = n }).mcountinhibit ≡ f.mcountinhibit
+other_inhibit true f n = refl
+other_inhibit false f n = refl
+
+cycle-minstret : (f : CsrFile) → (cycle_counted f).minstret ≡ f.minstret
+cycle-minstret f = other_minstret (bit f.mcountinhibit 0 == 1) f ((f.mcycle + 1) % 2 ^ 64)
+
+cycle-mcycle : (f : CsrFile) → bit f.mcountinhibit 0 ≡ 0 → (cycle_counted f).mcycle ≡ (f.mcycle + 1) % 2 ^ 64
+cycle-mcycle f on = ap (λ n. (if n == 1 then f else record f { mcycle = (f.mcycle + 1) % 2 ^ 64 }).mcycle) on
+
+instruction-mcycle : (f : CsrFile) → (instruction_counted f).mcycle ≡ f.mcycle
+instruction-mcycle f = other_mcycle (bit f.mcountinhibit 2 == 1) f ((f.minstret + 1) % 2 ^ 64)
+
+instruction-minstret : (f : CsrFile) → bit f.mcountinhibit 2 ≡ 0 → (instruction_counted f).minstret ≡ (f.minstret + 1) % 2 ^ 64
+instruction-minstret f on = ap (λ n. (if n == 1 then f else record f { minstret = (f.minstret + 1) % 2 ^ 64 }).minstret) on
+
+retired-minstret : (f : CsrFile) → bit f.mcountinhibit 2 ≡ 0 → (retired_file f).minstret ≡ (f.minstret + 1) % 2 ^ 64
+retired-minstret f on =
+    let same = other_inhibit (bit f.mcountinhibit 0 == 1) f ((f.mcycle + 1) % 2 ^ 64) in
+    instruction-minstret (cycle_counted f) (ap (λ n. bit n 2) same ∙ on) ∙ ap (λ n. (n + 1) % 2 ^ 64) (cycle-minstret f)
+
+retired-mcycle : (f : CsrFile) → bit f.mcountinhibit 0 ≡ 0 → (retired_file f).mcycle ≡ (f.mcycle + 1) % 2 ^ 64
+retired-mcycle f on = instruction-mcycle (cycle_counted f) ∙ cycle-mcycle f on
+
+written-minstret : (csr : Csr) (v : ℕ) (f : CsrFile) → (csr ≢ Minstret) × (csr ≢ Minstreth) → bit f.mcountinhibit 2 ≡ 0
+    → (csr_written csr v (counted_beside csr f)).minstret ≡ (f.minstret + 1) % 2 ^ 64
+written-minstret Mcycle v f spares on = instruction-minstret f on
+written-minstret Mcycleh v f spares on = instruction-minstret f on
+written-minstret Minstret v f spares on = absurd (spares.0 refl)
+written-minstret Minstreth v f spares on = absurd (spares.1 refl)
+written-minstret _ v f spares on = retired-minstret f on
+
+written-mcycle : (csr : Csr) (v : ℕ) (f : CsrFile) → (csr ≢ Mcycle) × (csr ≢ Mcycleh) → bit f.mcountinhibit 0 ≡ 0
+    → (csr_written csr v (counted_beside csr f)).mcycle ≡ (f.mcycle + 1) % 2 ^ 64
+written-mcycle Mcycle v f spares on = absurd (spares.0 refl)
+written-mcycle Mcycleh v f spares on = absurd (spares.1 refl)
+written-mcycle Minstret v f spares on = cycle-mcycle f on
+written-mcycle Minstreth v f spares on = cycle-mcycle f on
+written-mcycle _ v f spares on = retired-mcycle f on
+
+-- a trap is taken
+abbrev IsTrap : MachineAnswer → Type 0
+IsTrap (Raised x) = Unit {0}
+IsTrap (Interrupted x) = Unit {0}
+IsTrap _ = ⊥
+
+-- What a counter is after a step, by what it is after each way to count. The two CSRs are its halves.
+module _ (counter : CsrFile → ℕ) (after : MachineAnswer → ℕ → ℕ) (low high : Csr) (s : MachineState)
+    (at_trap : (cause value : ℕ) (a : MachineAnswer) → IsTrap a
+    → counter (cycle_counted (trap_file cause value s.hart.pc s.csrs)) ≡ after a (counter s.csrs))
+    (at_wait : counter (retired_file s.csrs) ≡ after Waiting (counter s.csrs))
+    (at_retired : counter (retired_file s.csrs) ≡ after Retired (counter s.csrs))
+    (at_return : counter (retired_file (return_file s.csrs)) ≡ after Retired (counter s.csrs))
+    (at_written : (csr : Csr) (v : ℕ) → (csr ≢ low) × (csr ≢ high)
+    → counter (csr_written csr v (counted_beside csr s.csrs)) ≡ after Retired (counter s.csrs)) where
+  abbrev Counts : MachineOutcome → Type 0
+  Counts o = counter o.after.csrs ≡ after o.answer (counter s.csrs)
+
+  if_written : (b : Bool) (csr : Csr) (v : ℕ) → (b ≡ true → (csr ≢ low) × (csr ≢ high))
+      → counter (if b then csr_written csr v (counted_beside csr s.csrs) else retired_file s.csrs) ≡ after Retired (counter s.csrs)
+  if_written true csr v spares = at_written csr v (spares refl)
+  if_written false csr v spares = at_retired
+
+  if_allowed : (b : Bool) (w : ℕ) (t : MachineState) → Counts (ends t Retired)
+      → Counts (if b then raises (IllegalInstruction w) s else ends t Retired)
+  if_allowed true w t counts = at_trap 2 w (Raised (IllegalInstruction w)) tt
+  if_allowed false w t counts = counts
+
+  csr_counts : (row : SystemRow) (f : IType) (w : ℕ) (o : Option Csr) (i : Inputs)
+      → ((csr : Csr) → writes_csr row f ≡ true → o ≡ Some csr → (csr ≢ low) × (csr ≢ high)) → Counts (csr_outcome row f w o i s)
+  csr_counts row f w None i spares = at_trap 2 w (Raised (IllegalInstruction w)) tt
+  csr_counts row f w (Some csr) i spares =
+      if_allowed (writes_csr row f && is_read_only (csr_number f)) w (accessed row f csr i s)
+      (if_written (writes_csr row f) csr _ (λ writes. spares csr writes refl))
+
+  wait_counts : (x : Option Interrupt) → Counts (ends (passed s) (wait_answer x))
+  wait_counts (Some x) = at_retired
+  wait_counts None = at_wait
+
+  system_counts : (row : SystemRow) (f : IType) (w : ℕ) (i : Inputs)
+      → ((csr : Csr) → writes_csr row f ≡ true → csr_at (csr_number f) ≡ Some csr → (csr ≢ low) × (csr ≢ high))
+      → Counts (system_outcome row f w i s)
+  system_counts Mret f w i spares = at_return
+  system_counts Wfi f w i spares = wait_counts (ready_interrupt s.csrs i)
+  system_counts FenceI f w i spares = at_retired
+  system_counts row f w i spares = csr_counts row f w (csr_at (csr_number f)) i spares
+
+  trap_counts : (cause value target : ℕ) (t : MachineState) (a b : MachineAnswer) → t ≡ trapped cause value target s → a ≡ b → IsTrap b
+      → counter t.csrs ≡ after a (counter s.csrs)
+  trap_counts cause value target t a b leaves is trap =
+      ap (λ (x : MachineState). counter x.csrs) leaves ∙ at_trap cause value b trap ∙ ap (λ y. after y (counter s.csrs)) (sym is)
+
+  step_counts : (i : Inputs) (t : MachineState) (a : MachineAnswer) → MachineStep i s t a → WritesNeither low high s.hart
+      → counter t.csrs ≡ after a (counter s.csrs)
+  step_counts i t a (Interrupts x due leaves is) spares = trap_counts _ _ _ t a (Interrupted x) leaves is tt
+  step_counts i t a (Proceeds none (Retires u step even leaves is)) spares =
+      ap (λ (x : MachineState). counter x.csrs) leaves ∙ at_retired ∙ ap (λ y. after y (counter s.csrs)) (sym is)
+  step_counts i t a (Proceeds none (Strays u step odd leaves is)) spares =
+      trap_counts _ _ _ t a (Raised (InstructionMisaligned u.pc)) leaves is tt
+  step_counts i t a (Proceeds none (Faults u e step spares' leaves is)) spares =
+      trap_counts _ _ _ t a (Raised (exception_of (next_word s.hart) e)) leaves is tt
+  step_counts i t a (Proceeds none (Executes w row f h outside is leaves)) spares =
+      subst Counts (sym leaves) (system_counts row f w i (λ csr. spares w row f csr h is))
+
+-- minstret counts the instructions that retire
+pub step_minstret : (i : Inputs) (s t : MachineState) (a : MachineAnswer) → MachineStep i s t a → bit s.csrs.mcountinhibit 2 ≡ 0
+    → WritesNeither Minstret Minstreth s.hart → t.csrs.minstret ≡ instructions_after a s.csrs.minstret
+step_minstret i s t a step on spares =
+    step_counts (λ f. f.minstret) instructions_after Minstret Minstreth s
+    at_trap (retired-minstret s.csrs on) (retired-minstret s.csrs on) (retired-minstret (return_file s.csrs) on)
+    (λ csr v other. written-minstret csr v s.csrs other on) i t a step spares
+  where
+    at_trap : (cause value : ℕ) (a : MachineAnswer) → IsTrap a
+        → (cycle_counted (trap_file cause value s.hart.pc s.csrs)).minstret ≡ instructions_after a s.csrs.minstret
+    at_trap cause value (Raised x) trap = cycle-minstret (trap_file cause value s.hart.pc s.csrs)
+    at_trap cause value (Interrupted x) trap = cycle-minstret (trap_file cause value s.hart.pc s.csrs)
+    at_trap cause value Retired trap = absurd trap
+    at_trap cause value Waiting trap = absurd trap
+
+-- mcycle counts the steps
+pub step_mcycle : (i : Inputs) (s t : MachineState) (a : MachineAnswer) → MachineStep i s t a → bit s.csrs.mcountinhibit 0 ≡ 0
+    → WritesNeither Mcycle Mcycleh s.hart → t.csrs.mcycle ≡ cycles_after a s.csrs.mcycle
+step_mcycle i s t a step on spares =
+    step_counts (λ f. f.mcycle) cycles_after Mcycle Mcycleh s
+    at_trap (retired-mcycle s.csrs on) (retired-mcycle s.csrs on) (retired-mcycle (return_file s.csrs) on)
+    (λ csr v other. written-mcycle csr v s.csrs other on) i t a step spares
+  where
+    at_trap : (cause value : ℕ) (a : MachineAnswer) → IsTrap a
+        → (cycle_counted (trap_file cause value s.hart.pc s.csrs)).mcycle ≡ cycles_after a s.csrs.mcycle
+    at_trap cause value (Raised x) trap = cycle-mcycle (trap_file cause value s.hart.pc s.csrs) on
+    at_trap cause value (Interrupted x) trap = cycle-mcycle (trap_file cause value s.hart.pc s.csrs) on
+    at_trap cause value Retired trap = absurd trap
+    at_trap cause value Waiting trap = absurd trap

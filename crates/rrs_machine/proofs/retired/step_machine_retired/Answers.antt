@@ -1,0 +1,52 @@
+-- What was seen is what is told.
+use Rattle.std.proofs.Common.{rules, refl, subst}
+use Rattle.rrs_lib.specs.Machine.{state_of}
+use Rattle.rrs_machine.specs.MachineSteps.{machine}
+use Rattle.rrs_machine.specs.MachineRecords.{HasSourcesOf, HasCsrAccess}
+use Rattle.rrs_machine.proofs.MachineStepping.{MachineStep-unique}
+use Rattle.rrs_machine.proofs.TracedSteps.{machine_last}
+use Rattle.rrs_machine.proofs.retired.step_machine_retired.Goals as goal
+
+pub number_of-rd_addr-requires : goal.number_of-rd_addr-requires
+number_of-rd_addr-requires g c = machine_last _ _ _ _ c.see_step-seen.ensures.step
+
+pub returns-clause-only : goal.returns-clause-only
+returns-clause-only g c = λ t answer other. MachineStep-unique _ _ t _ answer _ other c.see_step-seen.ensures.step
+
+pub returns-clause-retires : goal.returns-clause-retires
+returns-clause-retires g c =
+    let memory = g.M.Memory in
+    let e = c.args.executor.now in
+    let i = c.args.inputs.now in
+    let file = c.args.csrs.now in
+    let seen = c.see_step-seen.ensures in
+    let answer = c.see_step-seen.result.answer in
+    let s = state_of e.hart_state.now (memory.bytes e.mem.now) (memory.writable e.mem.now) in
+    let made = c.see_step-seen.new in
+    let t = state_of made.hart (memory.bytes made.mem) (memory.writable made.mem) in
+    let told = c.sources_of-rs1_addr.ensures in
+    let sources : HasSourcesOf c.see_step-seen.result.insn c.sources_of-rs1_addr.result.0 c.sources_of-rs1_addr.result.1 = record {
+      of_row = told.of_row;
+      of_system = told.of_system;
+      of_illegal = told.of_illegal;
+      of_none = told.of_none;
+    } in
+    record {
+      valid_is = search rules;
+      intr_is = search rules;
+      mode_is = refl;
+      cause_is = search rules;
+      order_is = refl;
+      insn_is = seen.insn;
+      trap_is = search rules;
+      pc_before = refl;
+      pc_after = refl;
+      sources = subst (λ x. HasSourcesOf x c.sources_of-rs1_addr.result.0 c.sources_of-rs1_addr.result.1) seen.insn sources;
+      first_value = c.value_of.ensures s refl;
+      second_value = c.value_of-2.ensures s refl;
+      written = c.number_of-rd_addr.ensures.number;
+      written_value = c.value_of-3.ensures t refl;
+      access = seen.access;
+      csr = subst (λ x. HasCsrAccess x answer i (machine s file) c.csr_of_step-csr.result) seen.insn
+          (c.csr_of_step-csr.ensures s refl);
+    }

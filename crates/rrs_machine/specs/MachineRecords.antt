@@ -1,0 +1,136 @@
+-- What a step of a hart with machine mode retires, in the shape of RVFI, the RISC-V Formal
+-- Interface: beside what a step of the kit retires whether it is an instruction, whether it is the
+-- first one of a handler, its mode, the cause of its trap, and the CSR that it read and wrote.
+use Rattle.std.specs.Prelude.{◌≡◌, ◌≢◌, ℕ, ◌+◌, ◌-◌, ◌^◌, ◌==◌, ◌&&◌, List, Bool, true, false, not, if◌then◌else◌, Option, Some, None}
+use Rattle.rrs_instruction.specs.declared.instruction_formats.IType.{IType}
+use Rattle.rrs_words.specs.declared.csrs.Csr.{Csr}
+use Rattle.rrs_machine.specs.declared.csrs.Inputs.{Inputs}
+use Rattle.rrs_words.specs.declared.instructions.SystemRow.{SystemRow}
+use Rattle.rrs_words.specs.declared.instructions.SystemRow.TheVariants.{Csrrw, Csrrs, Csrrc, Mret, Wfi, FenceI}
+use Rattle.rrs_machine.specs.declared.traps.Interrupt.{Interrupt}
+use Rattle.rrs_machine.specs.declared.machine.MachineAnswer.{MachineAnswer}
+use Rattle.rrs_machine.specs.declared.machine.MachineAnswer.TheVariants.{Retired, Raised, Interrupted}
+use Rattle.rrs_machine.specs.declared.retired.CsrAccess.{CsrAccess}
+use Rattle.rrs_machine.specs.declared.retired.MachineRetired.{MachineRetired}
+use Rattle.rrs_instruction.specs.Encodings.{Fields}
+use Rattle.rrs_instruction.specs.Table.{Row, Decodes, IsIllegal}
+use Rattle.rrs_lib.specs.Machine.{State, reg}
+use Rattle.rrs_lib.specs.Steps.{next_word}
+use Rattle.rrs_lib.specs.Accesses.{Access}
+use Rattle.rrs_trace.specs.Retired.{first_source, second_source, last_of, after_fetch}
+use Rattle.rrs_words.specs.CsrNumbers.{both, csr_at, written_bits}
+use Rattle.rrs_machine.specs.Csrs.{csr_value}
+use Rattle.rrs_words.specs.SystemInstructions.{IsSystem, csr_number, always_writes, writes_csr, updated}
+use Rattle.rrs_machine.specs.Traps.{exception_code, interrupt_code, interrupt_due}
+use Rattle.rrs_machine.specs.MachineSteps.{MachineState, operand_of, AccessesOfMachineStep}
+
+-- ---- the word
+
+-- the word that is fetched: none where an interrupt is taken
+abbrev pub word_unless : Option Interrupt → State → Option ℕ
+word_unless None h = next_word h
+word_unless (Some x) h = None
+
+abbrev pub word_of_step : Inputs → MachineState → Option ℕ
+word_of_step i s = word_unless (interrupt_due s.csrs i) s.hart
+
+-- ---- the registers
+
+-- the source register of an instruction that the 48 rows leave out, or 0
+abbrev pub system_source : SystemRow → IType → ℕ
+system_source Csrrw f = f.rs1
+system_source Csrrs f = f.rs1
+system_source Csrrc f = f.rs1
+system_source _ f = 0
+
+-- the source registers of a word: 0 where there is no word, or it is no instruction
+pub record HasSourcesOf (word : Option ℕ) (rs1 rs2 : ℕ) : Type 0 where
+  pub of_row : (w : ℕ) (row : Row) (f : Fields) → word ≡ Some w → Decodes w row f
+      → (rs1 ≡ first_source f) × (rs2 ≡ second_source f)
+  pub of_system : (w : ℕ) (row : SystemRow) (f : IType)
+      → word ≡ Some w → IsIllegal w → IsSystem w row f
+      → (rs1 ≡ system_source row f) × (rs2 ≡ 0)
+  pub of_illegal : (w : ℕ) → word ≡ Some w → IsIllegal w
+      → ((row : SystemRow) (f : IType) → ¬ IsSystem w row f) → (rs1 ≡ 0) × (rs2 ≡ 0)
+  pub of_none : word ≡ None → (rs1 ≡ 0) × (rs2 ≡ 0)
+
+-- ---- the CSR
+
+-- csrrw and csrrwi read no CSR where rd is x0; the others read it always
+abbrev pub reads_csr : SystemRow → IType → Bool
+reads_csr row f = if always_writes row then not (f.rd == 0) else true
+
+-- the instructions on a CSR
+abbrev pub is_on_csr : SystemRow → Bool
+is_on_csr Mret = false
+is_on_csr Wfi = false
+is_on_csr FenceI = false
+is_on_csr _ = true
+
+abbrev pub no_csr : CsrAccess
+no_csr = record { addr = 0; rmask = 0; wmask = 0; rdata = 0; wdata = 0 }
+
+-- What was read and what was written of a CSR, each with the bits that were: a read takes all bits,
+-- and a write those that the CSR has written.
+abbrev pub csr_access : SystemRow → IType → Csr → ℕ → ℕ → CsrAccess
+csr_access row f csr old operand = record {
+  addr = csr_number f;
+  rmask = if reads_csr row f then 2 ^ 32 - 1 else 0;
+  wmask = if writes_csr row f then written_bits csr else 0;
+  rdata = if reads_csr row f then old else 0;
+  wdata = if writes_csr row f then both (updated row old operand) (written_bits csr) else 0;
+}
+
+-- What a step from s accessed of a CSR that fetched a word, or none: an instruction on a CSR that
+-- retires accesses it, and no other one does.
+pub record HasCsrAccess (word : Option ℕ) (answer : MachineAnswer) (i : Inputs) (s : MachineState)
+    (r : CsrAccess) : Type 0 where
+  pub of_csr : (w : ℕ) (row : SystemRow) (f : IType) (csr : Csr)
+      → word ≡ Some w → IsSystem w row f → is_on_csr row ≡ true
+      → csr_at (csr_number f) ≡ Some csr → answer ≡ Retired
+      → r ≡ csr_access row f csr (csr_value csr s.csrs i) (operand_of row f s.hart)
+  pub of_other : (w : ℕ)
+      → word ≡ Some w
+      → ((row : SystemRow) (f : IType) → IsSystem w row f → is_on_csr row ≡ false)
+      → r ≡ no_csr
+  pub of_no_word : word ≡ None → r ≡ no_csr
+  pub of_no_retired : answer ≢ Retired → r ≡ no_csr
+
+-- ---- the step
+
+-- an interrupt is no instruction
+abbrev pub is_instruction : MachineAnswer → Bool
+is_instruction (Interrupted x) = false
+is_instruction _ = true
+
+abbrev pub is_raised : MachineAnswer → Bool
+is_raised (Raised x) = true
+is_raised _ = false
+
+-- what mcause has after a trap
+abbrev pub cause_of : MachineAnswer → Option ℕ
+cause_of (Raised x) = Some (exception_code x)
+cause_of (Interrupted x) = Some (2 ^ 31 + interrupt_code x)
+cause_of _ = None
+
+-- What a step from s to t with this answer retires, where first says that the step before took a
+-- trap, so that this instruction is the first one of a handler.
+pub record MachineRetires (order : ℕ) (first : Bool) (i : Inputs) (s t : MachineState)
+    (answer : MachineAnswer) (r : MachineRetired) : Type 0 where
+  pub valid_is : r.valid ≡ is_instruction answer
+  pub intr_is : r.intr ≡ (first && is_instruction answer)
+  pub mode_is : r.mode ≡ 3
+  pub cause_is : r.cause ≡ cause_of answer
+  pub order_is : r.retired.order ≡ order
+  pub insn_is : r.retired.insn ≡ word_of_step i s
+  pub trap_is : r.retired.trap ≡ is_raised answer
+  pub pc_before : r.retired.pc_rdata ≡ s.hart.pc
+  pub pc_after : r.retired.pc_wdata ≡ t.hart.pc
+  pub sources : HasSourcesOf (word_of_step i s) r.retired.rs1_addr r.retired.rs2_addr
+  pub first_value : r.retired.rs1_rdata ≡ reg s.hart r.retired.rs1_addr
+  pub second_value : r.retired.rs2_rdata ≡ reg s.hart r.retired.rs2_addr
+  pub written : t.hart.last ≡ last_of r.retired.rd_addr
+  pub written_value : r.retired.rd_wdata ≡ reg t.hart r.retired.rd_addr
+  pub access : (accesses : List Access)
+      → AccessesOfMachineStep i s accesses → r.retired.mem ≡ after_fetch accesses
+  pub csr : HasCsrAccess (word_of_step i s) answer i s r.csr

@@ -1,0 +1,189 @@
+-- One step of a hart that has machine mode (RISC-V privileged specification 1.12, "Machine-Level
+-- ISA"; unprivileged specification, "Zicsr": an instruction on a CSR reads the old value and then
+-- writes). An instruction of the 48 rows does what the kit's own step does. Two things are decided
+-- here: a jump or a taken branch to a misaligned address raises its exception at the jump, with no
+-- register written, as the specification has it; and a wfi retires at once, with an answer that
+-- tells whether the hart waits, so that an interrupt that comes meanwhile is taken behind it.
+use Rattle.std.specs.Prelude.{◌≡◌, ◌≢◌, ℕ, ◌+◌, ◌%◌, ◌^◌, ◌&&◌, List, [], Bool, pos, false, if◌then◌else◌, Option, Some, None, Ok, Err}
+use Rattle.rrs_lib.specs.declared.HartState.{HartState}
+use Rattle.rrs_lib.specs.declared.instruction_executor.InstructionException.{InstructionException}
+use Rattle.rrs_lib.specs.declared.instruction_executor.InstructionExecutor.{InstructionExecutor}
+use Rattle.rrs_instruction.specs.declared.instruction_formats.IType.{IType}
+use Rattle.rrs_machine.specs.declared.csrs.CsrFile.{CsrFile}
+use Rattle.rrs_words.specs.declared.csrs.Csr.{Csr}
+use Rattle.rrs_words.specs.declared.csrs.Csr.TheVariants.{Mepc}
+use Rattle.rrs_machine.specs.declared.csrs.Inputs.{Inputs}
+use Rattle.rrs_words.specs.declared.instructions.SystemRow.{SystemRow}
+use Rattle.rrs_words.specs.declared.instructions.SystemRow.TheVariants.{Mret, Wfi, FenceI}
+use Rattle.rrs_machine.specs.declared.traps.Exception.{Exception}
+use Rattle.rrs_machine.specs.declared.traps.Exception.TheVariants.{InstructionMisaligned, IllegalInstruction}
+use Rattle.rrs_machine.specs.declared.traps.Interrupt.{Interrupt}
+use Rattle.rrs_machine.specs.declared.machine.MachineAnswer.{MachineAnswer}
+use Rattle.rrs_machine.specs.declared.machine.MachineAnswer.TheVariants.{Retired, Waiting, Raised, Interrupted}
+use Rattle.rrs_instruction.specs.Table.{IsIllegal}
+use Rattle.rrs_lib.specs.Bytes.{ByteMap}
+use Rattle.rrs_lib.specs.Machine.{State, state_of, reg, put, with_pc}
+use Rattle.rrs_lib.specs.Steps.{Step, next_word, cleared, advanced}
+use Rattle.rrs_lib.specs.Executor.{state_in}
+use Rattle.rrs_lib.specs.Accesses.{Access, AccessesOf}
+use Rattle.rrs_words.specs.CsrNumbers.{csr_at, is_read_only}
+use Rattle.rrs_machine.specs.Csrs.{csr_value, csr_written, cycle_counted, retired_file, counted_beside}
+use Rattle.rrs_words.specs.SystemInstructions.{IsSystem, csr_number, writes_csr, has_immediate, updated}
+use Rattle.rrs_machine.specs.Traps.{exception_code, exception_value, interrupt_code, ready_interrupt, interrupt_due, trap_file, return_file, base_of, vector_of, exception_of}
+
+-- ---- the state
+
+-- the state of the kit's machine, and the CSRs
+pub record MachineState : Type 0 where
+  pub hart : State
+  pub csrs : CsrFile
+
+abbrev pub machine : State → CsrFile → MachineState
+machine hart csrs = record { hart = hart; csrs = csrs }
+
+-- the state of a hart with a memory and with CSRs
+abbrev pub machine_of : HartState → CsrFile → ByteMap → (ℕ → Bool) → MachineState
+machine_of hart csrs bytes writable = machine (state_of hart bytes writable) csrs
+
+abbrev pub machine_in : {M : Type 0}
+    → (M → ByteMap) → (M → ℕ → Bool) → InstructionExecutor M → CsrFile → MachineState
+machine_in bytes writable e csrs = machine (state_in bytes writable e) csrs
+
+-- what a step leaves, and its answer
+pub record MachineOutcome : Type 0 where
+  pub after : MachineState
+  pub answer : MachineAnswer
+
+abbrev pub ends : MachineState → MachineAnswer → MachineOutcome
+ends s answer = record { after = s; answer = answer }
+
+-- ---- traps
+
+-- A trap with a cause, a value for mtval and a place to go to. It counts in mcycle, and not in
+-- minstret. No register is written.
+abbrev pub trapped : ℕ → ℕ → ℕ → MachineState → MachineState
+trapped cause value target s = machine (with_pc (cleared s.hart) target)
+    (cycle_counted (trap_file cause value s.hart.pc s.csrs))
+
+abbrev pub raised : Exception → MachineState → MachineState
+raised x s = trapped (exception_code x) (exception_value x) (base_of s.csrs) s
+
+abbrev pub interrupted : Interrupt → MachineState → MachineState
+interrupted x s =
+    trapped (2 ^ 31 + interrupt_code x) 0 (vector_of (interrupt_code x) s.csrs) s
+
+abbrev pub raises : Exception → MachineState → MachineOutcome
+raises x s = ends (raised x s) (Raised x)
+
+-- ---- the instructions that the 48 rows leave out
+
+-- the hart goes on to the next instruction
+abbrev pub gone_on : State → State
+gone_on h = advanced h (Ok false)
+
+-- the operand of an instruction on a CSR
+abbrev pub operand_of : SystemRow → IType → State → ℕ
+operand_of row f h = if has_immediate row then f.rs1 else reg h f.rs1
+
+-- the CSRs after such an instruction that retires, by the old value of its CSR and the operand
+abbrev pub file_updated : SystemRow → IType → Csr → ℕ → ℕ → CsrFile → CsrFile
+file_updated row f csr old operand file =
+    if writes_csr row f
+    then csr_written csr (updated row old operand) (counted_beside csr file)
+    else retired_file file
+
+-- rd gets the old value of the CSR
+abbrev pub accessed : SystemRow → IType → Csr → Inputs → MachineState → MachineState
+accessed row f csr i s = machine
+    (gone_on (put (cleared s.hart) f.rd (pos (csr_value csr s.csrs i))))
+    (file_updated row f csr (csr_value csr s.csrs i) (operand_of row f s.hart) s.csrs)
+
+-- A number that is no CSR, and a write to one that is read only, is an illegal instruction.
+abbrev pub csr_outcome : SystemRow → IType → ℕ → Option Csr → Inputs → MachineState
+    → MachineOutcome
+csr_outcome row f w None i s = raises (IllegalInstruction w) s
+csr_outcome row f w (Some csr) i s =
+    if writes_csr row f && is_read_only (csr_number f)
+    then raises (IllegalInstruction w) s
+    else ends (accessed row f csr i s) Retired
+
+-- the hart goes back to where mepc says
+abbrev pub returned : Inputs → MachineState → MachineState
+returned i s = machine (with_pc (cleared s.hart) (csr_value Mepc s.csrs i))
+    (retired_file (return_file s.csrs))
+
+-- an instruction with no effect
+abbrev pub passed : MachineState → MachineState
+passed s = machine (gone_on (cleared s.hart)) (retired_file s.csrs)
+
+-- A wfi retires, and the hart is behind it. It answers that the hart waits, unless an interrupt is
+-- pending and enabled by mie, whatever MIE is.
+abbrev pub wait_answer : Option Interrupt → MachineAnswer
+wait_answer (Some x) = Retired
+wait_answer None = Waiting
+
+-- the outcome of the word w, which is this row with these fields
+abbrev pub system_outcome : SystemRow → IType → ℕ → Inputs → MachineState → MachineOutcome
+system_outcome Mret f w i s = ends (returned i s) Retired
+system_outcome Wfi f w i s = ends (passed s) (wait_answer (ready_interrupt s.csrs i))
+system_outcome FenceI f w i s = ends (passed s) Retired
+system_outcome row f w i s = csr_outcome row f w (csr_at (csr_number f)) i s
+
+-- ---- a step
+
+-- no word that the 48 rows leave out and that is in the table is at the program counter
+abbrev pub IsNoSystem : State → Type 0
+IsNoSystem h =
+    (w : ℕ) (row : SystemRow) (f : IType)
+    → next_word h ≡ Some w → IsIllegal w → ¬ IsSystem w row f
+
+-- An instruction, in one of four cases.
+pub data InstructionStep (i : Inputs) (s t : MachineState) (answer : MachineAnswer) : Type 0 where
+  -- one of the 48 rows retires
+  Retires : (u : State)
+      → Step s.hart u (Ok tt) → u.pc % 4 ≡ 0
+      → t ≡ machine u (retired_file s.csrs) → answer ≡ Retired
+      → InstructionStep i s t answer
+  -- a jump or a taken branch to a misaligned address raises the exception
+  Strays : (u : State)
+      → Step s.hart u (Ok tt) → u.pc % 4 ≢ 0
+      → t ≡ raised (InstructionMisaligned u.pc) s → answer ≡ Raised (InstructionMisaligned u.pc)
+      → InstructionStep i s t answer
+  -- the step of the kit ends with an exception, which is raised
+  Faults : (u : State) (e : InstructionException)
+      → Step s.hart u (Err e) → IsNoSystem s.hart
+      → t ≡ raised (exception_of (next_word s.hart) e) s
+      → answer ≡ Raised (exception_of (next_word s.hart) e)
+      → InstructionStep i s t answer
+  -- one of the instructions that the 48 rows leave out
+  Executes : (w : ℕ) (row : SystemRow) (f : IType)
+      → next_word s.hart ≡ Some w → IsIllegal w → IsSystem w row f
+      → ends t answer ≡ system_outcome row f w i s
+      → InstructionStep i s t answer
+
+-- One step takes s to t with this answer: an interrupt is taken, or else an instruction.
+pub data MachineStep (i : Inputs) (s t : MachineState) (answer : MachineAnswer) : Type 0 where
+  Interrupts : (x : Interrupt)
+      → interrupt_due s.csrs i ≡ Some x
+      → t ≡ interrupted x s → answer ≡ Interrupted x
+      → MachineStep i s t answer
+  Proceeds :
+      interrupt_due s.csrs i ≡ None
+      → InstructionStep i s t answer
+      → MachineStep i s t answer
+
+-- no other step leads from s
+abbrev pub IsOnlyMachineStep : Inputs → MachineState → MachineState → MachineAnswer → Type 0
+IsOnlyMachineStep i s t answer =
+    (t' : MachineState) (answer' : MachineAnswer)
+    → MachineStep i s t' answer' → (t' ≡ t) × (answer' ≡ answer)
+
+-- the accesses of a step: those of the kit's step, and none where an interrupt is taken
+pub data AccessesOfMachineStep (i : Inputs) (s : MachineState) (accesses : List Access)
+    : Type 0 where
+  OfInterrupt : (x : Interrupt)
+      → interrupt_due s.csrs i ≡ Some x → accesses ≡ []
+      → AccessesOfMachineStep i s accesses
+  OfInstruction :
+      interrupt_due s.csrs i ≡ None → AccessesOf s.hart accesses
+      → AccessesOfMachineStep i s accesses

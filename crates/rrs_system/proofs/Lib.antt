@@ -1,2 +1,0 @@
-pub mod SystemDecoding
-pub mod TracedSteps

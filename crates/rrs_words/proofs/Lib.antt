@@ -1,0 +1,3 @@
+-- Lemmas of this crate.
+pub mod SystemRows
+pub mod SystemDecoding

@@ -1,0 +1,49 @@
+//! From the instructions that the 48 rows leave out to words.
+
+ghost use Rattle.std.specs.Prelude.{◌≡◌, ◌↔◌, ◌<◌, ◌^◌, ℕ, Some};
+ghost use Rattle.rrs_words.specs.SystemInstructions.{system_table, IsSystem};
+
+use crate::instructions::{SystemInstruction, SystemRow, decode_system};
+use rrs_encode::{is_in_range, word_of};
+use rrs_lib::instruction::InstructionFields;
+
+/// The opcode of a row.
+fn opcode_of(row: SystemRow) -> u32
+    ensures opcode { result ≡ (system_table row).opcode }
+    ensures low { result < 2 ^ 7 }
+{
+    match row {
+        SystemRow::FenceI => 0x0f,
+        _ => 0x73,
+    }
+}
+
+/// The word that the instruction is, or `None` where no word is.
+///
+/// No word is where a field is out of its range, where funct3 is not the row's, and where `mret` or
+/// `wfi` has other fields than its one word. What `decode_system` returned has the word that was
+/// decoded.
+///
+/// # Examples
+///
+/// ```
+/// let fields = IType { imm: 0x300, rs1: 2, funct3: 1, rd: 1 };
+/// let write = SystemInstruction { row: SystemRow::Csrrw, fields };
+/// assert_eq!(rt; encode_system(&write), Some(0x3001_10f3));
+/// ```
+pub fn encode_system(instruction: &SystemInstruction) -> Option<u32>
+    ensures { (w : ℕ) → (result ≡ Some w)
+        ↔ IsSystem w instruction.now.row instruction.now.fields }
+{
+    let fields = InstructionFields::I(instruction.fields);
+    if !is_in_range(fields) {
+        return None;
+    }
+    let word = word_of(opcode_of(instruction.row), fields);
+    let found = decode_system(word)?;
+    if found == *instruction {
+        Some(word)
+    } else {
+        None
+    }
+}

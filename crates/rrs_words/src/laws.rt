@@ -1,0 +1,56 @@
+//! Encoding and decoding of the instructions that the 48 rows leave out, the one after the other.
+
+ghost use Rattle.std.specs.Prelude.{◌≡◌, ℕ, Some, IfSome, IfNone};
+ghost use Rattle.rrs_instruction.specs.declared.instruction_formats.IType.{IType as IFields};
+ghost use Rattle.rrs_words.specs.declared.instructions.SystemRow.{SystemRow};
+ghost use Rattle.rrs_words.specs.SystemInstructions.{IsSystem};
+
+use crate::encoding::encode_system;
+use crate::instructions::{SystemInstruction, decode_system};
+
+/// The word of an instruction, and what it is decoded to.
+///
+/// The answer is `None` exactly where no word is the instruction. Otherwise it is the word of the
+/// instruction (`word`), and what `decode_system` returned for it, which is the instruction again
+/// (`same`).
+///
+/// # Examples
+///
+/// ```
+/// let fields = IType { imm: 0x302, rs1: 0, funct3: 0, rd: 0 };
+/// let back = SystemInstruction { row: SystemRow::Mret, fields };
+/// assert_eq!(rt; decode_of_encode(&back), Some((0x3020_0073, Some(back))));
+/// ```
+pub fn decode_of_encode(instruction: &SystemInstruction) -> Option<(u32, Option<SystemInstruction>)>
+    ensures word { IfSome result
+        (λ both. IsSystem both.0 instruction.now.row instruction.now.fields) }
+    ensures same { IfSome result (λ both. both.1 ≡ Some instruction.now) }
+    ensures no_word { IfNone result
+        ((w : ℕ) → ¬ IsSystem w instruction.now.row instruction.now.fields) }
+{
+    let word = encode_system(instruction)?;
+    Some((word, decode_system(word)))
+}
+
+/// The instruction of a word, and what it is encoded to.
+///
+/// The answer is `None` exactly for a word that is none of the nine. Otherwise it is the
+/// instruction of the word (`instruction`), and what `encode_system` returned for it, which is the
+/// word again (`same`).
+///
+/// # Examples
+///
+/// ```
+/// let fields = IType { imm: 0x105, rs1: 0, funct3: 0, rd: 0 };
+/// let wait = SystemInstruction { row: SystemRow::Wfi, fields };
+/// assert_eq!(rt; encode_of_decode(0x1050_0073), Some((wait, Some(0x1050_0073))));
+/// ```
+pub fn encode_of_decode(word: u32) -> Option<(SystemInstruction, Option<u32>)>
+    ensures instruction { IfSome result (λ both. IsSystem word both.0.row both.0.fields) }
+    ensures same { IfSome result (λ both. both.1 ≡ Some word) }
+    ensures outside { IfNone result ((row : SystemRow) (f : IFields) → ¬ IsSystem word row f) }
+{
+    let instruction = decode_system(word)?;
+    let encoded = encode_system(&instruction);
+    Some((instruction, encoded))
+}
