@@ -19,7 +19,7 @@ SITES = (
         "As for a register that is read.",
     ),
     (
-        "rrs_lines/src/lexing.rt",
+        "rrs_asm_lines/src/lexing.rt",
         "(line: &[u8]) -> (Part, Option<&[u8]>)",
         "(line: &[u8]) -> (Part<'_>, Option<&[u8]>)",
         "Rust warns where a lifetime is not shown.",
@@ -28,19 +28,19 @@ SITES = (
         "rrs_macros_tests/src/expansions.rt",
         "Result<Program, SourceFault>",
         "Result<Program<'_>, SourceFault>",
-        "As in rrs_lines.",
+        "As in rrs_asm_lines.",
     ),
     (
         "rrs_tests/src/loading.rt",
         "fn reader_of(bytes: &[u8]) -> Failing",
         "fn reader_of(bytes: &[u8]) -> Failing<'_>",
-        "As in rrs_lines.",
+        "As in rrs_asm_lines.",
     ),
     (
         "rrs_asm_tests/src/assembled.rt",
         "Result<Program, SourceFault>",
         "Result<Program<'_>, SourceFault>",
-        "As in rrs_lines.",
+        "As in rrs_asm_lines.",
     ),
     (
         "rrs_elf/src/accepting.rt",
@@ -92,7 +92,7 @@ SITES = (
         NARROW,
     ),
     (
-        "rrs_assembly/src/accepting.rt",
+        "rrs_asm_output/src/accepting.rt",
         "let at = offset as usize + index;",
         "let at = (offset as usize).saturating_add(index);",
         WIDE,

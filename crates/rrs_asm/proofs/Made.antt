@@ -16,7 +16,7 @@ use Rattle.rrs_asm.specs.declared.output.Placed.{Placed}
 use Rattle.rrs_asm.specs.declared.statements.Statement.{Statement}
 use Rattle.rrs_asm.specs.Names.{IsNamed}
 use Rattle.rrs_asm.specs.declared.directives.Read.{Read}
-use Rattle.rrs_lines.specs.Lines.{Part, lines, parts, begins_with, behind_blanks}
+use Rattle.rrs_asm_lines.specs.Lines.{Part, lines, parts, begins_with, behind_blanks}
 use Rattle.rrs_asm.specs.Source.{Item, items_in, items_named, items_behind, items_of_parts, items_from, is_laid_out}
 use Rattle.rrs_asm.specs.Sections.{names_of, index_of, open_behind, if_open, in_section, first_open, common, in_common, if_in, AreMadeFrom, AreMade, AreLaidOut, AllFound, HasItsKind, IsBehind, AreBehind, ArePlaced}
 use Rattle.rrs_asm.specs.declared.sections.Layout.{Layout}

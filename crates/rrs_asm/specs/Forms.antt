@@ -11,7 +11,7 @@ use Rattle.rrs_asm.specs.declared.instructions.RowForm.{RowForm}
 use Rattle.rrs_asm.specs.declared.sections.Section.{Section}
 use Rattle.rrs_asm.specs.declared.sections.Layout.{Layout}
 use Rattle.rrs_asm.specs.declared.assembling.Reading.{Reading}
-use Rattle.rrs_lines.specs.Lines.{lines, parts}
+use Rattle.rrs_asm_lines.specs.Lines.{lines, parts}
 use Rattle.rrs_asm.specs.Source.{Item, items_of_parts, items_from}
 use Rattle.rrs_asm.specs.Names.{branch_name, load_name, store_name}
 use Rattle.rrs_asm.specs.Names.{unary_name, zero_branch_name, swapped_name, comparison_name, is_one_of, data_names, fill_names, is_silent_name, is_section_name, is_common_name, IsNamed}

@@ -1,10 +1,10 @@
 -- The items of a source of assembly: the labels and the statements that stand in its lines, each
 -- with its line and its name (GNU assembler manual, "Syntax": statements and labels). The lines and
--- their parts are those of `rrs_lines`. What the operands of a statement mean is not said here.
+-- their parts are those of `rrs_asm_lines`. What the operands of a statement mean is not said here.
 use Rattle.std.specs.Prelude.{ℕ, ◌+◌, Bool, not, ◌&&◌, ◌==◌, if◌then◌else◌, List, [], ◌∷◌, ◌++◌, length, codes}
 use Rattle.std.specs.List.{starts_with}
 use Rattle.std.specs.Str.{bytes_eq}
-use Rattle.rrs_lines.specs.Lines.{Part, lines, begins_with, parts, behind_blanks, word, behind_word}
+use Rattle.rrs_asm_lines.specs.Lines.{Part, lines, begins_with, parts, behind_blanks, word, behind_word}
 use Rattle.rrs_asm.specs.Names.{is_silent_name, is_section_name, is_common_name}
 
 -- ---- items

@@ -1,7 +1,7 @@
 //! The readings of a source.
 
 ghost use Rattle.std.specs.Prelude.{◌≡◌, ◌<◌, ℕ, List, [], ◌∷◌, All, IfOk, Ok, true, false, length, codes};
-ghost use Rattle.rrs_lines.specs.Lines.{Part, shown, word, parts};
+ghost use Rattle.rrs_asm_lines.specs.Lines.{Part, shown, word, parts};
 ghost use Rattle.rrs_asm.specs.Names.{is_one_of, fill_names, IsNamed};
 ghost use Rattle.rrs_asm.specs.Source.{Item, is_laid_out, items_of, items_in, items_named, items_behind, items_in_statement, items_of_parts};
 ghost use Rattle.rrs_asm.specs.Sections.{names_of, index_of, first_open, in_common, AreMade, AreLaidOut, AllFound, ArePlaced, HasItsKind};
@@ -17,7 +17,7 @@ use crate::sections::{
     insert_first, is_laid_out, place,
 };
 use crate::statements::Statement;
-use rrs_lines::{
+use rrs_asm_lines::{
     Halt, Known, Line, LineError, Notes, Part, Pass, Scope, Site, SourceErrorKind, Symbols,
     begins_with, behind_blanks, first_line, first_part, is_name, split_word,
 };

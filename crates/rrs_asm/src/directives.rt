@@ -1,7 +1,7 @@
 //! Directives.
 
 ghost use Rattle.std.specs.Prelude.{◌≡◌, ◌<◌, ◌≤◌, ℕ, true, IfOk, [], ◌∷◌};
-ghost use Rattle.rrs_lines.specs.Lines.{word};
+ghost use Rattle.rrs_asm_lines.specs.Lines.{word};
 ghost use Rattle.rrs_asm.specs.Names.{is_one_of, fill_names, IsNamed};
 ghost use Rattle.rrs_asm.specs.Source.{Item, items_named, section_opened};
 ghost use Rattle.rrs_asm.specs.Forms.{fits_placed, items_of_read, HasItsName, IsForm};
@@ -10,7 +10,7 @@ use crate::names::{DataForm, DirectiveForm, PlacedForm, directive_named, is_unsu
 use crate::output::MOST_BYTES;
 use crate::sections::{SectionKind, is_laid_out, kind_of_name};
 use crate::statements::Statement;
-use rrs_lines::{Halt, Line, LineError, Notes, SourceErrorKind, escaped, is_name, split_word};
+use rrs_asm_lines::{Halt, Line, LineError, Notes, SourceErrorKind, escaped, is_name, split_word};
 use std::alloc::Allocator;
 
 /// The greatest alignment, as a power of 2.

@@ -1,6 +1,6 @@
 //! What is wrong with a source, and where.
 
-use rrs_lines::SourceErrorKind;
+use rrs_asm_lines::SourceErrorKind;
 use std::alloc::{AllocError, Allocator, Global};
 use std::error::Error;
 use std::fmt;

@@ -9,9 +9,9 @@ ghost use Rattle.rrs_asm.specs.Forms.{form_name, IsRowForm};
 use crate::names::{PseudoForm, pseudo_named};
 use crate::pseudo::{Branch, Load, Pseudo, Store};
 use crate::statements::Statement;
+use rrs_asm_lines::{Line, LineError, SourceErrorKind, place_among};
 use rrs_encode::{Operands, instruction_named, with_operands};
 use rrs_instruction::instruction::{Instruction, InstructionFields};
-use rrs_lines::{Line, LineError, SourceErrorKind, place_among};
 
 /// How far a branch reaches, in bytes: so many backward, and fewer forward.
 const BRANCH_REACH: u32 = 0x1000;

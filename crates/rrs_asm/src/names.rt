@@ -2,13 +2,13 @@
 
 ghost use Rattle.std.specs.Prelude.{◌≡◌, ℕ, Bool, true, List, IfSome};
 ghost use Rattle.std.specs.List.{list_all};
-ghost use Rattle.rrs_lines.specs.Lines.{words_of};
+ghost use Rattle.rrs_asm_lines.specs.Lines.{words_of};
 ghost use Rattle.rrs_asm.specs.Forms.{form_name, IsForm};
 ghost use Rattle.rrs_asm.specs.declared.names.DirectiveForm.{DirectiveForm};
 ghost use Rattle.rrs_asm.specs.declared.names.PseudoForm.{PseudoForm};
 
 use crate::pseudo::{SwappedBranch, SwappedComparison, Unary, ZeroBranch};
-use rrs_lines::place_among;
+use rrs_asm_lines::place_among;
 
 /// A pseudo-instruction by how its operands are written.
 #[derive(Clone, Copy)]

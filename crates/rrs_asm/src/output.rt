@@ -7,9 +7,9 @@ ghost use Rattle.rrs_asm.specs.Pseudo.{listed};
 
 use crate::pseudo::Expansion;
 use crate::statements::Statement;
+use rrs_asm_lines::{Halt, LineError, SourceErrorKind};
 use rrs_encode::encode;
 use rrs_instruction::instruction::Instruction;
-use rrs_lines::{Halt, LineError, SourceErrorKind};
 use std::alloc::{Allocator, Global};
 
 /// The most bytes that are made of a source: 64 MiB.

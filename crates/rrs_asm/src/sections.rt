@@ -8,7 +8,7 @@ ghost use Rattle.rrs_asm.specs.Forms.{Grows, IsNew};
 
 use crate::output::{Assembled, Label};
 use crate::statements::Statement;
-use rrs_lines::{Halt, Known, LineError, SourceErrorKind};
+use rrs_asm_lines::{Halt, Known, LineError, SourceErrorKind};
 use std::alloc::{AllocError, Allocator, Global};
 
 /// What a section holds, and so where it lies: the sections of a kind lie one behind the other, and

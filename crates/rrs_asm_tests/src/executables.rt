@@ -1,7 +1,7 @@
 //! What the executable of a program has where the ELF specification has it.
 
 use crate::assembled::made;
-use rrs_assembly::{ExecutableError, executable_of};
+use rrs_asm_output::{ExecutableError, executable_of};
 use std::alloc::Global;
 
 /// An executable of 32 bits, lowest byte first, for RISC-V, which begins at 0x10004.

@@ -2,7 +2,7 @@
 
 use crate::assembled::{bytes_of, same_words};
 use rrs_asm::{Branch, Pseudo, SwappedBranch, Unary, ZeroBranch};
-use rrs_assembly::gnu_text;
+use rrs_asm_output::gnu_text;
 use rrs_lib::disassembly::Disassembled;
 use rrs_lib::instruction::Instruction;
 use std::alloc::Global;

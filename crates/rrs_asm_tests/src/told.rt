@@ -1,7 +1,7 @@
 //! What is told of mistakes: what is wanted, and what was probably meant.
 
 use crate::assembled::errors_of;
-use rrs_assembly::{MOST_MISTAKES, Mistake, mistakes_of};
+use rrs_asm_output::{MOST_MISTAKES, Mistake, mistakes_of};
 use std::alloc::{AllocError, Global};
 
 /// Sources, each with what is told of it.

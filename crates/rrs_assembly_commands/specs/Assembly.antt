@@ -6,9 +6,9 @@ use Rattle.rrs_asm.specs.declared.sections.Layout.{Layout}
 use Rattle.rrs_asm.specs.declared.sections.Section.{Section}
 use Rattle.rrs_asm.specs.Source.{items_of}
 use Rattle.rrs_asm.specs.Sections.{flat, AreSectionsOf, IsImage}
-use Rattle.rrs_assembly.specs.Executables.{IsExecutableOf}
-use Rattle.rrs_macros.specs.Comments.{without_comments}
-use Rattle.rrs_macros.specs.Expansion.{Becomes}
+use Rattle.rrs_asm_output.specs.Executables.{IsExecutableOf}
+use Rattle.rrs_asm_macros.specs.Comments.{without_comments}
+use Rattle.rrs_asm_macros.specs.Expansion.{Becomes}
 use Rattle.rrs_requests.specs.Requests.{Wanted}
 use Rattle.rrs_assembly_commands.specs.Files.{Includes}
 

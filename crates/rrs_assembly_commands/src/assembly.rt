@@ -4,20 +4,20 @@ ghost use Rattle.std.specs.Prelude.{◌≡◌, [], None, IsSome, MatchOption, If
 ghost use Rattle.rrs_asm.specs.declared.sections.Layout.{Layout};
 ghost use Rattle.rrs_asm.specs.Source.{items_of};
 ghost use Rattle.rrs_asm.specs.Sections.{AreSectionsOf, ArePlaced, IsImage};
-ghost use Rattle.rrs_assembly.specs.Executables.{IsExecutableOf};
-ghost use Rattle.rrs_macros.specs.Comments.{without_comments};
-ghost use Rattle.rrs_macros.specs.Expansion.{Becomes};
+ghost use Rattle.rrs_asm_output.specs.Executables.{IsExecutableOf};
+ghost use Rattle.rrs_asm_macros.specs.Comments.{without_comments};
+ghost use Rattle.rrs_asm_macros.specs.Expansion.{Becomes};
 ghost use Rattle.rrs_requests.specs.Requests.{wanted_of};
 ghost use Rattle.rrs_assembly_commands.specs.Assembly.{IsExecutableFrom, IsImageFrom, layout_of};
 
 use crate::files::with_files;
 use rrs_asm::{Layout, MOST_BYTES, Program, SourceError, SourceFault, assemble_source, image};
-use rrs_assembly::{
+use rrs_asm_macros::{Expanded, MacroFault, expand, without_block_comments};
+use rrs_asm_output::{
     ExecutableError, MOST_MISTAKES, Mistake, executable_of, gnu_text, listing_of, mistakes_of,
     number_of,
 };
 use rrs_cli::report::{flush, write_text};
-use rrs_macros::{Expanded, MacroFault, expand, without_block_comments};
 use rrs_requests::files::{created, read_source};
 use rrs_requests::refusal::{FileFault, Refusal, failed, named, out_of_memory};
 use rrs_requests::requests::{Form, Request};

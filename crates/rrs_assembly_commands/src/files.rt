@@ -7,9 +7,9 @@
 ghost use Rattle.std.specs.Prelude.{◌≡◌, true, IfOk};
 ghost use Rattle.rrs_assembly_commands.specs.Files.{Includes, NamesFile};
 
-use rrs_assembly::{MOST_MISTAKES, number_of};
-use rrs_lines::{Part, begins_with, behind_blanks, first_line, first_part, split_word};
-use rrs_macros::Expanded;
+use rrs_asm_lines::{Part, begins_with, behind_blanks, first_line, first_part, split_word};
+use rrs_asm_macros::Expanded;
+use rrs_asm_output::{MOST_MISTAKES, number_of};
 use rrs_requests::files::read_file;
 use rrs_requests::refusal::{FileFault, Refusal, out_of_memory};
 use std::alloc::{AllocError, Global};

@@ -6,7 +6,7 @@ use Rattle.rrs_asm.specs.Statements.{AreBytes}
 use Rattle.rrs_lent.specs.declared.outcome.RrsStatement.{RrsStatement}
 use Rattle.rrs_lent.specs.declared.outcome.RrsAssembled.{RrsAssembled}
 use Rattle.rrs_lent.specs.declared.told.Told.{Told}
-use Rattle.rrs_assembly.specs.Mistakes.{line_in}
+use Rattle.rrs_asm_output.specs.Mistakes.{line_in}
 use Rattle.rrs_lent.specs.Telling.{Assembles, TellMistakes}
 
 -- a statement is told with the size of its bytes, whichever they are, up to the greatest number

@@ -1,4 +1,4 @@
--- What a caller that lends its memory is told of a source (rrs_macros, Expansion; rrs_asm, Source
+-- What a caller that lends its memory is told of a source (rrs_asm_macros, Expansion; rrs_asm, Source
 -- and Sections): the bytes, the statements and the labels of its sections, or its mistakes. Texts lie
 -- one behind the other in one buffer, and what is told of a label or a mistake says where its own
 -- begins.
@@ -9,16 +9,16 @@ use Rattle.rrs_asm.specs.declared.sections.Section.{Section}
 use Rattle.rrs_asm.specs.Source.{items_of}
 use Rattle.rrs_asm.specs.Statements.{AreBytes}
 use Rattle.rrs_asm.specs.Sections.{flat, AreSectionsOf, IsImage}
-use Rattle.rrs_assembly.specs.Executables.{entry_of}
-use Rattle.rrs_macros.specs.declared.output.Expanded.{Expanded}
-use Rattle.rrs_macros.specs.Comments.{without_comments}
-use Rattle.rrs_macros.specs.Directives.{has_directives}
-use Rattle.rrs_macros.specs.Expansion.{Becomes}
-use Rattle.rrs_macros.specs.Lines.{IsMapped, IsSame}
+use Rattle.rrs_asm_output.specs.Executables.{entry_of}
+use Rattle.rrs_asm_macros.specs.declared.output.Expanded.{Expanded}
+use Rattle.rrs_asm_macros.specs.Comments.{without_comments}
+use Rattle.rrs_asm_macros.specs.Directives.{has_directives}
+use Rattle.rrs_asm_macros.specs.Expansion.{Becomes}
+use Rattle.rrs_asm_macros.specs.Lines.{IsMapped, IsSame}
 use Rattle.rrs_lent.specs.declared.outcome.RrsStatement.{RrsStatement}
 use Rattle.rrs_lent.specs.declared.outcome.RrsSymbol.{RrsSymbol}
 use Rattle.rrs_lent.specs.declared.outcome.RrsMistake.{RrsMistake}
-use Rattle.rrs_assembly.specs.Mistakes.{line_in}
+use Rattle.rrs_asm_output.specs.Mistakes.{line_in}
 use Rattle.rrs_lent.specs.declared.outcome.RrsAssembled.{RrsAssembled}
 
 -- ---- lines

@@ -4,8 +4,8 @@ ghost use Rattle.std.specs.Prelude.{◌≡◌, ◌≤◌, IfOk, length};
 ghost use Rattle.rrs_lent.specs.Telling.{LieBehind};
 
 use crate::outcome::RrsMistake;
-use rrs_assembly::{MOST_MISTAKES, Mistake};
-use rrs_macros::{MacroError, MacroErrorKind};
+use rrs_asm_macros::{MacroError, MacroErrorKind};
+use rrs_asm_output::{MOST_MISTAKES, Mistake};
 use std::alloc::{AllocError, Allocator};
 use std::str;
 

@@ -6,7 +6,7 @@ ghost use Rattle.rrs_lent.specs.Steps.{IsAsLong, AreAsLong, AreAllAsLong, IsShor
 
 use crate::outcome::RrsStatement;
 use rrs_asm::{MOST_BYTES, Placed, Section};
-use rrs_assembly::number_of;
+use rrs_asm_output::number_of;
 use std::alloc::{AllocError, Allocator};
 
 /// Whether a section has more bytes than an assembler makes.

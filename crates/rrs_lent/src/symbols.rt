@@ -5,7 +5,7 @@ ghost use Rattle.rrs_lent.specs.Telling.{symbols_from, names_of, all_symbols_fro
 
 use crate::outcome::RrsSymbol;
 use rrs_asm::{Label, Section};
-use rrs_assembly::number_of;
+use rrs_asm_output::number_of;
 use std::alloc::{AllocError, Allocator};
 
 /// The labels of sections in order, where the lines have these numbers in the source, and their

@@ -3,7 +3,7 @@
 ghost use Rattle.std.specs.Prelude.{◌≡◌, ◌≤◌, All, IfOk, length};
 ghost use Rattle.rrs_asm.specs.Source.{items_of};
 ghost use Rattle.rrs_asm.specs.Sections.{flat, AreSectionsOf, AreLaidOut};
-ghost use Rattle.rrs_macros.specs.Comments.{without_comments};
+ghost use Rattle.rrs_asm_macros.specs.Comments.{without_comments};
 ghost use Rattle.rrs_lent.specs.Telling.{IsTextOf};
 ghost use Rattle.rrs_lent.specs.Steps.{IsShort, IsTold};
 
@@ -12,8 +12,8 @@ use crate::outcome::{ASSEMBLED, MISTAKES, RrsMistake, RrsStatement, RrsSymbol};
 use crate::statements::{has_long, statements_of};
 use crate::symbols::symbols_of;
 use rrs_asm::{Layout, Program, SourceError, SourceErrorKind, SourceFault, assemble_source, image};
-use rrs_assembly::{Mistake, entry_of, mistakes_of};
-use rrs_macros::{Expanded, MacroFault, expand, without_block_comments};
+use rrs_asm_macros::{Expanded, MacroFault, expand, without_block_comments};
+use rrs_asm_output::{Mistake, entry_of, mistakes_of};
 use std::alloc::{AllocError, Allocator};
 
 /// What is told of a source.

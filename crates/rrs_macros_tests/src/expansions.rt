@@ -1,7 +1,7 @@
 //! What the tests share: a source, expanded, and what is assembled of it.
 
 use rrs_asm::{Layout, Program, SourceFault, assemble_source};
-use rrs_macros::{Expanded, MacroFault, expand};
+use rrs_asm_macros::{Expanded, MacroFault, expand};
 use std::alloc::Global;
 
 /// What `expand` answers, whose contract is so paid in this function alone.

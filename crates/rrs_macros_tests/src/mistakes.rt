@@ -1,7 +1,7 @@
 //! Sources with mistakes, and the places that are told. GNU `as` refuses each at the same line, or warns.
 
 use crate::expansions::made;
-use rrs_macros::{MacroError, MacroErrorKind, MacroFault};
+use rrs_asm_macros::{MacroError, MacroErrorKind, MacroFault};
 use std::alloc::Global;
 
 /// Sources, each with the line and the column of its mistake.

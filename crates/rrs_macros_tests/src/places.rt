@@ -1,7 +1,7 @@
 //! Which line of the source each line of a result is of.
 
 use crate::expansions::made;
-use rrs_macros::Expanded;
+use rrs_asm_macros::Expanded;
 use std::alloc::Global;
 
 /// A source with statements that no assembler knows, in macros, repetitions and conditions.

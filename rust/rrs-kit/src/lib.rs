@@ -71,9 +71,9 @@ pub mod asm {
     pub use rrs_asm::*;
 
     /// Executables, and the listing.
-    pub use rrs_assembly as assembly;
+    pub use rrs_asm_output as assembly;
     /// Lines, names and expressions.
-    pub use rrs_lines as lines;
+    pub use rrs_asm_lines as lines;
     /// Macros and repetitions.
-    pub use rrs_macros as macros;
+    pub use rrs_asm_macros as macros;
 }

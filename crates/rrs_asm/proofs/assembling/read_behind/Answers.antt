@@ -1,5 +1,5 @@
 use Rattle.std.proofs.Common.{◌≡◌, false}
-use Rattle.rrs_lines.specs.Lines.{begins_with, behind_blanks}
+use Rattle.rrs_asm_lines.specs.Lines.{begins_with, behind_blanks}
 use Rattle.rrs_asm.proofs.Made.{behind-named}
 use Rattle.rrs_asm.proofs.assembling.read_behind.Goals as goal
 

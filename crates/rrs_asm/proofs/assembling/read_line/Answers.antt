@@ -1,6 +1,6 @@
 use Rattle.std.proofs.Common.{◌≡◌, ℕ, List, Option, None, Bor, Err, refl, subst, sym, rules, arith}
 use Rattle.std.proofs.lemmas.Grind.{common_steps}
-use Rattle.rrs_lines.specs.Lines.{shown, parts}
+use Rattle.rrs_asm_lines.specs.Lines.{shown, parts}
 use Rattle.rrs_asm.specs.Source.{items_in, items_of_parts}
 use Rattle.rrs_asm.specs.Forms.{items_of_read, ReadsOn, left_in_line}
 use Rattle.rrs_asm.proofs.Made.{ReadsOn-nothing, ReadsOn-wrong, ReadsOn-part, ReadsOn-read, no-ok}

@@ -1,7 +1,7 @@
 use Rattle.std.proofs.Common.{◌+◌, length}
 use Rattle.std.specs.Option.{option_map_or}
 use Rattle.rrs_asm.specs.declared.assembling.Reading.{Reading}
-use Rattle.rrs_lines.specs.Lines.{parts}
+use Rattle.rrs_asm_lines.specs.Lines.{parts}
 use Rattle.rrs_asm.specs.Source.{items_of_parts}
 use Rattle.rrs_asm.specs.Forms.{ReadsOn, left_in_line}
 use Rattle.rrs_asm.proofs.assembling.read_line.Given as goal

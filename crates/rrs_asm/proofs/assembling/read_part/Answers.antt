@@ -1,6 +1,6 @@
 use Rattle.std.proofs.Common.{◌≡◌, ℕ, IfOk, subst, sym}
-use Rattle.rrs_lines.specs.declared.lexing.Part.{Part as Cut}
-use Rattle.rrs_lines.specs.Lines.{shown}
+use Rattle.rrs_asm_lines.specs.declared.lexing.Part.{Part as Cut}
+use Rattle.rrs_asm_lines.specs.Lines.{shown}
 use Rattle.rrs_asm.specs.Source.{items_in}
 use Rattle.rrs_asm.specs.Forms.{items_of_read}
 use Rattle.rrs_asm.proofs.assembling.read_part.Goals as goal

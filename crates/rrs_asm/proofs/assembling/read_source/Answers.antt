@@ -1,7 +1,7 @@
 use Rattle.std.proofs.Common.{◌≡◌, ℕ, ◌+◌, ◌≤◌, List, length, Option, None, Bor, rules, subst, sym, arith}
 use Rattle.std.specs.Option.{option_map_or}
 use Rattle.std.proofs.lemmas.Grind.{common_steps}
-use Rattle.rrs_lines.specs.Lines.{lines}
+use Rattle.rrs_asm_lines.specs.Lines.{lines}
 use Rattle.rrs_asm.specs.Source.{items_from}
 use Rattle.rrs_asm.specs.Forms.{ReadsOn, left_in_source}
 use Rattle.rrs_asm.proofs.Made.{ReadsOn-nothing, ReadsOn-from, ReadsOn-line, counted}

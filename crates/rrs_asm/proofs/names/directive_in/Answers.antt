@@ -2,8 +2,8 @@ use Rattle.std.proofs.Common.{◌≡◌, ℕ, true, List, [], get_or, Bor}
 use Rattle.std.proofs.lemmas.List.Elements.{All-get_or}
 use Rattle.std.proofs.lemmas.List.Sums.{AllPass-from_list_all}
 use Rattle.std.specs.List.{list_all}
-use Rattle.rrs_lines.specs.Lines.{words_of}
-use Rattle.rrs_lines.proofs.Cutting.{place-some}
+use Rattle.rrs_asm_lines.specs.Lines.{words_of}
+use Rattle.rrs_asm_lines.proofs.Cutting.{place-some}
 use Rattle.rrs_asm.specs.declared.names.DataForm.{DataForm}
 use Rattle.rrs_asm.specs.declared.names.DirectiveForm.{DirectiveForm}
 use Rattle.rrs_asm.specs.declared.names.PlacedForm.{PlacedForm}

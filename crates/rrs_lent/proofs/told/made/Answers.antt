@@ -2,7 +2,7 @@ use Rattle.std.proofs.Common.{ℕ, List, refl, ap, ◌∙◌}
 use Rattle.std.specs.Prelude.{unwrap_or}
 use Rattle.rrs_asm.specs.declared.sections.Section.{Section}
 use Rattle.rrs_asm.specs.Sections.{flat}
-use Rattle.rrs_assembly.specs.Executables.{entry_of}
+use Rattle.rrs_asm_output.specs.Executables.{entry_of}
 use Rattle.rrs_lent.specs.Telling.{all_symbols_from, all_names_of}
 use Rattle.rrs_lent.specs.Steps.{IsProgram, AreAllAsLong}
 use Rattle.rrs_lent.proofs.More.{tell-all}

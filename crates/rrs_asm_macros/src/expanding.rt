@@ -1,0 +1,289 @@
+//! Expanding a source.
+
+ghost use Rattle.std.specs.Prelude.{◌≡◌, ℕ, ◌≤◌, false, true, [], ◌∷◌, ◌++◌, length, IfOk, OnOk, IfErr, IfSome};
+ghost use Rattle.std.specs.List.{list_any};
+ghost use Rattle.rrs_asm_macros.specs.Directives.{begins_one, has_directives};
+ghost use Rattle.rrs_asm_macros.specs.Expansion.{IsExpansion};
+ghost use Rattle.rrs_asm_macros.specs.Lines.{IsLine, IsMade, IsMapped, IsSame, KeepsAbove, lines};
+
+use crate::blocks::height;
+use crate::errors::{Halt, MacroError, MacroErrorKind, MacroFault, Slip};
+use crate::following::is_expansion;
+use crate::frames::{Frame, Origin};
+use crate::keeping::keeps_above;
+use crate::output::{Expanded, unchanged};
+use crate::performing::{Span, Step, Turn, read_step};
+use crate::scanning::begins_directive;
+use crate::tables::Tables;
+use crate::words::has_directives;
+use std::alloc::{AllocError, Allocator};
+
+/// The most macros and repetitions in one another, with the source.
+const MOST_DEPTH: usize = 100;
+
+/// The most bytes of a result.
+pub const MOST_MADE: usize = 0x400_0000;
+
+/// The most lines and statements that are read.
+const MOST_STEPS: u64 = 0x4000_0000;
+
+/// The most mistakes that are told.
+const MOST_MISTAKES: usize = 20;
+
+/// A source that is being expanded.
+#[derive(Drop)]
+struct Expansion<A: Allocator> {
+    /// What is being read, the innermost last.
+    frames: Vec<Frame<A>, A>,
+    mistakes: Vec<MacroError, A>,
+    /// Whether nothing more is read.
+    is_over: bool,
+    /// Whether memory was missing.
+    is_short: bool,
+}
+
+impl<A: Allocator + Copy> Expansion<A> {
+    /// Nothing of a source is read.
+    fn new(alloc: A, source: &[u8]) -> Result<Self, AllocError> {
+        let text = Vec::from_slice(alloc, source)?;
+        let mut frame = Frame::new(alloc, text, 1, height(source), 0);
+        frame.reader.is_source = true;
+        let mut frames = Vec::new(alloc);
+        frames.push(frame)?;
+        Ok(Expansion {
+            frames,
+            mistakes: Vec::new(alloc),
+            is_over: false,
+            is_short: false,
+        })
+    }
+
+    /// Keeps that memory is missing where something could not be kept.
+    fn keep(&mut self, is_kept: bool) {
+        if !is_kept {
+            self.is_short = true;
+            self.is_over = true;
+        }
+    }
+
+    /// Reads a text next.
+    fn read(&mut self, frame: Frame<A>) {
+        let is_kept = self.frames.push(frame).is_ok();
+        self.keep(is_kept);
+    }
+
+    /// Why the source is not expanded, if it is not.
+    fn fault(self, alloc: A) -> Option<MacroFault<A>> {
+        if self.is_short {
+            Some(MacroFault::OutOfMemory)
+        } else if !self.mistakes.is_empty() {
+            Some(MacroFault::Mistakes(self.mistakes))
+        } else if !self.frames.is_empty() {
+            Some(fault(alloc, MacroErrorKind::Much))
+        } else {
+            None
+        }
+    }
+
+    /// Tells a mistake.
+    fn tell(&mut self, mistake: MacroError) {
+        let is_kept = self.mistakes.push(mistake).is_ok();
+        self.keep(is_kept);
+        if mistake.kind.is_last() || self.mistakes.len() >= MOST_MISTAKES {
+            self.is_over = true;
+        }
+    }
+
+    /// Goes on where a text is read to its end.
+    fn finish(&mut self, frame: Frame<A>) {
+        let mut frame = frame;
+        if let Some(condition) = frame.reader.conditions.last() {
+            self.tell(condition.place);
+        }
+        if frame.reader.begin_again() {
+            self.read(frame);
+        }
+    }
+
+    /// Goes on behind a line or a statement of a text, which began at a place, where so many bytes
+    /// are made.
+    fn turn(&mut self, frame: Frame<A>, turn: Turn<A>, origin: Origin, made: usize) {
+        let left = frame.text.len();
+        if made > MOST_MADE {
+            let kind = MacroErrorKind::Much;
+            self.tell(origin.mistake(left, Slip { kind, left }));
+        }
+        match turn {
+            Turn::Leave => (),
+            Turn::Over => self.finish(frame),
+            Turn::Stay => self.read(frame),
+            Turn::Stumble(slip) => {
+                self.tell(origin.mistake(left, slip));
+                self.read(frame);
+            }
+            Turn::Enter(inner) => {
+                self.read(frame);
+                if self.frames.len() < MOST_DEPTH {
+                    self.read(inner);
+                } else {
+                    let kind = MacroErrorKind::Deep;
+                    self.tell(origin.mistake(left, Slip { kind, left }));
+                }
+            }
+        }
+    }
+}
+
+/// A source without macros, conditions and repetitions, and of each of its lines the line of the
+/// source that it is of: for a line of a macro or of a repetition that of its body, as GNU `as`
+/// tells it.
+///
+/// # Errors
+///
+/// `MacroFault::Mistakes` with the first 20 mistakes, in the order in which they are met, and
+/// `MacroFault::OutOfMemory`.
+pub fn expand<A: Allocator + Copy>(alloc: A, source: &[u8]) -> Result<Expanded<A>, MacroFault<A>>
+    ensures same { has_directives source.now ≡ false → IfOk result (IsSame source.now) }
+    ensures taken { has_directives source.now ≡ false
+        → IfErr result (λ fault. fault ≡ MacroFault.OutOfMemory) }
+    ensures gone { has_directives source.now ≡ true → IfOk result (λ expanded.
+        list_any begins_one (lines expanded.text.items) ≡ false) }
+    ensures mapped { IfOk result (IsMapped source.now) }
+    ensures above { has_directives source.now ≡ true → IfOk result (KeepsAbove source.now) }
+    ensures becomes { has_directives source.now ≡ true
+        → IfOk result (λ expanded. IsExpansion source.now expanded.text.items) }
+{
+    if has_directives(source) {
+        expanded(alloc, source)
+    } else {
+        match unchanged(alloc, source) {
+            Ok(same) => Ok(same),
+            Err(_) => Err(MacroFault::OutOfMemory),
+        }
+    }
+}
+
+/// A source with directives, expanded.
+fn expanded<A: Allocator + Copy>(alloc: A, source: &[u8]) -> Result<Expanded<A>, MacroFault<A>>
+    ensures gone { IfOk result (λ expanded.
+        list_any begins_one (lines expanded.text.items) ≡ false) }
+    ensures mapped { IfOk result (IsMapped source.now) }
+    ensures above { IfOk result (KeepsAbove source.now) }
+    ensures becomes { IfOk result (λ expanded. IsExpansion source.now expanded.text.items) }
+{
+    let total = height(source);
+    let mut out = Expanded::new(alloc);
+    let mut expansion = Expansion::new(alloc, source)?;
+    let mut tables = Tables::new(alloc);
+    for _ in 0..MOST_STEPS {
+        if expansion.is_over {
+            break;
+        }
+        let Some(frame) = expansion.frames.pop() else {
+            break;
+        };
+        advance(&mut tables, &mut expansion, frame, &mut out, total)?;
+    }
+    if let Some(fault) = expansion.fault(alloc) {
+        return Err(fault);
+    }
+    match completed(out, total) {
+        Ok(whole) => settled(alloc, source, whole),
+        Err(_) => Err(MacroFault::OutOfMemory),
+    }
+}
+
+/// Reads a line or a statement of a text, and puts what comes of it: nothing with a mistake.
+fn advance<A: Allocator + Copy>(
+    tables: &mut Tables<A>,
+    expansion: &mut Expansion<A>,
+    frame: Frame<A>,
+    out: &mut Expanded<A>,
+    total: usize,
+) -> Result<(), AllocError>
+    ensures { 1 ≤ total → IsMade total out.old → OnOk result (IsMade total out.new) }
+{
+    let mut frame = frame;
+    let origin = frame.reader.origin();
+    let read = read_step(tables, &frame.text, &mut frame.reader);
+    let step = match tables.mistake.take() {
+        None => read,
+        Some(Halt::Slip(slip)) => Step {
+            line: None,
+            turn: Turn::Stumble(slip),
+        },
+        Some(Halt::OutOfMemory) => return Err(AllocError),
+    };
+    put_span(out, &frame.text, step.line, total)?;
+    expansion.turn(frame, step.turn, origin, out.text.len());
+    Ok(())
+}
+
+/// A result, if it is one of this source.
+fn settled<A: Allocator + Copy>(
+    alloc: A,
+    source: &[u8],
+    whole: Expanded<A>,
+) -> Result<Expanded<A>, MacroFault<A>>
+    ensures gone { IfOk result (λ expanded.
+        list_any begins_one (lines expanded.text.items) ≡ false) }
+    ensures mapped { IsMapped source.now whole → IfOk result (IsMapped source.now) }
+    ensures above { IfOk result (KeepsAbove source.now) }
+    ensures becomes { IfOk result (λ expanded. IsExpansion source.now expanded.text.items) }
+{
+    if begins_directive(&whole.text) || !keeps_above(source, &whole) {
+        return Err(fault(alloc, MacroErrorKind::LeftOver));
+    }
+    if is_expansion(alloc, source, &whole.text)? {
+        Ok(whole)
+    } else {
+        Err(fault(alloc, MacroErrorKind::LeftOver))
+    }
+}
+
+/// A mistake that has no place of its own. `MacroErrorKind::LeftOver` says that a directive is left
+/// in a result, or that it is another than the source becomes. No source is known of which that is
+/// so.
+fn fault<A: Allocator + Copy>(alloc: A, kind: MacroErrorKind) -> MacroFault<A> {
+    let mistake = MacroError {
+        line: 1,
+        column: 1,
+        kind,
+    };
+    match Vec::from_slice(alloc, &[mistake]) {
+        Ok(mistakes) => MacroFault::Mistakes(mistakes),
+        Err(_) => MacroFault::OutOfMemory,
+    }
+}
+
+/// A result of one of so many lines of the source, with a line at least.
+fn completed<A: Allocator + Copy>(out: Expanded<A>, total: usize) -> Result<Expanded<A>, AllocError>
+    ensures { 1 ≤ total → IsMade total out
+        → IfOk result (λ whole. (1 ≤ length whole.lines.items) × IsMade total whole) }
+{
+    let mut out = out;
+    if out.lines.is_empty() {
+        out.put(&[], 1)?;
+    }
+    Ok(out)
+}
+
+/// Appends a part of a text, if one is put, as a line of its line of the source, which has so many.
+fn put_span<A: Allocator + Copy>(
+    out: &mut Expanded<A>,
+    text: &[u8],
+    span: Option<Span>,
+    total: usize,
+) -> Result<(), AllocError>
+    ensures made { 1 ≤ total → IsMade total out.old → OnOk result (IsMade total out.new) }
+    ensures number { IfSome span (λ s. IsLine total s.number
+        → OnOk result (out.new.lines.items ≡ out.old.lines.items ++ s.number ∷ [])) }
+{
+    match span {
+        Some(span) => {
+            let line = text.get(span.start..span.end).unwrap_or(&[]);
+            out.put(line, span.number.max(1).min(total))
+        }
+        None => Ok(()),
+    }
+}

@@ -1,0 +1,199 @@
+//! Cutting a text into statements, and a statement into labels, its first word and the rest.
+
+ghost use Rattle.std.specs.Prelude.{◌≡◌, ◌<◌, [], ◌∷◌, IfSome, count_by, length};
+ghost use Rattle.std.specs.List.{list_any};
+ghost use Rattle.std.specs.Option.{option_map_or};
+ghost use Rattle.rrs_asm_macros.specs.Directives.{begins_one, behind_blanks, is_blank, is_in_name, word};
+ghost use Rattle.rrs_asm_macros.specs.Expansion.{behind_word};
+ghost use Rattle.rrs_asm_macros.specs.Lines.{is_line_feed, lines};
+
+use crate::directives::is_directive;
+
+/// Where a byte of a line stands.
+#[derive(Clone, Copy)]
+pub enum Place {
+    /// In no string, no character constant and no comment.
+    Plain,
+    /// In a string.
+    Text,
+    /// In a string, behind a backslash.
+    TextEscape,
+    /// Behind the apostrophe that begins a character constant.
+    Character,
+    /// In a character constant, behind a backslash.
+    CharacterEscape,
+    /// Behind the byte of a character constant, where an apostrophe can end it.
+    CharacterEnd,
+    /// In a comment, up to the end of the line.
+    Comment,
+}
+
+impl Place {
+    /// Whether a backslash and a name behind it are a parameter there. In a character constant they
+    /// are no name.
+    pub fn has_parameters(self) -> bool {
+        !matches!(self, Place::Character | Place::CharacterEscape)
+    }
+
+    /// Where the byte behind this one stands.
+    pub fn behind(self, byte: u8, next: Option<u8>) -> Place {
+        match self {
+            Place::Plain => plain_behind(byte, next),
+            Place::Text => match byte {
+                b'\\' => Place::TextEscape,
+                b'"' => Place::Plain,
+                _ => Place::Text,
+            },
+            Place::TextEscape => Place::Text,
+            Place::Character => match byte {
+                b'\\' => Place::CharacterEscape,
+                _ => Place::CharacterEnd,
+            },
+            Place::CharacterEscape => Place::CharacterEnd,
+            Place::CharacterEnd if byte == b'\'' => Place::Plain,
+            Place::CharacterEnd => plain_behind(byte, next),
+            Place::Comment => Place::Comment,
+        }
+    }
+}
+
+/// Where the byte behind one that stands in nothing stands. A comment begins before its first byte.
+fn plain_behind(byte: u8, next: Option<u8>) -> Place {
+    match byte {
+        b'"' => Place::Text,
+        b'\'' => Place::Character,
+        b'#' => Place::Comment,
+        b'/' if next == Some(b'/') => Place::Comment,
+        _ => Place::Plain,
+    }
+}
+
+/// The statement at the beginning of a text.
+#[derive(Clone, Copy)]
+pub struct Statement<'a> {
+    /// Its text, with its labels, and with no comment.
+    pub code: &'a [u8],
+    /// What is behind the semicolon or the line feed that ends it, if one does.
+    pub others: Option<&'a [u8]>,
+    /// Whether it is the last of its line.
+    pub ends_line: bool,
+}
+
+/// The statement at the beginning of a text, which ends at a semicolon or with its line.
+pub fn first_statement(text: &[u8]) -> Statement<'_> {
+    let mut place = Place::Plain;
+    let mut end = None;
+    for (index, byte) in text.iter().enumerate() {
+        let behind = &text[index + 1..];
+        let is_line_feed = *byte == b'\n';
+        let can_end = matches!(place, Place::Plain | Place::CharacterEnd);
+        if is_line_feed || *byte == b';' && can_end {
+            return Statement {
+                code: text.get(..end.unwrap_or(index)).unwrap_or(text),
+                others: Some(behind),
+                ends_line: is_line_feed,
+            };
+        }
+        place = place.behind(*byte, behind.first().copied());
+        if matches!(place, Place::Comment) && end.is_none() {
+            end = Some(index);
+        }
+    }
+    Statement {
+        code: text.get(..end.unwrap_or(text.len())).unwrap_or(text),
+        others: None,
+        ends_line: true,
+    }
+}
+
+/// The first line of a text, and what is behind its line feed, if there is one.
+pub fn first_line(text: &[u8]) -> (&[u8], Option<&[u8]>)
+    ensures whole { count_by is_line_feed result.0.now ≡ 0 }
+    ensures lines { lines text.now
+        ≡ result.0.now ∷ option_map_or (λ rest. lines rest.now) result.1 [] }
+    ensures shorter { IfSome result.1 (λ rest. length rest.now < length text.now) }
+{
+    for (index, byte) in text.iter().enumerate() {
+        if *byte == b'\n' {
+            return (&text[..index], Some(&text[index + 1..]));
+        }
+    }
+    (text, None)
+}
+
+/// Whether a byte separates words and means nothing else.
+pub fn is_blank(byte: u8) -> bool
+    ensures { result ≡ is_blank byte }
+{
+    matches!(byte, b' ' | b'\t' | b'\r')
+}
+
+/// Whether a byte can stand in a name.
+pub fn is_in_name(byte: u8) -> bool
+    ensures { result ≡ is_in_name byte }
+{
+    matches!(byte, b'a'..=b'z' | b'A'..=b'Z' | b'0'..=b'9' | b'_' | b'.' | b'$')
+}
+
+/// A text behind the blanks that it begins with.
+pub fn behind_blanks(text: &[u8]) -> &[u8]
+    ensures { result.now ≡ behind_blanks text.now }
+{
+    for (index, byte) in text.iter().enumerate() {
+        if !is_blank(*byte) {
+            return &text[index..];
+        }
+    }
+    &text[text.len()..]
+}
+
+/// The word that a text begins with, behind blanks, and what follows it.
+pub fn split_word(text: &[u8]) -> (&[u8], &[u8])
+    ensures word { result.0.now ≡ word text.now }
+    ensures rest { result.1.now ≡ behind_word text.now }
+{
+    let words = behind_blanks(text);
+    for (index, byte) in words.iter().enumerate() {
+        if !is_in_name(*byte) {
+            return words.split_at(index);
+        }
+    }
+    words.split_at(words.len())
+}
+
+/// Whether a line of a text begins with a directive.
+pub fn begins_directive(text: &[u8]) -> bool
+    ensures { result ≡ list_any begins_one (lines text.now) }
+{
+    let mut rest = Some(text);
+    while let Some(left) = rest {
+        let (line, others) = first_line(left);
+        let (word, _) = split_word(line);
+        if is_directive(word) {
+            return true;
+        }
+        rest = others;
+    }
+    false
+}
+
+/// The name of the first label of a text, and what is behind it, if there is one.
+pub fn first_label(text: &[u8]) -> Option<(&[u8], &[u8])> {
+    let (word, rest) = split_word(text);
+    match behind_blanks(rest) {
+        [b':', others @ ..] if !word.is_empty() && !is_directive(word) => Some((word, others)),
+        _ => None,
+    }
+}
+
+/// A statement behind its labels.
+pub fn behind_labels(code: &[u8]) -> &[u8] {
+    let mut rest = code;
+    for _ in 0..code.len() {
+        match first_label(rest) {
+            Some((_, others)) => rest = others,
+            None => break,
+        }
+    }
+    rest
+}

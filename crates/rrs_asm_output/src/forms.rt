@@ -1,0 +1,235 @@
+//! How instructions are written, for those who wrote one otherwise.
+
+use rrs_asm_lines::place_among;
+
+/// The operands of an instruction.
+#[derive(Clone, Copy, PartialEq)]
+pub enum Form {
+    /// Three registers.
+    Registers,
+    /// Two registers and a number of 12 bits.
+    Immediate,
+    /// Two registers and a number of 5 bits.
+    Shift,
+    /// A register and an address in memory, which is read.
+    Load,
+    /// A register and an address in memory, which is written.
+    Store,
+    /// Two registers and a label.
+    Branch,
+    /// A register and a label.
+    ZeroBranch,
+    /// A register and a number of 20 bits.
+    Upper,
+    /// Two registers.
+    Copy,
+    /// A register and a number.
+    Number,
+    /// A register and a symbol.
+    Address,
+    /// A label.
+    Jump,
+    /// A register, which may be left out, and a label.
+    Link,
+    /// A register.
+    Register,
+    /// A register and an address that is jumped to.
+    LinkRegister,
+    /// A label, and a register that is overwritten.
+    FarJump,
+    /// Two sets of accesses.
+    Fence,
+    /// None.
+    Alone,
+}
+
+/// The instructions and pseudo-instructions, by their forms.
+pub static NAMES: [(&[u8], Form); 19] = [
+    (
+        b"add sub sll slt sltu xor srl sra or and mul mulh mulhsu mulhu div divu rem remu sgt \
+            sgtu",
+        Form::Registers,
+    ),
+    (b"addi slti sltiu xori ori andi", Form::Immediate),
+    (b"slli srli srai", Form::Shift),
+    (b"lb lbu lh lhu lw", Form::Load),
+    (b"sb sh sw", Form::Store),
+    (b"beq bne blt bge bltu bgeu bgt ble bgtu bleu", Form::Branch),
+    (b"beqz bnez blez bgez bltz bgtz", Form::ZeroBranch),
+    (b"lui auipc", Form::Upper),
+    (b"mv not neg seqz snez sltz sgtz zext.b", Form::Copy),
+    (b"li", Form::Number),
+    (b"la lla", Form::Address),
+    (b"j call tail", Form::Jump),
+    (b"jump", Form::FarJump),
+    (b"jal", Form::Link),
+    (b"jr", Form::Register),
+    (b"jalr", Form::LinkRegister),
+    (b"ecall ebreak", Form::Alone),
+    (b"fence", Form::Fence),
+    (b"nop ret unimp", Form::Alone),
+];
+
+/// An instruction that takes a number, and the one that takes a register in its place.
+pub static PAIRS: [(&[u8], &str); 10] = [
+    (b"addi", "add"),
+    (b"slti", "slt"),
+    (b"sltiu", "sltu"),
+    (b"xori", "xor"),
+    (b"ori", "or"),
+    (b"andi", "and"),
+    (b"slli", "sll"),
+    (b"srli", "srl"),
+    (b"srai", "sra"),
+    (b"li", "mv"),
+];
+
+/// The directives, and how what follows them is written.
+pub static DIRECTIVES: [(&[u8], &str); 21] = [
+    (b".text .data .bss .rodata", ""),
+    (b".section", " name"),
+    (
+        b".word .half .byte .dword .long .int .short .hword .quad .2byte .4byte .8byte",
+        " number, number",
+    ),
+    (b".string .asciz .ascii", " \"text\""),
+    (b".space .zero .skip", " bytes"),
+    (b".fill", " count, size, number"),
+    (b".align .p2align", " power"),
+    (b".balign", " bytes"),
+    (b".org", " address"),
+    (b".equ .set", " name, number"),
+    (b".comm", " name, bytes, alignment"),
+    (b".lcomm", " name, bytes"),
+    (b".globl .global .extern", " name"),
+    (b".macro", " name a, b"),
+    (b".endm", ""),
+    (b".rept", " count"),
+    (b".irp", " a, 1, 2"),
+    (b".endr", ""),
+    (b".if", " number"),
+    (b".ifdef", " name"),
+    (b".else .endif", ""),
+];
+
+/// Names that other assemblers have, and what is written here.
+static ELSEWHERE: [(&[u8], &str); 15] = [
+    (b"move mov", "mv"),
+    (b"addiu subi", "addi"),
+    (b"addu", "add"),
+    (b"subu", "sub"),
+    (b"mult", "mul"),
+    (b"b jmp goto", "j"),
+    (b"bal", "jal"),
+    (b"return", "ret"),
+    (b"syscall int", "ecall"),
+    (b"ld ldr lwu", "lw"),
+    (b"sd str", "sw"),
+    (b".asciiz", ".asciz"),
+    (b".eqv .equiv .define", ".equ"),
+    (b".db db", ".byte"),
+    (b".dw dw", ".word"),
+];
+
+/// The directives whose numbers have a range.
+static RANGES: [(&[u8], &str); 9] = [
+    (b".byte", " takes -128 to 255"),
+    (b".half .short .2byte .hword", " takes -32768 to 65535"),
+    (
+        b".word .long .int .4byte .equ .set",
+        " takes -2147483648 to 4294967295",
+    ),
+    (b".dword .quad .8byte", " takes 64 bits"),
+    (b".align .p2align", " takes 0 to 16, the power of 2"),
+    (b".balign", " takes a power of 2, 65536 at most"),
+    (b".fill", " takes numbers of 0 to 8 bytes"),
+    (b".org", " takes 0 to 4294967295"),
+    (
+        b".space .zero .skip .comm .lcomm",
+        " takes 0 to 67108864 bytes",
+    ),
+];
+
+/// The form of an instruction.
+pub fn form_of(name: &[u8]) -> Option<Form> {
+    for (names, form) in &NAMES {
+        if place_among(names, name).is_some() {
+            return Some(*form);
+        }
+    }
+    None
+}
+
+/// How what follows an instruction or a directive is written.
+pub fn usage_of(name: &[u8]) -> Option<&'static str> {
+    match form_of(name) {
+        Some(form) => Some(operands_of(form)),
+        None => beside(&DIRECTIVES, name),
+    }
+}
+
+/// What is written here for a name that other assemblers have.
+pub fn own_name_of(name: &[u8]) -> Option<&'static str> {
+    beside(&ELSEWHERE, name)
+}
+
+/// What stands beside names in a table, one of which is this one.
+fn beside(table: &[(&'static [u8], &'static str)], name: &[u8]) -> Option<&'static str> {
+    for (names, other) in table {
+        if place_among(names, name).is_some() {
+            return Some(*other);
+        }
+    }
+    None
+}
+
+/// The operands as one writes them.
+fn operands_of(form: Form) -> &'static str {
+    match form {
+        Form::Registers => " rd, rs1, rs2",
+        Form::Immediate | Form::Shift => " rd, rs1, number",
+        Form::Load => " rd, offset(rs1)",
+        Form::Store => " rs2, offset(rs1)",
+        Form::Branch => " rs1, rs2, label",
+        Form::ZeroBranch => " rs, label",
+        Form::Upper | Form::Number => " rd, number",
+        Form::Copy => " rd, rs",
+        Form::Address => " rd, symbol",
+        Form::Jump => " label",
+        Form::Link => " rd, label",
+        Form::Register => " rs",
+        Form::LinkRegister => " rd, offset(rs1)",
+        Form::FarJump => " label, rt",
+        Form::Fence => " rw, rw",
+        Form::Alone => "",
+    }
+}
+
+/// The range of the number that an instruction or a directive takes.
+pub fn range_of(name: &[u8]) -> &'static str {
+    match form_of(name) {
+        Some(Form::Immediate) => " takes -2048 to 2047; li puts any number into a register",
+        Some(Form::Shift) => " takes 0 to 31",
+        Some(Form::Load | Form::Store | Form::LinkRegister) => " takes an offset of -2048 to 2047",
+        Some(Form::Upper) => " takes 0 to 1048575, the upper 20 bits",
+        Some(Form::Branch | Form::ZeroBranch) => " reaches 1048572 bytes back and 1048578 forward",
+        Some(Form::Jump | Form::Link) => " reaches 1048576 bytes back and 1048574 forward",
+        Some(Form::Number) => " takes -2147483648 to 4294967295",
+        _ => beside(&RANGES, name).unwrap_or(""),
+    }
+}
+
+/// The instruction that takes a register where one takes a number.
+pub fn with_register(name: &[u8]) -> Option<&'static str> {
+    beside(&PAIRS, name)
+}
+
+/// The instruction that takes a number where one takes a register.
+pub fn with_number(name: &[u8]) -> Option<&'static [u8]> {
+    for (number, register) in &PAIRS {
+        if register.as_bytes() == name {
+            return Some(*number);
+        }
+    }
+    None
+}
