@@ -1,2 +1,5 @@
 pub mod More
 pub mod Delivered
+pub mod Blocks
+pub mod Cell
+pub mod Values

@@ -3,7 +3,7 @@
 use Rattle.std.specs.Borrow.{Bor}
 use Rattle.std.specs.declared.alloc.Allocator.{Ghosts}
 use Rattle.bumpalo.specs.declared.bump.Bump.{Bump}
-use Rattle.rrs_room.specs.declared.lent.LentHeap.{LentHeap}
+use Rattle.rrs_lent.specs.declared.lent_heap.LentHeap.{LentHeap}
 
 abbrev pub Arena : Ghosts (Bor LentHeap) → Type 0
 Arena g = Bor (Bump (Bor LentHeap) g)

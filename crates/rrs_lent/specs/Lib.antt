@@ -2,3 +2,6 @@
 pub mod Lent
 pub mod Telling
 pub mod Steps
+pub mod Heaps
+pub mod Ownership
+pub mod Rooms

@@ -1,14 +1,14 @@
 //! An assembly in memory that is lent.
 
 ghost use Rattle.std.specs.Prelude.{◌≡◌, ◌*◌, ◌^◌, ◌<◌, ◌≤◌, length, take};
-ghost use Rattle.rrs_room.specs.Heaps.{IsBack};
-ghost use Rattle.rrs_room.specs.Rooms.{place_of, room_size};
+ghost use Rattle.rrs_lent.specs.Heaps.{IsBack};
+ghost use Rattle.rrs_lent.specs.Rooms.{place_of, room_size};
 ghost use Rattle.rrs_lent.specs.Lent.{Arena};
 ghost use Rattle.rrs_lent.specs.Telling.{Assembles, Needs, TellMistakes, HasNoProgram, AllFit, StaysBehind, small_room};
 
 use crate::assembling::assemble_into;
 use crate::outcome::{RrsAssembled, RrsMistake, RrsStatement, RrsSymbol, SMALL_ROOM};
-use rrs_room::{LentHeap, Room};
+use crate::{LentHeap, Room};
 use std::alloc::Allocator;
 
 /// The least memory that is asked for where there was too little.

@@ -2,8 +2,7 @@
 
 use crate::expansions::assembled;
 use rrs_asm::{Program, Section, image};
-use rrs_lent::{RrsAssembled, RrsMistake, RrsStatement, RrsSymbol, assemble_lent};
-use rrs_room::Room;
+use rrs_lent::{Room, RrsAssembled, RrsMistake, RrsStatement, RrsSymbol, assemble_lent};
 use std::alloc::{AllocError, Global};
 
 /// The address of the first section.

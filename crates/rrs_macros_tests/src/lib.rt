@@ -1,6 +1,6 @@
 //! The tests of `rrs_asm_macros`: sources and the bytes that GNU `as` makes of them, the lines of the source
 //! that it tells, and mistakes. What `rrs_lent` tells of sources is compared with what
-//! `assemble_source` makes, and collections fill the rooms of `rrs_room`.
+//! `assemble_source` makes, and collections fill the rooms of `rrs_lent`.
 
 #![tactic(auto)]
 

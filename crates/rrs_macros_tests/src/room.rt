@@ -1,9 +1,9 @@
 //! Collections in a room that is lent.
 
-ghost use Rattle.rrs_room.specs.Heaps.{IsBack};
-ghost use Rattle.rrs_room.specs.Rooms.{place_of};
+ghost use Rattle.rrs_lent.specs.Heaps.{IsBack};
+ghost use Rattle.rrs_lent.specs.Rooms.{place_of};
 
-use rrs_room::{LentHeap, Room};
+use rrs_lent::{LentHeap, Room};
 use std::alloc::{AllocError, Allocator};
 use std::collections::BTreeMap;
 use std::test::Fail;

@@ -1,3 +1,0 @@
-pub mod Heaps
-pub mod Ownership
-pub mod Rooms
