@@ -128,7 +128,7 @@ SITES = (
         "Rust 1.85 has it as a function of the module alone.",
     ),
     (
-        "rrs_requests/src/files.rt",
+        "rrs_run_commands/src/files.rt",
         "        ErrorKind::InvalidFilename => HostFault::LongName,\n",
         "",
         "Rust has this kind from 1.87 on. Before it no reason is told.",

@@ -5,8 +5,11 @@
 
 #![tactic(auto)]
 
+mod board_debugging;
+mod debugging;
+
+use crate::debugging::Gdb;
 use rrs_commands::program::run_rrs;
-use rrs_debug_commands::debugging::Gdb;
 use rrs_linux::{Heap, Linux, LinuxClocks};
 use rrs_run_commands::execution::{HEAP_END, HEAP_START};
 use rrs_run_commands::progress_line::{Erasing, LineTerminal, ProgressLine};

@@ -8,12 +8,12 @@ use Rattle.rrs_lib.specs.declared.instruction_executor.InstructionException.TheV
 use Rattle.rrs_fast.specs.declared.serving.Ending.{Ending}
 use Rattle.rrs_fast.specs.declared.serving.Ending.TheVariants.{Limit, Fault, Exit}
 use Rattle.rrs_cli.specs.Failures as Failures
-use Rattle.rrs_requests.specs.declared.options.Task.{Task}
-use Rattle.rrs_requests.specs.declared.options.Task.TheVariants.{Execute, Trace, Cover, Board}
-use Rattle.rrs_requests.specs.declared.refusal.FileFault.TheVariants.{Host}
-use Rattle.rrs_requests.specs.declared.refusal.HostFault.TheVariants.{Closed}
-use Rattle.rrs_requests.specs.declared.refusal.Refusal.{Refusal}
-use Rattle.rrs_requests.specs.declared.refusal.Refusal.TheVariants.{Words, File, Terminal, Failed}
+use Rattle.rrs_run_commands.specs.declared.options.Task.{Task}
+use Rattle.rrs_run_commands.specs.declared.options.Task.TheVariants.{Execute, Trace, Cover, Board}
+use Rattle.rrs_run_commands.specs.declared.refusal.FileFault.TheVariants.{Host}
+use Rattle.rrs_run_commands.specs.declared.refusal.HostFault.TheVariants.{Closed}
+use Rattle.rrs_run_commands.specs.declared.refusal.Refusal.{Refusal}
+use Rattle.rrs_run_commands.specs.declared.refusal.Refusal.TheVariants.{Words, File, Terminal, Failed}
 
 abbrev pub signal_of : InstructionException → ℕ
 signal_of (IllegalInstruction pc word) = 4  -- SIGILL

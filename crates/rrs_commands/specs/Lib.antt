@@ -1,2 +1,4 @@
 -- How rrs ends.
 pub mod Endings
+pub mod Assembly
+pub mod Files

@@ -1,7 +1,7 @@
 //! What is said of a file that a subcommand can't use.
 
 use rrs_exec::ImageError;
-use rrs_requests::refusal::{FileFault, HostFault};
+use rrs_run_commands::refusal::{FileFault, HostFault};
 use std::fmt;
 
 /// What is wrong with a file, as a line on standard error has it behind the file's path.

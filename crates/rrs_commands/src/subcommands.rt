@@ -1,7 +1,7 @@
 //! The subcommands of `rrs`: how each is called, and what its help says.
 
 use rrs_cli::command::Command;
-use rrs_requests::options::Task;
+use rrs_run_commands::options::Task;
 
 /// A subcommand.
 #[derive(Clone, Copy)]

@@ -4,3 +4,6 @@ pub use Rattle.rrs_linux.specs.SystemCalls
 pub use Rattle.rrs_cli.specs.Faults
 pub mod Quiet
 pub mod Execution
+pub mod Words
+pub mod Options
+pub mod Requests

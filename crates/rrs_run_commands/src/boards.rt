@@ -1,12 +1,12 @@
 //! `rrs board`: firmware on a board with a hart of machine mode.
 
+use crate::files::{Noting, STANDARD_INPUT, STANDARD_OUTPUT, buffered, read_program};
+use crate::options::{Task, most_memory};
+use crate::refusal::{Refusal, named, no_image};
+use crate::requests::Request;
 use rrs_board::{Board, BoardEnd, BoardError, BoardEvent, TerminalError, run_at_terminal};
 use rrs_exec::ImageError;
 use rrs_fast::Ending;
-use rrs_requests::files::{Noting, STANDARD_INPUT, STANDARD_OUTPUT, buffered, read_program};
-use rrs_requests::options::{Task, most_memory};
-use rrs_requests::refusal::{Refusal, named, no_image};
-use rrs_requests::requests::Request;
 use std::io::{Read, Write};
 use std::rt::Files;
 

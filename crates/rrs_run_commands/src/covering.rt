@@ -2,13 +2,13 @@
 
 use crate::disassembling::{code_of, flushed};
 use crate::executables::tell;
+use crate::files::{Noting, STANDARD_ERROR, buffered, created, read_program};
+use crate::refusal::{Refusal, named, no_image};
+use crate::requests::Request;
 use rrs_exec::Progress;
 use rrs_fast::Ending;
 use rrs_linux::Linux;
 use rrs_reports::{Code, Profile, cover_process, write_annotated, write_callgrind, write_summary};
-use rrs_requests::files::{Noting, STANDARD_ERROR, buffered, created, read_program};
-use rrs_requests::refusal::{Refusal, named, no_image};
-use rrs_requests::requests::Request;
 use std::alloc::Global;
 use std::io::{Read, Write};
 use std::rt::Files;

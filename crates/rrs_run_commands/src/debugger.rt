@@ -1,10 +1,10 @@
 //! What runs a program under gdb, as the program `rrs` calls it. The debugger takes the gate longest,
 //! so the rest of `rrs` is proved beside it.
 
+use crate::options::Task;
+use crate::refusal::Refusal;
+use crate::requests::Request;
 use rrs_fast::Ending;
-use rrs_requests::options::Task;
-use rrs_requests::refusal::Refusal;
-use rrs_requests::requests::Request;
 use std::io::{Read, Write};
 use std::rt::{Env, Files};
 

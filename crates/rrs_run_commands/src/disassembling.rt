@@ -1,9 +1,9 @@
 //! `rrs dis`: the disassembly of an executable.
 
+use crate::files::{buffered, read_program, unwritten};
+use crate::refusal::{Refusal, no_executable, out_of_memory};
 use rrs_elf::Executable;
 use rrs_reports::{Code, write_disassembly};
-use rrs_requests::files::{buffered, read_program, unwritten};
-use rrs_requests::refusal::{Refusal, no_executable, out_of_memory};
 use std::alloc::{AllocError, Global};
 use std::io::{self, Write};
 use std::rt::Files;

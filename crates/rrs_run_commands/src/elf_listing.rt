@@ -2,11 +2,11 @@
 //! lists them.
 
 use crate::disassembling::flushed;
+use crate::files::{buffered, read_program};
+use crate::refusal::{Refusal, no_executable};
 use rrs_elf::{Executable, ProgramHeader, Symbol, Symbols};
 use rrs_lib::disassembly::hexadecimal_digits;
 use rrs_reports::{Pieces, SHOWN_BYTES};
-use rrs_requests::files::{buffered, read_program};
-use rrs_requests::refusal::{Refusal, no_executable};
 use std::io::{self, Write};
 use std::rt::Files;
 

@@ -1,14 +1,14 @@
 //! Executables as the subcommands take them: read, run, and what is told where they fail.
 
+use crate::files::read_program;
+use crate::refusal::{Refusal, no_image};
+use crate::requests::Request;
 use rrs_elf::Executable;
 use rrs_exec::{ProcessEnd, Progress, execute_process};
 use rrs_fast::Ending;
 use rrs_lib::instruction_executor::InstructionException;
 use rrs_linux::Linux;
 use rrs_reports::{SHOWN_BYTES, ShownName};
-use rrs_requests::files::read_program;
-use rrs_requests::refusal::{Refusal, no_image};
-use rrs_requests::requests::Request;
 use std::io::{Read, Write};
 use std::rt::Files;
 

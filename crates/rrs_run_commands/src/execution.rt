@@ -4,6 +4,8 @@ ghost use Rattle.std.specs.Prelude.{◌≡◌, IfOk, IfErr, OnErr};
 ghost use Rattle.rrs_cli.specs.Faults.{StopsLoadInto};
 ghost use Rattle.rrs_run_commands.specs.Execution.{ExecutesProgram};
 
+use crate::files::read_program;
+use crate::refusal::{Refusal, unloaded};
 use rrs_cli::fault::RunFault;
 use rrs_cli::loading::load;
 use rrs_exec::{DECODED_WORDS, InPieces, Progress};
@@ -11,8 +13,6 @@ use rrs_fast::{CachedMemory, Ending, OwnCache, ServedEnd, run_served};
 use rrs_lib::HartState;
 use rrs_lib::instruction_executor::InstructionExecutor;
 use rrs_linux::Linux;
-use rrs_requests::files::read_program;
-use rrs_requests::refusal::{Refusal, unloaded};
 use std::alloc::Global;
 use std::io::{Read, Write};
 use std::rt::Files;

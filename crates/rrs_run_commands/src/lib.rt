@@ -1,6 +1,10 @@
-//! The subcommands of `rrs` that run something, or say what an executable has: runs of files, with
-//! and without a line for each instruction, programs that make system calls of Linux, with a report
-//! of the run or none, firmware on a board, and the listing and the disassembly of an executable.
+//! What all subcommands of `rrs` share, and those that run something or say what an executable has.
+//!
+//! Shared are the words that they are asked with (`words`, `options`, `requests`), the files that
+//! they read and write (`files`), and why they refuse what they are asked (`refusal`). The
+//! subcommands here are runs of files, with and without a line for each instruction, programs that
+//! make system calls of Linux, with a report of the run or none, firmware on a board, and the listing
+//! and the disassembly of an executable.
 
 #![tactic(auto)]
 
@@ -11,6 +15,11 @@ pub mod disassembling;
 pub mod elf_listing;
 pub mod executables;
 pub mod execution;
+pub mod files;
+pub mod options;
 pub mod progress_line;
 pub mod quiet;
+pub mod refusal;
+pub mod requests;
 pub mod tracing;
+pub mod words;

@@ -1,15 +1,15 @@
 //! `rrs trace`: the commit log of a run, as Spike writes it.
 
 use crate::executables::tell;
+use crate::files::{Noting, STANDARD_ERROR, buffered, created, read_program, unwritten};
+use crate::refusal::{Refusal, named, no_executable, no_image};
+use crate::requests::Request;
+use crate::words::number_of;
 use rrs_elf::{Executable, Symbols};
 use rrs_exec::Progress;
 use rrs_fast::Ending;
 use rrs_linux::Linux;
 use rrs_reports::{TraceError, trace_process};
-use rrs_requests::files::{Noting, STANDARD_ERROR, buffered, created, read_program, unwritten};
-use rrs_requests::refusal::{Refusal, named, no_executable, no_image};
-use rrs_requests::requests::Request;
-use rrs_requests::words::number_of;
 use std::io::{Read, Write};
 use std::rt::Files;
 

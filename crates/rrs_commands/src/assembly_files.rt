@@ -1,0 +1,334 @@
+//! The files that a source names by `.incbin`.
+//!
+//! A statement `.incbin "NAME", SKIP, COUNT` becomes a `.byte` with the bytes of the file, in the
+//! same line. The file is looked for beside the source, or in a folder there. Another path, and what
+//! is no file, is refused, unless the caller allows any.
+
+ghost use Rattle.std.specs.Prelude.{◌≡◌, true, IfOk};
+ghost use Rattle.rrs_commands.specs.Files.{Includes, NamesFile};
+
+use rrs_asm_lines::{Part, begins_with, behind_blanks, first_line, first_part, split_word};
+use rrs_asm_macros::Expanded;
+use rrs_asm_output::{MOST_MISTAKES, number_of};
+use rrs_run_commands::files::read_file;
+use rrs_run_commands::refusal::{FileFault, Refusal, out_of_memory};
+use std::alloc::{AllocError, Global};
+use std::fs;
+use std::rt::Files;
+
+/// The name of the directive.
+const NAME: &[u8] = b".incbin";
+
+/// What a statement asks for.
+#[derive(Clone, Copy)]
+struct Request<'a> {
+    /// The name of the file.
+    name: &'a [u8],
+    /// How many of its bytes are left out.
+    skip: usize,
+    /// How many of the others are taken, if not all.
+    count: Option<usize>,
+}
+
+/// Where a line of a source is told.
+#[derive(Clone, Copy)]
+struct Place<'a> {
+    /// The path of the source.
+    path: &'a str,
+    /// Whether it may name files by any path.
+    has_any_file: bool,
+    /// The number of the line.
+    line: usize,
+    /// The column of the statement.
+    column: usize,
+}
+
+/// A text with the bytes of the files that it names, which lie beside the source, or where any path
+/// is allowed anywhere. One that names none is as it was. Mistakes are printed.
+///
+/// # Errors
+///
+/// `Refusal::SourceErrors` where a file can't be read, or is not named as it has to be, and out of
+/// memory as a failure.
+pub fn with_files<'a, H: Files + Eprint + AllocGlobal>(
+    rt: &H,
+    path: &str,
+    expanded: Expanded,
+    has_any_file: bool,
+) -> Result<Expanded, Refusal<'a>>
+    ensures { IfOk result (λ made. Includes expanded.text.items made.text.items) }
+{
+    if !names_file(&expanded.text) {
+        return Ok(expanded);
+    }
+    let text = text_with_files(rt, path, &expanded, has_any_file)?;
+    let lines = expanded.lines;
+    Ok(Expanded { text, lines })
+}
+
+/// The text with the bytes of its files. The first 20 lines with mistakes are told.
+fn text_with_files<'a, H: Files + Eprint + AllocGlobal>(
+    rt: &H,
+    path: &str,
+    expanded: &Expanded,
+    has_any_file: bool,
+) -> Result<Vec<u8>, Refusal<'a>> {
+    let mut text = Vec::new(rt.alloc());
+    let mut rest = Some(expanded.text.as_slice());
+    let mut wrong = 0usize;
+    for number in 1..=expanded.lines.len() {
+        let Some(left) = rest else {
+            break;
+        };
+        let (line, others) = first_line(left);
+        let place = Place {
+            path,
+            has_any_file,
+            line: number_of(&expanded.lines, number),
+            column: 1,
+        };
+        match put_line(rt, place, line, &mut text) {
+            Ok(()) => (),
+            Err(Refusal::SourceErrors) => wrong = wrong.saturating_add(1),
+            Err(refusal) => return Err(refusal),
+        }
+        if wrong >= MOST_MISTAKES {
+            break;
+        }
+        if others.is_some() {
+            push(&mut text, b"\n")?;
+        }
+        rest = others;
+    }
+    if wrong > 0 {
+        Err(Refusal::SourceErrors)
+    } else {
+        Ok(text)
+    }
+}
+
+/// Whether a text has the name of the directive somewhere.
+fn names_file(text: &[u8]) -> bool
+    ensures { result ≡ true → NamesFile text.now }
+{
+    for index in 0..text.len() {
+        if text[index..].starts_with(NAME) {
+            return true;
+        }
+    }
+    false
+}
+
+/// Appends bytes.
+fn push<'a>(text: &mut Vec<u8>, bytes: &[u8]) -> Result<(), Refusal<'a>> {
+    match text.extend_from_slice(bytes) {
+        Ok(()) => Ok(()),
+        Err(_) => Err(out_of_memory()),
+    }
+}
+
+/// Appends a line, with the bytes of the files that its statements name.
+fn put_line<'a, H: Files + Eprint + AllocGlobal>(
+    rt: &H,
+    place: Place<'_>,
+    line: &[u8],
+    text: &mut Vec<u8>,
+) -> Result<(), Refusal<'a>> {
+    let mut rest = Some(line);
+    for _ in 0..=line.len() {
+        let Some(left) = rest else {
+            break;
+        };
+        let (part, others) = first_part(left);
+        let own = part.text().len();
+        let taken = left
+            .len()
+            .saturating_sub(others.map_or(0, |others| others.len()));
+        let place = Place {
+            column: column_of(line, left),
+            ..place
+        };
+        put_part(rt, place, part, text)?;
+        push(text, left.get(own..taken).unwrap_or(&[]))?;
+        rest = others;
+    }
+    Ok(())
+}
+
+/// The column of what stands behind the blanks of the rest of a line.
+fn column_of(line: &[u8], left: &[u8]) -> usize {
+    line.len()
+        .saturating_sub(behind_blanks(left).len())
+        .saturating_add(1)
+}
+
+/// Appends a label or a statement, or the bytes of the file that it names.
+fn put_part<'a, H: Files + Eprint + AllocGlobal>(
+    rt: &H,
+    place: Place<'_>,
+    part: Part<'_>,
+    text: &mut Vec<u8>,
+) -> Result<(), Refusal<'a>> {
+    let Part::Statement(own) = part else {
+        return push(text, part.text());
+    };
+    let (name, operands) = split_word(own);
+    if name != NAME {
+        return push(text, own);
+    }
+    let Some(request) = request_of(operands) else {
+        return refuse(
+            rt,
+            place,
+            "a file is named here, as .incbin \"NAME\", SKIP, COUNT",
+        );
+    };
+    put_file(rt, place, request, text)
+}
+
+/// Prints what is wrong at a place.
+fn refuse<'a, H: Eprint>(rt: &H, place: Place<'_>, what: &str) -> Result<(), Refusal<'a>> {
+    let Place {
+        path,
+        line,
+        column,
+        ..
+    } = place;
+    let _ = eprintln!(rt; "{path}:{line}:{column}: {what}");
+    Err(Refusal::SourceErrors)
+}
+
+/// Prints what is wrong with a file that is named at a place.
+fn refuse_file<'a, H: Eprint>(
+    rt: &H,
+    place: Place<'_>,
+    what: &str,
+    name: &str,
+) -> Result<(), Refusal<'a>> {
+    let Place {
+        path,
+        line,
+        column,
+        ..
+    } = place;
+    let _ = eprintln!(rt; "{path}:{line}:{column}: {what}: {name}");
+    Err(Refusal::SourceErrors)
+}
+
+/// Appends the bytes of a file as the operands of `.byte`.
+fn put_file<'a, H: Files + Eprint + AllocGlobal>(
+    rt: &H,
+    place: Place<'_>,
+    request: Request<'_>,
+    text: &mut Vec<u8>,
+) -> Result<(), Refusal<'a>> {
+    let Ok(path) = beside(rt.alloc(), place.path, request.name) else {
+        return Err(out_of_memory());
+    };
+    if !place.has_any_file && !(is_inside(request.name) && is_file(rt, &path)) {
+        let what = "this is no file beside the source, which --incbin-anywhere allows";
+        return refuse_file(rt, place, what, &path);
+    }
+    let bytes = match read_file(rt, &path) {
+        Ok(bytes) => bytes,
+        Err(Refusal::File(_, FileFault::LargeSource)) => {
+            return refuse_file(rt, place, "the file is too large", &path);
+        }
+        Err(_) => return refuse_file(rt, place, "the file can't be read", &path),
+    };
+    let end = match request.count {
+        Some(count) => request.skip.saturating_add(count),
+        None => bytes.len(),
+    };
+    let Some(bytes) = bytes.get(request.skip..end) else {
+        return refuse_file(rt, place, "the file has fewer bytes", &path);
+    };
+    match push_numbers(text, bytes) {
+        Ok(()) => Ok(()),
+        Err(_) => Err(out_of_memory()),
+    }
+}
+
+/// Whether a path is one from a folder into it: it does not begin at the root, and no part of it goes
+/// back.
+fn is_inside(name: &[u8]) -> bool {
+    for part in name.split(|byte| *byte == b'/') {
+        if part == b"..".as_slice() {
+            return false;
+        }
+    }
+    name.first() != Some(&b'/')
+}
+
+/// Whether nothing but a file has a path: a device or a folder is none. What is not there is left to
+/// who reads it.
+fn is_file<H: Files>(rt: &H, path: &str) -> bool {
+    match fs::metadata(rt, path) {
+        Ok(found) => found.is_file(),
+        Err(_) => true,
+    }
+}
+
+/// The path of a file beside another.
+fn beside(alloc: Global, path: &str, name: &[u8]) -> Result<String, AllocError> {
+    let mut beside = String::new(alloc);
+    if !name.starts_with(b"/") {
+        if let Some(at) = path.rfind('/') {
+            beside.push_str(&path[..=at])?;
+        }
+    }
+    beside.push_str(std::str::from_utf8(name).unwrap_or(""))?;
+    Ok(beside)
+}
+
+/// Appends bytes as the operands of `.byte`, or no byte.
+fn push_numbers(text: &mut Vec<u8>, bytes: &[u8]) -> Result<(), AllocError> {
+    let mut before = b".byte 0x".as_slice();
+    for byte in bytes {
+        text.extend_from_slice(before)?;
+        text.extend_from_slice(&[digit(byte / 16), digit(byte % 16)])?;
+        before = b",0x";
+    }
+    Ok(())
+}
+
+/// A hexadecimal digit.
+fn digit(value: u8) -> u8 {
+    b"0123456789abcdef"
+        .get(usize::from(value))
+        .copied()
+        .unwrap_or(b'0')
+}
+
+/// What the operands of a statement ask for.
+fn request_of(operands: &[u8]) -> Option<Request<'_>> {
+    let text = behind_blanks(operands).strip_prefix(b"\"")?;
+    let end = text.iter().position(|byte| *byte == b'"')?;
+    let (name, rest) = (&text[..end], &text[end + 1..]);
+    let (skip, rest) = number_behind(rest)?;
+    let (count, rest) = number_behind(rest)?;
+    behind_blanks(rest).is_empty().then_some(Request {
+        name,
+        skip: skip.unwrap_or(0),
+        count,
+    })
+}
+
+/// The number behind a comma, if there is a comma, and what is behind it.
+fn number_behind(text: &[u8]) -> Option<(Option<usize>, &[u8])> {
+    let text = behind_blanks(text);
+    if !begins_with(text, b',') {
+        return Some((None, text));
+    }
+    let (word, rest) = split_word(&text[1..]);
+    Some((Some(number(word)?), rest))
+}
+
+/// A number in decimal digits, or in hexadecimal ones behind `0x`.
+fn number(word: &[u8]) -> Option<usize> {
+    let (digits, base) = match word {
+        [b'0', b'x' | b'X', digits @ ..] => (digits, 16),
+        _ => (word, 10),
+    };
+    usize::from_str_radix(std::str::from_utf8(digits).ok()?, base).ok()
+}

@@ -1,6 +1,0 @@
-//! `rrs gdb`: a program, or firmware, under gdb.
-
-#![tactic(auto)]
-
-pub mod board_debugging;
-pub mod debugging;

@@ -1,0 +1,297 @@
+-- What the words behind a subcommand of `rrs` ask for. The words are lists of bytes.
+--
+--   rrs run [--quiet] FILE LIMIT
+--   rrs exec [--limit STEPS] [--memory BYTES] [--raw] PROGRAM [ARGUMENT] ..
+--   rrs trace [--limit STEPS] [--memory BYTES] [--from ADDRESS|SYMBOL] [--output FILE]
+--       PROGRAM [ARGUMENT] ..
+--   rrs cover [--limit STEPS] [--memory BYTES] [--annotate] [--callgrind FILE] [--output FILE]
+--       PROGRAM [ARGUMENT] ..
+--   rrs as [--gnu | --list] [-o OUTPUT] [--rars] [-Ttext ADDRESS] [-Tdata ADDRESS]
+--       [--incbin-anywhere] FILE
+--   rrs dis FILE
+--   rrs elf FILE
+--   rrs board [--limit STEPS] [--memory BYTES] [--input polled] PROGRAM
+--   rrs gdb [--memory BYTES] [--input FILE] [--raw] PROGRAM [ARGUMENT] ..
+--   rrs gdb --board [--limit STEPS] [--memory BYTES] [--input FILE] PROGRAM
+--
+-- Options stand in any order, before FILE and behind it; but the words behind a PROGRAM that has
+-- ARGUMENTs are its own.
+use Rattle.std.specs.Prelude.{ℕ, ◌<◌, ◌≤◌, ◌≡◌, ◌⊎◌, List, [], ◌∷◌, Bool, true, false, not, Option, Some, None, IsSome, Result, Ok, Err, map, string_bytes, option_map, codes}
+use Rattle.rrs_cli.specs.Limits.{limit_in}
+use Rattle.rrs_run_commands.specs.Words.{IsNumber, IsSize, IsAddress, IsDashed, HasValue, ends_options, name_in, value_in}
+use Rattle.rrs_run_commands.specs.Options.{has_setting, has_switch, most_memory, setting_word, switch_word, usual_limit, usual_memory}
+use Rattle.rrs_run_commands.specs.declared.options.Task.{Task}
+use Rattle.rrs_run_commands.specs.declared.options.Task.TheVariants.{Run, Execute, Trace, Cover, Debug, Board}
+use Rattle.rrs_run_commands.specs.declared.options.Switch.{Switch}
+use Rattle.rrs_run_commands.specs.declared.options.Switch.TheVariants.{Quiet, Raw, Annotate, Gnu, Listed, Rars, Anywhere}
+use Rattle.rrs_run_commands.specs.declared.options.Setting.{Setting}
+use Rattle.rrs_run_commands.specs.declared.options.Setting.TheVariants.{Limit, Memory, From, Output, Callgrind, Input, Text, Data, Executable}
+use Rattle.rrs_run_commands.specs.declared.refusal.Mistake.{Mistake}
+use Rattle.rrs_run_commands.specs.declared.refusal.Mistake.TheVariants as Mistake
+use Rattle.rrs_run_commands.specs.declared.requests.Form.{Form}
+use Rattle.rrs_run_commands.specs.declared.requests.Request.{Request}
+
+-- ---- what is asked for
+
+-- What is asked for: the options, the file, how many steps `rrs run` makes, and the words of a
+-- program with arguments, which are its path and then these.
+pub record Wanted : Type 0 where
+  pub quiet : Bool
+  pub raw : Bool
+  pub annotated : Bool
+  pub anywhere : Bool
+  pub polled : Bool
+  pub form : Form
+  pub limit : ℕ
+  pub memory : ℕ
+  pub text_start : Option ℕ
+  pub data_start : Option ℕ
+  pub from : Option (List ℕ)
+  pub output : Option (List ℕ)
+  pub callgrind : Option (List ℕ)
+  pub input : Option (List ℕ)
+  pub file : Option (List ℕ)
+  pub steps : Option ℕ
+  pub program : List (List ℕ)
+
+-- where no word asks for anything
+abbrev pub unasked : Task → Wanted
+unasked task = record {
+  quiet = false;
+  raw = false;
+  annotated = false;
+  anywhere = false;
+  polled = false;
+  form = Form.Bytes;
+  limit = usual_limit task;
+  memory = usual_memory task;
+  text_start = None;
+  data_start = None;
+  from = None;
+  output = None;
+  callgrind = None;
+  input = None;
+  file = None;
+  steps = None;
+  program = [];
+}
+
+abbrev pub wanted_of : Request → Wanted
+wanted_of request = record {
+  quiet = request.is_quiet;
+  raw = request.is_raw;
+  annotated = request.is_annotated;
+  anywhere = request.has_any_file;
+  polled = request.is_polled;
+  form = request.form;
+  limit = request.limit;
+  memory = request.memory;
+  text_start = request.text_start;
+  data_start = request.data_start;
+  from = option_map (λ word. word.now) request.from;
+  output = option_map (λ path. path.now) request.output;
+  callgrind = option_map (λ path. path.now) request.callgrind;
+  input = option_map (λ path. path.now) request.input;
+  file = option_map (λ path. path.now) request.file;
+  steps = request.steps;
+  program = map string_bytes request.words.now;
+}
+
+-- ---- why words are refused
+
+-- Words ask for nothing that can be done: one is missing; there is one too many; there is no such
+-- option; it takes no value; it has none; its value is not what it takes, or is more bytes of
+-- memory than there can be; or the word for the steps of `rrs run` is no limit.
+pub data Fault : Type 0 where
+  Missing : Fault
+  Surplus : List ℕ → Fault
+  Unknown : List ℕ → Fault
+  TakesNone : List ℕ → Fault
+  HasNone : List ℕ → Fault
+  Wrong : Setting → List ℕ → Fault
+  Large : List ℕ → ℕ → Fault
+  WrongSteps : List ℕ → Fault
+
+abbrev pub fault_of : Mistake → Fault
+fault_of Mistake.Missing = Missing
+fault_of (Mistake.Surplus word) = Surplus word.now
+fault_of (Mistake.Unknown word) = Unknown word.now
+fault_of (Mistake.TakesNone word) = TakesNone word.now
+fault_of (Mistake.HasNone word) = HasNone word.now
+fault_of (Mistake.Wrong setting word) = Wrong setting word.now
+fault_of (Mistake.Large word most) = Large word.now most
+fault_of (Mistake.WrongSteps word) = WrongSteps word.now
+
+-- ---- options
+
+-- what an option without a value makes of what is wanted; of two forms the last one counts
+abbrev pub switched : Switch → Wanted → Wanted
+switched Quiet old = record old { quiet = true }
+switched Raw old = record old { raw = true }
+switched Annotate old = record old { annotated = true }
+switched Gnu old = record old { form = Form.Source }
+switched Listed old = record old { form = Form.Listing }
+switched Rars old = record old { text_start = Some 0x40_0000; data_start = Some 0x1001_0000 }
+switched Anywhere old = record old { anywhere = true }
+
+-- What an option with this value makes of what is wanted. Of options that say the same the last one
+-- counts.
+abbrev pub Sets : Task → Setting → List ℕ → Wanted → Wanted → Type 0
+Sets task Limit value old new = (n : ℕ) × IsNumber value n × (new ≡ record old { limit = n })
+Sets task Memory value old new =
+    (n : ℕ) × IsSize value n × (n ≤ most_memory task) × (new ≡ record old { memory = n })
+Sets task From value old new = new ≡ record old { from = Some value }
+Sets task Output value old new = new ≡ record old { output = Some value }
+Sets task Callgrind value old new = new ≡ record old { callgrind = Some value }
+Sets Board Input value old new =
+    (value ≡ codes "polled") × (new ≡ record old { polled = true })
+Sets task Input value old new = new ≡ record old { input = Some value }
+Sets task Text value old new =
+    (address : ℕ) × IsAddress value address × (new ≡ record old { text_start = Some address })
+Sets task Data value old new =
+    (address : ℕ) × IsAddress value address × (new ≡ record old { data_start = Some address })
+Sets task Executable value old new = new ≡ record old { output = Some value }
+
+-- why a value is refused
+abbrev pub RefusesValue : Task → Setting → List ℕ → Fault → Type 0
+RefusesValue task Limit value fault =
+    ((n : ℕ) → IsNumber value n → ⊥) × (fault ≡ Wrong Limit value)
+RefusesValue task Memory value fault =
+    (((n : ℕ) → IsSize value n → ⊥) × (fault ≡ Wrong Memory value))
+    ⊎ ((n : ℕ) × IsSize value n × (most_memory task < n)
+    × (fault ≡ Large value (most_memory task)))
+RefusesValue task From value fault = ⊥
+RefusesValue task Output value fault = ⊥
+RefusesValue task Callgrind value fault = ⊥
+RefusesValue Board Input value fault = (value ≡ codes "polled" → ⊥) × (fault ≡ Wrong Input value)
+RefusesValue task Input value fault = ⊥
+RefusesValue task Text value fault =
+    ((address : ℕ) → IsAddress value address → ⊥) × (fault ≡ Wrong Text value)
+RefusesValue task Data value fault =
+    ((address : ℕ) → IsAddress value address → ⊥) × (fault ≡ Wrong Data value)
+RefusesValue task Executable value fault = ⊥
+
+-- a word has the name of this option, which the subcommand has
+abbrev pub IsSwitch : Task → List ℕ → Switch → Type 0
+IsSwitch task word switch =
+    (has_switch task switch ≡ true) × (name_in word ≡ switch_word switch)
+
+abbrev pub IsSetting : Task → List ℕ → Setting → Type 0
+IsSetting task word setting =
+    (has_setting task setting ≡ true) × (name_in word ≡ setting_word setting)
+
+-- An option's value stands in its own word, or else it is the next word.
+abbrev pub Gives : List ℕ → List (List ℕ) → List ℕ → List (List ℕ) → Type 0
+Gives word words value left =
+    (HasValue word × (value ≡ value_in word) × (words ≡ left))
+    ⊎ ((HasValue word → ⊥) × (words ≡ value ∷ left))
+
+-- what an option and the words behind it make of what is wanted, and the words that are left
+abbrev pub TakesOption : Task → List ℕ → Wanted → List (List ℕ) → Wanted → List (List ℕ) → Type 0
+TakesOption task word old words new left =
+    ((switch : Switch) × IsSwitch task word switch × (HasValue word → ⊥)
+    × (new ≡ switched switch old) × (words ≡ left))
+    ⊎ ((setting : Setting) × (value : List ℕ) × IsSetting task word setting
+    × Gives word words value left × Sets task setting value old new)
+
+-- why an option is refused
+abbrev pub RefusesOption : Task → List ℕ → List (List ℕ) → Fault → Type 0
+RefusesOption task word words fault =
+    (((switch : Switch) → IsSwitch task word switch → ⊥)
+    × ((setting : Setting) → IsSetting task word setting → ⊥) × (fault ≡ Unknown word))
+    ⊎ (((switch : Switch) × IsSwitch task word switch × HasValue word × (fault ≡ TakesNone word))
+    ⊎ (((setting : Setting) × IsSetting task word setting × (HasValue word → ⊥) × (words ≡ [])
+    × (fault ≡ HasNone word))
+    ⊎ ((setting : Setting) × (value : List ℕ) × (left : List (List ℕ))
+    × IsSetting task word setting × Gives word words value left
+    × RefusesValue task setting value fault)))
+
+-- ---- other words
+
+-- whether the words behind the program are its own; a raw program has no arguments
+abbrev pub has_arguments : Task → Wanted → Bool
+has_arguments Execute wanted = not wanted.raw
+has_arguments Debug wanted = not wanted.raw
+has_arguments Trace wanted = true
+has_arguments Cover wanted = true
+has_arguments _ wanted = false
+
+-- the first such word is the file, and the second of `rrs run` the number of steps
+abbrev pub TakesWord : Task → List ℕ → Wanted → Wanted → Type 0
+TakesWord task word old new =
+    ((old.file ≡ None) × (new ≡ record old { file = Some word }))
+    ⊎ ((task ≡ Run) × IsSome old.file × (old.steps ≡ None)
+    × ((n : ℕ) × (limit_in word ≡ Some n) × (new ≡ record old { steps = Some n })))
+
+abbrev pub RefusesWord : Task → List ℕ → Wanted → Fault → Type 0
+RefusesWord task word old fault =
+    ((task ≡ Run) × IsSome old.file × (old.steps ≡ None) × (limit_in word ≡ None)
+    × (fault ≡ WrongSteps word))
+    ⊎ (IsSome old.file × (task ≡ Run → IsSome old.steps) × (fault ≡ Surplus word))
+
+-- at the end of the words there are all that have to be there
+abbrev pub IsWhole : Task → Wanted → Type 0
+IsWhole task wanted = IsSome wanted.file × (task ≡ Run → IsSome wanted.steps)
+
+-- ---- all words
+
+-- what the words so far ask for, and whether one of them has ended the options
+pub record Reading : Type 0 where
+  pub ended : Bool
+  pub wanted : Wanted
+
+-- A word with a minus in front is an option, before the options are ended. Others are plain.
+abbrev pub IsOption : Reading → List ℕ → Type 0
+IsOption reading word = (reading.ended ≡ false) × IsDashed word
+
+abbrev pub IsPlain : Reading → List ℕ → Type 0
+IsPlain reading word = IsOption reading word → ⊥
+
+-- this word is the program, and the words behind it are its arguments
+abbrev pub IsProgram : Task → Reading → List ℕ → Type 0
+IsProgram task reading word =
+    IsPlain reading word × (has_arguments task reading.wanted ≡ true)
+
+-- what a word and the words behind it make of what is read, and the words that are left
+abbrev pub Takes : Task → List ℕ → Reading → List (List ℕ) → Reading → List (List ℕ) → Type 0
+Takes task word old words new left =
+    (IsOption old word × (word ≡ ends_options) × (new ≡ record old { ended = true })
+    × (words ≡ left))
+    ⊎ ((IsOption old word × (word ≡ ends_options → ⊥) × (new.ended ≡ old.ended)
+    × TakesOption task word old.wanted words new.wanted left)
+    ⊎ (IsPlain old word × (new.ended ≡ old.ended)
+    × TakesWord task word old.wanted new.wanted × (words ≡ left)))
+
+-- why a word, or the words behind it, are refused
+abbrev pub Refuses : Task → List ℕ → Reading → List (List ℕ) → Fault → Type 0
+Refuses task word old words fault =
+    (IsOption old word × (word ≡ ends_options → ⊥) × RefusesOption task word words fault)
+    ⊎ (IsPlain old word × RefusesWord task word old.wanted fault)
+
+-- A program that has arguments ends the words that are read; else they end where there are no more.
+abbrev pub Ends : Task → Reading → List (List ℕ) → Result Wanted Fault → Type 0
+Ends task reading [] asked =
+    (IsWhole task reading.wanted × (asked ≡ Ok reading.wanted))
+    ⊎ ((IsWhole task reading.wanted → ⊥) × (asked ≡ Err Missing))
+Ends task reading (word ∷ words) asked =
+    IsProgram task reading word
+    × (asked ≡ Ok (record reading.wanted { file = Some word; program = word ∷ words }))
+
+-- What words ask a subcommand for, where those before them are read as `reading` says.
+pub data AsksFor (task : Task) : Reading → List (List ℕ) → Result Wanted Fault → Type 0 where
+  Taken : (old new : Reading) (word : List ℕ) (words left : List (List ℕ))
+      (asked : Result Wanted Fault) → (IsProgram task old word → ⊥)
+      → Takes task word old words new left → AsksFor task new left asked
+      → AsksFor task old (word ∷ words) asked
+  Refused : (reading : Reading) (word : List ℕ) (words : List (List ℕ)) (fault : Fault)
+      → (IsProgram task reading word → ⊥) → Refuses task word reading words fault
+      → AsksFor task reading (word ∷ words) (Err fault)
+  Ended : (reading : Reading) (words : List (List ℕ)) (asked : Result Wanted Fault)
+      → Ends task reading words asked → AsksFor task reading words asked
+
+-- nothing is read
+abbrev pub unread : Task → Reading
+unread task = record { ended = false; wanted = unasked task }
+
+abbrev pub reading_of : Bool → Request → Reading
+reading_of ended request = record { ended = ended; wanted = wanted_of request }

@@ -1,0 +1,221 @@
+//! The options of the subcommands of `rrs`.
+
+ghost use Rattle.std.specs.Prelude.{◌≡◌, true, MatchOption};
+ghost use Rattle.rrs_run_commands.specs.Options.{has_setting, has_switch, most_memory, setting_word, switch_word, usual_limit, usual_memory};
+
+/// What a subcommand does.
+#[derive(Clone, Copy, PartialEq)]
+pub enum Task {
+    /// It runs a file, and prints what it does.
+    Run,
+    /// It runs a program that makes system calls.
+    Execute,
+    /// It runs such a program, and writes the log of the run.
+    Trace,
+    /// It runs such a program, and writes what the run covered.
+    Cover,
+    /// It assembles a source.
+    Assemble,
+    /// It lists what an executable has.
+    List,
+    /// It disassembles an executable.
+    Disassemble,
+    /// It runs firmware on a board.
+    Board,
+    /// It runs a program under gdb.
+    Debug,
+    /// It runs firmware on a board under gdb.
+    DebugBoard,
+    /// It says what the others do.
+    Help,
+}
+
+/// An option without a value.
+#[derive(Clone, Copy)]
+pub enum Switch {
+    /// `--quiet`.
+    Quiet,
+    /// `--raw`.
+    Raw,
+    /// `--annotate`.
+    Annotate,
+    /// `--gnu`.
+    Gnu,
+    /// `--list`.
+    Listed,
+    /// `--rars`.
+    Rars,
+    /// `--incbin-anywhere`.
+    Anywhere,
+}
+
+/// An option with a value.
+#[derive(Clone, Copy)]
+pub enum Setting {
+    /// `--limit`, with a number of steps.
+    Limit,
+    /// `--memory`, with a number of bytes.
+    Memory,
+    /// `--from`, with an address or a symbol.
+    From,
+    /// `--output`, with a path.
+    Output,
+    /// `--callgrind`, with a path.
+    Callgrind,
+    /// `--input`, with a path; on a board that is not debugged `polled`.
+    Input,
+    /// `-Ttext`, with an address.
+    Text,
+    /// `-Tdata`, with an address.
+    Data,
+    /// `-o`, with a path.
+    Executable,
+}
+
+/// The words of all options.
+pub static WORDS: [&str; 16] = [
+    "--quiet",
+    "--raw",
+    "--annotate",
+    "--gnu",
+    "--list",
+    "--rars",
+    "--incbin-anywhere",
+    "--limit",
+    "--memory",
+    "--from",
+    "--output",
+    "--callgrind",
+    "--input",
+    "-Ttext",
+    "-Tdata",
+    "-o",
+];
+
+/// The option without a value that a word is, if it is one.
+fn switch_named(name: &str) -> Option<Switch>
+    ensures { MatchOption result ((switch : Switch) → name.now ≡ switch_word switch → ⊥)
+        (λ switch. name.now ≡ switch_word switch) }
+{
+    match name {
+        "--quiet" => Some(Switch::Quiet),
+        "--raw" => Some(Switch::Raw),
+        "--annotate" => Some(Switch::Annotate),
+        "--gnu" => Some(Switch::Gnu),
+        "--list" => Some(Switch::Listed),
+        "--rars" => Some(Switch::Rars),
+        "--incbin-anywhere" => Some(Switch::Anywhere),
+        _ => None,
+    }
+}
+
+/// The option with a value that a word is, if it is one.
+fn setting_named(name: &str) -> Option<Setting>
+    ensures { MatchOption result ((setting : Setting) → name.now ≡ setting_word setting → ⊥)
+        (λ setting. name.now ≡ setting_word setting) }
+{
+    match name {
+        "--limit" => Some(Setting::Limit),
+        "--memory" => Some(Setting::Memory),
+        "--from" => Some(Setting::From),
+        "--output" => Some(Setting::Output),
+        "--callgrind" => Some(Setting::Callgrind),
+        "--input" => Some(Setting::Input),
+        "-Ttext" => Some(Setting::Text),
+        "-Tdata" => Some(Setting::Data),
+        "-o" => Some(Setting::Executable),
+        _ => None,
+    }
+}
+
+/// Whether a subcommand has an option without a value.
+fn has_switch(task: Task, switch: Switch) -> bool
+    ensures { result ≡ has_switch task switch }
+{
+    match switch {
+        Switch::Quiet => matches!(task, Task::Run),
+        Switch::Raw => matches!(task, Task::Execute | Task::Debug),
+        Switch::Annotate => matches!(task, Task::Cover),
+        Switch::Gnu | Switch::Listed | Switch::Rars | Switch::Anywhere => {
+            matches!(task, Task::Assemble)
+        }
+    }
+}
+
+/// Whether a subcommand has an option with a value.
+fn has_setting(task: Task, setting: Setting) -> bool
+    ensures { result ≡ has_setting task setting }
+{
+    match setting {
+        Setting::Limit => matches!(
+            task,
+            Task::Execute | Task::Trace | Task::Cover | Task::Board | Task::DebugBoard
+        ),
+        Setting::Memory => matches!(
+            task,
+            Task::Execute | Task::Trace | Task::Cover | Task::Board | Task::Debug | Task::DebugBoard
+        ),
+        Setting::From => matches!(task, Task::Trace),
+        Setting::Output => matches!(task, Task::Trace | Task::Cover),
+        Setting::Callgrind => matches!(task, Task::Cover),
+        Setting::Input => matches!(task, Task::Board | Task::Debug | Task::DebugBoard),
+        Setting::Text | Setting::Data | Setting::Executable => matches!(task, Task::Assemble),
+    }
+}
+
+/// The option without a value of a subcommand that a word is, if it is one.
+pub fn switch_of(task: Task, name: &str) -> Option<Switch>
+    ensures { MatchOption result
+        ((switch : Switch) → has_switch task switch ≡ true → name.now ≡ switch_word switch → ⊥)
+        (λ switch. (has_switch task switch ≡ true) × (name.now ≡ switch_word switch)) }
+{
+    match switch_named(name) {
+        Some(switch) if has_switch(task, switch) => Some(switch),
+        _ => None,
+    }
+}
+
+/// The option with a value of a subcommand that a word is, if it is one.
+pub fn setting_of(task: Task, name: &str) -> Option<Setting>
+    ensures { MatchOption result
+        ((setting : Setting) → has_setting task setting ≡ true
+        → name.now ≡ setting_word setting → ⊥)
+        (λ setting. (has_setting task setting ≡ true) × (name.now ≡ setting_word setting)) }
+{
+    match setting_named(name) {
+        Some(setting) if has_setting(task, setting) => Some(setting),
+        _ => None,
+    }
+}
+
+/// How many bytes of memory there are where no word says it: 128 MiB of a board, and 16 MiB of a
+/// process.
+pub fn usual_memory(task: Task) -> u64
+    ensures { result ≡ usual_memory task }
+{
+    match task {
+        Task::Board | Task::DebugBoard => 1 << 27,
+        _ => 1 << 24,
+    }
+}
+
+/// The most bytes of memory: 2 GiB of a board, and 4 GiB of a process.
+pub fn most_memory(task: Task) -> u64
+    ensures { result ≡ most_memory task }
+{
+    match task {
+        Task::Board | Task::DebugBoard => 1 << 31,
+        _ => 1 << 32,
+    }
+}
+
+/// The most steps that are made where no word says it: 10^9 at a `continue` on a board, and any
+/// number.
+pub fn usual_limit(task: Task) -> u64
+    ensures { result ≡ usual_limit task }
+{
+    match task {
+        Task::DebugBoard => 1_000_000_000,
+        _ => u64::MAX,
+    }
+}
