@@ -43,7 +43,7 @@ class Sources:
 TABLE = "crates/rrs_instruction/specs/Table.antt"
 HEADER = "crates/rrs_c/include/rrs.h"
 TEXTS = "crates/rrs_lib/src/disassembly.rt"
-TESTS = r"crates/(?:\w+_tests/.*|rrs_test_machines/.*|\w+/src/tests)\.rt"
+TESTS = r"crates/(?:\w+_tests/.*|tests_shared/.*|\w+/src/tests)\.rt"
 
 
 def row_names(sources):

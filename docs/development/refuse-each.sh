@@ -13,11 +13,11 @@
 # compiler is installed. --self-test tries this script: on tests that are wrong it must fail.
 set -o pipefail
 
-all='rrs_tests texts::a_refused_text_may_be_asked_for_again 9
-rrs_tests spaces::a_refused_region_may_be_added_again 4
-rrs_tests pages::a_refused_page_may_be_added_again 53
-rrs_asm_tests mistakes::a_refused_source_may_be_assembled_again 22
-rrs_cli_tests account::out_of_memory_leaves_no_part_of_the_steps 8
+all='tests_kit texts::a_refused_text_may_be_asked_for_again 9
+tests_kit spaces::a_refused_region_may_be_added_again 4
+tests_kit pages::a_refused_page_may_be_added_again 53
+tests_assembler mistakes::a_refused_source_may_be_assembled_again 22
+tests_programs account::out_of_memory_leaves_no_part_of_the_steps 8
 rrs_replay tests::out_of_memory_leaves_whole_answers 4'
 
 here=$(cd "$(dirname "$0")" && pwd) || exit 2

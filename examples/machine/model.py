@@ -1,7 +1,7 @@
 #!/usr/bin/env python3
 """A model of a hart with machine mode, written from the RISC-V specifications and not from the code.
 
-It makes the programs that the test `generated_programs` of crates/rrs_privileged_tests makes, from
+It makes the programs that the test `generated_programs` of crates/tests_machine_mode makes, from
 the same numbers, and runs them. What it prints is the table CHECKSUMS of that test.
 
 usage: model.py                prints the table
@@ -16,7 +16,7 @@ import sys
 import tempfile
 from pathlib import Path
 
-TEST = Path(__file__).resolve().parents[2] / "crates/rrs_privileged_tests/src/generated.rt"
+TEST = Path(__file__).resolve().parents[2] / "crates/tests_machine_mode/src/generated.rt"
 GROUPS, PROGRAMS, STEPS, WORDS = 20, 500, 24, 64
 MASK = 0xFFFFFFFF
 

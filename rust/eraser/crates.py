@@ -14,10 +14,10 @@ NOT_OVER = {
     "rrs_c": "a static library: what it exports needs unsafe code",
     "rrs_lent": "an allocator of lent memory: Rust's containers take no allocator as yet",
     "rrs_lent": "the assembler in lent memory, over rrs_lent",
-    "rrs_cli_tests": "its machine is a runtime of the toolchain's, by traits that are not here",
+    "tests_programs": "its machine is a runtime of the toolchain's, by traits that are not here",
 }
 # The modules that do not, in crates that do: they are tests of the crates above.
-MODULES_NOT_OVER = {("rrs_macros_tests", "lent"), ("rrs_macros_tests", "room")}
+MODULES_NOT_OVER = {("tests_assembler", "lent"), ("tests_assembler", "room")}
 # The modules that need the feature `std`, in crates that otherwise do not.
 NEED_STD = {("rrs_memory", "load"), ("rrs_board", "terminal")}
 # The crates whose examples in the docs use a crate above them.

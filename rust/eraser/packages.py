@@ -9,7 +9,7 @@ VERSION = "0.2.0"
 # The first Rust of edition 2024. What the text has of later ones is in `rattle_std` and sites.py.
 RUST = "1.85"
 # The crates with fields, functions or variants that a proof alone reads.
-READ_BY_PROOFS = {"rrs_asm", "rrs_cli", "rrs_tests"}
+READ_BY_PROOFS = {"rrs_asm", "rrs_cli", "tests_kit"}
 # The groups of clippy's lints, and those of others, that say how to write what is right otherwise:
 # the proved text stays as it is.
 STYLE = ("complexity", "style")

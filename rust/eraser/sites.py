@@ -25,19 +25,19 @@ SITES = (
         "Rust warns where a lifetime is not shown.",
     ),
     (
-        "rrs_macros_tests/src/expansions.rt",
+        "tests_assembler/src/expansions.rt",
         "Result<Program, SourceFault>",
         "Result<Program<'_>, SourceFault>",
         "As in rrs_asm_lines.",
     ),
     (
-        "rrs_tests/src/loading.rt",
+        "tests_kit/src/loading.rt",
         "fn reader_of(bytes: &[u8]) -> Failing",
         "fn reader_of(bytes: &[u8]) -> Failing<'_>",
         "As in rrs_asm_lines.",
     ),
     (
-        "rrs_asm_tests/src/assembled.rt",
+        "tests_assembler/src/assembled.rt",
         "Result<Program, SourceFault>",
         "Result<Program<'_>, SourceFault>",
         "As in rrs_asm_lines.",
@@ -134,7 +134,7 @@ SITES = (
         "Rust has this kind from 1.87 on. Before it no reason is told.",
     ),
     (
-        "rrs_host_tests/src/devices.rt",
+        "tests_host/src/devices.rt",
         "    if let Some(memory) = space.get_memory_mut(cell)\n"
         "        && let Some(word) = memory.mem.get_mut(0)\n    {",
         "    let Some(memory) = space.get_memory_mut(cell) else {\n        return;\n    };\n"
@@ -142,13 +142,13 @@ SITES = (
         "Rust 1.85 has one `let` in an `if`.",
     ),
     (
-        "rrs_host_tests/src/stopping.rt",
+        "tests_host/src/stopping.rt",
         "run_before::<_, _, true>",
         "run_before::<_, 64, true>",
         "Rust 1.85 has no `_` for a number.",
     ),
     (
-        "rrs_host_tests/src/stopping.rt",
+        "tests_host/src/stopping.rt",
         "run_before::<_, _, false>",
         "run_before::<_, N, false>",
         "Rust 1.85 has no `_` for a number.",
