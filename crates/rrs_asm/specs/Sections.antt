@@ -1,6 +1,6 @@
 -- The sections of a source: the items that stand in each, and what is made of them (GNU assembler
--- manual, "Sections and Relocation"). What follows a directive that opens a section stands in it, up
--- to the next such directive. At first the section `.text` is open.
+-- manual, "Sections and Relocation"). What follows a directive that opens a section stands in it,
+-- up to the next such directive. At first the section `.text` is open.
 use Rattle.std.specs.Prelude.{◌≡◌, ℕ, ◌+◌, ◌-◌, ◌<◌, ◌≤◌, Bool, true, false, not, ◌&&◌, ◌||◌, ◌==◌, if◌then◌else◌, List, [], ◌∷◌, ◌++◌, length, replicate, drop, codes, Option, None, Some, IfSome, All}
 use Rattle.std.specs.Int.{next_multiple_of}
 use Rattle.std.specs.Option.{option_map_or}
@@ -174,8 +174,8 @@ ArePlaced layout (s ∷ others) = (s.address ≡ layout.text_start) × AreBehind
 
 -- ---- all in one
 
--- the bytes of a section behind others, the first of which are at an address: behind zeros up to its
--- own
+-- the bytes of a section behind others, the first of which are at an address: behind zeros up to
+-- its own
 abbrev pub with_section : {A : Type 0} → ℕ → List ℕ → Section A → List ℕ
 with_section base before s =
     if is_empty s.made.bytes.items then before

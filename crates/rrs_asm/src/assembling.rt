@@ -33,11 +33,12 @@ const MOST_SECTIONS: usize = 256;
 ///
 /// A source is a list of items: directives that open a section, labels, and statements that lay
 /// bytes out (`items_of`). What is made of each section is made of the items in it, in their order:
-/// of each label and of each statement, with its line, its name and its address, from the address of
-/// the section on (`items`). The statements stand one behind the other (`laid_out`). Each section that
-/// is opened is there, but for those with debugging data and notes (`all_found`). Each holds what its
-/// name says, where that says it (`kinds`): instructions, data that is not written, data, or zeros.
-/// Each begins where the layout says: the first at its address, and each other behind the one before (`placed`).
+/// of each label and of each statement, with its line, its name and its address, from the address
+/// of the section on (`items`). The statements stand one behind the other (`laid_out`). Each
+/// section that is opened is there, but for those with debugging data and notes (`all_found`). Each
+/// holds what its name says, where that says it (`kinds`): instructions, data that is not written,
+/// data, or zeros. Each begins where the layout says: the first at its address, and each other
+/// behind the one before (`placed`).
 ///
 /// # Errors
 ///
@@ -60,9 +61,10 @@ pub fn assemble_source<A: Allocator + Copy>(
     reading.outcome()
 }
 
-/// Reads a source three times: for the sizes of the sections, for what symbols stand for, and for the
-/// statements; more often while the lengths of branches change. One with `%pcrel_hi` is read once
-/// more before the last time, for how far each of them reaches: a `%pcrel_lo` may stand before it.
+/// Reads a source three times: for the sizes of the sections, for what symbols stand for, and for
+/// the statements; more often while the lengths of branches change. One with `%pcrel_hi` is read
+/// once more before the last time, for how far each of them reaches: a `%pcrel_lo` may stand before
+/// it.
 fn read_all<'a, A: Allocator + Copy>(
     source: &'a [u8],
     layout: Layout,
@@ -112,8 +114,8 @@ fn settle<'a, A: Allocator + Copy>(
     true
 }
 
-/// Whether no label is moved, each section has as many bytes as in the reading before, holds what its
-/// name says and lies where the layout says, and `.text` is one of them.
+/// Whether no label is moved, each section has as many bytes as in the reading before, holds what
+/// its name says and lies where the layout says, and `.text` is one of them.
 fn is_right<A: Allocator>(sections: &[Section<A>], layout: Layout, is_moved: bool) -> bool
     ensures found { result ≡ true → first_open (names_of sections.now) < length sections.now }
     ensures kinds { result ≡ true → All HasItsKind sections.now }
@@ -687,8 +689,8 @@ fn put_symbol<'a, A: Allocator>(
     put(Statement::Fill(common.size, 0), &[], number, start, reading);
 }
 
-/// How many bytes the open section takes up to an alignment. The section is aligned, and `.bss` too,
-/// of which `COMMON` is a part in GNU `as`.
+/// How many bytes the open section takes up to an alignment. The section is aligned, and `.bss`
+/// too, of which `COMMON` is a part in GNU `as`.
 fn align_common<A: Allocator>(alignment: u32, reading: &mut Reading<A>) -> u32
     ensures { ReadsOn [] reading.old reading.new }
 {

@@ -354,8 +354,8 @@ fn read_string<A: Allocator>(line: &mut Line, bytes: &mut Vec<u8, A>) {
     }
 }
 
-/// Takes what follows a backslash: the byte that it stands for. It may be written by up to three octal
-/// digits, as `\101`, or by hexadecimal ones, of which the last two count, as `\x41`.
+/// Takes what follows a backslash: the byte that it stands for. It may be written by up to three
+/// octal digits, as `\101`, or by hexadecimal ones, of which the last two count, as `\x41`.
 fn next_escaped(line: &mut Line) -> Option<u8> {
     let error = line.error(SourceErrorKind::Escape);
     let value = match line.next_byte() {
@@ -373,8 +373,8 @@ fn next_escaped(line: &mut Line) -> Option<u8> {
     value
 }
 
-/// Takes so many further digits of an escape at most, as far as they stand there. The value is taken
-/// modulo 256.
+/// Takes so many further digits of an escape at most, as far as they stand there. The value is
+/// taken modulo 256.
 fn digits_behind(line: &mut Line, first: u8, base: u8, most: u64) -> u8 {
     let mut value = first;
     for _ in 0..most {

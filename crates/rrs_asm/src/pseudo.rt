@@ -106,8 +106,8 @@ pub enum Pseudo {
     AgainstZero(ZeroBranch, usize, i32),
     /// `bgt rs, rt, target`, and those like it: the offset.
     Swapped(SwappedBranch, usize, usize, i32),
-    /// `beq rs, rt, target`, and those like it, where the target is out of reach: the opposite branch
-    /// over a jump, and the offset from the jump.
+    /// `beq rs, rt, target`, and those like it, where the target is out of reach: the opposite
+    /// branch over a jump, and the offset from the jump.
     Far(Branch, usize, usize, i32),
     /// `beqz rs, target`, and those like it, in the same case.
     FarFromZero(ZeroBranch, usize, i32),

@@ -299,7 +299,8 @@ impl Extent {
         }
     }
 
-    /// Where what follows can lie. GNU `as` fills instructions up to the alignment of their section.
+    /// Where what follows can lie. GNU `as` fills instructions up to the alignment of their
+    /// section.
     fn filled_end(self) -> Option<u64>
         ensures { IfSome result (λ end. end ≡ filled_end self.kind self.alignment self.end) }
     {

@@ -525,9 +525,9 @@ impl<'a, 's> Line<'a, 's> {
             .cast_signed()
     }
 
-    /// Takes the target of a branch, from `-reach` to below `reach`: the offset to it, which is even.
-    /// Where a label is further away, or in another section, the branch is two instructions, the
-    /// second a jump of this far, and the offset is that of the jump.
+    /// Takes the target of a branch, from `-reach` to below `reach`: the offset to it, which is
+    /// even. Where a label is further away, or in another section, the branch is two instructions,
+    /// the second a jump of this far, and the offset is that of the jump.
     ///
     /// GNU `as` does the same: while it reads the source it takes a label that was not met to be at
     /// the beginning of the section, and else where it was in the reading before.

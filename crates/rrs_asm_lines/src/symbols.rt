@@ -306,7 +306,8 @@ impl<'a, A: Allocator> Symbols<'a, A> {
         }
     }
 
-    /// Defines a label at a place. Tells what is wrong with it: it is defined already, or it is `.`.
+    /// Defines a label at a place. Tells what is wrong with it: it is defined already, or it is
+    /// `.`.
     pub fn define_label(&mut self, name: &'a [u8], site: Site<'a>) -> Option<SourceErrorKind> {
         self.define(self.label(named(name), site))
     }

@@ -35,8 +35,8 @@ lines_above (line ∷ others) = if has_directives line then [] else line ∷ lin
 abbrev pub BeginWith : List (List ℕ) → List (List ℕ) → Type 0
 BeginWith first all = (others : List (List ℕ)) × (all ≡ first ++ others)
 
--- The lines above the first one with a directive stand at the head of the result, each as it is, and
--- of itself.
+-- The lines above the first one with a directive stand at the head of the result, each as it is,
+-- and of itself.
 pub record KeepsAbove {A : Type 0} (source : List ℕ) (expanded : Expanded A) : Type 0 where
   pub head : BeginWith (lines_above (lines source)) (lines expanded.text.items)
   pub numbered : (k : ℕ) → k < length (lines_above (lines source))

@@ -38,8 +38,8 @@ fn go_on<A: Allocator>(
     }
 }
 
-/// Ends the innermost condition, or goes on with `.else` or `.elseif`, by a directive that begins at
-/// a place.
+/// Ends the innermost condition, or goes on with `.else` or `.elseif`, by a directive that begins
+/// at a place.
 pub fn conclude<A: Allocator + Copy>(
     tables: &Tables<A>,
     directive: Directive,

@@ -55,8 +55,8 @@ first_address [] = None
 first_address (s ∷ others) =
     if is_empty s.made.bytes.items then first_address others else Some s.address
 
--- A program begins at `_start`, where there is no such label at `main`, and where there is neither at
--- its first byte.
+-- A program begins at `_start`, where there is no such label at `main`, and where there is neither
+-- at its first byte.
 abbrev pub entry_of : {A : Type 0} → List (Section A) → Option ℕ
 entry_of sections = option_or (address_of (codes "_start") sections)
     (option_or (address_of (codes "main") sections) (first_address sections))

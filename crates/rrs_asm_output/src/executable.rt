@@ -53,13 +53,13 @@ impl<T: Drop> From<AllocFailed<T>> for ExecutableError {
     }
 }
 
-/// The executable of a program, an ELF file for RV32IM: each section that has bytes is a segment, and
-/// each label is a symbol. It begins at `_start`, else at `main`, else at the first byte.
+/// The executable of a program, an ELF file for RV32IM: each section that has bytes is a segment,
+/// and each label is a symbol. It begins at `_start`, else at `main`, else at the first byte.
 ///
 /// # Errors
 ///
-/// `ExecutableError::Empty` where no section has bytes, `ExecutableError::Entry` where no instruction
-/// can stand at the entry, and out of memory.
+/// `ExecutableError::Empty` where no section has bytes, `ExecutableError::Entry` where no
+/// instruction can stand at the entry, and out of memory.
 pub fn executable_of(alloc: Global, program: &Program) -> Result<Vec<u8>, ExecutableError>
     ensures executable { IfOk result (λ file.
         IsExecutableOf program.now.sections.items file.items) }

@@ -26,10 +26,10 @@ struct Row {
 }
 
 /// The source with the addresses and the words of what stands in each line. A row is an address, 4
-/// bytes from there on as a word, the number of the line, and its text. A line without bytes is a row
-/// without the first two, and a line with more than 4 bytes has further rows without a text: of
-/// each statement 4 rows at most. Of a source whose lines were made of others, `numbers` has the number
-/// of each.
+/// bytes from there on as a word, the number of the line, and its text. A line without bytes is a
+/// row without the first two, and a line with more than 4 bytes has further rows without a text: of
+/// each statement 4 rows at most. Of a source whose lines were made of others, `numbers` has the
+/// number of each.
 pub fn listing_of(
     alloc: Global,
     source: &[u8],

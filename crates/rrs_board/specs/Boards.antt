@@ -59,8 +59,8 @@ pub record IsReset (ram : VecMemory) (pc : ℕ) (b : Board) : Type 0 where
   pub ram_is : b.memory.ram ≡ ram
   pub devices : b.memory.devices ≡ reset_devices
 
--- The board starts with an executable: it is at reset, at the entry, with so many words of RAM, which
--- are 0 but for the bytes of the segments. All of these are in RAM.
+-- The board starts with an executable: it is at reset, at the entry, with so many words of RAM,
+-- which are 0 but for the bytes of the segments. All of these are in RAM.
 pub record StartsWith (file : List ℕ) (words : ℕ) (b : Board) : Type 0 where
   pub reset : IsReset b.memory.ram (e_entry file) b
   pub size : length b.memory.ram.mem.items ≡ words

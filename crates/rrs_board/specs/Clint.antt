@@ -1,8 +1,9 @@
--- The CLINT of one hart (SiFive's manual of the FU540, "Core Local Interruptor"): "mtime" counts the
--- time; "a timer interrupt is pending whenever mtime is greater than or equal to mtimecmp"; "the least
--- significant bit of msip is reflected in MSIP of mip", and the others of msip read 0. Here time goes
--- on by 1 with each instruction that retires, and a `wfi` that waits goes forward to the alarm, which
--- is mtimecmp. Of reset the manual says nothing of mtimecmp: it is 2 ^ 64 - 1, which is no alarm.
+-- The CLINT of one hart (SiFive's manual of the FU540, "Core Local Interruptor"): "mtime" counts
+-- the time; "a timer interrupt is pending whenever mtime is greater than or equal to mtimecmp";
+-- "the least significant bit of msip is reflected in MSIP of mip", and the others of msip read 0.
+-- Here time goes on by 1 with each instruction that retires, and a `wfi` that waits goes forward to
+-- the alarm, which is mtimecmp. Of reset the manual says nothing of mtimecmp: it is 2 ^ 64 - 1,
+-- which is no alarm.
 use Rattle.std.specs.Prelude.{ℕ, ◌+◌, ◌-◌, ◌%◌, ◌^◌, ◌==◌, ◌&&◌, nat_le, nat_lt, Bool, if◌then◌else◌}
 use Rattle.rrs_machine.specs.declared.csrs.CsrFile.{CsrFile}
 use Rattle.rrs_machine.specs.declared.machine.MachineAnswer.{MachineAnswer}

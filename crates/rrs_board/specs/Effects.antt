@@ -1,5 +1,5 @@
--- What the devices do between two steps: they answer to the access that the step made, and time goes
--- on. What each of them is, is in Uart, Clint and Finisher.
+-- What the devices do between two steps: they answer to the access that the step made, and time
+-- goes on. What each of them is, is in Uart, Clint and Finisher.
 use Rattle.std.specs.Prelude.{ℕ, ◌+◌, ◌-◌, ◌*◌, ◌/◌, ◌%◌, ◌^◌, ◌==◌, ◌&&◌, ◌||◌, nat_lt, not, Bool, false, if◌then◌else◌, Option, Some, None}
 use Rattle.rrs_machine.specs.declared.csrs.CsrFile.{CsrFile}
 use Rattle.rrs_machine.specs.declared.csrs.Inputs.{Inputs}

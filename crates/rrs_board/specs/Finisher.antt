@@ -1,6 +1,6 @@
 -- The finisher (SiFive's test finisher, as QEMU has it): a word whose low half is 0x5555 ends the
--- program with status 0, and one whose low half is 0x3333 with the status in the high half. Any other
--- does nothing, and a read gives 0.
+-- program with status 0, and one whose low half is 0x3333 with the status in the high half. Any
+-- other does nothing, and a read gives 0.
 use Rattle.std.specs.Prelude.{ℕ, ◌/◌, ◌%◌, ◌^◌, ◌==◌, if◌then◌else◌, Option, Some, None}
 
 -- the status with which a word ends the program

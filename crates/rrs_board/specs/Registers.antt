@@ -1,6 +1,6 @@
 -- The registers of the devices, and the memory of the board (QEMU's board `virt`: a finisher at
--- 0x100000, a CLINT at 0x2000000 with msip, mtimecmp and mtime, a UART 16550 at 0x10000000, RAM from
--- 0x80000000 on). During a step a register is a word of memory: what is written reads back. An
+-- 0x100000, a CLINT at 0x2000000 with msip, mtimecmp and mtime, a UART 16550 at 0x10000000, RAM
+-- from 0x80000000 on). During a step a register is a word of memory: what is written reads back. An
 -- access to one is noted, and between two steps the devices answer to it.
 use Rattle.std.specs.Prelude.{◌≡◌, ℕ, ◌+◌, ◌-◌, ◌*◌, ◌/◌, ◌%◌, ◌^◌, ◌<◌, ◌≤◌, ◌==◌, nat_lt, Bool, true, false, if◌then◌else◌, List, [], Option, Some, None}
 use Rattle.std.specs.Bool.{OnTrue, OnFalse}

@@ -1,6 +1,6 @@
--- A board at a terminal. What the program transmits is printed, and what is typed arrives at its UART.
--- Between two runs of the board a byte may arrive, where the UART holds none. When that is so is no
--- part of this: a person types when he likes.
+-- A board at a terminal. What the program transmits is printed, and what is typed arrives at its
+-- UART. Between two runs of the board a byte may arrive, where the UART holds none. When that is so
+-- is no part of this: a person types when he likes.
 use Rattle.std.specs.Prelude.{◌≡◌, ℕ, ◌+◌, ◌-◌, Bool, true, List, [], ◌∷◌, ◌++◌, Option, Some, None, IfSome}
 use Rattle.std.specs.Io.KnownBytes.{Appends, Consumes, Keeps}
 use Rattle.rrs_board.specs.declared.board.Board.{Board}
@@ -26,7 +26,8 @@ abbrev pub printed_by : BoardEvent → List ℕ
 printed_by (Transmitted byte) = byte ∷ []
 printed_by _ = []
 
--- the events after which a board goes on: a wait that no alarm can end is one where input can end it
+-- the events after which a board goes on: a wait that no alarm can end is one where input can end
+-- it
 abbrev pub Goes : BoardEvent → Board → Type 0
 Goes (Finished status) b = ⊥
 Goes NothingWakes b = waits_for_input b.memory.devices ≡ true
@@ -98,8 +99,8 @@ pub record StoppedSession (limit : ℕ) (start : Board) (input rest before after
 
 -- ---- one event
 
--- An event was served, by the bytes of the input and of the output before and after it, and the board
--- goes on.
+-- An event was served, by the bytes of the input and of the output before and after it, and the
+-- board goes on.
 pub record GoesOn (event : BoardEvent) (old new : Board) (input rest before after : Option (List ℕ))
     : Type 0 where
   pub bytes : List ℕ

@@ -15,9 +15,10 @@
 --   6       any   MSR: bits 4, 5, 7 CTS, DSR, DCD
 --   7       any   SCR                          SCR
 --
--- A byte that is written to THR is transmitted at once, so THR is empty at each look. The line has no
--- errors, and a modem that is connected and never changes, so the interrupts of line and modem
--- status do not come. One byte is held at most. The bit for loopback in MCR is kept, and does nothing.
+-- A byte that is written to THR is transmitted at once, so THR is empty at each look. The line has
+-- no errors, and a modem that is connected and never changes, so the interrupts of line and modem
+-- status do not come. One byte is held at most. The bit for loopback in MCR is kept, and does
+-- nothing.
 use Rattle.std.specs.Prelude.{ℕ, ◌+◌, ◌%◌, ◌^◌, ◌==◌, ◌&&◌, ◌||◌, not, Bool, true, false, if◌then◌else◌, Option, Some, None}
 use Rattle.rrs_instruction.specs.Words.{bit}
 use Rattle.rrs_board.specs.declared.uart.Uart.{Uart}
@@ -113,8 +114,8 @@ written_at_1 byte u =
       is_emptied = if asks_for_room u then u.is_emptied else true;
     }
 
--- FCR: bits 1 and 2 count where bit 0 is 1, and a change of bit 0 clears both FIFOs. The interrupt of
--- an empty THR comes then.
+-- FCR: bits 1 and 2 count where bit 0 is 1, and a change of bit 0 clears both FIFOs. The interrupt
+-- of an empty THR comes then.
 abbrev pub changes_fifos : ℕ → Uart → Bool
 changes_fifos byte u = if bit byte 0 == 1 then not u.has_fifos else u.has_fifos
 

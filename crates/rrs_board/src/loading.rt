@@ -25,13 +25,13 @@ pub enum BoardError {
 }
 
 impl Board {
-    /// A board at reset with so many words of RAM, in which the segments of an executable stand, and
-    /// whose hart is at its entry.
+    /// A board at reset with so many words of RAM, in which the segments of an executable stand,
+    /// and whose hart is at its entry.
     ///
     /// # Errors
     ///
-    /// `BoardError`, where the file is no executable, does not fit in RAM, or there is no memory for
-    /// it.
+    /// `BoardError`, where the file is no executable, does not fit in RAM, or there is no memory
+    /// for it.
     pub fn load(alloc: Global, file: &[u8], words: usize) -> Result<Board, BoardError>
         ensures { IfOk result (StartsWith file.now words) }
     {

@@ -23,8 +23,8 @@ pub enum TerminalError {
 /// `output`, which is flushed before input is read and at the end. Input is read byte by byte, and
 /// each byte arrives at the UART: after a thousand looks in a row that find none, between which
 /// nothing is transmitted, and at a `wfi` that no alarm can end where IER asks for received data.
-/// Where the input is polled (`is_polled`) it is read at each `wfi` that waits too, and a read of no
-/// bytes means that there is none yet. Otherwise the input is then at its end.
+/// Where the input is polled (`is_polled`) it is read at each `wfi` that waits too, and a read of
+/// no bytes means that there is none yet. Otherwise the input is then at its end.
 ///
 /// The clauses: a chain of runs leads from the board before to that after, with what was typed and
 /// printed between them; what was typed is what was read of the input, and what was printed is what
@@ -34,7 +34,8 @@ pub enum TerminalError {
 ///
 /// # Errors
 ///
-/// `TerminalError::Input` where a read fails, `TerminalError::Output` where a write or a flush does.
+/// `TerminalError::Input` where a read fails, `TerminalError::Output` where a write or a flush
+/// does.
 pub fn run_at_terminal<R: Read, W: Write>(
     board: &mut Board,
     limit: u64,

@@ -1,6 +1,6 @@
--- How a board goes on under gdb (gdb's manual, "Remote Serial Protocol", "Packets": c, s, Z): by the
--- board's own steps, so that traps and interrupts are taken, up to a breakpoint. What a step tells is
--- served: what the UART transmits is printed, and bytes of the input arrive at it.
+-- How a board goes on under gdb (gdb's manual, "Remote Serial Protocol", "Packets": c, s, Z): by
+-- the board's own steps, so that traps and interrupts are taken, up to a breakpoint. What a step
+-- tells is served: what the UART transmits is printed, and bytes of the input arrive at it.
 use Rattle.std.specs.Prelude.{◌≡◌, ℕ, zero, suc, ◌≤◌, true, List, [], ◌∷◌, ◌++◌, Contains, Option, Some, None}
 use Rattle.rrs_machine.specs.declared.machine.MachineAnswer.{MachineAnswer}
 use Rattle.rrs_board.specs.declared.board.Board.{Board}

@@ -1,6 +1,6 @@
--- What gdb's packets mean for a board (gdb's manual, "Remote Serial Protocol", "Packets": p, P, c, C, s,
--- S and vCont; "Stop Reply Packets": S and W). `m` and `M` mean what they mean for a program, with RAM
--- as the memory.
+-- What gdb's packets mean for a board (gdb's manual, "Remote Serial Protocol", "Packets": p, P, c,
+-- C, s, S and vCont; "Stop Reply Packets": S and W). `m` and `M` mean what they mean for a program,
+-- with RAM as the memory.
 use Rattle.std.specs.Prelude.{◌≡◌, ◌⊎◌, ℕ, ◌%◌, Bool, true, false, List, ◌∷◌, ◌++◌, length, Some, IsSome, Ok}
 use Rattle.hex.specs.Hex.{decode_sized}
 use Rattle.rrs_board.specs.declared.board.Board.{Board}
@@ -23,7 +23,8 @@ pub record ShowsRegister (digits : List ℕ) (b : Board) (old new : List ℕ) : 
       → new ≡ old ++ text_of (word_bytes value)
   pub refused : ¬ (IsNumber digits × IsSome (shown_register b (number digits))) → IsError old new
 
--- `P n=r` changes the register of this number to the word that has these four bytes, the lowest first.
+-- `P n=r` changes the register of this number to the word that has these four bytes, the lowest
+-- first.
 pub record Changes (text : List ℕ) (b b' : Board) : Type 0 where
   pub bytes : List ℕ
   pub is_number : IsNumber (before 61 text)

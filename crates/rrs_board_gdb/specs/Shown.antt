@@ -1,6 +1,6 @@
--- How gdb is shown a board (gdb's manual, "RISC-V Features": org.gnu.gdb.riscv.csr, and "Remote Serial
--- Protocol", "Packets": p, P, m, M, X), and what it can change. The registers are x0 to x31, the pc,
--- and, from 65 on, the CSRs by their numbers. Of memory RAM is shown, and no device.
+-- How gdb is shown a board (gdb's manual, "RISC-V Features": org.gnu.gdb.riscv.csr, and "Remote
+-- Serial Protocol", "Packets": p, P, m, M, X), and what it can change. The registers are x0 to x31,
+-- the pc, and, from 65 on, the CSRs by their numbers. Of memory RAM is shown, and no device.
 use Rattle.std.specs.Prelude.{◌≡◌, ℕ, ◌-◌, ◌^◌, ◌==◌, ◌&&◌, nat_le, nat_lt, Bool, false, if◌then◌else◌, slice_set, Option, Some, None}
 use Rattle.rrs_lib.specs.declared.HartState.{HartState}
 use Rattle.rrs_lib.specs.Machine.{State, state_of}

@@ -42,8 +42,9 @@ pub fn show_ram(
 
 /// Writes bytes of RAM from an address on, and tells whether all of them are there.
 ///
-/// Then exactly these bytes are changed, to these values (`written`). Where one of them is not in RAM, or
-/// the last address is passed (`refused`), none is (`kept`). Nothing but RAM changes (`rest`).
+/// Then exactly these bytes are changed, to these values (`written`). Where one of them is not in
+/// RAM, or the last address is passed (`refused`), none is (`kept`). Nothing but RAM changes
+/// (`rest`).
 pub fn change_ram(board: &mut Board, address: u32, values: &[u8]) -> bool
     ensures written { OnTrue result (Loaded (byte_at board.old) (byte_at board.new)
         (is_writable_at board.old) address values.now) }

@@ -508,11 +508,11 @@ fn answer_by_subject<R: Read, W: Write>(
 ///
 /// `p` and `m` show the register, or the bytes of RAM, that they name (`shows_register`,
 /// `shows_memory`), and `P` and `M` change exactly these, or are answered by an error
-/// (`sets_register`, `sets_memory`). Only `c`, `C`, `s`, `S` and `vCont` have the board go on, by its
-/// own steps from where it is to the limit, to a breakpoint or to its end, and gdb is told to which
-/// (`goes`, `resumes`); where the program ended before, it stays. Other packets leave the board (`asks`),
-/// what its UART is to receive and where it stopped (`input`, `stop`), and one that is answered by an
-/// error does (`error`). Breakpoints are changed by `Z` and `z` alone (`breaks`).
+/// (`sets_register`, `sets_memory`). Only `c`, `C`, `s`, `S` and `vCont` have the board go on, by
+/// its own steps from where it is to the limit, to a breakpoint or to its end, and gdb is told to
+/// which (`goes`, `resumes`); where the program ended before, it stays. Other packets leave the
+/// board (`asks`), what its UART is to receive and where it stopped (`input`, `stop`), and one that
+/// is answered by an error does (`error`). Breakpoints are changed by `Z` and `z` alone (`breaks`).
 ///
 /// # Errors
 ///

@@ -14,8 +14,8 @@ const HEAD: &[u8] = b"<?xml version=\"1.0\"?>
 <target version=\"1.0\">
 <architecture>riscv:rv32</architecture>
 ";
-/// That there is no system: on Linux gdb steps by breakpoints of its own, and an interrupt would not
-/// stop at them.
+/// That there is no system: on Linux gdb steps by breakpoints of its own, and an interrupt would
+/// not stop at them.
 const NO_SYSTEM: &[u8] = b"<osabi>none</osabi>\n";
 /// What ends the description of a target.
 const END: &[u8] = b"</target>\n";
@@ -47,8 +47,8 @@ fn push_csr(alloc: Global, text: &mut Vec<u8>, number: u32) -> Result<(), AllocE
     push_text(text, place.as_bytes())
 }
 
-/// Appends the description of the target: that it has no system, the registers that `rrs_gdb` has, and
-/// the CSRs.
+/// Appends the description of the target: that it has no system, the registers that `rrs_gdb` has,
+/// and the CSRs.
 ///
 /// # Errors
 ///

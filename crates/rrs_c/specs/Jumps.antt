@@ -1,8 +1,8 @@
 -- A step of a machine whose jumps raise the exception of a misaligned target themselves (RISC-V
 -- unprivileged specification, RV32I, "Control Transfer Instructions": without an extension of
 -- 16-bit instructions, IALIGN is 32, and a jump or a taken branch to an address that is no multiple
--- of 4 raises an instruction-address-misaligned exception; it is reported on the jump or the branch,
--- and not on the target). All other steps are those of Steps.antt of rrs_lib.
+-- of 4 raises an instruction-address-misaligned exception; it is reported on the jump or the
+-- branch, and not on the target). All other steps are those of Steps.antt of rrs_lib.
 use Rattle.std.specs.Prelude.{◌≡◌, ◌≢◌, ℕ, ◌%◌, ◌==◌, Bool, false, not, Ok, Err}
 use Rattle.rrs_lib.specs.declared.instruction_executor.InstructionException.TheVariants.{AlignmentFault}
 use Rattle.rrs_lib.specs.Machine.{State}

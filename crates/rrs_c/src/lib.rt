@@ -598,8 +598,8 @@ pub extern "C" fn rrs_elf_load(file: &[u8], words: &mut [u32], base: u32) -> Rrs
     load_into(file, words, base)
 }
 
-/// The function that an address lies in, or else the nearest function or label before it, whose name
-/// is written as `rrs_row_name` does.
+/// The function that an address lies in, or else the nearest function or label before it, whose
+/// name is written as `rrs_row_name` does.
 #[unsafe(no_mangle)]
 pub extern "C" fn rrs_elf_function_at(file: &[u8], address: u32, buffer: &mut [u8]) -> RrsLocation
     ensures { FindsFunction file.now address buffer.old buffer.new result }
@@ -607,12 +607,12 @@ pub extern "C" fn rrs_elf_function_at(file: &[u8], address: u32, buffer: &mut [u
     function_of(file, address, buffer)
 }
 
-/// Assembles a source in the memory of a room, whose first section lies at an address and each other
-/// behind the one before, and gives the memory back. The bytes from this address on, the statements,
-/// and the labels with their names stand then at the front of the buffers (`assembled`), or the
-/// mistakes (`refused`). What is behind them stays. Where a buffer is too small nothing is written
-/// (`unwritten`), and the counts say how many of each there are (`needed`). Where the room is too
-/// small all counts are 0 (`no_room`).
+/// Assembles a source in the memory of a room, whose first section lies at an address and each
+/// other behind the one before, and gives the memory back. The bytes from this address on, the
+/// statements, and the labels with their names stand then at the front of the buffers
+/// (`assembled`), or the mistakes (`refused`). What is behind them stays. Where a buffer is too
+/// small nothing is written (`unwritten`), and the counts say how many of each there are
+/// (`needed`). Where the room is too small all counts are 0 (`no_room`).
 #[unsafe(no_mangle)]
 pub extern "C" fn rrs_assemble(
     source: &[u8],

@@ -17,7 +17,8 @@ pub struct OccupiedStreams<F> {
 
 /// Opens an empty file in the place of each of standard input, output and error that is closed.
 /// Otherwise the next file that is opened would take this place, and a program would read it as its
-/// input. While the result is kept, such an input has no bytes, and a write to such an output fails.
+/// input. While the result is kept, such an input has no bytes, and a write to such an output
+/// fails.
 ///
 /// The system gives the lowest descriptors first, so the files are in these places where any of
 /// them is free. A system without the empty file is left as it is.

@@ -44,11 +44,11 @@ pub struct Products {
 }
 
 /// What is asked for of a source, all of it made of the same sections: those of the text that the
-/// source becomes without its block comments, macros, conditions and repetitions and with its files,
-/// each where the request's layout says. An executable has these sections as its segments. Where
-/// none is asked for, and neither a listing nor a source for GNU `as`, the text is the bytes of all
-/// sections, from the address of the first on. Mistakes are printed on standard error, behind the
-/// path.
+/// source becomes without its block comments, macros, conditions and repetitions and with its
+/// files, each where the request's layout says. An executable has these sections as its segments.
+/// Where none is asked for, and neither a listing nor a source for GNU `as`, the text is the bytes
+/// of all sections, from the address of the first on. Mistakes are printed on standard error,
+/// behind the path.
 ///
 /// # Errors
 ///
@@ -87,9 +87,9 @@ pub fn products_of<'a, H: Files + Eprint + AllocGlobal>(
     Ok(Products { text, executable })
 }
 
-/// Where the sections lie: where the words say, and else those of an executable from 0x10000 on, with
-/// data that can be written on a page of its own, and all others one behind the other from address 0
-/// on.
+/// Where the sections lie: where the words say, and else those of an executable from 0x10000 on,
+/// with data that can be written on a page of its own, and all others one behind the other from
+/// address 0 on.
 fn layout_of(request: Request<'_>) -> Layout
     ensures { result ≡ layout_of (wanted_of request.entry) }
 {
@@ -337,8 +337,8 @@ fn print_all<H: Eprint>(rt: &H, path: &str, expanded: &Expanded, errors: &[Sourc
     }
 }
 
-/// Assembles a file, writes the executable that is asked for, and prints what else is to `out`, which
-/// may be a terminal.
+/// Assembles a file, writes the executable that is asked for, and prints what else is to `out`,
+/// which may be a terminal.
 ///
 /// # Errors
 ///

@@ -1,8 +1,8 @@
 //! The files that a source names by `.incbin`.
 //!
 //! A statement `.incbin "NAME", SKIP, COUNT` becomes a `.byte` with the bytes of the file, in the
-//! same line. The file is looked for beside the source, or in a folder there. Another path, and what
-//! is no file, is refused, unless the caller allows any.
+//! same line. The file is looked for beside the source, or in a folder there. Another path, and
+//! what is no file, is refused, unless the caller allows any.
 
 ghost use Rattle.std.specs.Prelude.{◌≡◌, true, IfOk};
 ghost use Rattle.rrs_commands.specs.Files.{Includes, NamesFile};
@@ -249,8 +249,8 @@ fn put_file<'a, H: Files + Eprint + AllocGlobal>(
     }
 }
 
-/// Whether a path is one from a folder into it: it does not begin at the root, and no part of it goes
-/// back.
+/// Whether a path is one from a folder into it: it does not begin at the root, and no part of it
+/// goes back.
 fn is_inside(name: &[u8]) -> bool {
     for part in name.split(|byte| *byte == b'/') {
         if part == b"..".as_slice() {
@@ -260,8 +260,8 @@ fn is_inside(name: &[u8]) -> bool {
     name.first() != Some(&b'/')
 }
 
-/// Whether nothing but a file has a path: a device or a folder is none. What is not there is left to
-/// who reads it.
+/// Whether nothing but a file has a path: a device or a folder is none. What is not there is left
+/// to who reads it.
 fn is_file<H: Files>(rt: &H, path: &str) -> bool {
     match fs::metadata(rt, path) {
         Ok(found) => found.is_file(),

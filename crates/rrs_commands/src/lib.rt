@@ -2,8 +2,8 @@
 //! them, and how it ends.
 //!
 //! `subcommands` has the table, `program` does what the words ask for, and `ending` turns how that
-//! ended into a status and a line on standard error. `assembly` is `rrs as`: what its words ask for,
-//! and what it makes of a source.
+//! ended into a status and a line on standard error. `assembly` is `rrs as`: what its words ask
+//! for, and what it makes of a source.
 
 #![tactic(auto)]
 

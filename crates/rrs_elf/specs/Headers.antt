@@ -1,5 +1,6 @@
--- The fields of the headers, by their offsets and with the names that the System V generic ABI gives
--- them in "ELF Header" (Elf32_Ehdr, 52 bytes at the file's start) and "Program Header" (Elf32_Phdr).
+-- The fields of the headers, by their offsets and with the names that the System V generic ABI
+-- gives them in "ELF Header" (Elf32_Ehdr, 52 bytes at the file's start) and "Program Header"
+-- (Elf32_Phdr).
 use Rattle.std.specs.Prelude.{ℕ, ◌+◌, ◌*◌, List, slice_index}
 use Rattle.rrs_elf.specs.Numbers.{half, word}
 

@@ -1,6 +1,6 @@
--- What a load leaves (System V generic ABI, "Program Header", PT_LOAD): "The bytes from the file are
--- mapped to the beginning of the memory segment. If the segment's memory size is larger than the
--- file size, the extra bytes are defined to hold the value 0." And which accesses it makes.
+-- What a load leaves (System V generic ABI, "Program Header", PT_LOAD): "The bytes from the file
+-- are mapped to the beginning of the memory segment. If the segment's memory size is larger than
+-- the file size, the extra bytes are defined to hold the value 0." And which accesses it makes.
 use Rattle.std.specs.Prelude.{◌≡◌, ◌≢◌, ◌==◌, ℕ, zero, suc, ◌+◌, ◌<◌, Bool, true, false, nat_lt, if◌then◌else◌, List, [], ◌∷◌, ◌++◌, slice_index, Option, Some, is_some}
 use Rattle.rrs_memory.specs.declared.MemAccessSize.{MemAccessSize}
 use Rattle.rrs_memory.specs.Bytes.{ByteMap}

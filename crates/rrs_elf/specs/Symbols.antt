@@ -27,7 +27,8 @@ is_defined file t n = nat_lt 0 (st_shndx file t n) && nat_lt (st_shndx file t n)
 abbrev pub is_function : List ℕ → ℕ → ℕ → Bool
 is_function file t n = (st_info file t n % 16 == 2) && is_defined file t n
 
--- A label of assembly has STT_NOTYPE, 0. A mapping symbol has it too, and a name that begins with $.
+-- A label of assembly has STT_NOTYPE, 0. A mapping symbol has it too, and a name that begins with
+-- $.
 abbrev pub is_label : List ℕ → ℕ → ℕ → Bool
 is_label file t n = (st_info file t n % 16 == 0) && is_defined file t n
     && not (slice_index file (name_start file t n) == 0x24)

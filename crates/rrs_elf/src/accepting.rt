@@ -150,8 +150,8 @@ pub struct Executable<'a> {
 }
 
 impl<'a> Executable<'a> {
-    /// Accepts the bytes of a file where they are an executable for this machine, and otherwise answers
-    /// the first refusal: see [ElfError] for the order.
+    /// Accepts the bytes of a file where they are an executable for this machine, and otherwise
+    /// answers the first refusal: see [ElfError] for the order.
     pub fn parse(file: &'a [u8]) -> Result<Executable<'a>, ElfError>
         ensures accepted { IsOk result ↔ IsExecutable file.now }
         ensures refused { IfErr result (λ error. first_refusal (checks file.now) ≡ Err error) }

@@ -56,8 +56,8 @@ pub enum ElfError {
     EntryMisaligned(u32),
     /// `e_entry` is this, and no loaded segment has the address.
     EntryOutside(u32),
-    /// `e_shentsize` is this, and not 40. This and what follows are refusals of the symbol table, by
-    /// [crate::Executable::symbols].
+    /// `e_shentsize` is this, and not 40. This and what follows are refusals of the symbol table,
+    /// by [crate::Executable::symbols].
     SectionHeaderSize(u16),
     /// The file ends within the section headers, by `e_shoff` and `e_shnum`.
     SectionHeadersCutShort,

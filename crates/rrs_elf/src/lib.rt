@@ -1,10 +1,10 @@
 //! Executables in the ELF format, read and loaded.
 //!
-//! [Executable::parse] takes the bytes of a file, and accepts it exactly where it is an executable that
-//! this machine can run: 32 bits, lowest byte first, for RISC-V without compressed code and without
-//! a floating-point ABI, linked to fixed addresses. A file that it refuses gets the first refusal of
-//! a list, [ElfError]. [Executable] then answers from these bytes: its entry, its segments, and its
-//! symbol table. [Executable::load] writes the segments into a memory.
+//! [Executable::parse] takes the bytes of a file, and accepts it exactly where it is an executable
+//! that this machine can run: 32 bits, lowest byte first, for RISC-V without compressed code and
+//! without a floating-point ABI, linked to fixed addresses. A file that it refuses gets the first
+//! refusal of a list, [ElfError]. [Executable] then answers from these bytes: its entry, its
+//! segments, and its symbol table. [Executable::load] writes the segments into a memory.
 //!
 //! ```text
 //! let program = Executable::parse(&file)?;         // a `&[u8]`, and an `ElfError`

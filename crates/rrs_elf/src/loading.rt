@@ -79,8 +79,8 @@ impl Executable<'_> {
     /// on, and then zeros up to its size in memory. Segments are loaded in their order, byte by
     /// byte, each byte by one write, and nothing else is read or written.
     ///
-    /// Where the memory refuses an address, the load ends there. The bytes before it, in this order,
-    /// are written then, and all others are as before.
+    /// Where the memory refuses an address, the load ends there. The bytes before it, in this
+    /// order, are written then, and all others are as before.
     pub fn load<M: Memory>(&self, memory: &mut M) -> Result<(), Refused>
         ensures loaded { OnOk result (Stands self.now.file.now (M.bytes memory.old)
             (M.bytes memory.new) (M.writable memory.old) (e_phnum self.now.file.now) 0) }

@@ -91,8 +91,8 @@ fn is_behind(file: &[u8], table: u16, segment: u16, index: u32, address: u32) ->
         && value <= address
 }
 
-/// Whether a symbol is nearer to an address behind both than another one, or is as near and has more
-/// bytes.
+/// Whether a symbol is nearer to an address behind both than another one, or is as near and has
+/// more bytes.
 fn is_nearer(symbol: &Symbol, best: &Symbol) -> bool
     ensures { result ≡ (nat_lt best.now.value symbol.now.value
         || ((symbol.now.value == best.now.value) && nat_lt best.now.size symbol.now.size)) }
@@ -141,13 +141,13 @@ fn find_nearest(file: &[u8], table: u16, segment: u16, address: u32) -> Option<u
 }
 
 impl Symbols<'_> {
-    /// The function that an address lies in, or, where no symbol says so, as with those of assembly,
-    /// the nearest function or label before it in its segment.
+    /// The function that an address lies in, or, where no symbol says so, as with those of
+    /// assembly, the nearest function or label before it in its segment.
     ///
-    /// The function is one whose `st_size` bytes from its `st_value` on have the address. Of several
-    /// symbols at the nearest address before it the one with the most bytes is taken, and of those
-    /// that have as many the first of the table, as `addr2line` of binutils 2.40 takes it; `nm` lists
-    /// all. Symbols without a section count for nothing, and neither do mapping symbols.
+    /// The function is one whose `st_size` bytes from its `st_value` on have the address. Of
+    /// several symbols at the nearest address before it the one with the most bytes is taken, and
+    /// of those that have as many the first of the table, as `addr2line` of binutils 2.40 takes it;
+    /// `nm` lists all. Symbols without a section count for nothing, and neither do mapping symbols.
     pub fn function_at(&self, address: u32) -> Option<Location>
         ensures { Finds self.now.file.now self.now.table address result }
     {

@@ -29,8 +29,8 @@ pub struct Symbol {
 }
 
 impl Symbol {
-    /// Its type: 0 for a label of assembly, 1 for data, 2 for a function, 3 for a section, 4 for the
-    /// name of a source file.
+    /// Its type: 0 for a label of assembly, 1 for data, 2 for a function, 3 for a section, 4 for
+    /// the name of a source file.
     pub fn kind(&self) -> u8
         ensures { result ≡ self.now.info % 16 }
     {
@@ -247,8 +247,8 @@ impl<'a> Symbols<'a> {
         Some(read_symbol(self.file, self.table, index))
     }
 
-    /// The name of the symbol of this number, without the 0 that ends it, or `None` from their count
-    /// on. It may be empty, and need not be text.
+    /// The name of the symbol of this number, without the 0 that ends it, or `None` from their
+    /// count on. It may be empty, and need not be text.
     pub fn name(&self, index: u32) -> Option<&'a [u8]>
         ensures there { IsSome result ↔ (index < symbol_count self.now.file.now self.now.table) }
         ensures value { IfSome result (λ name. IsName self.now.file.now

@@ -50,8 +50,8 @@ first_address file = first_below file (e_phnum file)
 abbrev pub end_address : List ℕ → ℕ
 end_address file = end_below file (e_phnum file)
 
--- Why no process is made of a program with addresses from start to before end, where so many bytes of
--- memory are wanted: there is no room behind it, or it needs more bytes.
+-- Why no process is made of a program with addresses from start to before end, where so many bytes
+-- of memory are wanted: there is no room behind it, or it needs more bytes.
 abbrev pub refusal_between : ℕ → ℕ → ℕ → Option ImageError
 refusal_between start end wanted =
     if has_room end

@@ -1,9 +1,9 @@
 -- The stack of a process that starts (System V ABI, "Process Initialization"; the RISC-V psABI,
--- "Integer Calling Convention": sp is a multiple of 16). From sp on lie the number of the arguments,
--- the address of each, 0, the addresses of the environment's strings, of which there are none, 0,
--- and the auxiliary vector (getauxval(3)), a list of pairs of a type and a value that AT_NULL ends.
--- Above them lie the 16 bytes of AT_RANDOM, which are 0 here, and the arguments as strings, each
--- with a byte 0 behind it.
+-- "Integer Calling Convention": sp is a multiple of 16). From sp on lie the number of the
+-- arguments, the address of each, 0, the addresses of the environment's strings, of which there are
+-- none, 0, and the auxiliary vector (getauxval(3)), a list of pairs of a type and a value that
+-- AT_NULL ends. Above them lie the 16 bytes of AT_RANDOM, which are 0 here, and the arguments as
+-- strings, each with a byte 0 behind it.
 use Rattle.std.specs.Prelude.{ℕ, ◌+◌, ◌-◌, ◌*◌, ◌/◌, ◌%◌, List, [], ◌∷◌, ◌++◌, length, replicate}
 use Rattle.rrs_exec.specs.declared.stack.ProgramHeaders.{ProgramHeaders}
 

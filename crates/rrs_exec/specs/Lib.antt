@@ -1,5 +1,6 @@
--- What a program finds where it starts as a process, the marks of its pages and its stack, and what it
--- is to run an executable as one. Definitions of rrs_linux that contracts here cite are passed on.
+-- What a program finds where it starts as a process, the marks of its pages and its stack, and what
+-- it is to run an executable as one. Definitions of rrs_linux that contracts here cite are passed
+-- on.
 pub use Rattle.rrs_linux.specs.SystemCalls
 pub mod Protection
 pub mod InitialStack

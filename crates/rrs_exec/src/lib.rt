@@ -1,11 +1,11 @@
 //! Runs of executables as processes of Linux.
 //!
-//! What a program finds where it starts: a memory whose pages are mapped, read-only or writable, and
-//! a stack with its arguments. [ProtectedMemory] is a memory of any type under marks, one a page.
-//! [initial_stack] makes the block of bytes that lies at the stack pointer, and [stack_pointer] says
-//! where that is. [image_of] puts these together for an executable, and [fill] writes them into a
-//! memory. What they are is written in `specs/Protection.antt`, `specs/InitialStack.antt`,
-//! `specs/Layouts.antt` and `specs/Images.antt`.
+//! What a program finds where it starts: a memory whose pages are mapped, read-only or writable,
+//! and a stack with its arguments. [ProtectedMemory] is a memory of any type under marks, one a
+//! page. [initial_stack] makes the block of bytes that lies at the stack pointer, and
+//! [stack_pointer] says where that is. [image_of] puts these together for an executable, and [fill]
+//! writes them into a memory. What they are is written in `specs/Protection.antt`,
+//! `specs/InitialStack.antt`, `specs/Layouts.antt` and `specs/Images.antt`.
 //!
 //! [execute_process] runs the image of an ELF file and serves its system calls. What that is, is
 //! written in `specs/Processes.antt`. [watch_process] shows each step of such a run to a [Watcher],

@@ -71,8 +71,8 @@ pub fn started(entry: u32, sp: u32) -> HartState
 ///
 /// `ImageError`, where the file is no executable or can't be made a process. No step is made then,
 /// and the environment is as it was. A file that is no executable is refused for the first of the
-/// reasons in their order (`refused`). An executable that needs more bytes than are wanted, or leaves
-/// no room for a heap and a stack, is refused so before memory is taken for it (`ceiling`).
+/// reasons in their order (`refused`). An executable that needs more bytes than are wanted, or
+/// leaves no room for a heap and a stack, is refused so before memory is taken for it (`ceiling`).
 pub fn execute_process<R: Read, W: Write, E: Write, P: Progress>(
     alloc: Global,
     file: &[u8],

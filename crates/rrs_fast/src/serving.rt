@@ -116,10 +116,10 @@ fn serve_next<M: Memory, R: Runner<M>, E: Environment>(
 /// Makes steps up to `limit`, to an exception, or until the environment ends the program.
 ///
 /// Steps are made by the runner that is lent: a `DecodeCache`, which each run between two calls
-/// clears, or `OwnCache` over a `CachedMemory`, whose words stay known. At an `ecall` the environment
-/// serves the call, once, and a program that goes on does so at the next instruction, pc + 4 modulo
-/// 2^32. Each `ecall` that is served counts as a step, so that a program that does nothing but call
-/// ends too. With limit 0 nothing changes and no call is served.
+/// clears, or `OwnCache` over a `CachedMemory`, whose words stay known. At an `ecall` the
+/// environment serves the call, once, and a program that goes on does so at the next instruction,
+/// pc + 4 modulo 2^32. Each `ecall` that is served counts as a step, so that a program that does
+/// nothing but call ends too. With limit 0 nothing changes and no call is served.
 ///
 /// The clauses: from the machine and the environment before, a chain of runs and calls, each within
 /// what is left of the limit, leads to those after, and exactly its accesses are made, those of the

@@ -1,5 +1,5 @@
--- Where the machine stops (gdb's manual, "Remote Serial Protocol", "Packets": Z, c, bc), forward and
--- back: before the instruction at a breakpoint, and before one whose load or store touches a
+-- Where the machine stops (gdb's manual, "Remote Serial Protocol", "Packets": Z, c, bc), forward
+-- and back: before the instruction at a breakpoint, and before one whose load or store touches a
 -- watchpoint.
 use Rattle.std.specs.Prelude.{◌≡◌, ◌≢◌, ◌≤◌, ℕ, ◌+◌, ◌<◌, ◌⊎◌, ◌↔◌, List, [], ◌∷◌, ◌++◌, All, Contains, length, Ok}
 use Rattle.rrs_lib.specs.Bytes.{width}

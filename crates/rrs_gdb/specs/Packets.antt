@@ -1,8 +1,8 @@
 -- Packets (gdb's manual, "Remote Serial Protocol", "Overview"): `$`, the payload, `#`, and two
--- hexadecimal digits of the sum of all bytes between, modulo 256. In a payload the bytes `#`, `$` and
--- `}` are sent as `}` and the byte with its bit of value 32 turned; in an answer `*` too, which there
--- begins a run of a byte. Numbers in a payload are hexadecimal, and a comma, a colon, a semicolon or
--- an equals sign stands between two of its fields.
+-- hexadecimal digits of the sum of all bytes between, modulo 256. In a payload the bytes `#`, `$`
+-- and `}` are sent as `}` and the byte with its bit of value 32 turned; in an answer `*` too, which
+-- there begins a run of a byte. Numbers in a payload are hexadecimal, and a comma, a colon, a
+-- semicolon or an equals sign stands between two of its fields.
 use Rattle.std.specs.Prelude.{◌≡◌, ℕ, ◌/◌, ◌%◌, ◌≤◌, ◌==◌, ◌||◌, if◌then◌else◌, List, [], ◌∷◌, ◌++◌, length, sum, slice_index, bit_xor, Bool, true, false, Option, Some, None, option_map, Ok}
 use Rattle.std.specs.Str.Parse.{IsNumeral, digits_value}
 use Rattle.hex.specs.Hex.{lower_digits, decode_sized}

@@ -1,7 +1,7 @@
--- How gdb is shown the machine (gdb's manual, "Remote Serial Protocol", "Packets": g, p and m): each
--- byte as two hexadecimal digits, and a register as its bytes, the lowest first. The registers are x0
--- to x31 and then the pc, by the numbers of the target's description. And how it is told where the
--- program stopped ("Stop Reply Packets": S, T, W and X).
+-- How gdb is shown the machine (gdb's manual, "Remote Serial Protocol", "Packets": g, p and m):
+-- each byte as two hexadecimal digits, and a register as its bytes, the lowest first. The registers
+-- are x0 to x31 and then the pc, by the numbers of the target's description. And how it is told
+-- where the program stopped ("Stop Reply Packets": S, T, W and X).
 use Rattle.std.specs.Prelude.{◌≡◌, ℕ, zero, suc, ◌+◌, ◌*◌, ◌/◌, ◌%◌, ◌<◌, ◌==◌, if◌then◌else◌, List, [], ◌∷◌, ◌++◌, length, slice_index, slice_set, false, Some, codes}
 use Rattle.std.specs.Fmt.{digits}
 use Rattle.rrs_lib.specs.Bytes.{ByteMap}

@@ -25,13 +25,13 @@ pub enum BackEnd {
     Limit,
 }
 
-/// Takes steps back, until the pc is a stop, the next one to take back touches a watchpoint, one was
-/// a call, as many as `limit` were taken back, or there are no more.
+/// Takes steps back, until the pc is a stop, the next one to take back touches a watchpoint, one
+/// was a call, as many as `limit` were taken back, or there are no more.
 ///
 /// The states to which it went are those that the history leads back to, in order, and the first of
-/// them that is at a stop, or from which the step touches a watchpoint, is the last; at the begin and
-/// at the limit the machine is in the last of them (`back`). Whether a step touches a watchpoint
-/// shows where it was taken back: it is made again then.
+/// them that is at a stop, or from which the step touches a watchpoint, is the last; at the begin
+/// and at the limit the machine is in the last of them (`back`). Whether a step touches a
+/// watchpoint shows where it was taken back: it is made again then.
 pub fn go_back<M: Memory>(
     executor: &mut InstructionExecutor<M>,
     history: &mut History,

@@ -1,9 +1,9 @@
 //! The stub of gdb's remote protocol, for `rrs_lib`'s machine.
 //!
-//! A [Session] answers the packets that gdb sends, over any memory that keeps its laws, and over the
-//! calls of a process of Linux. Packets are framed by [encode] and [decode]. Registers and memory
-//! are shown and changed by the functions of `registers` and `contents`; the machine goes forward by
-//! [go_forward] and back by [go_back].
+//! A [Session] answers the packets that gdb sends, over any memory that keeps its laws, and over
+//! the calls of a process of Linux. Packets are framed by [encode] and [decode]. Registers and
+//! memory are shown and changed by the functions of `registers` and `contents`; the machine goes
+//! forward by [go_forward] and back by [go_back].
 //!
 //! What a packet is, is written in `specs/Packets.antt`, which texts show the machine in
 //! `specs/Shown.antt`, and where a run stops in `specs/Breaks.antt`.

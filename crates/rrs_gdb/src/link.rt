@@ -142,8 +142,8 @@ fn write_at_once<W: Write>(writer: &mut W, bytes: &[u8]) -> Result<(), LinkError
 }
 
 impl<R: Read, W: Write> Link<R, W> {
-    /// Sends a payload: its packet is written, behind what was written before (`sent`), and kept, so
-    /// that a `-` has it sent again (`last`).
+    /// Sends a payload: its packet is written, behind what was written before (`sent`), and kept,
+    /// so that a `-` has it sent again (`last`).
     ///
     /// # Errors
     ///

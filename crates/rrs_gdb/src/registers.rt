@@ -57,8 +57,8 @@ pub fn register_value(hart: &HartState, number: u32) -> u32
     }
 }
 
-/// Appends the text of a register by its number, 32 for the pc: the value's bytes, the lowest first.
-/// It tells whether there is such a register; where there is none, nothing is appended.
+/// Appends the text of a register by its number, 32 for the pc: the value's bytes, the lowest
+/// first. It tells whether there is such a register; where there is none, nothing is appended.
 ///
 /// # Errors
 ///

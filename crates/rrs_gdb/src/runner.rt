@@ -14,7 +14,8 @@ use rrs_trace::{StopEnd, run_until, run_until_cached};
 /// What makes runs up to a stop over memories of one type, as `run_until` of `rrs_trace` does, with
 /// its clauses.
 pub trait StopRunner<M: Memory> {
-    /// Makes steps until the pc is a stop, as many as `limit` were `Ok`, or one raises an exception.
+    /// Makes steps until the pc is a stop, as many as `limit` were `Ok`, or one raises an
+    /// exception.
     fn run_to_stop(
         &mut self,
         executor: &mut InstructionExecutor<M>,

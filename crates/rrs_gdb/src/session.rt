@@ -571,8 +571,8 @@ fn refuse(reply: &mut Vec<u8>) -> Result<Next, LinkError>
     Ok(Next::Reply)
 }
 
-/// Sets the pc to the address to go on from, if something stands there, and tells whether that is an
-/// address.
+/// Sets the pc to the address to go on from, if something stands there, and tells whether that is
+/// an address.
 fn begin_at<M: Memory>(
     state: &mut SessionState<'_>,
     executor: &mut InstructionExecutor<M>,
@@ -920,10 +920,10 @@ fn answer_by_subject<'a, M: Memory, G: StopRunner<M>, R: Read, W: Write>(
 /// Only a packet with the letter of a change changes the machine, and only what its letter says
 /// (`asks`, `registers`, `memory`), and only one by which the program goes on or back takes it on.
 /// Breakpoints, watchpoints and settings are changed by the packets that are for them alone
-/// (`breaks`, `settings`), and a packet that is answered by an error changes nothing (`error`). What
-/// the text of a packet means is said by `shows_registers`, `sets_registers`, `shows_register`,
-/// `sets_register`, `shows_memory`, `sets_memory` and `sets_bytes`, and, of those by which the
-/// program goes on, by `steps`, `continues` and `acts`.
+/// (`breaks`, `settings`), and a packet that is answered by an error changes nothing (`error`).
+/// What the text of a packet means is said by `shows_registers`, `sets_registers`,
+/// `shows_register`, `sets_register`, `shows_memory`, `sets_memory` and `sets_bytes`, and, of those
+/// by which the program goes on, by `steps`, `continues` and `acts`.
 ///
 /// # Errors
 ///
@@ -1070,7 +1070,8 @@ fn answer<'a, M: Memory, G: StopRunner<M>, R: Read, W: Write>(
     Ok(end_of(next))
 }
 
-/// The payload of the next packet, if there is one. A packet that is no good is answered by an error.
+/// The payload of the next packet, if there is one. A packet that is no good is answered by an
+/// error.
 fn next_payload<R: Read, W: Write>(link: &mut Link<R, W>) -> Result<Option<Vec<u8>>, LinkError> {
     for _ in 0..u64::MAX {
         match link.receive()? {

@@ -141,8 +141,8 @@ recorded_writes bytes writable reads writes old address size value new answer =
     × OnTrue answer (KeepsPart bytes writable old new)
     × OnFalse answer (Leaves bytes writable old new)
 
--- Of some states a history leads to the newest ones. It leads to all of them, and keeps k changes at
--- the most, if there is room for k; and to all of them unless it is full.
+-- Of some states a history leads to the newest ones. It leads to all of them, and keeps k changes
+-- at the most, if there is room for k; and to all of them unless it is full.
 pub record LeadsTo (states : List State) (k : ℕ) (h : History) (t : State) : Type 0 where
   pub forgotten : List State
   pub leads : states ≡ past (changes h) t ++ forgotten

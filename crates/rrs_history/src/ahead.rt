@@ -62,11 +62,11 @@ fn go_back<M: Memory>(executor: &mut InstructionExecutor<M>, history: &mut Histo
 /// Tells how a run to a limit would end, and leaves the machine as it is: it makes the steps, and
 /// takes them back.
 ///
-/// The answer is that of `run` from here (`run`). Registers, pc, last written register and bytes are
-/// as they were (`back`): that is the law of a history, n steps and n steps back. From a state there
-/// is one run (`only` of `run`), so forward again the same steps are made. The history has to have
-/// room for the steps. It keeps what it kept, newest first, as far as there was room beside them
-/// (`kept`).
+/// The answer is that of `run` from here (`run`). Registers, pc, last written register and bytes
+/// are as they were (`back`): that is the law of a history, n steps and n steps back. From a state
+/// there is one run (`only` of `run`), so forward again the same steps are made. The history has to
+/// have room for the steps. It keeps what it kept, newest first, as far as there was room beside
+/// them (`kept`).
 pub fn look_ahead<M: Memory>(
     executor: &mut InstructionExecutor<M>,
     history: &mut History,

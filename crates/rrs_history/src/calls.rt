@@ -214,9 +214,9 @@ fn serve_noted<M: Memory, E: Environment>(
 /// status with which the call ended it. The clause `served` says what happened: a step, with the
 /// read before its store, or a step that is an `ecall`, and its call, with a read before each of
 /// its writes. The history then leads back to the state before, and from there to the states before
-/// that: registers, pc, last written register and bytes. What the environment keeps, as what it read
-/// and printed, is not taken back: its owner does that at a change that is `of_call`. The latest one
-/// that `starts` is so exactly where a call was served (`is_call`).
+/// that: registers, pc, last written register and bytes. What the environment keeps, as what it
+/// read and printed, is not taken back: its owner does that at a change that is `of_call`. The
+/// latest one that `starts` is so exactly where a call was served (`is_call`).
 ///
 /// # Errors
 ///

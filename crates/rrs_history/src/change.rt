@@ -105,9 +105,9 @@ pub fn step_noted_parts<M: Memory>(
 
 /// Makes a step, and tells the change that takes it back.
 ///
-/// The step is that of `step`, with its answer and its accesses, and before its store one read more,
-/// of the bytes that it is to replace (`accesses`). From the state after it the change leads to the
-/// state before it (`undoes`).
+/// The step is that of `step`, with its answer and its accesses, and before its store one read
+/// more, of the bytes that it is to replace (`accesses`). From the state after it the change leads
+/// to the state before it (`undoes`).
 ///
 /// # Errors
 ///

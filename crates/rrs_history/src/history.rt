@@ -99,13 +99,12 @@ impl History {
 
 /// Makes a step, and keeps its change.
 ///
-/// The step is that of `step`, with its answer and its accesses, and before its store one read more,
-/// of the bytes that it is to replace (`accesses`). After a step that is `Ok` the history leads back
-/// to the state before it, and from there to the states before that (`remembered`), and tells that
-/// it was no call (`told`): so n steps, and
-/// [step_back] n times, leave registers, pc, last written register and bytes as they were, if there
-/// is room for n changes. From a state there is one step (`only`), so that forward again the same
-/// steps are made. Nothing is allocated.
+/// The step is that of `step`, with its answer and its accesses, and before its store one read
+/// more, of the bytes that it is to replace (`accesses`). After a step that is `Ok` the history
+/// leads back to the state before it, and from there to the states before that (`remembered`), and
+/// tells that it was no call (`told`): so n steps, and [step_back] n times, leave registers, pc,
+/// last written register and bytes as they were, if there is room for n changes. From a state there
+/// is one step (`only`), so that forward again the same steps are made. Nothing is allocated.
 ///
 /// # Errors
 ///

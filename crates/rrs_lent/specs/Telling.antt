@@ -1,7 +1,7 @@
--- What a caller that lends its memory is told of a source (rrs_asm_macros, Expansion; rrs_asm, Source
--- and Sections): the bytes, the statements and the labels of its sections, or its mistakes. Texts lie
--- one behind the other in one buffer, and what is told of a label or a mistake says where its own
--- begins.
+-- What a caller that lends its memory is told of a source (rrs_asm_macros, Expansion; rrs_asm,
+-- Source and Sections): the bytes, the statements and the labels of its sections, or its mistakes.
+-- Texts lie one behind the other in one buffer, and what is told of a label or a mistake says where
+-- its own begins.
 use Rattle.std.specs.Prelude.{◌≡◌, ℕ, ◌+◌, ◌≤◌, false, List, [], ◌∷◌, ◌++◌, length, drop, unwrap_or}
 use Rattle.rrs_asm.specs.declared.output.Label.{Label}
 use Rattle.rrs_asm.specs.declared.output.Placed.{Placed}

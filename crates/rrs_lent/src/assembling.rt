@@ -11,8 +11,8 @@ use std::alloc::{AllocError, Allocator};
 
 /// Assembles a source, whose sections lie one behind the other from an address on, and puts what is
 /// told of it at the front of the buffers, where these have room for all of it. What is behind it
-/// there stays. Where a buffer is too small none is written (`unwritten`), and it is said how many of
-/// each there are (`needed`).
+/// there stays. Where a buffer is too small none is written (`unwritten`), and it is said how many
+/// of each there are (`needed`).
 ///
 /// # Errors
 ///

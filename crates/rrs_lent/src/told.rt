@@ -45,8 +45,8 @@ const TOO_LONG: SourceError = SourceError {
 /// What is told of a source that takes more memory than is lent.
 const TOO_LARGE: &str = "what the source makes needs more than 256 MiB of memory";
 
-/// What is told of a source whose first section lies at an address, and at the last time that memory
-/// is lent also where that is too little.
+/// What is told of a source whose first section lies at an address, and at the last time that
+/// memory is lent also where that is too little.
 pub(crate) fn told_at_last<A: Allocator + Copy>(
     alloc: A,
     source: &[u8],

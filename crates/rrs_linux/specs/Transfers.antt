@@ -40,7 +40,8 @@ abbrev pub byte_reads : ByteMap → ℕ → ℕ → List Access
 byte_reads bytes a zero = []
 byte_reads bytes a (suc n) = byte_reads bytes a n ++ Read (a + n) Byte (bytes (a + n)) ∷ []
 
--- the error of a write that failed: nobody reads what is written (EPIPE is 32), or another (EIO is 5)
+-- the error of a write that failed: nobody reads what is written (EPIPE is 32), or another (EIO is
+-- 5)
 abbrev pub failure : Bool → ℕ
 failure broken = error (if broken then 32 else 5)
 

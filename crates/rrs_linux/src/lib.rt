@@ -96,11 +96,11 @@ pub struct Process<R, W, E, K> {
     pub errors: E,
     /// The program's heap.
     pub heap: Heap,
-    /// The numbers of the calls that it made and that are not served: each once, in the order in which
-    /// they were first made, and 16 at most.
+    /// The numbers of the calls that it made and that are not served: each once, in the order in
+    /// which they were first made, and 16 at most.
     pub unserved: ArrayVec<u32, MOST_UNSERVED>,
-    /// What is kept between two calls, which says of what kind the environment is: of a [Linux] what
-    /// was read of its input and not given to the program yet, and its clocks.
+    /// What is kept between two calls, which says of what kind the environment is: of a [Linux]
+    /// what was read of its input and not given to the program yet, and its clocks.
     pub held: K,
 }
 

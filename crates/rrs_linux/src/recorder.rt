@@ -43,8 +43,8 @@ pub type OutputRecorder<'a> = Process<&'a [u8], Vec<u8>, Vec<u8>, Known>;
 
 impl<'a> Process<&'a [u8], Vec<u8>, Vec<u8>, Known> {
     /// An environment with this input, with room for so many bytes of the output and of the errors
-    /// each, with this heap, and with clocks that stand at 0. Nothing is written yet, and each call was
-    /// served so far.
+    /// each, with this heap, and with clocks that stand at 0. Nothing is written yet, and each call
+    /// was served so far.
     ///
     /// # Errors
     ///
@@ -81,7 +81,8 @@ impl<'a> Process<&'a [u8], Vec<u8>, Vec<u8>, Known> {
 /// make the same accesses, leave one state, give one answer, and are alike again.
 ///
 /// They are alike if they have the same input left, the same output and errors, room for as many
-/// bytes, one heap, and the same numbers of calls that are not served. So each run over them is the only one (`only_alike` of `run_served`).
+/// bytes, one heap, and the same numbers of calls that are not served. So each run over them is the
+/// only one (`only_alike` of `run_served`).
 pub fn records_determined()
     ensures { IsDeterminedBy Records AlikeRecordings }
 {}

@@ -6,8 +6,8 @@ ghost use Rattle.rrs_linux.specs.Transfers.{Gives, Takes};
 
 use rrs_lib::Memory;
 
-/// A standard input. `K` is what the environment keeps between two calls, and so says which kind the
-/// input is of.
+/// A standard input. `K` is what the environment keeps between two calls, and so says which kind
+/// the input is of.
 pub trait Input<K> {
     /// What a read to a buffer does: to the bytes of memory, of which some are writable, to the
     /// input and to what is kept of it; by which accesses, in order, and with which answer.

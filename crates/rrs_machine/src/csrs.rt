@@ -1,7 +1,7 @@
 //! The control and status registers of a hart that has machine mode alone.
 //!
-//! A [CsrFile] keeps what is kept. [CsrFile::read] and [CsrFile::write] read and write a register as
-//! the instructions do. What is read, and what each is at reset, is `specs/Csrs.antt`.
+//! A [CsrFile] keeps what is kept. [CsrFile::read] and [CsrFile::write] read and write a register
+//! as the instructions do. What is read, and what each is at reset, is `specs/Csrs.antt`.
 
 ghost use Rattle.std.specs.Prelude.{◌≡◌, ◌+◌, ◌-◌, ◌*◌, ◌/◌, ◌%◌, ◌^◌, ◌<◌, ◌≤◌, ◌==◌, ◌↔◌, IsTrue};
 ghost use Rattle.rrs_words.specs.CsrNumbers.{both, either, csr_among, setup_csrs, handling_csrs, counter_csrs, reading_csrs, information_csrs, monitor_csr, csr_at, is_read_only, written_bits, fixed_bits};

@@ -61,10 +61,10 @@ pub fn write_and_exit<M: Memory>(
 
 /// Calls the program of [write_and_exit] over the streams of a host.
 ///
-/// Whatever they do, the run makes its 13 steps and ends with the status; but where nobody reads the
-/// output any more it ends at its write, the eighth step, with status 141. The output has grown by a
-/// beginning of the text, where its bytes are known: all of it, but where the host's write was short
-/// or failed, which the program does not look at.
+/// Whatever they do, the run makes its 13 steps and ends with the status; but where nobody reads
+/// the output any more it ends at its write, the eighth step, with status 141. The output has grown
+/// by a beginning of the text, where its bytes are known: all of it, but where the host's write was
+/// short or failed, which the program does not look at.
 pub fn write_and_exit_over<M: Memory, R: Read, W: Write, E: Write>(
     executor: &mut InstructionExecutor<M>,
     environment: &mut Linux<R, W, E>,

@@ -1,6 +1,6 @@
--- How the name of a symbol, a section or a file is shown, which may be any bytes: so that no control
--- character of it is written, and no line begins in it. A control character of ASCII is written as
--- readelf writes it, in caret notation: ^ and the character that is 64 above it.
+-- How the name of a symbol, a section or a file is shown, which may be any bytes: so that no
+-- control character of it is written, and no line begins in it. A control character of ASCII is
+-- written as readelf writes it, in caret notation: ^ and the character that is 64 above it.
 use Rattle.std.specs.Prelude.{ℕ, ◌+◌, ◌==◌, ◌&&◌, nat_le, nat_lt, if◌then◌else◌, List, [], ◌++◌, length, take, flat_map, chars, codes}
 use Rattle.std.specs.Str.{is_utf8}
 use Rattle.std.specs.Char.{encode_utf8}

@@ -67,8 +67,8 @@ fn write_costs<W: Write>(out: &mut Pieces<'_, W>, profile: &Profile<'_, '_>, num
 
 /// Writes what a run covered in Callgrind's profile format, for the program of this path: of each
 /// function that was executed how often each of its instructions was, and of each call how often it
-/// was made and how many steps it took until the function returned. Steps outside of the code are of
-/// the function `(no function)`, at address 0.
+/// was made and how many steps it took until the function returned. Steps outside of the code are
+/// of the function `(no function)`, at address 0.
 ///
 /// What is written is tested alone: `callgrind_annotate` reads it, and finds these steps
 /// (`examples/reports/check`).

@@ -20,8 +20,8 @@ enum Kind {
 pub struct Call {
     /// The address of the instruction.
     pub site: u32,
-    /// The number of the function that the instruction is of, 0 where it is of none, and else 1 more
-    /// than its place among the functions of the code.
+    /// The number of the function that the instruction is of, 0 where it is of none, and else 1
+    /// more than its place among the functions of the code.
     pub caller: u32,
     /// The number of the function that is called.
     pub callee: u32,
@@ -124,8 +124,8 @@ impl Calls {
         self.calls.get(next.wrapping_sub(1) as usize)
     }
 
-    /// How often the function of a number was entered: by a call, by itself or another, or by a jump,
-    /// a branch or a fall-through from another function that is no return to it.
+    /// How often the function of a number was entered: by a call, by itself or another, or by a
+    /// jump, a branch or a fall-through from another function that is no return to it.
     pub fn entries(&self, function: u32) -> u64 {
         self.entries.get(function as usize).copied().unwrap_or(0)
     }

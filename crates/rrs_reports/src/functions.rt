@@ -22,8 +22,8 @@ pub fn shown_part<'a>(symbols: &Symbols<'a>, index: u32) -> Option<&'a [u8]> {
     symbols.name_up_to(index, SHOWN_BYTES + 1)
 }
 
-/// How well a symbol names an address, whose name begins so: the highest is taken, and of equal ones
-/// the first. 0 is for symbols that name none.
+/// How well a symbol names an address, whose name begins so: the highest is taken, and of equal
+/// ones the first. 0 is for symbols that name none.
 fn rank(symbol: &Symbol, name: &[u8]) -> u8 {
     let has_section = symbol.section > 0 && symbol.section < 0xff00;
     let is_mapping = matches!(name, [b'$', ..] | []);

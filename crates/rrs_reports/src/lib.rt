@@ -1,9 +1,10 @@
-//! What is written about executables: the disassembly of one, as `objdump -d` lays it out, the commit
-//! log of a run, as Spike writes it, and what a run covered.
+//! What is written about executables: the disassembly of one, as `objdump -d` lays it out, the
+//! commit log of a run, as Spike writes it, and what a run covered.
 //!
 //! [Code] is the code of an executable, with its functions and the names of its addresses.
-//! [trace_process] makes a run and writes a line for each instruction, which `specs/CommitLogs.antt`
-//! defines. [cover_process] makes a run and counts its steps, as `specs/Coverages.antt` says.
+//! [trace_process] makes a run and writes a line for each instruction, which
+//! `specs/CommitLogs.antt` defines. [cover_process] makes a run and counts its steps, as
+//! `specs/Coverages.antt` says.
 
 #![tactic(auto)]
 

@@ -31,8 +31,8 @@ impl Covered {
 }
 
 impl Profile<'_, '_> {
-    /// What the run covered of the function of a number: of each word that belongs to it, once. 0 is
-    /// for the words that belong to none.
+    /// What the run covered of the function of a number: of each word that belongs to it, once. 0
+    /// is for the words that belong to none.
     pub fn covered(&self, number: u32) -> Covered {
         let mut covered = Covered {
             words: 0,
@@ -92,9 +92,9 @@ fn write_functions<W: Write>(out: &mut Pieces<'_, W>, profile: &Profile<'_, '_>,
 
 /// Writes what a run covered: a line for each function, those that did not run first, and else in
 /// the order of their addresses, with how many of its instructions were executed, how many it has,
-/// how often it was entered, and how many steps were made in it; a line for the code that belongs to
-/// no function, if there is some; one for the steps outside of the code, if some were made; and the
-/// sums.
+/// how often it was entered, and how many steps were made in it; a line for the code that belongs
+/// to no function, if there is some; one for the steps outside of the code, if some were made; and
+/// the sums.
 ///
 /// # Errors
 ///

@@ -41,8 +41,8 @@ fn write_profile<'a, O: Write + Drop>(
     flushed(written, &mut out)
 }
 
-/// Writes what a run covered: to a file or to `errors`, and a profile to a file, if there is one for
-/// it.
+/// Writes what a run covered: to a file or to `errors`, and a profile to a file, if there is one
+/// for it.
 fn write_reports<'a, F: Write + Drop, E: Write>(
     alloc: Global,
     request: Request<'a>,
@@ -76,9 +76,9 @@ fn write_reports<'a, F: Write + Drop, E: Write>(
 ///
 /// # Errors
 ///
-/// Those of `read_program`; `Refusal::File` where a file can't be created, where it is no executable
-/// that can be run, and where it has a symbol table that can't be read. No step is made then. The
-/// same where a write fails, which is after the run; out of memory as a failure.
+/// Those of `read_program`; `Refusal::File` where a file can't be created, where it is no
+/// executable that can be run, and where it has a symbol table that can't be read. No step is made
+/// then. The same where a write fails, which is after the run; out of memory as a failure.
 pub fn cover<'a, H: Files + Eprint + AllocGlobal, R: Read, W: Write, E: Write, P: Progress>(
     rt: &H,
     request: Request<'a>,

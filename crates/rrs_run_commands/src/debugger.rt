@@ -1,5 +1,5 @@
-//! What runs a program under gdb, as the program `rrs` calls it. The debugger takes the gate longest,
-//! so the rest of `rrs` is proved beside it.
+//! What runs a program under gdb, as the program `rrs` calls it. The debugger takes the gate
+//! longest, so the rest of `rrs` is proved beside it.
 
 use crate::options::Task;
 use crate::refusal::Refusal;

@@ -24,8 +24,8 @@ pub const STANDARD_OUTPUT: &str = "standard output";
 
 pub const STANDARD_ERROR: &str = "standard error";
 
-/// Why the host did not do what it was called for: by the kind of the error, and where that says too
-/// little by its number.
+/// Why the host did not do what it was called for: by the kind of the error, and where that says
+/// too little by its number.
 pub fn fault_of(error: &io::Error) -> HostFault {
     match error.raw_os_error() {
         Some(1) => HostFault::NotPermitted,

@@ -3,8 +3,8 @@
 //! Shared are the words that they are asked with (`words`, `options`, `requests`), the files that
 //! they read and write (`files`), and why they refuse what they are asked (`refusal`). The
 //! subcommands here are runs of files, with and without a line for each instruction, programs that
-//! make system calls of Linux, with a report of the run or none, firmware on a board, and the listing
-//! and the disassembly of an executable.
+//! make system calls of Linux, with a report of the run or none, firmware on a board, and the
+//! listing and the disassembly of an executable.
 
 #![tactic(auto)]
 

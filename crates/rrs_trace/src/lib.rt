@@ -4,10 +4,11 @@
 //! Interface, and [step_retired_parts] does so of a hart that is kept in another layout.
 //! [TracedMemory] is the memory under both, which keeps the latest access that is no fetch.
 //! [run_until] makes steps until the pc is one of some addresses, and [run_until_cached] does so
-//! over a memory that keeps its decoded words. [request] and [complete] execute an instruction whose
-//! load or store the caller makes, outside of the machine, [request_parts] and [complete_parts] do
-//! so of a hart that is kept in another layout, and [complete_load] and [complete_store] the one at
-//! which a run ended with an access fault. A [Snapshot] keeps the state of a hart.
+//! over a memory that keeps its decoded words. [request] and [complete] execute an instruction
+//! whose load or store the caller makes, outside of the machine, [request_parts] and
+//! [complete_parts] do so of a hart that is kept in another layout, and [complete_load] and
+//! [complete_store] the one at which a run ended with an access fault. A [Snapshot] keeps the state
+//! of a hart.
 //!
 //! What a step retires is written in `specs/Retired.antt`, what a run that stops is in
 //! `specs/Stops.antt`, and what is asked and completed in `specs/Outside.antt`.

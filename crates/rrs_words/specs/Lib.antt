@@ -1,5 +1,5 @@
--- The words that the 48 rows leave out: the instructions on CSRs, mret, wfi and fence.i, the numbers
--- and names of the CSRs, and the texts.
+-- The words that the 48 rows leave out: the instructions on CSRs, mret, wfi and fence.i, the
+-- numbers and names of the CSRs, and the texts.
 pub mod CsrNumbers
 pub mod SystemInstructions
 pub mod SystemTexts

@@ -170,8 +170,8 @@ fn lines_are_their_words(rt: HostRuntime) {
     same_words(&rt, rt.alloc(), 0xffff_fffc, &LAST);
 }
 
-/// Pseudo-instructions, each with the texts at 0 of its instructions, the second of them empty where
-/// there is one alone.
+/// Pseudo-instructions, each with the texts at 0 of its instructions, the second of them empty
+/// where there is one alone.
 static EXPANDED: [(Pseudo, &str, &str); 20] = [
     (Pseudo::Nop, "addi x0, x0, 0", ""),
     (Pseudo::Ret, "jalr x0, 0x000(x1)", ""),

@@ -1,4 +1,5 @@
-//! Sources with mistakes, and the places that are told. GNU `as` refuses each at the same line, or warns.
+//! Sources with mistakes, and the places that are told. GNU `as` refuses each at the same line, or
+//! warns.
 
 use crate::expansions::made;
 use rrs_asm_macros::{MacroError, MacroErrorKind, MacroFault};

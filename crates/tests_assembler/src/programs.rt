@@ -144,8 +144,8 @@ fn memory_of(alloc: Global, words: &[u32], others: &[u32]) -> Result<VecMemory, 
     Ok(VecMemory::new(words))
 }
 
-/// Runs a program to an exception of a fetch or of a word: how many steps it made, and its registers.
-/// x1 is 0x7c, where a zero is.
+/// Runs a program to an exception of a fetch or of a word: how many steps it made, and its
+/// registers. x1 is 0x7c, where a zero is.
 fn run_over(memory: &mut VecMemory, registers: [u32; 3]) -> (u64, [u32; 32]) {
     let mut hart = HartState::new();
     hart.registers[1] = 0x7c;

@@ -39,8 +39,8 @@ fn step_leaves(
 /// Registers, by their numbers.
 type Registers = &'static [(usize, u32)];
 
-/// A program at 0 and a limit; the steps of the run, its exception, and the pc after it; the registers
-/// before and after it, and the last written register.
+/// A program at 0 and a limit; the steps of the run, its exception, and the pc after it; the
+/// registers before and after it, and the last written register.
 type ProgramRun = (
     (&'static [u32], u64),
     (u64, Option<InstructionException>, u32),
@@ -231,8 +231,8 @@ static FAULTS: [(u32, u32, InstructionException); 18] = [
     (0x00000013, 0xfffffffe, AlignmentFault(0xfffffffe)),
 ];
 
-// Each word alone at 0, at a pc: the exception. SYSTEM words beside ecall and ebreak, slli with another
-// funct7 and jalr with another funct3 are illegal instructions.
+// Each word alone at 0, at a pc: the exception. SYSTEM words beside ecall and ebreak, slli with
+// another funct7 and jalr with another funct3 are illegal instructions.
 #[test]
 fn faults(rt: HostRuntime) -> Result<(), Fail> {
     for &(word, pc, fault) in &FAULTS {

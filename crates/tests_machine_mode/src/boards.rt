@@ -8,8 +8,8 @@ use rrs_lib::memories::VecMemory;
 use std::alloc::{AllocError, Global};
 use std::test::Fail;
 
-/// It transmits `A`, makes an `ecall`, echoes a byte, and ends with status 5. The others are for packets
-/// that change the pc.
+/// It transmits `A`, makes an `ecall`, echoes a byte, and ends with status 5. The others are for
+/// packets that change the pc.
 const FIRMWARE: [u32; 27] = [
     0x0000_0297, // 0x80000000: auipc x5, 0
     0x0402_8293, // 04: addi x5, x5, 0x40
@@ -40,8 +40,8 @@ const FIRMWARE: [u32; 27] = [
     0x0000_006f, // 68: jal x0, 0x68
 ];
 
-/// What the stub sends for packets, whose payloads stand with a bar between, where a `continue` makes so
-/// many steps at most, and how it ends. The UART receives `xyz`.
+/// What the stub sends for packets, whose payloads stand with a bar between, where a `continue`
+/// makes so many steps at most, and how it ends. The UART receives `xyz`.
 fn answers_to(
     alloc: Global,
     payloads: &str,
@@ -72,7 +72,8 @@ fn served(
 }
 
 /// The numbers of the registers are gdb's: a CSR has 65 and its own number. mstatus is 0x341, misa
-/// 0x342, mie 0x345, mtvec 0x346, mepc 0x382, mcause 0x383, mip 0x385, cycle 0xc41, mvendorid 0xf52.
+/// 0x342, mie 0x345, mtvec 0x346, mepc 0x382, mcause 0x383, mip 0x385, cycle 0xc41, mvendorid
+/// 0xf52.
 const PACKETS: [(&str, &str); 62] = [
     ("?", "S05"),
     (

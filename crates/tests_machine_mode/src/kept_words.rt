@@ -258,7 +258,8 @@ fn generated(alloc: Global, seed: u32, pulse: Pulse) -> Result<(VecMemory, Machi
     Ok((memory, Machine { hart, csrs, pulse }))
 }
 
-/// Whether a generated program runs alike over words that are fetched and kept, of a memory of words.
+/// Whether a generated program runs alike over words that are fetched and kept, of a memory of
+/// words.
 fn generated_alike(alloc: Global, seed: u32, pulse: Pulse, limit: u64) -> Result<bool, AllocError> {
     let (mut fetched, mut first) = generated(alloc, seed, pulse)?;
     let (memory, mut second) = generated(alloc, seed, pulse)?;

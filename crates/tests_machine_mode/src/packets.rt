@@ -190,9 +190,9 @@ fn each_session_is_answered(rt: HostRuntime) -> Result<(), Fail> {
     Ok(())
 }
 
-/// Each packet that the stub knows, in a session of its own, and three that it does not know; then the
-/// signal of each fault, and a program that does not stop before it exits. `G` stands in the sessions
-/// above, and `k`, `R` and `vRun`, which are not answered, in the streams below.
+/// Each packet that the stub knows, in a session of its own, and three that it does not know; then
+/// the signal of each fault, and a program that does not stop before it exits. `G` stands in the
+/// sessions above, and `k`, `R` and `vRun`, which are not answered, in the streams below.
 const PACKETS: [(&str, &str); 57] = [
     ("?", "S05"),
     ("!", "OK"),

@@ -108,7 +108,8 @@ fn each_fetch(rt: HostRuntime) -> Result<(), Fail> {
     Ok(())
 }
 
-/// `mstatus`, `mie`, what is pending as in `mip`, and the code of the interrupt that is taken, or 0.
+/// `mstatus`, `mie`, what is pending as in `mip`, and the code of the interrupt that is taken, or
+/// 0.
 static INTERRUPTS: [(u32, u32, u32, u32); 12] = [
     (8, 0x888, 0x888, 11),
     (8, 0x888, 0x088, 3),
@@ -152,8 +153,8 @@ fn handler_of(mtvec: u32, code: u32) -> u32 {
     }
 }
 
-/// What a `wfi` leaves with the handlers at this `mtvec`: its answer and the pc, and `mcause`, `mepc`
-/// and `mstatus`.
+/// What a `wfi` leaves with the handlers at this `mtvec`: its answer and the pc, and `mcause`,
+/// `mepc` and `mstatus`.
 fn wanted(interrupt: (u32, u32, u32, u32), mtvec: u32) -> (MachineAnswer, u32, [u32; 3]) {
     let (mstatus, mie, bits, code) = interrupt;
     if code != 0 {

@@ -77,8 +77,8 @@ fn has_text(word: u32, text: &str) -> bool {
     }
 }
 
-/// Whether a word is encoded again to itself, its instruction is decoded again, and the word is none
-/// of the 48 rows.
+/// Whether a word is encoded again to itself, its instruction is decoded again, and the word is
+/// none of the 48 rows.
 fn goes_there_and_back(word: u32) -> bool {
     match encode_of_decode(word) {
         Some((instruction, again)) => {

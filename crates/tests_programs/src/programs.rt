@@ -115,8 +115,8 @@ fn run(
     }
 }
 
-/// An executable with no symbols, from 0x10054 on: addi x10, x0, 7 / lui x12, 0x10 / sw x10, 0(x12) /
-/// lw x11, 0(x12) / addi x17, x0, 93 / ecall.
+/// An executable with no symbols, from 0x10054 on: addi x10, x0, 7 / lui x12, 0x10 / sw x10, 0(x12)
+/// / lw x11, 0(x12) / addi x17, x0, 93 / ecall.
 const PROCESS: &[u8] = b"\x7f\x45\x4c\x46\x01\x01\x01\x00\x00\x00\x00\x00\x00\x00\x00\x00\
     \x02\x00\xf3\x00\x01\x00\x00\x00\x54\x00\x01\x00\x34\x00\x00\x00\
     \x00\x00\x00\x00\x00\x00\x00\x00\x34\x00\x20\x00\x01\x00\x28\x00\x00\x00\x00\x00\
@@ -128,8 +128,8 @@ const PROCESS: &[u8] = b"\x7f\x45\x4c\x46\x01\x01\x01\x00\x00\x00\x00\x00\x00\x0
 /// A source.
 const SOURCE: &[u8] = b"    addi x1, x0, 7\n    .data\n    .byte 5, 6, 7, 8, 9\n";
 
-/// Files of a program, of jal x0, 0, which jumps to itself, of an executable, and of sources. None can
-/// be written.
+/// Files of a program, of jal x0, 0, which jumps to itself, of an executable, and of sources. None
+/// can be written.
 const FILES: [Contents<'static>; 6] = [
     Contents {
         name: "program",

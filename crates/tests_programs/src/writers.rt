@@ -30,8 +30,8 @@ impl Read for Failing {
     }
 }
 
-/// A writer that takes so many bytes a write at most. Its write before byte `fails_at` fails once, or
-/// is interrupted, and the next one goes on. A flush may fail, each time.
+/// A writer that takes so many bytes a write at most. Its write before byte `fails_at` fails once,
+/// or is interrupted, and the next one goes on. A flush may fail, each time.
 #[derive(Drop)]
 pub struct Output {
     pub written: Vec<u8>,

@@ -12,9 +12,9 @@ fn is_accepted(alloc: Global, at: usize, bytes: usize, value: u32) -> Result<boo
     Ok(Executable::parse(&file).is_ok())
 }
 
-/// Changes with which a file is just accepted: segments that touch, the later one above or below, one
-/// that ends with the last address, one whose bytes fill it, the last word as the entry, and the
-/// flag of a stronger memory order.
+/// Changes with which a file is just accepted: segments that touch, the later one above or below,
+/// one that ends with the last address, one whose bytes fill it, the last word as the entry, and
+/// the flag of a stronger memory order.
 static JUST_ACCEPTED: [(usize, u32); 6] = [
     (124, 0x10010),
     (124, 0xfff4),
