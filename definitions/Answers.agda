@@ -23,9 +23,10 @@ open import rrs-lib.Declared using
   ; AlignmentFault; EnvironmentCall; Breakpoint )
 open import rrs-lib.Machine
 open import rrs-lib.Steps
+open import machine-words.Declared using
+  (Mstatus; Mie; Mtvec; Mscratch; Mepc; Mcause; Mtval; Mip)
 open import machine-mode.Declared using
-  ( CsrFile; Inputs; Mstatus; Mie; Mtvec; Mscratch; Mepc; Mcause; Mtval; Mip
-  ; MachineAnswer; Retired; Waiting; Raised; Interrupted
+  ( CsrFile; Inputs; MachineAnswer; Retired; Waiting; Raised; Interrupted
   ; external·; timer·; software·; time·; mstatus·; mie·; mtvec·; mscratch·; mepc·; mcause·; mtval· )
 open import machine-mode.Csrs using (csr-value; reset-file)
 open import machine-mode.Traps using (exception-code; interrupt-code)

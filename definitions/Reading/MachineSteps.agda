@@ -16,11 +16,12 @@ open import rrs-memory.AccessLists using (Access)
 open import rrs-lib.Declared using (InstructionException)
 open import rrs-lib.Machine using (State; pc·)
 open import rrs-lib.Steps
+open import machine-words.Declared using
+  (SystemRow; Csrrw; Csrrs; Csrrc; Csrrwi; Csrrsi; Csrrci; Mret; Wfi; FenceI)
+open import machine-words.SystemInstructions
 open import machine-mode.Declared using
-  ( Inputs; MachineAnswer; Retired; Raised; Interrupted; InstructionMisaligned; Interrupt
-  ; SystemRow; Csrrw; Csrrs; Csrrc; Csrrwi; Csrrsi; Csrrci; Mret; Wfi; FenceI )
+  (Inputs; MachineAnswer; Retired; Raised; Interrupted; InstructionMisaligned; Interrupt)
 open import machine-mode.Csrs using (retired-file)
-open import machine-mode.SystemInstructions
 open import machine-mode.Traps using (interrupt-due; exception-of)
 open import machine-mode.MachineSteps hiding (ends)
 open import Reading.Decoding

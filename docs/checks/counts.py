@@ -43,7 +43,7 @@ class Sources:
 TABLE = "crates/rrs_instruction/specs/Table.antt"
 HEADER = "crates/rrs_c/include/rrs.h"
 TEXTS = "crates/rrs_lib/src/disassembly.rt"
-TESTS = r"crates/(?:\w+_tests/.*|tests_shared/.*|\w+/src/tests)\.rt"
+TESTS = r"crates/(?:tests_\w+/.*|\w+/src/tests)\.rt"
 
 
 def row_names(sources):
@@ -212,7 +212,7 @@ COUNTS = {
     "crates": (lambda s: len(s.crates), 1),
     "libraries": (lambda s: crates_of(s, lambda crate: crate.is_library()), 1),
     "programs": (lambda s: crates_of(s, lambda crate: not crate.is_library()), 1),
-    "test-crates": (lambda s: crates_of(s, lambda crate: crate.name.endswith("_tests")), 1),
+    "test-crates": (lambda s: crates_of(s, lambda crate: crate.name.startswith("tests_")), 1),
     "edits": (edits, 1),
     "edits:": (edits, 1),
     "bodies-tried-alone": (bodies_tried_alone, 1),

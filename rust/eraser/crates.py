@@ -13,7 +13,6 @@ CRATES = ROOT / "crates"
 NOT_OVER = {
     "rrs_c": "a static library: what it exports needs unsafe code",
     "rrs_lent": "an allocator of lent memory: Rust's containers take no allocator as yet",
-    "rrs_lent": "the assembler in lent memory, over rrs_lent",
     "tests_programs": "its machine is a runtime of the toolchain's, by traits that are not here",
 }
 # The modules that do not, in crates that do: they are tests of the crates above.

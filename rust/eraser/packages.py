@@ -67,7 +67,7 @@ def package_lines(name, has_host):
         'keywords = ["riscv", "simulator", "emulator", "rv32im"]',
         f"categories = {categories}",
     ]
-    if name.endswith(("_tests", "_test_machines")):
+    if name.startswith("tests_"):
         lines.append("publish = false")
     if is_program:
         binary = name.replace("_", "-")

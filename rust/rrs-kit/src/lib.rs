@@ -39,8 +39,20 @@ pub mod machine {
 
     /// A board with a UART and a timer.
     pub use rrs_board as board;
+    /// The CSRs: their numbers, and what they keep.
+    pub mod csrs {
+        pub use rrs_machine::csrs::*;
+        pub use rrs_words::csrs::*;
+    }
+    /// The instructions of machine mode.
+    pub mod instructions {
+        pub use rrs_words::{SystemInstruction, SystemRow, decode_system};
+    }
     /// The words and texts of the instructions of machine mode, and records of its steps.
-    pub use rrs_words as system;
+    pub mod system {
+        pub use rrs_machine::{CsrAccess, MachineRetired, step_machine_retired};
+        pub use rrs_words::{SystemText, encode_system, laws, system_text};
+    }
 }
 
 /// The calls of Linux.
@@ -48,12 +60,19 @@ pub mod machine {
 pub mod linux {
     pub use rrs_linux::*;
 
-    /// Environments, which serve the `ecall`s of a run.
-    pub use rrs_fast as env;
     /// A process from its executable to its end.
     pub use rrs_exec as exec;
+    /// Environments, which serve the `ecall`s of a run.
+    pub mod env {
+        pub use rrs_fast::{Ending, Environment, ServedEnd, run_served};
+    }
     /// The image of a process: its segments, its stack and its rights.
-    pub use rrs_exec as process;
+    pub mod process {
+        pub use rrs_exec::{
+            Image, ImageError, Layout, PAGE_BYTES, PageRange, ProgramHeaders, ProtectedMemory,
+            Protection, fill, image_of, initial_stack, layout_of, marks_of, stack_pointer,
+        };
+    }
 }
 
 /// The remote protocol of gdb.
