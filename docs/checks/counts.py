@@ -192,7 +192,7 @@ def compared(sources, what):
 KIT = "rrs_lib|rrs_memory|rrs_instruction"
 
 # Each count: what gives it, and to what it may be rounded. One with a colon takes what stands
-# behind the colon as its second argument.
+# after the colon as its second argument.
 COUNTS = {
     "rows": (lambda s: len(row_names(s)), 1),
     "row-files": (lambda s: row_files(s, False), 1),

@@ -39,7 +39,7 @@ class Vocabulary:
                 self.add_items(module, items)
 
     def read(self, text):
-        """Takes the words of a source, and which stand behind which."""
+        """Takes the words of a source, and which stand after which."""
         self.texts.append(text)
         found = WORD.findall(text)
         self.words.update(found)
@@ -51,7 +51,7 @@ class Vocabulary:
             self.pairs.update((head, name) for name in re.findall(r"\w+", names))
 
     def add_items(self, owner, items):
-        """Takes the items of a module, a type or a trait as what may stand behind its name."""
+        """Takes the items of a module, a type or a trait as what may stand after its name."""
         for item in items:
             name = item.name
             if item.kind == "impl":
@@ -88,7 +88,7 @@ def is_file_name(text):
 
 
 def missing_of_path(text, vocabulary):
-    """The first part of a path that no source has behind the one before it."""
+    """The first part of a path that no source has after the one before it."""
     parts = re.findall(r"[\w-]+", re.sub(r"<[^<>]*>", "", text))
     if not parts[0][0].isalpha():
         return None

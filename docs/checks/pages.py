@@ -87,7 +87,7 @@ class Page:
                 yield start + text.count("\n", 0, found.start()), found[1] or found[2]
 
     def anchors(self):
-        """What a link may name behind `#`: the headings as GitHub writes them."""
+        """What a link may name after `#`: the headings as GitHub writes them."""
         seen = {}
         block = False
         for line in self.all_lines:
@@ -157,7 +157,7 @@ def fit(pieces, source, place, shift):
 
 
 def first_difference(piece, source):
-    """The line of a piece behind the longest beginning of it that stands in a source."""
+    """The line of a piece after the longest beginning of it that stands in a source."""
     best = 0
     for place, line in enumerate(source):
         shift = shift_of(piece[0], line)

@@ -63,7 +63,7 @@ def without_texts(source):
 
 
 def closing(plain, start):
-    """The place behind the bracket that closes the one at `start`."""
+    """The place after the bracket that closes the one at `start`."""
     depth = 0
     for place in range(start, len(plain)):
         if plain[place] in "([{":
@@ -148,7 +148,7 @@ class Reader:
         return place + len(self.plain[place:]) - len(self.plain[place:].lstrip())
 
     def statement_end(self, place, end):
-        """Where a statement ends, behind its `;`."""
+        """Where a statement ends, after its `;`."""
         while place < end and self.plain[place] != ";":
             place = closing(self.plain, place) if self.plain[place] in "([{" else place + 1
         return place + 1

@@ -25,7 +25,7 @@ use std::rt::{Env, Files};
 const OUTPUT_BYTES: usize = 1 << 16;
 /// The number of words of the memory of a raw program.
 const WORDS: usize = 262_144;
-/// The address behind that memory, where sp starts.
+/// The address after that memory, where sp starts.
 const MEMORY_END: u32 = 0x0010_0000;
 
 /// The refusal that an error of the streams is.
@@ -230,7 +230,7 @@ fn absolute<'a, H: Env + AllocGlobal>(rt: &H, path: &'a str) -> Result<String, R
     }
 }
 
-/// The present directory, with a slash behind it; nothing where it can't be told.
+/// The present directory, with a slash after it; nothing where it can't be told.
 fn directory_of<'a, H: Env + AllocGlobal>(rt: &H) -> Result<String, Refusal<'a>> {
     let Ok(directory) = env::current_dir(rt) else {
         return Ok(String::new(rt.alloc()));

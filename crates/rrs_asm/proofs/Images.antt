@@ -1,4 +1,4 @@
--- Sections that lie as a layout says, and their bytes one behind the other.
+-- Sections that lie as a layout says, and their bytes one after the other.
 use Rattle.std.proofs.Common.{◌≡◌, ◌<◌, ℕ, zero, suc, get_or, drop, Bool, true, false, ◌+◌, ◌-◌, ◌++◌, List, [], ◌∷◌, length, replicate, ◌≤◌, refl, sym, subst, ap, ◌∙◌, arith}
 use Rattle.std.proofs.lemmas.List.{append_assoc, append-nil, length-append, length-replicate}
 use Rattle.rrs_asm.specs.declared.sections.Section.{Section}
@@ -6,12 +6,12 @@ use Rattle.rrs_asm.specs.declared.sections.Layout.{Layout}
 use Rattle.rrs_asm.specs.Source.{is_empty}
 use Rattle.rrs_asm.specs.Sections.{end_of, AreBehind, ArePlaced, with_section, flat_behind, laid_flat, with_bytes, AreBytesFrom, IsImage}
 
--- what sections add behind bytes, and where
+-- what sections add after bytes, and where
 abbrev Rest : {A : Type 0} → ℕ → List ℕ → List (Section A) → Type 0
 Rest base before others =
     (rest : List ℕ) × AreBytesFrom (base + length before) (with_bytes others) rest × (flat_behind base before others ≡ before ++ rest)
 
--- bytes behind zeros up to an address
+-- bytes after zeros up to an address
 abbrev padded : {A : Type 0} → ℕ → List ℕ → Section A → List ℕ
 padded base before s = before ++ (replicate (s.address - base - length before) 0 ++ s.made.bytes.items)
 
@@ -56,14 +56,14 @@ image-of-rest base sections (rest, are, same) =
     let Q : ℕ → Type 0 = λ n. AreBytesFrom n (with_bytes sections) rest in
     subst P (sym same) (subst Q (omega arith) are)
 
--- their bytes one behind the other are those of each at its address
+-- their bytes one after the other are those of each at its address
 pub is-image : {A : Type 0} (layout : Layout) (base : ℕ) (sections : List (Section A)) → layout.text_start ≡ base → ArePlaced layout sections → IsImage base sections (laid_flat base sections)
 is-image layout base [] text placed = refl
 is-image layout base (s ∷ others) text (first, more) =
     image-of-rest base (s ∷ others)
     (choose base [] s others (is_empty s.made.bytes.items) refl (omega (arith, text, first)) (λ bytes ends. rest-of base layout s bytes others ends more))
 
--- one section more is laid behind what was
+-- one section more is laid after what was
 pub laid-next : {A : Type 0} (base : ℕ) (bytes after all : List ℕ) (i n : ℕ) (sections : List (Section A)) (d : Section A) → n ≡ i + 1 → i < length sections
     → after ≡ with_section base bytes (get_or sections i d) → flat_behind base bytes (drop i sections) ≡ all
     → flat_behind base after (drop n sections) ≡ all

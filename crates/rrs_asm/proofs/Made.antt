@@ -67,7 +67,7 @@ IsMade-laid base (Item.Laid own_line own_name ∷ items) labels placed bytes lin
   rw whole (append_assoc first rest own),
 )
 
--- what is made stands one behind the other
+-- what is made stands one after the other
 pub laid-out : (base : ℕ) (items : List Item) (labels : List Label) (placed : List Placed) (bytes : List ℕ) → IsMade base items labels placed bytes → LaysOut base placed bytes
 laid-out base [] labels placed bytes (none, nothing, empty) = rw nothing empty
 laid-out base (Item.Label line name ∷ items) labels placed bytes (first, others, label, made, all) = laid-out base items others placed bytes made
@@ -408,7 +408,7 @@ ReadsOn-common line directive symbol old inside behind new end start sections at
 
 -- ---- what is left
 
--- what stands behind the first word is no constant
+-- what stands after the first word is no constant
 pub behind-named : {E : Type 0} (number : ℕ) (name rest : List ℕ) (r : Result Read E) → begins_with 61 (behind_blanks rest) ≡ false
     → IfOk r (λ read. items_of_read number read ≡ items_named number name rest) → IfOk r (λ read. items_of_read number read ≡ items_behind number name rest)
 behind-named number name rest r other said = rw other said
@@ -481,7 +481,7 @@ others-of x [] (suc n) long = absurd (omega arith)
 others-of x (y ∷ xs) zero long = absurd (omega arith)
 others-of x (y ∷ xs) (suc n) long = ap (λ rest. y ∷ rest) (others-of y xs n (omega arith))
 
--- the first of the others lies behind, and all others behind it
+-- the first of the others lies after, and all others after it
 pub are-behind : {A : Type 0} (layout : Layout) (first s : Section A) (others : List (Section A)) (n : ℕ)
     → n + 1 ≡ length others → s ≡ get_or others 0 s → IsBehind layout first s → AreBehind layout s (take n (drop 1 others))
     → AreBehind layout first others
@@ -492,7 +492,7 @@ are-behind layout first s (x ∷ xs) n long is behind more =
     let Rest : List (Section _) → Type 0 = λ ys. AreBehind layout x ys in
     (subst Is is behind, subst Rest (others-of x xs n long) (subst More is more))
 
--- the first lies where the layout says, and all others behind it
+-- the first lies where the layout says, and all others after it
 pub are-placed : {A : Type 0} (layout : Layout) (s : Section A) (sections : List (Section A)) (n : ℕ)
     → n + 1 ≡ length sections → s ≡ get_or sections 0 s → s.address ≡ layout.text_start → AreBehind layout s (take n (drop 1 sections))
     → ArePlaced layout sections

@@ -160,7 +160,7 @@ pub record IsGood {A : Type 0} (reading : Reading A) : Type 0 where
   pub errors : reading.errors.items ≡ []
   pub is_first : reading.is_first ≡ false
 
--- These were read behind all those before, if nothing is wrong then. Nothing was wrong before,
+-- These were read after all those before, if nothing is wrong then. Nothing was wrong before,
 -- then.
 pub record ReadsFrom {A : Type 0} (more : List Item) (old new : Reading A) : Type 0 where
   pub good : IsGood old

@@ -21,7 +21,7 @@ abbrev pub index_of : List ℕ → List (List ℕ) → ℕ
 index_of name [] = 0
 index_of name (own ∷ names) = if bytes_eq own name then 0 else index_of name names + 1
 
--- which section is open behind items, where one is open before them
+-- which section is open after items, where one is open before them
 abbrev pub open_behind : List (List ℕ) → ℕ → List Item → ℕ
 open_behind names before [] = before
 open_behind names before (Item.Label line name ∷ items) = open_behind names before items
@@ -35,7 +35,7 @@ open_behind names before (Item.Section name ∷ items) =
 abbrev pub if_open : ℕ → ℕ → Item → List Item → List Item
 if_open section before item items = if before == section then item ∷ items else items
 
--- the section for what `.comm` and `.lcomm` say, which lies behind `.bss`
+-- the section for what `.comm` and `.lcomm` say, which lies after `.bss`
 abbrev pub common : List (List ℕ) → ℕ
 common names = index_of (codes "COMMON") names
 
@@ -77,7 +77,7 @@ AreMadeFrom names number items (s ∷ others) =
 abbrev pub AreMade : {A : Type 0} → List Item → List (Section A) → Type 0
 AreMade items sections = AreMadeFrom (names_of sections) 0 items sections
 
--- the statements of each section stand one behind the other
+-- the statements of each section stand one after the other
 abbrev pub AreLaidOut : {A : Type 0} → List (Section A) → Type 0
 AreLaidOut [] = Unit {0}
 AreLaidOut (s ∷ others) =
@@ -100,7 +100,7 @@ abbrev pub ends_name : List ℕ → Bool
 ends_name [] = true
 ends_name (b ∷ bs) = b == 46
 
--- a name is this one, or goes on behind it with a dot
+-- a name is this one, or goes on after it with a dot
 abbrev pub is_name_of : List ℕ → List ℕ → Bool
 is_name_of first name = begins_as name first && ends_name (drop (length first) name)
 
@@ -132,11 +132,11 @@ is_data SectionKind.Data = true
 is_data SectionKind.Zero = true
 is_data _ = false
 
--- all sections one behind the other from an address on
+-- all sections one after the other from an address on
 abbrev pub flat : ℕ → Layout
 flat text = record { text_start = text; data_start = None; page = 1 }
 
--- Where what follows a section can lie: behind its end. GNU `as` fills instructions up to the
+-- Where what follows a section can lie: after its end. GNU `as` fills instructions up to the
 -- alignment of their section.
 abbrev pub filled_end : SectionKind → ℕ → ℕ → ℕ
 filled_end kind alignment end = if is_code kind then next_multiple_of end alignment else end
@@ -146,7 +146,7 @@ filled_end kind alignment end = if is_code kind then next_multiple_of end alignm
 abbrev pub data_address : Layout → ℕ → ℕ
 data_address layout end = option_map_or (λ own. own) layout.data_start (next_multiple_of end layout.page)
 
--- where a section of a kind and an alignment lies behind another one
+-- where a section of a kind and an alignment lies after another one
 abbrev pub start_behind : Layout → SectionKind → ℕ → ℕ → SectionKind → ℕ → ℕ
 start_behind layout before before_alignment end kind alignment =
     let behind = filled_end before before_alignment end in
@@ -157,7 +157,7 @@ start_behind layout before before_alignment end kind alignment =
 abbrev pub end_of : {A : Type 0} → Section A → ℕ
 end_of s = s.address + length s.made.bytes.items
 
--- a section lies behind another one, where the layout says
+-- a section lies after another one, where the layout says
 pub record IsBehind {A : Type 0} (layout : Layout) (before s : Section A) : Type 0 where
   pub start :
       s.address ≡ start_behind layout before.kind before.alignment (end_of before) s.kind s.alignment
@@ -167,14 +167,14 @@ abbrev pub AreBehind : {A : Type 0} → Layout → Section A → List (Section A
 AreBehind layout before [] = Unit {0}
 AreBehind layout before (s ∷ others) = IsBehind layout before s × AreBehind layout s others
 
--- the first section lies at the address that the layout says, and each other behind the one before
+-- the first section lies at the address that the layout says, and each other after the one before
 abbrev pub ArePlaced : {A : Type 0} → Layout → List (Section A) → Type 0
 ArePlaced layout [] = Unit {0}
 ArePlaced layout (s ∷ others) = (s.address ≡ layout.text_start) × AreBehind layout s others
 
 -- ---- all in one
 
--- the bytes of a section behind others, the first of which are at an address: behind zeros up to
+-- the bytes of a section after others, the first of which are at an address: after zeros up to
 -- its own
 abbrev pub with_section : {A : Type 0} → ℕ → List ℕ → Section A → List ℕ
 with_section base before s =

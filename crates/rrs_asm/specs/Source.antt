@@ -33,7 +33,7 @@ items_named line name operands =
     else (if is_common_name name then Item.Common line name (word operands) ∷ []
     else Item.Laid line name ∷ []))
 
--- a first word and what stands behind it: nothing, where that is a constant, `name = value`
+-- a first word and what stands after it: nothing, where that is a constant, `name = value`
 abbrev pub items_behind : ℕ → List ℕ → List ℕ → List Item
 items_behind line name behind =
     if begins_with 61 (behind_blanks behind) then [] else items_named line name behind

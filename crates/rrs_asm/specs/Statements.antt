@@ -49,7 +49,7 @@ pub record IsPlacedAt (at number : ℕ) (own_name : List ℕ) (placed : Placed) 
 
 -- What is made of items, from an address on: each label and each statement is one of theirs, in
 -- order, and each item has its label or its statement. A label's address is that of what stands
--- behind it, and a statement's that at which the one before it ends.
+-- after it, and a statement's that at which the one before it ends.
 abbrev pub IsMade : ℕ → List Item → List Label → List Placed → List ℕ → Type 0
 IsMade address [] labels placed bytes = (labels ≡ []) × (placed ≡ []) × (bytes ≡ [])
 IsMade address (Item.Label line name ∷ items) labels placed bytes =
@@ -64,7 +64,7 @@ IsMade address (Item.Section name ∷ items) labels placed bytes =
 IsMade address (Item.Common line directive symbol ∷ items) labels placed bytes =
     IsMade address items labels placed bytes
 
--- one statement of a line more stands behind those from `base` on
+-- one statement of a line more stands after those from `base` on
 pub record AddsPlaced (base number : ℕ) (own_statement : Statement) (old new : List Placed)
     (before after : List ℕ) : Type 0 where
   pub placed : Placed

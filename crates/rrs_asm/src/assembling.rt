@@ -34,11 +34,11 @@ const MOST_SECTIONS: usize = 256;
 /// A source is a list of items: directives that open a section, labels, and statements that lay
 /// bytes out (`items_of`). What is made of each section is made of the items in it, in their order:
 /// of each label and of each statement, with its line, its name and its address, from the address
-/// of the section on (`items`). The statements stand one behind the other (`laid_out`). Each
+/// of the section on (`items`). The statements stand one after the other (`laid_out`). Each
 /// section that is opened is there, but for those with debugging data and notes (`all_found`). Each
 /// holds what its name says, where that says it (`kinds`): instructions, data that is not written,
 /// data, or zeros. Each begins where the layout says: the first at its address, and each other
-/// behind the one before (`placed`).
+/// after the one before (`placed`).
 ///
 /// # Errors
 ///
@@ -197,8 +197,8 @@ impl<'a, A: Allocator + Copy> Reading<'a, A> {
         }
     }
 
-    /// Opens a section that is not there, behind those of its kind. In the first reading that is a
-    /// new one, and later one that was left behind the last address.
+    /// Opens a section that is not there, after those of its kind. In the first reading that is a
+    /// new one, and later one that was left after the last address.
     fn open_new(&mut self, name: &'a [u8], kind: Option<SectionKind>, start: LineError)
         ensures { IsGood self.new → ⊥ }
     {
@@ -382,7 +382,7 @@ fn read_line<'a, A: Allocator + Copy>(
     }
 }
 
-/// A mistake where a text begins, behind blanks, with so many bytes of the line behind it.
+/// A mistake where a text begins, after blanks, with so many bytes of the line after it.
 fn error_before(text: &[u8], behind: usize) -> LineError {
     LineError {
         kind: SourceErrorKind::Unknown,
@@ -390,7 +390,7 @@ fn error_before(text: &[u8], behind: usize) -> LineError {
     }
 }
 
-/// Reads a part of a line, with so many bytes of the line behind it.
+/// Reads a part of a line, with so many bytes of the line after it.
 fn read_part<'a, A: Allocator>(
     part: Part<'a>,
     behind: usize,
@@ -458,7 +458,7 @@ fn read_statement<'a, A: Allocator>(
     }
 }
 
-/// Reads what stands behind the first word of a statement: the value of a constant of this name, or
+/// Reads what stands after the first word of a statement: the value of a constant of this name, or
 /// the operands of a statement.
 fn read_behind<'a, A: Allocator>(
     line: &mut Line<'a, '_>,
@@ -624,7 +624,7 @@ fn define_label<'a, A: Allocator>(
     }
 }
 
-/// Puts a label behind what is in the open section, if its address is what its name stands for.
+/// Puts a label after what is in the open section, if its address is what its name stands for.
 fn put_label<'a, A: Allocator>(
     name: &'a [u8],
     number: usize,
@@ -647,7 +647,7 @@ fn put_label<'a, A: Allocator>(
     }
 }
 
-/// Puts a symbol, with bytes that are zero, behind what is in `COMMON`. The section that is open
+/// Puts a symbol, with bytes that are zero, after what is in `COMMON`. The section that is open
 /// stays open.
 fn put_common<'a, A: Allocator>(
     name: &'a [u8],
@@ -666,7 +666,7 @@ fn put_common<'a, A: Allocator>(
     reading.current = current;
 }
 
-/// Puts a symbol, behind zeros up to its alignment and before those that are its bytes, behind what
+/// Puts a symbol, after zeros up to its alignment and before those that are its bytes, after what
 /// is in the open section.
 fn put_symbol<'a, A: Allocator>(
     name: &'a [u8],
@@ -703,7 +703,7 @@ fn align_common<A: Allocator>(alignment: u32, reading: &mut Reading<A>) -> u32
     }
 }
 
-/// Puts a statement with its data behind what is in the open section.
+/// Puts a statement with its data after what is in the open section.
 fn put<A: Allocator>(
     statement: Statement,
     data: &[u8],

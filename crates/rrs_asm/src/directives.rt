@@ -141,7 +141,7 @@ fn read_section<'a>(
     Read::Section(section, kind)
 }
 
-/// Takes the flags, the type, or what else stands between two commas behind the name of a section.
+/// Takes the flags, the type, or what else stands between two commas after the name of a section.
 fn skip_flag(line: &mut Line) {
     if line.take(b'"') {
         for _ in 0..u64::MAX {
@@ -192,7 +192,7 @@ fn implied_alignment(size: u32, is_local: bool) -> u32 {
     }
 }
 
-/// The kind of a section by what stands behind its name, as `, "aw", @nobits`: the letters `x`, `a`
+/// The kind of a section by what stands after its name, as `, "aw", @nobits`: the letters `x`, `a`
 /// and `w` between quotation marks, and `@nobits`.
 fn kind_of_flags(text: &[u8]) -> Option<SectionKind> {
     let (mut is_code, mut is_laid_out, mut is_written) = (false, false, false);
@@ -325,7 +325,7 @@ fn read_pattern<A: Allocator>(line: &mut Line, bytes: &mut Vec<u8, A>) {
     }
 }
 
-/// Reads strings with commas between them, and puts a zero byte behind each if that is asked.
+/// Reads strings with commas between them, and puts a zero byte after each if that is asked.
 fn read_strings<A: Allocator>(line: &mut Line, is_ended: bool, bytes: &mut Vec<u8, A>) {
     for _ in 0..u64::MAX {
         read_string(line, bytes);
@@ -414,7 +414,7 @@ fn known_up_to(line: &mut Line, most: u32, kind: SourceErrorKind) -> u32
 }
 
 /// Reads the address of what follows, which is no lower than that of the directive: how many bytes
-/// it is behind.
+/// it is after.
 fn read_origin(line: &mut Line) -> u32 {
     line.skip_blanks();
     let error = line.error(SourceErrorKind::Backward);
@@ -446,7 +446,7 @@ fn alignment(line: &mut Line, is_power: bool) -> u32
 }
 
 /// Reads which byte fills up to an alignment, and how many at most: otherwise nothing is filled.
-/// Between instructions there are `nop`s behind zeros up to a multiple of 4, if no byte is said.
+/// Between instructions there are `nop`s after zeros up to a multiple of 4, if no byte is said.
 fn read_padding<A: Allocator>(line: &mut Line, alignment: u32, bytes: &mut Vec<u8, A>)
     requires { 0 < alignment }
 {

@@ -4,7 +4,7 @@
 //! numbers, labels, pseudo-instructions and directives. `docs/ASSEMBLY.md` has the syntax.
 //!
 //! A source is read three times: for how long its sections are, for what its symbols stand for, and
-//! for its statements, each of which is placed behind the one before. One with `%pcrel_hi` is read
+//! for its statements, each of which is placed after the one before. One with `%pcrel_hi` is read
 //! once more before the last time, for how far each of these reaches. What stands in a line is read
 //! by the crate `rrs_asm_lines`, whose `specs/Lines.antt` says which lines a source has, and which
 //! parts. What is made is a list of labels, a list of placed statements, and their bytes: see

@@ -101,7 +101,7 @@ fn pseudo_in(table: &[(&[u8], PseudoForm)], name: &[u8]) -> Option<PseudoForm>
 pub enum DataForm {
     /// Numbers of so many bits each.
     Numbers(u32),
-    /// Strings, with a zero byte behind each or not.
+    /// Strings, with a zero byte after each or not.
     Strings(bool),
     /// A number, so often as is said.
     Pattern,

@@ -36,7 +36,7 @@ pub struct Label<'a> {
     pub line: usize,
     /// Its name, or its digit.
     pub name: &'a [u8],
-    /// The address of what stands behind it. Behind the last address that is 0.
+    /// The address of what stands after it. After the last address that is 0.
     pub address: u32,
 }
 
@@ -67,7 +67,7 @@ impl<'a, A: Allocator + Copy> Assembled<'a, A> {
 }
 
 impl<'a, A: Allocator> Assembled<'a, A> {
-    /// Puts a statement of a line behind the others, the first of which stands at `base`. Its data
+    /// Puts a statement of a line after the others, the first of which stands at `base`. Its data
     /// are given, if it has some.
     pub fn place(
         &mut self,
@@ -93,7 +93,7 @@ impl<'a, A: Allocator> Assembled<'a, A> {
     }
 }
 
-/// The address behind bytes, the first of which stands at `base`.
+/// The address after bytes, the first of which stands at `base`.
 fn address_behind<A: Allocator>(base: u32, bytes: &Vec<u8, A>) -> Result<u32, Halt>
     ensures { IfOk result (λ address. address ≡ base + length bytes.now.items) }
 {

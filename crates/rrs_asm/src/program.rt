@@ -36,7 +36,7 @@ pub fn image<A: Allocator + Copy>(
     Ok(bytes)
 }
 
-/// Appends the bytes of a section behind zeros up to its address, if it has any.
+/// Appends the bytes of a section after zeros up to its address, if it has any.
 fn append_section<A: Allocator>(
     bytes: &mut Vec<u8, A>,
     section: &Section<A>,

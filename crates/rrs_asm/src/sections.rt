@@ -11,7 +11,7 @@ use crate::statements::Statement;
 use rrs_asm_lines::{Halt, Known, LineError, SourceErrorKind};
 use std::alloc::{AllocError, Allocator, Global};
 
-/// What a section holds, and so where it lies: the sections of a kind lie one behind the other, and
+/// What a section holds, and so where it lies: the sections of a kind lie one after the other, and
 /// the kinds in this order.
 #[derive(Clone, Copy)]
 pub enum SectionKind {
@@ -31,14 +31,14 @@ pub struct Layout {
     /// The address of the first section, which holds instructions.
     pub text_start: u32,
     /// The address of the first section with data that can be written. Where there is none, it is a
-    /// multiple of `page` behind the sections before.
+    /// multiple of `page` after the sections before.
     pub data_start: Option<u32>,
     /// The distance from one page to the next, a power of 2.
     pub page: u32,
 }
 
 impl Layout {
-    /// All sections one behind the other from an address on.
+    /// All sections one after the other from an address on.
     pub fn flat(text: u32) -> Self
         ensures { result ≡ flat text }
     {
@@ -122,7 +122,7 @@ impl<'a, A: Allocator> Section<'a, A> {
         self.made.bytes.clear();
     }
 
-    /// Puts a label of a line behind what is there, if its name stands for this address.
+    /// Puts a label of a line after what is there, if its name stands for this address.
     pub fn put_label(
         &mut self,
         line: usize,
@@ -145,7 +145,7 @@ impl<'a, A: Allocator> Section<'a, A> {
         Ok(self.made.labels.push(label)?)
     }
 
-    /// Puts a statement behind what is there. Its data are given, if it has some.
+    /// Puts a statement after what is there. Its data are given, if it has some.
     pub fn put(
         &mut self,
         line: usize,
@@ -173,7 +173,7 @@ impl<'a, A: Allocator> Section<'a, A> {
             .unwrap_or(0)
     }
 
-    /// Gives it its address behind another one. None: it does not end within the addresses.
+    /// Gives it its address after another one. None: it does not end within the addresses.
     fn place_behind(&mut self, before: Option<Extent>, layout: Layout) -> Option<Extent> {
         let (kind, alignment) = (self.kind, self.alignment);
         let start = match before {
@@ -224,7 +224,7 @@ pub fn kind_of_name(name: &[u8]) -> Option<SectionKind>
     }
 }
 
-/// Whether a name is this one, or goes on behind it with a dot.
+/// Whether a name is this one, or goes on after it with a dot.
 fn is_name_of(first: &[u8], name: &[u8]) -> bool
     ensures { result ≡ is_name_of first.now name.now }
 {
@@ -287,7 +287,7 @@ struct Extent {
 }
 
 impl Extent {
-    /// Where the first section with data lies behind it. None: its own address is too low, or
+    /// Where the first section with data lies after it. None: its own address is too low, or
     /// there is none.
     fn data_address(self, end: u64, layout: Layout) -> Option<u64>
         ensures { IfSome result (λ start. start ≡ data_address layout end) }
@@ -310,7 +310,7 @@ impl Extent {
         }
     }
 
-    /// Where a section of a kind and an alignment begins behind it. None: there is no such address.
+    /// Where a section of a kind and an alignment begins after it. None: there is no such address.
     fn start_behind(self, kind: SectionKind, alignment: u32, layout: Layout) -> Option<u64>
         ensures { IfSome result (λ start. start
             ≡ start_behind layout self.kind self.alignment self.end kind alignment) }
@@ -344,7 +344,7 @@ pub fn are_placed<'a, 'b, A: Allocator>(sections: &'b [Section<'a, A>], layout: 
     }
 }
 
-/// Whether each section lies behind the one before it as a layout says, the first behind another.
+/// Whether each section lies after the one before it as a layout says, the first after another.
 fn are_behind<'a, 'b, A: Allocator>(
     first: &'b Section<'a, A>,
     others: &'b [Section<'a, A>],
@@ -360,7 +360,7 @@ fn are_behind<'a, 'b, A: Allocator>(
     }
 }
 
-/// Whether a section lies behind another as a layout says.
+/// Whether a section lies after another as a layout says.
 fn is_behind<A: Allocator>(before: &Section<A>, section: &Section<A>, layout: Layout) -> bool
     ensures { result ≡ true → IsBehind layout before.now section.now }
 {
@@ -378,7 +378,7 @@ fn is_behind<A: Allocator>(before: &Section<A>, section: &Section<A>, layout: La
     }
 }
 
-/// Gives each section its address, by the bytes that it has. Those that are left empty behind the
+/// Gives each section its address, by the bytes that it has. Those that are left empty after the
 /// last address are taken out. Whether all others end within the addresses.
 pub fn place<'a, A: Allocator>(sections: &mut Vec<Section<'a, A>, A>, layout: Layout) -> bool {
     let mut before = None;
@@ -418,7 +418,7 @@ pub fn clear_all<A: Allocator>(sections: &mut Vec<Section<A>, A>)
     }
 }
 
-/// Puts an empty section at an address behind those of its kind and of the kinds before. Which one
+/// Puts an empty section at an address after those of its kind and of the kinds before. Which one
 /// of them it is then.
 pub fn insert<'a, A: Allocator + Copy>(
     alloc: A,
@@ -437,7 +437,7 @@ pub fn insert<'a, A: Allocator + Copy>(
     Ok(index)
 }
 
-/// Which section is the first one of a kind behind a kind: as many as there are where none is.
+/// Which section is the first one of a kind after a kind: as many as there are where none is.
 fn index_behind<A: Allocator>(kind: SectionKind, sections: &[Section<A>]) -> usize
     ensures { result ≤ length sections.now }
 {

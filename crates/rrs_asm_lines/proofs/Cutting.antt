@@ -55,7 +55,7 @@ place-with : (n : ℕ) (wanted w : List ℕ) (ws : List (List ℕ)) → false �
 place-with n wanted [] ws some = absurd (cc)
 place-with n wanted (b ∷ bs) ws some = refl
 
--- the first of the words that are left in a loop, before those behind it
+-- the first of the words that are left in a loop, before those after it
 pub place-first : (wanted words text w others : List ℕ) (i : ℕ) → i < length words → w ≡ word text → others ≡ behind_word text → false ≡ (length w == 0)
     → place_from i wanted (words_from (length (drop i words)) text)
     ≡ (if bytes_eq w wanted then Some i else place_from (i + 1) wanted (words_from (length (drop (i + 1) words)) others))

@@ -39,7 +39,7 @@ mark_of Place.Plain b others =
     else (if b == 35 || (b == 47 && begins_with 47 others) then Mark.Comment else Mark.Other))
 mark_of _ b others = Mark.Other
 
--- Where the byte behind one that means nothing stands. A string ends at a quotation mark, and a
+-- Where the byte after one that means nothing stands. A string ends at a quotation mark, and a
 -- character constant is one byte and an apostrophe. A backslash takes the next byte with it.
 abbrev pub next : Place → ℕ → Place
 next Place.Plain b =
@@ -51,12 +51,12 @@ next Place.Character b = if b == 92 then Place.CharacterEscape else Place.Charac
 next Place.CharacterEscape b = Place.CharacterEnd
 next Place.CharacterEnd b = Place.Plain
 
--- where the byte behind any other stands
+-- where the byte after any other stands
 abbrev pub behind : Mark → Place → ℕ → Place
 behind Mark.Other place b = next place b
 behind _ place b = Place.Plain
 
--- the parts of what begins with a byte, from those of what is behind it
+-- the parts of what begins with a byte, from those of what is after it
 abbrev pub cut : Mark → ℕ → List Part → List Part
 cut Mark.Colon b parts = Part.Label [] ∷ parts
 cut Mark.Semicolon b parts = Part.Statement [] ∷ parts

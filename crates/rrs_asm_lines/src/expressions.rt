@@ -3,7 +3,7 @@
 
 use crate::errors::SourceErrorKind;
 
-/// The most operators and parentheses that wait for what is behind them.
+/// The most operators and parentheses that wait for what is after them.
 const MOST_WAITING: usize = 64;
 
 /// The rank of the operators that bind the least.
@@ -142,7 +142,7 @@ pub fn operator_between(first: u8, second: u8) -> Option<(Operator, usize)> {
     }
 }
 
-/// An operator that waits for the value behind it, and the value before it.
+/// An operator that waits for the value after it, and the value before it.
 #[derive(Clone, Copy)]
 struct Entry {
     operator: Operator,
@@ -209,13 +209,13 @@ impl Waiting {
         }
     }
 
-    /// An operator behind a value: those that bind as strongly are applied before it.
+    /// An operator after a value: those that bind as strongly are applied before it.
     pub fn push_between(&mut self, operator: Operator, value: u64) {
         let left = self.applied(operator.rank(), value);
         self.push(operator, left);
     }
 
-    /// What those that bind so strongly make of a value behind them. All up to the innermost
+    /// What those that bind so strongly make of a value after them. All up to the innermost
     /// parenthesis do that by `LOOSEST`.
     pub fn applied(&mut self, rank: u8, value: u64) -> u64 {
         let mut value = value;

@@ -5,7 +5,7 @@ ghost use Rattle.std.specs.Option.{option_map_or};
 ghost use Rattle.rrs_asm_lines.specs.Lines.{lines, next, mark_of, parts, shown, begins_with, is_blank, is_in_word, word, behind_word, behind_blanks, words_of, place_from};
 ghost use Rattle.rrs_asm_lines.specs.declared.lexing.Place.{Place};
 
-/// A line, and the text behind its line feed, if there is one.
+/// A line, and the text after its line feed, if there is one.
 pub fn first_line(source: &[u8]) -> (&[u8], Option<&[u8]>)
     ensures lines { lines source.now
         ≡ result.0.now ∷ option_map_or (λ rest. lines rest.now) result.1 [] }
@@ -26,11 +26,11 @@ pub enum Place {
     Plain,
     /// In a string.
     Text,
-    /// In a string, behind a backslash.
+    /// In a string, after a backslash.
     TextEscape,
     /// Behind the apostrophe that begins a character constant.
     Character,
-    /// In a character constant, behind a backslash.
+    /// In a character constant, after a backslash.
     CharacterEscape,
     /// Where a character constant ends.
     CharacterEnd,
@@ -68,7 +68,7 @@ impl<'a> Part<'a> {
 }
 
 impl Place {
-    /// Where the byte behind one that means nothing stands.
+    /// Where the byte after one that means nothing stands.
     fn behind(self, byte: u8) -> Place
         ensures { result ≡ next self byte }
     {
@@ -117,7 +117,7 @@ fn plain_mark(byte: u8, behind: &[u8]) -> Mark
     }
 }
 
-/// The first part of a line, and the text behind the colon or the semicolon that ends it.
+/// The first part of a line, and the text after the colon or the semicolon that ends it.
 pub fn first_part(line: &[u8]) -> (Part, Option<&[u8]>)
     ensures parts { parts line.now
         ≡ shown result.0 ∷ option_map_or (λ rest. parts rest.now) result.1 [] }
@@ -151,7 +151,7 @@ fn is_in_word(byte: u8) -> bool
     matches!(byte, b'a'..=b'z' | b'A'..=b'Z' | b'0'..=b'9' | b'_' | b'.' | b'$')
 }
 
-/// A text behind the blanks that it begins with.
+/// A text after the blanks that it begins with.
 pub fn behind_blanks(text: &[u8]) -> &[u8]
     ensures { result.now ≡ behind_blanks text.now }
 {
@@ -175,7 +175,7 @@ pub fn begins_with(text: &[u8], wanted: u8) -> bool
     text.first() == Some(&wanted)
 }
 
-/// The word that a text begins with, behind blanks, and what follows it.
+/// The word that a text begins with, after blanks, and what follows it.
 pub fn split_word(text: &[u8]) -> (&[u8], &[u8])
     ensures word { result.0.now ≡ word text.now }
     ensures behind { result.1.now ≡ behind_word text.now }

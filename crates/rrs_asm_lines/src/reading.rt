@@ -89,7 +89,7 @@ const WIDE: Wanted = Wanted {
 pub struct Line<'a, 's> {
     /// The text that is left.
     pub rest: &'a [u8],
-    /// How many bytes of the line are behind the statement.
+    /// How many bytes of the line are after the statement.
     behind: usize,
     symbols: &'s Scope<'a, 's>,
     /// What stands in the value that was read last.
@@ -103,7 +103,7 @@ pub struct Line<'a, 's> {
 }
 
 impl<'a, 's> Line<'a, 's> {
-    /// The rest of a statement at a place, with so many bytes of the line behind it.
+    /// The rest of a statement at a place, with so many bytes of the line after it.
     pub fn new(rest: &'a [u8], behind: usize, symbols: &'s Scope<'a, 's>, site: Site<'a>) -> Self {
         let notes = Notes {
             alignment: 1,
@@ -191,13 +191,13 @@ impl<'a, 's> Line<'a, 's> {
         }
     }
 
-    /// Takes a byte, if it is the next one behind blanks.
+    /// Takes a byte, if it is the next one after blanks.
     pub fn take(&mut self, wanted: u8) -> bool {
         self.skip_blanks();
         self.take_next(wanted)
     }
 
-    /// Takes a byte that has to be there, behind blanks.
+    /// Takes a byte that has to be there, after blanks.
     pub fn expect(&mut self, wanted: u8, kind: SourceErrorKind) {
         let is_there = self.take(wanted);
         self.want(is_there, kind);
@@ -208,7 +208,7 @@ impl<'a, 's> Line<'a, 's> {
         self.expect(b',', SourceErrorKind::Comma);
     }
 
-    /// Takes a word, behind blanks. It is empty where none stands there.
+    /// Takes a word, after blanks. It is empty where none stands there.
     pub fn word(&mut self) -> &'a [u8] {
         let (word, rest) = split_word(self.rest);
         self.rest = rest;
@@ -318,7 +318,7 @@ impl<'a, 's> Line<'a, 's> {
         }
     }
 
-    /// Takes the closing parentheses behind a value.
+    /// Takes the closing parentheses after a value.
     fn parentheses_behind(&mut self, value: u64, waiting: &mut Waiting) -> u64 {
         let mut value = value;
         for _ in 0..u64::MAX {
@@ -347,7 +347,7 @@ impl<'a, 's> Line<'a, 's> {
     }
 
     /// Takes a term: a number, a character constant, a symbol, or `.`, the address of the
-    /// statement. A number of 32 bits behind a minus is at most 2^31.
+    /// statement. A number of 32 bits after a minus is at most 2^31.
     fn term(&mut self, wanted: Wanted, is_negated: bool) -> u64 {
         if self.take(b'\'') {
             return self.character();
@@ -396,7 +396,7 @@ impl<'a, 's> Line<'a, 's> {
         0
     }
 
-    /// The value of a number. One of 32 bits behind a minus is at most 2^31.
+    /// The value of a number. One of 32 bits after a minus is at most 2^31.
     fn number(&mut self, word: &[u8], is_wide: bool, is_negated: bool, error: LineError) -> u64 {
         let most = if is_negated { 0x8000_0000 } else { 0xffff_ffff };
         let kind = match number_of(word) {
@@ -588,7 +588,7 @@ impl<'a, 's> Line<'a, 's> {
         ahead.take(b'(') && !ahead.word().is_empty() && ahead.take(b')')
     }
 
-    /// Takes a symbol, with what is added to it, and no register in parentheses behind it: how far
+    /// Takes a symbol, with what is added to it, and no register in parentheses after it: how far
     /// it is from the statement, modulo 2^32. None where something else stands there, which is
     /// left.
     pub fn distance_alone(&mut self) -> Option<u32> {
@@ -606,7 +606,7 @@ impl<'a, 's> Line<'a, 's> {
     }
 }
 
-/// A name behind `%`, which says what is meant of the value in parentheses.
+/// A name after `%`, which says what is meant of the value in parentheses.
 #[derive(Clone, Copy)]
 struct Modifier {
     /// Its lower 12 bits, and not its upper 20.

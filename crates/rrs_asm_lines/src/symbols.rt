@@ -244,7 +244,7 @@ impl Scope<'_, '_> {
         }
     }
 
-    /// What is known at a place of the nearest local label of a digit, before or behind.
+    /// What is known at a place of the nearest local label of a digit, before or after.
     pub fn local_value(&self, digit: u8, is_before: bool, site: Site) -> Found {
         let count = self.counts.get(usize::from(digit)).copied().unwrap_or(0);
         let number = count.wrapping_sub(u32::from(is_before));
@@ -357,7 +357,7 @@ impl<'a, A: Allocator> Symbols<'a, A> {
         }
     }
 
-    /// Puts an entry in the place of the one with its key, or behind all.
+    /// Puts an entry in the place of the one with its key, or after all.
     fn put(&mut self, entry: Entry<'a>) {
         let index = self.scope().find(entry.key);
         match self.entries.get_mut(index) {
@@ -370,7 +370,7 @@ impl<'a, A: Allocator> Symbols<'a, A> {
         }
     }
 
-    /// Puts an entry behind all. Where there are too few slots, there are twice as many then, and
+    /// Puts an entry after all. Where there are too few slots, there are twice as many then, and
     /// each entry is put in its slot.
     fn add(&mut self, entry: Entry<'a>) {
         let index = self.entries.len();

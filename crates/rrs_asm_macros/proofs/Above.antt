@@ -28,7 +28,7 @@ kept source expanded left made number head counted numbered none =
       numbered = λ k h. numbered k (omega (arith, h, counted, no_more));
     }
 
--- what is left behind a line that both have
+-- what is left after a line that both have
 pub head-behind : (left made left_behind made_behind above all : List (List ℕ)) (line : List ℕ)
     → left ≡ line ∷ left_behind → made ≡ line ∷ made_behind → has_directives line ≡ false
     → ((others : List (List ℕ)) → made ≡ lines_above left ++ others → BeginWith above all)

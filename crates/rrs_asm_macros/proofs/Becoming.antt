@@ -22,7 +22,7 @@ first-as a b c d e f all =
     let Q : List (List ℕ) → Type 0 = λ own. ExpandsFirst c own in
     subst Q f (subst P e all)
 
--- lines, and others behind them
+-- lines, and others after them
 joined : {a b : List (List ℕ)} (c d : List (List ℕ)) → Expands a b → Expands c d → Expands (a ++ c) (b ++ d)
 joined c d Over behind = behind
 joined c d (Keeps none rest) behind = Keeps none (joined c d rest behind)

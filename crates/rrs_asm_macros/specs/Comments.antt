@@ -10,7 +10,7 @@ is_hidden Spot.Block = true
 is_hidden Spot.Star = true
 is_hidden _ = false
 
--- where the byte behind one stands that stands in nothing and is no line feed, before another
+-- where the byte after one stands that stands in nothing and is no line feed, before another
 abbrev pub plain_behind : ℕ → ℕ → Spot
 plain_behind b next =
     if b == 34 then Spot.Text
@@ -18,7 +18,7 @@ plain_behind b next =
     else (if b == 35 || (b == 47 && next == 47) then Spot.Line
     else (if b == 47 && next == 42 then Spot.Opened else Spot.Plain)))
 
--- where the byte behind one stands that is no line feed: a string ends at a quotation mark, and a
+-- where the byte after one stands that is no line feed: a string ends at a quotation mark, and a
 -- backslash takes the next byte with it
 abbrev pub behind_other : Spot → ℕ → ℕ → Spot
 behind_other Spot.Plain b next = plain_behind b next
@@ -30,7 +30,7 @@ behind_other Spot.CharacterEscape b next = Spot.CharacterEnd
 behind_other Spot.CharacterEnd b next = if b == 39 then Spot.Plain else plain_behind b next
 behind_other spot b next = Spot.Line
 
--- where the byte behind one stands, before another
+-- where the byte after one stands, before another
 abbrev pub behind : Spot → ℕ → ℕ → Spot
 behind Spot.Opened b next = Spot.Block
 behind Spot.Block b next = if b == 42 then Spot.Star else Spot.Block

@@ -9,7 +9,7 @@ use Rattle.rrs_asm_macros.specs.Lines.{lines}
 
 -- ---- `.rept` with a number, and `.endr`
 
--- what stands behind the word that a line begins with
+-- what stands after the word that a line begins with
 abbrev pub behind_name : List ℕ → List ℕ
 behind_name [] = []
 behind_name (b ∷ bs) = if is_in_name b then behind_name bs else b ∷ bs
@@ -72,7 +72,7 @@ abbrev pub IsOther : List ℕ → Type 0
 IsOther line = (has_directives line ≡ true) × (count line ≡ None) × (is_end line ≡ false)
 
 -- The same up to the first other directive, which may stand in a repetition: then its first copy
--- begins with what the lines above that become. Of what is behind nothing is said.
+-- begins with what the lines above that become. Of what is after nothing is said.
 pub data ExpandsFirst : List (List ℕ) → List (List ℕ) → Type 0 where
   All : {lines made : List (List ℕ)} → Expands lines made → ExpandsFirst lines made
   Before : (line : List ℕ) (first made others more : List (List ℕ)) → Expands first made

@@ -45,7 +45,7 @@ pub fn take_parameters<A: Allocator + Copy>(alloc: A, cursor: &mut Cursor) -> Ve
     parameters
 }
 
-/// What is wrong with a parameter of this name behind others, if something is.
+/// What is wrong with a parameter of this name after others, if something is.
 fn mistake_behind<A: Allocator + Copy>(
     parameters: &[Parameter<A>],
     name: &[u8],
@@ -159,7 +159,7 @@ fn take_arguments<A: Allocator + Copy>(
     }
 }
 
-/// Takes the name of the next argument and the `=` behind it, if it has one.
+/// Takes the name of the next argument and the `=` after it, if it has one.
 fn take_keyword<'a>(cursor: &mut Cursor<'a>) -> Option<&'a [u8]> {
     let mut ahead = *cursor;
     let word = ahead.word();

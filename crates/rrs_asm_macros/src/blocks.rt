@@ -20,7 +20,7 @@ pub enum BlockKind {
 pub struct Block<'a> {
     /// Its lines, without the line feed of the last, if it has any.
     pub inside: Option<&'a [u8]>,
-    /// What is behind the statement that ends it.
+    /// What is after the statement that ends it.
     pub others: Option<&'a [u8]>,
     /// How many lines end up to there.
     pub lines: usize,

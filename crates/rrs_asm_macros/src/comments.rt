@@ -12,11 +12,11 @@ pub enum Spot {
     Plain,
     /// In a string.
     Text,
-    /// In a string, behind a backslash.
+    /// In a string, after a backslash.
     TextEscape,
     /// Behind the apostrophe that begins a character constant.
     Character,
-    /// In a character constant, behind a backslash.
+    /// In a character constant, after a backslash.
     CharacterEscape,
     /// Behind the byte of a character constant, where an apostrophe can end it.
     CharacterEnd,
@@ -26,7 +26,7 @@ pub enum Spot {
     Opened,
     /// In a block comment.
     Block,
-    /// In a block comment, behind an asterisk.
+    /// In a block comment, after an asterisk.
     Star,
 }
 
@@ -83,7 +83,7 @@ impl Spot {
         matches!(self, Spot::Opened | Spot::Block | Spot::Star)
     }
 
-    /// Where the byte behind this one stands, before another.
+    /// Where the byte after this one stands, before another.
     fn behind(self, byte: u8, next: u8) -> Spot
         ensures { result ≡ behind self byte next }
     {
@@ -110,7 +110,7 @@ impl Spot {
     }
 }
 
-/// Where the byte behind one that stands in nothing stands.
+/// Where the byte after one that stands in nothing stands.
 fn plain_behind(byte: u8, next: u8) -> Spot
     ensures { result ≡ plain_behind byte next }
 {

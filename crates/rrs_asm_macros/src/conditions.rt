@@ -21,7 +21,7 @@ pub fn begin<A: Allocator + Copy>(
     go_on(reader, Condition::new(place, false), holds, false, cursor);
 }
 
-/// Goes on with a condition behind what is asked. With a mistake in that nothing of it is read.
+/// Goes on with a condition after what is asked. With a mistake in that nothing of it is read.
 fn go_on<A: Allocator>(
     reader: &mut Reader<A>,
     condition: Condition,
@@ -84,7 +84,7 @@ fn holds<A: Allocator + Copy>(tables: &Tables<A>, test: Test, cursor: &mut Curso
     }
 }
 
-/// Takes a value that is the last, and tells how it compares with zero.
+/// Takes a value that is the last, and returns how it compares with zero.
 fn compares<A: Allocator + Copy>(
     tables: &Tables<A>,
     comparison: Comparison,
@@ -95,7 +95,7 @@ fn compares<A: Allocator + Copy>(
     comparison.holds(value, 0)
 }
 
-/// Takes two texts or strings with a comma between them, and tells whether they are the same.
+/// Takes two texts or strings with a comma between them, and returns whether they are the same.
 fn are_same<A: Allocator + Copy>(alloc: A, cursor: &mut Cursor, are_strings: bool) -> bool {
     let first = cursor.slip(MacroErrorKind::Strings);
     let one = text(alloc, cursor, are_strings, Some(b','));

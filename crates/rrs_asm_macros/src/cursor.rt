@@ -14,7 +14,7 @@ use std::alloc::Allocator;
 #[derive(Clone, Copy)]
 pub struct Cursor<'a> {
     rest: &'a [u8],
-    /// How many bytes of the text are behind the statement.
+    /// How many bytes of the text are after the statement.
     behind: usize,
     /// The byte that was taken last.
     before: u8,
@@ -37,7 +37,7 @@ fn keeps_blank(before: u8, after: u8) -> bool {
 }
 
 impl<'a> Cursor<'a> {
-    /// The operands of a statement, with so many bytes of the text behind it.
+    /// The operands of a statement, with so many bytes of the text after it.
     pub fn new(operands: &'a [u8], behind: usize) -> Self {
         Cursor {
             rest: operands,
@@ -81,7 +81,7 @@ impl<'a> Cursor<'a> {
         self.keep(is_kept);
     }
 
-    /// A mistake at this place, behind blanks.
+    /// A mistake at this place, after blanks.
     pub fn slip(&self, kind: MacroErrorKind) -> Slip {
         Slip {
             kind,
@@ -89,7 +89,7 @@ impl<'a> Cursor<'a> {
         }
     }
 
-    /// The next byte, with no blank that means nothing, and what is behind it.
+    /// The next byte, with no blank that means nothing, and what is after it.
     fn next(&self) -> Option<(u8, &'a [u8])> {
         let after = behind_blanks(self.rest);
         let (byte, others) = after.split_first()?;
@@ -114,7 +114,7 @@ impl<'a> Cursor<'a> {
         Some(byte)
     }
 
-    /// Takes these bytes, if they are the next ones behind blanks.
+    /// Takes these bytes, if they are the next ones after blanks.
     pub fn take_if(&mut self, wanted: &[u8]) -> bool {
         match behind_blanks(self.rest).strip_prefix(wanted) {
             Some(rest) => {
@@ -138,7 +138,7 @@ impl<'a> Cursor<'a> {
         }
     }
 
-    /// Takes a byte, if it is the next one and stands behind no blank.
+    /// Takes a byte, if it is the next one and stands after no blank.
     pub fn take_next(&mut self, wanted: u8) -> bool {
         match self.rest {
             [byte, rest @ ..] if *byte == wanted => {
@@ -164,7 +164,7 @@ impl<'a> Cursor<'a> {
         behind_blanks(self.rest).is_empty()
     }
 
-    /// Takes a word, behind blanks. It is empty where none stands there.
+    /// Takes a word, after blanks. It is empty where none stands there.
     pub fn word(&mut self) -> &'a [u8] {
         let (word, rest) = split_word(self.rest);
         self.rest = rest;

@@ -16,7 +16,7 @@ pub enum MacroErrorKind {
     EndAlone,
     /// There is no `.if` before `.else`, `.elseif` or `.endif`.
     NoCondition,
-    /// `.else` or `.elseif` stands behind `.else`.
+    /// `.else` or `.elseif` stands after `.else`.
     SecondElse,
     /// `.exitm` stands in no macro and no repetition.
     NothingToLeave,
@@ -28,7 +28,7 @@ pub enum MacroErrorKind {
     DuplicateParameter,
     /// A parameter is neither `req` nor `vararg`.
     Qualifier,
-    /// A parameter stands behind the one that takes all that is left.
+    /// A parameter stands after the one that takes all that is left.
     BehindRest,
     /// A macro has more than 256 parameters.
     Parameters,
@@ -38,7 +38,7 @@ pub enum MacroErrorKind {
     NoParameter,
     /// There are more arguments than parameters.
     Arguments,
-    /// An argument with no name stands behind one with a name.
+    /// An argument with no name stands after one with a name.
     Mixed,
     /// An argument that has to be there is not.
     Missing,
@@ -69,7 +69,7 @@ pub enum MacroErrorKind {
 }
 
 impl MacroErrorKind {
-    /// Whether nothing behind the mistake is read.
+    /// Whether nothing after the mistake is read.
     pub fn is_last(self) -> bool {
         matches!(self, MacroErrorKind::Deep | MacroErrorKind::Much)
     }

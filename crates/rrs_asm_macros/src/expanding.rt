@@ -85,7 +85,7 @@ impl<A: Allocator + Copy> Expansion<A> {
         }
     }
 
-    /// Tells a mistake.
+    /// Returns a mistake.
     fn tell(&mut self, mistake: MacroError) {
         let is_kept = self.mistakes.push(mistake).is_ok();
         self.keep(is_kept);
@@ -105,7 +105,7 @@ impl<A: Allocator + Copy> Expansion<A> {
         }
     }
 
-    /// Goes on behind a line or a statement of a text, which began at a place, where so many bytes
+    /// Goes on after a line or a statement of a text, which began at a place, where so many bytes
     /// are made.
     fn turn(&mut self, frame: Frame<A>, turn: Turn<A>, origin: Origin, made: usize) {
         let left = frame.text.len();

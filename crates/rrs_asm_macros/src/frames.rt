@@ -27,7 +27,7 @@ impl Condition {
         }
     }
 
-    /// The condition behind `.else`, or behind `.if` or `.elseif` with one that holds or does not.
+    /// The condition after `.else`, or after `.if` or `.elseif` with one that holds or does not.
     pub fn or(self, holds: bool, is_behind_else: bool) -> Self {
         Condition {
             is_read: holds && !self.is_done,
@@ -49,7 +49,7 @@ pub struct Reader<A: Allocator> {
     first: usize,
     /// How many lines it has, before they are of the same lines of the source again.
     height: usize,
-    /// How many of these lines are behind.
+    /// How many of these lines are after.
     passed: usize,
     /// How often it is read once more.
     copies: u64,

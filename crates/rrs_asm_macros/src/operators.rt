@@ -35,7 +35,7 @@ pub const PREFIXES: [(&[u8], Operator); 4] = [
     (b"!", Operator::IsZero),
 ];
 
-/// The operators between two values. One with which another begins stands behind that.
+/// The operators between two values. One with which another begins stands after that.
 pub const INFIXES: [(&[u8], Operator); 21] = [
     (b"<<", Operator::ShiftLeft),
     (b">>", Operator::ShiftRight),
@@ -85,7 +85,7 @@ impl Operator {
         }
     }
 
-    /// What it makes of two numbers, or of the one behind it. None where it divides by zero, or the
+    /// What it makes of two numbers, or of the one after it. None where it divides by zero, or the
     /// quotient has more than 64 bits.
     pub fn apply(self, left: u64, right: u64) -> Option<u64> {
         let signed = (left.cast_signed(), right.cast_signed());

@@ -26,15 +26,15 @@ pub struct Span {
 /// What is read next.
 #[derive(Drop)]
 pub enum Turn<A: Allocator> {
-    /// What stands behind.
+    /// What stands after.
     Stay,
-    /// Another text, and then what stands behind.
+    /// Another text, and then what stands after.
     Enter(Frame<A>),
-    /// What stands behind the call or the repetition that is read.
+    /// What stands after the call or the repetition that is read.
     Leave,
-    /// The same text once more or what stands behind it, since nothing is left of it.
+    /// The same text once more or what stands after it, since nothing is left of it.
     Over,
-    /// What stands behind, with a mistake to be told.
+    /// What stands after, with a mistake to be told.
     Stumble(Slip),
 }
 
@@ -47,15 +47,15 @@ pub struct Step<A: Allocator> {
     pub turn: Turn<A>,
 }
 
-/// Where a statement stands: its text, what is left of it behind the statement, and its line.
+/// Where a statement stands: its text, what is left of it after the statement, and its line.
 #[derive(Clone, Copy)]
 struct Site<'a> {
     text: &'a [u8],
     others: Option<&'a [u8]>,
-    /// The line of the source that is behind it.
+    /// The line of the source that is after it.
     next_number: usize,
     origin: Origin,
-    /// How many bytes are behind the code of the statement.
+    /// How many bytes are after the code of the statement.
     behind: usize,
 }
 
@@ -243,7 +243,7 @@ fn direct<A: Allocator + Copy>(
     turn
 }
 
-/// Performs a directive that begins at a place and behind which is read next.
+/// Performs a directive that begins at a place and after which is read next.
 fn note<A: Allocator + Copy>(
     tables: &mut Tables<A>,
     directive: Directive,
@@ -267,7 +267,7 @@ fn note<A: Allocator + Copy>(
     }
 }
 
-/// The lines of the block behind a statement at a place, if there are any, which is not read again.
+/// The lines of the block after a statement at a place, if there are any, which is not read again.
 fn block<'a, A: Allocator + Copy>(
     tables: &mut Tables<A>,
     kind: BlockKind,

@@ -27,7 +27,7 @@ fn says_no_more(text: &[u8]) -> bool
     }
 }
 
-/// The number that a word is, behind digits of this value.
+/// The number that a word is, after digits of this value.
 fn decimal(word: &[u8]) -> Option<u64>
     ensures { result ≡ decimal 0 word.now }
 {

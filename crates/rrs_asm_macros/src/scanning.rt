@@ -16,11 +16,11 @@ pub enum Place {
     Plain,
     /// In a string.
     Text,
-    /// In a string, behind a backslash.
+    /// In a string, after a backslash.
     TextEscape,
     /// Behind the apostrophe that begins a character constant.
     Character,
-    /// In a character constant, behind a backslash.
+    /// In a character constant, after a backslash.
     CharacterEscape,
     /// Behind the byte of a character constant, where an apostrophe can end it.
     CharacterEnd,
@@ -29,13 +29,13 @@ pub enum Place {
 }
 
 impl Place {
-    /// Whether a backslash and a name behind it are a parameter there. In a character constant they
+    /// Whether a backslash and a name after it are a parameter there. In a character constant they
     /// are no name.
     pub fn has_parameters(self) -> bool {
         !matches!(self, Place::Character | Place::CharacterEscape)
     }
 
-    /// Where the byte behind this one stands.
+    /// Where the byte after this one stands.
     pub fn behind(self, byte: u8, next: Option<u8>) -> Place {
         match self {
             Place::Plain => plain_behind(byte, next),
@@ -57,7 +57,7 @@ impl Place {
     }
 }
 
-/// Where the byte behind one that stands in nothing stands. A comment begins before its first byte.
+/// Where the byte after one that stands in nothing stands. A comment begins before its first byte.
 fn plain_behind(byte: u8, next: Option<u8>) -> Place {
     match byte {
         b'"' => Place::Text,
@@ -73,7 +73,7 @@ fn plain_behind(byte: u8, next: Option<u8>) -> Place {
 pub struct Statement<'a> {
     /// Its text, with its labels, and with no comment.
     pub code: &'a [u8],
-    /// What is behind the semicolon or the line feed that ends it, if one does.
+    /// What is after the semicolon or the line feed that ends it, if one does.
     pub others: Option<&'a [u8]>,
     /// Whether it is the last of its line.
     pub ends_line: bool,
@@ -106,7 +106,7 @@ pub fn first_statement(text: &[u8]) -> Statement<'_> {
     }
 }
 
-/// The first line of a text, and what is behind its line feed, if there is one.
+/// The first line of a text, and what is after its line feed, if there is one.
 pub fn first_line(text: &[u8]) -> (&[u8], Option<&[u8]>)
     ensures whole { count_by is_line_feed result.0.now ≡ 0 }
     ensures lines { lines text.now
@@ -135,7 +135,7 @@ pub fn is_in_name(byte: u8) -> bool
     matches!(byte, b'a'..=b'z' | b'A'..=b'Z' | b'0'..=b'9' | b'_' | b'.' | b'$')
 }
 
-/// A text behind the blanks that it begins with.
+/// A text after the blanks that it begins with.
 pub fn behind_blanks(text: &[u8]) -> &[u8]
     ensures { result.now ≡ behind_blanks text.now }
 {
@@ -147,7 +147,7 @@ pub fn behind_blanks(text: &[u8]) -> &[u8]
     &text[text.len()..]
 }
 
-/// The word that a text begins with, behind blanks, and what follows it.
+/// The word that a text begins with, after blanks, and what follows it.
 pub fn split_word(text: &[u8]) -> (&[u8], &[u8])
     ensures word { result.0.now ≡ word text.now }
     ensures rest { result.1.now ≡ behind_word text.now }
@@ -177,7 +177,7 @@ pub fn begins_directive(text: &[u8]) -> bool
     false
 }
 
-/// The name of the first label of a text, and what is behind it, if there is one.
+/// The name of the first label of a text, and what is after it, if there is one.
 pub fn first_label(text: &[u8]) -> Option<(&[u8], &[u8])> {
     let (word, rest) = split_word(text);
     match behind_blanks(rest) {
@@ -186,7 +186,7 @@ pub fn first_label(text: &[u8]) -> Option<(&[u8], &[u8])> {
     }
 }
 
-/// A statement behind its labels.
+/// A statement after its labels.
 pub fn behind_labels(code: &[u8]) -> &[u8] {
     let mut rest = code;
     for _ in 0..code.len() {

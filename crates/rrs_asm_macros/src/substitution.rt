@@ -62,7 +62,7 @@ fn literally(text: &[u8]) -> (&[u8], usize) {
     (text, text.len().saturating_add(2))
 }
 
-/// The value of the parameter whose name stands behind a backslash, or the backslash and the name
+/// The value of the parameter whose name stands after a backslash, or the backslash and the name
 /// where there is none, and how many bytes these are.
 fn named<'a, A: Allocator + Copy>(
     text: &'a [u8],

@@ -6,10 +6,10 @@ use crate::operators::{INFIXES, Operator, PREFIXES, take_operator};
 use crate::symbols::Symbols;
 use std::alloc::Allocator;
 
-/// The most operators and parentheses that wait for what is behind them.
+/// The most operators and parentheses that wait for what is after them.
 const MOST_WAITING: usize = 64;
 
-/// What waits for the value behind it.
+/// What waits for the value after it.
 #[derive(Clone, Copy)]
 struct Entry {
     /// The value before it, or any where none is.
@@ -67,7 +67,7 @@ impl Waiting {
         Some(entry)
     }
 
-    /// What those that bind so strongly make of a value behind them.
+    /// What those that bind so strongly make of a value after them.
     fn applied(&mut self, rank: u8, value: u64) -> u64 {
         let mut value = value;
         for _ in 0..MOST_WAITING {
@@ -82,7 +82,7 @@ impl Waiting {
         value
     }
 
-    /// What those in the innermost parenthesis make of a value behind them. It is closed.
+    /// What those in the innermost parenthesis make of a value after them. It is closed.
     fn closed(&mut self, value: u64) -> u64 {
         let value = self.applied(1, value);
         match self.count.checked_sub(1) {
@@ -92,7 +92,7 @@ impl Waiting {
         value
     }
 
-    /// What all of them make of a value behind them.
+    /// What all of them make of a value after them.
     fn ended(&mut self, value: u64) -> u64 {
         let value = self.applied(1, value);
         if self.count > 0 {
@@ -135,7 +135,7 @@ fn take_prefixes(cursor: &mut Cursor, waiting: &mut Waiting) {
     }
 }
 
-/// Takes the closing parentheses behind a term, and the operator behind them. Where none stands
+/// Takes the closing parentheses after a term, and the operator after them. Where none stands
 /// there, the value ends, and this is it.
 fn take_infix(cursor: &mut Cursor, waiting: &mut Waiting, term: u64) -> Option<u64> {
     let value = closed(cursor, waiting, term);
@@ -153,7 +153,7 @@ fn take_infix(cursor: &mut Cursor, waiting: &mut Waiting, term: u64) -> Option<u
     ended
 }
 
-/// Takes the closing parentheses behind a value.
+/// Takes the closing parentheses after a value.
 fn closed(cursor: &mut Cursor, waiting: &mut Waiting, term: u64) -> u64 {
     let mut value = term;
     for _ in 0..MOST_WAITING {

@@ -22,7 +22,7 @@ pub fn has_directives(text: &[u8]) -> bool
     false
 }
 
-/// The bytes of a name that a text begins with, and what is behind the byte that follows them.
+/// The bytes of a name that a text begins with, and what is after the byte that follows them.
 fn first_word(text: &[u8]) -> (&[u8], Option<&[u8]>)
     ensures words { words text.now
         ≡ result.0.now ∷ option_map_or (λ rest. words rest.now) result.1 [] }

@@ -18,7 +18,7 @@ pub fn rights_of(kind: SectionKind) -> u32
     }
 }
 
-/// Whether these bytes stand in a file, as far as it has them, and behind that are zeros.
+/// Whether these bytes stand in a file, as far as it has them, and after that are zeros.
 fn has_bytes(file: &[u8], offset: u32, size: u32, bytes: &[u8]) -> bool
     ensures { result ≡ true → (i : ℕ) → i < length bytes.now
         → (if nat_lt i size then slice_index file.now (offset + i) else 0)
@@ -61,7 +61,7 @@ fn is_segment(executable: &Executable, index: u16, section: &Section) -> bool
         )
 }
 
-/// The number of the next segment behind a section that is the segment of a number, if it is. A
+/// The number of the next segment after a section that is the segment of a number, if it is. A
 /// section without bytes is none.
 fn next_segment(executable: &Executable, index: u16, section: &Section) -> Option<u16>
     ensures { IfSome result (λ next. (others : List (Section _))

@@ -4,7 +4,7 @@ use crate::accepting::rights_of;
 use rrs_asm::{Label, Section, SectionKind};
 use std::alloc::{AllocError, Global};
 
-/// The distance of pages: a segment's bytes and its addresses are the same distance behind one.
+/// The distance of pages: a segment's bytes and its addresses are the same distance after one.
 const PAGE: u32 = 0x1000;
 
 /// The size of the file's header, and of a program header.
@@ -17,7 +17,7 @@ const PROGRAM_HEADER_SIZE: u32 = 32;
 struct Parts {
     /// The program headers.
     segments: Vec<u8>,
-    /// What stands behind the program headers: the bytes of the sections, and then the tables.
+    /// What stands after the program headers: the bytes of the sections, and then the tables.
     contents: Vec<u8>,
     /// Where that begins in the file.
     start: u32,
@@ -96,7 +96,7 @@ pub fn write_file(alloc: Global, sections: &[Section], entry: u32) -> Result<Vec
     Ok(file)
 }
 
-/// Where the contents of a file begin: behind the program headers of sections that have bytes.
+/// Where the contents of a file begin: after the program headers of sections that have bytes.
 fn start_of(sections: &[Section]) -> u32 {
     let mut start = HEADER_SIZE;
     for section in sections {
@@ -107,7 +107,7 @@ fn start_of(sections: &[Section]) -> u32 {
     start
 }
 
-/// Adds all that stands in a file, behind the headers and names that stand for nothing.
+/// Adds all that stands in a file, after the headers and names that stand for nothing.
 fn add_sections(parts: &mut Parts, sections: &[Section]) -> Result<(), AllocError> {
     parts.headers.resize(40, 0)?;
     parts.symbols.resize(16, 0)?;
@@ -223,7 +223,7 @@ fn is_symbol(name: &[u8]) -> bool {
     !matches!(name, [b'0'..=b'9', ..] | [b'.', b'L', ..])
 }
 
-/// Adds the two tables, and their section headers, behind those of so many sections.
+/// Adds the two tables, and their section headers, after those of so many sections.
 fn add_tables(parts: &mut Parts, sections: usize) -> Result<(), AllocError> {
     let symbols_name = push_name(&mut parts.strings, b".symtab")?;
     let strings_name = push_name(&mut parts.strings, b".strtab")?;

@@ -57,7 +57,7 @@ fn push_instruction(
     text.push_str("\n")
 }
 
-/// What stands behind the name of an instruction.
+/// What stands after the name of an instruction.
 #[derive(Clone, Copy)]
 enum Operand {
     Register(usize),
@@ -102,17 +102,17 @@ fn operands_in(fields: InstructionFields) -> [Operand; 3] {
     }
 }
 
-/// A register and what stands behind it.
+/// A register and what stands after it.
 fn two(register: usize, last: Operand) -> [Operand; 3] {
     [Operand::Register(register), last, Operand::Nothing]
 }
 
-/// Two registers and what stands behind them.
+/// Two registers and what stands after them.
 fn three(first: usize, second: usize, last: Operand) -> [Operand; 3] {
     [Operand::Register(first), Operand::Register(second), last]
 }
 
-/// Writes an operand behind what separates it from what is before.
+/// Writes an operand after what separates it from what is before.
 fn push_operand(text: &mut String, separator: &str, operand: Operand) -> Result<(), AllocError> {
     match operand {
         Operand::Register(number) => write!(text, "{separator}x{number}"),

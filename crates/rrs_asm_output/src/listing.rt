@@ -92,7 +92,7 @@ fn rows_of(rows: &[Row], number: usize) -> &[Row] {
     rows.get(start..end).unwrap_or(&[])
 }
 
-/// Where the rows of a line and of those behind it begin.
+/// Where the rows of a line and of those after it begin.
 fn first_from(rows: &[Row], number: usize) -> usize {
     rows.partition_point(|row| row.line < number)
 }

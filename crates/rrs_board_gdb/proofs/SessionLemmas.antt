@@ -15,7 +15,7 @@ use Rattle.rrs_board_gdb.specs.declared.session.BoardStop.TheVariants.{Signal, E
 use Rattle.rrs_board_gdb.specs.Shown.{with_register}
 use Rattle.rrs_board_gdb.specs.Sessions.{Changes, SetsRegister, Changed, Refused, stop_text}
 
--- the text behind the letter
+-- the text after the letter
 pub behind_letter : (payload : List ℕ) → take (length payload - 1) (drop 1 payload) ≡ drop 1 payload
 behind_letter payload = take_all (length payload - 1) (drop 1 payload) (omega (arith, length-drop 1 payload))
 

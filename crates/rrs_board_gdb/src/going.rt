@@ -124,7 +124,7 @@ impl<'a> DebuggedBoard<'a> {
         self.serve(event)
     }
 
-    /// Why a board goes no further behind a step, if it does not.
+    /// Why a board goes no further after a step, if it does not.
     fn reason_behind(&self, event: Option<BoardEvent>, stops: &[u32]) -> Option<GoReason>
         ensures { MatchOption result
             ((ending event ≡ None) × (Contains stops.now self.now.board.hart.pc → ⊥))

@@ -40,7 +40,7 @@ pub fn show_ram(
     Ok(bytes)
 }
 
-/// Writes bytes of RAM from an address on, and tells whether all of them are there.
+/// Writes bytes of RAM from an address on, and returns whether all of them are there.
 ///
 /// Then exactly these bytes are changed, to these values (`written`). Where one of them is not in
 /// RAM, or the last address is passed (`refused`), none is (`kept`). Nothing but RAM changes

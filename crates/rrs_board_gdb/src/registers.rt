@@ -85,8 +85,8 @@ fn change_hart(hart: &mut HartState, number: u32, value: u32)
     }
 }
 
-/// Changes a register by its number, and tells whether there is one that can be changed: x1 to x31,
-/// the pc, or a CSR that is not read only, of which the bits that an instruction writes are
+/// Changes a register by its number, and returns whether there is one that can be changed: x1 to
+/// x31, the pc, or a CSR that is not read only, of which the bits that an instruction writes are
 /// changed. Nothing else changes.
 pub fn change_register(board: &mut Board, number: u32, value: u32) -> bool
     ensures { MatchOption (with_register board.old number value)

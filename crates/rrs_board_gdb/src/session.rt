@@ -116,7 +116,7 @@ fn show(board: &Board, reply: &mut Vec<u8>, digits: &[u8]) -> Result<(), AllocEr
     push_invalid(reply)
 }
 
-/// `P`: changes a register, and tells whether it is changed.
+/// `P`: changes a register, and returns whether it is changed.
 fn change(board: &mut Board, text: &[u8]) -> bool
     ensures changed { OnTrue result (Changes text.now board.old board.new) }
     ensures kept { OnFalse result (board.new ≡ board.old) }
@@ -367,7 +367,7 @@ fn resume<R: Read, W: Write>(
     go_on(session, link, reply, action)
 }
 
-/// The kind and the address of a breakpoint: behind `Z` or `z`.
+/// The kind and the address of a breakpoint: after `Z` or `z`.
 fn break_of(text: &[u8]) -> Option<(u8, u32)> {
     let (kind, place) = cut(text, b',')?;
     let (address, _length) = address_and_length(cut_or_all(place, b';').0)?;

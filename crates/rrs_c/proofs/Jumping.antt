@@ -21,11 +21,11 @@ use Rattle.rrs_c.specs.Harts.{state_in_c}
 use Rattle.rrs_c.specs.Records.{refused}
 use Rattle.rrs_c.specs.Jumps.{StepAtJump, JumpsAside, GoesOn, jumps_aside}
 
--- where an outcome from s goes on, it goes on behind the instruction
+-- where an outcome from s goes on, it goes on after the instruction
 abbrev GoesBehind : State → Outcome → Type 0
 GoesBehind s o = Ok tt ≡ answered o.answer → (advanced o.after o.answer).pc ≡ word (pos (s.pc + 4))
 
--- a store goes on behind itself
+-- a store goes on after itself
 choices : (aligned granted : Bool) (n value a : ℕ) (s : State) (e e' : InstructionException) (o : Outcome)
     → (if aligned then (if granted then granted_outcome n value a s else fault_outcome e s) else fault_outcome e' s) ≡ o → GoesBehind s o
 choices true true n value a s e e' o is = subst (GoesBehind s) is (λ goes. refl)

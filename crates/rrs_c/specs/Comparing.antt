@@ -15,7 +15,7 @@ abbrev pub field : ℕ → Bool → ℕ → ℕ → Field
 field number is_compared model core =
     record { number = number; is_compared = is_compared; model = model; core = core }
 
--- a field where it is compared and differs, and else what comes behind it
+-- a field where it is compared and differs, and else what comes after it
 abbrev pub or_behind : Field → RrsDifference → RrsDifference
 or_behind f behind =
     if f.is_compared && not (f.model == f.core)

@@ -29,7 +29,7 @@ fn no_difference() -> RrsDifference
     }
 }
 
-/// A field where it is compared and differs, and else what the fields behind it give.
+/// A field where it is compared and differs, and else what the fields after it give.
 #[inline]
 fn this_or(
     number: u32,
@@ -152,7 +152,7 @@ fn memory_difference(by_words: bool, model: &RrsRetired, core: &RrsRetired) -> R
     this_or(12, is_accessing, address, core.mem_addr as u64, loads)
 }
 
-/// What differs of the register that is written, and else what differs behind it.
+/// What differs of the register that is written, and else what differs after it.
 #[inline]
 fn written_difference(model: &RrsRetired, core: &RrsRetired, behind: RrsDifference) -> RrsDifference
     ensures { (fields : List Field) → behind ≡ first_different fields
@@ -168,7 +168,7 @@ fn written_difference(model: &RrsRetired, core: &RrsRetired, behind: RrsDifferen
     this_or(10, true, model.rd_addr as u64, core.rd_addr as u64, data)
 }
 
-/// What differs of the registers that are read, and else what differs behind them.
+/// What differs of the registers that are read, and else what differs after them.
 #[inline]
 fn source_difference(model: &RrsRetired, core: &RrsRetired, behind: RrsDifference) -> RrsDifference
     ensures { (fields : List Field) → behind ≡ first_different fields
@@ -188,7 +188,7 @@ fn source_difference(model: &RrsRetired, core: &RrsRetired, behind: RrsDifferenc
     this_or(6, first, model.rs1_addr as u64, core.rs1_addr as u64, data)
 }
 
-/// What differs of the step, and else what differs behind it.
+/// What differs of the step, and else what differs after it.
 #[inline]
 fn step_difference(model: &RrsRetired, core: &RrsRetired, behind: RrsDifference) -> RrsDifference
     ensures { (fields : List Field) → behind ≡ first_different fields

@@ -62,9 +62,9 @@ pub struct RrsLoaded {
 #[repr(C)]
 #[derive(Clone, Copy)]
 pub struct RrsLocation {
-    /// 0 in nothing, 1 in a function, 2 behind a function or a label.
+    /// 0 in nothing, 1 in a function, 2 after a function or a label.
     pub found: u32,
-    /// How far it is behind the first byte of that.
+    /// How far it is after the first byte of that.
     pub distance: u32,
     /// How many bytes the name of that has.
     pub length: usize,
@@ -255,7 +255,7 @@ fn place_of(location: &Location, name: &[u8]) -> RrsLocation
     }
 }
 
-/// The name of a function and where it is, if an address lies in one or behind one.
+/// The name of a function and where it is, if an address lies in one or after one.
 pub(crate) fn function_of(file: &[u8], address: u32, buffer: &mut [u8]) -> RrsLocation
     ensures { FindsFunction file.now address buffer.old buffer.new result }
 {

@@ -365,7 +365,7 @@ pub extern "C" fn rrs_csrs_reset(csrs: &mut RrsCsrs)
 
 /// Makes a step of a hart with machine mode: takes an interrupt, or else executes the instruction
 /// at the pc, which may raise an exception. `mip` has the bits of the interrupts that are pending.
-/// Tells what the step retired, under this number.
+/// Returns what the step retired, under this number.
 #[unsafe(no_mangle)]
 pub extern "C" fn rrs_machine_step(
     hart: &mut RrsHart,
@@ -608,9 +608,9 @@ pub extern "C" fn rrs_elf_function_at(file: &[u8], address: u32, buffer: &mut [u
 }
 
 /// Assembles a source in the memory of a room, whose first section lies at an address and each
-/// other behind the one before, and gives the memory back. The bytes from this address on, the
+/// other after the one before, and gives the memory back. The bytes from this address on, the
 /// statements, and the labels with their names stand then at the front of the buffers
-/// (`assembled`), or the mistakes (`refused`). What is behind them stays. Where a buffer is too
+/// (`assembled`), or the mistakes (`refused`). What is after them stays. Where a buffer is too
 /// small nothing is written (`unwritten`), and the counts say how many of each there are
 /// (`needed`). Where the room is too small all counts are 0 (`no_room`).
 #[unsafe(no_mangle)]

@@ -1,4 +1,4 @@
-//! What runs the bytes of a file, behind the programs that do so: the words of their command line,
+//! What runs the bytes of a file, after the programs that do so: the words of their command line,
 //! the load, the run with its account, what can go wrong, and how a program ends.
 
 #![tactic(auto)]

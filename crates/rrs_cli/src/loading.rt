@@ -12,7 +12,7 @@ use std::alloc::Global;
 use std::io::Read;
 
 /// A memory of so many words, with the reader's bytes at the addresses 0, 1, 2, .. until it ends,
-/// and zeros behind them.
+/// and zeros after them.
 ///
 /// # Errors
 ///

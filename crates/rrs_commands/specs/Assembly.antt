@@ -13,7 +13,7 @@ use Rattle.rrs_run_commands.specs.Requests.{Wanted}
 use Rattle.rrs_commands.specs.Files.{Includes}
 
 -- Where sections lie where no word says it. An executable has its first section at 0x10000, and
--- data that can be written on a page of its own. Otherwise all lie one behind the other from
+-- data that can be written on a page of its own. Otherwise all lie one after the other from
 -- address 0 on.
 abbrev pub usual_layout : Option (List ℕ) → Layout
 usual_layout None = flat 0

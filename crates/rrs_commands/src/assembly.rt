@@ -48,7 +48,7 @@ pub struct Products {
 /// files, each where the request's layout says. An executable has these sections as its segments.
 /// Where none is asked for, and neither a listing nor a source for GNU `as`, the text is the bytes
 /// of all sections, from the address of the first on. Mistakes are printed on standard error,
-/// behind the path.
+/// after the path.
 ///
 /// # Errors
 ///
@@ -88,7 +88,7 @@ pub fn products_of<'a, H: Files + Eprint + AllocGlobal>(
 }
 
 /// Where the sections lie: where the words say, and else those of an executable from 0x10000 on,
-/// with data that can be written on a page of its own, and all others one behind the other from
+/// with data that can be written on a page of its own, and all others one after the other from
 /// address 0 on.
 fn layout_of(request: Request<'_>) -> Layout
     ensures { result ≡ layout_of (wanted_of request.entry) }
@@ -276,7 +276,7 @@ fn size_from(program: &Program, start: u32) -> u64 {
 }
 
 /// Prints the first mistakes, with what was wanted and what was probably meant, each as a line, and
-/// behind 20 how many other lines have some. Where one can't be printed the others are tried too.
+/// after 20 how many other lines have some. Where one can't be printed the others are tried too.
 ///
 /// # Errors
 ///
@@ -300,7 +300,7 @@ fn print_mistakes<'a, H: Eprint + AllocGlobal>(
     }
 }
 
-/// Prints how many lines behind the last of the most mistakes have others.
+/// Prints how many lines after the last of the most mistakes have others.
 fn print_count<H: Eprint>(
     rt: &H,
     path: &str,

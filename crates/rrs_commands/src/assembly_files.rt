@@ -155,7 +155,7 @@ fn put_line<'a, H: Files + Eprint + AllocGlobal>(
     Ok(())
 }
 
-/// The column of what stands behind the blanks of the rest of a line.
+/// The column of what stands after the blanks of the rest of a line.
 fn column_of(line: &[u8], left: &[u8]) -> usize {
     line.len()
         .saturating_sub(behind_blanks(left).len())
@@ -314,7 +314,7 @@ fn request_of(operands: &[u8]) -> Option<Request<'_>> {
     })
 }
 
-/// The number behind a comma, if there is a comma, and what is behind it.
+/// The number after a comma, if there is a comma, and what is after it.
 fn number_behind(text: &[u8]) -> Option<(Option<usize>, &[u8])> {
     let text = behind_blanks(text);
     if !begins_with(text, b',') {
@@ -324,7 +324,7 @@ fn number_behind(text: &[u8]) -> Option<(Option<usize>, &[u8])> {
     Some((Some(number(word)?), rest))
 }
 
-/// A number in decimal digits, or in hexadecimal ones behind `0x`.
+/// A number in decimal digits, or in hexadecimal ones after `0x`.
 fn number(word: &[u8]) -> Option<usize> {
     let (digits, base) = match word {
         [b'0', b'x' | b'X', digits @ ..] => (digits, 16),

@@ -76,7 +76,7 @@ pub fn conclude<H: Eprint>(
     ExitCode::from(status)
 }
 
-/// Prints a line on standard error, behind the name of a program.
+/// Prints a line on standard error, after the name of a program.
 fn tell<H: Eprint, D: Display + Drop>(rt: &H, program: Command, why: D) -> io::Result<()> {
     eprintln!(rt; "{}: {why}", program.name)
 }
@@ -120,7 +120,7 @@ fn tell_refusal<H: Eprint>(
     }
 }
 
-/// Tells on standard error which system calls a program made that are not served: a line for each
+/// Writes on standard error which system calls a program made that are not served: a line for each
 /// number. Where that can't be printed nothing is told.
 pub fn tell_unserved<H: Eprint>(rt: &H, subcommand: &Subcommand, numbers: &[u32]) {
     let program = subcommand.command;

@@ -4,7 +4,7 @@ use rrs_exec::ImageError;
 use rrs_run_commands::refusal::{FileFault, HostFault};
 use std::fmt;
 
-/// What is wrong with a file, as a line on standard error has it behind the file's path.
+/// What is wrong with a file, as a line on standard error has it after the file's path.
 #[derive(Clone, Copy)]
 pub struct ToldFault(pub FileFault);
 

@@ -65,7 +65,7 @@ answers_joined before steps (Some e) =
 
 module _ {M : Type 0} (reads : M → ℕ → MemAccessSize → M → Option ℕ → Type 0)
     (writes : M → ℕ → MemAccessSize → ℕ → M → Bool → Type 0) where
-  -- of steps that are Ok, and of a run behind them
+  -- of steps that are Ok, and of a run after them
   pub exactly_joined : (before steps : ℕ) (e : Option InstructionException) (s u : State) (a b c : M) → RunsOk before s u
       → MakesExactly reads writes (AccessesOfRun s (replicate before (Ok tt))) a b
       → MakesExactly reads writes (AccessesOfRun u (answers_of_run steps e)) b c
@@ -83,7 +83,7 @@ module _ {M : Type 0} (reads : M → ℕ → MemAccessSize → M → Option ℕ 
         made = Makes-append reads writes first.accesses later.accesses a b c first.made later.made;
       }
 
-  -- of steps that are Ok, and of a run behind them that came to its limit
+  -- of steps that are Ok, and of a run after them that came to its limit
   pub piece_exactly : (before size steps : ℕ) (e : Option InstructionException) (s u t : State) (a b c : M) → e ≡ None
       → RunsOk before s u → RunUntil size u steps e t
       → MakesExactly reads writes (AccessesOfRun s (replicate before (Ok tt))) a b

@@ -6,7 +6,7 @@ pub bytes_of_append : (xs ys : List ℕ) → bytes_of_words (xs ++ ys) ≡ bytes
 bytes_of_append [] ys = refl
 bytes_of_append (x ∷ xs) ys = ap (λ l. word_bytes x ++ l) (bytes_of_append xs ys)
 
--- a word, words, and more words, and then what is behind them
+-- a word, words, and more words, and then what is after them
 pub put_together : (n : ℕ) (ws zs r s block : List ℕ)
     → block ≡ word_bytes n ++ bytes_of_words ws ++ bytes_of_words zs ++ r ++ s
     → block ≡ bytes_of_words (n ∷ ws ++ zs) ++ r ++ s

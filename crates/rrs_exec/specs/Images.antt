@@ -29,7 +29,7 @@ abbrev pub first_with : List ℕ → ℕ → ℕ → ℕ
 first_with file i other =
     if loaded_size file i == 0 then other else min other (p_vaddr file i)
 
--- the higher of an address and the one behind its last
+-- the higher of an address and the one after its last
 abbrev pub end_with : List ℕ → ℕ → ℕ → ℕ
 end_with file i other =
     if loaded_size file i == 0 then other else max other (p_vaddr file i + loaded_size file i)
@@ -39,7 +39,7 @@ abbrev pub first_below : List ℕ → ℕ → ℕ
 first_below file zero = 2 ^ 32 - 1
 first_below file (suc n) = first_with file n (first_below file n)
 
--- the address behind their last, and 0 where they have none
+-- the address after their last, and 0 where they have none
 abbrev pub end_below : List ℕ → ℕ → ℕ
 end_below file zero = 0
 end_below file (suc n) = end_with file n (end_below file n)
@@ -51,7 +51,7 @@ abbrev pub end_address : List ℕ → ℕ
 end_address file = end_below file (e_phnum file)
 
 -- Why no process is made of a program with addresses from start to before end, where so many bytes
--- of memory are wanted: there is no room behind it, or it needs more bytes.
+-- of memory are wanted: there is no room after it, or it needs more bytes.
 abbrev pub refusal_between : ℕ → ℕ → ℕ → Option ImageError
 refusal_between start end wanted =
     if has_room end

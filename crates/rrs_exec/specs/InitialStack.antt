@@ -3,7 +3,7 @@
 -- arguments, the address of each, 0, the addresses of the environment's strings, of which there are
 -- none, 0, and the auxiliary vector (getauxval(3)), a list of pairs of a type and a value that
 -- AT_NULL ends. Above them lie the 16 bytes of AT_RANDOM, which are 0 here, and the arguments as
--- strings, each with a byte 0 behind it.
+-- strings, each with a byte 0 after it.
 use Rattle.std.specs.Prelude.{ℕ, ◌+◌, ◌-◌, ◌*◌, ◌/◌, ◌%◌, List, [], ◌∷◌, ◌++◌, length, replicate}
 use Rattle.rrs_exec.specs.declared.stack.ProgramHeaders.{ProgramHeaders}
 

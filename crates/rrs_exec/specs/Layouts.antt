@@ -1,13 +1,13 @@
--- Where a process has its memory: the program, the heap behind it up to which brk(2) may move the
+-- Where a process has its memory: the program, the heap after it up to which brk(2) may move the
 -- break, a gap that is not mapped, so that a stack that grows too far meets no heap, and the stack.
 use Rattle.std.specs.Prelude.{◌≡◌, ◌⊎◌, ℕ, ◌+◌, ◌-◌, ◌*◌, ◌/◌, ◌%◌, ◌^◌, ◌<◌, ◌≤◌, Bool, nat_le}
 use Rattle.rrs_exec.specs.declared.layout.Layout.{Layout}
 
--- the first page that lies behind an address, or begins there
+-- the first page that lies after an address, or begins there
 abbrev pub page_from : ℕ → ℕ
 page_from address = (address + 4095) / 4096 * 4096
 
--- behind a program that ends there 1 MiB lies below the last page
+-- after a program that ends there 1 MiB lies below the last page
 abbrev pub has_room : ℕ → Bool
 has_room end = nat_le (page_from end + 2 ^ 20) (2 ^ 32 - 4096)
 
@@ -22,7 +22,7 @@ pub record IsLayout (start end wanted : ℕ) (l : Layout) : Type 0 where
   -- the memory begins with the page of the program's first address
   pub first : l.base ≤ start
   pub first_page : (l.base % 4096 ≡ 0) × (start < l.base + 4096)
-  -- the heap lies behind the program, from the next page on
+  -- the heap lies after the program, from the next page on
   pub behind : end ≤ l.heap_start
   pub next_page : (l.heap_start % 4096 ≡ 0) × (l.heap_start < end + 4096)
   -- and ends 64 KiB below the stack, which has 256 KiB or more, and 8 MiB at most

@@ -21,7 +21,7 @@ use std::alloc::{AllocError, Global};
 pub enum ImageError {
     /// The file is no executable for this machine.
     Elf(ElfError),
-    /// The program leaves less than 1 MiB of addresses behind it for its heap and its stack.
+    /// The program leaves less than 1 MiB of addresses after it for its heap and its stack.
     NoRoom,
     /// The program needs so many bytes of memory, and fewer are wanted: those of the pages from its
     /// first address to its last, and 1 MiB for its heap and its stack.
@@ -50,7 +50,7 @@ pub struct Image {
 }
 
 /// The addresses of some segments and of another one, if that is loaded and has some: the first,
-/// and the one behind the last.
+/// and the one after the last.
 fn widened(segment: &ProgramHeader, bounds: (u32, u64)) -> (u32, u64)
     ensures first { (file : List ℕ) (i : ℕ) → IsProgramHeader file i segment.now
         → result.0 ≡ first_with file i bounds.0 }
@@ -76,7 +76,7 @@ fn bounds_with(executable: &Executable<'_>, index: u16, bounds: (u32, u64)) -> (
     }
 }
 
-/// The first address of a program, and the one behind its last.
+/// The first address of a program, and the one after its last.
 fn bounds_of(executable: &Executable<'_>) -> (u32, u64)
     ensures first { result.0 ≡ first_address executable.now.file.now }
     ensures end { result.1 ≡ end_address executable.now.file.now }

@@ -7,7 +7,7 @@ use crate::marks::PAGE_BYTES;
 
 /// The number of bytes of a page.
 const PAGE: u64 = PAGE_BYTES as u64;
-/// How many bytes of memory a process has at least behind its program: 1 MiB.
+/// How many bytes of memory a process has at least after its program: 1 MiB.
 const LEAST_BYTES: u64 = 1 << 20;
 /// How many bytes its stack has at most: 8 MiB, as on Linux.
 const MOST_STACK_BYTES: u64 = 1 << 23;
@@ -21,17 +21,17 @@ const GAP_BYTES: u64 = 1 << 16;
 pub struct Layout {
     /// The first address of the memory.
     pub base: u32,
-    /// The lowest break: behind the program.
+    /// The lowest break: after the program.
     pub heap_start: u32,
     /// The highest break.
     pub heap_end: u32,
     /// The first address of the stack.
     pub stack_start: u32,
-    /// The address behind the stack, and behind the memory.
+    /// The address after the stack, and after the memory.
     pub end: u32,
 }
 
-/// The first page that lies behind an address, or begins there.
+/// The first page that lies after an address, or begins there.
 fn page_from(address: u64) -> u64
     requires { address ≤ 2 ^ 32 }
     ensures { result ≡ page_from address }
@@ -39,7 +39,7 @@ fn page_from(address: u64) -> u64
     (address + PAGE - 1) / PAGE * PAGE
 }
 
-/// Whether a program that ends there leaves 1 MiB of addresses behind it, below the last page.
+/// Whether a program that ends there leaves 1 MiB of addresses after it, below the last page.
 pub fn has_room(end: u64) -> bool
     requires { end ≤ 2 ^ 32 }
     ensures { result ≡ has_room end }

@@ -37,7 +37,7 @@ impl Protection {
 pub struct PageRange {
     /// The first address.
     pub start: u64,
-    /// The address behind the last.
+    /// The address after the last.
     pub end: u64,
     /// What may be done there, and in the rest of each page that has one of the addresses.
     pub protection: Protection,

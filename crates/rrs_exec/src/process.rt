@@ -63,7 +63,7 @@ pub fn started(entry: u32, sp: u32) -> HartState
 
 /// Runs a file's bytes as an executable with these arguments, of which the first is its name, in a
 /// memory of so many bytes, and serves its system calls, for `limit` steps or until it ends
-/// or raises an exception. Its break begins behind its segments, and the heap of the environment
+/// or raises an exception. Its break begins after its segments, and the heap of the environment
 /// is set so. The end has the steps that were made and the pc after them. The progress is told of
 /// its steps, and of its end.
 ///

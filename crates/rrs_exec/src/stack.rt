@@ -16,7 +16,7 @@ pub struct ProgramHeaders {
     pub entry: u32,
 }
 
-/// How many bytes the arguments have as strings, each with a byte 0 behind it, or `None` where they
+/// How many bytes the arguments have as strings, each with a byte 0 after it, or `None` where they
 /// are 2^32 or more.
 fn string_length(arguments: &[String]) -> Option<u32>
     ensures { MatchOption result (2 ^ 32 ≤ length (strings (map string_bytes arguments.now)))
@@ -83,7 +83,7 @@ pub fn initial_stack(
     Ok(block)
 }
 
-/// The words behind the addresses of the arguments.
+/// The words after the addresses of the arguments.
 fn entries_of(headers: ProgramHeaders, random: u32) -> [u32; 16]
     ensures { result ≡ 0 ∷ 0 ∷ auxiliary_vector headers random }
 {
@@ -143,7 +143,7 @@ fn push_addresses(block: &mut Vec<u8>, start: u32, arguments: &[String]) -> Resu
     Ok(())
 }
 
-/// Appends strings, with a byte 0 behind each.
+/// Appends strings, with a byte 0 after each.
 fn push_strings(block: &mut Vec<u8>, arguments: &[String]) -> Result<(), AllocError>
     ensures { OnOk result
         (block.new.items ≡ block.old.items ++ strings (map string_bytes arguments.now)) }

@@ -18,7 +18,7 @@ use Rattle.rrs_fast.specs.Serving.{Relation, EndsBy, Called, Served, Last, Exits
 
 module _ {E : Type 0} (serves : Relation E) where
   -- What follows n steps to an ecall at pc, in the state u, within a limit: its call ends the program, or the chain
-  -- goes on behind the ecall.
+  -- goes on after the ecall.
   pub data Follows (ending : Ending) (e' : E) (t : State) (limit n pc : ℕ) (e : E) (u : State)
       (steps : ℕ) : Type 0 where
     Ended : (status : ℕ) (of_call : List Access)

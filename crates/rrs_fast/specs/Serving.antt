@@ -1,4 +1,4 @@
--- Programs that call their environment: a run to an ecall, the call, a run from behind it, and so
+-- Programs that call their environment: a run to an ecall, the call, a run from after it, and so
 -- on (RISC-V unprivileged specification, "Environment Call and Breakpoints": ecall makes a service
 -- request to the execution environment).
 use Rattle.std.specs.Prelude.{◌≡◌, ℕ, ◌+◌, ◌-◌, List, ◌++◌, pos, Bool, Option, Some, None}
@@ -18,7 +18,7 @@ use Rattle.rrs_lib.specs.Words.{word}
 abbrev pub Relation : Type 0 → Type 1
 Relation E = E → State → E → State → List Access → Option ℕ → Type 0
 
--- after a call from an ecall at pc: the program goes on behind it, if it goes on
+-- after a call from an ecall at pc: the program goes on after it, if it goes on
 abbrev pub resumed : Option ℕ → ℕ → State → State
 resumed None pc s = with_pc s (word (pos (pc + 4)))
 resumed (Some status) pc s = s
@@ -49,7 +49,7 @@ module _ {E : Type 0} (serves : Relation E) where
     pub all : accesses ≡ of_run ++ of_call
 
   -- The machine runs and is served, and ends so, with the environment e' and at t. The places
-  -- behind the colon: within a limit, from an environment and a state, after so many steps, with
+  -- after the colon: within a limit, from an environment and a state, after so many steps, with
   -- these accesses.
   pub data Served (ending : Ending) (e' : E) (t : State)
       : ℕ → E → State → ℕ → List Access → Type 0 where

@@ -37,7 +37,7 @@ pub trait Environment {
     /// Serves the call of a hart that is at an `ecall`.
     ///
     /// The answer is `None` where the program goes on, or the status that it ended with. The pc
-    /// needs no change: a program that goes on does so behind the `ecall`, whatever pc is left.
+    /// needs no change: a program that goes on does so after the `ecall`, whatever pc is left.
     /// What is no part of the state, as the memory's layout, has to stay (`rest`).
     fn serve<M: Memory>(&mut self, executor: &mut InstructionExecutor<M>) -> Option<u32>
         ensures served { MakesSome M.reads M.writes

@@ -457,7 +457,7 @@ goes_begun (Ok x) payload rest going m n mid s' begun has action signal kept is 
     (ended_same rest m.session mid m.environment m.state s' so) goes told
 goes_begun (Err f) payload rest going m n mid s' begun has action signal kept is begins goes told = tt
 
--- what stands behind the letter is no address
+-- what stands after the letter is no address
 pub goes_nowhere : {A F : Type 0} (r : Result A F) (payload rest : List ℕ) (going : Going) (m n : Moment)
     → HasAction payload going rest → HasSignal payload going rest → 0 < length rest → ¬ IsNumber rest
     → n.state ≡ m.state → n.environment ≡ m.environment → OnOk r (IsError m.reply n.reply)
@@ -472,7 +472,7 @@ goes_nowhere (Ok x) payload rest going m n action signal some not same same' err
 }
 goes_nowhere (Err f) payload rest going m n action signal some not same same' error = tt
 
--- there is no such action, as behind no signal
+-- there is no such action, as after no signal
 pub goes_refused : {A F : Type 0} (r : Result A F) (payload : List ℕ) (m n : Moment) → HasNoSignal payload
     → letter payload ≢ 115 → letter payload ≢ 99 → n.state ≡ m.state → n.environment ≡ m.environment
     → OnOk r (IsError m.reply n.reply) → OnOk r (Goes payload m n)

@@ -14,7 +14,7 @@ use Rattle.rrs_gdb.specs.Answers.{Sets, IsDone}
 
 -- ---- what is told
 
--- what begins with the letter of an error does so behind other text
+-- what begins with the letter of an error does so after other text
 error_behind : (old new text : List ℕ) → new ≡ old ++ text → IsError [] text → IsError old new
 error_behind old new text told (rest, is) = (rest, told ∙ ap (λ (xs : List ℕ). old ++ xs) is)
 
@@ -175,7 +175,7 @@ sets_X payload text s t old new is same sets = record {
   bytes = λ _. subst (λ (xs : List ℕ). SetsMemory (behind 58 xs) xs s t old new) same sets;
 }
 
--- ---- the same behind what is answered so far
+-- ---- the same after what is answered so far
 
 bytes_behind : (address : ℕ) (values : List ℕ) (s t : State) (old new text : List ℕ) → new ≡ old ++ text
     → SetsBytes address values s t [] text → SetsBytes address values s t old new

@@ -48,7 +48,7 @@ digit_there [] i all inside = absurd (omega (arith, inside))
 digit_there (d ∷ ds) zero all inside = all.0
 digit_there (d ∷ ds) (suc i) all inside = digit_there ds i all.1 (omega (arith, inside))
 
--- eight digits have room for one more behind seven
+-- eight digits have room for one more after seven
 pub has_room : (ds : List ℕ) (i value : ℕ) → i < length ds → length ds ≤ 8 → AllDigits 16 (take i ds)
     → value ≡ digits_value 16 (take i ds) → value * 16 + 15 < 2 ^ 32
 has_room ds i value inside short all is =

@@ -174,7 +174,7 @@ behind_call answer entered entered' stops stops' number pc same same' holds =
     (subst (λ (xs : List ℕ). MatchOption answer ((entered' ≡ false) × ¬ Contains xs pc)
     (λ (at : Stop). StopsBehind entered' xs number pc at)) same' holds)
 
--- a stop behind a call, or none
+-- a stop after a call, or none
 pub call_made : (asked : Asked) (a b : Around) (m t : State) (end : Option ℕ) (number : ℕ) (answer : Option Stop) → end ≡ None
     → PassesBefore asked a (call_number m) → ((at : Stop) → CallServed a m end (stopped_at b at) t)
     → CallServed a m end b t → number ≡ call_number m
@@ -279,7 +279,7 @@ some_limit (Ok x) (Killed signal) ended asked limit a b s t goes =
     (one_step, inl (killed_stays ended signal a b s t goes))
 some_limit (Err f) going ended asked limit a b s t goes = tt
 
--- behind the letter stands nothing
+-- after the letter stands nothing
 pub resumes_here : (rest rest' : List ℕ) (ended : Bool) (asked : Asked) (most : Most)
     (a a' b : Around) (s s' t : State) (old new : List ℕ) → rest' ≡ rest
     → length rest' ≡ 0 → a' ≡ a → s' ≡ s → GoesOnUnless ended asked most a' s' b t → new ≡ old ++ stop_text b.stop
@@ -336,7 +336,7 @@ pub killed_by : (by : Going) (n : ℕ) → 1 ≤ n → signalled by n ≡ Killed
 killed_by by zero some = absurd (omega (arith, some))
 killed_by by (suc n) some = refl
 
--- the text behind the letter
+-- the text after the letter
 pub rest_whole : (payload : List ℕ) → take (length payload - 1) (drop 1 payload) ≡ drop 1 payload
 rest_whole payload = take_all (length payload - 1) (drop 1 payload) (omega (arith, length-drop 1 payload))
 
@@ -357,7 +357,7 @@ signals_not text ended asked most a b s t old new not error = record {
   refused = λ none. error;
 }
 
--- behind the signal stands something that is no address
+-- after the signal stands something that is no address
 pub signals_nowhere : (text rest : List ℕ) (by going : Going) (ended : Bool) (asked : Asked) (most : Most)
     (a b : Around) (s t : State) (old new : List ℕ)
     → BySignal text by going rest → 0 < length rest → ¬ IsNumber rest → IsError old new
@@ -369,7 +369,7 @@ signals_nowhere text rest by going ended asked most a b s t old new is some othe
   refused = λ not. absurd (not is.0);
 }
 
--- nothing stands behind it
+-- nothing stands after it
 pub signals_here : (text rest : List ℕ) (by going : Going) (ended : Bool) (asked : Asked) (most : Most) (limit : ℕ)
     (a a' b : Around) (s s' t : State) (old new : List ℕ)
     → ((x : Around) (u : State) → GoesBy by ended asked limit x u b t → GoesOnUnless ended asked most x u b t)
@@ -390,7 +390,7 @@ signals_here text rest by going ended asked most limit a a' b s s' t old new sam
   refused = λ not. absurd (not is.0);
 }
 
--- an address stands behind it
+-- an address stands after it
 pub signals_there : (text rest : List ℕ) (address : ℕ) (by going : Going) (ended : Bool) (asked : Asked) (most : Most)
     (limit : ℕ) (a a' b : Around) (s s' t : State) (old new : List ℕ)
     → ((x : Around) (u : State) → GoesBy by ended asked limit x u b t → GoesOnUnless ended asked most x u b t)

@@ -68,7 +68,7 @@ pub record IsDone (is_changed : Bool) (s t : State) (old new : List ℕ) : Type 
 
 -- ---- the program goes on and back
 
--- the address to go on from stands behind the letter, or nothing does
+-- the address to go on from stands after the letter, or nothing does
 pub data BeginsBy (rest : List ℕ) (a : Around) (s : State) (a' : Around) (s' : State)
     : Type 0 where
   Here : rest ≡ [] → a' ≡ a → s' ≡ s → BeginsBy rest a s a' s'

@@ -40,7 +40,7 @@ packet payload = (36 ∷ escaped payload) ++ 35 ∷ digits_of (checksum (escaped
 
 -- ---- what is received
 
--- The payload that bytes stand for, the first of them behind a `}` or not. Behind a `}` a byte is
+-- The payload that bytes stand for, the first of them after a `}` or not. After a `}` a byte is
 -- missing where they end.
 abbrev pub unescaped_from : Bool → List ℕ → Option (List ℕ)
 unescaped_from false [] = Some []
@@ -53,11 +53,11 @@ unescaped_from false (b ∷ bs) =
 abbrev pub unescaped : List ℕ → Option (List ℕ)
 unescaped bytes = unescaped_from false bytes
 
--- the digits behind these bytes are those of their sum
+-- the digits after these bytes are those of their sum
 abbrev pub HasSum : List ℕ → List ℕ → Type 0
 HasSum bytes digits = decode_sized digits 1 ≡ Ok (checksum bytes ∷ [])
 
--- why bytes and the digits behind them are refused
+-- why bytes and the digits after them are refused
 abbrev pub Refuses : PacketError → List ℕ → List ℕ → Type 0
 Refuses WrongSum bytes digits = HasSum bytes digits → ⊥
 Refuses CutOff bytes digits = unescaped bytes ≡ None
@@ -77,7 +77,7 @@ abbrev pub before : ℕ → List ℕ → List ℕ
 before at [] = []
 before at (b ∷ bs) = if b == at then [] else b ∷ before at bs
 
--- what stands behind it, which is nothing where there is none
+-- what stands after it, which is nothing where there is none
 abbrev pub behind : ℕ → List ℕ → List ℕ
 behind at [] = []
 behind at (b ∷ bs) = if b == at then bs else behind at bs

@@ -162,7 +162,7 @@ pub record ShowsMemory (text : List ℕ) (s : State) (old new : List ℕ) : Type
   pub refused : ¬ IsPlace text → IsError old new
 
 -- The bytes from an address on are changed to these, or none is, and then one is not writable or
--- behind the last address.
+-- after the last address.
 pub data SetsBytes (address : ℕ) (values : List ℕ) (s t : State) (old new : List ℕ) : Type 0 where
   Changed : Loaded s.bytes t.bytes s.writable address values → SetsBytes address values s t old new
   Refused : IsError old new
@@ -171,7 +171,7 @@ pub data SetsBytes (address : ℕ) (values : List ℕ) (s t : State) (old new : 
       → SetsBytes address values s t old new
 
 -- `M addr,length:digits`, and `X addr,length:bytes`: as many values as the length says are to stand
--- behind the colon. Of none nothing is changed.
+-- after the colon. Of none nothing is changed.
 pub record SetsMemory (values : List ℕ) (text : List ℕ) (s t : State) (old new : List ℕ)
     : Type 0 where
   pub set : IsPlace (before 58 text) → length values ≡ length_in (before 58 text)
@@ -296,7 +296,7 @@ pub record PassesBefore (asked : Asked) (a : Around) (number : ℕ) : Type 0 whe
   pub entered : IsCaught asked number → a.entered ≡ true
   pub told : IsExit number → asked.stops_at_exit ≡ true → a.told_exit ≡ true
 
--- why the program stops behind a call of this number that leads to this pc
+-- why the program stops after a call of this number that leads to this pc
 pub data StopsBehind (entered : Bool) (stops : List ℕ) (number pc : ℕ) (at : Stop) : Type 0 where
   -- the call was told before it was made
   AtReturn : entered ≡ true → at ≡ Return number → StopsBehind entered stops number pc at
@@ -324,7 +324,7 @@ pub record CallMade (asked : Asked) (a : Around) (m : State) (b : Around) (t : S
   pub entered_kept : b.entered ≡ false
   pub told_kept : b.told_exit ≡ a.told_exit
 
--- the program stops before a call, or behind it
+-- the program stops before a call, or after it
 pub data CallStops (asked : Asked) (a : Around) (m : State) (b : Around) (t : State)
     : Type 0 where
   -- nothing is served
@@ -406,7 +406,7 @@ abbrev pub GoesOnUnless : Bool → Asked → Most → Around → State → Aroun
 GoesOnUnless true asked most a s b t = (b ≡ a) × (t ≡ s)
 GoesOnUnless false asked most a s b t = GoesOn asked most.at b t most.steps a s
 
--- `s` and `c`, behind which nothing stands, or the address to go on from. gdb is told where the
+-- `s` and `c`, after which nothing stands, or the address to go on from. gdb is told where the
 -- program stops.
 pub record Resumes (rest : List ℕ) (ended : Bool) (asked : Asked) (most : Most)
     (a : Around) (s : State) (b : Around) (t : State) (old new : List ℕ) : Type 0 where
@@ -425,7 +425,7 @@ abbrev pub KilledUnless : Bool → ℕ → Around → State → Around → State
 KilledUnless true signal a s b t = (b ≡ a) × (t ≡ s)
 KilledUnless false signal a s b t = (b ≡ stopped_at a (stop.Killed signal)) × (t ≡ s)
 
--- `S` and `C`: a signal, behind which nothing stands, or a semicolon and the address to go on from.
+-- `S` and `C`: a signal, after which nothing stands, or a semicolon and the address to go on from.
 -- Signal 0 is none. By another one the program ends, where it is.
 pub record Signals (text : List ℕ) (ended : Bool) (asked : Asked) (most : Most)
     (a : Around) (s : State) (b : Around) (t : State) (old new : List ℕ) : Type 0 where
@@ -491,7 +491,7 @@ GoesBy Step ended asked limit a s b t = GoesOnUnless ended asked one_step a s b 
 GoesBy Proceed ended asked limit a s b t = GoesOnUnless ended asked (up_to limit) a s b t
 GoesBy (Killed signal) ended asked limit a s b t = KilledUnless ended signal a s b t
 
--- the action is to go on so, and this stands behind its letter
+-- the action is to go on so, and this stands after its letter
 abbrev pub HasAction : List ℕ → Going → List ℕ → Type 0
 HasAction action going rest =
     (letter action ≡ 115 → (going ≡ Step) × (rest ≡ drop 1 action))
@@ -508,7 +508,7 @@ abbrev pub signalled : Going → ℕ → Going
 signalled by zero = by
 signalled by (suc n) = Killed (suc n)
 
--- the signal is one, the program goes on by it, and this stands behind it
+-- the signal is one, the program goes on by it, and this stands after it
 abbrev pub BySignal : List ℕ → Going → Going → List ℕ → Type 0
 BySignal text by going rest =
     IsSignal (before 59 text) × (rest ≡ behind 59 text)

@@ -90,7 +90,7 @@ fn width_of(size: MemAccessSize) -> u64
     }
 }
 
-/// Where a run stops: before instructions at addresses, and behind accesses.
+/// Where a run stops: before instructions at addresses, and after accesses.
 #[derive(Drop)]
 pub struct Breaks {
     /// The addresses of instructions, each once.

@@ -8,7 +8,7 @@ ghost use Rattle.rrs_gdb.specs.Shown.{HasBytes};
 use rrs_lib::{MemAccessSize, Memory};
 use std::alloc::{AllocError, Global};
 
-/// The byte that stands so far behind an address, if it is mapped. No byte changes.
+/// The byte that stands so far after an address, if it is mapped. No byte changes.
 fn byte_behind<M: Memory>(memory: &mut M, address: u32, index: u32) -> Option<u8>
     ensures read { IfSome result (λ byte. M.bytes memory.old (address + index) ≡ Some byte) }
     ensures none { IfNone result (address + index < 2 ^ 32
@@ -111,7 +111,7 @@ fn write_all<M: Memory>(memory: &mut M, address: u32, values: &[u8])
     }
 }
 
-/// Writes bytes from an address on, and tells whether all of them are writable.
+/// Writes bytes from an address on, and returns whether all of them are writable.
 ///
 /// Then exactly these bytes are changed, to these values (`written`). Where one is not writable, or
 /// the last address is passed, no byte changes (`kept`). Each byte is read, and written as it is,

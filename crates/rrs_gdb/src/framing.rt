@@ -13,7 +13,7 @@ use std::alloc::{AllocError, Global};
 pub enum PacketError {
     /// The digits are not those of the sum of the bytes, modulo 256.
     WrongSum,
-    /// The bytes end with a `}`, behind which a byte is missing.
+    /// The bytes end with a `}`, after which a byte is missing.
     CutOff,
     /// Out of memory.
     OutOfMemory,
@@ -111,8 +111,8 @@ pub fn encode(alloc: Global, payload: &[u8]) -> Result<Vec<u8>, AllocError>
     Ok(frame)
 }
 
-/// Takes a byte that is received, behind a `}` or not, and tells whether it is a `}` that turns the
-/// next one.
+/// Takes a byte that is received, after a `}` or not, and returns whether it is a `}` that turns
+/// the next one.
 fn take_byte(payload: &mut Vec<u8>, is_behind: bool, byte: u8) -> Result<bool, PacketError>
     ensures taken { IfOk result (λ is_next. (bytes : List ℕ)
         → option_map (λ rest. payload.old.items ++ rest) (unescaped_from is_behind (byte ∷ bytes))
@@ -156,7 +156,7 @@ fn has_sum(bytes: &[u8], digits: &[u8]) -> bool
     }
 }
 
-/// The payload of a packet, by the bytes between its `$` and its `#`, and the two digits behind.
+/// The payload of a packet, by the bytes between its `$` and its `#`, and the two digits after.
 ///
 /// It is the inverse of [encode]: of the bytes and the digits of a packet that [encode] made it is
 /// the payload (`inverse`).

@@ -81,7 +81,7 @@ fn next_byte<R: Read>(reader: &mut R) -> Option<u8> {
     }
 }
 
-/// The bytes of a packet behind its `$`: those up to `#`, and the two digits.
+/// The bytes of a packet after its `$`: those up to `#`, and the two digits.
 #[derive(Drop)]
 struct Frame {
     /// The bytes, as far as a packet may have them.
@@ -99,7 +99,7 @@ fn read_digits<R: Read>(reader: &mut R) -> Option<[u8; 2]> {
     Some([high, low])
 }
 
-/// The bytes of a packet behind its `$`, from a reader; `None` at the end of the input. Of a packet
+/// The bytes of a packet after its `$`, from a reader; `None` at the end of the input. Of a packet
 /// that is too long the rest is skipped, and a `$` begins another one.
 fn read_frame<R: Read>(alloc: Global, reader: &mut R) -> Result<Option<Frame>, AllocError> {
     let mut bytes = Vec::new(alloc);
@@ -142,7 +142,7 @@ fn write_at_once<W: Write>(writer: &mut W, bytes: &[u8]) -> Result<(), LinkError
 }
 
 impl<R: Read, W: Write> Link<R, W> {
-    /// Sends a payload: its packet is written, behind what was written before (`sent`), and kept,
+    /// Sends a payload: its packet is written, after what was written before (`sent`), and kept,
     /// so that a `-` has it sent again (`last`).
     ///
     /// # Errors
@@ -182,7 +182,7 @@ impl<R: Read, W: Write> Link<R, W> {
         }
     }
 
-    /// What comes behind a `$`; `None` where it is asked for again.
+    /// What comes after a `$`; `None` where it is asked for again.
     fn packet(&mut self) -> Result<Option<Received>, LinkError> {
         let Some(frame) = read_frame(self.alloc, &mut self.reader)? else {
             return Ok(Some(Received::End));

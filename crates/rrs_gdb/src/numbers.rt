@@ -36,7 +36,7 @@ pub(crate) fn decimal_of(digits: &[u8]) -> Option<u64> {
     Some(number)
 }
 
-/// What stands before the first of these bytes, and behind it.
+/// What stands before the first of these bytes, and after it.
 pub fn cut(bytes: &[u8], at: u8) -> Option<(&[u8], &[u8])>
     ensures shorter { IfSome result (λ parts. length parts.1.now < length bytes.now) }
     ensures parts { MatchOption result
@@ -51,7 +51,7 @@ pub fn cut(bytes: &[u8], at: u8) -> Option<(&[u8], &[u8])>
     None
 }
 
-/// What stands before the first of these bytes, and behind it; all, and nothing, where there is
+/// What stands before the first of these bytes, and after it; all, and nothing, where there is
 /// none.
 pub fn cut_or_all(bytes: &[u8], at: u8) -> (&[u8], &[u8])
     ensures shorter { 0 < length bytes.now → length result.1.now < length bytes.now }
@@ -72,7 +72,7 @@ pub fn address_and_length(bytes: &[u8]) -> Option<(u32, u32)>
     Some((number_of(address)?, number_of(length)?))
 }
 
-/// An address and a length before a colon, and the bytes behind it.
+/// An address and a length before a colon, and the bytes after it.
 pub fn place_and_bytes(bytes: &[u8]) -> Option<(u32, u32, &[u8])>
     ensures found { IfSome result (λ found. IsPlace (before 58 bytes.now)
         × (found.0 ≡ address_in (before 58 bytes.now)) × (found.1 ≡ length_in (before 58 bytes.now))
@@ -84,7 +84,7 @@ pub fn place_and_bytes(bytes: &[u8]) -> Option<(u32, u32, &[u8])>
     Some((address, length, values))
 }
 
-/// What is behind a prefix.
+/// What is after a prefix.
 pub fn behind<'a>(bytes: &'a [u8], prefix: &[u8]) -> Option<&'a [u8]>
     ensures { MatchOption result ((rest : List ℕ) → bytes.now ≢ prefix.now ++ rest)
         (λ rest. bytes.now ≡ prefix.now ++ rest.now) }

@@ -43,7 +43,7 @@ pub fn push_part(reply: &mut Vec<u8>, object: &[u8], place: &[u8]) -> Result<(),
     push_text(reply, &object[start..end])
 }
 
-/// Answers `qXfer`, behind that word: the description of the target, and the path of the program.
+/// Answers `qXfer`, after that word: the description of the target, and the path of the program.
 fn transfer(state: &SessionState<'_>, reply: &mut Vec<u8>, asked: &[u8]) -> Result<(), AllocError> {
     if let Some(place) = behind(asked, b"features:read:target.xml:") {
         return push_part(reply, TARGET, place);
@@ -75,7 +75,7 @@ fn numbers_in(alloc: Global, text: &[u8]) -> Result<Option<Vec<u32>>, AllocError
     Ok(Some(numbers))
 }
 
-/// Sets which calls are caught, by what is behind `QCatchSyscalls:`.
+/// Sets which calls are caught, by what is after `QCatchSyscalls:`.
 pub(crate) fn catch_calls(
     alloc: Global,
     state: &mut SessionState<'_>,
@@ -195,7 +195,7 @@ fn set_number(
     None
 }
 
-/// Shows a number, behind an argument that sets it.
+/// Shows a number, after an argument that sets it.
 fn show_number(
     alloc: Global,
     state: &mut SessionState<'_>,

@@ -88,6 +88,7 @@ pub fn push_registers(hart: &HartState, text: &mut Vec<u8>) -> Result<(), AllocE
         → OnOk result (text.new.items ≡ text.old.items
         ++ registers_text (state_of hart.now bytes writable)) }
 {
+    // From this call the check knows that there are 32 registers.
     let _count = hart.register_count();
     push_word(text, 0)?;
     push_words(text, &hart.registers[1..])?;
@@ -95,8 +96,8 @@ pub fn push_registers(hart: &HartState, text: &mut Vec<u8>) -> Result<(), AllocE
     Ok(())
 }
 
-/// Changes a register, 1 to 32, where 32 is the pc, and tells whether there is such a register. x0
-/// is none: it is 0. Nothing else changes.
+/// Changes a register, 1 to 32, where 32 is the pc, and returns whether there is such a register.
+/// x0 is none: it is 0. Nothing else changes.
 pub fn write_register(hart: &mut HartState, number: u32, value: u32) -> bool
     ensures written { (bytes : ℕ → Option ℕ) (writable : ℕ → Bool) → OnTrue result
         (state_of hart.new bytes writable
@@ -129,7 +130,7 @@ pub(crate) fn word_at(bytes: &[u8], at: usize) -> u32
         + 16777216 * u32::from(bytes[at + 3])
 }
 
-/// Changes all registers to the words of these bytes, and tells whether there are as many: 132
+/// Changes all registers to the words of these bytes, and returns whether there are as many: 132
 /// bytes. The first word, for x0, counts for nothing. Where there are not as many, nothing changes.
 pub fn write_registers(hart: &mut HartState, bytes: &[u8]) -> bool
     ensures written { OnTrue result ((r : ℕ) → 1 ≤ r → r < 32

@@ -117,7 +117,7 @@ fn stop_before(state: &mut SessionState<'_>, number: u32) -> Option<Stop>
     None
 }
 
-/// Whether a stop comes behind a call that was made, and after which the program goes on.
+/// Whether a stop comes after a call that was made, and after which the program goes on.
 fn stop_behind(state: &mut SessionState<'_>, number: u32, pc: u32) -> Option<Stop>
     ensures places { PlacesKept state.old state.new }
     ensures around { (e : Recording)
@@ -280,7 +280,7 @@ fn take_call_back<'a>(state: &mut SessionState<'a>, environment: &mut OutputReco
     }
 }
 
-/// Whether steps back ended behind a call.
+/// Whether steps back ended after a call.
 fn is_behind_call(end: &BackEnd) -> bool
     ensures yes { OnTrue result (end.now ≡ BackEnd.Call) }
     ensures no { OnFalse result (end.now ≢ BackEnd.Call) }

@@ -124,7 +124,7 @@ fn change_registers<M: Memory>(
     }
 }
 
-/// The answer of a change that is done, or can't be, behind whether it is.
+/// The answer of a change that is done, or can't be, after whether it is.
 fn outcome_of(is_done: bool, error: &'static [u8]) -> (bool, &'static [u8])
     requires { slice_index error.now 0 ≡ 69 }
     ensures same { result.0 ≡ is_done }
@@ -397,7 +397,7 @@ fn change<M: Memory>(
     }
 }
 
-/// The same, and behind a change the history is forgotten.
+/// The same, and after a change the history is forgotten.
 fn alter<M: Memory>(
     alloc: Global,
     state: &mut SessionState<'_>,
@@ -484,7 +484,7 @@ fn change_breaks(state: &mut SessionState<'_>, payload: &[u8]) -> &'static [u8]
 }
 
 /// How the program is to go on by an action of `vCont`, or by a packet of its own, with the address
-/// behind it. A signal that is not 0 kills the program.
+/// after it. A signal that is not 0 kills the program.
 fn going_of(action: &[u8]) -> Option<(Going, &[u8])>
     ensures letter { IfSome result (λ found. HasLetter action.now found.0) }
     ensures action { IfSome result (λ found. HasAction action.now found.0 found.1.now) }
@@ -502,7 +502,7 @@ fn going_of(action: &[u8]) -> Option<(Going, &[u8])>
     Some((going, rest))
 }
 
-/// The same behind the letter of a packet with a signal.
+/// The same after the letter of a packet with a signal.
 fn signal_and_rest(text: &[u8], going: Going) -> Option<(Going, &[u8])>
     ensures going { IfSome result (λ found.
         (found.0 ≡ going) ⊎ ((signal : ℕ) × (found.0 ≡ Going.Killed signal))) }
@@ -571,7 +571,7 @@ fn refuse(reply: &mut Vec<u8>) -> Result<Next, LinkError>
     Ok(Next::Reply)
 }
 
-/// Sets the pc to the address to go on from, if something stands there, and tells whether that is
+/// Sets the pc to the address to go on from, if something stands there, and returns whether that is
 /// an address.
 fn begin_at<M: Memory>(
     state: &mut SessionState<'_>,
@@ -669,7 +669,7 @@ fn argument_of(alloc: Global, digits: &[u8]) -> Result<Option<String>, AllocErro
     }
 }
 
-/// The arguments of `vRun`, behind the program's name: digits, with semicolons between.
+/// The arguments of `vRun`, after the program's name: digits, with semicolons between.
 fn arguments_of(alloc: Global, text: &[u8]) -> Result<Option<Vec<String>>, AllocError> {
     let mut arguments = Vec::new(alloc);
     let mut rest = text;
@@ -1036,7 +1036,7 @@ fn has_answer(next: Next) -> bool {
     matches!(next, Next::Reply | Next::ReplyAndEnd)
 }
 
-/// How the session ends behind a packet, if it does.
+/// How the session ends after a packet, if it does.
 fn end_of(next: Next) -> Option<SessionEnd> {
     match next {
         Next::Reply => None,
@@ -1045,7 +1045,7 @@ fn end_of(next: Next) -> Option<SessionEnd> {
     }
 }
 
-/// Answers a packet, and tells how the session ends, if it does.
+/// Answers a packet, and returns how the session ends, if it does.
 fn answer<'a, M: Memory, G: StopRunner<M>, R: Read, W: Write>(
     runner: &mut G,
     state: &mut SessionState<'a>,
@@ -1083,7 +1083,7 @@ fn next_payload<R: Read, W: Write>(link: &mut Link<R, W>) -> Result<Option<Vec<u
     Ok(None)
 }
 
-/// Tells where the program stopped, if gdb waits for that.
+/// Returns where the program stopped, if gdb waits for that.
 fn send_stop<R: Read, W: Write>(
     state: &mut SessionState<'_>,
     link: &mut Link<R, W>,

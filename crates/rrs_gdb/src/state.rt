@@ -103,7 +103,7 @@ pub struct SessionState<'a> {
     pub(crate) has_told_exit: bool,
     /// Where the program stopped last.
     pub(crate) stop: Stop,
-    /// Whether the session goes on behind the program's end.
+    /// Whether the session goes on after the program's end.
     pub(crate) is_extended: bool,
     /// Whether gdb waits for where the program stopped.
     pub owes_stop: bool,
@@ -230,7 +230,7 @@ pub(crate) fn push_number(alloc: Global, text: &mut Vec<u8>, number: u32) -> Res
     text.extend_from_slice(digits.as_bytes())
 }
 
-/// Appends a signal or a status behind a letter.
+/// Appends a signal or a status after a letter.
 fn push_code(text: &mut Vec<u8>, letter: u8, code: u8) -> Result<(), AllocError>
     ensures { OnOk result (text.new.items ≡ text.old.items ++ letter ∷ digits_of code) }
 {

@@ -59,7 +59,7 @@ fn go_back<M: Memory>(executor: &mut InstructionExecutor<M>, history: &mut Histo
     }
 }
 
-/// Tells how a run to a limit would end, and leaves the machine as it is: it makes the steps, and
+/// Returns how a run to a limit would end, and leaves the machine as it is: it makes the steps, and
 /// takes them back.
 ///
 /// The answer is that of `run` from here (`run`). Registers, pc, last written register and bytes

@@ -167,7 +167,7 @@ fn keep_registers(history: &mut History, before: &[u32; 32], after: &[u32; 32])
     }
 }
 
-/// Goes on behind the `ecall` at `pc`, if the program goes on.
+/// Goes on after the `ecall` at `pc`, if the program goes on.
 fn resume(hart: &mut HartState, answer: Option<u32>, pc: u32)
     ensures resumed { (bytes : ℕ → Option ℕ) (writable : ℕ → Bool) → state_of hart.new bytes writable
         ≡ resumed answer pc (state_of hart.old bytes writable) }
@@ -210,7 +210,7 @@ fn serve_noted<M: Memory, E: Environment>(
 
 /// Makes a step, has an `ecall` served by the environment, and keeps what either changed.
 ///
-/// The answer is `None` where the program goes on, behind the `ecall` as in `run_served`, or the
+/// The answer is `None` where the program goes on, after the `ecall` as in `run_served`, or the
 /// status with which the call ended it. The clause `served` says what happened: a step, with the
 /// read before its store, or a step that is an `ecall`, and its call, with a read before each of
 /// its writes. The history then leads back to the state before, and from there to the states before

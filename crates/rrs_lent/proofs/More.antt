@@ -1,4 +1,4 @@
--- What is told of one more, and of statements that lie one behind the other.
+-- What is told of one more, and of statements that lie one after the other.
 use Rattle.std.proofs.Common.{◌≡◌, ℕ, ◌+◌, ◌++◌, ◌<◌, ◌≤◌, List, [], ◌∷◌, All, length, take, get_or, refl, sym, subst, ap, ◌∙◌, append_assoc, length-append, arith}
 use Rattle.std.specs.Prelude.{min}
 use Rattle.std.proofs.lemmas.List.{take_more, append-nil}
@@ -14,12 +14,12 @@ use Rattle.rrs_lent.specs.Steps.{IsAsLong, AreAsLong, AreAllAsLong, IsShort}
 
 -- ---- mistakes
 
--- one mistake more, whose text lies behind the others
+-- one mistake more, whose text lies after the others
 pub lie-more : (at : ℕ) (ms : List RrsMistake) (m : RrsMistake) (end : ℕ) → LieBehind at ms end → m.text ≡ end → LieBehind at (ms ++ m ∷ []) (end + m.length)
 lie-more at [] m end lies here = (here ∙ sym lies, ap (λ n. n + m.length) lies)
 lie-more at (x ∷ xs) m end (is, lies) here = (is, lie-more (at + x.length) xs m end lies here)
 
--- a mistake is put behind others, and its text behind theirs
+-- a mistake is put after others, and its text after theirs
 pub lie-pushed : (ms new : List RrsMistake) (m : RrsMistake) (texts own all : List ℕ) → LieBehind 0 ms (length texts) → m.text ≡ length texts → new ≡ ms ++ m ∷ [] → m.length ≡ length own
     → all ≡ texts ++ own → LieBehind 0 new (length all)
 lie-pushed ms new m texts own all lies here pushed long behind =
@@ -39,7 +39,7 @@ all-as-long-more numbers [] ts s own none long = (own, [], long, refl, rw none (
 all-as-long-more numbers (x ∷ xs) ts s own (first, rest, is, are, all) long =
     (first, rest ++ own, is, all-as-long-more numbers xs rest s own are long, rw all (append_assoc first rest own))
 
--- a statement is put behind those before
+-- a statement is put after those before
 pub as-long-pushed : (numbers : List ℕ) (ps : List Placed) (i : ℕ) (told before new : List RrsStatement) (d p : Placed) (t : RrsStatement) → i < length ps → p ≡ get_or ps i d → IsAsLong numbers p t
     → new ≡ told ++ t ∷ [] → ((own : List RrsStatement) × AreAsLong numbers (take i ps) own × (told ≡ before ++ own))
     → (own : List RrsStatement) × AreAsLong numbers (take (i + 1) ps) own × (new ≡ before ++ own)
@@ -48,7 +48,7 @@ as-long-pushed numbers ps i told before new d p t below is long pushed (own, lon
     let P : List Placed → Type 0 = λ xs. AreAsLong numbers xs (own ++ t ∷ []) in
     (own ++ t ∷ [], subst P (sym more) (as-long-more numbers (take i ps) own p t longs long), pushed ∙ ap (λ xs. xs ++ t ∷ []) same ∙ append_assoc before own (t ∷ []))
 
--- the statements of a section are put behind those of the sections before
+-- the statements of a section are put after those of the sections before
 pub all-as-long-pushed : {A : Type 0} (numbers : List ℕ) (ss : List (Section A)) (i : ℕ) (told new : List RrsStatement) (s : Section A) (placed : List Placed) → i < length ss → s ≡ get_or ss i s
     → placed ≡ s.made.placed.items → ((own : List RrsStatement) × AreAsLong numbers placed own × (new ≡ told ++ own)) → AreAllAsLong numbers (take i ss) told → AreAllAsLong numbers (take (i + 1) ss) new
 all-as-long-pushed numbers ss i told new s placed below is value (own, longs, pushed) all =
@@ -57,7 +57,7 @@ all-as-long-pushed numbers ss i told new s placed below is value (own, longs, pu
     let P : List (Section _) → Type 0 = λ xs. AreAllAsLong numbers xs (told ++ own) in
     rw pushed (subst P (sym more) (all-as-long-more numbers (take i ss) told s own all (subst Own value longs)))
 
--- statements that lie one behind the other, in no more bytes than an assembler makes, are told
+-- statements that lie one after the other, in no more bytes than an assembler makes, are told
 tell-statements : (numbers : List ℕ) (ps : List Placed) (ts : List RrsStatement) (address : ℕ) (bytes : List ℕ) → length bytes ≤ 0x4000000 → LaysOut address ps bytes → AreAsLong numbers ps ts
     → TellStatements numbers ps ts
 tell-statements numbers [] ts address bytes short laid none = none

@@ -1,4 +1,4 @@
--- What the steps of telling say of statements before these are known to lie one behind the other.
+-- What the steps of telling say of statements before these are known to lie one after the other.
 use Rattle.std.specs.Prelude.{◌≡◌, ℕ, ◌≤◌, List, [], ◌∷◌, ◌++◌, length, min}
 use Rattle.rrs_asm.specs.declared.output.Placed.{Placed}
 use Rattle.rrs_asm.specs.declared.sections.Section.{Section}

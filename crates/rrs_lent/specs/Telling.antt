@@ -1,6 +1,6 @@
 -- What a caller that lends its memory is told of a source (rrs_asm_macros, Expansion; rrs_asm,
 -- Source and Sections): the bytes, the statements and the labels of its sections, or its mistakes.
--- Texts lie one behind the other in one buffer, and what is told of a label or a mistake says where
+-- Texts lie one after the other in one buffer, and what is told of a label or a mistake says where
 -- its own begins.
 use Rattle.std.specs.Prelude.{◌≡◌, ℕ, ◌+◌, ◌≤◌, false, List, [], ◌∷◌, ◌++◌, length, drop, unwrap_or}
 use Rattle.rrs_asm.specs.declared.output.Label.{Label}
@@ -59,7 +59,7 @@ TellAll numbers (s ∷ others) told =
 
 -- ---- labels
 
--- the names of labels one behind the other
+-- the names of labels one after the other
 abbrev pub names_of : List Label → List ℕ
 names_of [] = []
 names_of (l ∷ others) = l.name.now ++ names_of others
@@ -113,7 +113,7 @@ Assembles A source start entry bytes statements symbols texts =
 
 -- ---- mistakes
 
--- the texts of mistakes lie one behind the other, the first at a place, and end at another
+-- the texts of mistakes lie one after the other, the first at a place, and end at another
 abbrev pub LieBehind : ℕ → List RrsMistake → ℕ → Type 0
 LieBehind at [] end = at ≡ end
 LieBehind at (m ∷ others) end = (m.text ≡ at) × LieBehind (at + m.length) others end
@@ -161,7 +161,7 @@ pub data Needs (A : Type 0) (source : List ℕ) (start : ℕ) (told : RrsAssembl
       → TellMistakes mistakes texts → AreCounts told 0 0 0 (length mistakes) (length texts)
       → Needs A source start told
 
--- what stands behind the first so many stays
+-- what stands after the first so many stays
 abbrev pub StaysBehind : {X : Type 0} → ℕ → List X → List X → Type 0
 StaysBehind count old new = drop count new ≡ drop count old
 

@@ -9,8 +9,8 @@ use crate::outcome::{RrsAssembled, RrsMistake, RrsStatement, RrsSymbol, SMALL_BU
 use crate::told::{Told, told_at_last};
 use std::alloc::{AllocError, Allocator};
 
-/// Assembles a source, whose sections lie one behind the other from an address on, and puts what is
-/// told of it at the front of the buffers, where these have room for all of it. What is behind it
+/// Assembles a source, whose sections lie one after the other from an address on, and puts what is
+/// told of it at the front of the buffers, where these have room for all of it. What is after it
 /// there stays. Where a buffer is too small none is written (`unwritten`), and it is said how many
 /// of each there are (`needed`).
 ///

@@ -19,9 +19,9 @@ const LEAST_ROOM: usize = 0x1_0000;
 const MOST_ROOM: usize = 0x1000_0000;
 
 /// Assembles a source in memory that is lent, and gives the memory back. What the source becomes
-/// without its macros is assembled, with sections one behind the other from an address on. What is
+/// without its macros is assembled, with sections one after the other from an address on. What is
 /// told of it is put at the front of the buffers: of a program its bytes, statements and labels
-/// with their names (`assembled`), of mistakes what they are (`refused`). What is behind it stays.
+/// with their names (`assembled`), of mistakes what they are (`refused`). What is after it stays.
 ///
 /// Where a buffer is too small none is written (`unwritten`), and the counts say how many of each
 /// there are (`needed`). Where the memory is too small all counts are 0 (`no_room`); where it has

@@ -9,7 +9,7 @@ use rrs_asm_output::{MOST_MISTAKES, Mistake};
 use std::alloc::{AllocError, Allocator};
 use std::str;
 
-/// Mistakes, and what is told of them one behind the other.
+/// Mistakes, and what is told of them one after the other.
 pub(crate) fn told_of_mistakes<A: Allocator + Copy>(
     alloc: A,
     mistakes: &[Mistake<A>],

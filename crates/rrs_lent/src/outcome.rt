@@ -34,7 +34,7 @@ pub struct RrsSymbol {
     pub name: usize,
     /// How many bytes its name has.
     pub length: usize,
-    /// The address of what stands behind it.
+    /// The address of what stands after it.
     pub address: u32,
 }
 

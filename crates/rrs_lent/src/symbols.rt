@@ -9,7 +9,7 @@ use rrs_asm_output::number_of;
 use std::alloc::{AllocError, Allocator};
 
 /// The labels of sections in order, where the lines have these numbers in the source, and their
-/// names one behind the other.
+/// names one after the other.
 pub(crate) fn symbols_of<A: Allocator + Copy>(
     alloc: A,
     sections: &[Section<A>],

@@ -63,7 +63,7 @@ module _ {M : Type 0} (reads : M → ℕ → MemAccessSize → M → Option ℕ 
   placed_at : a + length (take n input) ≡ a + n
   placed_at = ap (λ k. a + k) (length-take-le n input (omega (arith, within)))
 
-  -- the write of the byte behind those that were given
+  -- the write of the byte after those that were given
   pub written_next : Makes reads writes (byte_writes writable a (take n input ++ slice_index input n ∷ [])) m new
   written_next =
       writes-next reads writes writable a (a + n) (slice_index input n) value answer writable'

@@ -73,7 +73,7 @@ module _ {M : Type 0} {reads : M → ℕ → MemAccessSize → M → Option ℕ 
     made = refl;
   }
 
-  -- bytes at hand were given, and those behind them are held
+  -- bytes at hand were given, and those after them are held
   pub placed : {bytes' : ByteMap} {most : ℕ} {m m' : M} (given at_hand after : List ℕ) (n : ℕ) → 0 < most
       → most ≡ min count most_bytes → 0 < length at_hand → Fills most held at_hand left left' → given ≡ at_hand
       → after ≡ drop n at_hand

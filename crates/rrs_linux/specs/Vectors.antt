@@ -6,7 +6,7 @@ use Rattle.rrs_lib.specs.AccessLists.{Access}
 use Rattle.rrs_linux.specs.Requests.{error}
 use Rattle.rrs_linux.specs.Transfers.{Takes, Stands, byte_reads, counted, most_bytes}
 
--- a piece is at a (struct iovec, 8 bytes): iov_base, and iov_len behind it
+-- a piece is at a (struct iovec, 8 bytes): iov_base, and iov_len after it
 pub record IsPiece (bytes : ByteMap) (a base size : ℕ) : Type 0 where
   pub base_there : little_endian bytes a 4 ≡ Some base
   pub size_there : little_endian bytes (a + 4) 4 ≡ Some size

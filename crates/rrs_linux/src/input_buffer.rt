@@ -14,11 +14,11 @@ const CHUNK: usize = 256;
 /// Bytes of the input that were read and not given to the program yet.
 #[derive(Drop)]
 pub struct InputBuffer {
-    /// The bytes that the latest read gave, and others behind them.
+    /// The bytes that the latest read gave, and others after them.
     bytes: [u8; CHUNK],
     /// The place of the first that was not given.
     start: usize,
-    /// The place behind the last that was read.
+    /// The place after the last that was read.
     end: usize,
     /// How many reads of the input failed, modulo 2^64.
     failures: u64,

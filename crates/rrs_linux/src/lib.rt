@@ -57,7 +57,7 @@ pub struct Heap {
     pub start: u32,
     /// The highest break.
     pub end: u32,
-    /// The break: the first address behind the heap.
+    /// The break: the first address after the heap.
     pub top: u32,
 }
 

@@ -3,7 +3,7 @@
 -- writes). An instruction of the 48 rows does what the kit's own step does. Two things are decided
 -- here: a jump or a taken branch to a misaligned address raises its exception at the jump, with no
 -- register written, as the specification has it; and a wfi retires at once, with an answer that
--- tells whether the hart waits, so that an interrupt that comes meanwhile is taken behind it.
+-- tells whether the hart waits, so that an interrupt that comes meanwhile is taken after it.
 use Rattle.std.specs.Prelude.{◌≡◌, ◌≢◌, ℕ, ◌+◌, ◌%◌, ◌^◌, ◌&&◌, List, [], Bool, pos, false, if◌then◌else◌, Option, Some, None, Ok, Err}
 use Rattle.rrs_lib.specs.declared.HartState.{HartState}
 use Rattle.rrs_lib.specs.declared.instruction_executor.InstructionException.{InstructionException}
@@ -116,7 +116,7 @@ returned i s = machine (with_pc (cleared s.hart) (csr_value Mepc s.csrs i))
 abbrev pub passed : MachineState → MachineState
 passed s = machine (gone_on (cleared s.hart)) (retired_file s.csrs)
 
--- A wfi retires, and the hart is behind it. It answers that the hart waits, unless an interrupt is
+-- A wfi retires, and the hart is after it. It answers that the hart waits, unless an interrupt is
 -- pending and enabled by mie, whatever MIE is.
 abbrev pub wait_answer : Option Interrupt → MachineAnswer
 wait_answer (Some x) = Retired

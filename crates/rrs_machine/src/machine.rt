@@ -29,7 +29,7 @@ use rrs_words::{Csr, SystemInstruction, SystemRow, decode_system};
 pub enum MachineAnswer {
     /// An instruction retired.
     Retired,
-    /// A `wfi` retired, and no interrupt is pending that `mie` enables. The hart is behind it, and
+    /// A `wfi` retired, and no interrupt is pending that `mie` enables. The hart is after it, and
     /// waits: the caller makes the next step once an interrupt is.
     Waiting,
     /// The instruction raised this exception, and the hart is at the handler.
@@ -78,7 +78,7 @@ fn interrupt(hart: &mut HartState, csrs: &mut CsrFile, interrupt: Interrupt) -> 
     MachineAnswer::Interrupted(interrupt)
 }
 
-/// Goes on behind an instruction with no effect.
+/// Goes on after an instruction with no effect.
 fn pass(hart: &mut HartState, csrs: &mut CsrFile)
     ensures passed { (bytes : ByteMap) (writable : ℕ → Bool)
         → machine_of hart.new csrs.new bytes writable
@@ -320,7 +320,7 @@ fn step_instruction<M: Memory>(
 ///
 /// An exception is no error here: the hart takes the trap, and is at its handler. A jump or a taken
 /// branch to a misaligned address raises its exception at the jump, with no register written. A
-/// `wfi` that nothing wakes is `Waiting`: it has retired, the hart is behind it, and the caller
+/// `wfi` that nothing wakes is `Waiting`: it has retired, the hart is after it, and the caller
 /// decides what passes meanwhile. `mcycle` counts each step, and `minstret` those that are
 /// `Retired` or `Waiting`.
 ///

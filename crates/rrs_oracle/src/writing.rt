@@ -28,13 +28,13 @@ impl<'a, W: Write> Pieces<'a, W> {
         }
     }
 
-    /// Writes a number in decimal, behind a text.
+    /// Writes a number in decimal, after a text.
     pub fn number(&mut self, before: &str, number: usize) {
         self.text(before);
         self.text(Buffer::new().format(number));
     }
 
-    /// Writes a word in hexadecimal, in 8 digits, behind a text.
+    /// Writes a word in hexadecimal, in 8 digits, after a text.
     pub fn word(&mut self, before: &str, word: u32) {
         self.text(before);
         self.text(hexadecimal_digits(8, word).as_str());

@@ -139,7 +139,7 @@ module _ {R W E K : Type 0} (gives : Gives R K) (takes : Takes W) (takes_errors 
     pub same : new ≡ e
     pub stays : t ≡ u
 
-  -- a call was answered, and the program goes on behind it
+  -- a call was answered, and the program goes on after it
   pub record Answered (limit n pc steps : ℕ) (e : Process R W E K) (u : State) (request : Request) : Type 0 where
     pub after : Process R W E K
     pub there : State

@@ -55,7 +55,7 @@ pub record Echoes (k b size : ℕ) (old : Recording) (bytes : ByteMap) (new : Re
   pub heap_kept : new.heap ≡ old.heap
   pub others_kept : (a : ℕ) → (a < b) ⊎ (b + size ≤ a) → t.bytes a ≡ bytes a
 
--- behind a part of a buffer
+-- after a part of a buffer
 behind : (a b n size : ℕ) → n ≤ size → (a < b) ⊎ (b + size ≤ a) → (a < b) ⊎ (b + n ≤ a)
 behind a b n size less (inl below) = inl below
 behind a b n size less (inr above) = inr (omega (arith, above))
@@ -65,7 +65,7 @@ module _ (r : ℕ → ℕ) (writable : ℕ → Bool) (p b size : ℕ) (aligned :
     (size_small : size < 2 ^ 32) (open_there : IsWritable writable b size) (buffer_fits : b + size ≤ 2 ^ 32)
     (some : 0 < size)
     (apart : AreApart b size p 72) (new : Recording) (t : State) (ending : Ending) where
-  -- ---- the states at the loop's head, at each call, and behind the read and the write
+  -- ---- the states at the loop's head, at each call, and after the read and the write
 
   abbrev at_head : (x10 x11 x12 x13 x17 : ℕ) → Option ℕ → ByteMap → State
   at_head x10 x11 x12 x13 x17 last bytes = at (registers_by r x10 x11 x12 x13 size b x17) (p + 8) last bytes writable

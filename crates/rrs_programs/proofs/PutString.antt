@@ -118,7 +118,7 @@ module _ (o : Others) (x1 port x12 x13 x14 p : ℕ) (bytes : ByteMap) (writable 
         printed = refl;
       }
 
-  -- at the 0 behind the string the program returns
+  -- at the 0 after the string the program returns
   returns : (a x15 : ℕ) (last : Option ℕ) (now : ByteMap) → Stays now → a < 2 ^ 32 → little_endian now a 1 ≡ Some 0
       → Printing 3 (loop a x15 p last now) (loop a 0 x1 None now) []
   returns a x15 last now stays small read =

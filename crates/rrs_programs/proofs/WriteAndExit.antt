@@ -57,7 +57,7 @@ module _ {R W E K : Type 0} (gives : Gives R K) (takes : Takes W) (takes_errors 
       (starts : WriteAndExitStarts text (at (registers_by r a n status x13 x14 x15 x17) p last bytes writable))
       (a_small : a < 2 ^ 32) (n_small : n < 2 ^ 32) (status_small : status < 2 ^ 32)
       (fits : p + 52 ≤ 2 ^ 32) (within : a + length text ≤ 2 ^ 32) where
-    -- the states at the start, at the write, behind it, and at the exit
+    -- the states at the start, at the write, after it, and at the exit
     abbrev start : State
     start = at (registers_by r a n status x13 x14 x15 x17) p last bytes writable
 

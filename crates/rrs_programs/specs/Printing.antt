@@ -11,7 +11,7 @@ use Rattle.rrs_programs.specs.Computing.{IsCalled}
 
 -- ---- strings
 
--- The bytes of the text are at a and behind it, and then a 0. Each is a byte that is not 0 itself.
+-- The bytes of the text are at a and after it, and then a 0. Each is a byte that is not 0 itself.
 pub record HoldsString (bytes : ByteMap) (a : ℕ) (text : List ℕ) : Type 0 where
   pub each : (i : ℕ) → i < length text → bytes (a + i) ≡ Some (slice_index text i)
   pub not_zero : (i : ℕ) → i < length text → slice_index text i ≢ 0

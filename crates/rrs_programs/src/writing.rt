@@ -103,6 +103,7 @@ pub fn arguments_of_call(hart: &HartState)
         × (reg (state_of hart.now bytes writable) 11 < 2 ^ 32)
         × (reg (state_of hart.now bytes writable) 12 < 2 ^ 32) }
 {
+    // From this call the check knows that there are 32 registers.
     let _count = hart.register_count();
     let _ = (
         hart.read_register(10),

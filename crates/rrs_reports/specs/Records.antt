@@ -1,4 +1,4 @@
--- The records of a run: what each of its steps retired, in order, and behind them that of a fault.
+-- The records of a run: what each of its steps retired, in order, and after them that of a fault.
 use Rattle.std.specs.Prelude.{◌≡◌, ℕ, List, [], ◌∷◌, ◌++◌, Bool, true, Option}
 use Rattle.rrs_lib.specs.SliceBytes.{bytes_from, lies_from}
 use Rattle.rrs_trace.specs.declared.retired.Retired.{Retired}

@@ -32,7 +32,7 @@ shown_bytes bytes = flat_map shown_byte bytes
 abbrev pub shown_front : List ℕ → List ℕ
 shown_front bytes = if is_utf8 bytes then shown_characters bytes else shown_bytes bytes
 
--- what stands behind the first 1,024 bytes of a name
+-- what stands after the first 1,024 bytes of a name
 abbrev pub shown_end : List ℕ → List ℕ
 shown_end name = if nat_lt 1024 (length name) then codes "[...]" else []
 

@@ -4,7 +4,7 @@ use crate::pieces::Pieces;
 use crate::profile::Profile;
 use std::io::{self, Write};
 
-/// Writes the name of the function of a number, behind the key of a line.
+/// Writes the name of the function of a number, after the key of a line.
 fn write_function<W: Write>(
     out: &mut Pieces<'_, W>,
     profile: &Profile<'_, '_>,

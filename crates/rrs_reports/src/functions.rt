@@ -11,7 +11,7 @@ pub struct Function<'a> {
     pub name: &'a [u8],
     /// The address of its first instruction.
     pub start: u32,
-    /// The address behind its last one.
+    /// The address after its last one.
     pub end: u32,
     /// Whether its size is known. If not, it goes on up to the next function.
     pub is_sized: bool,

@@ -103,7 +103,7 @@ fn write_front<W: fmt::Write>(f: &mut fmt::Formatter<W>, bytes: &[u8]) -> fmt::R
     }
 }
 
-/// The bytes of a name that are shown, and what is written behind them.
+/// The bytes of a name that are shown, and what is written after them.
 fn cut(name: &[u8]) -> (&[u8], &'static str)
     ensures bytes { result.0.now ≡ take 1024 name.now }
     ensures behind { result.1.now ≡ shown_end name.now }

@@ -45,13 +45,13 @@ impl<'a, W: Write> Pieces<'a, W> {
         self.text(behind);
     }
 
-    /// Writes a number in decimal, behind a text.
+    /// Writes a number in decimal, after a text.
     pub fn number(&mut self, before: &str, number: u64) {
         self.text(before);
         self.text(Buffer::new().format(number));
     }
 
-    /// Writes a word in hexadecimal, with zeros in front up to so many digits, behind a text.
+    /// Writes a word in hexadecimal, with zeros in front up to so many digits, after a text.
     pub fn hexadecimal(&mut self, before: &str, least: usize, word: u32)
         requires { least ≤ 8 }
     {
@@ -65,7 +65,7 @@ impl<'a, W: Write> Pieces<'a, W> {
         self.text(text);
     }
 
-    /// Writes a text, and spaces behind it up to a width.
+    /// Writes a text, and spaces after it up to a width.
     pub fn left(&mut self, width: usize, text: &str) {
         self.text(text);
         self.spaces(width, text);
@@ -78,7 +78,7 @@ impl<'a, W: Write> Pieces<'a, W> {
         }
     }
 
-    /// Writes a number in decimal, with spaces in front of it up to a width, and a text behind it.
+    /// Writes a number in decimal, with spaces in front of it up to a width, and a text after it.
     pub fn column(&mut self, width: usize, number: u64, behind: &str) {
         self.right(width, Buffer::new().format(number));
         self.text(behind);

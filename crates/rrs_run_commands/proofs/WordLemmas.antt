@@ -1,4 +1,4 @@
--- The number that short digits are; the bytes of words, and what words ask for, from what those behind the first ask for.
+-- The number that short digits are; the bytes of words, and what words ask for, from what those after the first ask for.
 use Rattle.std.proofs.Common.{◌≡◌, ℕ, ◌^◌, ◌-◌, ◌<◌, ◌≤◌, ◌⊎◌, List, [], ◌∷◌, ◌++◌, take, drop, codes, Option, Some, None, MatchOption, take-append-drop, Result, Ok, Err, map, length, string_bytes, String, Global, ap, subst, sym, ◌∙◌, refl, inl, inr, arith}
 use Rattle.std.proofs.Math.Nat.{pow-le-pow_right}
 use Rattle.std.proofs.lemmas.Int.Digits.{digits_value-lt}
@@ -40,7 +40,7 @@ pub last_size : (word : List ℕ) (r : Option ℕ) → ((m : ℕ) → IsNumber w
 last_size word None a k m g = λ n is. no_size word n a k m g is
 last_size word (Some n) a k m g = inr (inr (inr g))
 
--- the bytes of the first word, and of those behind it
+-- the bytes of the first word, and of those after it
 pub first_bytes : (words : List (String Global)) (word : String Global) (others : List (String Global)) (bytes : List ℕ)
     → IsFirstAndRest words word others → bytes ≡ string_bytes word → map string_bytes words ≡ bytes ∷ map string_bytes others
 first_bytes words word others bytes h e = ap (map string_bytes) h.0 ∙ ap (λ b. b ∷ map string_bytes others) (sym e)

@@ -14,7 +14,7 @@ use Rattle.rrs_linux.specs.declared.host_side.HostSide.{HostSide}
 use Rattle.rrs_linux.specs.SystemCalls.{Serves}
 
 -- The machine that a program starts in: 1 MiB with these bytes, and a hart all of whose registers
--- are 0 but x2, which is sp and has the address behind the memory.
+-- are 0 but x2, which is sp and has the address after the memory.
 abbrev pub program_start : ByteMap → State
 program_start bytes = start_of 262144 (0 ∷ 2 ^ 20 ∷ replicate 29 0) bytes
 

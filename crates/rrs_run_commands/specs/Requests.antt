@@ -1,4 +1,4 @@
--- What the words behind a subcommand of `rrs` ask for. The words are lists of bytes.
+-- What the words after a subcommand of `rrs` ask for. The words are lists of bytes.
 --
 --   rrs run [--quiet] FILE LIMIT
 --   rrs exec [--limit STEPS] [--memory BYTES] [--raw] PROGRAM [ARGUMENT] ..
@@ -14,7 +14,7 @@
 --   rrs gdb [--memory BYTES] [--input FILE] [--raw] PROGRAM [ARGUMENT] ..
 --   rrs gdb --board [--limit STEPS] [--memory BYTES] [--input FILE] PROGRAM
 --
--- Options stand in any order, before FILE and behind it; but the words behind a PROGRAM that has
+-- Options stand in any order, before FILE and after it; but the words after a PROGRAM that has
 -- ARGUMENTs are its own.
 use Rattle.std.specs.Prelude.{ℕ, ◌<◌, ◌≤◌, ◌≡◌, ◌⊎◌, List, [], ◌∷◌, Bool, true, false, not, Option, Some, None, IsSome, Result, Ok, Err, map, string_bytes, option_map, codes}
 use Rattle.rrs_cli.specs.Limits.{limit_in}
@@ -186,7 +186,7 @@ Gives word words value left =
     (HasValue word × (value ≡ value_in word) × (words ≡ left))
     ⊎ ((HasValue word → ⊥) × (words ≡ value ∷ left))
 
--- what an option and the words behind it make of what is wanted, and the words that are left
+-- what an option and the words after it make of what is wanted, and the words that are left
 abbrev pub TakesOption : Task → List ℕ → Wanted → List (List ℕ) → Wanted → List (List ℕ) → Type 0
 TakesOption task word old words new left =
     ((switch : Switch) × IsSwitch task word switch × (HasValue word → ⊥)
@@ -208,7 +208,7 @@ RefusesOption task word words fault =
 
 -- ---- other words
 
--- whether the words behind the program are its own; a raw program has no arguments
+-- whether the words after the program are its own; a raw program has no arguments
 abbrev pub has_arguments : Task → Wanted → Bool
 has_arguments Execute wanted = not wanted.raw
 has_arguments Debug wanted = not wanted.raw
@@ -247,12 +247,12 @@ IsOption reading word = (reading.ended ≡ false) × IsDashed word
 abbrev pub IsPlain : Reading → List ℕ → Type 0
 IsPlain reading word = IsOption reading word → ⊥
 
--- this word is the program, and the words behind it are its arguments
+-- this word is the program, and the words after it are its arguments
 abbrev pub IsProgram : Task → Reading → List ℕ → Type 0
 IsProgram task reading word =
     IsPlain reading word × (has_arguments task reading.wanted ≡ true)
 
--- what a word and the words behind it make of what is read, and the words that are left
+-- what a word and the words after it make of what is read, and the words that are left
 abbrev pub Takes : Task → List ℕ → Reading → List (List ℕ) → Reading → List (List ℕ) → Type 0
 Takes task word old words new left =
     (IsOption old word × (word ≡ ends_options) × (new ≡ record old { ended = true })
@@ -262,7 +262,7 @@ Takes task word old words new left =
     ⊎ (IsPlain old word × (new.ended ≡ old.ended)
     × TakesWord task word old.wanted new.wanted × (words ≡ left)))
 
--- why a word, or the words behind it, are refused
+-- why a word, or the words after it, are refused
 abbrev pub Refuses : Task → List ℕ → Reading → List (List ℕ) → Fault → Type 0
 Refuses task word old words fault =
     (IsOption old word × (word ≡ ends_options → ⊥) × RefusesOption task word words fault)

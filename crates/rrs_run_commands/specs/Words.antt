@@ -11,7 +11,7 @@ IsNumber word n =
     ⊎ ((take 2 word ≡ codes "0x") × IsNumeral 16 (drop 2 word)
     × (n ≡ digits_value 16 (drop 2 word))))
 
--- so many of a unit, whose letter stands behind the number
+-- so many of a unit, whose letter stands after the number
 abbrev pub IsInUnit : List ℕ → ℕ → List ℕ → ℕ → Type 0
 IsInUnit letter unit word n =
     (n < 2 ^ 64)
@@ -37,11 +37,11 @@ pub record IsAddress (word : List ℕ) (address : ℕ) : Type 0 where
 abbrev pub IsDashed : List ℕ → Type 0
 IsDashed word = (slice_index word 0 ≡ 45) × (1 < length word)
 
--- the word behind which no word is an option
+-- the word after which no word is an option
 abbrev pub ends_options : List ℕ
 ends_options = codes "--"
 
--- An option's name ends before the first `=`, behind which its value is.
+-- An option's name ends before the first `=`, after which its value is.
 abbrev pub name_in : List ℕ → List ℕ
 name_in word = before_first (λ byte. byte == 61) word
 

@@ -33,7 +33,7 @@ pub(crate) fn code_of<'a, 'f>(
     }
 }
 
-/// Flushes a writer behind what was written, if no write failed.
+/// Flushes a writer after what was written, if no write failed.
 pub(crate) fn flushed<'a, W: Write>(
     written: io::Result<()>,
     out: &mut W,

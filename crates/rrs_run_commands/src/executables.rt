@@ -50,7 +50,7 @@ pub fn execute_executable<
     }
 }
 
-/// Tells of a fault where it was, in which function, and after how many steps, behind the name of
+/// Says of a fault where it was, in which function, and after how many steps, after the name of
 /// the program. Where that can't be printed nothing is told.
 pub fn tell<H: Eprint>(rt: &H, program: &str, file: &[u8], end: &ProcessEnd) {
     let Ending::Fault(fault) = &end.ending else {
@@ -72,7 +72,7 @@ pub fn tell<H: Eprint>(rt: &H, program: &str, file: &[u8], end: &ProcessEnd) {
     }
 }
 
-/// The function in which an address lies, or else the nearest before it, and how far behind its
+/// The function in which an address lies, or else the nearest before it, and how far after its
 /// first instruction it is.
 fn place_of(file: &[u8], address: u32) -> Option<(&[u8], u32)> {
     let Ok(executable) = Executable::parse(file) else {

@@ -19,7 +19,7 @@ use std::rt::Files;
 
 /// The number of words of the memory.
 const WORDS: usize = 262_144;
-/// The address behind the memory, where sp starts.
+/// The address after the memory, where sp starts.
 const MEMORY_END: u32 = 0x0010_0000;
 /// Where a program's break starts.
 pub const HEAP_START: u32 = 0x0008_0000;

@@ -157,7 +157,7 @@ pub fn created<'a, H: Files>(
     }
 }
 
-/// A writer behind a buffer.
+/// A writer after a buffer.
 ///
 /// # Errors
 ///

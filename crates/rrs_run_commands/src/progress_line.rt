@@ -1,6 +1,6 @@
 //! The line that shows on a terminal how far a run is.
 //!
-//! It stands behind what the program wrote there, with the cursor before it, and is erased before
+//! It stands after what the program wrote there, with the cursor before it, and is erased before
 //! the program writes to a terminal or reads from one. So the screen is then what it would be
 //! without the line.
 
@@ -19,7 +19,7 @@ const STEPS_BETWEEN_LOOKS: u64 = 1 << 16;
 /// next row where the line is too long for this one.
 const BEFORE_LINE: &str = "\x1b7\x1b[?7l";
 
-/// What it is sent behind a line: to erase the rest of the row, to go on in the next row again, and
+/// What it is sent after a line: to erase the rest of the row, to go on in the next row again, and
 /// to go back to the place that was kept.
 const BEHIND_LINE: &str = "\x1b[K\x1b[?7h\x1b8";
 
@@ -72,7 +72,7 @@ impl<T: Write> LineTerminal<T> {
     }
 }
 
-/// A number as so many millions, with one digit behind the point.
+/// A number as so many millions, with one digit after the point.
 #[derive(Clone, Copy)]
 struct Millions(u64);
 

@@ -108,7 +108,7 @@ pub enum Refusal<'a> {
     SourceErrors,
     /// Something is wrong with the file of this path.
     File(&'a str, FileFault),
-    /// This word behind `--from` is no address, and no symbol has this name.
+    /// This word after `--from` is no address, and no symbol has this name.
     NoAddress(&'a str),
     /// The bytes of a program are not written to a terminal.
     Terminal,

@@ -1,4 +1,4 @@
-//! What the words behind a subcommand ask for.
+//! What the words after a subcommand ask for.
 
 ghost use Rattle.std.specs.Prelude.{◌≡◌, ◌≤◌, [], MatchOption, IfSome, Ok, Err, IsTrue, ◌↔◌, IfOk, IfErr, length, map, string_bytes};
 ghost use Rattle.rrs_run_commands.specs.Options.{most_memory};
@@ -106,7 +106,7 @@ struct Reading<'a> {
     has_ended: bool,
 }
 
-/// What the words behind a subcommand ask it for: options, in any order, before its file and behind
+/// What the words after a subcommand ask it for: options, in any order, before its file and after
 /// it. A program that has arguments ends them, and so does `--`.
 ///
 /// # Errors
@@ -143,7 +143,7 @@ pub fn request_of(task: Task, words: &[String]) -> Result<Request<'_>, Mistake<'
     }
 }
 
-/// Whether a word is the program, so that the words behind it are its arguments.
+/// Whether a word is the program, so that the words after it are its arguments.
 fn is_program(task: Task, reading: Reading<'_>, word: &str) -> bool
     ensures { IsTrue result
         ↔ IsProgram task (reading_of reading.entry.has_ended reading.entry.request) word.now }
@@ -151,11 +151,11 @@ fn is_program(task: Task, reading: Reading<'_>, word: &str) -> bool
     has_arguments(task, reading.request) && (reading.has_ended || !is_dashed(word))
 }
 
-/// What a word and the words behind it make of what is read, and the words that are left.
+/// What a word and the words after it make of what is read, and the words that are left.
 ///
 /// # Errors
 ///
-/// Why the word, or those behind it, are refused.
+/// Why the word, or those after it, are refused.
 fn take_next<'a>(
     task: Task,
     reading: Reading<'a>,
@@ -186,7 +186,7 @@ fn take_next<'a>(
     }
 }
 
-/// What an option and the words behind it make of a request, and the words that are left.
+/// What an option and the words after it make of a request, and the words that are left.
 ///
 /// # Errors
 ///
@@ -321,7 +321,7 @@ fn memory_of(task: Task, value: &str) -> Result<u64, Mistake<'_>>
     }
 }
 
-/// Whether the words behind the program are its own.
+/// Whether the words after the program are its own.
 fn has_arguments(task: Task, request: Request<'_>) -> bool
     ensures { result ≡ has_arguments task (wanted_of request.entry) }
 {
@@ -337,7 +337,7 @@ fn has_arguments(task: Task, request: Request<'_>) -> bool
 /// # Errors
 ///
 /// `Mistake::WrongSteps` where the second word of `rrs run` is no limit, and `Mistake::Surplus` for
-/// a word behind all that there are.
+/// a word after all that there are.
 fn take_word<'a>(
     task: Task,
     request: Request<'a>,

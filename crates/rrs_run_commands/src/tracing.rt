@@ -99,7 +99,7 @@ fn trace_to<'a, H: Eprint + AllocGlobal, R: Read, W: Write, E: Write, O: Write, 
 ///
 /// # Errors
 ///
-/// Those of `read_program`; `Refusal::NoAddress` where the word behind `--from` is no address and
+/// Those of `read_program`; `Refusal::NoAddress` where the word after `--from` is no address and
 /// no symbol; `Refusal::File` where the file for the log can't be created, and where it is no
 /// executable that can be run. No step is made then. The same where a write of the log fails, which
 /// ends the run; out of memory as a failure.

@@ -34,7 +34,7 @@ fn numeral_of(word: &str, base: u32) -> Option<u64>
 }
 
 /// The bytes that a word asks for: a number of them, or of KiB, MiB or GiB where K, M or G stands
-/// behind it. `None` where the word is no such number, and for 2^64 bytes or more.
+/// after it. `None` where the word is no such number, and for 2^64 bytes or more.
 pub fn size_of(word: &str) -> Option<u64>
     ensures { MatchOption result ((n : ℕ) → IsSize word.now n → ⊥) (IsSize word.now) }
 {
@@ -97,7 +97,7 @@ pub fn is_dashed(word: &str) -> bool
     matches!(word.as_bytes(), [b'-', _, ..])
 }
 
-/// The name of an option, and the value behind the first `=`, if there is one.
+/// The name of an option, and the value after the first `=`, if there is one.
 pub fn name_and_value(word: &str) -> (&str, Option<&str>)
     ensures name { result.0.now ≡ name_in word.now }
     ensures value { MatchOption result.1 (HasValue word.now → ⊥)

@@ -339,7 +339,7 @@ chosen : (even : Bool) (q r : DataRequest) (e : InstructionException)
 chosen true q r e same = (refl, cc)
 chosen false q r e same = cc
 
--- what asks is gone behind
+-- what asks is gone after
 behind_by : (action : Action) (f : Fields) (s : State) (q : DataRequest) (w : ℕ) (row : Row) (v : ℕ)
     → SizeKnown action → (table row).action ≡ action → next_word s ≡ Some w → Decodes w row f
     → answer_by action f s ≡ Ok (Some q)
@@ -405,7 +405,7 @@ goes_behind v s m t found i q b finds is kind kept after =
     subst (λ (y : Bool). GoesBehind y v s t) kind (subst (GoesBehind (is_load q) v s) (sym (after ∙ ap goes kept))
     (behind_by (table row).action (fields_of i) s q x.w row v (row_size row) refl x.fetched x.decoded x.asks))
 
--- what is gone behind asks
+-- what is gone after asks
 record AskedFor (b : Bool) (s : State) : Type 0 where
   w : ℕ
   row : Row

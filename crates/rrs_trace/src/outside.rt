@@ -264,7 +264,7 @@ fn access_at_pc<M: Memory>(
     }
 }
 
-/// Goes on behind the load or the store at the pc, with the value that a load was given, and
+/// Goes on after the load or the store at the pc, with the value that a load was given, and
 /// returns whether there is one.
 fn go_behind<M: Memory>(executor: &mut InstructionExecutor<M>, is_load: bool, value: u32) -> bool
     ensures behind { OnTrue result (GoesBehind is_load value
@@ -296,7 +296,7 @@ fn go_behind<M: Memory>(executor: &mut InstructionExecutor<M>, is_load: bool, va
 /// given it, and returns whether there is one.
 ///
 /// The low bytes of the value are extended as the load says and go to its register, and the pc goes
-/// on by 4. So a run that ended with `LoadAccessFault(address)` goes on behind the load. The word
+/// on by 4. So a run that ended with `LoadAccessFault(address)` goes on after the load. The word
 /// at the pc is read from the memory, as a fetch is, and nothing else is accessed. The answer is
 /// `false`, and the hart is as before, where there is no word at the pc, it is no load, or the
 /// address of the load is misaligned.
@@ -316,7 +316,7 @@ pub fn complete_load<M: Memory>(executor: &mut InstructionExecutor<M>, value: u3
     go_behind(executor, true, value)
 }
 
-/// Goes on behind the store at the pc, which the caller carried out, and returns whether there is
+/// Goes on after the store at the pc, which the caller carried out, and returns whether there is
 /// one.
 ///
 /// Where and what it stores is told by [request], for the word at the pc. Nothing is stored in the

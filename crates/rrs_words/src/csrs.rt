@@ -6,7 +6,7 @@
 ghost use Rattle.std.specs.Prelude.{◌≡◌};
 ghost use Rattle.rrs_words.specs.CsrNumbers.{csr_among, setup_csrs, handling_csrs, counter_csrs, reading_csrs, information_csrs, monitor_csr, csr_at, is_read_only, written_bits, fixed_bits};
 
-/// A register behind the number of a CSR. `mcycle` and `cycle` are one register.
+/// A register that the number of a CSR names. `mcycle` and `cycle` are one register.
 #[derive(Debug, PartialEq, Clone, Copy)]
 pub enum Csr {
     /// `mstatus`

@@ -117,7 +117,7 @@ static PSEUDO_INSTRUCTIONS: [(&str, &[u32]); 54] = [
     ("xori tp, ra, '\\n'", &[0x00a0c213]),
 ];
 
-/// Labels before and behind, local labels, constants, comments, and several statements on a line.
+/// Labels before and after, local labels, constants, comments, and several statements on a line.
 static SYMBOLS: [(&str, &[u32]); 9] = [
     ("a: nop\nj a", &[0x00000013, 0xffdff06f]),
     ("nop\nj a\nnop\na:", &[0x00000013, 0x0080006f, 0x00000013]),

@@ -26,7 +26,7 @@ const SOURCE: &[u8] = b"a: nop
 e:.byte ';', '#';.space 3;
 end:";
 
-/// That source, and one whose label is behind the last address, which is 0.
+/// That source, and one whose label is after the last address, which is 0.
 static CASES: [Case; 2] = [
     Case {
         source: SOURCE,

@@ -73,7 +73,7 @@ w:  .word nothing
     .ident \"GCC\"
 ";
 
-/// What `.comm` and `.lcomm` say lies behind `.bss`, whichever section is open.
+/// What `.comm` and `.lcomm` say lies after `.bss`, whichever section is open.
 const COMMON: &str = "    .local b
     .comm b, 2, 4
     .lcomm c, 3
@@ -83,7 +83,7 @@ a:  .zero 1
     .word a, b, c
 ";
 
-/// The sections lie one behind the other, and symbols reach across them.
+/// The sections lie one after the other, and symbols reach across them.
 static LAID_OUT: [(&str, &[u32]); 2] = [
     (
         SECTIONS,

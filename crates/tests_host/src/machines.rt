@@ -8,7 +8,7 @@ use rrs_programs::{PrintPort, RamOrPort};
 use std::alloc::{AllocError, Global};
 use std::test::Fail;
 
-/// A memory of these words, and of zeros behind them up to so many words.
+/// A memory of these words, and of zeros after them up to so many words.
 pub(crate) fn memory_of(
     alloc: Global,
     words: &[u32],
@@ -29,7 +29,7 @@ pub(crate) fn streams_of(
     Linux::new(input, output, errors, Heap::new(0, 0), clocks)
 }
 
-/// A space of two regions: one of so many bytes at 0, and one of four bytes at a base behind it.
+/// A space of two regions: one of so many bytes at 0, and one of four bytes at a base after it.
 pub(crate) fn space_beside<M: Memory + Drop>(
     alloc: Global,
     words: M,

@@ -71,7 +71,7 @@ static WORDS: [u32; 8] = [
     0x04100093, 0x00001137, 0x00110023, 0x00014183, 0x00108093, 0x00110023, 0x00112023, 0,
 ];
 
-/// A space of the words and a port, each behind a box.
+/// A space of the words and a port, each in a box.
 fn boxed_machine(alloc: Global) -> Result<MemorySpace<BoxedMemory>, Fail> {
     let memory = Box::new(alloc, memory_of(alloc, &WORDS, 8)?)?;
     let words = BoxedMemory { memory };

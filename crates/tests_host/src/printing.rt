@@ -25,7 +25,7 @@ fn words_to_print(alloc: Global) -> Result<VecMemory, AllocError>
     Ok(VecMemory::new(words.to_vec(alloc)?))
 }
 
-/// Calls the program at 0 to print the string at one address to the port at another, behind it; it
+/// Calls the program at 0 to print the string at one address to the port at another, after it; it
 /// returns to 24.
 fn print<M: Memory>(
     mem: &mut M,
@@ -81,7 +81,7 @@ static PRINTED: [(u32, u32, u64); 5] = [
     (35, 0x1000_0000, 38),
 ];
 
-/// How a run of so many steps over a port at an address ends: behind the byte of the port there is
+/// How a run of so many steps over a port at an address ends: after the byte of the port there is
 /// nothing to write to, though its region has four addresses.
 fn ends_at(port: u32, steps: u64) -> RunEnd {
     if port == 0x1000_0000 {

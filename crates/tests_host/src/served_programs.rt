@@ -40,7 +40,7 @@ fn exit_at(steps: u64, status: u32) -> ServedEnd {
     }
 }
 
-/// The program that writes, and a text of 14 bytes behind it, at 52.
+/// The program that writes, and a text of 14 bytes after it, at 52.
 fn words_to_write(alloc: Global) -> Result<VecMemory, AllocError>
     ensures { IfOk result (λ memory. memory.mem.items ≡ words_to_write) }
 {
@@ -119,7 +119,7 @@ fn writes_a_text_to_a_stream(rt: HostRuntime) -> Result<(), Fail> {
     Ok(())
 }
 
-/// The program that echoes, and room for eight bytes behind it, at 72.
+/// The program that echoes, and room for eight bytes after it, at 72.
 fn words_to_echo(alloc: Global) -> Result<VecMemory, AllocError>
     ensures { IfOk result (λ memory. memory.mem.items ≡ words_to_echo) }
 {

@@ -43,7 +43,7 @@ const LOOPS: [Changing; 6] = [
     ([0x0060_03a3, ADD, EXCHANGE, NOTHING, BACK], 0x06, 0x00), // sb x6, 7(x0)
 ];
 
-/// The stops of the runs: within the loop, at its first word, behind it, at no multiple of 4, and
+/// The stops of the runs: within the loop, at its first word, after it, at no multiple of 4, and
 /// none.
 const STOPS: [&[u32]; 6] = [&[12], &[0], &[8, 0, 4, 12], &[20, 400], &[2, 6], &[]];
 
@@ -195,7 +195,7 @@ fn kept_words_stop_where_fetched_ones_do(rt: HostRuntime) -> Result<(), Fail> {
     Ok(())
 }
 
-// The turns add 1, 100, 1: the first call stops behind four steps, and the others behind five.
+// The turns add 1, 100, 1: the first call stops after four steps, and the others after five.
 #[test]
 fn a_run_goes_on_from_a_stop(rt: HostRuntime) -> Result<(), Fail> {
     let [changing, ..] = &LOOPS;

@@ -185,7 +185,7 @@ fn environment<'a>(alloc: Global, reads: &'a [Turn], writes: &'a [Turn]) -> Stre
 }
 
 /// Calls that put the status of a stream at 4, each with the word that is everywhere before, and
-/// the words after it; what is behind the status stays.
+/// the words after it; what is after the status stays.
 ///
 /// The first has 104 bytes: st_mode at 16 is a pipe with 0600, st_nlink at 20 is 1, st_blksize at
 /// 56 is 4096, and all other bytes are 0. The other has 256, as `statx` has it: stx_mask is 0x7ff,
@@ -320,7 +320,7 @@ fn clocks_of_the_host_tell_times(rt: HostRuntime) -> Result<(), Fail> {
     Ok(())
 }
 
-/// Puts words at 200 and behind it.
+/// Puts words at 200 and after it.
 fn put_words(memory: &mut VecMemory, words: &[u32; 6]) {
     for (index, word) in words.iter().enumerate() {
         if let Some(place) = memory.mem.get_mut(index.saturating_add(50)) {

@@ -110,7 +110,7 @@ fn are_alike(hart: &HartState, other: &HartState) -> bool {
 // The form of a line is that of Spike's log: `core`, the hart, the privilege, the pc, the word, the
 // register that was written, and the address of an access, of a store with the data. The byte at
 // 0x43 is watched: it is written by the store of a word, and by that of a byte. Each step of the
-// program, and the illegal instruction behind it, retires alike by parts.
+// program, and the illegal instruction after it, retires alike by parts.
 #[test]
 fn steps_are_told_with_their_lines_and_writes(rt: HostRuntime) -> Result<(), Fail> {
     let mut memory = memory_of(rt.alloc(), &PROGRAM, 32)?;

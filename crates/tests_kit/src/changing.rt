@@ -25,12 +25,12 @@ const EXCHANGE: u32 = 0x0073_4333;
 /// jal x0, -12
 const BACK: u32 = 0xff5f_f06f;
 
-/// In the place of the last word of a loop: a jump to two words that are as far behind its first
+/// In the place of the last word of a loop: a jump to two words that are as far after its first
 /// one as the table is long. They add 16 to x5, and jump back.
 const AWAY: u32 = 0;
 
 /// A table: its length in words and in bytes, and the jumps from a loop to the two words that are
-/// so far behind it, and back.
+/// so far after it, and back.
 struct Table {
     words: u32,
     bytes: u32,
@@ -61,7 +61,7 @@ type Change = (u32, [u32; 4], u32, u32);
 
 /// A word of the loop, a half-word, each byte that can be changed and leaves an `addi`; the next
 /// word, and a half-word and a byte of it; the store itself; the word that is jumped to next; the
-/// same over the table's end; words behind the loop; and a loop of words that have one place.
+/// same over the table's end; words after the loop; and a loop of words that have one place.
 static CHANGES: [Change; 19] = [
     (0, [ADD, 0x0060_2023, EXCHANGE, BACK], ADD_100, ADD), // sw x6, 0(x0)
     (0, [ADD, 0x0060_1123, EXCHANGE, BACK], 0x0642, 0x0012), // sh x6, 2(x0): its upper half
@@ -95,7 +95,7 @@ fn first_of(change: &Change, table: &Table) -> u32 {
     }
 }
 
-/// The words of a loop, and those far behind it, each with its number.
+/// The words of a loop, and those far after it, each with its number.
 fn words_at(change: &Change, table: &Table) -> [(u32, u32); 6] {
     let first = first_of(change, table);
     let [one, two, three, last] = change.1;
@@ -230,7 +230,7 @@ fn words_over(alloc: Global, change: &Change) -> Result<VecMemory, AllocError> {
     Ok(VecMemory::new(words_of(alloc, change, &SMALL)?))
 }
 
-/// A memory of words, behind a box.
+/// A memory of words, in a box.
 fn box_of(alloc: Global, change: &Change) -> Result<BoxedMemory, AllocError> {
     let memory = Box::new(alloc, words_over(alloc, change)?)?;
     Ok(BoxedMemory { memory })

@@ -59,7 +59,7 @@ const STORED: Registers = &[(1, 0x00100113)];
 
 const EXECUTED: Registers = &[(1, 0x00100113), (2, 1)];
 
-/// Limits before, at and behind the end of a program; the first program that stores its second
+/// Limits before, at and after the end of a program; the first program that stores its second
 /// instruction, and the one that replaces its own first word and goes back to it; a load of a
 /// half-word; an environment call; jumps and a branch to where no instruction can be or is mapped;
 /// a branch to itself; and no memory at all.

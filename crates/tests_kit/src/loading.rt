@@ -115,7 +115,7 @@ fn loads_bytes_in_order(rt: HostRuntime) -> Result<(), Fail> {
     Ok(())
 }
 
-/// The words that are read before the read of each of the bytes 1 to 8, and behind them.
+/// The words that are read before the read of each of the bytes 1 to 8, and after them.
 static READ_BEFORE: [[u32; 2]; 9] = [
     [0, 0],
     [0x01, 0],
@@ -146,7 +146,7 @@ fn is_told(
     Ok(())
 }
 
-/// Before each of the bytes 1 to 8 in turn, and behind them, a read fails once. No byte is taken
+/// Before each of the bytes 1 to 8 in turn, and after them, a read fails once. No byte is taken
 /// after the failure.
 #[test]
 fn tells_a_failing_read(rt: HostRuntime) -> Result<(), Fail> {

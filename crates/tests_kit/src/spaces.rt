@@ -151,7 +151,7 @@ static REGIONS: [(&[(u32, u32, &[u32])], [(u32, Option<u32>); 4]); 4] = [
 ];
 
 /// The words at some addresses of a space of two regions, which are longer and shorter than their
-/// memories; of one that passes the last address; and of one with empty regions, before and behind
+/// memories; of one that passes the last address; and of one with empty regions, before and after
 /// one that is not.
 #[test]
 fn each_region_has_its_memory(rt: HostRuntime) -> Result<(), Fail> {
@@ -206,19 +206,19 @@ fn a_space_in_a_space(rt: HostRuntime) -> Result<(), Fail> {
     Ok(())
 }
 
-/// A memory of the word addi x1, x0, 5, behind a box.
+/// A memory of the word addi x1, x0, 5, in a box.
 fn boxed_word(alloc: Global) -> Result<BoxedMemory, AllocError> {
     let memory = Box::new(alloc, memory_of(alloc, &[0x0050_0093])?)?;
     Ok(BoxedMemory { memory })
 }
 
-/// A space of one region, behind a box.
+/// A space of one region, in a box.
 fn boxed_space(alloc: Global) -> Result<BoxedMemory, Fail> {
     let memory = Box::new(alloc, space_of(alloc, &[(4, 4, &[9])])?)?;
     Ok(BoxedMemory { memory })
 }
 
-/// A space of a word that is executed, and of a space, each behind a box.
+/// A space of a word that is executed, and of a space, each in a box.
 fn boxed_memories(alloc: Global) -> Result<MemorySpace<BoxedMemory>, Fail> {
     let mut space = MemorySpace::new(alloc);
     add_as(&mut space, 0, 0, 4, boxed_word(alloc)?)?;
@@ -299,7 +299,7 @@ fn a_region_that_served_is_compared_first(rt: HostRuntime) -> Result<(), Fail> {
     Ok(())
 }
 
-/// A thousand regions of 16 bytes, of which region 0 is at 101 * 32, and each at 367 * 32 behind
+/// A thousand regions of 16 bytes, of which region 0 is at 101 * 32, and each at 367 * 32 after
 /// the one before it, modulo 32,000. The words of each are its index and 1000, 2000 and 3000 more.
 fn thousand_regions(alloc: Global) -> Result<MemorySpace<VecMemory>, Fail> {
     let mut space = MemorySpace::new(alloc);

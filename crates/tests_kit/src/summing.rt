@@ -23,7 +23,7 @@ fn words_to_add(alloc: Global) -> Result<VecMemory, AllocError>
     Ok(VecMemory::new(words.to_vec(alloc)?))
 }
 
-/// The program and the word behind it, without the words to add up.
+/// The program and the word after it, without the words to add up.
 fn words_of_program(alloc: Global) -> Result<VecMemory, AllocError>
     ensures { IfOk result (λ memory. memory.mem.items ≡ words_of_program) }
 {
@@ -54,7 +54,7 @@ fn space_of_two(alloc: Global, low: VecMemory, high: VecMemory) -> Option<Memory
     Some(space)
 }
 
-/// Adds up as many of three words as are asked for, over a memory that holds them behind the
+/// Adds up as many of three words as are asked for, over a memory that holds them after the
 /// program.
 fn add_up<M: Memory>(mem: &mut M, hart_state: &mut HartState, count: u32) -> RunEnd
     requires program { HoldsWords (M.bytes mem.old) 0 sum_loop_program }

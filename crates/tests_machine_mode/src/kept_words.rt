@@ -56,7 +56,7 @@ const LOOP: [u32; 17] = [
     0,
 ];
 
-/// A loop that stores over the next word, over a byte and a half-word of the word behind it, over
+/// A loop that stores over the next word, over a byte and a half-word of the word after it, over
 /// the store itself, and over the first word, to which it jumps next.
 const CHANGING: [u32; 17] = [
     0x0012_8293, // addi x5, x5, 1
@@ -78,7 +78,7 @@ const CHANGING: [u32; 17] = [
     0,
 ];
 
-/// Mixes the cause and the value of the trap into x13, and goes on behind its instruction.
+/// Mixes the cause and the value of the trap into x13, and goes on after its instruction.
 const HANDLER: [u32; 9] = [
     0x3420_2773, // csrrs x14, mcause, x0
     0x0016_9693, // slli x13, x13, 1
@@ -182,7 +182,7 @@ fn pulse_at(step: u64, sight: u64) -> Pulse {
     }
 }
 
-/// A memory of a program and the handler, behind it.
+/// A memory of a program and the handler, after it.
 fn memory_with(alloc: Global, program: &[u32; 17]) -> Result<VecMemory, AllocError> {
     let mut words = program.to_vec(alloc)?;
     for word in HANDLER {

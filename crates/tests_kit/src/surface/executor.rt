@@ -19,7 +19,7 @@ fn a_new_hart(rt: HostRuntime) {
     assert!(rt; new == ([0; 32], 0, None) && default == new);
 }
 
-/// What an exception holds, behind its number.
+/// What an exception holds, after its number.
 fn parts_of(fault: InstructionException) -> [u32; 3] {
     match fault {
         InstructionException::IllegalInstruction(pc, word) => [1, pc, word],

@@ -99,7 +99,7 @@ fn simulated<R: Read, W: Write>(
     simulate::<R, W>(alloc, reader, limit, out)
 }
 
-// lui x2, 0x1234b000; lui x3, 0xf387e000; add x1, x2, x3, and a word of zeros behind them.
+// lui x2, 0x1234b000; lui x3, 0xf387e000; add x1, x2, x3, and a word of zeros after them.
 #[test]
 fn a_file_is_simulated(rt: HostRuntime) -> Result<(), Fail> {
     let mut reader: &[u8] = b"\x37\xb1\x34\x12\xb7\xe1\x87\xf3\xb3\x00\x31\x00";

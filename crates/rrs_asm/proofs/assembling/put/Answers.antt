@@ -5,7 +5,7 @@ use Rattle.rrs_asm.specs.Source.{Item}
 use Rattle.rrs_asm.specs.Forms.{Grows}
 use Rattle.rrs_asm.proofs.assembling.put.Goals as goal
 
--- the open section has the statement behind the others
+-- the open section has the statement after the others
 pub returns-in-Some : goal.returns-in-Some
 returns-in-Some g c = λ name named good.
     let P : Section _ → Type 0 = λ s. Grows (Item.Laid c.args.number name ∷ []) s c.put-put.new.self in

@@ -4,7 +4,7 @@ use Rattle.rrs_asm.specs.declared.sections.Section.{Section}
 use Rattle.rrs_asm.specs.Sections.{common, names_of}
 use Rattle.rrs_asm.proofs.assembling.put_common.Goals as goal
 
--- `COMMON` has the symbol and its bytes behind the others
+-- `COMMON` has the symbol and its bytes after the others
 pub returns : goal.returns
 returns g c = λ directive fills.
     let At : List (Section _) → Type 0 = λ xs. c.section_named-reading.result ≡ common (names_of xs) in

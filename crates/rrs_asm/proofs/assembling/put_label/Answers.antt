@@ -5,7 +5,7 @@ use Rattle.rrs_asm.specs.Source.{Item}
 use Rattle.rrs_asm.specs.Forms.{Grows}
 use Rattle.rrs_asm.proofs.assembling.put_label.Goals as goal
 
--- the open section has the label behind the others
+-- the open section has the label after the others
 pub returns-in-Some-get_mut : goal.returns-in-Some-get_mut
 returns-in-Some-get_mut g c = λ good.
     let P : Section _ → Type 0 = λ s. Grows (Item.Label c.args.number c.args.name.now ∷ []) s c.put_label-put.new.self in

@@ -18,7 +18,7 @@ loop-section-preserved g c =
 pub returns-clause-laid_flat : goal.returns-clause-laid_flat
 returns-clause-laid_flat g c = laid-last c.args.base c.loop-section.bytes.items _ c.loop-section.section-index c.args.program.now.sections.items (first_of (search rules, omega arith)) c.loop-section.invariant
 
--- the bytes one behind the other are those of each section at its address
+-- the bytes one after the other are those of each section at its address
 pub returns-clause-at_addresses : goal.returns-clause-at_addresses
 returns-clause-at_addresses g c = λ layout text placed.
     let laid : c.loop-section.bytes.items ≡ laid_flat c.args.base c.args.program.now.sections.items =

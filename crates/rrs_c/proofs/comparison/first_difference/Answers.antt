@@ -1,4 +1,4 @@
--- The fields of each part, and then those of the parts behind it.
+-- The fields of each part, and then those of the parts after it.
 use Rattle.std.proofs.Common.{◌++◌}
 use Rattle.rrs_c.specs.Comparing.{source_fields, written_fields, memory_fields}
 use Rattle.rrs_c.proofs.comparison.first_difference.Goals as goal

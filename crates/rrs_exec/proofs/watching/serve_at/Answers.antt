@@ -1,4 +1,4 @@
--- The call is served, and a program that goes on does so behind it.
+-- The call is served, and a program that goes on does so after it.
 use Rattle.std.proofs.Common.{ℕ, Option, refl, subst}
 use Rattle.rrs_lib.specs.Executor.{state_in}
 use Rattle.rrs_exec.proofs.watching.serve_at.Goals as goal

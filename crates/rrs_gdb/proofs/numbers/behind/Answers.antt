@@ -1,4 +1,4 @@
--- What is behind a prefix.
+-- What is after a prefix.
 use Rattle.std.proofs.lemmas.Bool.Decides.{Decides-eqb}
 use Rattle.std.proofs.lemmas.Slice.Eq.{strip_prefix_is}
 use Rattle.rrs_gdb.proofs.numbers.behind.Goals as goal

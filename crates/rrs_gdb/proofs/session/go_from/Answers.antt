@@ -19,7 +19,7 @@ returns-in_default-clause-goes g c =
     let found = c.in_default.ensures in
     goes_refused c.refuse.result _ _ _ found.no_signal found.none.0 found.none.1 refl refl c.refuse.ensures
 
--- what stands behind its letter is no address
+-- what stands after its letter is no address
 pub returns-then-not-begin_at-clause-goes : goal.returns-then-not-begin_at-clause-goes
 returns-then-not-begin_at-clause-goes g c =
     let fails = c.if-not-begin_at.true in

@@ -3,7 +3,7 @@ use Rattle.std.proofs.lemmas.Grind.{common_steps}
 use Rattle.rrs_lent.proofs.More.{lie-pushed}
 use Rattle.rrs_lent.proofs.mistakes.told_of_mistakes.Goals as goal
 
--- one mistake more is told, and its text lies behind the others
+-- one mistake more is told, and its text lies after the others
 pub loop-mistake-preserved : goal.loop-mistake-preserved
 loop-mistake-preserved g c =
     let texts = c.loop-mistake.texts.items in

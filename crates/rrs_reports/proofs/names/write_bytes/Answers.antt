@@ -1,4 +1,4 @@
--- Each turn writes the next byte as it is shown, and what is left is shown behind it.
+-- Each turn writes the next byte as it is shown, and what is left is shown after it.
 use Rattle.std.proofs.Common.{◌≡◌, ◌<◌, ◌+◌, ◌++◌, length, get_or, drop, sym, ap, ◌∙◌, append_assoc, rules, arith}
 use Rattle.std.proofs.Output.{has_written_append}
 use Rattle.std.proofs.lemmas.List.{at_drop_more}

@@ -1,4 +1,4 @@
--- Each turn writes the next character as it is shown, and what is left is shown behind it.
+-- Each turn writes the next character as it is shown, and what is left is shown after it.
 use Rattle.std.proofs.Common.{◌≡◌, ℕ, List, ◌++◌, IsUtf8, encode_utf8, sym, ap, ◌∙◌, append_assoc, append-nil, rules}
 use Rattle.std.proofs.Output.{has_written_append, has_written_of_eq}
 use Rattle.std.proofs.lemmas.Str.{IsUtf8-past_char, chars_past_char, chars-nil}

@@ -2,7 +2,7 @@ use Rattle.std.proofs.Common.{refl}
 use Rattle.rrs_asm.proofs.Made.{on-ok, Grows-laid}
 use Rattle.rrs_asm.proofs.sections.Section.put.Goals as goal
 
--- the statement stands behind the others
+-- the statement stands after the others
 pub returns : goal.returns
 returns g c =
     on-ok c.place.result c.place.ensures.placed (λ adds. λ name named.
