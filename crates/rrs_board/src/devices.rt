@@ -6,6 +6,7 @@ ghost use Rattle.rrs_board.specs.Registers.{register, with_register, start_of, w
 ghost use Rattle.rrs_board.specs.Effects.{reset_devices};
 
 use crate::uart::Uart;
+use rrs_machine::csrs::{high_half, low_half, of_halves};
 use rrs_memory::{MemAccessSize, Memory};
 
 /// An access to a register of a device.
@@ -66,27 +67,6 @@ fn with_part(word: u32, place: u32, size: MemAccessSize, value: u32) -> u32
     let mask = mask_of(size);
     let shift = 8 * place;
     (word & !(mask << shift)) | ((value & mask) << shift)
-}
-
-/// The high half of a counter.
-fn high_half(counter: u64) -> u32
-    ensures { result ≡ counter / 2 ^ 32 }
-{
-    (counter / 0x1_0000_0000) as u32
-}
-
-/// The low half of a counter.
-fn low_half(counter: u64) -> u32
-    ensures { result ≡ counter % 2 ^ 32 }
-{
-    (counter % 0x1_0000_0000) as u32
-}
-
-/// A counter of two halves.
-fn of_halves(high: u32, low: u32) -> u64
-    ensures { result ≡ high * 2 ^ 32 + low }
-{
-    u64::from(high) * 0x1_0000_0000 + u64::from(low)
 }
 
 /// The address of the word that an address is in.

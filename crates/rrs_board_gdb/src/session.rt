@@ -19,8 +19,8 @@ use hex::FromHexError;
 use rrs_board::{Asking, Board};
 use rrs_gdb::{
     BAD_ADDRESS, Breaks, INVALID, Link, LinkError, NO_MEMORY, Next, Received, address_and_length,
-    behind, cut, cut_or_all, number_of, place_and_bytes, push_done, push_hex, push_part,
-    push_registers, push_text, register_and_value,
+    behind, cut, cut_or_all, number_of, place_and_bytes, push_bytes, push_done, push_hex,
+    push_part, push_registers, push_text, register_and_value,
 };
 use std::alloc::{AllocError, Global};
 use std::io::{Read, Write};
@@ -137,16 +137,6 @@ fn set(board: &mut Board, reply: &mut Vec<u8>, text: &[u8]) -> Result<(), AllocE
 {
     let is_changed = change(board, text);
     push_done(reply, is_changed, INVALID)
-}
-
-/// Appends bytes as digits.
-fn push_bytes(reply: &mut Vec<u8>, bytes: &[u8]) -> Result<(), AllocError>
-    ensures { OnOk result (reply.new.items ≡ reply.old.items ++ text_of bytes.now) }
-{
-    for byte in bytes {
-        push_hex(reply, *byte)?;
-    }
-    Ok(())
 }
 
 /// Shows so many bytes of RAM from an address on.

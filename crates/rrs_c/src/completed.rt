@@ -4,7 +4,7 @@ ghost use Rattle.std.specs.Prelude.{◌≡◌, ◌<◌, ◌%◌, ◌^◌, ℕ, B
 ghost use Rattle.rrs_lib.specs.Bytes.{ByteMap, width};
 ghost use Rattle.rrs_lib.specs.Encodings.{HasRegisters};
 ghost use Rattle.rrs_lib.specs.Instructions.{fields_of};
-ghost use Rattle.rrs_lib.specs.Machine.{state_of, hart_of, reg};
+ghost use Rattle.rrs_lib.specs.Machine.{hart_of};
 ghost use Rattle.rrs_lib.specs.Steps.{next_word, LastIsRegister};
 ghost use Rattle.rrs_lib.specs.Accesses.{Access, AccessesOf, size_of};
 ghost use Rattle.rrs_trace.specs.Outside.{WithEachMemory, Completes, AccessesAfterFetch, AnsweredBy};
@@ -18,7 +18,7 @@ use crate::hart::{RrsFault, RrsHart, last_of};
 use crate::{rrs_complete, rrs_request};
 use rrs_lib::MemAccessSize;
 use rrs_lib::instruction::{Instruction, decode};
-use rrs_trace::{MemoryAccess, Retired};
+use rrs_trace::{MemoryAccess, Retired, register_value};
 
 /// A bit for each byte of an access, and these bytes of a value.
 #[inline]
@@ -138,20 +138,6 @@ fn number_written(last: Option<usize>) -> usize
     }
 }
 
-/// The value of a register.
-#[inline]
-fn value_of(registers: &[u32; 32], register: usize) -> u32
-    requires { register < 32 }
-    ensures { (pc : ℕ) (last : Option ℕ) (bytes : ByteMap) (writable : ℕ → Bool) → result
-        ≡ reg (state_of (hart_of registers.now pc last) bytes writable) register }
-{
-    if register == 0 {
-        0
-    } else {
-        registers[register]
-    }
-}
-
 /// Executes the instruction `word` with what was answered to its access, and tells what the step
 /// retired.
 ///
@@ -177,8 +163,8 @@ pub(crate) fn complete_retired(
     let asked = rrs_request(hart, word);
     let pc_rdata = hart.pc;
     let (insn, (rs1_addr, rs2_addr)) = fetched(pc_rdata, word);
-    let rs1_rdata = value_of(&hart.x, rs1_addr);
-    let rs2_rdata = value_of(&hart.x, rs2_addr);
+    let rs1_rdata = register_value(&hart.x, rs1_addr);
+    let rs2_rdata = register_value(&hart.x, rs2_addr);
     let fault = rrs_complete(hart, word, granted, value);
     let rd_addr = number_written(last_of(hart));
     let retired = Retired {
@@ -192,7 +178,7 @@ pub(crate) fn complete_retired(
         rs2_addr,
         rs2_rdata,
         rd_addr,
-        rd_wdata: value_of(&hart.x, rd_addr),
+        rd_wdata: register_value(&hart.x, rd_addr),
         mem: access_logged(&asked, given_by(granted, value)),
     };
     (fault, retired)

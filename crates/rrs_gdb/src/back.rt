@@ -5,7 +5,7 @@ ghost use Rattle.rrs_history.specs.Histories.{changes, past};
 ghost use Rattle.rrs_gdb.specs.Breaks.{GoesBack};
 
 use crate::breaks::{Breaks, Watch, watch_at};
-use crate::forward::is_stop;
+use rrs_fast::is_stop;
 use rrs_history::{History, step_back, step_recorded};
 use rrs_lib::Memory;
 use rrs_lib::instruction_executor::InstructionExecutor;

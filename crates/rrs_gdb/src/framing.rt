@@ -48,8 +48,12 @@ pub fn push_hex(text: &mut Vec<u8>, byte: u8) -> Result<(), AllocError>
     text.extend_from_slice(&[digit_of(byte / 16), digit_of(byte % 16)])
 }
 
-/// Appends bytes as digits.
-pub(crate) fn push_bytes(reply: &mut Vec<u8>, bytes: &[u8]) -> Result<(), AllocError>
+/// Appends bytes in hexadecimal, as packets have them: two digits for each.
+///
+/// # Errors
+///
+/// Out of memory. Some of the digits may be appended then.
+pub fn push_bytes(reply: &mut Vec<u8>, bytes: &[u8]) -> Result<(), AllocError>
     ensures { OnOk result (reply.new.items ≡ reply.old.items ++ text_of bytes.now) }
 {
     for byte in bytes {

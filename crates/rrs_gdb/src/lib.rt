@@ -29,7 +29,7 @@ pub use back::{BackEnd, go_back};
 pub use breaks::{Breaks, Watch, WatchKind};
 pub use contents::{read_memory, write_memory};
 pub use forward::{ForwardEnd, ForwardReason, go_forward};
-pub use framing::{PacketError, decode, encode, push_hex};
+pub use framing::{PacketError, decode, encode, push_bytes, push_hex};
 pub use link::{Link, LinkError, Received};
 pub use numbers::{address_and_length, behind, cut, cut_or_all, number_of, place_and_bytes};
 pub use queries::{BAD_ADDRESS, INVALID, NO_MEMORY, push_part};

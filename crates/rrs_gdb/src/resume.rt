@@ -8,11 +8,12 @@ ghost use Rattle.rrs_linux.specs.Recording.{Recording};
 ghost use Rattle.rrs_gdb.specs.Sessions.{CallMade, CallStops, CallTakenBack, GoesOn, OutputTaken, PassesBefore, PlacesKept, SessionGoesBack, StopsBefore, StopsBehind, around, asked_by, ends_at_call, is_call, signal_of, still, stop_of, stopped_at};
 
 use crate::back::{BackEnd, go_back};
-use crate::forward::{ForwardEnd, ForwardReason, go_forward, is_stop};
+use crate::forward::{ForwardEnd, ForwardReason, go_forward};
 use crate::framing::push_bytes;
 use crate::link::{Link, LinkError};
 use crate::runner::StopRunner;
 use crate::state::{CallMark, SessionState, Stop};
+use rrs_fast::is_stop;
 use rrs_history::step_served;
 use rrs_lib::Memory;
 use rrs_lib::instruction_executor::{InstructionException, InstructionExecutor};

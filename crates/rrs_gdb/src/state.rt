@@ -10,9 +10,9 @@ ghost use Rattle.rrs_gdb.specs.Shown.{named_text, stop_text};
 ghost use Rattle.rrs_gdb.specs.Sessions.{BreaksKept, IsCaught, IsError, PlacesKept, around, asked_by, forgotten, has_ended};
 
 use crate::breaks::{Breaks, Watch};
-use crate::forward::is_stop;
 use crate::framing::push_hex;
 use circular_buffer::HeapCircularBuffer;
+use rrs_fast::is_stop;
 use rrs_history::History;
 use std::alloc::{AllocError, Global};
 

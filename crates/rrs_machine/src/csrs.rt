@@ -54,22 +54,22 @@ pub struct Inputs {
     pub time: u64,
 }
 
-/// The low half of a counter.
-fn low_half(counter: u64) -> u32
+/// The low half of a counter of 64 bits.
+pub fn low_half(counter: u64) -> u32
     ensures { result ≡ counter % 2 ^ 32 }
 {
     (counter % 0x1_0000_0000) as u32
 }
 
-/// The high half of a counter.
-fn high_half(counter: u64) -> u32
+/// The high half of a counter of 64 bits.
+pub fn high_half(counter: u64) -> u32
     ensures { result ≡ counter / 2 ^ 32 }
 {
     (counter / 0x1_0000_0000) as u32
 }
 
-/// A counter of two halves.
-fn of_halves(high: u32, low: u32) -> u64
+/// The counter of 64 bits that two halves are.
+pub fn of_halves(high: u32, low: u32) -> u64
     ensures { result ≡ high * 2 ^ 32 + low }
 {
     u64::from(high) * 0x1_0000_0000 + u64::from(low)

@@ -6,12 +6,10 @@ ghost use Rattle.rrs_instruction.specs.Table.{Row, Decodes, IsIllegal};
 ghost use Rattle.rrs_words.specs.declared.csrs.Csr.{Csr as TheCsr};
 ghost use Rattle.rrs_words.specs.declared.instructions.SystemRow.{SystemRow as TheRow};
 ghost use Rattle.rrs_instruction.specs.Encodings.{HasRegisters, I, Fields};
-ghost use Rattle.rrs_lib.specs.Instructions.{fields_of};
-ghost use Rattle.rrs_lib.specs.Machine.{State, reg};
+ghost use Rattle.rrs_lib.specs.Machine.{State};
 ghost use Rattle.rrs_lib.specs.Executor.{KeepsTheRest};
 ghost use Rattle.rrs_lib.specs.Accesses.{Access, MakesExactly};
-ghost use Rattle.rrs_lib.specs.Steps.{LastIsRegister};
-ghost use Rattle.rrs_trace.specs.Retired.{no_access, after_fetch, first_source, second_source, last_of, HasRegisterNumbers};
+ghost use Rattle.rrs_trace.specs.Retired.{no_access, after_fetch, first_source, second_source, HasRegisterNumbers};
 ghost use Rattle.rrs_trace.specs.Traced.{traced_state};
 ghost use Rattle.rrs_words.specs.CsrNumbers.{csr_at};
 ghost use Rattle.rrs_machine.specs.Csrs.{csr_value};
@@ -22,10 +20,12 @@ ghost use Rattle.rrs_machine.specs.MachineRecords.{word_of_step, system_source, 
 use crate::csrs::{CsrFile, Inputs};
 use crate::machine::{MachineAnswer, step_machine};
 use rrs_instruction::arithmetic;
-use rrs_lib::instruction::{Instruction, InstructionFields, decode};
+use rrs_lib::instruction::decode;
 use rrs_lib::instruction_executor::InstructionExecutor;
 use rrs_lib::{HartState, Memory};
-use rrs_trace::{MemoryAccess, Retired, TracedMemory};
+use rrs_trace::{
+    MemoryAccess, Retired, TracedMemory, last_register, register_value, source_registers,
+};
 use rrs_words::{Csr, SystemInstruction, SystemRow, decode_system};
 
 /// What was read and written of a CSR, under the names of RVFI (`rvfi_csr_*`), or none: then all
@@ -75,23 +75,6 @@ fn no_csr() -> CsrAccess
     }
 }
 
-/// The source registers of an instruction, 0 where its format has none.
-fn numbers_of(instruction: &Instruction) -> (usize, usize)
-    requires { HasRegisters (fields_of instruction.now) }
-    ensures first { result.0 ≡ first_source (fields_of instruction.now) }
-    ensures second { result.1 ≡ second_source (fields_of instruction.now) }
-    ensures low { (result.0 < 32) × (result.1 < 32) }
-{
-    match instruction.fields() {
-        InstructionFields::R(fields) => (fields.rs1, fields.rs2),
-        InstructionFields::I(fields) => (fields.rs1, 0),
-        InstructionFields::IShamt(fields) => (fields.rs1, 0),
-        InstructionFields::S(fields) => (fields.rs1, fields.rs2),
-        InstructionFields::B(fields) => (fields.rs1, fields.rs2),
-        InstructionFields::U(_) | InstructionFields::J(_) => (0, 0),
-    }
-}
-
 /// The source register of an instruction that the 48 rows leave out, or 0.
 fn system_source(instruction: &SystemInstruction) -> usize
     requires { HasRegisters (I instruction.now.fields) }
@@ -133,32 +116,8 @@ fn sources_of(word: Option<u32>) -> (usize, usize)
         return (0, 0);
     };
     match decode(word) {
-        Some(instruction) => numbers_of(&instruction),
+        Some(instruction) => source_registers(&instruction),
         None => (source_outside(word), 0),
-    }
-}
-
-/// The value of a register.
-fn value_of(registers: &[u32; 32], register: usize) -> u32
-    requires { register < 32 }
-    ensures { (s : State) → s.registers ≡ drop 1 registers.now → result ≡ reg s register }
-{
-    if register == 0 {
-        0
-    } else {
-        registers[register]
-    }
-}
-
-/// The number of the register that was written last, or 0.
-fn number_of(last: Option<usize>) -> usize
-    requires { LastIsRegister last }
-    ensures number { last ≡ last_of result }
-    ensures low { result < 32 }
-{
-    match last {
-        Some(register) => register,
-        None => 0,
     }
 }
 
@@ -171,7 +130,7 @@ fn operand_of(instruction: &SystemInstruction, registers: &[u32; 32]) -> u32
     if instruction.row.has_immediate() {
         instruction.fields.rs1 as u32
     } else {
-        value_of(registers, instruction.fields.rs1)
+        register_value(registers, instruction.fields.rs1)
     }
 }
 
@@ -414,7 +373,7 @@ pub fn step_machine_retired<M: Memory>(
     let before = *csrs;
     let seen = see_step(executor.mem, executor.hart_state, csrs, inputs);
     let (rs1_addr, rs2_addr) = sources_of(seen.insn);
-    let rd_addr = number_of(executor.hart_state.last_register_write);
+    let rd_addr = last_register(executor.hart_state.last_register_write);
     let retired = Retired {
         order,
         insn: seen.insn,
@@ -422,11 +381,11 @@ pub fn step_machine_retired<M: Memory>(
         pc_rdata: pc,
         pc_wdata: executor.hart_state.pc,
         rs1_addr,
-        rs1_rdata: value_of(&registers, rs1_addr),
+        rs1_rdata: register_value(&registers, rs1_addr),
         rs2_addr,
-        rs2_rdata: value_of(&registers, rs2_addr),
+        rs2_rdata: register_value(&registers, rs2_addr),
         rd_addr,
-        rd_wdata: value_of(&executor.hart_state.registers, rd_addr),
+        rd_wdata: register_value(&executor.hart_state.registers, rd_addr),
         mem: seen.access,
     };
     let csr = csr_of_step(seen.insn, seen.answer, &before, inputs, &registers);

@@ -16,6 +16,7 @@
 #![tactic(auto)]
 
 mod outside;
+mod registers;
 mod retired;
 mod snapshot;
 mod stops;
@@ -24,6 +25,7 @@ mod traced;
 pub use outside::{
     DataRequest, complete, complete_load, complete_parts, complete_store, request, request_parts,
 };
+pub use registers::{last_register, register_value, source_registers};
 pub use retired::{Retired, step_retired, step_retired_parts};
 pub use snapshot::Snapshot;
 pub use stops::{StopEnd, StopReason, run_until, run_until_cached, run_until_with};

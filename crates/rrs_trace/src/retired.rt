@@ -3,16 +3,17 @@
 ghost use Rattle.std.specs.Prelude.{slice_index, drop, ◌≡◌, ◌<◌, ℕ, List, true, None, Option, Err};
 ghost use Rattle.rrs_lib.specs.Encodings.{HasRegisters};
 ghost use Rattle.rrs_lib.specs.Instructions.{fields_of};
-ghost use Rattle.rrs_lib.specs.Machine.{State, reg, state_of, hart_of};
+ghost use Rattle.rrs_lib.specs.Machine.{State, state_of, hart_of};
 ghost use Rattle.rrs_lib.specs.Executor.{state_in, KeepsTheRest};
 ghost use Rattle.rrs_lib.specs.Accesses.{Access, AccessesOf, MakesExactly};
 ghost use Rattle.rrs_lib.specs.Steps.{Step, IsOnlyStep, next_word, LastIsRegister};
 ghost use Rattle.rrs_trace.specs.Traced.{traced_state, traced_reads, traced_writes};
-ghost use Rattle.rrs_trace.specs.Retired.{no_access, after_fetch, first_source, second_source, HasSources, HasValues, last_of, HasRegisterNumbers, Retires};
+ghost use Rattle.rrs_trace.specs.Retired.{no_access, after_fetch, first_source, second_source, HasSources, HasValues, HasRegisterNumbers, Retires};
 
+use crate::registers::{last_register, register_value, source_registers};
 use crate::traced::{MemoryAccess, TracedMemory};
 use rrs_lib::Memory;
-use rrs_lib::instruction::{Instruction, InstructionFields, decode};
+use rrs_lib::instruction::{Instruction, decode};
 use rrs_lib::instruction_executor::{
     InstructionException, InstructionExecutor, StepEnd, execute_parts, fetch_word,
 };
@@ -61,38 +62,6 @@ struct Sources {
     rs2_rdata: u32,
 }
 
-/// The source registers of an instruction, 0 where its format has none.
-#[inline(always)]
-fn numbers_of(instruction: &Instruction) -> (usize, usize)
-    requires { HasRegisters (fields_of instruction.now) }
-    ensures first { result.0 ≡ first_source (fields_of instruction.now) }
-    ensures second { result.1 ≡ second_source (fields_of instruction.now) }
-    ensures first_low { result.0 < 32 }
-    ensures second_low { result.1 < 32 }
-{
-    match instruction.fields() {
-        InstructionFields::R(fields) => (fields.rs1, fields.rs2),
-        InstructionFields::I(fields) => (fields.rs1, 0),
-        InstructionFields::IShamt(fields) => (fields.rs1, 0),
-        InstructionFields::S(fields) => (fields.rs1, fields.rs2),
-        InstructionFields::B(fields) => (fields.rs1, fields.rs2),
-        InstructionFields::U(_) | InstructionFields::J(_) => (0, 0),
-    }
-}
-
-/// The value of a register.
-#[inline]
-fn value_of(registers: &[u32; 32], register: usize) -> u32
-    requires { register < 32 }
-    ensures { (s : State) → s.registers ≡ drop 1 registers.now → result ≡ reg s register }
-{
-    if register == 0 {
-        0
-    } else {
-        registers[register]
-    }
-}
-
 /// The source registers of an instruction, with their values.
 #[inline(always)]
 fn sources_of(instruction: &Instruction, registers: &[u32; 32]) -> Sources
@@ -101,12 +70,12 @@ fn sources_of(instruction: &Instruction, registers: &[u32; 32]) -> Sources
     ensures second { result.rs2_addr ≡ second_source (fields_of instruction.now) }
     ensures values { (s : State) → s.registers ≡ drop 1 registers.now → HasValues s result }
 {
-    let (rs1_addr, rs2_addr) = numbers_of(instruction);
+    let (rs1_addr, rs2_addr) = source_registers(instruction);
     Sources {
         rs1_addr,
-        rs1_rdata: value_of(registers, rs1_addr),
+        rs1_rdata: register_value(registers, rs1_addr),
         rs2_addr,
-        rs2_rdata: value_of(registers, rs2_addr),
+        rs2_rdata: register_value(registers, rs2_addr),
     }
 }
 
@@ -259,19 +228,6 @@ fn see_step<M: Memory>(mem: &mut M, registers: &mut [u32; 32], pc: u32) -> SeenS
     }
 }
 
-/// The number of the register that was written last, or 0.
-#[inline]
-fn number_of(last: Option<usize>) -> usize
-    requires { LastIsRegister last }
-    ensures number { last ≡ last_of result }
-    ensures low { result < 32 }
-{
-    match last {
-        Some(register) => register,
-        None => 0,
-    }
-}
-
 /// Makes a step of a hart whose registers and pc are handed in apart, as `step_parts`, and tells
 /// what it retired, with this number: [step_retired] for a hart that is kept in another layout.
 ///
@@ -305,7 +261,7 @@ pub fn step_retired_parts<M: Memory>(
         mem.old mem.new }
 {
     let seen = see_step(mem, registers, pc);
-    let rd_addr = number_of(seen.end.last_register_write);
+    let rd_addr = last_register(seen.end.last_register_write);
     let retired = Retired {
         order,
         insn: seen.insn,
@@ -317,7 +273,7 @@ pub fn step_retired_parts<M: Memory>(
         rs2_addr: seen.sources.rs2_addr,
         rs2_rdata: seen.sources.rs2_rdata,
         rd_addr,
-        rd_wdata: value_of(registers, rd_addr),
+        rd_wdata: register_value(registers, rd_addr),
         mem: seen.access,
     };
     (seen.end, retired)

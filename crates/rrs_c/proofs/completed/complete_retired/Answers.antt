@@ -1,5 +1,6 @@
 -- Each field is what was read of the hart before or after the step, and the access is what was given.
 use Rattle.std.proofs.Common.{rules, refl, ap, ◌∙◌}
+use Rattle.rrs_lib.specs.Machine.{state_of, hart_of}
 use Rattle.rrs_trace.specs.Outside.{bytes_after}
 use Rattle.rrs_c.specs.Harts.{register_in}
 use Rattle.rrs_c.specs.Asking.{request_answer, given}
@@ -19,10 +20,10 @@ returns-clause-retires c = λ bytes writable has accesses made answers.
       pc_before = refl;
       pc_after = refl;
       sources = c.fetched-insn.ensures.sources hart.x last bytes writable has;
-      first_value = c.value_of-rs1_rdata.ensures hart.pc last bytes writable;
-      second_value = c.value_of-rs2_rdata.ensures hart.pc last bytes writable;
+      first_value = c.register_value-rs1_rdata.ensures (state_of (hart_of hart.x hart.pc last) bytes writable) refl;
+      second_value = c.register_value-rs2_rdata.ensures (state_of (hart_of hart.x hart.pc last) bytes writable) refl;
       written = search rules;
-      written_value = c.value_of.ensures after.pc (register_in after.last) (bytes_after accesses bytes) writable;
+      written_value = c.register_value.ensures (state_of (hart_of after.x after.pc (register_in after.last)) (bytes_after accesses bytes) writable) refl;
       access = λ all are. c.access_logged.ensures
           ∙ ap (λ g. logged (request_answer c.rrs_request-asked.result) g) c.given_by.ensures
           ∙ logged_access _ _ (given c.args.granted c.args.value) accesses all

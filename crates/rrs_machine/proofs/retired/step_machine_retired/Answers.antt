@@ -7,8 +7,8 @@ use Rattle.rrs_machine.proofs.MachineStepping.{MachineStep-unique}
 use Rattle.rrs_machine.proofs.TracedSteps.{machine_last}
 use Rattle.rrs_machine.proofs.retired.step_machine_retired.Goals as goal
 
-pub number_of-rd_addr-requires : goal.number_of-rd_addr-requires
-number_of-rd_addr-requires g c = machine_last _ _ _ _ c.see_step-seen.ensures.step
+pub last_register-rd_addr-requires : goal.last_register-rd_addr-requires
+last_register-rd_addr-requires g c = machine_last _ _ _ _ c.see_step-seen.ensures.step
 
 pub returns-clause-only : goal.returns-clause-only
 returns-clause-only g c = λ t answer other. MachineStep-unique _ _ t _ answer _ other c.see_step-seen.ensures.step
@@ -42,10 +42,10 @@ returns-clause-retires g c =
       pc_before = refl;
       pc_after = refl;
       sources = subst (λ x. HasSourcesOf x c.sources_of-rs1_addr.result.0 c.sources_of-rs1_addr.result.1) seen.insn sources;
-      first_value = c.value_of.ensures s refl;
-      second_value = c.value_of-2.ensures s refl;
-      written = c.number_of-rd_addr.ensures.number;
-      written_value = c.value_of-3.ensures t refl;
+      first_value = c.register_value.ensures s refl;
+      second_value = c.register_value-2.ensures s refl;
+      written = c.last_register-rd_addr.ensures.number;
+      written_value = c.register_value-3.ensures t refl;
       access = seen.access;
       csr = subst (λ x. HasCsrAccess x answer i (machine s file) c.csr_of_step-csr.result) seen.insn
           (c.csr_of_step-csr.ensures s refl);

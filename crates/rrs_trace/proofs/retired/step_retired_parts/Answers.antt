@@ -3,8 +3,8 @@ use Rattle.std.proofs.Common.{rules, refl, None}
 use Rattle.rrs_lib.proofs.Keeping.{Step-last}
 use Rattle.rrs_trace.proofs.retired.step_retired_parts.Goals as goal
 
-pub number_of-rd_addr-requires : goal.number_of-rd_addr-requires
-number_of-rd_addr-requires g c = Step-last _ _ _ (c.see_step-seen.ensures.step None)
+pub last_register-rd_addr-requires : goal.last_register-rd_addr-requires
+last_register-rd_addr-requires g c = Step-last _ _ _ (c.see_step-seen.ensures.step None)
 
 pub returns-clause-retires : goal.returns-clause-retires
 returns-clause-retires g c = λ last.
@@ -18,7 +18,7 @@ returns-clause-retires g c = λ last.
       sources = seen.sources last;
       first_value = (seen.values last).first;
       second_value = (seen.values last).second;
-      written = c.number_of-rd_addr.ensures.number;
+      written = c.last_register-rd_addr.ensures.number;
       written_value = search rules;
       access = seen.access last;
     }
@@ -26,4 +26,4 @@ returns-clause-retires g c = λ last.
 pub returns-clause-numbers : goal.returns-clause-numbers
 returns-clause-numbers g c =
     let values = c.see_step-seen.ensures.values None in
-    (values.first_low, values.second_low, c.number_of-rd_addr.ensures.low)
+    (values.first_low, values.second_low, c.last_register-rd_addr.ensures.low)

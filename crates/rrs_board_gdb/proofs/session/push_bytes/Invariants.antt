@@ -1,6 +1,0 @@
-use Rattle.std.proofs.Common.{◌≡◌, ◌++◌, take}
-use Rattle.rrs_gdb.specs.Shown.{text_of}
-use Rattle.rrs_board_gdb.proofs.session.push_bytes.Given as goal
-
-abbrev pub invariant-loop-byte : goal.invariant-loop-byte
-invariant-loop-byte l = l.reply.items ≡ l.initial.reply.items ++ text_of (take l.byte-index l.bytes)
