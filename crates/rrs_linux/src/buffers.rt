@@ -9,9 +9,6 @@ ghost use Rattle.rrs_linux.specs.Transfers.{Stands, byte_reads, counted, most_by
 
 use rrs_lib::{MemAccessSize, Memory};
 
-/// The most bytes that are read of the memory before they are written to a stream.
-pub const CHUNK: usize = 256;
-
 /// The most bytes that one call reads or writes, as on Linux.
 pub const MOST_BYTES: u32 = 0x7fff_f000;
 

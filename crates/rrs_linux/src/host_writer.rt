@@ -53,7 +53,7 @@ impl<W: Write> HostWriter<W> {
     /// Offers bytes to the writer in one write, and gives how many it took: none where the write
     /// failed. A write that is short is counted.
     pub(crate) fn offer(&mut self, bytes: &[u8]) -> u32
-        requires { length bytes.now ≤ 256 }
+        requires { length bytes.now ≤ 65536 }
         ensures within { result ≤ length bytes.now }
         ensures appended { Appends (W.contents self.old.stream) (W.contents self.new.stream)
             (take result bytes.now) }

@@ -13,6 +13,8 @@ use rrs_lib::Memory;
 
 /// The most pieces that one call takes, `IOV_MAX`.
 const MOST_PIECES: u32 = 1024;
+/// The pieces for which a call has room where there are few.
+const FEW_PIECES: u32 = 16;
 
 /// Writes the pieces of a vector in memory, and gives the answer of the call.
 pub fn write_pieces<W: Output, M: Memory>(
@@ -31,11 +33,34 @@ pub fn write_pieces<W: Output, M: Memory>(
     if count > MOST_PIECES {
         return BAD_ARGUMENT;
     }
+    if count <= FEW_PIECES {
+        write_of::<W, M, 128>(out, memory, address, count)
+    } else {
+        write_of::<W, M, 8192>(out, memory, address, count)
+    }
+}
+
+/// Writes the pieces of a vector of at most `N` bytes, and gives the answer of the call.
+#[inline(never)]
+fn write_of<W: Output, M: Memory, const N: usize>(
+    out: &mut W,
+    memory: &mut M,
+    address: u32,
+    count: u32,
+) -> u32
+    requires { (8 * count ≤ N) × (N ≤ 8192) }
+    ensures taken { MakesSome M.reads M.writes
+        (WritesVector W.takes (M.bytes memory.old) address count out.old out.new result)
+        memory.old memory.new }
+    ensures bytes_kept { M.bytes memory.new ≡ M.bytes memory.old }
+    ensures writable_kept { M.writable memory.new ≡ M.writable memory.old }
+    ensures layout_kept { M.layout memory.new ≡ M.layout memory.old }
+{
     let size = 8 * count;
     if u64::from(address) + u64::from(size) > 1 << 32 {
         return BAD_ADDRESS;
     }
-    let mut vector = [0; 8 * MOST_PIECES as usize];
+    let mut vector = [0; N];
     if copy_chunk(memory, address, size, &mut vector) < size {
         return BAD_ADDRESS;
     }

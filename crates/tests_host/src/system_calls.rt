@@ -380,8 +380,8 @@ const WAITS: Turn = Turn::Fails(ErrorKind::Interrupted);
 const BREAKS: Turn = Turn::Fails(ErrorKind::BrokenPipe);
 
 /// The scenes. Where a write is short or fails, the program writes the bytes at 0 to 299, and then
-/// each time those that are not written yet: the stream is handed 256 of them at first, and then
-/// the others. Each vector is written in order: each piece begins where the one before ended.
+/// each time those that are not written yet: the stream is handed all of them at once. Each vector
+/// is written in order: each piece begins where the one before ended.
 static SCENES: [Scene; 13] = [
     Scene {
         name: "calls",
@@ -457,7 +457,7 @@ static SCENES: [Scene; 13] = [
         unserved: &[],
     },
     Scene {
-        name: "a write that fails",
+        name: "a short write, and one that fails",
         reads: &[],
         writes: &[Turn::Takes(256), FAILS],
         errors: [(0, 0), (0, 0)],
@@ -465,7 +465,7 @@ static SCENES: [Scene; 13] = [
         unserved: &[],
     },
     Scene {
-        name: "a short write",
+        name: "two short writes",
         reads: &[],
         writes: &[Turn::Takes(256), Turn::Takes(1)],
         errors: [(0, 0), (0, 0)],
@@ -483,7 +483,7 @@ static SCENES: [Scene; 13] = [
     Scene {
         name: "writes that nobody reads",
         reads: &[],
-        writes: &[Turn::Takes(256), BREAKS, BREAKS],
+        writes: &[Turn::Takes(256), BREAKS],
         errors: [(0, 0), (0, 0)],
         is_broken: true,
         unserved: &[],
@@ -750,14 +750,14 @@ static CALLS: [Call; 118] = [
     (6, [WRITE, 1, 0, 300], None, None, 7, (7, 0, 2)),
     (6, [WRITE, 1, 7, 293], None, None, EIO, (7, 0, 3)),
     (7, [WRITE, 1, 0, 300], None, None, 256, (256, 0, 1)),
-    (7, [WRITE, 1, 256, 44], None, None, 44, (300, 0, 1)),
-    (7, [WRITE, 1, 300, 0], None, None, 0, (300, 0, 1)),
-    (8, [WRITE, 1, 0, 300], None, None, 257, (257, 0, 1)),
-    (8, [WRITE, 1, 257, 43], None, None, 43, (300, 0, 1)),
-    (8, [WRITE, 1, 300, 0], None, None, 0, (300, 0, 1)),
-    (9, [WRITE, 1, 0, 300], None, None, 300, (300, 0, 0)),
-    (9, [WRITE, 1, 300, 0], None, None, 0, (300, 0, 0)),
-    (9, [WRITE, 1, 300, 0], None, None, 0, (300, 0, 0)),
+    (7, [WRITE, 1, 256, 44], None, None, EIO, (256, 0, 2)),
+    (7, [WRITE, 1, 256, 44], None, None, 44, (300, 0, 2)),
+    (8, [WRITE, 1, 0, 300], None, None, 256, (256, 0, 1)),
+    (8, [WRITE, 1, 256, 44], None, None, 1, (257, 0, 2)),
+    (8, [WRITE, 1, 257, 43], None, None, 43, (300, 0, 2)),
+    (9, [WRITE, 1, 0, 300], None, None, 256, (256, 0, 1)),
+    (9, [WRITE, 1, 256, 44], None, None, 44, (300, 0, 1)),
+    (9, [WRITE, 1, 300, 0], None, None, 0, (300, 0, 1)),
     (10, [WRITE, 1, 0, 300], None, None, 256, (256, 0, 1)),
     (10, [WRITE, 1, 0, 4], None, Some(141), EPIPE, (256, 0, 2)),
     (10, [WRITE, 1, 0, 4], None, None, 4, (260, 0, 2)),

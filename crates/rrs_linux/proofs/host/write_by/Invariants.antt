@@ -1,6 +1,6 @@
 use Rattle.std.proofs.Common.{◌≡◌, ℕ, ◌-◌, ◌≤◌, List, length}
 use Rattle.rrs_linux.proofs.Written.{Written}
-use Rattle.rrs_linux.proofs.host.HostWriterOutput.write_from.Given as goal
+use Rattle.rrs_linux.proofs.host.write_by.Given as goal
 
 -- what was read so far is written
 abbrev pub invariant-chunks : goal.invariant-chunks
@@ -11,9 +11,9 @@ invariant-chunks g l =
       text : List ℕ;
       so_far : length text ≡ l.done;
       within : l.done ≤ l.count;
-      written : Written memory.reads memory.writes (memory.bytes l.fn.memory) l.address (contents l.fn.self.stream)
-          (contents l.self.stream) text l.done l.fn.memory l.memory;
-      none_short : l.self.short_writes ≡ l.fn.self.short_writes;
+      written : Written memory.reads memory.writes (memory.bytes l.fn.memory) l.address (contents l.fn.out.stream)
+          (contents l.out.stream) text l.done l.fn.memory l.memory;
+      none_short : l.out.short_writes ≡ l.fn.out.short_writes;
       bytes_kept : memory.bytes l.memory ≡ memory.bytes l.fn.memory;
       writable_kept : memory.writable l.memory ≡ memory.writable l.fn.memory;
       layout_kept : memory.layout l.memory ≡ memory.layout l.fn.memory;

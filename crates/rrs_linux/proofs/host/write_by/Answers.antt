@@ -3,7 +3,7 @@ use Rattle.std.proofs.lemmas.List.{length-take}
 use Rattle.rrs_linux.specs.Requests.{error}
 use Rattle.rrs_linux.specs.Transfers.{counted, failure, Whole, IsUnmapped, IsShort, PassesEnd}
 use Rattle.rrs_linux.proofs.Written.{none_written, chunk_written, writes_text}
-use Rattle.rrs_linux.proofs.host.HostWriterOutput.write_from.Goals as goal
+use Rattle.rrs_linux.proofs.host.write_by.Goals as goal
 
 pub returns-in_default-clause-taken : goal.returns-in_default-clause-taken
 returns-in_default-clause-taken g c =
