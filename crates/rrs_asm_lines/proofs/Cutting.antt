@@ -1,7 +1,8 @@
 -- A source and a line, cut at a byte.
-use Rattle.std.proofs.Common.{◌≡◌, ◌≢◌, ℕ, ◌+◌, ◌<◌, ◌==◌, zero, suc, Bool, ◌&&◌, if◌then◌else◌, Option, Some, IfSome, true, false, List, [], ◌∷◌, ◌++◌, length, take, drop, get_or, add-one, refl, sym, subst, None, arith}
-use Rattle.std.proofs.lemmas.Bool.Decides.{nat_tests}
-use Rattle.std.proofs.lemmas.List.{append_assoc, append-nil, take_more}
+use Rattle.std.proofs.Common.{◌≡◌, ℕ, ◌+◌, ◌<◌, ◌==◌, Bool, ◌&&◌, if◌then◌else◌, Option, Some, IfSome, true, false, List, [], ◌∷◌, ◌++◌, length, take, drop, get_or, add-one, refl, sym, subst, None, arith, count_by, All}
+use Rattle.std.proofs.lemmas.List.{append_assoc, take_more, take-append-drop}
+use Rattle.std.proofs.lemmas.List.Splits.{slice_split_at, slice_split_none}
+use Rattle.std.proofs.lemmas.Grind.{common_steps}
 use Rattle.std.proofs.Math.Seq.{drop-cons}
 use Rattle.rrs_asm_lines.specs.declared.lexing.Place.{Place}
 use Rattle.rrs_asm_lines.specs.declared.lexing.Mark.{Mark}
@@ -9,26 +10,30 @@ use Rattle.std.specs.List.{list_all}
 use Rattle.std.specs.Str.{bytes_eq}
 use Rattle.std.specs.Option.{is_some}
 use Rattle.std.proofs.lemmas.Slice.Eq.{bytes_eq-Decides}
-use Rattle.rrs_asm_lines.specs.Lines.{word, behind_word, with_word, words_from, place_from, lines, Part, onto, parts_from, mark_of, next}
+use Rattle.rrs_asm_lines.specs.Lines.{word, behind_word, with_word, words_from, place_from, is_line_feed, lines, Part, onto, parts_from, mark_of, next}
 
 -- ---- lines
 
-pub lines-at : (text : List ℕ) (end : ℕ) → end < length text → get_or text end 0 ≡ 10 → ((k : ℕ) → k < end → get_or text k 0 ≢ 10) → lines text ≡ take end text ∷ lines (drop (suc end) text)
-lines-at [] end lt is none = absurd (omega arith)
-lines-at (b ∷ bs) zero lt is none = let e : (b == 10) ≡ true = grind (arith, nat_tests) in rw e
-lines-at (b ∷ bs) (suc end) lt is none =
-    let ne : b ≢ 10 = none zero (omega arith) in
-    let e : (b == 10) ≡ false = grind (arith, nat_tests) in
-    let rest : lines bs ≡ take end bs ∷ lines (drop (suc end) bs) = lines-at bs end (omega arith) is (λ k below. none (suc k) (omega arith)) in
-    rw (e, rest)
+-- a text around one of its bytes
+pub around : (text : List ℕ) (end : ℕ) → end < length text → take end text ++ (get_or text end 0 ∷ drop (end + 1) text) ≡ text
+around text end lt =
+    let cut : drop end text ≡ get_or text end 0 ∷ drop (end + 1) text = rw add-one (drop-cons text end 0 lt) in
+    rw (← cut) (take-append-drop end text)
 
-pub lines-none : (text : List ℕ) → ((k : ℕ) → k < length text → get_or text k 0 ≢ 10) → lines text ≡ text ∷ []
-lines-none [] none = refl
-lines-none (b ∷ bs) none =
-    let ne : b ≢ 10 = none zero (omega arith) in
-    let e : (b == 10) ≡ false = grind (arith, nat_tests) in
-    let rest : lines bs ≡ bs ∷ [] = lines-none bs (λ k below. none (suc k) (omega arith)) in
-    rw (e, rest)
+-- where none is counted, none passes
+none-passes : (bs : List ℕ) → count_by is_line_feed bs ≡ 0 → All (λ b. is_line_feed b ≡ false) bs
+none-passes bs none = grind (arith, common_steps)
+
+-- the lines of a text with no line feed before one
+pub lines-at : (text : List ℕ) (end : ℕ) → end < length text → count_by is_line_feed (take end text) ≡ 0 → get_or text end 0 ≡ 10 → lines text ≡ take end text ∷ lines (drop (end + 1) text)
+lines-at text end lt none is =
+    let ends : is_line_feed (get_or text end 0) ≡ true = rw is in
+    let at : lines (take end text ++ (get_or text end 0 ∷ drop (end + 1) text)) ≡ take end text ∷ lines (drop (end + 1) text) = slice_split_at is_line_feed (take end text) (get_or text end 0) (drop (end + 1) text) (none-passes (take end text) none) ends in
+    let P : List ℕ → Type 0 = λ t. lines t ≡ take end text ∷ lines (drop (end + 1) text) in
+    subst P (around text end lt) at
+
+pub lines-none : (text : List ℕ) → count_by is_line_feed text ≡ 0 → lines text ≡ text ∷ []
+lines-none text none = slice_split_none is_line_feed text (none-passes text none)
 
 -- ---- parts
 

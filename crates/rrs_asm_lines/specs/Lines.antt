@@ -8,9 +8,12 @@ use Rattle.rrs_asm_lines.specs.declared.lexing.Place.{Place}
 use Rattle.rrs_asm_lines.specs.declared.lexing.Mark.{Mark}
 use Rattle.rrs_asm_lines.specs.declared.lexing.Part.{Part as Cut}
 
+abbrev pub is_line_feed : ℕ → Bool
+is_line_feed b = b == 10
+
 -- the lines, cut at each line feed
 abbrev pub lines : List ℕ → List (List ℕ)
-lines source = slice_split (λ b. b == 10) source
+lines source = slice_split is_line_feed source
 
 -- ---- the parts of a line
 

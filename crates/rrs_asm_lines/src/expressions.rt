@@ -12,28 +12,51 @@ pub const LOOSEST: u8 = 1;
 /// An operator, or an opening parenthesis.
 #[derive(Clone, Copy)]
 pub enum Operator {
+    /// `(`
     Open,
+    /// `-` before a value
     Negate,
+    /// `~`
     Complement,
+    /// `!` before a value
     IsZero,
+    /// `*`
     Multiply,
+    /// `/`, of signed numbers
     Divide,
+    /// `%`, of signed numbers
     Remainder,
+    /// `<<`
     ShiftLeft,
+    /// `>>`
     ShiftRight,
+    /// `|`
     Or,
+    /// `!` between two values
     OrNot,
+    /// `^` and `!!`
     Xor,
+    /// `&`
     And,
+    /// `+`
     Add,
+    /// `-` between two values
     Subtract,
+    /// `==`
     Equal,
+    /// `<>` and `!=`
     NotEqual,
+    /// `<`
     Less,
+    /// `<=`
     LessOrEqual,
+    /// `>`
     Greater,
+    /// `>=`
     GreaterOrEqual,
+    /// `&&`
     Both,
+    /// `||`
     Either,
 }
 
@@ -149,14 +172,14 @@ struct Entry {
     left: u64,
 }
 
-/// The operators that wait, the innermost last.
+/// The operators that wait, the innermost last. 64 can.
 #[derive(Clone, Copy)]
 pub struct Waiting {
     entries: [Entry; MOST_WAITING],
     count: usize,
     /// How many opening parentheses are among them.
     open: usize,
-    /// What went wrong, if something did.
+    /// What went wrong first, if something did: `Deep` where more wait than can, and `Division`.
     pub fault: Option<SourceErrorKind>,
 }
 
@@ -188,6 +211,13 @@ impl Waiting {
         }
     }
 
+    /// Keeps what went wrong, if it is the first.
+    fn fail(&mut self, kind: SourceErrorKind) {
+        if self.fault.is_none() {
+            self.fault = Some(kind);
+        }
+    }
+
     /// The innermost.
     fn last(&self) -> Option<Entry> {
         let index = self.count.checked_sub(1)?;
@@ -198,10 +228,7 @@ impl Waiting {
     pub fn push(&mut self, operator: Operator, left: u64) {
         match self.entries.get_mut(self.count) {
             Some(entry) => *entry = Entry { operator, left },
-            None => {
-                self.fault = Some(SourceErrorKind::Deep);
-                return;
-            }
+            None => return self.fail(SourceErrorKind::Deep),
         }
         self.count = self.count.saturating_add(1);
         if matches!(operator, Operator::Open) {
@@ -224,7 +251,7 @@ impl Waiting {
                 Some(entry) if entry.operator.rank() >= rank => {
                     let made = entry.operator.apply(entry.left, value);
                     if made.is_none() {
-                        self.fault = Some(SourceErrorKind::Division);
+                        self.fail(SourceErrorKind::Division);
                     }
                     value = made.unwrap_or(0);
                     self.count = self.count.saturating_sub(1);

@@ -1,12 +1,13 @@
 //! Cutting a source into lines, a line into parts, and a part into its first word and the rest.
 
-ghost use Rattle.std.specs.Prelude.{◌≡◌, ◌<◌, [], ◌∷◌, IfSome, length};
+ghost use Rattle.std.specs.Prelude.{◌≡◌, ◌<◌, [], ◌∷◌, IfSome, count_by, length};
 ghost use Rattle.std.specs.Option.{option_map_or};
-ghost use Rattle.rrs_asm_lines.specs.Lines.{lines, next, mark_of, parts, shown, begins_with, is_blank, is_in_word, word, behind_word, behind_blanks, words_of, place_from};
+ghost use Rattle.rrs_asm_lines.specs.Lines.{is_line_feed, lines, next, mark_of, parts, shown, begins_with, is_blank, is_in_word, word, behind_word, behind_blanks, words_of, place_from};
 ghost use Rattle.rrs_asm_lines.specs.declared.lexing.Place.{Place};
 
 /// A line, and the text after its line feed, if there is one.
 pub fn first_line(source: &[u8]) -> (&[u8], Option<&[u8]>)
+    ensures whole { count_by is_line_feed result.0.now ≡ 0 }
     ensures lines { lines source.now
         ≡ result.0.now ∷ option_map_or (λ rest. lines rest.now) result.1 [] }
     ensures shorter { IfSome result.1 (λ rest. length rest.now < length source.now) }
@@ -138,14 +139,14 @@ pub fn first_part(line: &[u8]) -> (Part, Option<&[u8]>)
 }
 
 /// Whether a byte separates words and means nothing else.
-fn is_blank(byte: u8) -> bool
+pub fn is_blank(byte: u8) -> bool
     ensures { result ≡ is_blank byte }
 {
     matches!(byte, b' ' | b'\t' | b'\r')
 }
 
 /// Whether a byte can stand in a word: a name, or a number.
-fn is_in_word(byte: u8) -> bool
+pub fn is_in_word(byte: u8) -> bool
     ensures { result ≡ is_in_word byte }
 {
     matches!(byte, b'a'..=b'z' | b'A'..=b'Z' | b'0'..=b'9' | b'_' | b'.' | b'$')

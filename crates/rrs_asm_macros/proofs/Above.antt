@@ -2,7 +2,8 @@
 use Rattle.std.proofs.Common.{◌≡◌, ℕ, suc, ◌+◌, ◌<◌, Bool, true, false, List, [], ◌∷◌, ◌++◌, length, get_or, refl, sym, ap, ◌∙◌, subst, arith}
 use Rattle.rrs_asm_macros.specs.declared.output.Expanded.{Expanded}
 use Rattle.rrs_asm_macros.specs.Directives.{has_directives}
-use Rattle.rrs_asm_macros.specs.Lines.{lines, lines_above, BeginWith, KeepsAbove}
+use Rattle.rrs_asm_lines.specs.Lines.{lines}
+use Rattle.rrs_asm_macros.specs.Lines.{lines_above, BeginWith, KeepsAbove}
 use Rattle.std.specs.Prelude.{if◌then◌else◌}
 
 pub above-none : (all others : List (List ℕ)) (line : List ℕ) → all ≡ line ∷ others → has_directives line ≡ true → lines_above all ≡ []

@@ -2,7 +2,8 @@
 use Rattle.std.proofs.Common.{◌≡◌, ℕ, ◌+◌, ◌≤◌, List, length, count_by, All, subst, arith}
 use Rattle.std.proofs.lemmas.List.Splits.{length-slice_split}
 use Rattle.rrs_asm_macros.specs.declared.output.Expanded.{Expanded}
-use Rattle.rrs_asm_macros.specs.Lines.{is_line_feed, lines, IsLine, IsMade, IsMapped}
+use Rattle.rrs_asm_lines.specs.Lines.{is_line_feed, lines}
+use Rattle.rrs_asm_macros.specs.Lines.{IsLine, IsMade, IsMapped}
 
 pub one_line : (text : List ℕ) → 1 ≤ length (lines text)
 one_line text =

@@ -1,21 +1,16 @@
 -- What the lines of a source become (GNU assembler manual, ".rept count"): "Repeat the sequence of
 -- lines between the `.rept` directive and the next `.endr` directive count times."
 use Rattle.std.specs.Prelude.{◌≡◌, ◌⊎◌, ℕ, zero, suc, ◌+◌, ◌-◌, ◌*◌, Bool, true, false, ◌&&◌, ◌==◌}
-use Rattle.std.specs.Prelude.{ltb, if◌then◌else◌, List, [], ◌∷◌, ◌++◌, Option, None, Some, codes}
+use Rattle.std.specs.Prelude.{ltb, nat_le, if◌then◌else◌, List, [], ◌∷◌, ◌++◌, Option, None, Some, codes}
 use Rattle.std.specs.List.{list_any}
 use Rattle.std.specs.Str.{str_eq_ignore_ascii_case}
-use Rattle.rrs_asm_macros.specs.Directives.{is_between, is_in_name, behind_blanks, word, begins_one, has_directives}
-use Rattle.rrs_asm_macros.specs.Lines.{lines}
+use Rattle.rrs_asm_lines.specs.Lines.{lines, behind_blanks, word, behind_word}
+use Rattle.rrs_asm_macros.specs.Directives.{begins_one, has_directives}
 
 -- ---- `.rept` with a number, and `.endr`
 
--- what stands after the word that a line begins with
-abbrev pub behind_name : List ℕ → List ℕ
-behind_name [] = []
-behind_name (b ∷ bs) = if is_in_name b then behind_name bs else b ∷ bs
-
-abbrev pub behind_word : List ℕ → List ℕ
-behind_word line = behind_name (behind_blanks line)
+abbrev pub is_between : ℕ → ℕ → ℕ → Bool
+is_between low high b = nat_le low b && nat_le b high
 
 -- blanks, and a comment
 abbrev pub is_empty_or_comment : List ℕ → Bool

@@ -1,15 +1,8 @@
 -- The lines of a source, and of which of them each line of a result is.
-use Rattle.std.specs.Prelude.{◌≡◌, ℕ, ◌+◌, ◌-◌, ◌<◌, ◌≤◌, Bool, ◌==◌, if◌then◌else◌, List, [], ◌∷◌, ◌++◌, length, get_or, count_by, All}
-use Rattle.std.specs.List.{slice_split}
+use Rattle.std.specs.Prelude.{◌≡◌, ℕ, ◌+◌, ◌-◌, ◌<◌, ◌≤◌, if◌then◌else◌, List, [], ◌∷◌, ◌++◌, length, get_or, count_by, All}
+use Rattle.rrs_asm_lines.specs.Lines.{is_line_feed, lines}
 use Rattle.rrs_asm_macros.specs.Directives.{has_directives}
 use Rattle.rrs_asm_macros.specs.declared.output.Expanded.{Expanded}
-
-abbrev pub is_line_feed : ℕ → Bool
-is_line_feed b = b == 10
-
--- the lines, cut at each line feed
-abbrev pub lines : List ℕ → List (List ℕ)
-lines text = slice_split is_line_feed text
 
 -- A number of a line, where there are so many: they are counted from 1.
 abbrev pub IsLine : ℕ → ℕ → Type 0

@@ -1,8 +1,9 @@
 //! Parameters of macros, and the arguments that a call gives them.
 
-use crate::cursor::{Cursor, is_name};
+use crate::cursor::Cursor;
 use crate::errors::MacroErrorKind;
 use crate::values::character;
+use rrs_asm_lines::is_name;
 use std::alloc::Allocator;
 
 /// The most parameters of a macro.

@@ -1,10 +1,11 @@
 //! The lines between a directive and the one that ends it.
 
 ghost use Rattle.std.specs.Prelude.{◌≡◌, length};
-ghost use Rattle.rrs_asm_macros.specs.Lines.{lines};
+ghost use Rattle.rrs_asm_lines.specs.Lines.{lines};
 
 use crate::directives::{Directive, directive_named};
-use crate::scanning::{behind_labels, first_statement, split_word};
+use crate::scanning::{behind_labels, first_statement};
+use rrs_asm_lines::split_word;
 
 /// What a block is.
 #[derive(Clone, Copy)]

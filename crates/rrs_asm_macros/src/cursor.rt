@@ -4,7 +4,9 @@
 //! digit or a quotation mark stands on both sides. So `1 + 2` is one argument, and `1 2` are two.
 
 use crate::errors::{Halt, MacroErrorKind, Slip};
-use crate::scanning::{behind_blanks, is_in_name, split_word};
+use rrs_asm_lines::{
+    Operator, behind_blanks, is_in_word, is_name, operator_before, operator_between, split_word,
+};
 use std::alloc::Allocator;
 
 /// What is left of the operands of a statement.
@@ -22,18 +24,10 @@ pub struct Cursor<'a> {
     pub mistake: Option<Halt>,
 }
 
-/// Whether a word is a name, which does not begin with a digit.
-pub fn is_name(word: &[u8]) -> bool {
-    match word {
-        [] => false,
-        [first, ..] => !first.is_ascii_digit(),
-    }
-}
-
 /// Whether a blank between two bytes means something.
 fn keeps_blank(before: u8, after: u8) -> bool {
-    (is_in_name(before) || before == b'"')
-        && (is_in_name(after) || matches!(after, b'"' | b'\'' | b'\\'))
+    (is_in_word(before) || before == b'"')
+        && (is_in_word(after) || matches!(after, b'"' | b'\'' | b'\\'))
 }
 
 impl<'a> Cursor<'a> {
@@ -124,6 +118,29 @@ impl<'a> Cursor<'a> {
             }
             None => false,
         }
+    }
+
+    /// Takes the operator before a value that is next: none stands for a plus.
+    pub fn operator_before(&mut self) -> Option<Option<Operator>> {
+        let (byte, rest) = behind_blanks(self.rest).split_first()?;
+        let operator = operator_before(*byte)?;
+        self.rest = rest;
+        self.before = b' ';
+        Some(operator)
+    }
+
+    /// Takes the operator between two values that is next.
+    pub fn operator_between(&mut self) -> Option<Operator> {
+        let rest = behind_blanks(self.rest);
+        let (first, second) = match rest {
+            [first, second, ..] => (*first, *second),
+            [first] => (*first, b' '),
+            [] => return None,
+        };
+        let (operator, count) = operator_between(first, second)?;
+        self.rest = rest.get(count..).unwrap_or(&[]);
+        self.before = b' ';
+        Some(operator)
     }
 
     /// Takes the next byte, whatever it is.

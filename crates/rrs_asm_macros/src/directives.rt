@@ -16,6 +16,22 @@ pub enum Comparison {
     GreaterOrEqual,
 }
 
+impl Comparison {
+    /// Whether it holds of two signed numbers.
+    pub fn holds(self, left: u64, right: u64) -> bool {
+        let left = left.cast_signed();
+        let right = right.cast_signed();
+        match self {
+            Comparison::Equal => left == right,
+            Comparison::NotEqual => left != right,
+            Comparison::Less => left < right,
+            Comparison::LessOrEqual => left <= right,
+            Comparison::Greater => left > right,
+            Comparison::GreaterOrEqual => left >= right,
+        }
+    }
+}
+
 /// What a condition asks.
 #[derive(Clone, Copy)]
 pub enum Test {

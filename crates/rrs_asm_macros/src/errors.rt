@@ -1,6 +1,6 @@
 //! What can be wrong with macros, conditions and repetitions.
 
-use crate::scanning::split_word;
+use rrs_asm_lines::split_word;
 use std::alloc::{AllocError, AllocFailed, Allocator, Global};
 use std::error::Error;
 use std::fmt;

@@ -4,7 +4,8 @@ ghost use Rattle.std.specs.Prelude.{◌≡◌, ℕ, ◌≤◌, false, true, [], 
 ghost use Rattle.std.specs.List.{list_any};
 ghost use Rattle.rrs_asm_macros.specs.Directives.{begins_one, has_directives};
 ghost use Rattle.rrs_asm_macros.specs.Expansion.{IsExpansion};
-ghost use Rattle.rrs_asm_macros.specs.Lines.{IsLine, IsMade, IsMapped, IsSame, KeepsAbove, lines};
+ghost use Rattle.rrs_asm_lines.specs.Lines.{lines};
+ghost use Rattle.rrs_asm_macros.specs.Lines.{IsLine, IsMade, IsMapped, IsSame, KeepsAbove};
 
 use crate::blocks::height;
 use crate::errors::{Halt, MacroError, MacroErrorKind, MacroFault, Slip};

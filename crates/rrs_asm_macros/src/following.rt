@@ -3,10 +3,10 @@
 ghost use Rattle.std.specs.Prelude.{◌≡◌, ◌≤◌, true, IfOk, IfSome, length, take};
 ghost use Rattle.rrs_asm_macros.specs.Expansion.{ExpandsFirst, IsExpansion};
 ghost use Rattle.rrs_asm_macros.specs.Forms.{AreCopies, Reaches, texts};
-ghost use Rattle.rrs_asm_macros.specs.Lines.{lines};
+ghost use Rattle.rrs_asm_lines.specs.Lines.{lines};
 
 use crate::repeating::{LineKind, kind_of};
-use crate::scanning::first_line;
+use rrs_asm_lines::first_line;
 use std::alloc::{AllocError, Allocator};
 
 /// How far lines become others.

@@ -4,8 +4,8 @@ ghost use Rattle.std.specs.Prelude.{◌≡◌, ◌<◌, ◌+◌, true, length, s
 ghost use Rattle.rrs_asm_macros.specs.Lines.{KeepsAbove};
 
 use crate::output::Expanded;
-use crate::scanning::first_line;
 use crate::words::has_directives;
+use rrs_asm_lines::first_line;
 use std::alloc::Allocator;
 
 /// Whether the lines above the first one with a directive stand at the head of a result, each as it

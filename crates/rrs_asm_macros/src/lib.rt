@@ -17,7 +17,6 @@ mod expanding;
 mod following;
 mod frames;
 mod keeping;
-mod operators;
 mod output;
 mod performing;
 mod repeating;

@@ -4,7 +4,7 @@ ghost use Rattle.std.specs.Prelude.{◌≡◌, ℕ, ◌≤◌, [], ◌∷◌, �
 ghost use Rattle.rrs_asm_macros.specs.Lines.{IsLine, IsMade, IsSame};
 
 use crate::blocks::height;
-use crate::scanning::first_line;
+use rrs_asm_lines::first_line;
 use std::alloc::{AllocError, Allocator, Global};
 
 /// A source without macros, conditions and repetitions.

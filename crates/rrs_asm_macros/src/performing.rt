@@ -8,10 +8,11 @@ use crate::directives::{Directive, directive_named};
 use crate::errors::{Halt, MacroError, MacroErrorKind, Slip};
 use crate::frames::{Condition, Frame, Origin, Reader};
 use crate::repetitions::each;
-use crate::scanning::{behind_blanks, behind_labels, first_line, first_statement, split_word};
+use crate::scanning::{behind_labels, first_statement};
 use crate::substitution::without_comments;
 use crate::tables::{Lines, Tables};
 use crate::values::value;
+use rrs_asm_lines::{behind_blanks, first_line, split_word};
 use std::alloc::Allocator;
 
 /// A part of a text that is a line of the result.

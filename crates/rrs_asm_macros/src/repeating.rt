@@ -5,8 +5,8 @@ ghost use Rattle.rrs_asm_macros.specs.Expansion.{count, decimal, is_end, number,
 ghost use Rattle.rrs_asm_macros.specs.Forms.{IsKind};
 
 use crate::directives::{Directive, is_among};
-use crate::scanning::{behind_blanks, split_word};
 use crate::words::has_directives;
+use rrs_asm_lines::{behind_blanks, split_word};
 
 /// The directives that begin a repetition with a count.
 const COUNTED: [(&[u8], Directive); 2] = [

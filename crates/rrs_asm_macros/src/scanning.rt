@@ -1,13 +1,13 @@
 //! Cutting a text into statements, and a statement into labels, its first word and the rest.
 
-ghost use Rattle.std.specs.Prelude.{◌≡◌, ◌<◌, [], ◌∷◌, IfSome, count_by, length};
+ghost use Rattle.std.specs.Prelude.{◌≡◌, ◌<◌};
 ghost use Rattle.std.specs.List.{list_any};
-ghost use Rattle.std.specs.Option.{option_map_or};
-ghost use Rattle.rrs_asm_macros.specs.Directives.{begins_one, behind_blanks, is_blank, is_in_name, word};
-ghost use Rattle.rrs_asm_macros.specs.Expansion.{behind_word};
-ghost use Rattle.rrs_asm_macros.specs.Lines.{is_line_feed, lines};
+ghost use Rattle.rrs_asm_lines.specs.Lines.{behind_blanks, word};
+ghost use Rattle.rrs_asm_macros.specs.Directives.{begins_one};
+ghost use Rattle.rrs_asm_lines.specs.Lines.{is_line_feed, lines};
 
 use crate::directives::is_directive;
+use rrs_asm_lines::{behind_blanks, first_line, split_word};
 
 /// Where a byte of a line stands.
 #[derive(Clone, Copy)]
@@ -104,61 +104,6 @@ pub fn first_statement(text: &[u8]) -> Statement<'_> {
         others: None,
         ends_line: true,
     }
-}
-
-/// The first line of a text, and what is after its line feed, if there is one.
-pub fn first_line(text: &[u8]) -> (&[u8], Option<&[u8]>)
-    ensures whole { count_by is_line_feed result.0.now ≡ 0 }
-    ensures lines { lines text.now
-        ≡ result.0.now ∷ option_map_or (λ rest. lines rest.now) result.1 [] }
-    ensures shorter { IfSome result.1 (λ rest. length rest.now < length text.now) }
-{
-    for (index, byte) in text.iter().enumerate() {
-        if *byte == b'\n' {
-            return (&text[..index], Some(&text[index + 1..]));
-        }
-    }
-    (text, None)
-}
-
-/// Whether a byte separates words and means nothing else.
-pub fn is_blank(byte: u8) -> bool
-    ensures { result ≡ is_blank byte }
-{
-    matches!(byte, b' ' | b'\t' | b'\r')
-}
-
-/// Whether a byte can stand in a name.
-pub fn is_in_name(byte: u8) -> bool
-    ensures { result ≡ is_in_name byte }
-{
-    matches!(byte, b'a'..=b'z' | b'A'..=b'Z' | b'0'..=b'9' | b'_' | b'.' | b'$')
-}
-
-/// A text after the blanks that it begins with.
-pub fn behind_blanks(text: &[u8]) -> &[u8]
-    ensures { result.now ≡ behind_blanks text.now }
-{
-    for (index, byte) in text.iter().enumerate() {
-        if !is_blank(*byte) {
-            return &text[index..];
-        }
-    }
-    &text[text.len()..]
-}
-
-/// The word that a text begins with, after blanks, and what follows it.
-pub fn split_word(text: &[u8]) -> (&[u8], &[u8])
-    ensures word { result.0.now ≡ word text.now }
-    ensures rest { result.1.now ≡ behind_word text.now }
-{
-    let words = behind_blanks(text);
-    for (index, byte) in words.iter().enumerate() {
-        if !is_in_name(*byte) {
-            return words.split_at(index);
-        }
-    }
-    words.split_at(words.len())
 }
 
 /// Whether a line of a text begins with a directive.

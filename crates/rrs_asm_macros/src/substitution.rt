@@ -1,7 +1,8 @@
 //! A macro's body with arguments in the places of its parameters.
 
 use crate::arguments::{Parameter, index_of};
-use crate::scanning::{Place, first_statement, split_word};
+use crate::scanning::{Place, first_statement};
+use rrs_asm_lines::split_word;
 use std::alloc::{AllocError, Allocator};
 
 /// Appends a body with the values of the parameters in their places, and the number of the call in

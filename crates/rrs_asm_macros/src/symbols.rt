@@ -1,8 +1,9 @@
 //! The symbols that a source has defined so far.
 
 use crate::cursor::Cursor;
-use crate::scanning::{first_label, split_word};
+use crate::scanning::first_label;
 use crate::values::value;
+use rrs_asm_lines::split_word;
 use std::alloc::Allocator;
 use std::collections::BTreeMap;
 

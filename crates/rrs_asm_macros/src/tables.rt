@@ -5,9 +5,10 @@ use crate::cursor::Cursor;
 use crate::directives::directive_named;
 use crate::errors::{Halt, MacroErrorKind, Slip};
 use crate::frames::Frame;
-use crate::scanning::{behind_labels, first_statement, split_word};
+use crate::scanning::{behind_labels, first_statement};
 use crate::substitution::substitute;
 use crate::symbols::Symbols;
+use rrs_asm_lines::split_word;
 use std::alloc::Allocator;
 use std::collections::BTreeMap;
 

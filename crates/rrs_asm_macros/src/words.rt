@@ -5,7 +5,7 @@ ghost use Rattle.std.specs.Option.{option_map_or};
 ghost use Rattle.rrs_asm_macros.specs.Directives.{has_directives, words};
 
 use crate::directives::is_directive;
-use crate::scanning::is_in_name;
+use rrs_asm_lines::is_in_word;
 
 /// Whether a word of a text is the name of a directive of macros.
 pub fn has_directives(text: &[u8]) -> bool
@@ -29,7 +29,7 @@ fn first_word(text: &[u8]) -> (&[u8], Option<&[u8]>)
     ensures shorter { IfSome result.1 (λ rest. length rest.now < length text.now) }
 {
     for (index, byte) in text.iter().enumerate() {
-        if !is_in_name(*byte) {
+        if !is_in_word(*byte) {
             return (&text[..index], Some(&text[index + 1..]));
         }
     }

@@ -1,7 +1,7 @@
 use Rattle.std.proofs.Common.{◌≡◌, ◌+◌, length, count_by, arith}
 use Rattle.std.proofs.lemmas.Grind.{common_steps}
 use Rattle.std.proofs.lemmas.List.Splits.{length-slice_split}
-use Rattle.rrs_asm_macros.specs.Lines.{is_line_feed, lines}
+use Rattle.rrs_asm_lines.specs.Lines.{is_line_feed, lines}
 use Rattle.rrs_asm_macros.proofs.blocks.height.Goals as goal
 
 pub returns : goal.returns

@@ -1,5 +1,5 @@
 use Rattle.std.proofs.Common.{◌≡◌, ◌+◌, take, count_by}
-use Rattle.rrs_asm_macros.specs.Lines.{is_line_feed}
+use Rattle.rrs_asm_lines.specs.Lines.{is_line_feed}
 use Rattle.rrs_asm_macros.proofs.blocks.height.Given as goal
 
 -- a line more than the line feeds before

@@ -1,7 +1,7 @@
 use Rattle.std.proofs.Common.{◌≡◌, ◌+◌, ◌++◌, [], length}
 use Rattle.std.specs.Option.{option_map_or}
 use Rattle.rrs_asm_macros.specs.Forms.{texts}
-use Rattle.rrs_asm_macros.specs.Lines.{lines}
+use Rattle.rrs_asm_lines.specs.Lines.{lines}
 use Rattle.rrs_asm_macros.proofs.following.rows_of.Given as goal
 
 -- the lines so far, and those that are left

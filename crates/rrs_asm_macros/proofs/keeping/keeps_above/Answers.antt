@@ -1,7 +1,8 @@
 use Rattle.std.proofs.Common.{◌≡◌, ℕ, ◌+◌, true, false, List, [], ◌∷◌, get_or, Option, Bor, sym, ap, ◌∙◌, rules}
 use Rattle.std.specs.Option.{option_map_or}
 use Rattle.rrs_asm_macros.specs.Directives.{has_directives}
-use Rattle.rrs_asm_macros.specs.Lines.{lines, lines_above}
+use Rattle.rrs_asm_lines.specs.Lines.{lines}
+use Rattle.rrs_asm_macros.specs.Lines.{lines_above}
 use Rattle.rrs_asm_macros.proofs.Above.{above-none, kept, head-behind, count-behind, number-behind}
 use Rattle.rrs_asm_macros.proofs.keeping.keeps_above.Goals as goal
 

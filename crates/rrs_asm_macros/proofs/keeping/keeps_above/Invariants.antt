@@ -1,6 +1,7 @@
 use Rattle.std.proofs.Common.{◌≡◌, ℕ, ◌+◌, ◌<◌, List, [], ◌++◌, length, get_or}
 use Rattle.std.specs.Option.{option_map_or}
-use Rattle.rrs_asm_macros.specs.Lines.{lines, lines_above, BeginWith}
+use Rattle.rrs_asm_lines.specs.Lines.{lines}
+use Rattle.rrs_asm_macros.specs.Lines.{lines_above, BeginWith}
 use Rattle.rrs_asm_macros.proofs.keeping.keeps_above.Given as goal
 
 -- what the lines that are left keep, all keep; and those before are numbered

@@ -2,7 +2,7 @@ use Rattle.std.proofs.Common.{◌≡◌, ◌+◌, [], length}
 use Rattle.std.specs.List.{list_any}
 use Rattle.std.specs.Option.{option_map_or}
 use Rattle.rrs_asm_macros.specs.Directives.{begins_one}
-use Rattle.rrs_asm_macros.specs.Lines.{lines}
+use Rattle.rrs_asm_lines.specs.Lines.{lines}
 use Rattle.rrs_asm_macros.proofs.scanning.begins_directive.Given as goal
 
 -- no line before begins with a directive
