@@ -1,5 +1,5 @@
 -- A session at a terminal: where it starts, what one event more makes of it, and how it ends.
-use Rattle.std.proofs.Common.{◌≡◌, ℕ, ◌≤◌, Bool, true, MatchOption, Result, Ok, Err, IfOk, IfErr, arith, ◌+◌, ◌-◌, List, [], ◌∷◌, ◌++◌, Option, Some, None, IfSome, refl, sym, subst, append-nil}
+use Rattle.std.proofs.Common.{◌≡◌, ℕ, ◌≤◌, Bool, true, false, MatchOption, Result, Ok, Err, IfOk, IfErr, arith, ◌+◌, ◌-◌, List, [], ◌∷◌, ◌++◌, Option, Some, None, IfSome, refl, sym, subst, append-nil}
 use Rattle.std.specs.Io.KnownBytes.{Appends, Consumes, Keeps, IsAtEnd}
 use Rattle.std.proofs.KnownBytes.{Consumes-nil, Appends-nil, Appends-trans, Appends-kept, Consumes-trans, Consumes-whole, Keeps-refl}
 use Rattle.rrs_board.specs.declared.board.Board.{Board}
@@ -8,6 +8,7 @@ use Rattle.rrs_board.specs.declared.effects.BoardEvent.{BoardEvent}
 use Rattle.rrs_board.specs.declared.effects.BoardEvent.TheVariants.{Transmitted, Looked, Finished, Waits, NothingWakes}
 use Rattle.rrs_board.specs.declared.terminal.TerminalError.{TerminalError}
 use Rattle.rrs_board.specs.declared.terminal.TerminalError.TheVariants.{Input, Output}
+use Rattle.rrs_board.specs.Effects.{waits_for_input}
 use Rattle.rrs_board.specs.Boards.{BoardRun}
 use Rattle.rrs_board.specs.Terminals.{printed_by, Goes, Session, Served, ServedAndRun, EndsSession, EndedSession, Asks, StoppedSession, GoesOn, EndsBy, Asked, Untouched}
 
@@ -159,6 +160,30 @@ session_ends limit start input rest left before between flushed after steps more
     let made = session_run limit start input rest left before between flushed steps more (Some event) old mid new so_far run stays in
     session_finishes limit start input left before flushed after (steps + more) (Some event) new r made
     (ends_by input left so_far.typed event new ended ends at_end made.served.consumed) kept is fails
+
+is_false : (b : Bool) → (b ≡ true → ⊥) → b ≡ false
+is_false true no = absurd (no refl)
+is_false false no = refl
+
+-- where the end of the input is not seen, no wait that input can end is the end
+pub never_waits : (event : BoardEvent) (b : Board) (ended : Bool) (steps : ℕ) (r : Result BoardEnd TerminalError)
+    → EndsBy event b ended → ended ≡ false
+    → IfOk r (λ end. (end.steps ≡ steps) × (end.event ≡ Some event))
+    → IfOk r (λ end. end.event ≡ Some NothingWakes → waits_for_input b.memory.devices ≡ false)
+never_waits event b ended steps (Err error) ends no is = tt
+never_waits (Finished status) b ended steps (Ok end) ends no is = λ at. absurd (cc (at, is.1))
+never_waits NothingWakes b ended steps (Ok end) ends no is =
+    λ at. is_false (waits_for_input b.memory.devices) (λ waits. absurd (cc (ends waits, no)))
+never_waits (Transmitted byte) b ended steps (Ok end) ends no is = absurd ends
+never_waits Looked b ended steps (Ok end) ends no is = absurd ends
+never_waits Waits b ended steps (Ok end) ends no is = absurd ends
+
+-- the limit is no wait
+pub none_waits : (b : Board) (steps : ℕ) (r : Result BoardEnd TerminalError)
+    → IfOk r (λ end. (end.steps ≡ steps) × (end.event ≡ None))
+    → IfOk r (λ end. end.event ≡ Some NothingWakes → waits_for_input b.memory.devices ≡ false)
+none_waits b steps (Err error) is = tt
+none_waits b steps (Ok end) is = λ at. absurd (cc (at, is.1))
 
 -- an event that can't be served
 pub session_stops : (limit : ℕ) (start : Board) (input rest left before between after : Option (List ℕ))

@@ -1,7 +1,7 @@
 //! When a driver asks the host for input. That is its own choice: by the definition of the board a
 //! byte may arrive after any step.
 
-ghost use Rattle.std.specs.Prelude.{◌≡◌, false};
+ghost use Rattle.std.specs.Prelude.{◌≡◌, false, not};
 
 /// So many looks in a row at LSR or IIR, which find no byte and between which nothing is
 /// transmitted, ask for input.
@@ -22,7 +22,8 @@ pub struct Asking {
 impl Asking {
     /// A driver that has seen nothing.
     pub fn new(is_polled: bool) -> Asking
-        ensures { result.has_ended ≡ false }
+        ensures seen { result.has_ended ≡ false }
+        ensures polled { result.is_polled ≡ is_polled }
     {
         Asking {
             is_polled,
@@ -33,7 +34,8 @@ impl Asking {
 
     /// Counts a look, and says whether there were enough.
     pub fn count_look(&mut self) -> bool
-        ensures { self.new.has_ended ≡ self.old.has_ended }
+        ensures ended { self.new.has_ended ≡ self.old.has_ended }
+        ensures polled { self.new.is_polled ≡ self.old.is_polled }
     {
         self.looks = self.looks.saturating_add(1);
         if self.looks < LOOKS {
@@ -45,13 +47,17 @@ impl Asking {
 
     /// A byte was transmitted.
     pub fn note_output(&mut self)
-        ensures { self.new.has_ended ≡ self.old.has_ended }
+        ensures ended { self.new.has_ended ≡ self.old.has_ended }
+        ensures polled { self.new.is_polled ≡ self.old.is_polled }
     {
         self.looks = 0;
     }
 
-    /// A read gave no byte.
-    pub fn note_none(&mut self) {
+    /// A read gave no byte. The input is at its end, unless it is polled.
+    pub fn note_none(&mut self)
+        ensures ended { self.new.has_ended ≡ not self.old.is_polled }
+        ensures polled { self.new.is_polled ≡ self.old.is_polled }
+    {
         self.has_ended = !self.is_polled;
     }
 }

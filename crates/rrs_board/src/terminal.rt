@@ -1,8 +1,10 @@
 //! A board at a terminal: what its UART transmits is written, and what it receives is read.
 
-ghost use Rattle.std.specs.Prelude.{◌≡◌, [], ◌∷◌, true, IfOk, OnOk, IfErr, MatchOption, MatchResult};
+ghost use Rattle.std.specs.Prelude.{◌≡◌, [], ◌∷◌, Some, true, false, IfOk, OnOk, IfErr, MatchOption, MatchResult};
 ghost use Rattle.std.specs.Bool.{OnTrue, OnFalse};
 ghost use Rattle.std.specs.Io.KnownBytes.{Appends, Consumes, Keeps, IsAtEnd};
+ghost use Rattle.rrs_board.specs.Effects.{waits_for_input};
+ghost use Rattle.rrs_board.specs.declared.effects.BoardEvent.{BoardEvent};
 ghost use Rattle.rrs_board.specs.Terminals.{Asks, EndsBy, GoesOn, Asked, Untouched, EndedSession, StoppedSession};
 
 use crate::asking::Asking;
@@ -29,8 +31,9 @@ pub enum TerminalError {
 /// The clauses: a chain of runs leads from the board before to that after, with what was typed and
 /// printed between them; what was typed is what was read of the input, and what was printed is what
 /// the output got, where these bytes are known; a wait that only input can end is the end where all
-/// of the input was typed (`session`). After an error the same holds of the runs up to there, and
-/// the event of the last one was not served (`stopped`). When the input is read is no part of them.
+/// of the input was typed (`session`). Where the input is polled no run ends at such a wait
+/// (`polled`). After an error the same holds of the runs up to there, and the event of the last one
+/// was not served (`stopped`). When the input is read is no part of them.
 ///
 /// # Errors
 ///
@@ -49,6 +52,9 @@ pub fn run_at_terminal<R: Read, W: Write>(
     ensures stopped { IfErr result (λ error. StoppedSession limit board.old
         (R.remaining input.old) (R.remaining input.new)
         (W.contents output.old) (W.contents output.new) error board.new) }
+    ensures polled { is_polled ≡ true → IfOk result (λ end.
+        end.event ≡ Some BoardEvent.NothingWakes
+        → waits_for_input board.new.memory.devices ≡ false) }
 {
     let mut asking = Asking::new(is_polled);
     let mut steps = 0;
@@ -86,6 +92,8 @@ fn serve<R: Read, W: Write>(
     ensures failed { IfErr result (λ error. (error ≡ TerminalError.Input → Asks event)
         × Untouched board.old board.new (R.remaining input.old) (R.remaining input.new)
         (W.contents output.old) (W.contents output.new)) }
+    ensures polled { asking.old.is_polled ≡ true → asking.old.has_ended ≡ false
+        → (asking.new.is_polled ≡ true) × (asking.new.has_ended ≡ false) }
 {
     match event {
         BoardEvent::Transmitted(byte) => {
@@ -130,6 +138,8 @@ fn ask<R: Read, W: Write>(
     ensures failed { IfErr result (λ error. Untouched board.old board.new
         (R.remaining input.old) (R.remaining input.new)
         (W.contents output.old) (W.contents output.new)) }
+    ensures polled { asking.old.is_polled ≡ true → asking.old.has_ended ≡ false
+        → (asking.new.is_polled ≡ true) × (asking.new.has_ended ≡ false) }
 {
     if asking.has_ended {
         return Ok(false);

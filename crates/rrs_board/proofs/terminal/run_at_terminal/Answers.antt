@@ -1,15 +1,16 @@
 -- One event more, and where it can't be served.
-use Rattle.std.proofs.Common.{◌≡◌, ◌-◌, false, true, arith, rules}
+use Rattle.std.proofs.Common.{◌≡◌, ◌-◌, ◌∙◌, false, true, arith, rules}
 use Rattle.std.proofs.lemmas.Bool.{OnTrue_at, OnFalse_at}
 use Rattle.std.proofs.lemmas.Result.{err_from_is_err_and}
-use Rattle.rrs_board.proofs.Sessions.{session_starts, session_goes, session_run, session_ends, session_stops, session_finishes, session_at_limit, run_is, untouched}
+use Rattle.rrs_board.proofs.Sessions.{session_starts, session_goes, session_run, session_ends, session_stops, session_finishes, session_at_limit, run_is, untouched, none_waits, never_waits}
 use Rattle.rrs_board.proofs.terminal.run_at_terminal.Goals as goal
 
 pub runs-init : goal.runs-init
 runs-init g c = record {
   within = omega arith;
   served = session_starts _ _ _ _;
-  at_end = λ is. cc (is, c.new-asking.ensures);
+  at_end = λ is. cc (is, c.new-asking.ensures.seen);
+  polled = λ is. (c.new-asking.ensures.polled ∙ is, c.new-asking.ensures.seen);
 }
 
 pub returns-in_err-serve-in-Some-clause-stopped : goal.returns-in_err-serve-in-Some-clause-stopped
@@ -28,7 +29,13 @@ returns-then-not-branch g c =
     let stays = OnFalse_at no made.ends in
     let both = session_ends _ _ _ _ _ _ _ _ _ _ _ _ _ _ _ _ _ c.runs.invariant.served run stays.1 stays.0
     (made.at_end c.runs.invariant.at_end) c.finish.ensures.kept c.finish.ensures.end c.finish.ensures.error in
-    record { session = both.0; stopped = both.1 }
+    record {
+      session = both.0;
+      stopped = both.1;
+      polled = λ is.
+          let before = c.runs.invariant.polled is in
+          never_waits _ _ _ _ _ stays.0 (made.polled before.0 before.1).1 c.finish.ensures.end;
+    }
 
 pub runs-preserved : goal.runs-preserved
 runs-preserved g c =
@@ -40,6 +47,7 @@ runs-preserved g c =
       within = omega (arith, c.run-end.ensures.within, c.runs-test.true);
       served = session_goes _ _ _ _ _ _ _ _ _ _ _ _ _ _ c.runs.invariant.served run (OnTrue_at yes made.goes);
       at_end = made.at_end c.runs.invariant.at_end;
+      polled = λ is. let before = c.runs.invariant.polled is in made.polled before.0 before.1;
     }
 
 pub returns-in-None : goal.returns-in-None
@@ -48,10 +56,10 @@ returns-in-None g c =
     let made = session_run _ _ _ _ _ _ _ _ _ _ _ _ _ _ c.runs.invariant.served run (untouched _ _ _) in
     let both = session_finishes _ _ _ _ _ _ _ _ _ _ _ made tt c.finish-in-None.ensures.kept
     c.finish-in-None.ensures.end c.finish-in-None.ensures.error in
-    record { session = both.0; stopped = both.1 }
+    record { session = both.0; stopped = both.1; polled = λ _. none_waits _ _ _ c.finish-in-None.ensures.end }
 
 pub returns : goal.returns
 returns g c =
     let both = session_at_limit _ _ _ _ _ _ _ _ _ _ c.runs.invariant.served c.runs-test.false c.finish-2.ensures.kept
     c.finish-2.ensures.end c.finish-2.ensures.error in
-    record { session = both.0; stopped = both.1 }
+    record { session = both.0; stopped = both.1; polled = λ _. none_waits _ _ _ c.finish-2.ensures.end }
