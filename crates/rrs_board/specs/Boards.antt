@@ -1,6 +1,6 @@
 -- A board, its steps and runs. A step of the hart is that of machine mode (rrs_machine) over the
 -- memory of the board. Then the devices answer to its access, and time goes on.
-use Rattle.std.specs.Prelude.{◌≡◌, ℕ, zero, suc, ◌+◌, ◌<◌, ◌≤◌, List, length, replicate, Option, Some, None}
+use Rattle.std.specs.Prelude.{◌≡◌, ℕ, zero, suc, ◌+◌, ◌*◌, ◌^◌, ◌<◌, ◌≤◌, ◌&&◌, nat_le, nat_lt, Bool, true, false, List, length, replicate, Option, Some, None}
 use Rattle.rrs_lib.specs.Accesses.{MakesExactly}
 use Rattle.rrs_machine.specs.declared.machine.MachineAnswer.{MachineAnswer}
 use Rattle.rrs_machine.specs.MachineSteps.{MachineState, machine_of, MachineStep, AccessesOfMachineStep}
@@ -69,3 +69,20 @@ pub record StartsWith (file : List ℕ) (words : ℕ) (b : Board) : Type 0 where
       (lies_from ram_start b.memory.ram.mem.items) (e_phnum file) 0
   pub in_ram : (i j : ℕ) → i < e_phnum file → j < loaded_size file i
       → ram_start ≤ p_vaddr file i + j
+
+-- an address of RAM of so many words
+abbrev pub is_in_ram : ℕ → ℕ → Bool
+is_in_ram words address = nat_le ram_start address
+    && (nat_lt address (ram_start + 4 * words) && nat_lt address (2 ^ 32))
+
+-- A load of an executable ends at this address, that of byte k of segment n, which is not one of
+-- these. All bytes of the segments before it are, and those of segment n before byte k.
+pub record EndsOutside (file : List ℕ) (is_in : ℕ → Bool) (address : ℕ) : Type 0 where
+  pub n : ℕ
+  pub k : ℕ
+  pub numbered : n < e_phnum file
+  pub within : k < loaded_size file n
+  pub here : address ≡ p_vaddr file n + k
+  pub outside : is_in address ≡ false
+  pub segments : (i j : ℕ) → i < n → j < loaded_size file i → is_in (p_vaddr file i + j) ≡ true
+  pub part : (j : ℕ) → j < k → is_in (p_vaddr file n + j) ≡ true

@@ -1,11 +1,12 @@
 //! A board with an executable in its RAM.
 
-ghost use Rattle.std.specs.Prelude.{◌≡◌, length, IfOk, OnOk};
+ghost use Rattle.std.specs.Prelude.{◌≡◌, ℕ, length, Err, IfOk, IfErr, OnOk};
 ghost use Rattle.rrs_memory.specs.SliceBytes.{bytes_from, lies_from, slice_bytes, slice_writable, StaysLent};
 ghost use Rattle.rrs_elf.specs.Headers.{e_phnum};
 ghost use Rattle.rrs_elf.specs.Loading.{Stands};
+ghost use Rattle.rrs_elf.specs.Refusals.{first_refusal, checks};
 ghost use Rattle.rrs_board.specs.Registers.{ram_start};
-ghost use Rattle.rrs_board.specs.Boards.{StartsWith};
+ghost use Rattle.rrs_board.specs.Boards.{StartsWith, EndsOutside, is_in_ram};
 
 use crate::board::Board;
 use crate::memory::RAM_START;
@@ -25,15 +26,22 @@ pub enum BoardError {
 }
 
 impl Board {
-    /// A board at reset with so many words of RAM, in which the segments of an executable stand,
-    /// and whose hart is at its entry.
+    /// A board at reset with so many words of RAM, in which the segments of an executable stand, and
+    /// whose hart is at its entry (`starts`).
     ///
     /// # Errors
     ///
-    /// `BoardError`, where the file is no executable, does not fit in RAM, or there is no memory
-    /// for it.
+    /// `BoardError::Elf` exactly where the file is refused, with its first refusal (`refused`, `elf`);
+    /// `BoardError::Refused` only where a byte of a segment lies outside RAM, with the address of the
+    /// first one (`outside`); and `BoardError::OutOfMemory`.
     pub fn load(alloc: Global, file: &[u8], words: usize) -> Result<Board, BoardError>
-        ensures { IfOk result (StartsWith file.now words) }
+        ensures starts { IfOk result (StartsWith file.now words) }
+        ensures refused { (refusal : ElfError) → first_refusal (checks file.now) ≡ Err refusal
+            → result ≡ Err (BoardError.Elf refusal) }
+        ensures elf { (refusal : ElfError) → result ≡ Err (BoardError.Elf refusal)
+            → first_refusal (checks file.now) ≡ Err refusal }
+        ensures outside { (address : ℕ) → result ≡ Err (BoardError.Refused address)
+            → EndsOutside file.now (is_in_ram words) address }
     {
         let executable = match Executable::parse(file) {
             Ok(executable) => executable,
@@ -57,6 +65,8 @@ fn load_words(executable: &Executable<'_>, words: &mut [u32]) -> Result<(), Refu
         (bytes_from ram_start words.old) (bytes_from ram_start words.new)
         (lies_from ram_start words.old) (e_phnum executable.now.file.now) 0) }
     ensures length_kept { length words.new ≡ length words.old }
+    ensures outside { IfErr result (λ refused. EndsOutside executable.now.file.now
+        (lies_from ram_start words.old) refused.address) }
 {
     let mut memory = SliceMemory {
         words,
@@ -70,6 +80,8 @@ fn load_lent<'a>(executable: &Executable<'_>, memory: &mut SliceMemory<'a>) -> R
     ensures loaded { OnOk result (Stands executable.now.file.now (slice_bytes memory.old)
         (slice_bytes memory.new) (slice_writable memory.old) (e_phnum executable.now.file.now) 0) }
     ensures lent { StaysLent memory.old memory.new }
+    ensures outside { IfErr result (λ refused. EndsOutside executable.now.file.now
+        (slice_writable memory.old) refused.address) }
 {
     match executable.load(memory) {
         Ok(()) => Ok(()),

@@ -4,6 +4,7 @@ use Rattle.rrs_memory.specs.AccessLists.{Access, Makes}
 use Rattle.rrs_memory.specs.declared.memories.slice.SliceMemory.{SliceMemory}
 use Rattle.rrs_memory.specs.SliceBytes.{StaysLent, slice_reads, SliceWrites}
 use Rattle.rrs_memory.proofs.SliceLent.{still_lent}
+use Rattle.rrs_board.proofs.Loaded.{ends_at}
 use Rattle.rrs_board.proofs.loading.load_lent.Goals as goal
 
 stays : (accesses : List Access) (old new : SliceMemory) → Makes slice_reads SliceWrites accesses old new → StaysLent old new
@@ -19,3 +20,6 @@ returns-in-Ok-clause-lent c = stays _ _ _ c.in-Ok.ensures.accesses
 
 pub returns-in-Err-clause-lent : goal.returns-in-Err-clause-lent
 returns-in-Err-clause-lent c = stays _ _ _ c.in-Err.ensures.refused.made
+
+pub returns-in-Err-clause-outside : goal.returns-in-Err-clause-outside
+returns-in-Err-clause-outside c = ends_at _ _ _ _ c.in-Err.ensures.refused

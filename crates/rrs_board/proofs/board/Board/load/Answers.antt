@@ -6,8 +6,8 @@ use Rattle.rrs_elf.specs.Headers.{e_entry}
 use Rattle.rrs_board.proofs.Loaded.{stands_in_ram, all_in_ram}
 use Rattle.rrs_board.proofs.board.Board.load.Goals as goal
 
-pub returns-in-Ok-load_words : goal.returns-in-Ok-load_words
-returns-in-Ok-load_words c =
+pub returns-in-Ok-load_words-clause-starts : goal.returns-in-Ok-load_words-clause-starts
+returns-in-Ok-load_words-clause-starts c =
     let file = c.args.file.now in
     let read = c.in-Ok.executable.file.now in
     let same : read ≡ file = search rules in
