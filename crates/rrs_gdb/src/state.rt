@@ -7,7 +7,8 @@ ghost use Rattle.rrs_history.specs.Histories.{changes};
 ghost use Rattle.rrs_linux.specs.Recording.{Recording};
 ghost use Rattle.rrs_gdb.specs.Packets.{digits_of};
 ghost use Rattle.rrs_gdb.specs.Shown.{named_text, stop_text};
-ghost use Rattle.rrs_gdb.specs.Sessions.{BreaksKept, IsCaught, IsError, PlacesKept, around, asked_by, forgotten, has_ended};
+ghost use Rattle.rrs_gdb.specs.declared.state.Stop.{Stop};
+ghost use Rattle.rrs_gdb.specs.Sessions.{BreaksKept, IsCaught, IsError, PlacesKept, around, asked_by, forgotten, has_ended, stopped_at};
 
 use crate::breaks::{Breaks, Watch};
 use crate::framing::push_hex;
@@ -154,7 +155,19 @@ impl<'a> SessionState<'a> {
     }
 
     /// Forgets what was of the program, which begins again.
-    pub fn begin_again(&mut self) {
+    ///
+    /// The history is empty (`emptied`). What gdb asked for stays: breakpoints, watchpoints, settings
+    /// and calls that are caught (`kept`). The program has not ended: it stands as one that was
+    /// trapped before its first step, and nothing was told of the call at its pc (`goes_on`,
+    /// `around`). No steps are counted (`counted`).
+    pub fn begin_again(&mut self)
+        ensures emptied { changes self.new.history ≡ [] }
+        ensures kept { PlacesKept self.old self.new }
+        ensures goes_on { has_ended self.new ≡ false }
+        ensures around { (environment : Recording) → around self.new environment
+            ≡ stopped_at (forgotten (around self.old environment)) (Stop.Signal 5) }
+        ensures counted { self.new.steps ≡ 0 }
+    {
         self.forget();
         self.steps = 0;
         self.made = 0;
