@@ -42,6 +42,12 @@ RunsNone payload =
     (letter payload ≢ 99) × (letter payload ≢ 67) × (letter payload ≢ 115)
     × (letter payload ≢ 83) × (letter payload ≢ 118) × (letter payload ≢ 98)
 
+-- none of `D`, `k` and `R`, which end the session, and of `v`, by some of which it ends
+abbrev pub EndsNone : List ℕ → Type 0
+EndsNone payload =
+    (letter payload ≢ 68) × (letter payload ≢ 107) × (letter payload ≢ 82)
+    × (letter payload ≢ 118)
+
 -- `G` or `P`
 abbrev pub ChangesRegister : List ℕ → Type 0
 ChangesRegister payload = (letter payload ≡ 71) ⊎ (letter payload ≡ 80)

@@ -8,8 +8,9 @@ ghost use Rattle.rrs_lib.specs.Machine.{state_of};
 ghost use Rattle.rrs_lib.specs.Executor.{state_in};
 ghost use Rattle.rrs_linux.specs.Recording.{Recording};
 ghost use Rattle.rrs_gdb.specs.declared.session.Going.{Going};
+ghost use Rattle.rrs_gdb.specs.declared.session.Next.{Next};
 ghost use Rattle.rrs_gdb.specs.Answers.{BeginsBy, Goes, HasSubject, IsDone, Leaves, Means, Sets, Shows, moment};
-ghost use Rattle.rrs_gdb.specs.Sessions.{letter, Acts, BreaksKept, BySignal, HasNoSignal, HasSignal, IsSignal, Signals, BreaksNone, GoesBy, GoesOnFrom, GoesOnOrStays, ForgetsOrStays, HasAction, HasLetter, HasRegisters, Most, Resumes, SetsRegisters, around, asked_by, has_ended, one_step, up_to, ChangesMemory, ChangesNone, ChangesRegister, IsError, MemoryKept, PlacesKept, RegistersKept, RunsNone, SessionGoesBack, SessionKept, SettingsKept, IsChangeable, SetsBytes, SetsMemory, SetsRegister, ShowsBytes, ShowsMemory, ShowsRegister};
+ghost use Rattle.rrs_gdb.specs.Sessions.{letter, Acts, BreaksKept, EndsNone, BySignal, HasNoSignal, HasSignal, IsSignal, Signals, BreaksNone, GoesBy, GoesOnFrom, GoesOnOrStays, ForgetsOrStays, HasAction, HasLetter, HasRegisters, Most, Resumes, SetsRegisters, around, asked_by, has_ended, one_step, up_to, ChangesMemory, ChangesNone, ChangesRegister, IsError, MemoryKept, PlacesKept, RegistersKept, RunsNone, SessionGoesBack, SessionKept, SettingsKept, IsChangeable, SetsBytes, SetsMemory, SetsRegister, ShowsBytes, ShowsMemory, ShowsRegister};
 ghost use Rattle.rrs_gdb.specs.Packets.{IsNumber, number, before, behind};
 ghost use Rattle.rrs_gdb.specs.Shown.{registers_text, stop_text, with_register, word_at};
 
@@ -524,6 +525,7 @@ fn signal_and_rest(text: &[u8], going: Going) -> Option<(Going, &[u8])>
 fn tell_stop(alloc: Global, reply: &mut Vec<u8>, stop: Stop) -> Result<Next, LinkError>
     ensures told { OnOk result (reply.new.items ≡ reply.old.items ++ stop_text stop) }
     ensures no_error { OnOk result (IsError reply.old.items reply.new.items → ⊥) }
+    ensures reply { IfOk result (λ next. next ≡ Next.Reply) }
 {
     push_stop(alloc, reply, stop)?;
     Ok(Next::Reply)
@@ -546,6 +548,7 @@ fn go<M: Memory, G: StopRunner<M>, R: Read, W: Write>(
         (around state.new environment.new) (state_in M.bytes M.writable executor.new)) }
     ensures told { OnOk result (reply.new.items ≡ reply.old.items ++ stop_text state.new.stop) }
     ensures error { OnOk result (IsError reply.old.items reply.new.items → ⊥) }
+    ensures reply { IfOk result (λ next. next ≡ Next.Reply) }
 {
     if state.has_ended() {
         return tell_stop(link.alloc, reply, state.stop);
@@ -565,7 +568,8 @@ fn go<M: Memory, G: StopRunner<M>, R: Read, W: Write>(
 
 /// Answers that a packet can't be understood.
 fn refuse(reply: &mut Vec<u8>) -> Result<Next, LinkError>
-    ensures { OnOk result (IsError reply.old.items reply.new.items) }
+    ensures error { OnOk result (IsError reply.old.items reply.new.items) }
+    ensures reply { IfOk result (λ next. next ≡ Next.Reply) }
 {
     push_invalid(reply)?;
     Ok(Next::Reply)
@@ -617,6 +621,7 @@ fn go_from<M: Memory, G: StopRunner<M>, R: Read, W: Write>(
         reply.old.items)
         (moment state.new environment.new (state_in M.bytes M.writable executor.new)
         reply.new.items)) }
+    ensures reply { IfOk result (λ next. next ≡ Next.Reply) }
 {
     let Some((going, address)) = going_of(payload) else {
         return refuse(reply);
@@ -827,7 +832,9 @@ fn reverse<'a, M: Memory>(
 }
 
 /// What follows a packet that is about the session alone.
-fn next_behind(payload: &[u8]) -> Next {
+fn next_behind(payload: &[u8]) -> Next
+    ensures { EndsNone payload.now → result ≡ Next.Reply }
+{
     match payload {
         [b'D', ..] => Next::ReplyAndEnd,
         [b'k'] => Next::End,
@@ -843,7 +850,8 @@ fn manage<R, W>(
     reply: &mut Vec<u8>,
     payload: &[u8],
 ) -> Result<Next, AllocError>
-    ensures { SessionKept state.old state.new }
+    ensures kept { SessionKept state.old state.new }
+    ensures reply { EndsNone payload.now → IfOk result (λ next. next ≡ Next.Reply) }
 {
     state.is_extended |= payload == b"!".as_slice();
     match payload {
@@ -873,7 +881,8 @@ fn subject_of(payload: &[u8]) -> Subject
 
 /// What follows an answer that is whole.
 fn reply_behind(answered: Result<(), AllocError>) -> Result<Next, LinkError>
-    ensures { OnOk result (IsOk answered) }
+    ensures whole { OnOk result (IsOk answered) }
+    ensures reply { IfOk result (λ next. next ≡ Next.Reply) }
 {
     answered?;
     Ok(Next::Reply)
@@ -899,6 +908,7 @@ fn answer_by_subject<'a, M: Memory, G: StopRunner<M>, R: Read, W: Write>(
         reply.old.items)
         (moment state.new environment.new (state_in M.bytes M.writable executor.new)
         reply.new.items)) }
+    ensures reply { EndsNone payload.now → IfOk result (λ next. next ≡ Next.Reply) }
 {
     let alloc = link.alloc;
     match subject_of(payload) {
@@ -920,10 +930,11 @@ fn answer_by_subject<'a, M: Memory, G: StopRunner<M>, R: Read, W: Write>(
 /// Only a packet with the letter of a change changes the machine, and only what its letter says
 /// (`asks`, `registers`, `memory`), and only one by which the program goes on or back takes it on.
 /// Breakpoints, watchpoints and settings are changed by the packets that are for them alone
-/// (`breaks`, `settings`), and a packet that is answered by an error changes nothing (`error`).
-/// What the text of a packet means is said by `shows_registers`, `sets_registers`,
-/// `shows_register`, `sets_register`, `shows_memory`, `sets_memory` and `sets_bytes`, and, of those
-/// by which the program goes on, by `steps`, `continues` and `acts`.
+/// (`breaks`, `settings`), and a packet that is answered by an error changes nothing (`error`). What
+/// the text of a packet means is said by `shows_registers`, `sets_registers`, `shows_register`,
+/// `sets_register`, `shows_memory`, `sets_memory` and `sets_bytes`, and, of those by which the
+/// program goes on, by `steps`, `continues` and `acts`. Only `D`, `k`, `R` and packets that begin with
+/// `v` end the session (`reply`).
 ///
 /// # Errors
 ///
@@ -1027,6 +1038,7 @@ pub fn answer_to<'a, M: Memory, G: StopRunner<M>, R: Read, W: Write>(
         (behind 58 (drop 1 payload.now)) (drop 1 payload.now)
         (state_in M.bytes M.writable executor.old) (state_in M.bytes M.writable executor.new)
         reply.old.items reply.new.items) }
+    ensures reply { EndsNone payload.now → IfOk result (λ next. next ≡ Next.Reply) }
 {
     answer_by_subject(runner, state, executor, environment, link, reply, payload)
 }

@@ -10,7 +10,7 @@ returns-in-Shown-clause-leaves g c =
 
 pub returns-in-Shown-clause-means : goal.returns-in-Shown-clause-means
 returns-in-Shown-clause-means g c =
-    behind_answer _ c.reply_behind.result c.show.result c.reply_behind.ensures
+    behind_answer _ c.reply_behind.result c.show.result c.reply_behind.ensures.whole
     (means_shown_ok c.show.result _ _ _ c.in-Shown.ensures c.show.ensures.kept refl
     (record { stops_kept = refl; watches_kept = refl; settings_kept = refl; history_kept = refl }) c.show.ensures.shown)
 
@@ -20,7 +20,7 @@ returns-in-Changed-clause-leaves g c =
 
 pub returns-in-Changed-clause-means : goal.returns-in-Changed-clause-means
 returns-in-Changed-clause-means g c =
-    behind_answer _ c.reply_behind-in-Changed.result c.alter.result c.reply_behind-in-Changed.ensures
+    behind_answer _ c.reply_behind-in-Changed.result c.alter.result c.reply_behind-in-Changed.ensures.whole
     (means_changed_ok c.alter.result _ _ _ c.in-Changed.ensures refl c.alter.ensures.sets
     c.alter.ensures.forgets c.alter.ensures.error)
 
@@ -43,7 +43,7 @@ returns-in-Back-clause-leaves g c = leaves_back _ _ _ c.in-Back.ensures c.revers
 
 pub returns-in-Back-clause-means : goal.returns-in-Back-clause-means
 returns-in-Back-clause-means g c =
-    behind_answer _ c.reply_behind-in-Back.result c.reverse.result c.reply_behind-in-Back.ensures
+    behind_answer _ c.reply_behind-in-Back.result c.reverse.result c.reply_behind-in-Back.ensures.whole
     (means_back_ok c.reverse.result _ _ _ c.in-Back.ensures
     (record { step = c.reverse.ensures.step; goes_back = c.reverse.ensures.goes_back }) c.reverse.ensures.error)
 
@@ -53,7 +53,7 @@ returns-in-Breaks-clause-leaves g c =
 
 pub returns-in-Breaks-clause-means : goal.returns-in-Breaks-clause-means
 returns-in-Breaks-clause-means g c =
-    behind_answer _ c.reply_behind-in-Breaks.result c.push_text.result c.reply_behind-in-Breaks.ensures
+    behind_answer _ c.reply_behind-in-Breaks.result c.push_text.result c.reply_behind-in-Breaks.ensures.whole
     (means_breaks_ok c.push_text.result _ _ _ _ c.in-Breaks.ensures refl refl c.change_breaks.ensures.settings
     c.change_breaks.ensures.error c.push_text.ensures)
 
@@ -65,11 +65,35 @@ returns-in-Query-clause-means g c =
     always _ c.reply_behind-in-Query.result (means_query _ _ _ c.in-Query.ensures)
 
 pub returns-in_err-manage-in-Session-clause-leaves : goal.returns-in_err-manage-in-Session-clause-leaves
-returns-in_err-manage-in-Session-clause-leaves g c = leaves_all _ _ _ refl refl c.manage.ensures
+returns-in_err-manage-in-Session-clause-leaves g c = leaves_all _ _ _ refl refl c.manage.ensures.kept
 
 pub returns-in_ok-manage-in-Session-clause-leaves : goal.returns-in_ok-manage-in-Session-clause-leaves
-returns-in_ok-manage-in-Session-clause-leaves g c = leaves_all _ _ _ refl refl c.manage.ensures
+returns-in_ok-manage-in-Session-clause-leaves g c = leaves_all _ _ _ refl refl c.manage.ensures.kept
 
 pub returns-in_ok-manage-in-Session-clause-means : goal.returns-in_ok-manage-in-Session-clause-means
 returns-in_ok-manage-in-Session-clause-means g c =
-    means_session _ _ _ c.in-Session.ensures refl refl c.manage.ensures
+    means_session _ _ _ c.in-Session.ensures refl refl c.manage.ensures.kept
+
+pub returns-in-Shown-clause-reply : goal.returns-in-Shown-clause-reply
+returns-in-Shown-clause-reply g c = λ _. c.reply_behind.ensures.reply
+
+pub returns-in-Changed-clause-reply : goal.returns-in-Changed-clause-reply
+returns-in-Changed-clause-reply g c = λ _. c.reply_behind-in-Changed.ensures.reply
+
+pub returns-in-Run-clause-reply : goal.returns-in-Run-clause-reply
+returns-in-Run-clause-reply g c = λ _. c.go_from.ensures.reply
+
+pub returns-in-Named-clause-reply : goal.returns-in-Named-clause-reply
+returns-in-Named-clause-reply g c = λ none. absurd (none.3 c.in-Named.ensures)
+
+pub returns-in-Back-clause-reply : goal.returns-in-Back-clause-reply
+returns-in-Back-clause-reply g c = λ _. c.reply_behind-in-Back.ensures.reply
+
+pub returns-in-Breaks-clause-reply : goal.returns-in-Breaks-clause-reply
+returns-in-Breaks-clause-reply g c = λ _. c.reply_behind-in-Breaks.ensures.reply
+
+pub returns-in-Query-clause-reply : goal.returns-in-Query-clause-reply
+returns-in-Query-clause-reply g c = λ _. c.reply_behind-in-Query.ensures.reply
+
+pub returns-in_ok-manage-in-Session-clause-reply : goal.returns-in_ok-manage-in-Session-clause-reply
+returns-in_ok-manage-in-Session-clause-reply g c = c.in_ok-manage-in-Session.ensures.reply

@@ -84,3 +84,6 @@ pub returns-clause-error : goal.returns-clause-error
 returns-clause-error g c = λ other. on_means _ _ _ _ c.answer_by_subject.ensures.means (λ m error.
     let stays = m.error other error in
     (stays.state_kept, stays.environment_kept, stays.session_kept))
+
+pub returns-clause-reply : goal.returns-clause-reply
+returns-clause-reply g c = c.answer_by_subject.ensures.reply

@@ -17,7 +17,7 @@ returns-clause-goes g c =
 pub returns-in_default-clause-goes : goal.returns-in_default-clause-goes
 returns-in_default-clause-goes g c =
     let found = c.in_default.ensures in
-    goes_refused c.refuse.result _ _ _ found.no_signal found.none.0 found.none.1 refl refl c.refuse.ensures
+    goes_refused c.refuse.result _ _ _ found.no_signal found.none.0 found.none.1 refl refl c.refuse.ensures.error
 
 -- what stands after its letter is no address
 pub returns-then-not-begin_at-clause-goes : goal.returns-then-not-begin_at-clause-goes
@@ -27,7 +27,7 @@ returns-then-not-begin_at-clause-goes g c =
     let kept = OnFalse_at fails c.begin_at.ensures.kept in
     let found = c.in-Some.ensures in
     goes_nowhere c.refuse-then-not-begin_at.result c.args.payload.now c.in-Some.address.now c.in-Some.going _ _
-    found.action found.signal none.0 none.1 kept.0 refl c.refuse-then-not-begin_at.ensures
+    found.action found.signal none.0 none.1 kept.0 refl c.refuse-then-not-begin_at.ensures.error
 
 pub returns-clause-places : goal.returns-clause-places
 returns-clause-places g c =
