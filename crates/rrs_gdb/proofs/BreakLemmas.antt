@@ -136,34 +136,37 @@ one_passed stops watches count s t m before after others so_far next is_passed =
 }
 
 pub comes_to : (stops : List ℕ) (watches : List Watch) (count limit : ℕ) (s t m : State)
-    (before after others : List State) → PassedSoFar stops watches count s before t after → after ≡ m ∷ others
-    → count < limit → ComesTo stops watches limit before m others
-comes_to stops watches count limit s t m before after others so_far next less = record {
+    (before after others : List State) (steps : ℕ) → PassedSoFar stops watches count s before t after
+    → after ≡ m ∷ others → count < limit → steps ≡ count + 1 → ComesTo stops watches limit before m others steps
+comes_to stops watches count limit s t m before after others steps so_far next less one_more = record {
   passed = so_far.passed;
   leads = so_far.leads ∙ ap (λ (xs : List State). so_far.passed ++ xs) next;
   are_passed = so_far.are_passed;
   within = omega (arith, less, so_far.as_many);
+  counted = omega (arith, one_more, so_far.as_many);
 }
 
 -- none is left
 pub all_passed : (stops : List ℕ) (watches : List Watch) (count limit : ℕ) (s t : State) (before after : List State)
     → PassedSoFar stops watches count s before t after → after ≡ [] → count < limit
     → All (IsPassed stops watches) before × (length before < limit) × (t ≡ back_over before s)
+    × (count ≡ length before)
 all_passed stops watches count limit s t before after so_far none less =
     let all : so_far.passed ≡ before =
     sym (so_far.leads ∙ ap (λ (xs : List State). so_far.passed ++ xs) none ∙ append-nil so_far.passed) in (
       subst (All (IsPassed stops watches)) all so_far.are_passed,
       subst (λ (xs : List State). length xs < limit) all (omega (arith, less, so_far.as_many)),
       subst (λ (xs : List State). t ≡ back_over xs s) all so_far.there,
+      sym so_far.as_many ∙ ap length all,
     )
 
 -- as many as the limit
 pub limit_passed : (stops : List ℕ) (watches : List Watch) (count limit : ℕ) (s t : State) (before after : List State)
     → PassedSoFar stops watches count s before t after → count ≡ limit
     → (passed : List State) × (before ≡ passed ++ after) × All (IsPassed stops watches) passed
-    × (length passed ≡ limit) × (t ≡ back_over passed s)
+    × (length passed ≡ limit) × (t ≡ back_over passed s) × (count ≡ limit)
 limit_passed stops watches count limit s t before after so_far same =
-    (so_far.passed, so_far.leads, so_far.are_passed, so_far.as_many ∙ same, so_far.there)
+    (so_far.passed, so_far.leads, so_far.are_passed, so_far.as_many ∙ same, so_far.there, same)
 
 -- no step was made
 pub none_stepped : (stops : List ℕ) (s : State) → PassesNone stops 1 s

@@ -25,7 +25,7 @@ use Rattle.rrs_gdb.specs.Breaks.{GoesForward, GoesBack, IsPassed, KeepsSteps}
 use Rattle.rrs_gdb.specs.declared.state.SessionState.{SessionState}
 use Rattle.rrs_gdb.specs.declared.state.Stop.{Stop}
 use Rattle.rrs_gdb.specs.declared.state.Stop.TheVariants.{Signal}
-use Rattle.rrs_gdb.specs.Sessions.{GoesOnBack, RunsBack, Signals, BySignal, HasNoSignal, IsSignal, signalled}
+use Rattle.rrs_gdb.specs.Sessions.{CallTakenBack, CallsBack, GoesOnBack, RunsBack, Signals, BySignal, HasNoSignal, IsSignal, signalled}
 use Rattle.rrs_gdb.specs.Packets.{IsNumber, number, before, behind}
 use Rattle.rrs_gdb.proofs.BreakLemmas.{none_stepped, none_kept, kept_whole}
 use Rattle.rrs_gdb.proofs.WatchLemmas.{none_made}
@@ -433,25 +433,70 @@ acts (Err f) action actions going rest ended asked limit a b s t old new same ha
 
 -- nothing is left of a limit
 pub nothing_back : (stops : List ℕ) (watches : List Watch) (limit : ℕ) (e : Recording) (s : State) (before : List State)
-    → limit ≡ 0 → GoesOnBack stops watches e s before limit e s before
+    → limit ≡ 0 → GoesOnBack stops watches e s before limit 0 e s before
 nothing_back stops watches limit e s before none =
-    RunsBack limit e s before Back.Limit ([], refl, All-nil (IsPassed stops watches), sym none, refl) (λ same. absurd (cc)) refl
+    RunsBack limit 0 e s before Back.Limit ([], refl, All-nil (IsPassed stops watches), sym none, refl, sym none)
+    (λ same. absurd (cc)) refl
 
 -- the same breakpoints and watchpoints
 pub same_back : (stops stops' : List ℕ) (watches watches' : List Watch) (limit : ℕ) (s : State) (before after : List State)
-    (t : State) (end : BackEnd) → stops' ≡ stops → watches' ≡ watches
-    → GoesBack stops' watches' limit s before after t end → GoesBack stops watches limit s before after t end
-same_back stops stops' watches watches' limit s before after t end same same' goes =
-    subst (λ (ws : List Watch). GoesBack stops ws limit s before after t end) same'
-    (subst (λ (xs : List ℕ). GoesBack xs watches' limit s before after t end) same goes)
+    (t : State) (steps : ℕ) (end : BackEnd) → stops' ≡ stops → watches' ≡ watches
+    → GoesBack stops' watches' limit s before after t steps end
+    → GoesBack stops watches limit s before after t steps end
+same_back stops stops' watches watches' limit s before after t steps end same same' goes =
+    subst (λ (ws : List Watch). GoesBack stops ws limit s before after t steps end) same'
+    (subst (λ (xs : List ℕ). GoesBack xs watches' limit s before after t steps end) same goes)
 
 -- a run back over a call
 pub back_to_call : (stops stops' : List ℕ) (watches watches' : List Watch) (limit : ℕ) (s : State)
-    (before after : List State) (t : State) (end : BackEnd) → stops' ≡ stops → watches' ≡ watches → end ≡ Back.Call
-    → GoesBack stops' watches' limit s before after t end → GoesBack stops watches limit s before after t Back.Call
-back_to_call stops stops' watches watches' limit s before after t end same same' call goes =
-    subst (λ (x : BackEnd). GoesBack stops watches limit s before after t x) call
-    (same_back stops stops' watches watches' limit s before after t end same same' goes)
+    (before after : List State) (t : State) (steps : ℕ) (end : BackEnd) → stops' ≡ stops → watches' ≡ watches
+    → end ≡ Back.Call → GoesBack stops' watches' limit s before after t steps end
+    → GoesBack stops watches limit s before after t steps Back.Call
+back_to_call stops stops' watches watches' limit s before after t steps end same same' call goes =
+    subst (λ (x : BackEnd). GoesBack stops watches limit s before after t steps x) call
+    (same_back stops stops' watches watches' limit s before after t steps end same same' goes)
+
+-- How far the program has gone back from the first of two places to the second, with what is left of
+-- a limit and of the steps that are counted: what follows from the second follows from the first.
+pub record BackSoFar (stops : List ℕ) (watches : List Watch)
+    (limit : ℕ) (e : Recording) (s : State) (before : List State) (steps : ℕ)
+    (left : ℕ) (d : Recording) (u : State) (between : List State) (steps' : ℕ) : Type 0 where
+  pub gone : ℕ
+  pub counted : steps' ≡ steps - gone
+  pub goes_back : (e' : Recording) (t : State) (after : List State) (more : ℕ)
+      → GoesOnBack stops watches e' t after left more d u between
+      → GoesOnBack stops watches e' t after limit (gone + more) e s before
+
+pub none_gone : (stops : List ℕ) (watches : List Watch) (limit : ℕ) (e : Recording) (s : State) (before : List State)
+    (steps : ℕ) → BackSoFar stops watches limit e s before steps limit e s before steps
+none_gone stops watches limit e s before steps = record {
+  gone = 0;
+  counted = omega arith;
+  goes_back = λ e' t after more goes. subst (λ (n : ℕ). GoesOnBack stops watches e' t after limit n e s before)
+      (omega arith) goes;
+}
+
+-- one run more, over a call
+pub call_gone : (stops : List ℕ) (watches : List Watch) (limit : ℕ) (e : Recording) (s : State) (before : List State)
+    (steps left : ℕ) (d : Recording) (u : State) (between : List State) (steps' gone : ℕ) (d' : Recording) (u' : State)
+    (between' : List State) → BackSoFar stops watches limit e s before steps left d u between steps'
+    → GoesBack stops watches left u between between' u' gone Back.Call → CallTakenBack d d' → ¬ Contains stops u'.pc
+    → BackSoFar stops watches limit e s before steps (left - 1) d' u' between' (steps' - gone)
+call_gone stops watches limit e s before steps left d u between steps' gone d' u' between' so_far back taken none = record {
+  gone = so_far.gone + gone;
+  counted = omega (arith, so_far.counted);
+  goes_back = λ e' t after more goes. subst (λ (n : ℕ). GoesOnBack stops watches e' t after limit n e s before)
+      (omega arith) (so_far.goes_back e' t after (gone + more) (CallsBack left gone more d u between d' u' between' back taken none goes));
+}
+
+-- the last run, and how many steps there were in all
+pub all_gone : (stops : List ℕ) (watches : List Watch) (limit : ℕ) (e : Recording) (s : State) (before : List State)
+    (steps left : ℕ) (d : Recording) (u : State) (between : List State) (steps' more last : ℕ) (e' : Recording) (t : State)
+    (after : List State) → BackSoFar stops watches limit e s before steps left d u between steps'
+    → GoesOnBack stops watches e' t after left more d u between → last ≡ steps' - more
+    → (gone : ℕ) × (last ≡ steps - gone) × GoesOnBack stops watches e' t after limit gone e s before
+all_gone stops watches limit e s before steps left d u between steps' more last e' t after so_far goes counted =
+    (so_far.gone + more, omega (arith, so_far.counted, counted), so_far.goes_back e' t after more goes)
 
 -- ---- a program that is to go on, and has ended or not
 

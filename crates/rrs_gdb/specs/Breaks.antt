@@ -1,7 +1,7 @@
 -- Where the machine stops (gdb's manual, "Remote Serial Protocol", "Packets": Z, c, bc), forward
 -- and back: before the instruction at a breakpoint, and before one whose load or store touches a
 -- watchpoint.
-use Rattle.std.specs.Prelude.{◌≡◌, ◌≢◌, ◌≤◌, ℕ, ◌+◌, ◌<◌, ◌⊎◌, ◌↔◌, List, [], ◌∷◌, ◌++◌, All, Contains, length, Ok}
+use Rattle.std.specs.Prelude.{◌≡◌, ◌≢◌, ◌≤◌, ℕ, suc, ◌+◌, ◌<◌, ◌⊎◌, ◌↔◌, List, [], ◌∷◌, ◌++◌, All, Contains, length, Ok}
 use Rattle.rrs_lib.specs.Bytes.{width}
 use Rattle.rrs_lib.specs.Machine.{State}
 use Rattle.rrs_lib.specs.Accesses.{Access, Read, Write}
@@ -113,40 +113,46 @@ pub record KeepsSteps (steps : ℕ) (old : History) (s : State) (new : History) 
 abbrev pub IsPassed : List ℕ → List Watch → State → Type 0
 IsPassed stops watches u = (¬ Contains stops u.pc) × TouchesNone watches u
 
--- Of the states before s, newest first, some are passed; then comes m, before the others.
+-- Of the states before s, newest first, some are passed; then comes m, before the others. From s to
+-- m these are so many steps back.
 pub record ComesTo (stops : List ℕ) (watches : List Watch) (limit : ℕ) (before : List State)
-    (m : State) (others : List State) : Type 0 where
+    (m : State) (others : List State) (steps : ℕ) : Type 0 where
   pub passed : List State
   pub leads : before ≡ passed ++ m ∷ others
   pub are_passed : All (IsPassed stops watches) passed
   pub within : length passed < limit
+  pub counted : steps ≡ suc (length passed)
 
 -- where the machine is that went from s back over these states, newest first
 abbrev pub back_over : List State → State → State
 back_over [] s = s
 back_over (m ∷ ms) s = back_over ms m
 
--- From s, with the states before it, the machine goes back to t, with those before that.
-abbrev pub GoesBack : List ℕ → List Watch → ℕ → State → List State → List State → State → BackEnd
-    → Type 0
+-- From s, with the states before it, the machine goes back to t, with those before that, by so many
+-- steps.
+abbrev pub GoesBack : List ℕ → List Watch → ℕ → State → List State → List State → State → ℕ
+    → BackEnd → Type 0
 -- to the first stop; the step from there touches no watchpoint
-GoesBack stops watches limit s before after t Back.AtStop =
-    ComesTo stops watches limit before t after × Contains stops t.pc × TouchesNone watches t
--- to the first state from which the step touches a watchpoint; that step is made again
-GoesBack stops watches limit s before after t (Back.Touched watch) =
+GoesBack stops watches limit s before after t steps Back.AtStop =
+    ComesTo stops watches limit before t after steps × Contains stops t.pc × TouchesNone watches t
+-- to the first state from which the step touches a watchpoint; that step is made again, and is not
+-- counted
+GoesBack stops watches limit s before after t steps (Back.Touched watch) =
     (m : State) × (others : List State) × (answer : StepAnswer)
-    × ComesTo stops watches limit before m others × TouchesOne watches m watch × Step m t answer
--- to the first call
-GoesBack stops watches limit s before after t Back.Call =
-    ComesTo stops watches limit before t after
+    × ComesTo stops watches limit before m others (suc steps) × TouchesOne watches m watch
+    × Step m t answer
+-- to the first call, which is one step
+GoesBack stops watches limit s before after t steps Back.Call =
+    ComesTo stops watches limit before t after steps
 -- to the begin: all are passed, and they are fewer than the limit
-GoesBack stops watches limit s before after t Back.AtBegin =
+GoesBack stops watches limit s before after t steps Back.AtBegin =
     (after ≡ []) × All (IsPassed stops watches) before × (length before < limit)
-    × (t ≡ back_over before s)
+    × (t ≡ back_over before s) × (steps ≡ length before)
 -- as many as the limit are passed
-GoesBack stops watches limit s before after t Back.Limit =
+GoesBack stops watches limit s before after t steps Back.Limit =
     (passed : List State) × (before ≡ passed ++ after)
     × All (IsPassed stops watches) passed × (length passed ≡ limit) × (t ≡ back_over passed s)
+    × (steps ≡ limit)
 
 -- ---- of the code
 

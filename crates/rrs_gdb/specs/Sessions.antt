@@ -462,32 +462,35 @@ pub record CallTakenBack (e e' : Recording) : Type 0 where
   pub held_kept : e'.held ≡ e.held
 
 -- From e and s, with the states before it, the program goes back to e' and t, with those before
--- that, within a limit: by runs back up to stops and watchpoints, and over the calls between them.
+-- that, within a limit, by so many steps in all: by runs back up to stops and watchpoints, and over
+-- the calls between them.
 pub data GoesOnBack (stops : List ℕ) (watches : List Watch) (e' : Recording) (t : State)
-    (after : List State) : ℕ → Recording → State → List State → Type 0 where
+    (after : List State) : ℕ → ℕ → Recording → State → List State → Type 0 where
   -- a run back, to no call
-  RunsBack : (limit : ℕ) (e : Recording) (s : State) (before : List State) (end : BackEnd)
-      → GoesBack stops watches limit s before after t end → end ≢ Back.Call → e' ≡ e
-      → GoesOnBack stops watches e' t after limit e s before
+  RunsBack : (limit steps : ℕ) (e : Recording) (s : State) (before : List State) (end : BackEnd)
+      → GoesBack stops watches limit s before after t steps end → end ≢ Back.Call → e' ≡ e
+      → GoesOnBack stops watches e' t after limit steps e s before
   -- a run back over a call, to a stop
-  StopsBack : (limit : ℕ) (e : Recording) (s : State) (before : List State)
-      → GoesBack stops watches limit s before after t Back.Call → CallTakenBack e e'
+  StopsBack : (limit steps : ℕ) (e : Recording) (s : State) (before : List State)
+      → GoesBack stops watches limit s before after t steps Back.Call → CallTakenBack e e'
       → Contains stops t.pc
-      → GoesOnBack stops watches e' t after limit e s before
+      → GoesOnBack stops watches e' t after limit steps e s before
   -- a run back over a call, and what follows within what is left of the limit
-  CallsBack : (limit : ℕ) (e : Recording) (s : State) (before : List State)
+  CallsBack : (limit steps more : ℕ) (e : Recording) (s : State) (before : List State)
       (d : Recording) (u : State) (between : List State)
-      → GoesBack stops watches limit s before between u Back.Call → CallTakenBack e d
+      → GoesBack stops watches limit s before between u steps Back.Call → CallTakenBack e d
       → ¬ Contains stops u.pc
-      → GoesOnBack stops watches e' t after (limit - 1) d u between
-      → GoesOnBack stops watches e' t after limit e s before
+      → GoesOnBack stops watches e' t after (limit - 1) more d u between
+      → GoesOnBack stops watches e' t after limit (steps + more) e s before
 
--- A session goes back so: from where its history leads back to, with its breakpoints.
+-- A session goes back so: from where its history leads back to, with its breakpoints. The steps that
+-- were taken back are no longer counted.
 abbrev pub SessionGoesBack : ℕ → SessionState → Recording → State → SessionState → Recording → State
     → Type 0
 SessionGoesBack limit old e s new e' t =
-    GoesOnBack old.breaks.stops.items old.breaks.watches.items e' t (past (changes new.history) t)
-    limit e s (past (changes old.history) s)
+    (gone : ℕ) × (new.steps ≡ old.steps - gone)
+    × GoesOnBack old.breaks.stops.items old.breaks.watches.items e' t
+    (past (changes new.history) t) limit gone e s (past (changes old.history) s)
 
 -- ---- of the code
 

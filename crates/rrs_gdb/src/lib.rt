@@ -25,7 +25,7 @@ mod session;
 mod state;
 mod target;
 
-pub use back::{BackEnd, go_back};
+pub use back::{BackEnd, WentBack, go_back};
 pub use breaks::{Breaks, Watch, WatchKind};
 pub use contents::{read_memory, write_memory};
 pub use forward::{ForwardEnd, ForwardReason, go_forward};

@@ -270,6 +270,7 @@ pub(crate) fn forward<M: Memory, G: StopRunner<M>, R: Read, W: Write>(
 fn take_call_back<'a>(state: &mut SessionState<'a>, environment: &mut OutputRecorder<'a>)
     ensures places { PlacesKept state.old state.new }
     ensures history { state.new.history ≡ state.old.history }
+    ensures steps { state.new.steps ≡ state.old.steps }
     ensures taken { CallTakenBack environment.old environment.new }
 {
     if let Some(mark) = state.calls.pop_front() {
@@ -301,7 +302,8 @@ fn stop_back(end: &BackEnd) -> Stop {
     }
 }
 
-/// Goes back, to a stop or for `limit` steps, each call being one.
+/// Goes back, to a stop or for `limit` steps, each call being one. Steps that are taken back are no
+/// longer counted.
 pub(crate) fn backward<'a, M: Memory>(
     state: &mut SessionState<'a>,
     executor: &mut InstructionExecutor<M>,
@@ -317,9 +319,10 @@ pub(crate) fn backward<'a, M: Memory>(
     state.has_told_exit = false;
     let mut left = limit;
     'legs: while left > 0 {
-        let end = go_back(executor, &mut state.history, left, &state.breaks);
-        if !is_behind_call(&end) {
-            return stop_back(&end);
+        let back = go_back(executor, &mut state.history, left, &state.breaks);
+        state.steps = state.steps.saturating_sub(back.steps);
+        if !is_behind_call(&back.end) {
+            return stop_back(&back.end);
         }
         take_call_back(state, environment);
         if is_stop(&state.breaks.stops, executor.hart_state.pc) {

@@ -124,7 +124,7 @@ pub(crate) fn wanted(alloc: Global, payloads: &str) -> Result<Vec<u8>, AllocErro
 
 /// Sessions, and what they are answered. Each packet is in one of them, in a stream below, or in a
 /// session of gdb.
-const SESSIONS: [(&str, &str); 13] = [
+const SESSIONS: [(&str, &str); 14] = [
     ("?|!|qC", "S05|+|OK|+|QC1"),
     (
         "qAttached|!|qAttached|qfThreadInfo|qsThreadInfo|Hg0|T1|vMustReplyEmpty|q|Q",
@@ -162,6 +162,10 @@ const SESSIONS: [(&str, &str); 13] = [
     (
         "qRcmd,7374657073|qRcmd,6c696d69742032|c|qRcmd,686973746f72792030|bs|qRcmd,78|qRcmd,z|S05|c",
         "73746570733a20300a|+|6c696d69743a20320a|+|S02|+|686973746f72793a20300a|+|T05replaylog:begin;|+|6d6f6e69746f722073746570733a20686f77206d616e792073746570732077657265206d6164650a6d6f6e69746f72206c696d6974205b4e5d3a20746865206d6f7374207374657073206f66206120636f6e74696e75650a6d6f6e69746f7220686973746f7279205b4e5d3a20686f77206d616e7920737465707320617265206b6570742c20616e642063616e2062652074616b656e206261636b0a6d6f6e69746f722073746f702d61742d65786974205b6f6e7c6f66665d3a2077686574686572207468652070726f6772616d2073746f7073206f6e636520776865726520697420697320746f20657869740a|+|E16|+|X05|+|X05",
+    ),
+    (
+        "s|s|qRcmd,7374657073|bs|qRcmd,7374657073|c|qRcmd,7374657073|Z4,40,4|bc|qRcmd,7374657073|z4,40,4|bc|qRcmd,7374657073",
+        "S05|+|S05|+|73746570733a20320a|+|S05|+|73746570733a20310a|+|O64000000|S05|+|73746570733a2031340a|+|OK|+|T05awatch:40;|+|73746570733a20330a|+|OK|+|T05replaylog:begin;|+|73746570733a20300a",
     ),
     (
         "qXfer:exec-file:read:1:0,1|qXfer:exec-file:read:1:1,9|qXfer:features:read:a:0,9|qXfer:exec-file:read:1:9|vKill;1",

@@ -1,4 +1,4 @@
-use Rattle.std.proofs.Common.{◌≡◌, ◌+◌, ◌-◌, sym, subst, ◌∙◌, ap, arith, ℕ}
+use Rattle.std.proofs.Common.{◌≡◌, ◌+◌, sym, subst, ◌∙◌, ap, arith}
 use Rattle.rrs_lib.specs.Machine.{State}
 use Rattle.rrs_lib.specs.Executor.{state_in}
 use Rattle.rrs_lib.specs.Steps.{Step}
@@ -20,6 +20,7 @@ returns-in_default-clause-back g c =
       all.0,
       all.1,
       same.1 ∙ all.2,
+      all.3,
     )
 
 pub returns-clause-back : goal.returns-clause-back
@@ -33,8 +34,8 @@ returns-in-Some-watch_at-clause-back g c =
       state c.step_back.new.executor,
       past (changes c.step_back.new.history) (state c.step_back.new.executor),
       c.step_recorded-answer.result,
-      comes_to _ _ _ _ _ _ _ _ _ _ c.steps.invariant.passed c.in-Some.ensures.back
-          (omega (arith, c.steps-test.true, c.steps.invariant.within)),
+      comes_to _ _ _ _ _ _ _ _ _ _ _ c.steps.invariant.passed c.in-Some.ensures.back
+          (omega (arith, c.steps-test.true)) (omega arith),
       rw c.deref.ensures.value at c.in-Some-watch_at.ensures.touched,
       subst (λ (m : State). Step m (state c.step_recorded-answer.new.executor) c.step_recorded-answer.result)
           c.watch_at.ensures.kept c.step_recorded-answer.ensures.step,
@@ -49,9 +50,10 @@ returns-then-is_stop-clause-back g c =
     let watches = c.args.breaks.now.watches.items in
     let before = past (changes c.args.history.now) (state c.args.executor.now) in
     let none : TouchesNone watches (state c.step_back.new.executor) = rw c.deref.ensures.value at c.in_default-watch_at.ensures.touched in
-    let comes : ComesTo stops watches c.args.limit before (state c.step_back.new.executor) (past (changes c.step_back.new.history) (state c.step_back.new.executor)) =
-    comes_to _ _ _ _ _ _ _ _ _ _ i.passed c.in-Some.ensures.back (omega (arith, c.steps-test.true, i.within)) in (
-      subst (λ (t : State). ComesTo stops watches c.args.limit before t (past (changes c.step_back.new.history) t)) kept comes,
+    let comes : ComesTo stops watches c.args.limit before (state c.step_back.new.executor) (past (changes c.step_back.new.history) (state c.step_back.new.executor)) (c.steps.steps + 1) =
+    comes_to _ _ _ _ _ _ _ _ _ _ _ i.passed c.in-Some.ensures.back (omega (arith, c.steps-test.true)) (omega arith) in (
+      subst (λ (t : State). ComesTo stops watches c.args.limit before t (past (changes c.step_back.new.history) t)
+          (c.steps.steps + 1)) kept comes,
       rw c.deref-in-steps.ensures.value at c.if-is_stop.ensures.yes,
       subst (TouchesNone watches) kept none,
     )
@@ -60,7 +62,6 @@ pub steps-preserved : goal.steps-preserved
 steps-preserved g c =
     let state = state_in g.M.Memory.bytes g.M.Memory.writable in
     let i = c.steps.invariant in
-    let count : c.args.limit - c.steps.left + 1 ≡ c.args.limit - (c.steps.left - 1) = omega (arith, c.steps-test.true, i.within) in
     let kept = c.watch_at.ensures.kept in
     let same_pc : (state c.step_back.new.executor).pc ≡ (state c.watch_at.new.executor).pc = sym (ap (λ (t : State). t.pc) kept) in
     let other = rw c.deref-in-steps.ensures.value at c.if-is_stop.ensures.no in
@@ -71,10 +72,8 @@ steps-preserved g c =
     let before = past (changes c.args.history.now) first in
     let more = one_passed _ _ _ _ _ _ _ _ _ i.passed c.in-Some.ensures.back (rw same_pc other, none) in
     record {
-      passed = subst (λ (n : ℕ). PassedSoFar stops watches n first before (state c.watch_at.new.executor)
-          (past (changes c.step_back.new.history) (state c.watch_at.new.executor))) count
-          (subst (λ (t : State). PassedSoFar stops watches (c.args.limit - c.steps.left + 1) first before t
-          (past (changes c.step_back.new.history) t)) (sym kept) more);
-      within = omega (arith, i.within);
+      passed = subst (λ (t : State). PassedSoFar stops watches (c.steps.steps + 1) first before t
+          (past (changes c.step_back.new.history) t)) (sym kept) more;
+      within = omega (arith, c.steps-test.true);
       rest = KeepsTheRest-trans _ _ _ _ i.rest (KeepsTheRest-trans _ _ _ _ c.step_back.ensures.rest c.watch_at.ensures.rest);
     }

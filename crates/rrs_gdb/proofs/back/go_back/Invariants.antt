@@ -10,12 +10,12 @@ invariant-steps g l =
     let memory = g.M.Memory in
     let state = state_in memory.bytes memory.writable in
     record {
-      passed : PassedSoFar l.breaks.stops.items l.breaks.watches.items (l.fn.limit - l.left)
+      passed : PassedSoFar l.breaks.stops.items l.breaks.watches.items l.steps
           (state l.fn.executor) (past (changes l.fn.history) (state l.fn.executor))
           (state l.executor) (past (changes l.history) (state l.executor));
-      within : l.left ≤ l.fn.limit;
+      within : l.steps ≤ l.fn.limit;
       rest : KeepsTheRest memory.layout l.fn.executor l.executor;
     }
 
 abbrev pub decreases-steps : goal.decreases-steps
-decreases-steps g l = l.left
+decreases-steps g l = l.fn.limit - l.steps

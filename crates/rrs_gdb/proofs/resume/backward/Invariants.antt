@@ -1,9 +1,7 @@
-use Rattle.std.proofs.Common.{List}
-use Rattle.rrs_lib.specs.Machine.{State}
 use Rattle.rrs_lib.specs.Executor.{state_in}
-use Rattle.rrs_linux.specs.Recording.{Recording}
 use Rattle.rrs_history.specs.Histories.{changes, past}
-use Rattle.rrs_gdb.specs.Sessions.{GoesOnBack, PlacesKept}
+use Rattle.rrs_gdb.specs.Sessions.{PlacesKept}
+use Rattle.rrs_gdb.proofs.SessionLemmas.{BackSoFar}
 use Rattle.rrs_gdb.proofs.resume.backward.Given as goal
 
 -- what follows from here within what is left of the limit follows from the first state
@@ -14,11 +12,10 @@ invariant-legs g l =
     let watches = l.fn.state.breaks.watches.items in
     record {
       places : PlacesKept l.fn.state l.state;
-      goes_back : (e' : Recording) (t : State) (after : List State)
-          → GoesOnBack stops watches e' t after l.left l.environment (state l.executor)
-          (past (changes l.state.history) (state l.executor))
-          → GoesOnBack stops watches e' t after l.fn.limit l.fn.environment (state l.fn.executor)
-          (past (changes l.fn.state.history) (state l.fn.executor));
+      so_far : BackSoFar stops watches l.fn.limit l.fn.environment (state l.fn.executor)
+          (past (changes l.fn.state.history) (state l.fn.executor)) l.fn.state.steps
+          l.left l.environment (state l.executor)
+          (past (changes l.state.history) (state l.executor)) l.state.steps;
     }
 
 abbrev pub decreases-legs : goal.decreases-legs
