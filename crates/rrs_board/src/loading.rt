@@ -26,14 +26,14 @@ pub enum BoardError {
 }
 
 impl Board {
-    /// A board at reset with so many words of RAM, in which the segments of an executable stand, and
-    /// whose hart is at its entry (`starts`).
+    /// A board at reset with so many words of RAM, in which the segments of an executable stand,
+    /// and whose hart is at its entry (`starts`).
     ///
     /// # Errors
     ///
-    /// `BoardError::Elf` exactly where the file is refused, with its first refusal (`refused`, `elf`);
-    /// `BoardError::Refused` only where a byte of a segment lies outside RAM, with the address of the
-    /// first one (`outside`); and `BoardError::OutOfMemory`.
+    /// `BoardError::Elf` exactly where the file is refused, with its first refusal (`refused`,
+    /// `elf`); `BoardError::Refused` only where a byte of a segment lies outside RAM, with the
+    /// address of the first one (`outside`); and `BoardError::OutOfMemory`.
     pub fn load(alloc: Global, file: &[u8], words: usize) -> Result<Board, BoardError>
         ensures starts { IfOk result (StartsWith file.now words) }
         ensures refused { (refusal : ElfError) → first_refusal (checks file.now) ≡ Err refusal

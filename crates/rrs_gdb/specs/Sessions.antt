@@ -483,8 +483,8 @@ pub data GoesOnBack (stops : List ℕ) (watches : List Watch) (e' : Recording) (
       → GoesOnBack stops watches e' t after (limit - 1) more d u between
       → GoesOnBack stops watches e' t after limit (steps + more) e s before
 
--- A session goes back so: from where its history leads back to, with its breakpoints. The steps that
--- were taken back are no longer counted.
+-- A session goes back so: from where its history leads back to, with its breakpoints. The steps
+-- that were taken back are no longer counted.
 abbrev pub SessionGoesBack : ℕ → SessionState → Recording → State → SessionState → Recording → State
     → Type 0
 SessionGoesBack limit old e s new e' t =

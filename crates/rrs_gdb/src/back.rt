@@ -34,13 +34,13 @@ pub struct WentBack {
     pub end: BackEnd,
 }
 
-/// Takes steps back, until the pc is a stop, the next one to take back touches a watchpoint, one was
-/// a call, as many as `limit` were taken back, or there are no more.
+/// Takes steps back, until the pc is a stop, the next one to take back touches a watchpoint, one
+/// was a call, as many as `limit` were taken back, or there are no more.
 ///
 /// The states to which it went are those that the history leads back to, in order, and the first of
-/// them that is at a stop, or from which the step touches a watchpoint, is the last; at the begin and
-/// at the limit the machine is in the last of them, and `steps` counts them (`back`). Whether a step
-/// touches a watchpoint shows where it was taken back: it is made again then, and not counted.
+/// them that is at a stop, or from which the step touches a watchpoint, is the last; at the begin
+/// and at the limit the machine is in the last of them, and `steps` counts them (`back`). Whether a
+/// step touches a watchpoint shows where it was taken back: it is made again then, and not counted.
 pub fn go_back<M: Memory>(
     executor: &mut InstructionExecutor<M>,
     history: &mut History,

@@ -930,11 +930,11 @@ fn answer_by_subject<'a, M: Memory, G: StopRunner<M>, R: Read, W: Write>(
 /// Only a packet with the letter of a change changes the machine, and only what its letter says
 /// (`asks`, `registers`, `memory`), and only one by which the program goes on or back takes it on.
 /// Breakpoints, watchpoints and settings are changed by the packets that are for them alone
-/// (`breaks`, `settings`), and a packet that is answered by an error changes nothing (`error`). What
-/// the text of a packet means is said by `shows_registers`, `sets_registers`, `shows_register`,
-/// `sets_register`, `shows_memory`, `sets_memory` and `sets_bytes`, and, of those by which the
-/// program goes on, by `steps`, `continues` and `acts`. Only `D`, `k`, `R` and packets that begin with
-/// `v` end the session (`reply`).
+/// (`breaks`, `settings`), and a packet that is answered by an error changes nothing (`error`).
+/// What the text of a packet means is said by `shows_registers`, `sets_registers`,
+/// `shows_register`, `sets_register`, `shows_memory`, `sets_memory` and `sets_bytes`, and, of those
+/// by which the program goes on, by `steps`, `continues` and `acts`. Only `D`, `k`, `R` and packets
+/// that begin with `v` end the session (`reply`).
 ///
 /// # Errors
 ///

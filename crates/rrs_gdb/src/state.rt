@@ -156,10 +156,10 @@ impl<'a> SessionState<'a> {
 
     /// Forgets what was of the program, which begins again.
     ///
-    /// The history is empty (`emptied`). What gdb asked for stays: breakpoints, watchpoints, settings
-    /// and calls that are caught (`kept`). The program has not ended: it stands as one that was
-    /// trapped before its first step, and nothing was told of the call at its pc (`goes_on`,
-    /// `around`). No steps are counted (`counted`).
+    /// The history is empty (`emptied`). What gdb asked for stays: breakpoints, watchpoints,
+    /// settings and calls that are caught (`kept`). The program has not ended: it stands as one
+    /// that was trapped before its first step, and nothing was told of the call at its pc
+    /// (`goes_on`, `around`). No steps are counted (`counted`).
     pub fn begin_again(&mut self)
         ensures emptied { changes self.new.history ≡ [] }
         ensures kept { PlacesKept self.old self.new }
