@@ -57,3 +57,59 @@ macro_rules! by_handle {
     };
 }
 pub(crate) use by_handle;
+
+#[cfg(test)]
+mod tests {
+    use super::InstructionProcessor;
+    use crate::instruction_formats::{BType, IType, ITypeShamt, JType, RType, SType, UType};
+    use crate::instruction_string_outputter::InstructionStringOutputter;
+    use crate::process_instruction;
+
+    /// A word of each row, and the row's name, by GNU as.
+    #[rustfmt::skip]
+    const WORDS: [(u32, &str); 46] = [
+        (0x0020_81b3, "add"), (0x4020_81b3, "sub"), (0x0020_91b3, "sll"), (0x0020_a1b3, "slt"),
+        (0x0020_b1b3, "sltu"), (0x0020_c1b3, "xor"), (0x0020_d1b3, "srl"), (0x4020_d1b3, "sra"),
+        (0x0020_e1b3, "or"), (0x0020_f1b3, "and"), (0x0020_8193, "addi"), (0x0020_9193, "slli"),
+        (0x0020_a193, "slti"), (0x0020_b193, "sltiu"), (0x0020_c193, "xori"), (0x0020_d193, "srli"),
+        (0x4020_d193, "srai"), (0x0020_e193, "ori"), (0x0020_f193, "andi"), (0x0000_21b7, "lui"),
+        (0x0000_2197, "auipc"), (0x0020_8463, "beq"), (0x0020_9463, "bne"), (0x0020_c463, "blt"),
+        (0x0020_e463, "bltu"), (0x0020_d463, "bge"), (0x0020_f463, "bgeu"), (0x0040_8183, "lb"),
+        (0x0040_c183, "lbu"), (0x0040_9183, "lh"), (0x0040_d183, "lhu"), (0x0040_a183, "lw"),
+        (0x0020_8223, "sb"), (0x0020_9223, "sh"), (0x0020_a223, "sw"), (0x0080_01ef, "jal"),
+        (0x0040_81e7, "jalr"), (0x0220_81b3, "mul"), (0x0220_91b3, "mulh"), (0x0220_b1b3, "mulhu"),
+        (0x0220_a1b3, "mulhsu"), (0x0220_c1b3, "div"), (0x0220_d1b3, "divu"), (0x0220_e1b3, "rem"),
+        (0x0220_f1b3, "remu"), (0x0ff0_000f, "fence"),
+    ];
+
+    /// Returns the name of the function that is called, and the text that the outputter's function
+    /// of that name returns.
+    struct Namer;
+
+    macro_rules! by_name {
+        ($($row:ident $function:ident $format:ident,)*) => {
+            $(
+                fn $function(&mut self, dec_insn: $format) -> Self::InstructionResult {
+                    let text = InstructionStringOutputter { insn_pc: 0 }.$function(dec_insn);
+                    (stringify!($function), text)
+                }
+            )*
+        };
+    }
+
+    impl InstructionProcessor for Namer {
+        type InstructionResult = (&'static str, String);
+
+        for_each_row!(by_name);
+    }
+
+    #[test]
+    fn each_word_calls_the_function_of_its_row() {
+        for (word, name) in WORDS {
+            let (function, text) = process_instruction(&mut Namer, word).unwrap();
+            let wanted = if name == "sltiu" { "sltui" } else { name };
+            assert_eq!(function.strip_prefix("process_"), Some(wanted));
+            assert_eq!(text.split(' ').next(), Some(name));
+        }
+    }
+}
