@@ -251,12 +251,15 @@ LINK = """ENTRY(_start)
 PHDRS { all PT_LOAD FLAGS(7); }
 SECTIONS {
   . = 0x10000;
-  all : { dump_start = .; *(.text*) *(.rodata* .srodata*) *(.data* .sdata*) *(.bss* .sbss* COMMON)
-    . = ALIGN(16); . += 2048; stack_end = .; LONG(0) dump_end = .; } : all
+  all : { dump_start = .; *(.rounds) *(.text*) *(.rodata* .srodata*) *(.data* .sdata*)
+    *(.bss* .sbss* COMMON) . = ALIGN(16); . += 2048; stack_end = .; LONG(0) dump_end = .; } : all
   /DISCARD/ : { *(.comment) *(.note*) *(.riscv*) *(.eh_frame*) }
 }
 """
-START = """.globl _start
+START = """.globl _start, rounds
+.section .rounds, "aw"
+rounds: .word 1
+.text
 _start:
     la sp, stack_end
     call main
@@ -277,8 +280,9 @@ registers: .space 128
 """
 
 
-def random_c(chance):
-    """A program in C over arrays of bytes, half-words and words."""
+def random_c(chance, repeated=False):
+    """A program in C over arrays of bytes, half-words and words. If it is repeated, a loop is made as
+    often as `rounds` says, the first word of the memory."""
     def value(depth):
         kind = chance.randrange(9 if depth else 4)
         name = chance.choice("abcdi")
@@ -326,16 +330,21 @@ def random_c(chance):
         + "\n  ".join(statement(0) for _ in range(3)) + "\n  return a + b + c + d;\n}\n"
         for k in range(2))
     body = "\n  ".join(statement(2) for _ in range(chance.randrange(6, 14)))
-    return (f"unsigned w[16]; short h[32]; signed char s[64]; unsigned char u[64];\n{functions}"
+    if repeated:
+        again = "\n    ".join(statement(1) for _ in range(chance.randrange(1, 5)))
+        body += f"\n  for (r = 0; r < rounds; r++) {{\n    w[r & 15] += r;\n    {again}\n  }}"
+    return ("extern unsigned rounds; unsigned w[16]; short h[32]; signed char s[64]; "
+            f"unsigned char u[64];\n{functions}"
             "int main(void) {\n"
             f"  unsigned a = {chance.getrandbits(32)}u, b = {chance.choice(EDGES)}u, c = 7, d = 9,"
-            f" i = 0, j = 0;\n  {body}\n  return a + b + c + d;\n}}\n")
+            f" i = 0, j = 0, r;\n  {body}\n  return a + b + c + d;\n}}\n")
 
 
-def compiled(room, seed):
-    """A program, compiled, as its file and its memory."""
+def compiled(room, seed, repeated=False):
+    """A program, compiled: its file, its entry, where its memory is there and in the address space,
+    and the memory."""
     chance = random.Random(seed)
-    for name, text in ("c.c", random_c(chance)), ("start.S", START), ("link.ld", LINK):
+    for name, text in ("c.c", random_c(chance, repeated)), ("start.S", START), ("link.ld", LINK):
         Path(room, name).write_text(text)
     path = Path(room, "compiled")
     subprocess.run(["riscv64-unknown-elf-gcc", "-march=rv32im", "-mabi=ilp32", "-w", "-nostdlib",
@@ -345,17 +354,68 @@ def compiled(room, seed):
     data = path.read_bytes()
     entry, headers = struct.unpack_from("<II", data, 24)
     offset, base, _, size = struct.unpack_from("<IIII", data, headers + 4)
-    return path, entry, base, data[offset:offset + size]
+    return path, entry, offset, base, data[offset:offset + size]
+
+
+def run_of(answers, entry, base, memory, limit):
+    """What the definitions make of a program: how many steps, the answer of the last one, or
+    `limit` where there would be more, and the memory, as words."""
+    line, = ask(answers, [question("run", limit, entry, [0] * 32, [(base, memory)])])
+    m = re.match(r"steps=(\d+) (\S+) .* mem=(\S+)$", line)
+    return (int(m[1]), m[2], m[3]) if m else (0, line[:150], "")
+
+
+def difference_of(path, run):
+    """How a run of the definitions differs from that of QEMU, or None. One that reached the limit
+    is not compared."""
+    steps, answer, words = run
+    if answer == "limit":
+        return None
+    wanted = subprocess.run(["qemu-riscv32", path], capture_output=True, check=True,
+                            timeout=60).stdout
+    if answer == "EnvironmentCall" and words == memory_words(wanted):
+        return None
+    return f"{steps} steps, {answer}, {words[:150]}"
 
 
 def compare_program(answers, room, seed, limit):
     """Compares what a compiled program leaves: how many steps it makes, and the difference."""
-    path, entry, base, memory = compiled(room, seed)
-    line, = ask(answers, [question("run", limit, entry, [0] * 32, [(base, memory)])])
-    m = re.match(r"steps=(\d+) (\S+) .* mem=(\S+)$", line)
-    if not m or m[2] == "limit":
-        return limit, None if m else line[:200]
-    wanted = subprocess.run(["qemu-riscv32", path], capture_output=True, check=True,
-                            timeout=60).stdout
-    left = b"".join(int(w, 16).to_bytes(4, "little") for w in m[3].split(","))
-    return int(m[1]), None if left == wanted and m[2] == "EnvironmentCall" else line[:200]
+    path, entry, _, base, memory = compiled(room, seed)
+    run = run_of(answers, entry, base, memory, limit)
+    return run[0], difference_of(path, run)
+
+
+def compare_near(answers, room, seed, limit):
+    """Compares likewise a compiled program whose loop is made as often as the limit allows, with the
+    number of its steps."""
+    path, entry, offset, base, memory = compiled(room, f"near {seed}", True)
+
+    def steps_with(rounds):
+        """The steps that QEMU makes up to the first ecall, before which and the second are two."""
+        with open(path, "r+b") as file:
+            file.seek(offset)
+            file.write(rounds.to_bytes(4, "little"))
+        log = Path(room, "log")
+        subprocess.run(["qemu-riscv32", "-singlestep", "-d", "exec,nochain", "-D", log, path],
+                       stdout=subprocess.DEVNULL, check=True, timeout=60)
+        return log.read_bytes().count(b"Trace ") - 4
+
+    rounds = most_rounds(steps_with, limit)
+    steps = steps_with(rounds)
+    run = run_of(answers, entry, base, rounds.to_bytes(4, "little") + memory[4:], limit)
+    wrong = None if run[0] == min(steps, limit) else f"{run[0]} steps, and QEMU makes {steps}"
+    return run[0], wrong or difference_of(path, run)
+
+
+def most_rounds(steps_with, limit):
+    """The greatest number of rounds with which a program makes fewer steps than the limit."""
+    rounds, steps, over, per_round = 0, steps_with(0), MASK, 1000
+    while steps < limit and rounds + 1 < over:
+        tried = min(rounds + max(1, int((limit - steps) / per_round)), over - 1)
+        more = steps_with(tried)
+        if more < limit:
+            per_round = max(1, (more - steps) / (tried - rounds))
+            rounds, steps = tried, more
+        else:
+            over, per_round = tried, 2 * per_round
+    return rounds
