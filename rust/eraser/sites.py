@@ -1,7 +1,6 @@
 """The substitutions at one place each: the source, what stands there once, what is put there, and
 why. A place that is not found once is an error."""
 
-WIDE = "On a `usize` of 32 bits the sum may not fit. Then it is past each file."
 NARROW = "A `usize` of 32 bits has no 2^32."
 
 SITES = (
@@ -19,59 +18,22 @@ SITES = (
         "As for a register that is read.",
     ),
     (
-        "rrs_asm_lines/src/lexing.rt",
-        "(line: &[u8]) -> (Part, Option<&[u8]>)",
-        "(line: &[u8]) -> (Part<'_>, Option<&[u8]>)",
-        "Rust warns where a lifetime is not shown.",
-    ),
-    (
-        "tests_assembler/src/expansions.rt",
+        "rrs_macros_tests/src/expansions.rt",
         "Result<Program, SourceFault>",
         "Result<Program<'_>, SourceFault>",
-        "As in rrs_asm_lines.",
+        "Rust warns where a lifetime is not shown.",
     ),
     (
         "tests_kit/src/loading.rt",
         "fn reader_of(bytes: &[u8]) -> Failing",
         "fn reader_of(bytes: &[u8]) -> Failing<'_>",
-        "As in rrs_asm_lines.",
+        "Rust warns where a lifetime is not shown.",
     ),
     (
         "tests_assembler/src/assembled.rt",
         "Result<Program, SourceFault>",
         "Result<Program<'_>, SourceFault>",
-        "As in rrs_asm_lines.",
-    ),
-    (
-        "rrs_elf/src/accepting.rt",
-        "read_word(file, 28) as usize + 32 * usize::from(count)",
-        "(read_word(file, 28) as usize).saturating_add(32 * usize::from(count))",
-        WIDE,
-    ),
-    (
-        "rrs_elf/src/segments.rt",
-        "header.offset as usize + header.file_size as usize",
-        "(header.offset as usize).saturating_add(header.file_size as usize)",
-        WIDE,
-    ),
-    (
-        "rrs_elf/src/symbol_table.rt",
-        "read_word(file, 32) as usize + 40 * usize::from(count)",
-        "(read_word(file, 32) as usize).saturating_add(40 * usize::from(count))",
-        WIDE,
-    ),
-    (
-        "rrs_elf/src/symbol_table.rt",
-        "section.offset as usize + section.size as usize",
-        "(section.offset as usize).saturating_add(section.size as usize)",
-        WIDE,
-    ),
-    (
-        "rrs_elf/src/symbol_table.rt",
-        "strings.offset as usize + read_word(file, start_of_symbol(file, table, index)) as usize",
-        "(strings.offset as usize).saturating_add(\n"
-        "        read_word(file, start_of_symbol(file, table, index)) as usize,\n    )",
-        WIDE,
+        "Rust warns where a lifetime is not shown.",
     ),
     (
         "rrs_history/src/change.rt",
@@ -95,7 +57,7 @@ SITES = (
         "rrs_asm_output/src/accepting.rt",
         "let at = offset as usize + index;",
         "let at = (offset as usize).saturating_add(index);",
-        WIDE,
+        "On a `usize` of 32 bits the sum may not fit. Then it is past each file.",
     ),
     (
         "rrs_gdb/src/queries.rt",
@@ -113,12 +75,6 @@ SITES = (
         "rrs_asm/src/sections.rt",
         "(self.made.bytes.len() % 0x1_0000_0000) as u32",
         "self.made.bytes.len() as u32",
-        NARROW,
-    ),
-    (
-        "rrs_exec/src/stack.rt",
-        "length >= 0x1_0000_0000",
-        "length as u64 >= 0x1_0000_0000",
         NARROW,
     ),
     (

@@ -118,8 +118,8 @@ fn plain_mark(byte: u8, behind: &[u8]) -> Mark
     }
 }
 
-/// The first part of a line, and the text after the colon or the semicolon that ends it.
-pub fn first_part(line: &[u8]) -> (Part, Option<&[u8]>)
+/// The first part of a line, and the text behind the colon or the semicolon that ends it.
+pub fn first_part(line: &[u8]) -> (Part<'_>, Option<&[u8]>)
     ensures parts { parts line.now
         ≡ shown result.0 ∷ option_map_or (λ rest. parts rest.now) result.1 [] }
     ensures shorter { IfSome result.1 (λ rest. length rest.now < length line.now) }

@@ -107,7 +107,7 @@ fn check_table(file: &[u8]) -> Result<(), ElfError>
     if count > MOST_PROGRAM_HEADERS {
         return Err(ElfError::TooManyProgramHeaders);
     }
-    if file.len() < read_word(file, 28) as usize + 32 * usize::from(count) {
+    if file.len() < (read_word(file, 28) as usize).saturating_add(32 * usize::from(count)) {
         return Err(ElfError::ProgramHeadersCutShort);
     }
     Ok(())

@@ -9,7 +9,7 @@ ghost use Rattle.rrs_elf.specs.Loading.{segment_byte, segment_bytes, loaded_size
 
 use crate::accepting::Executable;
 use crate::numbers::read_byte;
-use crate::program_headers::{ProgramHeader, read_header_count, read_program_header};
+use crate::program_headers::{ProgramHeader, read_program_header};
 use rrs_memory::{MemAccessSize, Memory};
 
 /// Why a load ended before the last segment: the memory refused the byte at this address. What was

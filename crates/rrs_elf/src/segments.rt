@@ -15,7 +15,8 @@ fn ends_past(file: &[u8], index: u16) -> bool
     ensures { result ≡ ends_past_file file.now index }
 {
     let header = read_program_header(file, index);
-    header.file_size > 0 && file.len() < header.offset as usize + header.file_size as usize
+    header.file_size > 0
+        && file.len() < (header.offset as usize).saturating_add(header.file_size as usize)
 }
 
 /// Refuses a segment for its type, its sizes, or its place.

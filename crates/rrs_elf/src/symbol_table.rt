@@ -58,7 +58,7 @@ fn check_sections(file: &[u8]) -> Result<(), ElfError>
     if size != 40 {
         return Err(ElfError::SectionHeaderSize(size));
     }
-    if file.len() < read_word(file, 32) as usize + 40 * usize::from(count) {
+    if file.len() < (read_word(file, 32) as usize).saturating_add(40 * usize::from(count)) {
         return Err(ElfError::SectionHeadersCutShort);
     }
     Ok(())
@@ -75,7 +75,7 @@ fn has_strings(file: &[u8], index: u32) -> bool
 fn end_of(section: &Section) -> usize
     ensures { result ≡ section.now.offset + section.now.size }
 {
-    section.offset as usize + section.size as usize
+    (section.offset as usize).saturating_add(section.size as usize)
 }
 
 /// Refuses a symbol table for its place and its size, or for its string table.
@@ -140,7 +140,9 @@ pub fn start_of_name(file: &[u8], table: u16, index: u32) -> usize
 {
     let symbols = read_section(file, u32::from(table));
     let strings = read_section(file, symbols.link);
-    strings.offset as usize + read_word(file, start_of_symbol(file, table, index)) as usize
+    (strings.offset as usize).saturating_add(
+        read_word(file, start_of_symbol(file, table, index)) as usize,
+    )
 }
 
 /// Refuses a symbol whose name lies outside the string table.

@@ -24,11 +24,11 @@ fn string_length(arguments: &[String]) -> Option<u32>
 {
     let mut count = 0u32;
     for argument in arguments {
-        let length = argument.len();
+        let length = argument.len() as u64;
         if length >= 0x1_0000_0000 {
             return None;
         }
-        let more = u64::from(count) + length as u64 + 1;
+        let more = u64::from(count) + length + 1;
         if more >= 0x1_0000_0000 {
             return None;
         }
