@@ -18,7 +18,7 @@ SITES = (
         "As for a register that is read.",
     ),
     (
-        "rrs_macros_tests/src/expansions.rt",
+        "tests_assembler/src/expansions.rt",
         "Result<Program, SourceFault>",
         "Result<Program<'_>, SourceFault>",
         "Rust warns where a lifetime is not shown.",
