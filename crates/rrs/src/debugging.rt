@@ -11,6 +11,7 @@ use rrs_lib::memories::SliceMemory;
 use rrs_lib::{HartState, Memory};
 use rrs_linux::{Heap, OutputRecorder};
 use rrs_run_commands::debugger::Debugger;
+use rrs_run_commands::executables::memory_for;
 use rrs_run_commands::execution::{HEAP_END, HEAP_START};
 use rrs_run_commands::files::{Noting, STANDARD_OUTPUT, read_program};
 use rrs_run_commands::options::Task;
@@ -144,7 +145,8 @@ fn debug_executable<'f, 'a, R: Read, W: Write>(
         Ok(executable) => executable,
         Err(error) => return Err(no_executable(path, error)),
     };
-    let image = match image_of(alloc, &executable, &arguments, program.request.memory) {
+    let memory = memory_for(program.file, program.request.memory);
+    let image = match image_of(alloc, &executable, &arguments, memory) {
         Ok(image) => image,
         Err(error) => return Err(no_image(path, error)),
     };

@@ -62,11 +62,12 @@ const EXECUTE: Subcommand = Subcommand {
     },
     summary: "runs a program that makes system calls of Linux",
     help: "Runs PROGRAM, an ELF executable for RV32IM, as a process of Linux with these
-ARGUMENTs: in a memory of 16 MiB (--memory, up to 4G), with its heap behind its
-segments, its stack at the end, and a gap between them; code and constants are
-read-only. It makes at most STEPS steps, of which each system call is one, or any
-number. The program has standard input, output and error. A fault is told with its
-pc. Options stand before PROGRAM: the words behind it are the program's own. With
+ARGUMENTs: in a memory of 16 MiB, or of what it needs up to 1 GiB (--memory, up to
+4G), with its heap after its segments, its stack at the end, and a gap between them;
+code and constants are read-only. It makes at most STEPS steps, of which each system
+call is one, or any number. The program has standard input, output and error. A fault
+is told with its pc. Options stand before PROGRAM: the words after it are the
+program's own. With
 --raw the file's bytes stand at address 0 of 1 MiB and sp at its end, and there are
 no ARGUMENTs.
 
@@ -243,10 +244,10 @@ const HELP: Subcommand = Subcommand {
     help: "rrs help run, rrs run --help and rrs run -h print the help of rrs run, and rrs --version
 the version.
 
-Options stand in any order, before FILE and behind it, and -- ends them; but the words
-behind a PROGRAM with ARGUMENTs are its own. --limit 10 is --limit=10. STEPS is decimal
+Options stand in any order, before FILE and after it, and -- ends them; but the words
+after a PROGRAM with ARGUMENTs are its own. --limit 10 is --limit=10. STEPS is decimal
 digits, or 0x and hexadecimal ones. BYTES is such a number too, or one with K, M or G
-behind it, of KiB, MiB or GiB. A FILE or PROGRAM that is read may be -, standard input.
+after it, of KiB, MiB or GiB. A FILE or PROGRAM that is read may be -, standard input.
 
 The status is 0, 1 where something fails, 2 for other words, and 141 where nobody reads
 what rrs prints; rrs exec, rrs trace and rrs cover end with that of their program.

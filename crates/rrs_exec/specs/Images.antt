@@ -50,6 +50,11 @@ first_address file = first_below file (e_phnum file)
 abbrev pub end_address : List ℕ → ℕ
 end_address file = end_below file (e_phnum file)
 
+-- How many bytes of memory a process of a program needs at least: 0 where there is no room after it.
+abbrev pub needed_of : List ℕ → ℕ
+needed_of file =
+    if has_room (end_address file) then needed (first_address file) (end_address file) else 0
+
 -- Why no process is made of a program with addresses from start to before end, where so many bytes
 -- of memory are wanted: there is no room after it, or it needs more bytes.
 abbrev pub refusal_between : ℕ → ℕ → ℕ → Option ImageError

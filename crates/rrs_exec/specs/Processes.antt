@@ -50,10 +50,11 @@ module _ {R W E : Type 0} (remaining : R → Option (List ℕ))
         (started image.entry image.stack_pointer (bytes_under image.marks.items bytes)
         (writable_under image.marks.items writable)) steps accesses
 
-  -- A process is loaded, and from its entry, with sp at its stack, the machine runs under the marks
-  -- of its pages and its system calls are served, and this is how that ends: after so many steps,
-  -- at this pc. So what the environment's writers hold then is what they held, and what each write
-  -- wrote, in order; and what its reader gave, the calls that read gave to the program.
+  -- A file is an executable. Its segments and its stack stand in words, which are 0 elsewhere, and
+  -- from its entry, with sp at its stack, the machine runs under the marks of its pages and its
+  -- system calls are served, and this is how that ends: after so many steps, at this pc. So what
+  -- the environment's writers hold then is what they held, and what each write wrote, in order; and
+  -- what its reader gave, the calls that read gave to the program.
   pub record RunsProcess (file : List ℕ) (arguments : List (List ℕ)) (wanted limit : ℕ)
       (old new : Process R (HostWriter W) (HostWriter E) HostSide)
       (steps pc : ℕ) (ending : Ending) : Type 0 where

@@ -6,7 +6,7 @@ ghost use Rattle.rrs_elf.specs.Loading.{loaded_size};
 ghost use Rattle.rrs_elf.specs.ProgramHeaders.{IsProgramHeader};
 ghost use Rattle.rrs_exec.specs.InitialStack.{stack_bytes, stack_pointer, stack_block};
 ghost use Rattle.rrs_exec.specs.Layouts.{IsLayout};
-ghost use Rattle.rrs_exec.specs.Images.{first_with, end_with, first_address, end_address, memory_refusal, refusal_between, IsOtherReason, IsImage, Filled, headers_in, headers_at, headers_of, protection_by, range_of, segment_range, segment_ranges, writable_range, ranges_of};
+ghost use Rattle.rrs_exec.specs.Images.{first_with, end_with, first_address, end_address, memory_refusal, refusal_between, IsOtherReason, IsImage, Filled, headers_in, headers_at, headers_of, protection_by, range_of, segment_range, segment_ranges, writable_range, ranges_of, needed_of};
 
 use crate::layout::{Layout, has_room, layout_of, needed_bytes};
 use crate::marks::{PAGE_BYTES, PageRange, Protection, marks_of};
@@ -86,6 +86,19 @@ fn bounds_of(executable: &Executable<'_>) -> (u32, u64)
         bounds = bounds_with(executable, index, bounds);
     }
     bounds
+}
+
+/// How many bytes of memory a process of an executable needs at least: those of the pages from its
+/// first address to its last, and 1 MiB. It is 0 where the addresses leave no room for these.
+pub fn needed_memory(executable: &Executable<'_>) -> u64
+    ensures { result ≡ needed_of executable.now.file.now }
+{
+    let (start, end) = bounds_of(executable);
+    if end <= 0x1_0000_0000 && has_room(end) {
+        needed_bytes(start, end)
+    } else {
+        0
+    }
 }
 
 /// What may be done in a segment.

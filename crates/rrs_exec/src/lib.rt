@@ -22,7 +22,7 @@ mod protected;
 mod stack;
 mod watching;
 
-pub use image::{Image, ImageError, fill, image_of};
+pub use image::{Image, ImageError, fill, image_of, needed_memory};
 pub use layout::{Layout, layout_of};
 pub use marks::{PAGE_BYTES, PageRange, Protection, marks_of};
 pub use process::{DECODED_WORDS, ProcessEnd, execute_process};

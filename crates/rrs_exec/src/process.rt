@@ -50,27 +50,10 @@ pub fn zeros(alloc: Global, layout: &Layout) -> Result<Vec<u32>, ImageError>
     }
 }
 
-/// Loads a file's bytes as an executable with these arguments, of which the first is its name, in a
-/// memory of at most so many bytes.
-///
-/// # Errors
-///
-/// `ImageError`, where the file is no executable or can't be made a process. A file that is no
-/// executable is refused for the first of the reasons in their order (`refused`). An executable
-/// that needs more bytes than are wanted, or leaves no room for a heap and a stack, is refused so
-/// before memory is taken for it (`ceiling`).
-pub fn load_process(
-    alloc: Global,
-    file: &[u8],
-    arguments: &[String],
-    wanted: u64,
-) -> Result<LoadedProcess, ImageError>
-    ensures loaded { IfOk result (λ process. IsLoaded file.now (map string_bytes arguments.now)
-        wanted process.image process.words.items) }
-    ensures ceiling { IsExecutable file.now
-        → IfSome (memory_refusal file.now wanted) (λ error. result ≡ Err error) }
-    ensures refused { (refusal : ElfError) → first_refusal (checks file.now) ≡ Err refusal
-        → IfErr result (λ error. error ≡ ImageError.Elf refusal) }
+/// A hart at an address, all of whose registers are 0 but sp.
+pub fn started(entry: u32, sp: u32) -> HartState
+    ensures { (bytes : ℕ → Option ℕ) (writable : ℕ → Bool)
+        → state_of result bytes writable ≡ started entry sp bytes writable }
 {
     let mut hart = HartState::new();
     hart.registers[2] = sp;

@@ -68,7 +68,7 @@ has_setting _ _ = false
 
 -- ---- what they are where no word says it
 
--- A board has 128 MiB, and a process 16 MiB.
+-- A board has 128 MiB, and a process 16 MiB, or more where its program needs more.
 abbrev pub usual_memory : Task → ℕ
 usual_memory Board = 2 ^ 27
 usual_memory DebugBoard = 2 ^ 27
@@ -79,6 +79,10 @@ abbrev pub most_memory : Task → ℕ
 most_memory Board = 2 ^ 31
 most_memory DebugBoard = 2 ^ 31
 most_memory _ = 2 ^ 32
+
+-- without a word a process has no more memory than this
+abbrev pub most_unasked : ℕ
+most_unasked = 2 ^ 30
 
 -- gdb's `continue` on a board makes 10^9 steps, and a run any number.
 abbrev pub usual_limit : Task → ℕ

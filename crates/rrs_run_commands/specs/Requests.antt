@@ -19,7 +19,7 @@
 use Rattle.std.specs.Prelude.{ℕ, ◌<◌, ◌≤◌, ◌≡◌, ◌⊎◌, List, [], ◌∷◌, Bool, true, false, not, Option, Some, None, IsSome, Result, Ok, Err, map, string_bytes, option_map, codes}
 use Rattle.rrs_cli.specs.Limits.{limit_in}
 use Rattle.rrs_run_commands.specs.Words.{IsNumber, IsSize, IsAddress, IsDashed, HasValue, ends_options, name_in, value_in}
-use Rattle.rrs_run_commands.specs.Options.{has_setting, has_switch, most_memory, setting_word, switch_word, usual_limit, usual_memory}
+use Rattle.rrs_run_commands.specs.Options.{has_setting, has_switch, most_memory, setting_word, switch_word, usual_limit}
 use Rattle.rrs_run_commands.specs.declared.options.Task.{Task}
 use Rattle.rrs_run_commands.specs.declared.options.Task.TheVariants.{Run, Execute, Trace, Cover, Debug, Board}
 use Rattle.rrs_run_commands.specs.declared.options.Switch.{Switch}
@@ -43,7 +43,7 @@ pub record Wanted : Type 0 where
   pub polled : Bool
   pub form : Form
   pub limit : ℕ
-  pub memory : ℕ
+  pub memory : Option ℕ
   pub text_start : Option ℕ
   pub data_start : Option ℕ
   pub from : Option (List ℕ)
@@ -64,7 +64,7 @@ unasked task = record {
   polled = false;
   form = Form.Bytes;
   limit = usual_limit task;
-  memory = usual_memory task;
+  memory = None;
   text_start = None;
   data_start = None;
   from = None;
@@ -139,7 +139,7 @@ switched Anywhere old = record old { anywhere = true }
 abbrev pub Sets : Task → Setting → List ℕ → Wanted → Wanted → Type 0
 Sets task Limit value old new = (n : ℕ) × IsNumber value n × (new ≡ record old { limit = n })
 Sets task Memory value old new =
-    (n : ℕ) × IsSize value n × (n ≤ most_memory task) × (new ≡ record old { memory = n })
+    (n : ℕ) × IsSize value n × (n ≤ most_memory task) × (new ≡ record old { memory = Some n })
 Sets task From value old new = new ≡ record old { from = Some value }
 Sets task Output value old new = new ≡ record old { output = Some value }
 Sets task Callgrind value old new = new ≡ record old { callgrind = Some value }

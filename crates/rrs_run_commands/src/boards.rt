@@ -1,7 +1,7 @@
 //! `rrs board`: firmware on a board with a hart of machine mode.
 
 use crate::files::{Noting, STANDARD_INPUT, STANDARD_OUTPUT, buffered, read_program};
-use crate::options::{Task, most_memory};
+use crate::options::{Task, most_memory, usual_memory};
 use crate::refusal::{Refusal, named, no_image};
 use crate::requests::Request;
 use rrs_board::{Board, BoardEnd, BoardError, BoardEvent, TerminalError, run_at_terminal};
@@ -23,7 +23,7 @@ fn refused(path: &str, error: BoardError) -> Refusal<'_> {
     no_image(path, error)
 }
 
-/// A board at reset, with firmware in its RAM of so many bytes.
+/// A board at reset, with firmware in its RAM of so many bytes, or of the usual 128 MiB.
 ///
 /// # Errors
 ///
@@ -31,10 +31,11 @@ fn refused(path: &str, error: BoardError) -> Refusal<'_> {
 pub fn board_of<'a, H: Files + AllocGlobal>(
     rt: &H,
     path: &'a str,
-    memory: u64,
+    asked: Option<u64>,
 ) -> Result<Board, Refusal<'a>> {
     let file = read_program(rt, path)?;
-    let bytes = memory.min(most_memory(Task::Board));
+    let bytes = asked.unwrap_or(usual_memory(Task::Board));
+    let bytes = bytes.min(most_memory(Task::Board));
     match Board::load(rt.alloc(), &file, (bytes / 4) as usize) {
         Ok(board) => Ok(board),
         Err(error) => Err(refused(path, error)),

@@ -1,7 +1,7 @@
 //! `rrs cover`: what a run covered.
 
 use crate::disassembling::{code_of, flushed};
-use crate::executables::tell;
+use crate::executables::{memory_for, tell};
 use crate::files::{Noting, STANDARD_ERROR, buffered, created, read_program};
 use crate::refusal::{Refusal, named, no_image};
 use crate::requests::Request;
@@ -108,7 +108,7 @@ fn cover_code<'a, H: Files + Eprint + AllocGlobal, R: Read, W: Write, E: Write, 
         file,
         code,
         request.words,
-        request.memory,
+        memory_for(file, request.memory),
         request.limit,
         environment,
         progress,

@@ -1,16 +1,39 @@
 //! Executables as the subcommands take them: read, run, and what is told where they fail.
 
+ghost use Rattle.std.specs.Prelude.{◌≡◌, None, IfSome, max, min};
+ghost use Rattle.rrs_elf.specs.Executables.{IsExecutable};
+ghost use Rattle.rrs_exec.specs.Images.{needed_of};
+ghost use Rattle.rrs_run_commands.specs.Options.{usual_memory, most_unasked};
+
 use crate::files::read_program;
+use crate::options::{MOST_UNASKED, Task, usual_memory};
 use crate::refusal::{Refusal, no_image};
 use crate::requests::Request;
 use rrs_elf::Executable;
-use rrs_exec::{ProcessEnd, Progress, execute_process};
+use rrs_exec::{ProcessEnd, Progress, execute_process, needed_memory};
 use rrs_fast::Ending;
 use rrs_lib::instruction_executor::InstructionException;
 use rrs_linux::Linux;
 use rrs_reports::{SHOWN_BYTES, ShownName};
 use std::io::{Read, Write};
 use std::rt::Files;
+
+/// How many bytes of memory a program has: as many as are asked for, and where none are, 16 MiB or as
+/// many as it needs, but no more than 1 GiB.
+pub fn memory_for(file: &[u8], asked: Option<u64>) -> u64
+    ensures asked { IfSome asked (λ bytes. result ≡ bytes) }
+    ensures unasked { asked ≡ None → IsExecutable file.now
+        → result ≡ max (usual_memory Task.Execute) (min (needed_of file.now) most_unasked) }
+{
+    if let Some(bytes) = asked {
+        return bytes;
+    }
+    let usual = usual_memory(Task::Execute);
+    match Executable::parse(file) {
+        Ok(executable) => usual.max(needed_memory(&executable).min(MOST_UNASKED)),
+        Err(_) => usual,
+    }
+}
 
 /// Runs an executable as a process, and serves its system calls. A fault is told on standard error:
 /// where it was, and after how many steps.
@@ -36,7 +59,7 @@ pub fn execute_executable<
         rt.alloc(),
         &file,
         request.words,
-        request.memory,
+        memory_for(&file, request.memory),
         request.limit,
         environment,
         progress,

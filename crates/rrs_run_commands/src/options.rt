@@ -189,7 +189,7 @@ pub fn setting_of(task: Task, name: &str) -> Option<Setting>
 }
 
 /// How many bytes of memory there are where no word says it: 128 MiB of a board, and 16 MiB of a
-/// process.
+/// process, or more where its program needs more, up to [MOST_UNASKED].
 pub fn usual_memory(task: Task) -> u64
     ensures { result ≡ usual_memory task }
 {
@@ -198,6 +198,9 @@ pub fn usual_memory(task: Task) -> u64
         _ => 1 << 24,
     }
 }
+
+/// The most bytes of memory that a process has without a word for it: 1 GiB.
+pub const MOST_UNASKED: u64 = 1 << 30;
 
 /// The most bytes of memory: 2 GiB of a board, and 4 GiB of a process.
 pub fn most_memory(task: Task) -> u64

@@ -6,7 +6,7 @@ ghost use Rattle.rrs_run_commands.specs.Words.{HasValue, IsSize};
 ghost use Rattle.rrs_run_commands.specs.Requests.{AsksFor, Gives, IsProgram, IsWhole, Refuses, RefusesOption, RefusesValue, RefusesWord, Sets, Takes, TakesOption, TakesWord, fault_of, has_arguments, reading_of, switched, unasked, unread, wanted_of};
 
 use crate::options::{
-    Setting, Switch, Task, most_memory, setting_of, switch_of, usual_limit, usual_memory,
+    Setting, Switch, Task, most_memory, setting_of, switch_of, usual_limit,
 };
 use crate::refusal::Mistake;
 use crate::words::{address_of, is_dashed, name_and_value, number_of, size_of};
@@ -45,8 +45,8 @@ pub struct Request<'a> {
     pub form: Form,
     /// The most steps that are made: `--limit`.
     pub limit: u64,
-    /// How many bytes of memory there are: `--memory`.
-    pub memory: u64,
+    /// How many bytes of memory there are, if a word says it: `--memory`.
+    pub memory: Option<u64>,
     /// Where the first section lies, if a word says it.
     pub text_start: Option<u32>,
     /// Where the first section with data that can be written lies, if a word says it.
@@ -86,7 +86,7 @@ fn unasked<'a>(task: Task) -> Request<'a>
         is_polled: false,
         form: Form::Bytes,
         limit: usual_limit(task),
-        memory: usual_memory(task),
+        memory: None,
         text_start: None,
         data_start: None,
         from: None,
@@ -282,7 +282,7 @@ fn set<'a>(
             Some(limit) => request.limit = limit,
             None => return Err(Mistake::Wrong(setting, value)),
         },
-        Setting::Memory => request.memory = memory_of(task, value)?,
+        Setting::Memory => request.memory = Some(memory_of(task, value)?),
         Setting::From => request.from = Some(value),
         Setting::Output | Setting::Executable => request.output = Some(value),
         Setting::Callgrind => request.callgrind = Some(value),

@@ -1,6 +1,6 @@
 //! `rrs trace`: the commit log of a run, as Spike writes it.
 
-use crate::executables::tell;
+use crate::executables::{memory_for, tell};
 use crate::files::{Noting, STANDARD_ERROR, buffered, created, read_program, unwritten};
 use crate::refusal::{Refusal, named, no_executable, no_image};
 use crate::requests::Request;
@@ -74,7 +74,7 @@ fn trace_to<'a, H: Eprint + AllocGlobal, R: Read, W: Write, E: Write, O: Write, 
         rt.alloc(),
         file,
         request.words,
-        request.memory,
+        memory_for(file, request.memory),
         request.limit,
         environment,
         from,

@@ -52,7 +52,7 @@ copied:
 ";
 
 const PUT_STRING: &str =
-    "# Writes each byte of the string at a1, up to the 0 behind it, to the port at a0.
+    "# Writes each byte of the string at a1, up to the 0 after it, to the port at a0.
 put_string:
     lbu  a5, (a1)
     bnez a5, 1f

@@ -128,7 +128,7 @@ static TOLD: [(&str, &str); 41] = [
          4:1: no such instruction or directive: move; is mv meant?\n\
          5:1: no such instruction or directive: subi; addi takes a number, here the negative one\n\
          6:1: no such instruction or directive: mret; it is not of RV32IM\n\
-         7:1: no comma stands behind li\n\
+         7:1: no comma stands after li\n\
          8:1: no such instruction or directive: print; a label is written print:\n",
     ),
     (
@@ -138,7 +138,7 @@ static TOLD: [(&str, &str); 41] = [
          3:1: no such instruction or directive: .eqv; is .equ meant?\n\
          4:1: no such instruction or directive: .sectoin; is .section meant?\n\
          5:9: more than the statement takes: it is written .word number, number\n\
-         6:9: unexpected character: a label begins a line, or stands behind a semicolon\n",
+         6:9: unexpected character: a label begins a line, or stands after a semicolon\n",
     ),
     (
         ".ascii \"a: b\n.ascii \"a; b\" \"c\"\nli a0, ':' 5",
@@ -182,7 +182,7 @@ static TOLD: [(&str, &str); 41] = [
     (
         "addi\u{a0}a0, a0, 1\nadd a0, X5, a1\nmv a0, 4(sp)\n\
          .section \".text\"\n.section .txt\n.org -4",
-        "1:1: a blank is wanted behind addi\n\
+        "1:1: a blank is wanted after addi\n\
          2:9: a register is wanted here, and X5 is none; registers are written in small letters\n\
          3:8: a register is wanted here: an address in memory stands in loads and stores\n\
          4:10: a section needs a name, and flags where its name says nothing: \

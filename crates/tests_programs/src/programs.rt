@@ -62,7 +62,7 @@ impl Debugger for CountsWords {
         _output: &mut W,
     ) -> Result<Ending, Refusal<'a>> {
         let status = match task {
-            Task::DebugBoard => (request.memory >> 20).saturating_add(100),
+            Task::DebugBoard => (request.memory.unwrap_or(0) >> 20).saturating_add(100),
             _ => request.words.len() as u64,
         };
         Ok(Ending::Exit(u32::try_from(status).unwrap_or(u32::MAX)))
@@ -353,13 +353,13 @@ static REFUSED_PROGRAMS: [Refused; 25] = [
         Program::Rrs,
         &[b"rrs", b"exec", b"--memory=16Q", b"process"],
         125,
-        "rrs exec: --memory: 16Q is no size below 2^64: a number of bytes, or of KiB, MiB or GiB with K, M or G behind it\n",
+        "rrs exec: --memory: 16Q is no size below 2^64: a number of bytes, or of KiB, MiB or GiB with K, M or G after it\n",
     ),
     (
         Program::Rrs,
         &[b"rrs", b"exec", b"--memory", b"17179869184G", b"process"],
         125,
-        "rrs exec: --memory: 17179869184G is no size below 2^64: a number of bytes, or of KiB, MiB or GiB with K, M or G behind it\n",
+        "rrs exec: --memory: 17179869184G is no size below 2^64: a number of bytes, or of KiB, MiB or GiB with K, M or G after it\n",
     ),
     (
         Program::Rrs,
@@ -395,7 +395,7 @@ static REFUSED_PROGRAMS: [Refused; 25] = [
         Program::Rrs,
         &[b"rrs", b"gdb", b"--raw", b"--board", b"process"],
         2,
-        "rrs gdb: --board stands right behind rrs gdb\n",
+        "rrs gdb: --board stands right after rrs gdb\n",
     ),
     (
         Program::Rrs,
