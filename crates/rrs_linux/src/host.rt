@@ -21,7 +21,9 @@ pub const NOBODY_READS: u32 = 0xffff_ffe0;
 /// The bytes that the host is offered in one write at most: of a short buffer, of a usual one, and
 /// of a long one. A call clears so many.
 const SHORT: usize = 256;
+
 const USUAL: usize = 4096;
+
 const LONG: usize = 65_536;
 
 impl<W: Write> Output for HostWriter<W> {

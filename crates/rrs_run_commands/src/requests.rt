@@ -5,9 +5,7 @@ ghost use Rattle.rrs_run_commands.specs.Options.{most_memory};
 ghost use Rattle.rrs_run_commands.specs.Words.{HasValue, IsSize};
 ghost use Rattle.rrs_run_commands.specs.Requests.{AsksFor, Gives, IsProgram, IsWhole, Refuses, RefusesOption, RefusesValue, RefusesWord, Sets, Takes, TakesOption, TakesWord, fault_of, has_arguments, reading_of, switched, unasked, unread, wanted_of};
 
-use crate::options::{
-    Setting, Switch, Task, most_memory, setting_of, switch_of, usual_limit,
-};
+use crate::options::{Setting, Switch, Task, most_memory, setting_of, switch_of, usual_limit};
 use crate::refusal::Mistake;
 use crate::words::{address_of, is_dashed, name_and_value, number_of, size_of};
 use rrs_cli::limits::limit_of;

@@ -4,7 +4,9 @@ use crate::steps::{QUIET, START, holds_at};
 use rrs_lib::HartState;
 use rrs_lib::instruction_executor::InstructionExecutor;
 use rrs_lib::memories::VecMemory;
-use rrs_machine::{CsrAccess, CsrFile, Inputs, MachineAnswer, MachineRetired, step_machine_retired};
+use rrs_machine::{
+    CsrAccess, CsrFile, Inputs, MachineAnswer, MachineRetired, step_machine_retired,
+};
 use std::alloc::{AllocError, Global};
 use std::test::Fail;
 
