@@ -1,5 +1,6 @@
 """A small repository with one thing wrong in its pages, which the check must tell."""
 
+import re
 import shutil
 import subprocess
 import sys
@@ -63,12 +64,30 @@ WRONG = [
     ("crates/one/src/lib.rt", "pub fn one_name", "fn one_name", "call docs/check --write"),
 ]
 
+# the commands of a page, the status of --commands over them, and what it prints of each
+COMMANDS = [
+    ("```sh\ntrue\n# false\n```\n", 0, "$ true\n== status 0\n"),
+    ("```sh\nfalse\ntrue\n```\n", 1, "$ false\n== status 1\n$ true\n== status 0\n"),
+    ("```sh\nfalse\n```\n\n```sh\ntrue\n```\n", 1,
+     "$ false\n== status 1\nanother block\n$ true\n== status 0\n"),
+    ("```sh\ntest 1 = \\\n    2\n```\n", 1, "$ test 1 = \\\n    2\n== status 1\n"),
+    ("<!-- not run: it fails -->\n```sh\nfalse\n```\n\n```text\nfalse\n```\n", 0, ""),
+]
+
 
 def checked(folder, *words):
     """The status of the check in a repository, and what it prints."""
     run = subprocess.run([sys.executable, folder / "docs/check", *words], capture_output=True,
                          text=True, check=False)
     return run.returncode, run.stdout + run.stderr
+
+
+def told_of_commands(folder, text):
+    """The status of --commands over a page, and what it prints of each command."""
+    (folder / "docs/OTHER.md").write_text(text)
+    status, said = checked(folder, "--commands", "docs/OTHER.md")
+    head, *blocks = re.split(r"^docs/OTHER\.md:\d+\n", said, flags=re.M)
+    return status, "another block\n".join(blocks)
 
 
 def self_test(root):
@@ -83,6 +102,8 @@ def self_test(root):
         shutil.copy(root / "docs/check", folder / "docs")
         shutil.copytree(root / "docs/checks", folder / "docs/checks")
         subprocess.run(["git", "init", "--quiet", folder], check=True)
+        own = ["git", "-C", folder, "-c", "user.name=one", "-c", "user.email=one@localhost"]
+        subprocess.run([*own, "commit", "--quiet", "--allow-empty", "-m", "Begin"], check=True)
         checked(folder, "--write")
         status, said = checked(folder)
         if status != 0:
@@ -95,5 +116,9 @@ def self_test(root):
             path.write_text(text)
             if status != 1 or wanted not in said or text.count(old) == 0:
                 missed.append(f"{file}: {new!r} for {old!r}: status {status}, {said}")
+        for text, *wanted in COMMANDS:
+            told = told_of_commands(folder, text)
+            if [*told] != wanted:
+                missed.append(f"commands {text!r}: {told}")
     print("\n".join([*missed, f"self-test: status {int(bool(missed))}"]))
     return int(bool(missed))
