@@ -361,12 +361,13 @@ assemble_sees() {
     done
 }
 
-# Libraries that the faces must refuse: of a newer and of an older version, one with no rrs_request,
-# and one that gives an unknown kind of exception and access.
+# Libraries that the faces must refuse: of a newer version, of another patch, of an older version,
+# one with no rrs_request, and one that gives an unknown kind of exception and access.
 make_refused() {
     local name flags
-    for name in version older old kind; do
+    for name in version patch older old kind; do
         case $name in
+        patch) flags="-DVERSION=513 -DKIND=9" ;;
         version) flags="-DVERSION=768 -DKIND=9" ;;
         older) flags="-DVERSION=256 -DKIND=9" ;;
         old) flags="-DVERSION=512 -DKIND=9 -DOLD" ;;
@@ -383,7 +384,7 @@ make_refused() {
 
 c_refuses() {
     local name
-    for name in version older; do
+    for name in version patch older; do
         gcc -std=c99 -I"$crate/include" -o "$room/refuses" "$here/c/three_words.c" \
             "$room/$name/librrs_c.a" || return 1
         "$room/refuses" >"$room/printed" 2>&1 && return 1
@@ -428,7 +429,7 @@ all() {
     try "three_words refuses a library of another version" c_refuses
     try "the library for Python" gcc -shared -o "$room/librrs.so" \
         -Wl,--whole-archive "$library" -Wl,--no-whole-archive
-    try "python: its tests" python_passes 33 474 14
+    try "python: its tests" python_passes 34 484 14
     try "python: three_words prints what is stored" python_prints
     try "python: replay answers as is stored" answers python replay.py
     try "python: replay refuses a line with more" refuses_lines python replay.py

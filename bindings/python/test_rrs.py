@@ -346,6 +346,24 @@ class Faces(Counted):
             self.assertEqual((machine.registers[5], other.registers[5]), sums)
         self.assertEqual(machine.run(1).fault, Fault(FaultKind.ILLEGAL_INSTRUCTION, 0, 0))
 
+    def test_two_machines_may_be_stepped_at_the_same_time(self):
+        # addi x1, x1, 1; addi x2, x2, 2
+        one, other = Machine([0x00108093] * 9), Machine([0x00210113] * 9)
+        for name, words in (("step_rvfi", ()), ("step_rvfi_ialign32", ()),
+                            ("complete_rvfi", (0x00108093, 0))):
+            call = getattr(rrs, f"_{name}")
+
+            def beside(*arguments, call=call):
+                fault = call(*arguments)
+                # as another thread may, before the record is read
+                if arguments[0]._obj is one._hart:
+                    other.step_rvfi(7)
+                return fault
+
+            with mock.patch.object(rrs, f"_{name}", beside):
+                record = getattr(one, name)(*words, order=5)[1]
+            self.assertEqual((record.order, record.insn), (5, 0x00108093))
+
     def test_an_executable_is_loaded_where_it_says(self):
         words = [0x00108093, 0x0000A103]  # addi x1, x1, 1; lw x2, (x1)
         head = struct.pack("<16sHHIIIIIHHHHHH", b"\x7fELF\1\1\1", 2, 243, 1, 0x12F44, 52, 192, 0, 52,
@@ -371,6 +389,11 @@ class Faces(Counted):
         self.assertEqual(machine.elf.segments, [
             rrs.Segment(0, 0, 0, 0, 4), rrs.Segment(0x12F40, 13, 148, 8, 5)])
         self.assertEqual((type(smaller), copy.copy(smaller).elf is smaller.elf), (Loaded, True))
+        # the names are moved to the end of the file, and one has more bytes than any buffer
+        file = bytearray(head + body[:-24] + struct.pack("<2I", len(head + body), 302) + body[-16:])
+        file += b"\0" + b"f" * 300 + b"\0"
+        for given in (bytes(file), file, memoryview(file)):
+            self.assertEqual(rrs.Elf(given).function_at(0x12F44), ("f" * 300, 0, True))
         for call in (machine.elf.segment, machine.elf.function_at):
             self.assertRaises(ValueError, call, 2**32)
         with self.assertRaises(rrs.ElfError) as caught:
@@ -523,6 +546,7 @@ class Libraries(Counted):
         for library, wanted in {
             "version.so": f"rrs.py is for version 512 of {folder}/version.so, which has 768",
             "older.so": f"rrs.py is for version 512 of {folder}/older.so, which has 256",
+            "patch.so": f"rrs.py is for version 512 of {folder}/patch.so, which has 513",
             "old.so": f"the kit's library has no rrs_request: {folder}/old.so",
             "none.so": "rrs.py can't load the kit's library: ",
         }.items():
@@ -542,10 +566,14 @@ class Libraries(Counted):
         with tempfile.TemporaryDirectory(prefix="a b") as folder:
             shutil.copy(rrs.__file__, folder)
             shutil.copy(os.environ["RRS_LIBRARY"], f"{folder}/librrs.so")
-            lines = f"import sys\nsys.path.insert(0, {folder!r})\nimport rrs\nprint(rrs._lib._name)"
-            for library in (None, os.environ["RRS_LIBRARY"]):
-                printed = self.run_over(library, lines)[1]
-                self.assertEqual(printed, f"{library or folder + '/librrs.so'}\n")
+            os.mkdir(f"{folder}/links")
+            os.symlink(f"{folder}/rrs.py", f"{folder}/links/rrs.py")  # beside which there is none
+            for place in (folder, f"{folder}/links"):
+                lines = (f"import sys\nsys.path.insert(0, {place!r})\nimport rrs\n"
+                         "print(rrs._lib._name)")
+                for library in (None, os.environ["RRS_LIBRARY"]):
+                    printed = self.run_over(library, lines)[1]
+                    self.assertEqual(printed, f"{library or folder + '/librrs.so'}\n")
 
     def test_an_unknown_kind_is_an_error(self):
         folder = os.environ["RRS_REFUSED"]
