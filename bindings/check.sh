@@ -157,6 +157,8 @@ header_asserts() {
     local dialect language flags tried=0
     sed 's/offsetof(rrs_hart, pc) == 128/offsetof(rrs_hart, pc) == 124/' "$header" >"$room/wrong.h"
     ! cmp -s "$header" "$room/wrong.h" || return 1
+    # the macro that asserts is the header's own
+    ! gcc -std=c99 -E -dM -x c "$header" | grep -w RRS_ASSERT || return 1
     for dialect in c99 c11 c17 c2x c++98 c++11 c++17 c++20 gnu99 gnu17 gnu++17; do
         language=c flags=$warnings
         [[ $dialect != *++* ]] || language=c++
@@ -344,9 +346,13 @@ C
     assemble_sees
 }
 
-# assemble prints something else where one of what it is told is something else.
+# assemble lends a room whose type is aligned, wherever a linker puts it, and prints something else
+# where one of what it is told is something else.
 assemble_sees() {
     local what
+    printf '#include "%s"\n_Static_assert(_Alignof(__typeof__(room)) %% 16 == 0, "room");\n' \
+        "$here/c/assemble.c" >"$room/aligned.c" &&
+        gcc -std=gnu11 -fsyntax-only -I"$crate/include" "$room/aligned.c" || return 1
     for what in "made.entry ^= 4" "statements[1].line ^= 1" "statements[1].address ^= 4" \
         "statements[1].size ^= 1" "symbols[1].line ^= 1" "symbols[1].name ^= 1" \
         "symbols[1].length ^= 1" "symbols[1].address ^= 4" "mistakes[0].line ^= 1" \

@@ -141,6 +141,7 @@ static void make_program(uint8_t *ram, const char *text) {
 }
 
 int main(void) {
+    static const uint32_t outside[] = {RAM - 4, RAM + RAM_SIZE, RAM + 2};
     static struct machine machine;
     unsigned steps = 0, i;
     rrs_fault fault, refused;
@@ -153,8 +154,9 @@ int main(void) {
     } while (fault.kind == RRS_OK && steps < 100000);
     printf("steps %u, fault kind %u at 0x%08x, bytes refused %u, x16 = 0x%08x\n", steps - 1,
            fault.kind, fault.address, machine.uart.refused, machine.hart.x[16]);
-    for (i = 0; i < 6; i++) {
-        machine.hart.pc += 4;
+    for (i = 0; i < 9; i++) {
+        /* each access that is refused, and then each pc at which no word of RAM begins */
+        machine.hart.pc = i < 6 ? machine.hart.pc + 4 : outside[i - 6];
         refused = step(&machine);
         printf("fault kind %u at 0x%08x\n", refused.kind, refused.address);
     }
