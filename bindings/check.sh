@@ -273,6 +273,7 @@ examples() {
         try "$program, as C++" build "g++ -std=c++11 -x c++" "$program" "$@"
         try "$program, as C++, prints what is stored" prints "$program"
     done
+    try "a failure has its status and its text" failures_see
     try "uart, shadow, lockstep and assemble see what is wrong" examples_see
     try "replay, as C99" build "gcc -std=c99 -x c" replay "$here/c/replay.c"
     try "replay, as C99, answers as is stored" answers "$room/replay"
@@ -291,6 +292,21 @@ fails_with() {
     [ "$status" = 1 ] && grep -q "$1" "$room/printed" && return
     echo "$2: status $status, and no: $1"
     return 1
+}
+
+# What does not end with status 1, or prints another text, is none that fails with a text.
+failures_see() {
+    local status text
+    for status in 0 1 139; do
+        for text in right wrong; do
+            printf '#!/bin/sh\necho "it is %s"\nexit %s\n' "$text" "$status" >"$room/fails"
+            chmod +x "$room/fails"
+            case $status:$text in
+            1:right) fails_with " right" fails || return 1 ;;
+            *) ! fails_with " right" fails || return 1 ;;
+            esac
+        done
+    done
 }
 
 # shadow and lockstep fail where the kit tells or does something wrong in one step of each: a field of
@@ -440,7 +456,7 @@ all() {
     try "python: replay answers as is stored" answers python replay.py
     try "python: replay refuses a line with more" refuses_lines python replay.py
     try "python: the structs and constants are those of rrs.h" python_has_layouts
-    finish 46
+    finish 47
 }
 
 # The calls that do more than they may: some write a text where there is room for it, and none for
