@@ -10,6 +10,7 @@ _start:
     sw x4, 0(x1)
     div x5, x2, x3
     sw x5, 4(x1)
+    div x6, x2, x2
     rem x6, x2, x3
     sw x6, 8(x1)
     sra x7, x2, x3
