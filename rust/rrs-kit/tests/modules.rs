@@ -1,0 +1,86 @@
+//! Each module of the kit is the one that its name says.
+
+use rrs_kit::alloc::Global;
+use rrs_kit::extra::PagedMemory;
+use rrs_kit::{MemAccessSize, Memory, encode, instruction};
+
+#[test]
+fn a_word_is_encoded_and_a_page_is_none() {
+    let found = instruction::decode(0x0031_00b3).as_ref().and_then(encode::encode);
+    let read = PagedMemory::new(Global).read_mem(0, MemAccessSize::Byte);
+    assert_eq!((found, read), (Some(0x0031_00b3), None));
+}
+
+/// The runtime of the host has all that the kit names of it.
+#[cfg(feature = "std")]
+#[test]
+fn the_runtime_opens_files() {
+    use rrs_kit::rt::{AllocGlobal, Env, Eprint, Files, HostRuntime, Print};
+    fn has_all(_: &(impl AllocGlobal + Env + Eprint + Files + Print)) {}
+    has_all(&HostRuntime::new());
+}
+
+/// Firmware that transmits a byte, looks for one until it is there, transmits it, reads the time,
+/// sets the software interrupt and the alarm, and ends.
+#[cfg(all(feature = "machine", feature = "std"))]
+const FIRMWARE: [u32; 20] = [
+    0x1000_0437, // lui  s0, 0x10000: the UART
+    0x0200_04b7, // lui  s1, 0x2000: the CLINT, msip
+    0x0200_4937, // lui  s2, 0x2004: mtimecmp
+    0x0200_c9b7, // lui  s3, 0x200c: behind mtime
+    0x0010_0a37, // lui  s4, 0x100: the finisher
+    0x0680_0513, // addi a0, zero, 'h'
+    0x00a4_0023, // sb   a0, 0(s0)
+    0x0054_4583, // look: lbu a1, 5(s0)
+    0x0015_f593, // andi a1, a1, 1
+    0xfe05_8ce3, // beq  a1, zero, look
+    0x0004_4603, // lbu  a2, 0(s0)
+    0x00c4_0023, // sb   a2, 0(s0)
+    0xff89_a683, // lw   a3, -8(s3)
+    0x00b4_a023, // sw   a1, 0(s1)
+    0x0630_0713, // addi a4, zero, 99
+    0x00e9_2023, // sw   a4, 0(s2)
+    0x0009_2223, // sw   zero, 4(s2)
+    0x0007_3537, // lui  a0, 0x73
+    0x3335_0513, // addi a0, a0, 0x333
+    0x00aa_2023, // sw   a0, 0(s4)
+];
+
+/// The devices stand at the addresses of QEMU's `virt`. Input arrives after a thousand looks, of
+/// three instructions each: the time is that of 7 instructions, 1,001 looks and 2 more.
+#[cfg(all(feature = "machine", feature = "std"))]
+#[test]
+fn the_board_has_its_devices_at_their_addresses() {
+    use rrs_kit::machine::board::{Board, BoardEnd, BoardEvent, run_at_terminal};
+    use rrs_kit::memories::VecMemory;
+    let mut board = Board::new(VecMemory::new(FIRMWARE.to_vec()), 0x8000_0000);
+    let mut output = Vec::new();
+    let end = run_at_terminal(&mut board, 9999, false, &mut &b"i"[..], &mut output);
+    let steps = 7 + 3 * 1001 + 10;
+    assert_eq!(end, Ok(BoardEnd { steps, event: Some(BoardEvent::Finished(7)) }));
+    let devices = &board.memory.devices;
+    let seen = (devices.software, devices.alarm, devices.inputs().timer, devices.time);
+    assert_eq!((&output[..], seen), (&b"hi"[..], (1, 99, true, steps)));
+    assert_eq!(board.hart.read_register(13), 7 + 3 * 1001 + 2);
+}
+
+#[cfg(feature = "asm")]
+#[test]
+fn the_assembler_has_its_parts() {
+    use rrs_kit::asm::{assembly, lines, macros};
+    let expanded = macros::expand(Global, b".rept 2\nnop\n.endr\n").expect("a repetition");
+    let nops = expanded.text.split(|&byte| byte == b'\n').filter(|line| *line == b"nop");
+    let text = assembly::gnu_text(Global, &0x0031_00b3_u32.to_le_bytes()).expect("a text");
+    let seen = (nops.count(), lines::register_number(b"fp"), text.contains("add"));
+    assert_eq!(seen, (2, Some(8), true));
+}
+
+#[cfg(feature = "linux")]
+#[test]
+fn a_process_has_its_parts() {
+    use rrs_kit::linux::{Linux, env::Environment, exec::DECODED_WORDS, process::layout_of};
+    fn is_served_by<E: Environment>() {}
+    is_served_by::<Linux<&[u8], Vec<u8>, Vec<u8>>>();
+    let layout = layout_of(0x1_0000, 0x1_0100, 1 << 24);
+    assert_eq!((layout.is_some(), DECODED_WORDS.is_power_of_two()), (true, true));
+}
