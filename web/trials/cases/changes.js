@@ -71,13 +71,14 @@ function changesThereAndBack(report, page, kit) {
 }
 
 function changesOfSessions(report, over) {
-  const session = opened(over, "13 go: 13", { base: 0x1000 });
+  const session = opened(over, "13 go: 13 13 beef: 13", { base: 0x1000 });
   const { kit } = session.machine;
   const where = "Memory goes from 0x00001000 to 0x00010fff.";
   report.cases("a change, and what is said of it", [
     [["sp", "-1", 4], ["", "sp = 0xffffffff."]], [["x5", "0b11", 1], ["", "t0 = 0x00000003."]],
     [["fp", "5", 4], ["", "s0 = 0x00000005."]], [["pc", "0x1004", 4], ["", "pc = 0x00001004."]],
     [["go", "7", 4], ["", "[0x00001004] = 0x00000007."]],
+    [["beef", "7", 4], ["", "[0x0000100c] = 0x00000007."]],
     [["1009", "7", 1], ["", "[0x00001009] = 0x07."]],
     [[" 0x1010 ", " 7 ", 4], ["", "[0x00001010] = 0x00000007."]],
     [["x0", "1", 4], ["x0 is always 0."]], [["zero", "1", 4], ["zero is always 0."]],
@@ -93,8 +94,8 @@ function changesOfSessions(report, over) {
     if (mistake) return session.notice === before ? [mistake] : ["something was said"];
     return heading === "Changed" ? ["", sentence] : [heading];
   });
-  report.same("what was changed", [0xffffffff, 3, 5, 0x1004, 7, 0x700, 7],
-    [kit.x[2], kit.x[5], kit.x[8], kit.pc, ...kit.words.subarray(1, 3), kit.words[4]]);
+  report.same("what was changed", [0xffffffff, 3, 5, 0x1004, 7, 0x713, 7, 7],
+    [kit.x[2], kit.x[5], kit.x[8], kit.pc, ...kit.words.subarray(1, 5)]);
   session.names = over.page.NAMES.number;
   session.change("t0", "1", 4);
   report.same("by the names that were chosen", "x5 = 0x00000001.", session.sentence);

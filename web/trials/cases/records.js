@@ -191,6 +191,10 @@ function typing(report, page) {
   terminal.reset();
   report.same("after a reset", [true, false, 0, ""],
     [terminal.isEmpty, terminal.isClosed, terminal.input.length, terminal.text(9)]);
+  terminal.type("ab\ncd\n");
+  report.same("a read behind a line that was taken", [[97, 98, 10], [99, 100, 10]],
+    [[...terminal.takeLine()], read(9, true)[0]]);
+  terminal.reset();
   terminal.type("x".repeat(300));
   report.same("256 bytes at most", [256, 0], [read(1000, false)[0].length, terminal.taken]);
 }

@@ -119,6 +119,9 @@ function targets(report, over) {
     "jal zero, 0x00001012", "lui t0, 0x00001000"], shown());
   session.names = over.page.NAMES.number;
   report.same("with numbers", "beq x5, x6, a", shown()[0]);
+  const named = opened(over, `x5: ${w.jal(5, 0).toString(16)}`);
+  report.same("a label with the name of a register", "jal t0, x5",
+    named.disassemble(named.machine.kit.words[0], 0));
   const long = opened(over, `${"l".repeat(70)}: ${w.jal(0, 0).toString(16)}`);
   report.same("a long label", `jal zero, ${"l".repeat(60)}…`,
     long.disassemble(long.machine.kit.words[0], 0));
@@ -290,6 +293,12 @@ async function input(report, over) {
   report.same("nor read", 0, ended.machine.kit.x[10]);
   ended.reset();
   report.same("input after a reset", true, ended.type("ab\n"));
+  const again = opened(over, reads);
+  again.run();
+  again.reset();
+  again.type("ab\n");
+  report.same("what is typed behind a reset begins no run", [false, 0],
+    [again.isRunning, again.machine.steps]);
   const early = opened(over, reads);
   const { changes } = early;
   early.type("ab\n");
