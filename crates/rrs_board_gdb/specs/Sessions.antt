@@ -1,7 +1,7 @@
 -- What gdb's packets mean for a board (gdb's manual, "Remote Serial Protocol", "Packets": p, P, c,
 -- C, s, S and vCont; "Stop Reply Packets": S and W). `m` and `M` mean what they mean for a program,
 -- with RAM as the memory.
-use Rattle.std.specs.Prelude.{◌≡◌, ◌⊎◌, ℕ, ◌%◌, Bool, true, false, List, ◌∷◌, ◌++◌, length, Some, IsSome, Ok}
+use Rattle.std.specs.Prelude.{◌≡◌, ◌⊎◌, ℕ, ◌%◌, Bool, true, false, List, ◌∷◌, ◌++◌, length, Some, IsSome, Ok, codes}
 use Rattle.hex.specs.Hex.{decode_sized}
 use Rattle.rrs_board.specs.declared.board.Board.{Board}
 use Rattle.rrs_gdb.specs.Packets.{IsNumber, number, before, behind, digits_of}
@@ -62,8 +62,8 @@ stop_of is_step (Reason.Finished status) = Exited (status % 256)
 stop_of is_step Reason.NothingWakes = Signal 17
 
 abbrev pub stop_text : BoardStop → List ℕ
-stop_text (Signal signal) = 83 ∷ digits_of signal
-stop_text (Exited status) = 87 ∷ digits_of status
+stop_text (Signal signal) = codes "S" ++ digits_of signal
+stop_text (Exited status) = codes "W" ++ digits_of status
 
 -- A program that has ended stays where it is. Another goes on from there, as far as it goes.
 abbrev pub GoesFrom : BoardStop → Bool → List ℕ → ℕ → Debugged → Debugged → BoardStop → Type 0

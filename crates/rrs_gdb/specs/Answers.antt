@@ -1,6 +1,6 @@
 -- What is said of the functions that answer packets: what an answer leaves as it was, and what it
 -- means, by the letter of the packet. No public contract cites this.
-use Rattle.std.specs.Prelude.{◌≡◌, ◌≢◌, ◌⊎◌, ℕ, ◌-◌, ◌^◌, Bool, List, [], ◌∷◌, ◌++◌, drop, Ok, IsOk}
+use Rattle.std.specs.Prelude.{◌≡◌, ◌≢◌, ◌⊎◌, ℕ, ◌-◌, ◌^◌, Bool, List, [], ◌∷◌, ◌++◌, drop, Ok, IsOk, codes}
 use Rattle.std.specs.Bool.{OnTrue, OnFalse}
 use Rattle.hex.specs.Hex.{decode_of}
 use Rattle.rrs_lib.specs.Machine.{State, with_pc}
@@ -45,7 +45,7 @@ HasSubject payload Session =
 
 -- `g`, `p` and `m`
 pub record Shows (payload : List ℕ) (s : State) (old new : List ℕ) : Type 0 where
-  pub registers : payload ≡ 103 ∷ [] → new ≡ old ++ registers_text s
+  pub registers : payload ≡ codes "g" → new ≡ old ++ registers_text s
   pub register : letter payload ≡ 112 → ShowsRegister (drop 1 payload) s old new
   pub memory : letter payload ≡ 109 → ShowsMemory (drop 1 payload) s old new
 
@@ -105,15 +105,15 @@ pub record Goes (payload : List ℕ) (m n : Moment) : Type 0 where
 pub record ActsBy (payload : List ℕ) (m n : Moment) : Type 0 where
   pub goes_on : letter payload ≡ 118 → (most : Most)
       × GoesOnOrStays (asked_by m.session) most (around_in m) m.state (around_in n) n.state
-  pub acts : (actions : List ℕ) → payload ≡ 118 ∷ 67 ∷ 111 ∷ 110 ∷ 116 ∷ 59 ∷ actions
+  pub acts : (actions : List ℕ) → payload ≡ codes "vCont;" ++ actions
       → Acts actions (has_ended m.session) (asked_by m.session) m.session.settings.limit
       (around_in m) m.state (around_in n) n.state m.reply n.reply
 
 -- `bs` and `bc`
 pub record Returns (payload : List ℕ) (m n : Moment) : Type 0 where
-  pub step : payload ≡ 98 ∷ 115 ∷ [] → SessionGoesBack 1
+  pub step : payload ≡ codes "bs" → SessionGoesBack 1
       m.session m.environment m.state n.session n.environment n.state
-  pub goes_back : payload ≡ 98 ∷ 99 ∷ [] → SessionGoesBack (2 ^ 64 - 1)
+  pub goes_back : payload ≡ codes "bc" → SessionGoesBack (2 ^ 64 - 1)
       m.session m.environment m.state n.session n.environment n.state
 
 -- ---- an answer

@@ -3,7 +3,7 @@
 -- and `}` are sent as `}` and the byte with its bit of value 32 turned; in an answer `*` too, which
 -- there begins a run of a byte. Numbers in a payload are hexadecimal, and a comma, a colon, a
 -- semicolon or an equals sign stands between two of its fields.
-use Rattle.std.specs.Prelude.{◌≡◌, ℕ, ◌/◌, ◌%◌, ◌≤◌, ◌==◌, ◌||◌, if◌then◌else◌, List, [], ◌∷◌, ◌++◌, length, sum, slice_index, bit_xor, Bool, true, false, Option, Some, None, option_map, Ok}
+use Rattle.std.specs.Prelude.{◌≡◌, ℕ, ◌/◌, ◌%◌, ◌≤◌, ◌==◌, ◌||◌, if◌then◌else◌, List, [], ◌∷◌, ◌++◌, length, sum, slice_index, bit_xor, Bool, true, false, Option, Some, None, option_map, Ok, codes}
 use Rattle.std.specs.Str.Parse.{IsNumeral, digits_value}
 use Rattle.hex.specs.Hex.{lower_digits, decode_sized}
 use Rattle.rrs_gdb.specs.declared.framing.PacketError.{PacketError}
@@ -36,7 +36,8 @@ escaped (b ∷ bs) = escaped_byte b ++ escaped bs
 
 -- the packet of a payload
 abbrev pub packet : List ℕ → List ℕ
-packet payload = (36 ∷ escaped payload) ++ 35 ∷ digits_of (checksum (escaped payload))
+packet payload =
+    codes "$" ++ (escaped payload ++ (codes "#" ++ digits_of (checksum (escaped payload))))
 
 -- ---- what is received
 

@@ -1,6 +1,6 @@
 -- What a packet may change, by its letter (gdb's manual, "Remote Serial Protocol", "Packets"). Most
 -- packets ask, and change nothing of the program.
-use Rattle.std.specs.Prelude.{◌≡◌, ◌≢◌, ◌⊎◌, ℕ, zero, suc, ◌+◌, ◌-◌, ◌*◌, ◌%◌, ◌^◌, ◌<◌, ◌≤◌, List, [], ◌∷◌, ◌++◌, Contains, Bool, true, false, drop, length, slice_index, Option, Some, None, Ok, Err, IsOk}
+use Rattle.std.specs.Prelude.{◌≡◌, ◌≢◌, ◌⊎◌, ℕ, zero, suc, ◌+◌, ◌-◌, ◌*◌, ◌%◌, ◌^◌, ◌<◌, ◌≤◌, List, [], ◌∷◌, ◌++◌, Contains, Bool, true, false, drop, length, slice_index, Option, Some, None, Ok, Err, IsOk, codes}
 use Rattle.hex.specs.Hex.{decode_of, decode_sized}
 use Rattle.rrs_lib.specs.Bytes.{ByteMap}
 use Rattle.rrs_lib.specs.Loading.{Loaded}
@@ -113,7 +113,7 @@ has_ended session = is_end session.stop
 
 -- what was appended is an error: it begins with `E`
 abbrev pub IsError : List ℕ → List ℕ → Type 0
-IsError old new = (rest : List ℕ) × (new ≡ old ++ 69 ∷ rest)
+IsError old new = (rest : List ℕ) × (new ≡ old ++ (codes "E" ++ rest))
 
 -- after a change the history is empty; or nothing is changed
 abbrev pub ForgetsOrStays : State → State → SessionState → SessionState → Type 0
@@ -448,9 +448,9 @@ first_action actions = before 58 (before 59 actions)
 -- `vCont;actions`: the first action counts.
 pub record Acts (actions : List ℕ) (ended : Bool) (asked : Asked) (limit : ℕ)
     (a : Around) (s : State) (b : Around) (t : State) (old new : List ℕ) : Type 0 where
-  pub step : first_action actions ≡ 115 ∷ []
+  pub step : first_action actions ≡ codes "s"
       → GoesOnUnless ended asked one_step a s b t × (new ≡ old ++ stop_text b.stop)
-  pub goes_on : first_action actions ≡ 99 ∷ []
+  pub goes_on : first_action actions ≡ codes "c"
       → GoesOnUnless ended asked (up_to limit) a s b t × (new ≡ old ++ stop_text b.stop)
 
 -- ---- the program goes back

@@ -68,10 +68,10 @@ abbrev pub named_text : List ℕ → ℕ → List ℕ
 named_text name number = codes "T05" ++ (name ++ (codes ":" ++ (digits 16 false number ++ codes ";")))
 
 abbrev pub stop_text : Stop → List ℕ
-stop_text (Signal signal) = 83 ∷ digits_of signal
+stop_text (Signal signal) = codes "S" ++ digits_of signal
 stop_text (Touched watch) = named_text (kind_name watch.kind) watch.address
 stop_text AtBegin = codes "T05replaylog:begin;"
 stop_text (Entry number) = named_text (codes "syscall_entry") number
 stop_text (Return number) = named_text (codes "syscall_return") number
-stop_text (Exited status) = 87 ∷ digits_of status
-stop_text (Killed signal) = 88 ∷ digits_of signal
+stop_text (Exited status) = codes "W" ++ digits_of status
+stop_text (Killed signal) = codes "X" ++ digits_of signal

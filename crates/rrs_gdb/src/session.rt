@@ -1,6 +1,6 @@
 //! The packets of a session, and their answers.
 
-ghost use Rattle.std.specs.Prelude.{◌≡◌, ◌≢◌, ◌⊎◌, ◌∷◌, ◌++◌, [], ℕ, ◌<◌, ◌≤◌, ◌-◌, ◌^◌, Bool, List, Ok, Some, IsOk, IsTrue, IfOk, IfSome, IfNone, MatchOption, OnOk, drop, length, slice_index};
+ghost use Rattle.std.specs.Prelude.{◌≡◌, ◌≢◌, ◌⊎◌, ◌∷◌, ◌++◌, [], ℕ, ◌<◌, ◌≤◌, ◌-◌, ◌^◌, Bool, List, Ok, Some, IsOk, IsTrue, IfOk, IfSome, IfNone, MatchOption, OnOk, drop, length, slice_index, codes};
 ghost use Rattle.std.specs.Bool.{OnTrue, OnFalse};
 ghost use Rattle.hex.specs.Hex.{decode_of, decode_sized};
 ghost use Rattle.rrs_lib.specs.Bytes.{ByteMap};
@@ -760,7 +760,7 @@ fn act<M: Memory, G: StopRunner<M>, R: Read, W: Write>(
     ensures goes_on { OnOk result ((most : Most) × GoesOnOrStays (asked_by state.old) most
         (around state.old environment.old) (state_in M.bytes M.writable executor.old)
         (around state.new environment.new) (state_in M.bytes M.writable executor.new)) }
-    ensures acts { (actions : List ℕ) → payload.now ≡ 118 ∷ 67 ∷ 111 ∷ 110 ∷ 116 ∷ 59 ∷ actions
+    ensures acts { (actions : List ℕ) → payload.now ≡ codes "vCont;" ++ actions
         → OnOk result (Acts actions (has_ended state.old) (asked_by state.old)
         state.old.settings.limit
         (around state.old environment.old) (state_in M.bytes M.writable executor.old)
@@ -795,8 +795,8 @@ fn set<R, W>(
 
 /// The most steps by which a packet has the program go back.
 fn steps_back(payload: &[u8]) -> Option<u64>
-    ensures step { payload.now ≡ 98 ∷ 115 ∷ [] → result ≡ Some 1 }
-    ensures goes_back { payload.now ≡ 98 ∷ 99 ∷ [] → result ≡ Some (2 ^ 64 - 1) }
+    ensures step { payload.now ≡ codes "bs" → result ≡ Some 1 }
+    ensures goes_back { payload.now ≡ codes "bc" → result ≡ Some (2 ^ 64 - 1) }
 {
     match payload {
         b"bs" => Some(1),
@@ -816,10 +816,10 @@ fn reverse<'a, M: Memory>(
 ) -> Result<(), AllocError>
     ensures places { PlacesKept state.old state.new }
     ensures error { OnOk result (IsError reply.old.items reply.new.items → ⊥) }
-    ensures step { payload.now ≡ 98 ∷ 115 ∷ [] → SessionGoesBack 1
+    ensures step { payload.now ≡ codes "bs" → SessionGoesBack 1
         state.old environment.old (state_in M.bytes M.writable executor.old)
         state.new environment.new (state_in M.bytes M.writable executor.new) }
-    ensures goes_back { payload.now ≡ 98 ∷ 99 ∷ [] → SessionGoesBack (2 ^ 64 - 1)
+    ensures goes_back { payload.now ≡ codes "bc" → SessionGoesBack (2 ^ 64 - 1)
         state.old environment.old (state_in M.bytes M.writable executor.old)
         state.new environment.new (state_in M.bytes M.writable executor.new) }
 {
@@ -1001,19 +1001,19 @@ pub fn answer_to<'a, M: Memory, G: StopRunner<M>, R: Read, W: Write>(
         → (state_in M.bytes M.writable executor.new ≡ state_in M.bytes M.writable executor.old)
         × (environment.new ≡ environment.old) × SessionKept state.old state.new) }
     ensures acts { (actions : List ℕ)
-        → payload.now ≡ 118 ∷ 67 ∷ 111 ∷ 110 ∷ 116 ∷ 59 ∷ actions
+        → payload.now ≡ codes "vCont;" ++ actions
         → OnOk result (Acts actions (has_ended state.old) (asked_by state.old)
         state.old.settings.limit
         (around state.old environment.old) (state_in M.bytes M.writable executor.old)
         (around state.new environment.new) (state_in M.bytes M.writable executor.new)
         reply.old.items reply.new.items) }
-    ensures steps_back { payload.now ≡ 98 ∷ 115 ∷ [] → OnOk result (SessionGoesBack 1
+    ensures steps_back { payload.now ≡ codes "bs" → OnOk result (SessionGoesBack 1
         state.old environment.old (state_in M.bytes M.writable executor.old)
         state.new environment.new (state_in M.bytes M.writable executor.new)) }
-    ensures goes_back { payload.now ≡ 98 ∷ 99 ∷ [] → OnOk result (SessionGoesBack (2 ^ 64 - 1)
+    ensures goes_back { payload.now ≡ codes "bc" → OnOk result (SessionGoesBack (2 ^ 64 - 1)
         state.old environment.old (state_in M.bytes M.writable executor.old)
         state.new environment.new (state_in M.bytes M.writable executor.new)) }
-    ensures shows_registers { payload.now ≡ 103 ∷ [] → OnOk result (reply.new.items
+    ensures shows_registers { payload.now ≡ codes "g" → OnOk result (reply.new.items
         ≡ reply.old.items ++ registers_text (state_in M.bytes M.writable executor.old)) }
     ensures sets_registers { letter payload.now ≡ 71 → OnOk result (SetsRegisters
         (drop 1 payload.now) (state_in M.bytes M.writable executor.old)
