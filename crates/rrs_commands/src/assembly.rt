@@ -18,6 +18,7 @@ use rrs_asm_output::{
     number_of,
 };
 use rrs_cli::report::{flush, write_text};
+use rrs_reports::ShownName;
 use rrs_run_commands::files::{created, read_source};
 use rrs_run_commands::refusal::{FileFault, Refusal, failed, named, out_of_memory};
 use rrs_run_commands::requests::{Form, Request};
@@ -125,6 +126,7 @@ fn expanded_of<'a, H: Eprint + AllocGlobal>(
         Ok(expanded) => Ok(expanded),
         Err(MacroFault::OutOfMemory) => Err(out_of_memory()),
         Err(MacroFault::Mistakes(mistakes)) => {
+            let path = ShownName::of(path);
             for mistake in &mistakes {
                 let word = mistake.word(&plain).unwrap_or(&[]);
                 let _ = match str::from_utf8(word) {
@@ -289,9 +291,10 @@ fn print_mistakes<'a, H: Eprint + AllocGlobal>(
 ) -> Result<(), Refusal<'a>> {
     match mistakes_of(rt.alloc(), &expanded.text, &expanded.lines, errors) {
         Ok(mistakes) => {
+            let shown = ShownName::of(path);
             for mistake in &mistakes {
                 let (line, column, text) = (mistake.line, mistake.column, mistake.text.as_str());
-                let _ = eprintln!(rt; "{path}:{line}:{column}: {text}");
+                let _ = eprintln!(rt; "{shown}:{line}:{column}: {text}");
             }
             print_count(rt, path, expanded, errors, &mistakes);
             Ok(())
@@ -324,12 +327,14 @@ fn print_count<H: Eprint>(
         is_behind = is_behind || line == last.line && error.column == last.column;
     }
     if count > 0 {
+        let path = ShownName::of(path);
         let _ = eprintln!(rt; "{path}: lines with further mistakes: {count}");
     }
 }
 
 /// Prints each mistake as a line, and no more than what is wrong there.
 fn print_all<H: Eprint>(rt: &H, path: &str, expanded: &Expanded, errors: &[SourceError]) {
+    let path = ShownName::of(path);
     for error in errors {
         let line = number_of(&expanded.lines, error.line);
         let (column, kind) = (error.column, error.kind);

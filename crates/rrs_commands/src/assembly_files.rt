@@ -10,6 +10,7 @@ ghost use Rattle.rrs_commands.specs.Files.{Includes, NamesFile};
 use rrs_asm_lines::{Part, begins_with, behind_blanks, first_line, first_part, split_word};
 use rrs_asm_macros::Expanded;
 use rrs_asm_output::{MOST_MISTAKES, number_of};
+use rrs_reports::ShownName;
 use rrs_run_commands::files::read_file;
 use rrs_run_commands::refusal::{FileFault, Refusal, out_of_memory};
 use std::alloc::{AllocError, Global};
@@ -194,6 +195,7 @@ fn refuse<'a, H: Eprint>(rt: &H, place: Place<'_>, what: &str) -> Result<(), Ref
         column,
         ..
     } = place;
+    let path = ShownName::of(path);
     let _ = eprintln!(rt; "{path}:{line}:{column}: {what}");
     Err(Refusal::SourceErrors)
 }
@@ -211,6 +213,7 @@ fn refuse_file<'a, H: Eprint>(
         column,
         ..
     } = place;
+    let (path, name) = (ShownName::of(path), ShownName::of(name));
     let _ = eprintln!(rt; "{path}:{line}:{column}: {what}: {name}");
     Err(Refusal::SourceErrors)
 }

@@ -10,6 +10,7 @@ use crate::subcommands::Subcommand;
 use rrs_cli::command::{Command, NamedFailure};
 use rrs_fast::Ending;
 use rrs_lib::instruction_executor::InstructionException;
+use rrs_reports::ShownName;
 use rrs_run_commands::options::Task;
 use rrs_run_commands::refusal::{FileFault, HostFault, Refusal};
 use std::fmt::Display;
@@ -103,10 +104,11 @@ fn tell_refusal<H: Eprint>(
         Refusal::Words(mistake) => tell_mistake(rt, subcommand, mistake),
         Refusal::File(_, FileFault::Host(HostFault::Closed)) | Refusal::SourceErrors => Ok(()),
         Refusal::File(path, fault) => {
-            let fault = ToldFault(fault);
+            let (path, fault) = (ShownName::of(path), ToldFault(fault));
             eprintln!(rt; "{name}: {path}: {fault}")
         }
         Refusal::NoAddress(word) => {
+            let word = ShownName::of(word);
             eprintln!(rt; "{name}: --from: {word} is no address, and no symbol of PROGRAM")
         }
         Refusal::Terminal => {

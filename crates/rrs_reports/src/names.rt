@@ -22,6 +22,17 @@ pub struct ShownName<'a> {
     pub name: &'a [u8],
 }
 
+impl<'a> ShownName<'a> {
+    /// A text as it is shown: a path, or a word of the command line.
+    pub fn of(text: &'a str) -> ShownName<'a>
+        ensures { result.name.now ≡ text.now }
+    {
+        ShownName {
+            name: text.as_bytes(),
+        }
+    }
+}
+
 /// Writes digits in braces.
 fn write_digits<W: fmt::Write>(f: &mut fmt::Formatter<W>, digits: &str) -> fmt::Result
     ensures { WritesOnOk W.write_str_gives f.old result
