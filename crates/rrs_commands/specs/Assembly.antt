@@ -1,5 +1,5 @@
 -- What is made of a source as the words of `rrs as` say.
-use Rattle.std.specs.Prelude.{ℕ, ◌≡◌, List, Option, Some, None}
+use Rattle.std.specs.Prelude.{ℕ, List, Option, Some, None}
 use Rattle.std.specs.Option.{option_map_or}
 use Rattle.std.specs.declared.alloc.Global.{Global}
 use Rattle.rrs_asm.specs.declared.sections.Layout.{Layout}

@@ -1,5 +1,5 @@
 -- The number that short digits are; the bytes of words, and what words ask for, from what those after the first ask for.
-use Rattle.std.proofs.Common.{◌≡◌, ℕ, ◌^◌, ◌-◌, ◌<◌, ◌≤◌, ◌⊎◌, List, [], ◌∷◌, ◌++◌, take, drop, codes, Option, Some, None, MatchOption, take-append-drop, Result, Ok, Err, map, length, string_bytes, String, Global, ap, subst, sym, ◌∙◌, refl, inl, inr, arith}
+use Rattle.std.proofs.Common.{◌≡◌, ℕ, ◌^◌, ◌-◌, ◌<◌, ◌≤◌, List, [], ◌∷◌, ◌++◌, take, drop, codes, Option, Some, None, MatchOption, take-append-drop, Result, Ok, Err, map, length, string_bytes, String, Global, ap, subst, sym, ◌∙◌, refl, inl, inr, arith}
 use Rattle.std.proofs.Math.Nat.{pow-le-pow_right}
 use Rattle.std.proofs.lemmas.Int.Digits.{digits_value-lt}
 use Rattle.std.specs.Str.Parse.{AllDigits, digits_value}
