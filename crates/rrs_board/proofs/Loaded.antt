@@ -1,5 +1,5 @@
 -- An executable in the words of RAM.
-use Rattle.std.proofs.Common.{◌≡◌, ℕ, ◌+◌, ◌<◌, ◌≤◌, Bool, true, List, Err, is_ok, length, ap, sym, subst, arith}
+use Rattle.std.proofs.Common.{◌≡◌, ℕ, ◌+◌, ◌<◌, ◌≤◌, true, List, length, sym, subst, arith}
 use Rattle.std.proofs.lemmas.Bool.Decides.{nat_tests}
 use Rattle.rrs_memory.specs.Bytes.{ByteMap}
 use Rattle.rrs_memory.specs.SliceBytes.{bytes_from, lies_from, slice_bytes, slice_writable, slice_reads, SliceWrites}
@@ -7,10 +7,8 @@ use Rattle.rrs_memory.specs.declared.memories.slice.SliceMemory.{SliceMemory}
 use Rattle.rrs_memory.proofs.SliceWords.{lies_same}
 use Rattle.rrs_elf.specs.Headers.{e_phnum, p_vaddr}
 use Rattle.rrs_elf.specs.Loading.{Stands, StopsAt, loaded_size}
-use Rattle.rrs_elf.specs.Refusals.{first_refusal, checks, is_accepted}
-use Rattle.rrs_elf.specs.declared.errors.ElfError.{ElfError}
 use Rattle.rrs_board.specs.Registers.{ram_start}
-use Rattle.rrs_board.specs.Boards.{EndsOutside, is_in_ram}
+use Rattle.rrs_board.specs.Boards.{EndsOutside}
 
 -- a byte of RAM is not below it
 lies_above : (words : List ℕ) (a : ℕ) → lies_from ram_start words a ≡ true → ram_start ≤ a
@@ -35,12 +33,6 @@ all_in_ram file items old new stands i j numbered within =
 
 -- ---- refusals
 
--- an executable that was accepted is refused for nothing
-pub accepted_none : (file read : List ℕ) (refusal : ElfError) → IsTrue (is_accepted read) → read ≡ file
-    → first_refusal (checks file) ≡ Err refusal → ⊥
-accepted_none file read refusal accepted same refused =
-    subst IsTrue (ap is_ok refused) (subst (λ f. IsTrue (is_accepted f)) same accepted)
-
 -- a load that stops is at an address that is not writable
 pub ends_at : (file : List ℕ) (old new : SliceMemory) (address : ℕ)
     → StopsAt slice_reads SliceWrites slice_bytes (slice_writable old) file old new address
@@ -55,13 +47,3 @@ ends_at file old new address stops = record {
   segments = stops.stands.segments_writable;
   part = stops.stands.part_writable;
 }
-
--- the words from its first address on are RAM
-lies_in_ram : (items : List ℕ) (words a : ℕ) → length items ≡ words → lies_from ram_start items a ≡ is_in_ram words a
-lies_in_ram items words a many = grind (arith, nat_tests)
-
-pub ends_outside_ram : (file read items : List ℕ) (words address : ℕ) → read ≡ file → length items ≡ words
-    → EndsOutside read (lies_from ram_start items) address → EndsOutside file (is_in_ram words) address
-ends_outside_ram file read items words address same many ends =
-    subst (λ f. EndsOutside f (is_in_ram words) address) same
-    (subst (λ (is_in : ℕ → Bool). EndsOutside read is_in address) (λ i a. lies_in_ram items words a many i) ends)

@@ -162,21 +162,21 @@ session_ends limit start input rest left before between flushed after steps more
     (ends_by input left so_far.typed event new ended ends at_end made.served.consumed) kept is fails
 
 is_false : (b : Bool) → (b ≡ true → ⊥) → b ≡ false
-is_false true no = absurd (no refl)
-is_false false no = refl
+is_false true fails = absurd (fails refl)
+is_false false fails = refl
 
 -- where the end of the input is not seen, no wait that input can end is the end
 pub never_waits : (event : BoardEvent) (b : Board) (ended : Bool) (steps : ℕ) (r : Result BoardEnd TerminalError)
     → EndsBy event b ended → ended ≡ false
     → IfOk r (λ end. (end.steps ≡ steps) × (end.event ≡ Some event))
     → IfOk r (λ end. end.event ≡ Some NothingWakes → waits_for_input b.memory.devices ≡ false)
-never_waits event b ended steps (Err error) ends no is = tt
-never_waits (Finished status) b ended steps (Ok end) ends no is = λ at. absurd (cc (at, is.1))
-never_waits NothingWakes b ended steps (Ok end) ends no is =
-    λ at. is_false (waits_for_input b.memory.devices) (λ waits. absurd (cc (ends waits, no)))
-never_waits (Transmitted byte) b ended steps (Ok end) ends no is = absurd ends
-never_waits Looked b ended steps (Ok end) ends no is = absurd ends
-never_waits Waits b ended steps (Ok end) ends no is = absurd ends
+never_waits event b ended steps (Err error) ends unseen is = tt
+never_waits (Finished status) b ended steps (Ok end) ends unseen is = λ at. absurd (cc (at, is.1))
+never_waits NothingWakes b ended steps (Ok end) ends unseen is =
+    λ at. is_false (waits_for_input b.memory.devices) (λ waits. absurd (cc (ends waits, unseen)))
+never_waits (Transmitted byte) b ended steps (Ok end) ends unseen is = absurd ends
+never_waits Looked b ended steps (Ok end) ends unseen is = absurd ends
+never_waits Waits b ended steps (Ok end) ends unseen is = absurd ends
 
 -- the limit is no wait
 pub none_waits : (b : Board) (steps : ℕ) (r : Result BoardEnd TerminalError)

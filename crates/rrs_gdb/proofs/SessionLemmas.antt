@@ -1,5 +1,5 @@
 -- What packets leave as it was, and the calls between the runs of a program that goes on.
-use Rattle.std.proofs.Common.{◌≡◌, ◌≢◌, ◌⊎◌, ℕ, zero, suc, List, [], ◌∷◌, ◌++◌, Bool, true, false, Contains, Option, Some, None, Result, Ok, Err, OnOk, IfNone, MatchOption, ◌-◌, ◌<◌, ◌≤◌, drop, length, take, take_all, slice_index, refl, sym, subst, ap, ◌∙◌, inl, inr, arith}
+use Rattle.std.proofs.Common.{◌≡◌, ◌≢◌, ◌⊎◌, ℕ, zero, suc, List, [], ◌∷◌, ◌++◌, Bool, true, false, Contains, Option, Some, None, Result, Ok, Err, OnOk, IfNone, MatchOption, ◌+◌, ◌-◌, ◌<◌, ◌≤◌, drop, length, take, take_all, slice_index, refl, sym, subst, ap, ◌∙◌, inl, inr, arith}
 use Rattle.std.specs.Bool.{OnTrue, OnFalse}
 use Rattle.std.proofs.lemmas.Bool.{OnTrue_from}
 use Rattle.std.proofs.lemmas.List.{append_cancel_left, length-drop}

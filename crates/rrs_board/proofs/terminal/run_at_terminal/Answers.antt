@@ -1,5 +1,5 @@
 -- One event more, and where it can't be served.
-use Rattle.std.proofs.Common.{◌≡◌, ◌-◌, ◌∙◌, false, true, arith, rules}
+use Rattle.std.proofs.Common.{◌≡◌, ◌∙◌, false, true, arith, rules}
 use Rattle.std.proofs.lemmas.Bool.{OnTrue_at, OnFalse_at}
 use Rattle.std.proofs.lemmas.Result.{err_from_is_err_and}
 use Rattle.rrs_board.proofs.Sessions.{session_starts, session_goes, session_run, session_ends, session_stops, session_finishes, session_at_limit, run_is, untouched, none_waits, never_waits}
@@ -34,7 +34,7 @@ returns-then-not-branch g c =
       stopped = both.1;
       polled = λ is.
           let before = c.runs.invariant.polled is in
-          never_waits _ _ _ _ _ stays.0 (made.polled before.0 before.1).1 c.finish.ensures.end;
+          never_waits c.in-Some.event c.serve.new.board _ _ _ stays.0 (made.polled before.0 before.1).1 c.finish.ensures.end;
     }
 
 pub runs-preserved : goal.runs-preserved
@@ -56,10 +56,10 @@ returns-in-None g c =
     let made = session_run _ _ _ _ _ _ _ _ _ _ _ _ _ _ c.runs.invariant.served run (untouched _ _ _) in
     let both = session_finishes _ _ _ _ _ _ _ _ _ _ _ made tt c.finish-in-None.ensures.kept
     c.finish-in-None.ensures.end c.finish-in-None.ensures.error in
-    record { session = both.0; stopped = both.1; polled = λ _. none_waits _ _ _ c.finish-in-None.ensures.end }
+    record { session = both.0; stopped = both.1; polled = λ _. none_waits c.run-end.new.self _ _ c.finish-in-None.ensures.end }
 
 pub returns : goal.returns
 returns g c =
     let both = session_at_limit _ _ _ _ _ _ _ _ _ _ c.runs.invariant.served c.runs-test.false c.finish-2.ensures.kept
     c.finish-2.ensures.end c.finish-2.ensures.error in
-    record { session = both.0; stopped = both.1; polled = λ _. none_waits _ _ _ c.finish-2.ensures.end }
+    record { session = both.0; stopped = both.1; polled = λ _. none_waits c.runs.board _ _ c.finish-2.ensures.end }

@@ -20,7 +20,7 @@ returns-then-not-is_behind_call-clause-back g c =
     let back = c.go_back-back.result in
     all_gone _ _ _ _ _ _ _ _ _ _ _ _ back.steps _ _ _ _ i.so_far (RunsBack _ back.steps _ _ _ back.end
     (same_back _ _ _ _ _ _ _ _ _ _ back.end i.places.stops_kept i.places.watches_kept
-    c.go_back-back.ensures.back) c.if-not-is_behind_call.ensures.no refl) c.saturating_sub.ensures
+    c.go_back-back.ensures.back) c.if-not-is_behind_call.ensures.no refl) c.saturating_sub-state.ensures
 
 pub returns-then-is_stop-clause-back : goal.returns-then-is_stop-clause-back
 returns-then-is_stop-clause-back g c =
@@ -36,7 +36,7 @@ returns-then-is_stop-clause-back g c =
     c.if-not-is_behind_call.ensures.yes c.go_back-back.ensures.back) in
     all_gone _ _ _ _ _ _ _ _ _ _ _ _ gone _ _ _ _ i.so_far (StopsBack _ gone _ _ _ back c.take_call_back.ensures.taken
     (subst (λ (xs : List ℕ). Contains xs t.pc) (c.take_call_back.ensures.places.stops_kept ∙ i.places.stops_kept)
-    (rw c.deref.ensures.value at c.if-is_stop.ensures.yes))) (c.take_call_back.ensures.steps ∙ c.saturating_sub.ensures)
+    (rw c.deref.ensures.value at c.if-is_stop.ensures.yes))) (c.take_call_back.ensures.steps ∙ c.saturating_sub-state.ensures)
 
 pub legs-preserved : goal.legs-preserved
 legs-preserved g c =
@@ -56,7 +56,7 @@ legs-preserved g c =
     c.if-not-is_behind_call.ensures.yes c.go_back-back.ensures.back) in
     let none = subst (λ (xs : List ℕ). ¬ Contains xs t.pc) (kept.stops_kept ∙ i.places.stops_kept)
     (rw c.deref.ensures.value at c.if-is_stop.ensures.no) in
-    let counted = c.take_call_back.ensures.steps ∙ c.saturating_sub.ensures in
+    let counted = c.take_call_back.ensures.steps ∙ c.saturating_sub-state.ensures in
     record {
       places = record {
         stops_kept = kept.stops_kept ∙ i.places.stops_kept;
