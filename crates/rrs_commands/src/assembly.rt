@@ -317,14 +317,14 @@ fn print_count<H: Eprint>(
     if mistakes.len() < MOST_MISTAKES {
         return;
     }
-    let mut is_behind = false;
+    let mut is_after = false;
     let mut count = 0usize;
     for error in errors {
-        if is_behind {
+        if is_after {
             count = count.saturating_add(1);
         }
         let line = number_of(&expanded.lines, error.line);
-        is_behind = is_behind || line == last.line && error.column == last.column;
+        is_after = is_after || line == last.line && error.column == last.column;
     }
     if count > 0 {
         let path = ShownName::of(path);

@@ -50,7 +50,8 @@ first_address file = first_below file (e_phnum file)
 abbrev pub end_address : List ℕ → ℕ
 end_address file = end_below file (e_phnum file)
 
--- How many bytes of memory a process of a program needs at least: 0 where there is no room after it.
+-- How many bytes of memory a process of a program needs at least: 0 where there is no room after
+-- it.
 abbrev pub needed_of : List ℕ → ℕ
 needed_of file =
     if has_room (end_address file) then needed (first_address file) (end_address file) else 0
