@@ -78,12 +78,6 @@ SITES = (
         NARROW,
     ),
     (
-        "rrs_oracle/src/lines.rt",
-        "str::from_utf8(line)",
-        "std::str::from_utf8(line)",
-        "Rust 1.85 has it as a function of the module alone.",
-    ),
-    (
         "rrs_run_commands/src/files.rt",
         "        ErrorKind::InvalidFilename => HostFault::LongName,\n",
         "",

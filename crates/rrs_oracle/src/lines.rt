@@ -6,7 +6,7 @@ use crate::questions::{ParseError, ParseErrorKind, Question};
 use std::alloc::Global;
 use std::error::Error;
 use std::io::{BufRead, BufReader, BufWriter, ErrorKind, Read, Write};
-use std::{fmt, io};
+use std::{fmt, io, str};
 
 /// Why not all lines were answered.
 #[derive(Debug, PartialEq, Drop)]
