@@ -11,7 +11,7 @@ use Rattle.rrs_gdb.specs.declared.session.Subject.TheVariants.{Shown, Changed, R
 use Rattle.rrs_gdb.specs.declared.state.SessionState.{SessionState}
 use Rattle.rrs_gdb.specs.declared.state.Settings.{Settings}
 use Rattle.rrs_gdb.specs.Packets.{IsNumber, number}
-use Rattle.rrs_gdb.specs.Sessions.{letter, ChangesNone, RunsNone, ChangesRegister, ChangesMemory, MemoryKept, RegistersKept, BreaksKept, SettingsKept, PlacesKept, SessionKept, ForgetsOrStays, has_ended, is_end, IsError, ShowsMemory, ShowsRegister, Asked, asked_by, Around, around, forgotten, Most, one_step, up_to, GoesBy, HasAction, HasLetter, HasSignal, HasNoSignal, BySignal, Resumes, Signals, GoesOnUnless, Acts, GoesOnOrStays}
+use Rattle.rrs_gdb.specs.Sessions.{letter, ChangesNone, RunsNone, ChangesRegister, ChangesMemory, MemoryKept, RegistersKept, BreaksKept, SettingsKept, PlacesKept, SessionKept, ForgetsOrStays, has_ended, is_end, IsError, ShowsMemory, ShowsRegister, Asked, asked_by, Around, around, Most, one_step, up_to, GoesBy, HasAction, HasLetter, HasSignal, HasNoSignal, BySignal, Resumes, Signals, GoesOnUnless, Acts, GoesOnOrStays}
 use Rattle.rrs_gdb.specs.Answers.{Moment, around_in, ShowsNone, HasSubject, Shows, Sets, BeginsBy, Here, There, Goes, ActsBy, Returns, Stays, Leaves, Means}
 use Rattle.rrs_gdb.specs.Shown.{registers_text, stop_text}
 use Rattle.rrs_gdb.proofs.SessionLemmas.{BeginsAt, asked_kept, error_letter, goes_same, step_from, go_from, resumes_here, resumes_there, resumes_not, signals_here, signals_there, signals_nowhere, signals_not}

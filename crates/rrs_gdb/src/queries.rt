@@ -1,5 +1,7 @@
 //! The packets that ask, and those that set how the session goes on.
 
+ghost use Rattle.std.specs.Prelude.{◌≡◌};
+ghost use Rattle.rrs_gdb.specs.declared.queries.Number.{Number};
 ghost use Rattle.rrs_gdb.specs.Sessions.{BreaksKept, SessionKept};
 
 use crate::framing::push_bytes;
@@ -166,7 +168,11 @@ fn number_named(word: &[u8]) -> Option<(&'static str, Number)> {
 }
 
 /// What a number is.
-fn value_of(state: &SessionState<'_>, number: Number) -> u64 {
+fn value_of(state: &SessionState<'_>, number: Number) -> u64
+    ensures steps { number ≡ Number.Steps → result ≡ state.now.steps }
+    ensures limit { number ≡ Number.Limit → result ≡ state.now.settings.limit }
+    ensures history { number ≡ Number.History → result ≡ state.now.settings.history }
+{
     match number {
         Number::Steps => state.steps,
         Number::Limit => state.settings.limit,

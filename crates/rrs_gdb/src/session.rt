@@ -7,6 +7,7 @@ ghost use Rattle.rrs_lib.specs.Bytes.{ByteMap};
 ghost use Rattle.rrs_lib.specs.Machine.{state_of};
 ghost use Rattle.rrs_lib.specs.Executor.{state_in};
 ghost use Rattle.rrs_linux.specs.Recording.{Recording};
+ghost use Rattle.rrs_gdb.specs.declared.breaks.WatchKind.{WatchKind};
 ghost use Rattle.rrs_gdb.specs.declared.session.Going.{Going};
 ghost use Rattle.rrs_gdb.specs.declared.session.Next.{Next};
 ghost use Rattle.rrs_gdb.specs.Answers.{BeginsBy, Goes, HasSubject, IsDone, Leaves, Means, Sets, Shows, moment};
@@ -442,8 +443,13 @@ fn break_of(payload: &[u8]) -> Option<(bool, u8, u32, u32)> {
     }
 }
 
-/// The watchpoint of a kind, 2 to 4.
-fn watch_of(kind: u8, address: u32, length: u32) -> Watch {
+/// The watchpoint of a kind: 2 is for stores, 3 for loads, and 4 for both.
+fn watch_of(kind: u8, address: u32, length: u32) -> Watch
+    ensures write { kind ≡ 50 → result.kind ≡ WatchKind.Write }
+    ensures read { kind ≡ 51 → result.kind ≡ WatchKind.Read }
+    ensures access { kind ≡ 52 → result.kind ≡ WatchKind.Access }
+    ensures place { (result.address ≡ address) × (result.length ≡ length) }
+{
     let kind = match kind {
         b'2' => WatchKind::Write,
         b'3' => WatchKind::Read,

@@ -1,6 +1,5 @@
-use Rattle.std.proofs.Common.{◌≡◌, ℕ, ◌-◌, List, refl, sym, subst, ap, ◌∙◌, arith}
+use Rattle.std.proofs.Common.{◌≡◌, ℕ, ◌-◌, refl, sym, subst, ap, ◌∙◌, arith}
 use Rattle.rrs_lib.specs.Executor.{state_in}
-use Rattle.rrs_gdb.specs.declared.state.Stop.{Stop}
 use Rattle.rrs_gdb.specs.Sessions.{Asked, PlacesKept, CallMade, CallStops, GoesOn, Runs, Stops, Calls, around, asked_by, stopped_at}
 use Rattle.rrs_gdb.proofs.SessionLemmas.{asked_kept, at_limit, call_at, ran, same_places, to_call}
 use Rattle.rrs_gdb.proofs.resume.forward.Goals as goal

@@ -1,9 +1,9 @@
 -- A stop before the call, or what comes of the call.
-use Rattle.std.proofs.Common.{◌≡◌, ◌%◌, ℕ, ◌∙◌, Option, Some, None, refl, sym, subst, ap}
+use Rattle.std.proofs.Common.{◌%◌, ℕ, ◌∙◌, Option, refl, subst, ap}
 use Rattle.rrs_lib.specs.Executor.{state_in}
 use Rattle.rrs_gdb.specs.declared.state.Stop.{Stop}
 use Rattle.rrs_gdb.specs.declared.state.Stop.TheVariants.{Signal, Exited}
-use Rattle.rrs_gdb.specs.Sessions.{Around, Before, CallServed, Ends, Faults, PassesBefore, StopsBefore, around, asked_by, call_number, stopped_at}
+use Rattle.rrs_gdb.specs.Sessions.{Around, Before, CallServed, Ends, Faults, PassesBefore, StopsBefore, around, asked_by, stopped_at}
 use Rattle.rrs_gdb.proofs.SessionLemmas.{behind_call, call_made, call_served}
 use Rattle.rrs_gdb.proofs.resume.make_call.Goals as goal
 

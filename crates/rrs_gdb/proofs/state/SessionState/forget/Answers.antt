@@ -1,5 +1,3 @@
-use Rattle.std.proofs.Common.{List, [], ℕ}
-use Rattle.rrs_history.specs.declared.change.Change.{Change}
 use Rattle.rrs_gdb.specs.Sessions.{around, forgotten}
 use Rattle.rrs_gdb.proofs.state.SessionState.forget.Goals as goal
 
