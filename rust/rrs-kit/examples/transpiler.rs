@@ -120,15 +120,15 @@ impl Machine {
 /// The product of two registers without carries.
 fn multiply(hart: &mut HartState, RType { rd, rs1, rs2, .. }: RType) {
     let (one, other) = (hart.read_register(rs1), hart.read_register(rs2));
-    let bits = (0..32).filter(|bit| other >> bit & 1 == 1);
-    hart.write_register(rd, bits.fold(0, |sum, bit| sum ^ one << bit));
+    let bits = (0..32).filter(|bit| (other >> bit) & 1 == 1);
+    hart.write_register(rd, bits.fold(0, |sum, bit| sum ^ (one << bit)));
 }
 
 /// Runs the program in both ways, and says what was seen.
 pub fn report() -> String {
     let program = assemble_source(Global, SOURCE, Layout::flat(0)).expect("a source");
     let bytes = image(Global, &program, 0).expect("memory");
-    let word = |bytes: &[u8]| bytes.iter().rev().fold(0, |word, &byte| word << 8 | u32::from(byte));
+    let word = |bytes: &[u8]| bytes.iter().rev().fold(0, |all, &byte| all * 256 + u32::from(byte));
     let words: Vec<u32> = bytes.chunks(4).map(word).collect();
     let transpiled = |(index, &word): (usize, &u32)| {
         let own = own_fields(word).map(Operation::Multiply);

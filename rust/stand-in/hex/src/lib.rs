@@ -51,7 +51,7 @@ pub fn decode_to_slice<T: AsRef<[u8]>>(data: T, out: &mut [u8]) -> Result<(), Fr
         return Err(FromHexError::InvalidStringLength);
     }
     for (i, byte) in out.iter_mut().enumerate() {
-        *byte = digit(data, 2 * i)? << 4 | digit(data, 2 * i + 1)?;
+        *byte = (digit(data, 2 * i)? << 4) | digit(data, 2 * i + 1)?;
     }
     Ok(())
 }
