@@ -168,6 +168,11 @@ def proof_lines(sources, crate=r"\w+"):
     return sources.lines(rf"crates/(?:{crate})/proofs/.*\.antt")
 
 
+def rust_lines(sources, folder):
+    """The lines of a folder of rust/, in Rust or Python."""
+    return sources.lines(rf"rust/{folder}/.*\.(?:rs|py)")
+
+
 def edits(sources, crate=r"\w+"):
     return len(sources.named(rf"crates/(?:{crate})/must-fail/.*\.edit"))
 
@@ -229,6 +234,7 @@ COUNTS = {
     "spec-lines:": (spec_lines, 1),
     "proof-lines": (proof_lines, 100),
     "proof-lines:": (proof_lines, 100),
+    "rust-lines:": (rust_lines, 10),
     "cache-bytes": (cache_bytes, 1),
     "cache-kib": (lambda s: cache_bytes(s) // 1024, 1),
     "const:": (constant, 1),
