@@ -2,13 +2,14 @@
 
 use rrs_kit::alloc::Global;
 use rrs_kit::extra::PagedMemory;
-use rrs_kit::{MemAccessSize, Memory, encode, instruction};
+use rrs_kit::{MemAccessSize, Memory, arithmetic, encode, instruction};
 
 #[test]
-fn a_word_is_encoded_and_a_page_is_none() {
+fn words_are_encoded_and_computed_and_a_page_is_none() {
     let found = instruction::decode(0x0031_00b3).as_ref().and_then(encode::encode);
     let read = PagedMemory::new(Global).read_mem(0, MemAccessSize::Byte);
-    assert_eq!((found, read), (Some(0x0031_00b3), None));
+    let seen = (found, read, arithmetic::sub(1, 2));
+    assert_eq!(seen, (Some(0x0031_00b3), None, u32::MAX));
 }
 
 /// The runtime of the host has all that the kit names of it.
@@ -67,12 +68,13 @@ fn the_board_has_its_devices_at_their_addresses() {
 #[cfg(feature = "asm")]
 #[test]
 fn the_assembler_has_its_parts() {
+    use rrs_kit::alloc::AllocError;
     use rrs_kit::asm::{assembly, lines, macros};
     let expanded = macros::expand(Global, b".rept 2\nnop\n.endr\n").expect("a repetition");
     let nops = expanded.text.split(|&byte| byte == b'\n').filter(|line| *line == b"nop");
-    let text = assembly::gnu_text(Global, &0x0031_00b3_u32.to_le_bytes()).expect("a text");
-    let seen = (nops.count(), lines::register_number(b"fp"), text.contains("add"));
-    assert_eq!(seen, (2, Some(8), true));
+    let text: Result<String, AllocError> = assembly::gnu_text(Global, &0x13_u32.to_le_bytes());
+    let is_told = text.is_ok_and(|text| text.contains("addi"));
+    assert_eq!((nops.count(), lines::register_number(b"fp"), is_told), (2, Some(8), true));
 }
 
 #[cfg(feature = "linux")]
@@ -83,4 +85,11 @@ fn a_process_has_its_parts() {
     is_served_by::<Linux<&[u8], Vec<u8>, Vec<u8>>>();
     let layout = layout_of(0x1_0000, 0x1_0100, 1 << 24);
     assert_eq!((layout.is_some(), DECODED_WORDS.is_power_of_two()), (true, true));
+}
+
+#[cfg(feature = "gdb")]
+#[test]
+fn gdb_is_told_of_the_hart() {
+    let target = rrs_kit::gdb::TARGET;
+    assert!(target.windows(5).any(|part| part == b"riscv"));
 }
