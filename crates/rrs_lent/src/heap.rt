@@ -1,9 +1,11 @@
+//! What the allocator over a lent room does: it gives the room as one block, and takes it back.
+
 ghost use Rattle.std.specs.Prelude.{◌≡◌, ◌^◌, ◌<◌, ◌≤◌, IfSome};
 ghost use Rattle.rrs_lent.specs.Ownership.{block_token};
 ghost use Rattle.rrs_lent.specs.Heaps.{heap_place, Grants, IsBack};
 ghost use Rattle.rrs_lent.specs.Rooms.{place_of};
 
-use crate::lent::LentHeap;
+use crate::lent_heap::LentHeap;
 use crate::room::{Room, UNIT};
 use crate::sizes::capacity_of;
 use crate::slot::Slot;

@@ -1,4 +1,6 @@
-// Apart from its functions, whose clauses cite what reads it.
+//! The allocator over a lent room, [LentHeap]. Its functions are in `heap`, since their clauses
+//! cite what reads it.
+
 ghost use Rattle.std.specs.Prelude.{◌≡◌};
 
 use crate::slot::Slot;

@@ -1,3 +1,5 @@
+//! The room: memory that C, a page or another program lends, by its start and its size.
+
 ghost use Rattle.std.specs.Prelude.{◌≡◌, ◌*◌, ◌/◌, ◌%◌, ◌^◌, ◌<◌, IfSome, IfOk};
 ghost use Rattle.rrs_lent.specs.Rooms.{place_of, room_size};
 

@@ -1,3 +1,5 @@
+//! How much of a room of a size an arena can take.
+
 ghost use Rattle.std.specs.Prelude.{◌+◌, ◌^◌, ◌<◌, ◌≤◌};
 
 // What an arena asks of its parent beside the capacity of a chunk.

@@ -1,4 +1,5 @@
-// A cell that holds the room of one place, or nothing while its block is out.
+//! A cell that holds the room of one place, or nothing while its block is out.
+
 ghost use Rattle.std.specs.Prelude.{◌≡◌};
 ghost use base.Fml.{fex, fsep};
 ghost use Rattle.bumpalo.specs.Ownership.{behind_a_ref};

@@ -28,8 +28,8 @@ use Rattle.std.proofs.raw_atomic.Walks.{proved_at, leaves}
 use Rattle.bumpalo.proofs.Walks.{slot_at, then_runs}
 use Rattle.rrs_lent.specs.Ownership.{Place, block_token}
 use denote.Triple.Call.{calls_from}
-use Rattle.rrs_lent.specs.contracts.lent.LentHeap.take as callee
-use Rattle.rrs_lent.specs.contracts.lent.LentHeap.take.Key as take_key
+use Rattle.rrs_lent.specs.contracts.lent_heap.LentHeap.take as callee
+use Rattle.rrs_lent.specs.contracts.lent_heap.LentHeap.take.Key as take_key
 use Rattle.rrs_lent.proofs.lent_heap.LentHeap.take.Met.{met as takes}
 use Rattle.rrs_lent.proofs.Blocks.{Taken, Told, taken, hands_out}
 use Rattle.rrs_lent.specs.contracts.heap.LentHeapAllocator.allocate.{ended, clauses}
@@ -65,7 +65,7 @@ allocate_spec 𝓤 𝓛 𝓜 𝓡 wired =
     regoal ! (λ (us : List Val). prop (WpFn 𝓤 H C Λ fn us Post)) told refl $
     enter ! C Λ fn vs Post $
     alloc_all ! (λ l. pass_all ! refl ((tt, tt), ((tt, record { fits = are.1.0.1 }), ((tt, record { fits = are.1.1.0.1 }), tt))) $ let En : Env 𝓤 𝓛.H = env fn.locals l in
-    calls_from ! (framed 𝓤 H 𝓜 (tables 𝓤 H 𝓜 𝓡 𝓡.env)) (raw (k.pre y)) vs (k.post y) (subst (λ (us : List Val). ent 𝓤 (k.pre y) (C take_key.name us (k.post y))) told (takes 𝓤 𝓛 𝓜 𝓡 (compiled.calls-rrs_lent::lent::LentHeap::take 𝓡.env wired) y)) (and_then ! (get ! refl) (and_then ! (get ! refl) (and_then ! (get ! refl) (no_more !)))) (λ v.
+    calls_from ! (framed 𝓤 H 𝓜 (tables 𝓤 H 𝓜 𝓡 𝓡.env)) (raw (k.pre y)) vs (k.post y) (subst (λ (us : List Val). ent 𝓤 (k.pre y) (C take_key.name us (k.post y))) told (takes 𝓤 𝓛 𝓜 𝓡 (compiled.calls-rrs_lent::lent_heap::LentHeap::take 𝓡.env wired) y)) (and_then ! (get ! refl) (and_then ! (get ! refl) (and_then ! (get ! refl) (no_more !)))) (λ v.
     use1 𝓛 (later (some (λ (x : Taken.Denot). (raw (alive 𝓛 En₀.signature z.0.0 z.0.1) ⊛ ‵ (Taken.own_val x (v ∷ []))) ⊛ some (λ (ls : Lasts callee.ended z.0.0 a). ‵ (lasts callee.ended z.0.0 a ls) ⊛ raw (fact 𝓤 (Told r n al x)))))) (id⊢ 𝓤 (k.post y v)) $
     await ! tt $ pick ! (λ x. split ! $ move ! (1 ∷ []) $ pick ! (λ _. split ! $ drop ! $ heard ! (Told r n al x) (λ said. split ! $ move ! (1 ∷ []) $
     taken ! r n al x v said

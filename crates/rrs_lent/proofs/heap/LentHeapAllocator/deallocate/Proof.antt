@@ -31,11 +31,11 @@ use Rattle.bumpalo.proofs.Values.{ptr_typed}
 use Rattle.bumpalo.proofs.Walks.{slot_at}
 use Rattle.rrs_lent.proofs.Values.{room_val, fields_own, room_made}
 use Rattle.rrs_lent.specs.Ownership.{Place, room_owns, block_token}
-use Rattle.rrs_lent.specs.contracts.lent.LentHeap as lent
+use Rattle.rrs_lent.specs.contracts.lent_heap.LentHeap as lent
 use Rattle.rrs_lent.proofs.lent_heap.LentHeap.TheLaws as lent_laws
-use Rattle.rrs_lent.specs.contracts.lent.LentHeap.size as sizer
+use Rattle.rrs_lent.specs.contracts.lent_heap.LentHeap.size as sizer
 use Rattle.rrs_lent.proofs.lent_heap.LentHeap.size.Met.{met as sizes}
-use Rattle.rrs_lent.specs.contracts.lent.LentHeap.give as callee
+use Rattle.rrs_lent.specs.contracts.lent_heap.LentHeap.give as callee
 use Rattle.rrs_lent.proofs.lent_heap.LentHeap.give.Met.{met as gives}
 use Rattle.rrs_lent.specs.contracts.room.Room as room
 use Rattle.rrs_lent.specs.contracts.heap.LentHeapAllocator.deallocate.{ended, clauses}
@@ -83,7 +83,7 @@ deallocate_spec 𝓤 𝓛 𝓜 𝓡 wired =
     move ! (1 ∷ []) $ feq_i ! (List Val) (me ∷ []) (me ∷ []) refl $ fjoin ! $
     use1 𝓛 (‵ S ⊛ ‵ S) ((shr_copy 𝓛 (named 0) z.0.0.0 lent.the_row (lent_laws.the_row_laws).shr_laws).twice a.0 (me ∷ [])) $ split ! $
     nothing ! $ move ! (1 ∷ 0 ∷ []) $ fjoin ! $ move ! (3 ∷ 0 ∷ []) $ join ! $ nothing ! $ move ! (1 ∷ 0 ∷ []) $ join ! $ use1 𝓛 (raw (k₀.pre y₀)) (id⊢ 𝓤 _) $
-    calls_at ! (framed 𝓤 H 𝓜 𝓣) k₀ (sizes 𝓤 𝓛 𝓜 𝓡 (compiled.calls-rrs_lent::lent::LentHeap::size 𝓡.env wired)) y₀ (and_then ! (get ! refl) (no_more !)) (λ v.
+    calls_at ! (framed 𝓤 H 𝓜 𝓣) k₀ (sizes 𝓤 𝓛 𝓜 𝓡 (compiled.calls-rrs_lent::lent_heap::LentHeap::size 𝓡.env wired)) y₀ (and_then ! (get ! refl) (no_more !)) (λ v.
     use1 𝓛 (later (some (λ (j : ℕ). (raw (alive 𝓛 En₀.signature z.0.0 z.0.1) ⊛ ‵ (usize.own_val j (v ∷ []))) ⊛ some (λ (ls : Lasts sizer.ended z.0.0 y₀.0.3). ‵ (lasts sizer.ended z.0.0 y₀.0.3 ls) ⊛ raw (fact 𝓤 (j ≡ m)))))) (id⊢ 𝓤 (k₀.post y₀ v)) $
     await ! tt $ pick ! (λ j. split ! $ move ! (1 ∷ []) $ pick ! (λ _. split ! $ drop ! $ heard ! (j ≡ m) (λ said. split ! $ move ! (1 ∷ []) $ fsplit ! $ feq_l ! (λ e. flt_l ! (λ below.
     let fits : m < 2 ^ 64 = subst (λ (i : ℕ). i < 2 ^ 64) said below in
@@ -96,7 +96,7 @@ deallocate_spec 𝓤 𝓛 𝓜 𝓡 wired =
     use0 𝓛 (‵ (fields_own from m (w ∷ []))) (room_made 𝓛 from m fits) $ move ! (0 ∷ 3 ∷ []) $ fjoin ! $ nothing ! $ move ! (1 ∷ 0 ∷ []) $ fjoin ! $
     move ! (2 ∷ 0 ∷ []) $ fjoin ! $ move ! (1 ∷ 0 ∷ []) $ join ! $
     use0 𝓛 (raw (fact 𝓤 ((from, m) ≡ r))) (fact_i 𝓤 ((from, m) ≡ r) (emp 𝓤) (λ i. (lies i, m))) $ move ! (1 ∷ 0 ∷ []) $ join ! $ use1 𝓛 (raw (k.pre y)) (id⊢ 𝓤 _) $
-    calls_at ! (framed 𝓤 H 𝓜 𝓣) k (gives 𝓤 𝓛 𝓜 𝓡 (compiled.calls-rrs_lent::lent::LentHeap::give 𝓡.env wired)) y (and_then ! (get ! refl) (and_then ! (get ! refl) (no_more !))) (λ u.
+    calls_at ! (framed 𝓤 H 𝓜 𝓣) k (gives 𝓤 𝓛 𝓜 𝓡 (compiled.calls-rrs_lent::lent_heap::LentHeap::give 𝓡.env wired)) y (and_then ! (get ! refl) (and_then ! (get ! refl) (no_more !))) (λ u.
     use1 𝓛 (later (some (λ (t : Unit {0}). (raw (alive 𝓛 En₀.signature z.0.0 z.0.1) ⊛ ‵ (unit.own_val t (u ∷ []))) ⊛ some (λ (ls : Lasts callee.ended z.0.0 y.0.3). ‵ (lasts callee.ended z.0.0 y.0.3 ls) ⊛ ‵ ftrue)))) (id⊢ 𝓤 (k.post y u)) $
     await ! tt $ pick ! (λ t. split ! $ move ! (1 ∷ []) $ drop ! $ split ! $ move ! (1 ∷ []) $ feq_l ! (λ e'. lands_as ! (ap only e') refl (tt, tt) $
     sets ! (of_opd ! (unit_lit !)) refl (tt, tt) $
