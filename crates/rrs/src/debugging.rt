@@ -2,8 +2,7 @@
 
 use crate::board_debugging::debug_board;
 use rrs_cli::loading::load;
-use rrs_elf::Executable;
-use rrs_exec::{DECODED_WORDS, Image, ProtectedMemory, fill, image_of};
+use rrs_exec::{DECODED_WORDS, Image, LoadedProcess, ProtectedMemory, load_process, started};
 use rrs_fast::{CachedMemory, Ending, OwnCache};
 use rrs_gdb::{Link, LinkError, SessionEnd, SessionState, Settings, serve};
 use rrs_lib::instruction_executor::InstructionExecutor;
@@ -15,7 +14,7 @@ use rrs_run_commands::executables::memory_for;
 use rrs_run_commands::execution::{HEAP_END, HEAP_START};
 use rrs_run_commands::files::{Noting, STANDARD_OUTPUT, read_program};
 use rrs_run_commands::options::Task;
-use rrs_run_commands::refusal::{Refusal, named, no_executable, no_image, out_of_memory, unloaded};
+use rrs_run_commands::refusal::{Refusal, named, no_image, out_of_memory, unloaded};
 use rrs_run_commands::requests::Request;
 use std::alloc::Global;
 use std::env;
@@ -124,14 +123,6 @@ fn words_of<'a>(
     Ok(words)
 }
 
-/// The zero words of a memory of so many bytes.
-fn zeros<'a>(alloc: Global, bytes: u32) -> Result<Vec<u32>, Refusal<'a>> {
-    match vec![in alloc; 0; (bytes / 4) as usize] {
-        Ok(words) => Ok(words),
-        Err(_) => Err(out_of_memory()),
-    }
-}
-
 /// Starts an executable, and serves gdb's packets for it.
 fn debug_executable<'f, 'a, R: Read, W: Write>(
     alloc: Global,
@@ -141,23 +132,16 @@ fn debug_executable<'f, 'a, R: Read, W: Write>(
 ) -> Result<SessionEnd, Refusal<'a>> {
     let path = program.request.path();
     let arguments = words_of(alloc, &program.request, state)?;
-    let executable = match Executable::parse(program.file) {
-        Ok(executable) => executable,
-        Err(error) => return Err(no_executable(path, error)),
-    };
     let memory = memory_for(program.file, program.request.memory);
-    let image = match image_of(alloc, &executable, &arguments, memory) {
-        Ok(image) => image,
+    let loaded = load_process(alloc, program.file, &arguments, memory);
+    let LoadedProcess { image, mut words } = match loaded {
+        Ok(process) => process,
         Err(error) => return Err(no_image(path, error)),
     };
-    let mut words = zeros(alloc, image.layout.end.saturating_sub(image.layout.base))?;
-    let mut memory = SliceMemory {
+    let memory = SliceMemory {
         words: &mut words,
         base: image.layout.base,
     };
-    if let Err(error) = fill(&executable, image.stack_pointer, &image.stack, &mut memory) {
-        return Err(no_image(path, error));
-    }
     debug_image(alloc, image, memory, program.input, state, link)
 }
 
@@ -177,9 +161,7 @@ fn debug_image<'f, 'a, R: Read, W: Write>(
         stack: _,
         marks,
     } = image;
-    let mut hart = HartState::new();
-    hart.registers[2] = stack_pointer;
-    hart.pc = entry;
+    let mut hart = started(entry, stack_pointer);
     let heap = Heap::new(layout.heap_start, layout.heap_end);
     let protected = ProtectedMemory { memory, marks };
     let mut cached: CachedMemory<_, DECODED_WORDS> = CachedMemory::new(protected);

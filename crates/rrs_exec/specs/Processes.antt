@@ -34,6 +34,18 @@ heap_of image = record {
   top = image.layout.heap_start;
 }
 
+-- A process is loaded and has made no step: a file is an executable, an image is one of it, and its
+-- segments and its stack stand in words, which are 0 elsewhere.
+pub record IsLoaded (file : List ℕ) (arguments : List (List ℕ)) (wanted : ℕ) (image : Image)
+    (words : List ℕ) : Type 0 where
+  pub executable : IsExecutable file
+  pub is_image : IsImage file arguments wanted image
+  pub long : image.layout.base + 4 * length words ≡ image.layout.end
+  pub filled : Filled file image.stack_pointer image.stack.items
+      (bytes_from image.layout.base
+      (replicate ((image.layout.end - image.layout.base) / 4) 0))
+      (bytes_from image.layout.base words)
+
 -- By what is known of the environment's reader and writers:
 module _ {R W E : Type 0} (remaining : R → Option (List ℕ))
     (contents : W → Option (List ℕ)) (errors_of : E → Option (List ℕ)) where
@@ -50,22 +62,15 @@ module _ {R W E : Type 0} (remaining : R → Option (List ℕ))
         (started image.entry image.stack_pointer (bytes_under image.marks.items bytes)
         (writable_under image.marks.items writable)) steps accesses
 
-  -- A file is an executable. Its segments and its stack stand in words, which are 0 elsewhere, and
-  -- from its entry, with sp at its stack, the machine runs under the marks of its pages and its
-  -- system calls are served, and this is how that ends: after so many steps, at this pc. So what
-  -- the environment's writers hold then is what they held, and what each write wrote, in order; and
-  -- what its reader gave, the calls that read gave to the program.
+  -- A process is loaded, and from its entry, with sp at its stack, the machine runs under the marks
+  -- of its pages and its system calls are served, and this is how that ends: after so many steps,
+  -- at this pc. So what the environment's writers hold then is what they held, and what each write
+  -- wrote, in order; and what its reader gave, the calls that read gave to the program.
   pub record RunsProcess (file : List ℕ) (arguments : List (List ℕ)) (wanted limit : ℕ)
       (old new : Process R (HostWriter W) (HostWriter E) HostSide)
       (steps pc : ℕ) (ending : Ending) : Type 0 where
-    pub executable : IsExecutable file
     pub image : Image
-    pub is_image : IsImage file arguments wanted image
     pub words : List ℕ
-    pub long : image.layout.base + 4 * length words ≡ image.layout.end
-    pub filled : Filled file image.stack_pointer image.stack.items
-        (bytes_from image.layout.base
-        (replicate ((image.layout.end - image.layout.base) / 4) 0))
-        (bytes_from image.layout.base words)
+    pub loaded : IsLoaded file arguments wanted image words
     pub runs : RunsImage image (bytes_from image.layout.base words)
         (lies_from image.layout.base words) limit old new steps pc ending

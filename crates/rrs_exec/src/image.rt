@@ -1,6 +1,8 @@
 //! What a process starts from: an executable's entry, its stack, and the marks of its pages.
 
-ghost use Rattle.std.specs.Prelude.{◌≡◌, ◌≤◌, ◌<◌, ◌+◌, ◌%◌, ◌^◌, ◌++◌, ◌∷◌, [], ℕ, List, map, string_bytes, IsOk, IfOk, IfErr, OnOk, MatchOption};
+ghost use Rattle.std.specs.Prelude.{◌≡◌, ◌≤◌, ◌<◌, ◌+◌, ◌%◌, ◌^◌, ◌++◌, ◌∷◌, [], ℕ, List, map, string_bytes, IsOk, IfOk, IfErr, OnOk, MatchOption, length};
+ghost use Rattle.rrs_memory.specs.SliceBytes.{StaysLent, slice_bytes, bytes_from};
+ghost use Rattle.rrs_fast.specs.Serving.{MakesSome};
 ghost use Rattle.rrs_elf.specs.Headers.{e_phnum, p_vaddr};
 ghost use Rattle.rrs_elf.specs.Loading.{loaded_size};
 ghost use Rattle.rrs_elf.specs.ProgramHeaders.{IsProgramHeader};
@@ -13,7 +15,7 @@ use crate::marks::{PAGE_BYTES, PageRange, Protection, marks_of};
 use crate::stack::{ProgramHeaders, initial_stack, stack_pointer};
 use rrs_elf::{ElfError, Executable, ProgramHeader};
 use rrs_memory::Memory;
-use rrs_memory::memories::{LoadFault, read_to_memory};
+use rrs_memory::memories::{LoadFault, SliceMemory, read_to_memory};
 use std::alloc::{AllocError, Global};
 
 /// Why an executable can't be made a process.
@@ -307,8 +309,8 @@ pub fn image_of(
     })
 }
 
-/// Writes an executable's segments and a process's stack into a memory. The segments lie below the
-/// stack.
+/// Writes an executable's segments and a process's stack into a memory, by accesses alone. The
+/// segments lie below the stack.
 ///
 /// # Errors
 ///
@@ -324,6 +326,8 @@ pub fn fill<M: Memory>(
         → p_vaddr executable.now.file.now i + j < sp }
     ensures filled { OnOk result (Filled executable.now.file.now sp stack.now
         (M.bytes memory.old) (M.bytes memory.new)) }
+    ensures made { OnOk result (MakesSome M.reads M.writes (λ accesses. Unit {0})
+        memory.old memory.new) }
     ensures writable_kept { M.writable memory.new ≡ M.writable memory.old }
     ensures layout_kept { M.layout memory.new ≡ M.layout memory.old }
 {
@@ -336,4 +340,41 @@ pub fn fill<M: Memory>(
         Err(LoadFault::Refused(address)) => Err(ImageError::Refused(address)),
         Err(LoadFault::Reader(_) | LoadFault::EndOfAddresses) => Err(ImageError::Refused(sp)),
     }
+}
+
+/// The same of words that are lent, which stay lent.
+fn fill_lent<'a>(
+    executable: &Executable<'_>,
+    sp: u32,
+    stack: &[u8],
+    memory: &mut SliceMemory<'a>,
+) -> Result<(), ImageError>
+    requires { (i j : ℕ) → i < e_phnum executable.now.file.now
+        → j < loaded_size executable.now.file.now i
+        → p_vaddr executable.now.file.now i + j < sp }
+    ensures filled { OnOk result (Filled executable.now.file.now sp stack.now
+        (slice_bytes memory.old) (slice_bytes memory.new)) }
+    ensures lent { OnOk result (StaysLent memory.old memory.new) }
+{
+    fill(executable, sp, stack, memory)?;
+    Ok(())
+}
+
+/// The same of words, the first of which has an address.
+pub(crate) fn fill_words(
+    executable: &Executable<'_>,
+    sp: u32,
+    stack: &[u8],
+    base: u32,
+    words: &mut [u32],
+) -> Result<(), ImageError>
+    requires { (i j : ℕ) → i < e_phnum executable.now.file.now
+        → j < loaded_size executable.now.file.now i
+        → p_vaddr executable.now.file.now i + j < sp }
+    ensures filled { OnOk result (Filled executable.now.file.now sp stack.now
+        (bytes_from base words.old) (bytes_from base words.new)) }
+    ensures length_kept { OnOk result (length words.new ≡ length words.old) }
+{
+    let mut memory = SliceMemory { words, base };
+    fill_lent(executable, sp, stack, &mut memory)
 }

@@ -7,8 +7,9 @@
 //! writes them into a memory. What they are is written in `specs/Protection.antt`,
 //! `specs/InitialStack.antt`, `specs/Layouts.antt` and `specs/Images.antt`.
 //!
-//! [execute_process] runs the image of an ELF file and serves its system calls. What that is, is
-//! written in `specs/Processes.antt`. [watch_process] shows each step of such a run to a [Watcher],
+//! [load_process] makes a process of the bytes of an ELF file: its image, and the words of its
+//! memory. [execute_process] runs it and serves its system calls. What that is, is written in
+//! `specs/Processes.antt`. [watch_process] shows each step of such a run to a [Watcher],
 //! as `specs/Watching.antt` says. Both tell a [Progress] of the steps, of which no contract speaks.
 
 #![tactic(auto)]
@@ -25,7 +26,9 @@ mod watching;
 pub use image::{Image, ImageError, fill, image_of, needed_memory};
 pub use layout::{Layout, layout_of};
 pub use marks::{PAGE_BYTES, PageRange, Protection, marks_of};
-pub use process::{DECODED_WORDS, ProcessEnd, execute_process};
+pub use process::{
+    DECODED_WORDS, LoadedProcess, ProcessEnd, execute_process, load_process, started,
+};
 pub use progress::{InPieces, NoProgress, Progress};
 pub use protected::ProtectedMemory;
 pub use stack::{ProgramHeaders, initial_stack, stack_pointer};

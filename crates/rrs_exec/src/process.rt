@@ -6,10 +6,10 @@ ghost use Rattle.rrs_exec.specs.Images.{memory_refusal};
 ghost use Rattle.rrs_lib.specs.Machine.{state_of};
 ghost use Rattle.rrs_elf.specs.declared.errors.ElfError.{ElfError};
 ghost use Rattle.rrs_elf.specs.Refusals.{first_refusal, checks};
-ghost use Rattle.rrs_exec.specs.Processes.{started, RunsImage, RunsProcess};
+ghost use Rattle.rrs_exec.specs.Processes.{started, RunsImage, RunsProcess, IsLoaded};
 ghost use Rattle.rrs_lib.specs.SliceBytes.{slice_bytes, slice_writable};
 
-use crate::image::{Image, ImageError, fill, image_of};
+use crate::image::{Image, ImageError, fill_words, image_of};
 use crate::layout::Layout;
 use crate::progress::{InPieces, Progress};
 use crate::protected::ProtectedMemory;
@@ -37,8 +37,29 @@ pub struct ProcessEnd {
     pub pc: u32,
 }
 
+/// The hart of a process that starts: its pc is the entry, sp is the stack pointer, and all other
+/// registers are 0.
+pub fn started(entry: u32, sp: u32) -> HartState
+    ensures { (bytes : ℕ → Option ℕ) (writable : ℕ → Bool)
+        → state_of result bytes writable ≡ started entry sp bytes writable }
+{
+    let mut hart = HartState::new();
+    hart.registers[2] = sp;
+    hart.pc = entry;
+    hart
+}
+
+/// A process that is loaded and has made no step.
+#[derive(Drop)]
+pub struct LoadedProcess {
+    /// Where it starts, its stack, and the marks of its pages.
+    pub image: Image,
+    /// The words of its memory, the first at address `image.layout.base`.
+    pub words: Vec<u32>,
+}
+
 /// The zero words of a process's memory.
-pub fn zeros(alloc: Global, layout: &Layout) -> Result<Vec<u32>, ImageError>
+fn zeros(alloc: Global, layout: &Layout) -> Result<Vec<u32>, ImageError>
     requires { layout.now.base ≤ layout.now.end }
     ensures { IfOk result (λ words.
         words.items ≡ replicate ((layout.now.end - layout.now.base) / 4) 0) }
@@ -50,15 +71,37 @@ pub fn zeros(alloc: Global, layout: &Layout) -> Result<Vec<u32>, ImageError>
     }
 }
 
-/// A hart at an address, all of whose registers are 0 but sp.
-pub fn started(entry: u32, sp: u32) -> HartState
-    ensures { (bytes : ℕ → Option ℕ) (writable : ℕ → Bool)
-        → state_of result bytes writable ≡ started entry sp bytes writable }
+/// Loads a file's bytes as an executable with these arguments, of which the first is its name, in a
+/// memory of at most so many bytes.
+///
+/// # Errors
+///
+/// `ImageError`, where the file is no executable or can't be made a process. A file that is no
+/// executable is refused for the first of the reasons in their order (`refused`). An executable
+/// that needs more bytes than are wanted, or leaves no room for a heap and a stack, is refused so
+/// before memory is taken for it (`ceiling`).
+pub fn load_process(
+    alloc: Global,
+    file: &[u8],
+    arguments: &[String],
+    wanted: u64,
+) -> Result<LoadedProcess, ImageError>
+    ensures loaded { IfOk result (λ process. IsLoaded file.now (map string_bytes arguments.now)
+        wanted process.image process.words.items) }
+    ensures ceiling { IsExecutable file.now
+        → IfSome (memory_refusal file.now wanted) (λ error. result ≡ Err error) }
+    ensures refused { (refusal : ElfError) → first_refusal (checks file.now) ≡ Err refusal
+        → IfErr result (λ error. error ≡ ImageError.Elf refusal) }
 {
-    let mut hart = HartState::new();
-    hart.registers[2] = sp;
-    hart.pc = entry;
-    hart
+    let executable = match Executable::parse(file) {
+        Ok(executable) => executable,
+        Err(error) => return Err(ImageError::Elf(error)),
+    };
+    let image = image_of(alloc, &executable, arguments, wanted)?;
+    let mut words = zeros(alloc, &image.layout)?;
+    let (sp, base) = (image.stack_pointer, image.layout.base);
+    fill_words(&executable, sp, &image.stack, base, &mut words)?;
+    Ok(LoadedProcess { image, words })
 }
 
 /// Runs a file's bytes as an executable with these arguments, of which the first is its name, in a
@@ -69,10 +112,7 @@ pub fn started(entry: u32, sp: u32) -> HartState
 ///
 /// # Errors
 ///
-/// `ImageError`, where the file is no executable or can't be made a process. No step is made then,
-/// and the environment is as it was. A file that is no executable is refused for the first of the
-/// reasons in their order (`refused`). An executable that needs more bytes than are wanted, or
-/// leaves no room for a heap and a stack, is refused so before memory is taken for it (`ceiling`).
+/// Those of [load_process]. No step is made then, and the environment is as it was.
 pub fn execute_process<R: Read, W: Write, E: Write, P: Progress>(
     alloc: Global,
     file: &[u8],
@@ -91,17 +131,11 @@ pub fn execute_process<R: Read, W: Write, E: Write, P: Progress>(
     ensures refused { (refusal : ElfError) → first_refusal (checks file.now) ≡ Err refusal
         → IfErr result (λ error. error ≡ ImageError.Elf refusal) }
 {
-    let executable = match Executable::parse(file) {
-        Ok(executable) => executable,
-        Err(error) => return Err(ImageError::Elf(error)),
-    };
-    let image = image_of(alloc, &executable, arguments, wanted)?;
-    let mut words = zeros(alloc, &image.layout)?;
-    let mut memory = SliceMemory {
+    let LoadedProcess { image, mut words } = load_process(alloc, file, arguments, wanted)?;
+    let memory = SliceMemory {
         words: &mut words,
         base: image.layout.base,
     };
-    fill(&executable, image.stack_pointer, &image.stack, &mut memory)?;
     Ok(run_image(image, memory, limit, environment, progress))
 }
 

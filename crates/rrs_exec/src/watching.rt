@@ -11,11 +11,10 @@ ghost use Rattle.rrs_elf.specs.declared.errors.ElfError.{ElfError};
 ghost use Rattle.rrs_elf.specs.Refusals.{first_refusal, checks};
 ghost use Rattle.rrs_exec.specs.Watching.{ServesAt, Turn, IsWatched, WatchesImage, WatchesProcess};
 
-use crate::image::{Image, ImageError, fill, image_of};
-use crate::process::{ProcessEnd, started, zeros};
+use crate::image::{Image, ImageError};
+use crate::process::{LoadedProcess, ProcessEnd, load_process, started};
 use crate::progress::Progress;
 use crate::protected::ProtectedMemory;
-use rrs_elf::Executable;
 use rrs_fast::{Ending, Environment, ServedEnd};
 use rrs_lib::Memory;
 use rrs_lib::instruction_executor::{InstructionException, InstructionExecutor};
@@ -223,16 +222,10 @@ pub fn watch_process<R: Read, W: Write, E: Write, V: Watcher, P: Progress>(
     ensures refused { (refusal : ElfError) → first_refusal (checks file.now) ≡ Err refusal
         → IfErr result (λ error. error ≡ ImageError.Elf refusal) }
 {
-    let executable = match Executable::parse(file) {
-        Ok(executable) => executable,
-        Err(error) => return Err(ImageError::Elf(error)),
-    };
-    let image = image_of(alloc, &executable, arguments, wanted)?;
-    let mut words = zeros(alloc, &image.layout)?;
-    let mut memory = SliceMemory {
+    let LoadedProcess { image, mut words } = load_process(alloc, file, arguments, wanted)?;
+    let memory = SliceMemory {
         words: &mut words,
         base: image.layout.base,
     };
-    fill(&executable, image.stack_pointer, &image.stack, &mut memory)?;
     Ok(watch_image(image, memory, limit, environment, watcher, progress))
 }

@@ -76,10 +76,7 @@ run_kept remaining contents errors_of sees wants P grows file arguments wanted l
         runs = record {
           image = runs.image;
           words = runs.words;
-          executable = runs.executable;
-          is_image = runs.is_image;
-          long = runs.long;
-          filled = runs.filled;
+          loaded = runs.loaded;
           runs = record {
             end = runs.runs.end;
             stands = runs.runs.stands;

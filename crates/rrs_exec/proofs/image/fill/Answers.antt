@@ -1,4 +1,5 @@
 -- The load leaves the segments, and the stack is written above them.
+use Rattle.rrs_lib.proofs.Making.{Makes-append}
 use Rattle.rrs_exec.proofs.Filling.{filled_by}
 use Rattle.rrs_exec.proofs.image.fill.Goals as goal
 
@@ -6,3 +7,10 @@ pub returns-in-Ok-clause-filled : goal.returns-in-Ok-clause-filled
 returns-in-Ok-clause-filled g c =
     let read = c.in-Ok.ensures.loads in
     filled_by c.args.executable.now.file.now c.args.sp c.args.stack.now read.input _ _ _ _ _ _ c.in_default.ensures.loaded read.loaded read.answered.0 read.answered.1 c.requires
+
+pub returns-in-Ok-clause-made : goal.returns-in-Ok-clause-made
+returns-in-Ok-clause-made g c = record {
+  accesses = _;
+  these = tt;
+  made = Makes-append _ _ _ _ _ _ _ c.in_default.ensures.accesses c.in-Ok.ensures.accesses.made;
+}
