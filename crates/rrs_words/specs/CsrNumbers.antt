@@ -3,7 +3,7 @@
 -- specification, "Zicntr"), and the bits that a write of each changes. A bit that is not written
 -- reads as at reset, whatever was written: these fields are WARL, and MPP is 3, since there is no
 -- other mode.
-use Rattle.std.specs.Prelude.{ℕ, ◌/◌, ◌^◌, ◌==◌, ◌&&◌, nat_le, Bool, if◌then◌else◌, List, [], ◌∷◌, Option, Some, None, codes}
+use Rattle.std.specs.Prelude.{ℕ, ◌*◌, ◌-◌, ◌+◌, ◌/◌, ◌^◌, ◌==◌, ◌&&◌, nat_le, Bool, if◌then◌else◌, List, [], ◌∷◌, Option, Some, None, codes}
 use Rattle.rrs_words.specs.declared.csrs.Csr.{Csr}
 use Rattle.rrs_words.specs.declared.csrs.Csr.TheVariants.{Mstatus, Mie, Mtvec, Mscratch, Mepc, Mcause, Mtval, Mcountinhibit, Mcycle, Mcycleh, Minstret, Minstreth, Mip, Time, Timeh, Constant}
 use Rattle.rrs_instruction.specs.Words.{word}
@@ -112,21 +112,25 @@ is_read_only n = n / 2 ^ 10 == 3
 
 -- ---- the bits
 
--- the bits that are written: in mstatus MIE and MPIE, in mie MSIE, MTIE and MEIE, in mtvec the base
--- and the lower bit of the mode, in mepc all but the two lowest, in mcountinhibit CY and IR
+-- The bits that are written, by their places. Of a counter or a cause all are.
 abbrev pub written_bits : Csr → ℕ
-written_bits Mstatus = 0x88
-written_bits Mie = 0x888
-written_bits Mtvec = 0xfffffffd
-written_bits Mepc = 0xfffffffc
-written_bits Mcountinhibit = 0x5
-written_bits Mscratch = 0xffffffff
-written_bits Mcause = 0xffffffff
-written_bits Mtval = 0xffffffff
-written_bits Mcycle = 0xffffffff
-written_bits Mcycleh = 0xffffffff
-written_bits Minstret = 0xffffffff
-written_bits Minstreth = 0xffffffff
+-- MIE and MPIE
+written_bits Mstatus = 2 ^ 3 + 2 ^ 7
+-- MSIE, MTIE and MEIE
+written_bits Mie = 2 ^ 3 + 2 ^ 7 + 2 ^ 11
+-- BASE and, of MODE, the lower bit
+written_bits Mtvec = 2 ^ 32 - 1 - 2 ^ 1
+-- all but the two lowest, since instructions are aligned to words
+written_bits Mepc = 2 ^ 32 - 1 - 2 ^ 1 - 2 ^ 0
+-- CY and IR
+written_bits Mcountinhibit = 2 ^ 0 + 2 ^ 2
+written_bits Mscratch = 2 ^ 32 - 1
+written_bits Mcause = 2 ^ 32 - 1
+written_bits Mtval = 2 ^ 32 - 1
+written_bits Mcycle = 2 ^ 32 - 1
+written_bits Mcycleh = 2 ^ 32 - 1
+written_bits Minstret = 2 ^ 32 - 1
+written_bits Minstreth = 2 ^ 32 - 1
 written_bits Mip = 0
 written_bits Time = 0
 written_bits Timeh = 0
@@ -134,5 +138,5 @@ written_bits (Constant value) = 0
 
 -- the bits that are always 1: MPP is 3
 abbrev pub fixed_bits : Csr → ℕ
-fixed_bits Mstatus = 0x1800
+fixed_bits Mstatus = 3 * 2 ^ 11
 fixed_bits _ = 0
