@@ -1,17 +1,26 @@
 -- What an answer leaves and means, by the subject of the packet.
-use Rattle.std.proofs.Common.{◌≡◌, ◌≢◌, ◌⊎◌, ℕ, ◌≤◌, List, [], ◌++◌, Result, Ok, Err, OnOk, drop, length, slice_index, sym, subst, ap, ◌∙◌, inl, inr, arith}
+use Rattle.std.proofs.Common.{◌≡◌, ◌≢◌, ◌⊎◌, ℕ, ◌≤◌, List, [], ◌++◌, Result, Ok, Err, OnOk, IfOk, refl, append-nil, drop, length, slice_index, sym, subst, ap, ◌∙◌, inl, inr, arith}
 use Rattle.std.specs.Prelude.{codes}
 use Rattle.std.proofs.lemmas.List.{append_cancel_left}
 use Rattle.hex.specs.Hex.{decode_of}
 use Rattle.rrs_lib.specs.Machine.{State}
 use Rattle.rrs_board.specs.declared.board.Board.{Board}
+use Rattle.rrs_gdb.specs.declared.breaks.Break.{Break}
+use Rattle.rrs_gdb.specs.declared.breaks.Break.TheVariants as Place
+use Rattle.rrs_gdb.specs.declared.breaks.Breaks.{Breaks}
+use Rattle.rrs_gdb.specs.declared.breaks.Watch.{Watch}
+use Rattle.rrs_gdb.specs.declared.session.Next.{Next}
+use Rattle.rrs_gdb.specs.declared.session.Next.TheVariants.{Reply}
+use Rattle.rrs_gdb.specs.Breaks.{WithBreak, WithoutBreak}
+use Rattle.rrs_gdb.proofs.ChangeLemmas.{error_behind, error_of}
+use Rattle.rrs_gdb.proofs.EntryLemmas.{no_both}
 use Rattle.rrs_gdb.specs.Packets.{IsPlace, before, behind, address_in, length_in}
-use Rattle.rrs_gdb.specs.Sessions.{letter, BreaksNone, ChangesMemory, ChangesNone, IsError, RunsNone, SetsBytes, SetsMemory, ShowsMemory}
+use Rattle.rrs_gdb.specs.Sessions.{letter, BreaksNone, ChangesMemory, ChangesNone, IsBreak, IsError, RunsNone, SetsBytes, SetsMemory, ShowsMemory}
 use Rattle.rrs_board_gdb.specs.declared.session.BoardSession.{BoardSession}
 use Rattle.rrs_board_gdb.specs.declared.session.Subject.TheVariants.{Inspected, Session}
 use Rattle.rrs_board_gdb.specs.Shown.{SameBoard, SameButRam, ram_bytes, ram_writable, ram_state}
-use Rattle.rrs_board_gdb.specs.Sessions.{GoesBy, IsGoing, SetsRegister, ShowsRegister}
-use Rattle.rrs_board_gdb.specs.Answers.{InspectsNone, HasSubject, Inspects, Leaves, Means}
+use Rattle.rrs_board_gdb.specs.Sessions.{EndsBy, GoesBy, IsGoing, RemovesStop, SetsRegister, SetsStop, ShowsRegister}
+use Rattle.rrs_board_gdb.specs.Answers.{Asks, InspectsNone, HasSubject, Inspects, Leaves, Means}
 
 -- ---- the same board
 
@@ -161,6 +170,190 @@ inspects_M (Ok x) payload text b b' old new is same sets = record {
 }
 inspects_M (Err f) payload text b b' old new is same sets = tt
 
+-- ---- breakpoints
+
+other_inspected : (payload : List ℕ) (k : ℕ) → HasSubject payload Inspected → k ≢ 103 → k ≢ 112 → k ≢ 80 → k ≢ 109
+    → k ≢ 77 → letter payload ≢ k
+other_inspected payload k (inl is) g p P m M = λ is'. g (sym is' ∙ is)
+other_inspected payload k (inr (inl is)) g p P m M = λ is'. p (sym is' ∙ is)
+other_inspected payload k (inr (inr (inl is))) g p P m M = λ is'. P (sym is' ∙ is)
+other_inspected payload k (inr (inr (inr (inl is)))) g p P m M = λ is'. m (sym is' ∙ is)
+other_inspected payload k (inr (inr (inr (inr is)))) g p P m M = λ is'. M (sym is' ∙ is)
+
+no_asks : (payload : List ℕ) (s t : BoardSession) (old new : List ℕ) → letter payload ≢ 90 → letter payload ≢ 122
+    → letter payload ≢ 63 → Asks payload s t old new
+no_asks payload s t old new set remove stop = record {
+  sets_stop = λ is. absurd (set is);
+  removes_stop = λ is. absurd (remove is);
+  stopped = λ is. absurd (stop (ap (λ (xs : List ℕ). slice_index xs 0) is));
+}
+
+named_asks : (payload : List ℕ) (s t : BoardSession) (old new : List ℕ) → letter payload ≡ 118
+    → Asks payload s t old new
+named_asks payload s t old new at = no_asks payload s t old new (λ is. apart payload 118 90 at is (omega arith))
+    (λ is. apart payload 118 122 at is (omega arith)) (λ is. apart payload 118 63 at is (omega arith))
+
+run_asks : (payload : List ℕ) (s t : BoardSession) (old new : List ℕ) → IsGoing payload → Asks payload s t old new
+run_asks payload s t old new going = no_asks payload s t old new
+    (λ is. not_going payload 90 is (omega arith) (omega arith) (omega arith) (omega arith) going)
+    (λ is. not_going payload 122 is (omega arith) (omega arith) (omega arith) (omega arith) going)
+    (λ is. not_going payload 63 is (omega arith) (omega arith) (omega arith) (omega arith) going)
+
+inspected_asks : (payload : List ℕ) (s t : BoardSession) (old new : List ℕ) → HasSubject payload Inspected
+    → Asks payload s t old new
+inspected_asks payload s t old new is = no_asks payload s t old new
+    (other_inspected payload 90 is (omega arith) (omega arith) (omega arith) (omega arith) (omega arith))
+    (other_inspected payload 122 is (omega arith) (omega arith) (omega arith) (omega arith) (omega arith))
+    (other_inspected payload 63 is (omega arith) (omega arith) (omega arith) (omega arith) (omega arith))
+
+-- `OK` is no error
+pub no_error : {X : Type 0} → IsError [] (codes "OK") → X
+no_error (rest, is) =
+    let first : 79 ≡ 69 = ap (λ (xs : List ℕ). slice_index xs 0) is in
+    absurd (omega (arith, first))
+
+pub stop_set : (text : List ℕ) (b b' : Breaks) (address : ℕ) (answer : List ℕ) → IsBreak text (Place.Stop address)
+    → IsError [] answer ⊎ (WithBreak (Place.Stop address) b b' × (answer ≡ codes "OK"))
+    → (IsError [] answer → b'.stops.items ≡ b.stops.items) → SetsStop text b b' [] answer
+stop_set text b b' address answer is done kept = record {
+  set = λ other is'. subst
+      (λ (a : ℕ). IsError [] answer ⊎ (WithBreak (Place.Stop a) b b' × (answer ≡ codes "OK"))) (is.2 ∙ sym is'.2) done;
+  unknown = λ watch is'. absurd (no_both text address watch is is');
+  refused = λ none. absurd (none (Place.Stop address) is);
+  kept = kept;
+}
+
+pub stop_removed : (text : List ℕ) (b b' : Breaks) (address : ℕ) (answer : List ℕ) → IsBreak text (Place.Stop address)
+    → WithoutBreak (Place.Stop address) b b' → answer ≡ codes "OK"
+    → (IsError [] answer → b'.stops.items ≡ b.stops.items) → RemovesStop text b b' [] answer
+stop_removed text b b' address answer is done told kept = record {
+  removed = λ other is'.
+      (subst (λ (a : ℕ). WithoutBreak (Place.Stop a) b b') (is.2 ∙ sym is'.2) done, told);
+  unknown = λ watch is'. absurd (no_both text address watch is is');
+  refused = λ none. absurd (none (Place.Stop address) is);
+  kept = kept;
+}
+
+pub set_unknown : (text : List ℕ) (b : Breaks) (watch : Watch) → IsBreak text (Place.Watch watch)
+    → SetsStop text b b [] []
+set_unknown text b watch is = record {
+  set = λ address is'. absurd (no_both text address watch is' is);
+  unknown = λ other is'. (refl, refl);
+  refused = λ none. absurd (none (Place.Watch watch) is);
+  kept = λ _. refl;
+}
+
+pub removed_unknown : (text : List ℕ) (b : Breaks) (watch : Watch) → IsBreak text (Place.Watch watch)
+    → RemovesStop text b b [] []
+removed_unknown text b watch is = record {
+  removed = λ address is'. absurd (no_both text address watch is' is);
+  unknown = λ other is'. (refl, refl);
+  refused = λ none. absurd (none (Place.Watch watch) is);
+  kept = λ _. refl;
+}
+
+pub set_refused : (text : List ℕ) (b b' : Breaks) (answer : List ℕ) → ((place : Break) → ¬ IsBreak text place)
+    → IsError [] answer → (IsError [] answer → b'.stops.items ≡ b.stops.items) → SetsStop text b b' [] answer
+set_refused text b b' answer none error kept = record {
+  set = λ address is. absurd (none (Place.Stop address) is);
+  unknown = λ watch is. absurd (none (Place.Watch watch) is);
+  refused = λ _. error;
+  kept = kept;
+}
+
+pub removed_refused : (text : List ℕ) (b b' : Breaks) (answer : List ℕ) → ((place : Break) → ¬ IsBreak text place)
+    → IsError [] answer → (IsError [] answer → b'.stops.items ≡ b.stops.items) → RemovesStop text b b' [] answer
+removed_refused text b b' answer none error kept = record {
+  removed = λ address is. absurd (none (Place.Stop address) is);
+  unknown = λ watch is. absurd (none (Place.Watch watch) is);
+  refused = λ _. error;
+  kept = kept;
+}
+
+set_or : (old new answer : List ℕ) {P : Type 0} → new ≡ old ++ answer
+    → IsError [] answer ⊎ (P × (answer ≡ codes "OK")) → IsError old new ⊎ (P × (new ≡ old ++ codes "OK"))
+set_or old new answer told (inl error) = inl (error_behind old new answer told error)
+set_or old new answer told (inr done) = inr (done.0, told ∙ ap (λ (xs : List ℕ). old ++ xs) done.1)
+
+pub asks_set : {A F : Type 0} (r : Result A F) (payload text : List ℕ) (s t : BoardSession) (old new answer : List ℕ)
+    → letter payload ≡ 90 → text ≡ drop 1 payload → OnOk r (new ≡ old ++ answer)
+    → SetsStop text s.breaks t.breaks [] answer → OnOk r (Asks payload s t old new)
+asks_set (Ok x) payload text s t old new answer at same told sets = record {
+  sets_stop = λ _. subst (λ (xs : List ℕ). SetsStop xs s.breaks t.breaks old new) same (record {
+    set = λ address is. set_or old new answer told (sets.set address is);
+    unknown = λ watch is. (
+      (sets.unknown watch is).0,
+      told ∙ ap (λ (xs : List ℕ). old ++ xs) (sets.unknown watch is).1 ∙ append-nil old,
+    );
+    refused = λ none. error_behind old new answer told (sets.refused none);
+    kept = λ error. sets.kept (error_of old new answer told error);
+  });
+  removes_stop = λ is. apart payload 90 122 at is (omega arith);
+  stopped = λ is. apart payload 90 63 at (ap (λ (xs : List ℕ). slice_index xs 0) is) (omega arith);
+}
+asks_set (Err e) payload text s t old new answer at same told sets = tt
+
+pub asks_removed : {A F : Type 0} (r : Result A F) (payload text : List ℕ) (s t : BoardSession)
+    (old new answer : List ℕ) → letter payload ≡ 122 → text ≡ drop 1 payload → OnOk r (new ≡ old ++ answer)
+    → RemovesStop text s.breaks t.breaks [] answer → OnOk r (Asks payload s t old new)
+asks_removed (Ok x) payload text s t old new answer at same told removes = record {
+  sets_stop = λ is. apart payload 122 90 at is (omega arith);
+  removes_stop = λ _. subst (λ (xs : List ℕ). RemovesStop xs s.breaks t.breaks old new) same (record {
+    removed = λ address is. (
+      (removes.removed address is).0,
+      told ∙ ap (λ (xs : List ℕ). old ++ xs) (removes.removed address is).1,
+    );
+    unknown = λ watch is. (
+      (removes.unknown watch is).0,
+      told ∙ ap (λ (xs : List ℕ). old ++ xs) (removes.unknown watch is).1 ∙ append-nil old,
+    );
+    refused = λ none. error_behind old new answer told (removes.refused none);
+    kept = λ error. removes.kept (error_of old new answer told error);
+  });
+  stopped = λ is. apart payload 122 63 at (ap (λ (xs : List ℕ). slice_index xs 0) is) (omega arith);
+}
+asks_removed (Err e) payload text s t old new answer at same told removes = tt
+
+-- ---- what follows
+
+ends_reply : (payload : List ℕ) (next : Next) → next ≡ Reply → letter payload ≢ 68 → letter payload ≢ 107
+    → ((rest : List ℕ) → payload ≢ codes "vKill" ++ rest) → EndsBy payload next
+ends_reply payload next is detach kill kill_named = record {
+  detaches = λ at. absurd (detach at);
+  kills = λ at. absurd (kill (ap (λ (xs : List ℕ). slice_index xs 0) at));
+  kills_named = λ rest at. absurd (kill_named rest at);
+  goes_on = λ _ _ _. is;
+}
+
+ends_ok : {F : Type 0} (r : Result Next F) (payload : List ℕ) → IfOk r (λ next. next ≡ Reply) → letter payload ≢ 68
+    → letter payload ≢ 107 → ((rest : List ℕ) → payload ≢ codes "vKill" ++ rest)
+    → IfOk r (λ next. EndsBy payload next)
+ends_ok (Ok next) payload is detach kill kill_named = ends_reply payload next is detach kill kill_named
+ends_ok (Err e) payload is detach kill kill_named = tt
+
+pub ends_named : {F : Type 0} (r : Result Next F) (payload actions : List ℕ) → payload ≡ codes "vCont;" ++ actions
+    → IfOk r (λ next. next ≡ Reply) → IfOk r (λ next. EndsBy payload next)
+ends_named r payload actions is reply =
+    let at = named payload actions is in
+    ends_ok r payload reply (λ at'. apart payload 118 68 at at' (omega arith))
+    (λ at'. apart payload 118 107 at at' (omega arith)) (λ rest is'.
+    let second : 67 ≡ 75 = ap (λ (xs : List ℕ). slice_index xs 1) (sym is ∙ is') in
+    omega (arith, second))
+
+pub ends_run : {F : Type 0} (r : Result Next F) (payload : List ℕ) → IsGoing payload → IfOk r (λ next. next ≡ Reply)
+    → IfOk r (λ next. EndsBy payload next)
+ends_run r payload going reply = ends_ok r payload reply
+    (λ at. not_going payload 68 at (omega arith) (omega arith) (omega arith) (omega arith) going)
+    (λ at. not_going payload 107 at (omega arith) (omega arith) (omega arith) (omega arith) going) (λ rest is.
+    not_going payload 118 (ap (λ (xs : List ℕ). slice_index xs 0) is) (omega arith) (omega arith) (omega arith)
+    (omega arith) going)
+
+pub ends_inspected : (payload : List ℕ) → HasSubject payload Inspected → EndsBy payload Reply
+ends_inspected payload is = ends_reply payload Reply refl
+    (other_inspected payload 68 is (omega arith) (omega arith) (omega arith) (omega arith) (omega arith))
+    (other_inspected payload 107 is (omega arith) (omega arith) (omega arith) (omega arith) (omega arith)) (λ rest is'.
+    inspected_not_named payload is (ap (λ (xs : List ℕ). slice_index xs 0) is'))
+
 -- ---- what an answer leaves
 
 changes_not_named : {P : Type 0} (payload : List ℕ) → letter payload ≡ 118 → ChangesMemory payload → P
@@ -239,6 +432,7 @@ means_named payload actions s t old new is goes error =
       inspects = no_inspects payload s.debugged.board t.debugged.board old new
           (inspects_none payload 118 at (omega arith) (omega arith) (omega arith) (omega arith));
       goes = λ is'. absurd (not_going payload 118 at (omega arith) (omega arith) (omega arith) (omega arith) is');
+      asks = named_asks payload s t old new at;
       resumes = λ others is'.
           let same : actions ≡ others = append_cancel_left (codes "vCont;") _ _ (sym is ∙ is') in
           subst (λ (xs : List ℕ). GoesBy (before 58 (before 59 xs)) s t old new) same goes;
@@ -259,6 +453,7 @@ means_run (Ok x) payload s t old new is goes error = record {
   goes = λ _. goes;
   resumes = λ actions is'. absurd (not_going payload 118 (named payload actions is') (omega arith) (omega arith)
       (omega arith) (omega arith) is);
+  asks = run_asks payload s t old new is;
   error = error;
 }
 means_run (Err f) payload s t old new is goes error = tt
@@ -270,16 +465,18 @@ means_inspected payload s t old new is inspects error = record {
   inspects = inspects;
   goes = λ is'. absurd (inspected_not_going payload is is');
   resumes = λ actions is'. absurd (inspected_not_named payload is (named payload actions is'));
+  asks = inspected_asks payload s t old new is;
   error = error;
 }
 
 pub means_session : (payload : List ℕ) (s t : BoardSession) (old new : List ℕ) → HasSubject payload Session
     → t.debugged ≡ s.debugged → ((actions : List ℕ) → payload ≢ codes "vCont;" ++ actions)
-    → Means payload s t old new
-means_session payload s t old new is kept other = record {
+    → Asks payload s t old new → Means payload s t old new
+means_session payload s t old new is kept other asks = record {
   inspects = no_inspects payload s.debugged.board t.debugged.board old new is.1;
   goes = λ is'. absurd (is.0 is');
   resumes = λ actions is'. absurd (other actions is');
+  asks = asks;
   error = λ _. same_board s.debugged.board t.debugged.board (ap (λ x. x.board) kept);
 }
 

@@ -1,10 +1,13 @@
 -- Steps of a board under gdb, one after another.
-use Rattle.std.proofs.Common.{◌≡◌, ℕ, zero, suc, ◌+◌, ◌≤◌, List, ◌++◌, Contains, Option, None, Result, Ok, Err, IfOk, refl, sym, subst, ap, ◌∙◌, arith, append-nil, append_assoc}
+use Rattle.std.proofs.Common.{◌≡◌, ℕ, zero, suc, ◌+◌, ◌≤◌, List, [], ◌++◌, Contains, Option, None, Result, Ok, Err, IfOk, refl, sym, subst, ap, ◌∙◌, arith, append-nil, append_assoc}
 use Rattle.std.specs.declared.alloc.AllocError.{AllocError}
 use Rattle.rrs_machine.specs.declared.machine.MachineAnswer.{MachineAnswer}
 use Rattle.rrs_board.specs.declared.board.Board.{Board}
 use Rattle.rrs_board.specs.declared.effects.BoardEvent.{BoardEvent}
 use Rattle.rrs_board.specs.Boards.{BoardStepped}
+use Rattle.rrs_gdb.specs.declared.link.Link.{Link}
+use Rattle.rrs_gdb.specs.Shown.{Prints}
+use Rattle.rrs_gdb.proofs.OutputLemmas.{prints_both}
 use Rattle.rrs_board_gdb.specs.declared.going.GoReason.{GoReason}
 use Rattle.rrs_board_gdb.specs.declared.going.GoReason.TheVariants as Reason
 use Rattle.rrs_board_gdb.specs.Going.{Debugged, printed_by, ending, Serves, ServedStep, PassingSteps, EndsBy, GoesTo}
@@ -177,20 +180,32 @@ leg_ends stops limit a b leg d m t p q Reason.NothingWakes other within first go
   prints = ap (λ (xs : List ℕ). p ++ xs) goes.prints ∙ sym (append_assoc p goes.before (printed_by goes.event));
 }
 
--- ---- legs with what they print
+-- ---- legs with what they print, all of which is sent
 
-pub leg_passes : (stops : List ℕ) (a b leg : ℕ) (d m t : Debugged) (first mid : List ℕ) (reason : GoReason)
-    → reason ≡ Reason.Limit
-    → ((p : List ℕ) × PassingSteps stops a d p m)
-    → ((q : List ℕ) × (mid ≡ first ++ q) × GoesTo stops leg m b reason q t)
-    → (r : List ℕ) × PassingSteps stops (a + b) d r t
-leg_passes stops a b leg d m t first mid reason is (p, passed) (q, out, goes) =
-    (p ++ q, (leg_made stops a b leg d m t p q reason is passed goes).1)
+pub leg_passes : {R W : Type 0} (contents : W → Option (List ℕ)) (stops : List ℕ) (a b leg : ℕ) (d m t : Debugged)
+    (first held out : List ℕ) (reason : GoReason) (l k n : Link R W) → reason ≡ Reason.Limit
+    → ((p : List ℕ) × PassingSteps stops a d p m × Prints contents l k (first ++ p)) → held ≡ []
+    → ((q : List ℕ) × (out ≡ held ++ q) × GoesTo stops leg m b reason q t) → Prints contents k n out
+    → (r : List ℕ) × PassingSteps stops (a + b) d r t × Prints contents l n (first ++ r)
+leg_passes contents stops a b leg d m t first held out reason l k n is (p, passed, sent) none (q, made, goes) more = (
+  p ++ q,
+  (leg_made stops a b leg d m t p q reason is passed goes).1,
+  subst (λ (xs : List ℕ). Prints contents l n xs) (append_assoc first p q)
+      (prints_both contents l k n (first ++ p) q sent
+      (subst (λ (xs : List ℕ). Prints contents k n xs) (made ∙ ap (λ (xs : List ℕ). xs ++ q) none) more)),
+)
 
-pub leg_leads : (stops : List ℕ) (limit a b leg : ℕ) (d m t : Debugged) (first mid : List ℕ) (reason : GoReason)
+pub leg_leads : {R W : Type 0} (contents : W → Option (List ℕ)) (stops : List ℕ) (limit a b leg : ℕ)
+    (d m t : Debugged) (first held out : List ℕ) (reason : GoReason) (l k n : Link R W)
     → (reason ≡ Reason.Limit → ⊥) → a + leg ≤ limit
-    → ((p : List ℕ) × PassingSteps stops a d p m)
-    → ((q : List ℕ) × (mid ≡ first ++ q) × GoesTo stops leg m b reason q t)
-    → (r : List ℕ) × GoesTo stops limit d (a + b) reason r t
-leg_leads stops limit a b leg d m t first mid reason other within (p, passed) (q, out, goes) =
-    (p ++ q, leg_ends stops limit a b leg d m t p q reason other within passed goes)
+    → ((p : List ℕ) × PassingSteps stops a d p m × Prints contents l k (first ++ p)) → held ≡ []
+    → ((q : List ℕ) × (out ≡ held ++ q) × GoesTo stops leg m b reason q t) → Prints contents k n out
+    → (r : List ℕ) × GoesTo stops limit d (a + b) reason r t × Prints contents l n (first ++ r)
+leg_leads contents stops limit a b leg d m t first held out reason l k n other within (p, passed, sent) none
+    (q, made, goes) more = (
+      p ++ q,
+      leg_ends stops limit a b leg d m t p q reason other within passed goes,
+      subst (λ (xs : List ℕ). Prints contents l n xs) (append_assoc first p q)
+          (prints_both contents l k n (first ++ p) q sent
+          (subst (λ (xs : List ℕ). Prints contents k n xs) (made ∙ ap (λ (xs : List ℕ). xs ++ q) none) more)),
+    )

@@ -9,7 +9,7 @@ use Rattle.rrs_board_gdb.specs.declared.session.BoardSession.{BoardSession}
 use Rattle.rrs_board_gdb.specs.declared.session.Subject.{Subject}
 use Rattle.rrs_board_gdb.specs.declared.session.Subject.TheVariants.{Run, Inspected, Session}
 use Rattle.rrs_board_gdb.specs.Shown.{SameBoard, SameButRam, ram_state}
-use Rattle.rrs_board_gdb.specs.Sessions.{GoesBy, IsGoing, SetsRegister, ShowsRegister}
+use Rattle.rrs_board_gdb.specs.Sessions.{GoesBy, IsGoing, RemovesStop, SetsRegister, SetsStop, ShowsRegister, stop_text}
 
 -- neither `p`, `P`, `m` nor `M`
 abbrev pub InspectsNone : List ℕ → Type 0
@@ -33,6 +33,12 @@ pub record Inspects (payload : List ℕ) (b b' : Board) (old new : List ℕ) : T
       → decode_of (behind 58 (drop 1 payload)) ≡ Ok values
       → SetsMemory values (drop 1 payload) (ram_state b) (ram_state b') old new
 
+-- `Z`, `z` and `?`
+pub record Asks (payload : List ℕ) (s t : BoardSession) (old new : List ℕ) : Type 0 where
+  pub sets_stop : letter payload ≡ 90 → SetsStop (drop 1 payload) s.breaks t.breaks old new
+  pub removes_stop : letter payload ≡ 122 → RemovesStop (drop 1 payload) s.breaks t.breaks old new
+  pub stopped : payload ≡ codes "?" → new ≡ old ++ stop_text s.stop
+
 -- what an answer leaves as it was, whether it is whole or not
 pub record Leaves (payload : List ℕ) (s t : BoardSession) : Type 0 where
   pub asks : ChangesNone payload → RunsNone payload → SameBoard s.debugged.board t.debugged.board
@@ -50,4 +56,5 @@ pub record Means (payload : List ℕ) (s t : BoardSession) (old new : List ℕ) 
   pub goes : IsGoing payload → GoesBy payload s t old new
   pub resumes : (actions : List ℕ) → payload ≡ codes "vCont;" ++ actions
       → GoesBy (before 58 (before 59 actions)) s t old new
+  pub asks : Asks payload s t old new
   pub error : IsError old new → SameBoard s.debugged.board t.debugged.board

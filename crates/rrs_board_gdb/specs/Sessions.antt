@@ -1,11 +1,18 @@
 -- What gdb's packets mean for a board (gdb's manual, "Remote Serial Protocol", "Packets": p, P, c,
 -- C, s, S and vCont; "Stop Reply Packets": S and W). `m` and `M` mean what they mean for a program,
 -- with RAM as the memory.
-use Rattle.std.specs.Prelude.{◌≡◌, ◌⊎◌, ℕ, ◌%◌, Bool, true, false, List, ◌∷◌, ◌++◌, length, Some, IsSome, Ok, codes}
+use Rattle.std.specs.Prelude.{◌≡◌, ◌≢◌, ◌⊎◌, ℕ, ◌%◌, Bool, true, false, List, ◌∷◌, ◌++◌, length, Some, IsSome, Ok, codes}
 use Rattle.hex.specs.Hex.{decode_sized}
 use Rattle.rrs_board.specs.declared.board.Board.{Board}
+use Rattle.rrs_gdb.specs.declared.breaks.Break.{Break}
+use Rattle.rrs_gdb.specs.declared.breaks.Break.TheVariants as Place
+use Rattle.rrs_gdb.specs.declared.breaks.Breaks.{Breaks}
+use Rattle.rrs_gdb.specs.declared.breaks.Watch.{Watch}
+use Rattle.rrs_gdb.specs.declared.session.Next.{Next}
+use Rattle.rrs_gdb.specs.declared.session.Next.TheVariants.{Reply, ReplyAndEnd, End}
+use Rattle.rrs_gdb.specs.Breaks.{WithBreak, WithoutBreak}
 use Rattle.rrs_gdb.specs.Packets.{IsNumber, number, before, behind, digits_of}
-use Rattle.rrs_gdb.specs.Sessions.{letter, IsError}
+use Rattle.rrs_gdb.specs.Sessions.{letter, IsBreak, IsError}
 use Rattle.rrs_gdb.specs.Shown.{text_of, word_bytes, word_at}
 use Rattle.rrs_board_gdb.specs.declared.going.GoReason.{GoReason}
 use Rattle.rrs_board_gdb.specs.declared.going.GoReason.TheVariants as Reason
@@ -36,6 +43,33 @@ pub data SetsRegister (text : List ℕ) (b b' : Board) (old new : List ℕ) : Ty
   Changed : Changes text b b' → SetsRegister text b b' old new
   Refused : b' ≡ b → ((c : Board) → ¬ Changes text b c) → IsError old new
       → SetsRegister text b b' old new
+
+-- ---- breakpoints, and what follows a packet
+
+-- `Z type,addr,kind` sets a breakpoint. A watchpoint is not known: nothing is answered.
+pub record SetsStop (text : List ℕ) (b b' : Breaks) (old new : List ℕ) : Type 0 where
+  pub set : (address : ℕ) → IsBreak text (Place.Stop address)
+      → IsError old new ⊎ (WithBreak (Place.Stop address) b b' × (new ≡ old ++ codes "OK"))
+  pub unknown : (watch : Watch) → IsBreak text (Place.Watch watch) → (b' ≡ b) × (new ≡ old)
+  pub refused : ((place : Break) → ¬ IsBreak text place) → IsError old new
+  pub kept : IsError old new → b'.stops.items ≡ b.stops.items
+
+-- `z type,addr,kind` removes one.
+pub record RemovesStop (text : List ℕ) (b b' : Breaks) (old new : List ℕ) : Type 0 where
+  pub removed : (address : ℕ) → IsBreak text (Place.Stop address)
+      → WithoutBreak (Place.Stop address) b b' × (new ≡ old ++ codes "OK")
+  pub unknown : (watch : Watch) → IsBreak text (Place.Watch watch) → (b' ≡ b) × (new ≡ old)
+  pub refused : ((place : Break) → ¬ IsBreak text place) → IsError old new
+  pub kept : IsError old new → b'.stops.items ≡ b.stops.items
+
+-- `D` and `vKill` end the session once they are answered, and `k` ends it at once. Other packets
+-- are answered, and the session goes on.
+pub record EndsBy (payload : List ℕ) (next : Next) : Type 0 where
+  pub detaches : letter payload ≡ 68 → next ≡ ReplyAndEnd
+  pub kills : payload ≡ codes "k" → next ≡ End
+  pub kills_named : (rest : List ℕ) → payload ≡ codes "vKill" ++ rest → next ≡ ReplyAndEnd
+  pub goes_on : letter payload ≢ 68 → payload ≢ codes "k"
+      → ((rest : List ℕ) → payload ≢ codes "vKill" ++ rest) → next ≡ Reply
 
 -- ---- the program goes on
 

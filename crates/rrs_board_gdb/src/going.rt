@@ -1,19 +1,18 @@
 //! A board that goes on under gdb.
 
-ghost use Rattle.std.specs.Prelude.{◌≡◌, ◌≤◌, ◌++◌, [], List, ℕ, true, None, Contains, IfOk, MatchOption};
+ghost use Rattle.std.specs.Prelude.{◌≡◌, ◌≤◌, ◌++◌, [], List, ℕ, true, None, Contains, IfOk, MatchOption, OnOk};
 ghost use Rattle.std.specs.Bool.{OnTrue, OnFalse};
 ghost use Rattle.rrs_board.specs.Effects.{waits_for_input};
+ghost use Rattle.rrs_gdb.specs.Shown.{Prints};
 ghost use Rattle.rrs_board_gdb.specs.Going.{debugged, HandsIn, Serves, printed_by, ending, EndsBy, ServedStep, GoesTo};
 
 use rrs_board::{Asking, Board, BoardEvent};
-use rrs_gdb::{Link, LinkError, push_hex};
+use rrs_gdb::{Link, LinkError};
 use std::alloc::AllocError;
 use std::io::{Read, Write};
 
 /// The most steps that are made before output is sent.
 const LEG: u64 = 1_000_000;
-/// The most bytes of output in a packet.
-const OUTPUT_BYTES: usize = 2048;
 
 /// A board, what its UART is to receive, and what it transmitted.
 #[derive(Drop)]
@@ -48,19 +47,6 @@ pub struct GoEnd {
     pub steps: u64,
     /// Why no further one was.
     pub reason: GoReason,
-}
-
-/// Sends output of the program, as `O` packets.
-fn send_output<R: Read, W: Write>(link: &mut Link<R, W>, bytes: &[u8]) -> Result<(), LinkError> {
-    for part in bytes.chunks(OUTPUT_BYTES) {
-        let mut payload = Vec::new(link.alloc);
-        payload.push(b'O')?;
-        for byte in part {
-            push_hex(&mut payload, *byte)?;
-        }
-        link.send(&payload)?;
-    }
-    Ok(())
 }
 
 impl<'a> DebuggedBoard<'a> {
@@ -172,7 +158,19 @@ impl<'a> DebuggedBoard<'a> {
         })
     }
 
-    /// The same, and sends what is transmitted, as `O` packets (`run`).
+    /// Sends what is transmitted.
+    fn send<R: Read, W: Write>(&mut self, link: &mut Link<R, W>) -> Result<(), LinkError>
+        ensures sent { OnOk result (Prints W.contents link.old link.new self.old.output.items) }
+        ensures emptied { OnOk result (self.new.output.items ≡ []) }
+        ensures kept { debugged self.new ≡ debugged self.old }
+    {
+        link.send_output(&self.output)?;
+        self.output.clear();
+        Ok(())
+    }
+
+    /// The same as [DebuggedBoard::go], and sends what is transmitted, as `O` packets: all of it
+    /// once, in order, after what was left of before (`run`).
     ///
     /// # Errors
     ///
@@ -185,13 +183,15 @@ impl<'a> DebuggedBoard<'a> {
     ) -> Result<GoEnd, LinkError>
         ensures run { IfOk result (λ end. (printed : List ℕ)
             × GoesTo stops.now limit (debugged self.old) end.steps end.reason printed
-            (debugged self.new)) }
+            (debugged self.new)
+            × Prints W.contents link.old link.new (self.old.output.items ++ printed)) }
+        ensures emptied { OnOk result (self.new.output.items ≡ []) }
     {
+        self.send(link)?;
         let mut steps = 0;
         'legs: while steps < limit {
             let end = self.go((limit - steps).min(LEG), stops)?;
-            send_output(link, &self.output)?;
-            self.output.clear();
+            self.send(link)?;
             steps += end.steps;
             match end.reason {
                 GoReason::Limit => {}

@@ -1,15 +1,17 @@
 //! The packets of a session, and their answers.
 
-ghost use Rattle.std.specs.Prelude.{◌≡◌, ◌≢◌, ◌⊎◌, ◌++◌, ℕ, ◌≤◌, Bool, true, false, List, [], Ok, IfSome, MatchOption, OnOk, codes, drop, length, slice_index};
+ghost use Rattle.std.specs.Prelude.{◌≡◌, ◌≢◌, ◌⊎◌, ◌++◌, ℕ, ◌≤◌, Bool, true, false, List, [], Ok, IfOk, IfSome, MatchOption, OnOk, codes, drop, length};
 ghost use Rattle.std.specs.Bool.{OnTrue, OnFalse};
 ghost use Rattle.hex.specs.Hex.{decode_of};
 ghost use Rattle.rrs_gdb.specs.Packets.{before, behind};
 ghost use Rattle.rrs_gdb.specs.Shown.{text_of};
 ghost use Rattle.rrs_gdb.specs.Sessions.{letter, BreaksNone, ChangesMemory, ChangesNone, IsError, RunsNone, SetsBytes, SetsMemory, ShowsBytes, ShowsMemory};
+ghost use Rattle.rrs_gdb.specs.declared.session.Next.{Next};
+ghost use Rattle.rrs_board_gdb.specs.declared.session.BoardStop.{BoardStop};
 ghost use Rattle.rrs_board_gdb.specs.Going.{debugged};
 ghost use Rattle.rrs_board_gdb.specs.Shown.{SameBoard, SameButRam, byte_at, ram_state, with_register};
-ghost use Rattle.rrs_board_gdb.specs.Answers.{HasSubject, Inspects, Leaves, Means};
-ghost use Rattle.rrs_board_gdb.specs.Sessions.{Changes, GoesBy, GoesFrom, IsContinue, IsGoing, IsStep, SetsRegister, ShowsRegister, stop_of, stop_text};
+ghost use Rattle.rrs_board_gdb.specs.Answers.{Asks, HasSubject, Inspects, Leaves, Means};
+ghost use Rattle.rrs_board_gdb.specs.Sessions.{Changes, EndsBy, GoesBy, GoesFrom, IsContinue, IsGoing, IsStep, RemovesStop, SetsRegister, SetsStop, ShowsRegister, stop_of, stop_text};
 
 use crate::going::{DebuggedBoard, GoReason};
 use crate::ram::{change_ram, show_ram};
@@ -18,9 +20,9 @@ use crate::target::push_target;
 use hex::FromHexError;
 use rrs_board::{Asking, Board};
 use rrs_gdb::{
-    BAD_ADDRESS, Breaks, INVALID, Link, LinkError, NO_MEMORY, Next, Received, address_and_length,
-    behind, cut, cut_or_all, number_of, place_and_bytes, push_bytes, push_done, push_hex,
-    push_part, push_registers, push_text, register_and_value,
+    BAD_ADDRESS, Break, Breaks, INVALID, Link, LinkError, NO_MEMORY, Next, Received,
+    address_and_length, behind, break_of, cut_or_all, number_of, place_and_bytes, push_bytes,
+    push_done, push_hex, push_part, push_registers, push_text, register_and_value,
 };
 use std::alloc::{AllocError, Global};
 use std::io::{Read, Write};
@@ -69,7 +71,14 @@ pub struct BoardSession<'a> {
 
 impl<'a> BoardSession<'a> {
     /// A board that made no step, what its UART is to receive, and the most steps of a `continue`.
-    pub fn new(alloc: Global, board: Board, input: &'a [u8], limit: u64) -> BoardSession<'a> {
+    pub fn new(alloc: Global, board: Board, input: &'a [u8], limit: u64) -> BoardSession<'a>
+        ensures board { result.debugged.board ≡ board }
+        ensures input { result.debugged.input.now ≡ input.now }
+        ensures output { result.debugged.output.items ≡ [] }
+        ensures stops { result.breaks.stops.items ≡ [] }
+        ensures limit { result.limit ≡ limit }
+        ensures stop { result.stop ≡ BoardStop.Signal 5 }
+    {
         BoardSession {
             debugged: DebuggedBoard {
                 board,
@@ -318,6 +327,7 @@ fn go_on<R: Read, W: Write>(
         reply.old.items reply.new.items) }
     ensures error { OnOk result (IsError reply.old.items reply.new.items
         → SameBoard session.old.debugged.board session.new.debugged.board) }
+    ensures reply { IfOk result (λ next. next ≡ Next.Reply) }
 {
     let Some((limit, is_step)) = limit_of(action, session.limit) else {
         push_invalid(reply)?;
@@ -351,39 +361,38 @@ fn resume<R: Read, W: Write>(
         reply.old.items reply.new.items) }
     ensures error { OnOk result (IsError reply.old.items reply.new.items
         → SameBoard session.old.debugged.board session.new.debugged.board) }
+    ensures reply { IfOk result (λ next. next ≡ Next.Reply) }
 {
     let (action, _others) = cut_or_all(actions, b';');
     let (action, _thread) = cut_or_all(action, b':');
     go_on(session, link, reply, action)
 }
 
-/// The kind and the address of a breakpoint: after `Z` or `z`.
-fn break_of(text: &[u8]) -> Option<(u8, u32)> {
-    let (kind, place) = cut(text, b',')?;
-    let (address, _length) = address_and_length(cut_or_all(place, b';').0)?;
-    match kind {
-        [kind @ b'0'..=b'4'] => Some((*kind, address)),
-        _ => None,
+/// `Z`: sets a breakpoint. There are no watchpoints.
+fn set_stop(breaks: &mut Breaks, text: &[u8]) -> &'static [u8]
+    ensures { SetsStop text.now breaks.old breaks.new [] result.now }
+{
+    match break_of(text) {
+        Some(Break::Stop(address)) => match breaks.set_stop(address) {
+            Ok(()) => b"OK",
+            Err(_) => NO_MEMORY,
+        },
+        Some(Break::Watch(_)) => b"",
+        None => INVALID,
     }
 }
 
-/// `Z` and `z`: sets or removes a breakpoint. There are no watchpoints.
-fn change_breaks(breaks: &mut Breaks, is_set: bool, text: &[u8]) -> &'static [u8]
-    ensures error { slice_index result.now 0 ≡ 69
-        → breaks.new.stops.items ≡ breaks.old.stops.items }
+/// `z`: removes a breakpoint.
+fn remove_stop(breaks: &mut Breaks, text: &[u8]) -> &'static [u8]
+    ensures { RemovesStop text.now breaks.old breaks.new [] result.now }
 {
-    let outcome = match (break_of(text), is_set) {
-        (Some((b'0' | b'1', address)), true) => breaks.set_stop(address),
-        (Some((b'0' | b'1', address)), false) => {
+    match break_of(text) {
+        Some(Break::Stop(address)) => {
             breaks.remove_stop(address);
-            Ok(())
+            b"OK"
         }
-        (Some(_), _) => return b"",
-        (None, _) => return INVALID,
-    };
-    match outcome {
-        Ok(()) => b"OK",
-        Err(_) => NO_MEMORY,
+        Some(Break::Watch(_)) => b"",
+        None => INVALID,
     }
 }
 
@@ -413,6 +422,44 @@ fn query(alloc: Global, reply: &mut Vec<u8>, asked: &[u8]) -> Result<(), AllocEr
 }
 
 /// Answers a packet that is about the session alone.
+fn tell(
+    alloc: Global,
+    session: &mut BoardSession<'_>,
+    reply: &mut Vec<u8>,
+    payload: &[u8],
+) -> Result<(), AllocError>
+    ensures board { session.new.debugged ≡ session.old.debugged }
+    ensures stop { session.new.stop ≡ session.old.stop }
+    ensures limit { session.new.limit ≡ session.old.limit }
+    ensures breaks { BreaksNone payload.now
+        → session.new.breaks.stops.items ≡ session.old.breaks.stops.items }
+    ensures asks { OnOk result (Asks payload.now session.old session.new
+        reply.old.items reply.new.items) }
+    ensures error { OnOk result (IsError reply.old.items reply.new.items
+        → session.new.breaks.stops.items ≡ session.old.breaks.stops.items) }
+{
+    match payload {
+        [b'?'] => push_stop(reply, session.stop),
+        [b'Z', text @ ..] => push_text(reply, set_stop(&mut session.breaks, text)),
+        [b'z', text @ ..] => push_text(reply, remove_stop(&mut session.breaks, text)),
+        [b'q', text @ ..] => query(alloc, reply, text),
+        _ => push_text(reply, plain_answer(payload)),
+    }
+}
+
+/// What follows a packet that is about the session alone.
+fn next_behind(payload: &[u8]) -> Next
+    ensures { EndsBy payload.now result }
+{
+    match payload {
+        [b'k'] => Next::End,
+        [b'D', ..] => Next::ReplyAndEnd,
+        [b'v', ..] if payload.starts_with(b"vKill") => Next::ReplyAndEnd,
+        _ => Next::Reply,
+    }
+}
+
+/// The same, and returns what follows.
 fn manage<R, W>(
     session: &mut BoardSession<'_>,
     link: &mut Link<R, W>,
@@ -424,23 +471,17 @@ fn manage<R, W>(
     ensures limit { session.new.limit ≡ session.old.limit }
     ensures breaks { BreaksNone payload.now
         → session.new.breaks.stops.items ≡ session.old.breaks.stops.items }
+    ensures asks { OnOk result (Asks payload.now session.old session.new
+        reply.old.items reply.new.items) }
+    ensures error { OnOk result (IsError reply.old.items reply.new.items
+        → session.new.breaks.stops.items ≡ session.old.breaks.stops.items) }
+    ensures ends { IfOk result (λ next. EndsBy payload.now next) }
 {
     if payload == b"QStartNoAckMode".as_slice() {
         link.acknowledges = false;
     }
-    match payload {
-        [b'k'] => return Ok(Next::End),
-        [b'?'] => push_stop(reply, session.stop)?,
-        [b'Z', text @ ..] => push_text(reply, change_breaks(&mut session.breaks, true, text))?,
-        [b'z', text @ ..] => push_text(reply, change_breaks(&mut session.breaks, false, text))?,
-        [b'q', text @ ..] => query(link.alloc, reply, text)?,
-        _ => push_text(reply, plain_answer(payload))?,
-    }
-    if ends_session(payload) {
-        Ok(Next::ReplyAndEnd)
-    } else {
-        Ok(Next::Reply)
-    }
+    tell(link.alloc, session, reply, payload)?;
+    Ok(next_behind(payload))
 }
 
 /// Whether gdb ends the session, and waits for an answer.
@@ -480,6 +521,7 @@ fn answer_by_subject<R: Read, W: Write>(
     ensures leaves { Leaves payload.now session.old session.new }
     ensures means { OnOk result (Means payload.now session.old session.new
         reply.old.items reply.new.items) }
+    ensures ends { IfOk result (λ next. EndsBy payload.now next) }
 {
     if let Some(actions) = actions_of(payload) {
         return resume(session, link, reply, actions);
@@ -502,7 +544,9 @@ fn answer_by_subject<R: Read, W: Write>(
 /// its own steps from where it is to the limit, to a breakpoint or to its end, and gdb is told to
 /// which (`goes`, `resumes`); where the program ended before, it stays. Other packets leave the
 /// board (`asks`), what its UART is to receive and where it stopped (`input`, `stop`), and one that
-/// is answered by an error does (`error`). Breakpoints are changed by `Z` and `z` alone (`breaks`).
+/// is answered by an error does (`error`). Breakpoints are changed by `Z` and `z` alone (`breaks`),
+/// which set and remove the one that they name (`sets_stop`, `removes_stop`). `?` is answered by
+/// where the program stopped (`stopped`). `D`, `k` and `vKill` end the session (`ends`).
 ///
 /// # Errors
 ///
@@ -545,6 +589,14 @@ pub fn answer_to<R: Read, W: Write>(
     ensures limit { session.new.limit ≡ session.old.limit }
     ensures breaks { BreaksNone payload.now
         → session.new.breaks.stops.items ≡ session.old.breaks.stops.items }
+    ensures sets_stop { letter payload.now ≡ 90 → OnOk result (SetsStop (drop 1 payload.now)
+        session.old.breaks session.new.breaks reply.old.items reply.new.items) }
+    ensures removes_stop { letter payload.now ≡ 122 → OnOk result (RemovesStop
+        (drop 1 payload.now) session.old.breaks session.new.breaks
+        reply.old.items reply.new.items) }
+    ensures stopped { payload.now ≡ codes "?" → OnOk result
+        (reply.new.items ≡ reply.old.items ++ stop_text session.old.stop) }
+    ensures ends { IfOk result (λ next. EndsBy payload.now next) }
 {
     answer_by_subject(session, link, reply, payload)
 }

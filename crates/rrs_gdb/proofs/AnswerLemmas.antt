@@ -1,18 +1,20 @@
 -- What an answer leaves and means, by the subject of the packet.
-use Rattle.std.proofs.Common.{◌≡◌, ◌≢◌, ◌⊎◌, ◌==◌, ◌||◌, if◌then◌else◌, ℕ, List, ◌∷◌, ◌++◌, drop, Bool, true, Result, Ok, Err, OnOk, IsOk, ◌<◌, length, slice_index, refl, sym, subst, ap, ◌∙◌, inl, inr, arith}
+use Rattle.std.proofs.Common.{◌≡◌, ◌≢◌, ◌⊎◌, ◌==◌, ◌||◌, if◌then◌else◌, ℕ, List, ◌∷◌, ◌++◌, drop, Bool, true, Result, Ok, Err, OnOk, IfOk, IsOk, codes, ◌-◌, ◌^◌, ◌<◌, length, slice_index, refl, sym, subst, ap, ◌∙◌, inl, inr, arith}
 use Rattle.std.specs.Bool.{OnTrue}
 use Rattle.std.proofs.lemmas.Bool.{OnTrue_at}
+use Rattle.hex.specs.Hex.{decode_of}
 use Rattle.rrs_lib.specs.Machine.{State}
 use Rattle.rrs_linux.specs.Recording.{Recording}
 use Rattle.rrs_gdb.specs.declared.session.Going.{Going}
 use Rattle.rrs_gdb.specs.declared.session.Going.TheVariants.{Step, Proceed}
+use Rattle.rrs_gdb.specs.declared.session.Next.{Next}
 use Rattle.rrs_gdb.specs.declared.session.Subject.{Subject}
 use Rattle.rrs_gdb.specs.declared.session.Subject.TheVariants.{Shown, Changed, Run, Named, Back, Breaks, Query, Session}
 use Rattle.rrs_gdb.specs.declared.state.SessionState.{SessionState}
 use Rattle.rrs_gdb.specs.declared.state.Settings.{Settings}
-use Rattle.rrs_gdb.specs.Packets.{IsNumber, number}
-use Rattle.rrs_gdb.specs.Sessions.{letter, ChangesNone, RunsNone, ChangesRegister, ChangesMemory, MemoryKept, RegistersKept, BreaksKept, SettingsKept, PlacesKept, SessionKept, ForgetsOrStays, has_ended, is_end, IsError, ShowsMemory, ShowsRegister, Asked, asked_by, Around, around, Most, one_step, up_to, GoesBy, HasAction, HasLetter, HasSignal, HasNoSignal, BySignal, Resumes, Signals, GoesOnUnless, Acts, GoesOnOrStays}
-use Rattle.rrs_gdb.specs.Answers.{Moment, around_in, ShowsNone, HasSubject, Shows, Sets, BeginsBy, Here, There, Goes, ActsBy, Returns, Stays, Leaves, Means}
+use Rattle.rrs_gdb.specs.Packets.{IsNumber, number, before, behind}
+use Rattle.rrs_gdb.specs.Sessions.{letter, ChangesNone, RunsNone, ChangesRegister, ChangesMemory, BreaksNone, EndsBy, Monitors, RemovesBreak, SetsBreak, MemoryKept, RegistersKept, BreaksKept, SettingsKept, PlacesKept, SessionKept, ForgetsOrStays, has_ended, is_end, IsError, ShowsMemory, ShowsRegister, Asked, asked_by, Around, around, Most, one_step, up_to, GoesBy, HasAction, HasLetter, HasSignal, HasNoSignal, BySignal, Resumes, Signals, GoesOnUnless, Acts, GoesOnOrStays, SessionGoesBack}
+use Rattle.rrs_gdb.specs.Answers.{Moment, around_in, ShowsNone, HasSubject, Shows, Sets, BeginsBy, Here, There, Goes, ActsBy, Returns, Asks, Stays, Leaves, Means}
 use Rattle.rrs_gdb.specs.Shown.{registers_text, stop_text}
 use Rattle.rrs_gdb.proofs.SessionLemmas.{BeginsAt, asked_kept, error_letter, goes_same, step_from, go_from, resumes_here, resumes_there, resumes_not, signals_here, signals_there, signals_nowhere, signals_not}
 
@@ -137,7 +139,38 @@ no_returns : (payload : List ℕ) (m n : Moment) → letter payload ≢ 98 → R
 no_returns payload m n none = record {
   step = λ is. absurd (none (ap (λ (xs : List ℕ). slice_index xs 0) is));
   goes_back = λ is. absurd (none (ap (λ (xs : List ℕ). slice_index xs 0) is));
+  told = λ is. either is (λ at. none (ap (λ (xs : List ℕ). slice_index xs 0) at))
+      (λ at. none (ap (λ (xs : List ℕ). slice_index xs 0) at));
 }
+
+breaks_none : (payload : List ℕ) (subject : Subject) → subject_at (letter payload) ≡ subject → subject ≢ Breaks
+    → BreaksNone payload
+breaks_none payload subject has other =
+    (λ is. other (sym has ∙ ap subject_at is), λ is. other (sym has ∙ ap subject_at is))
+
+-- another subject than that of this letter
+not_at : (payload : List ℕ) (subject : Subject) (l : ℕ) → subject_at (letter payload) ≡ subject → subject ≢ subject_at l
+    → letter payload ≢ l
+not_at payload subject l has other = λ is. other (sym has ∙ ap subject_at is)
+
+first_of : (xs ys : List ℕ) → xs ≡ ys → slice_index xs 0 ≡ slice_index ys 0
+first_of xs ys same = ap (λ (zs : List ℕ). slice_index zs 0) same
+
+no_asks : (payload : List ℕ) (m n : Moment) → BreaksNone payload → letter payload ≢ 63 → letter payload ≢ 113
+    → Asks payload m n
+no_asks payload m n none no_stop no_query = record {
+  sets_break = λ is. absurd (none.0 is);
+  removes_break = λ is. absurd (none.1 is);
+  stopped = λ is. absurd (no_stop (first_of _ _ is));
+  monitors = λ digits command is _. absurd (no_query (first_of _ _ is));
+  questions = λ is _. absurd (no_query is);
+}
+
+asks_none : (payload : List ℕ) (m n : Moment) (subject : Subject) → subject_at (letter payload) ≡ subject
+    → subject ≢ Breaks → subject ≢ Session → subject ≢ Query → Asks payload m n
+asks_none payload m n subject at breaks session query =
+    no_asks payload m n (breaks_none payload subject at breaks) (not_at payload subject 63 at session)
+    (not_at payload subject 113 at query)
 
 -- ---- what an answer leaves
 
@@ -250,39 +283,58 @@ leaves_back payload m n is kept =
 
 -- of the subjects of which nothing is said
 means_none : (payload : List ℕ) (m n : Moment) → ShowsNone payload → ChangesNone payload → GoesNone payload
-    → letter payload ≢ 118 → letter payload ≢ 98
+    → letter payload ≢ 118 → letter payload ≢ 98 → Asks payload m n
     → (letter payload ≢ 113 → IsError m.reply n.reply → Stays m n) → Means payload m n
-means_none payload m n shows changes goes named back error = record {
+means_none payload m n shows changes goes named back asks error = record {
   shows = no_shows payload m.state m.reply n.reply shows;
   sets = no_sets payload m.state n.state m.reply n.reply changes;
   goes = no_goes payload m n goes;
   acts = no_acts payload m n named;
   returns = no_returns payload m n back;
+  asks = asks;
   forgets = no_forgets payload changes;
   error = error;
 }
 
 pub means_session : (payload : List ℕ) (m n : Moment) → HasSubject payload Session → n.state ≡ m.state
-    → n.environment ≡ m.environment → SessionKept m.session n.session → Means payload m n
-means_session payload m n is same same' kept =
+    → n.environment ≡ m.environment → SessionKept m.session n.session
+    → (payload ≡ codes "?" → n.reply ≡ m.reply ++ stop_text m.session.stop) → Means payload m n
+means_session payload m n is same same' kept stopped =
     let runs = is.1 in
     means_none payload m n is.2 is.0 (runs.0, runs.1, runs.2, runs.3) runs.4 runs.5
+    (record {
+      sets_break = λ at. absurd (is.4.0 at);
+      removes_break = λ at. absurd (is.4.1 at);
+      stopped = stopped;
+      monitors = λ digits command at _. absurd (is.3 (first_of _ _ at));
+      questions = λ at _. absurd (is.3 at);
+    })
     (λ _ _. record { state_kept = same; environment_kept = same'; session_kept = kept })
 
 means_breaks : (payload : List ℕ) (m n : Moment) → HasSubject payload Breaks → n.state ≡ m.state
     → n.environment ≡ m.environment → (IsError m.reply n.reply → SessionKept m.session n.session)
-    → Means payload m n
-means_breaks payload m n is same same' kept =
+    → Asks payload m n → Means payload m n
+means_breaks payload m n is same same' kept asks =
     let at = breaks_at payload is in
     means_none payload m n (shows_none payload Breaks at (λ e. cc)) (changes_none payload Breaks at (λ e. cc))
     (goes_none payload Breaks at (λ e. cc)) (not_named payload Breaks at (λ e. cc)) (not_back payload Breaks at (λ e. cc))
-    (λ _ error. record { state_kept = same; environment_kept = same'; session_kept = kept error })
+    asks (λ _ error. record { state_kept = same; environment_kept = same'; session_kept = kept error })
 
-pub means_query : (payload : List ℕ) (m n : Moment) → HasSubject payload Query → Means payload m n
-means_query payload m n is =
+means_query : (payload : List ℕ) (m n : Moment) → HasSubject payload Query
+    → ((digits command : List ℕ) → payload ≡ codes "qRcmd," ++ digits → decode_of digits ≡ Ok command
+    → Monitors (before 32 command) (behind 32 command) m.session n.session m.reply n.reply)
+    → (((digits : List ℕ) → payload ≢ codes "qRcmd," ++ digits) → n.session ≡ m.session) → Means payload m n
+means_query payload m n is monitors questions =
     let at : subject_at (letter payload) ≡ Query = ap subject_at is in
     means_none payload m n (shows_none payload Query at (λ e. cc)) (changes_none payload Query at (λ e. cc))
     (goes_none payload Query at (λ e. cc)) (not_named payload Query at (λ e. cc)) (not_back payload Query at (λ e. cc))
+    (record {
+      sets_break = λ at'. absurd ((breaks_none payload Query at (λ e. cc)).0 at');
+      removes_break = λ at'. absurd ((breaks_none payload Query at (λ e. cc)).1 at');
+      stopped = λ at'. absurd (not_at payload Query 63 at (λ e. cc) (first_of _ _ at'));
+      monitors = monitors;
+      questions = λ _. questions;
+    })
     (λ other _. absurd (other is))
 
 means_shown : (payload : List ℕ) (m n : Moment) → HasSubject payload Shown → n.state ≡ m.state
@@ -296,6 +348,7 @@ means_shown payload m n is same same' kept shows =
       goes = no_goes payload m n (goes_none payload Shown at (λ e. cc));
       acts = no_acts payload m n (not_named payload Shown at (λ e. cc));
       returns = no_returns payload m n (not_back payload Shown at (λ e. cc));
+      asks = asks_none payload m n Shown at (λ e. cc) (λ e. cc) (λ e. cc);
       forgets = no_forgets payload (changes_none payload Shown at (λ e. cc));
       error = λ _ _. record { state_kept = same; environment_kept = same'; session_kept = kept };
     }
@@ -311,6 +364,7 @@ means_changed payload m n is same sets forgets error =
       goes = no_goes payload m n (goes_none payload Changed at (λ e. cc));
       acts = no_acts payload m n (not_named payload Changed at (λ e. cc));
       returns = no_returns payload m n (not_back payload Changed at (λ e. cc));
+      asks = asks_none payload m n Changed at (λ e. cc) (λ e. cc) (λ e. cc);
       forgets = λ _. forgets;
       error = λ _ is. record { state_kept = (error is).0; environment_kept = same; session_kept = (error is).1 };
     }
@@ -326,6 +380,7 @@ means_run payload m n is goes error =
       goes = goes;
       acts = no_acts payload m n (not_named payload Run at (λ e. cc));
       returns = no_returns payload m n (not_back payload Run at (λ e. cc));
+      asks = asks_none payload m n Run at (λ e. cc) (λ e. cc) (λ e. cc);
       forgets = no_forgets payload (changes_none payload Run at (λ e. cc));
       error = λ _ is.
           record { state_kept = (error is).0; environment_kept = (error is).1; session_kept = (error is).2 };
@@ -345,6 +400,7 @@ means_named payload m n is goes_on acts error =
       goes = no_goes payload m n (goes_none payload Named at (λ e. cc));
       acts = record { goes_on = λ _. goes_on; acts = acts };
       returns = no_returns payload m n (not_back payload Named at (λ e. cc));
+      asks = asks_none payload m n Named at (λ e. cc) (λ e. cc) (λ e. cc);
       forgets = no_forgets payload (changes_none payload Named at (λ e. cc));
       error = λ _ is.
           record { state_kept = (error is).0; environment_kept = (error is).1; session_kept = (error is).2 };
@@ -360,6 +416,7 @@ means_back payload m n is returns no_error =
       goes = no_goes payload m n (goes_none payload Back at (λ e. cc));
       acts = no_acts payload m n (not_named payload Back at (λ e. cc));
       returns = returns;
+      asks = asks_none payload m n Back at (λ e. cc) (λ e. cc) (λ e. cc);
       forgets = no_forgets payload (changes_none payload Back at (λ e. cc));
       error = λ _ is. absurd (no_error is);
     }
@@ -574,9 +631,16 @@ means_named_ok (Ok x) payload m n is goes_on acts error = means_named payload m 
 means_named_ok (Err f) payload m n is goes_on acts error = tt
 
 pub means_back_ok : {A F : Type 0} (r : Result A F) (payload : List ℕ) (m n : Moment) → HasSubject payload Back
-    → Returns payload m n → OnOk r (IsError m.reply n.reply → ⊥) → OnOk r (Means payload m n)
-means_back_ok (Ok x) payload m n is returns no_error = means_back payload m n is returns no_error
-means_back_ok (Err f) payload m n is returns no_error = tt
+    → (payload ≡ codes "bs" → SessionGoesBack 1
+    n.session.stop m.session m.environment m.state n.session n.environment n.state)
+    → (payload ≡ codes "bc" → SessionGoesBack (2 ^ 64 - 1)
+    n.session.stop m.session m.environment m.state n.session n.environment n.state)
+    → ((payload ≡ codes "bs") ⊎ (payload ≡ codes "bc")
+    → OnOk r (n.reply ≡ m.reply ++ stop_text n.session.stop))
+    → OnOk r (IsError m.reply n.reply → ⊥) → OnOk r (Means payload m n)
+means_back_ok (Ok x) payload m n is step goes_back told no_error =
+    means_back payload m n is (record { step = step; goes_back = goes_back; told = told }) no_error
+means_back_ok (Err f) payload m n is step goes_back told no_error = tt
 
 -- an error is told where a breakpoint or a watchpoint could not be set
 kept_both : (old new : SessionState) → SettingsKept old new → BreaksKept old new → SessionKept old new
@@ -587,11 +651,76 @@ kept_both old new settings breaks = record {
   history_kept = settings.history_kept;
 }
 
-pub means_breaks_ok : {A F : Type 0} (r : Result A F) (payload text : List ℕ) (m n : Moment) → HasSubject payload Breaks
+pub means_breaks_ok : {A F : Type 0} (r : Result A F) (payload : List ℕ) (m n : Moment) → HasSubject payload Breaks
     → n.state ≡ m.state → n.environment ≡ m.environment → SettingsKept m.session n.session
-    → (slice_index text 0 ≡ 69 → BreaksKept m.session n.session) → OnOk r (n.reply ≡ m.reply ++ text)
+    → OnOk r (IsError m.reply n.reply → BreaksKept m.session n.session)
+    → (letter payload ≡ 90
+    → OnOk r (SetsBreak (drop 1 payload) m.session.breaks n.session.breaks m.reply n.reply))
+    → (letter payload ≡ 122
+    → OnOk r (RemovesBreak (drop 1 payload) m.session.breaks n.session.breaks m.reply n.reply))
     → OnOk r (Means payload m n)
-means_breaks_ok (Ok x) payload text m n is same same' settings breaks told =
-    means_breaks payload m n is same same' (λ error.
-    kept_both m.session n.session settings (breaks (error_letter m.reply n.reply text told error)))
-means_breaks_ok (Err f) payload text m n is same same' settings breaks told = tt
+means_breaks_ok (Ok x) payload m n is same same' settings breaks sets removes =
+    means_breaks payload m n is same same'
+    (λ error. kept_both m.session n.session settings (breaks error))
+    (record {
+      sets_break = sets;
+      removes_break = removes;
+      stopped = λ at. absurd (not_at payload Breaks 63 (breaks_at payload is) (λ e. cc) (first_of _ _ at));
+      monitors = λ digits command at _.
+          absurd (not_at payload Breaks 113 (breaks_at payload is) (λ e. cc) (first_of _ _ at));
+      questions = λ at _. absurd (not_at payload Breaks 113 (breaks_at payload is) (λ e. cc) at);
+    })
+means_breaks_ok (Err f) payload m n is same same' settings breaks sets removes = tt
+
+pub means_query_ok : {A F : Type 0} (r : Result A F) (payload : List ℕ) (m n : Moment) → HasSubject payload Query
+    → ((digits : List ℕ) → payload ≡ codes "qRcmd," ++ digits
+    → OnOk r ((command : List ℕ) → decode_of digits ≡ Ok command
+    → Monitors (before 32 command) (behind 32 command) m.session n.session m.reply n.reply))
+    → (((digits : List ℕ) → payload ≢ codes "qRcmd," ++ digits) → n.session ≡ m.session)
+    → OnOk r (Means payload m n)
+means_query_ok (Ok x) payload m n is monitors questions =
+    means_query payload m n is (λ digits command at. monitors digits at command) questions
+means_query_ok (Err f) payload m n is monitors questions = tt
+
+-- ---- what follows
+
+ends_none : (payload : List ℕ) (subject : Subject) (next : Next) → subject_at (letter payload) ≡ subject
+    → subject ≢ Session → EndsBy payload next
+ends_none payload subject next at other = record {
+  detaches = λ is. absurd (not_at payload subject 68 at other is);
+  kills = λ is. absurd (not_at payload subject 107 at other (first_of _ _ is));
+  restarts = λ is. absurd (not_at payload subject 82 at other is);
+}
+
+ends_ok : {F : Type 0} (r : Result Next F) (payload : List ℕ) (subject : Subject)
+    → subject_at (letter payload) ≡ subject → subject ≢ Session → IfOk r (λ next. EndsBy payload next)
+ends_ok (Ok next) payload subject at other = ends_none payload subject next at other
+ends_ok (Err f) payload subject at other = tt
+
+pub ends_shown : {F : Type 0} (r : Result Next F) (payload : List ℕ) → HasSubject payload Shown
+    → IfOk r (λ next. EndsBy payload next)
+ends_shown r payload is = ends_ok r payload Shown (shown_at payload is) (λ e. cc)
+
+pub ends_changed : {F : Type 0} (r : Result Next F) (payload : List ℕ) → HasSubject payload Changed
+    → IfOk r (λ next. EndsBy payload next)
+ends_changed r payload is = ends_ok r payload Changed (changed_at payload is) (λ e. cc)
+
+pub ends_run : {F : Type 0} (r : Result Next F) (payload : List ℕ) → HasSubject payload Run
+    → IfOk r (λ next. EndsBy payload next)
+ends_run r payload is = ends_ok r payload Run (run_at payload is) (λ e. cc)
+
+pub ends_named : {F : Type 0} (r : Result Next F) (payload : List ℕ) → HasSubject payload Named
+    → IfOk r (λ next. EndsBy payload next)
+ends_named r payload is = ends_ok r payload Named (ap subject_at is) (λ e. cc)
+
+pub ends_back : {F : Type 0} (r : Result Next F) (payload : List ℕ) → HasSubject payload Back
+    → IfOk r (λ next. EndsBy payload next)
+ends_back r payload is = ends_ok r payload Back (ap subject_at is) (λ e. cc)
+
+pub ends_breaks : {F : Type 0} (r : Result Next F) (payload : List ℕ) → HasSubject payload Breaks
+    → IfOk r (λ next. EndsBy payload next)
+ends_breaks r payload is = ends_ok r payload Breaks (breaks_at payload is) (λ e. cc)
+
+pub ends_query : {F : Type 0} (r : Result Next F) (payload : List ℕ) → HasSubject payload Query
+    → IfOk r (λ next. EndsBy payload next)
+ends_query r payload is = ends_ok r payload Query (ap subject_at is) (λ e. cc)

@@ -15,7 +15,7 @@ use Rattle.rrs_gdb.specs.Answers.{Sets, IsDone}
 -- ---- what is told
 
 -- what begins with the letter of an error does so after other text
-error_behind : (old new text : List ℕ) → new ≡ old ++ text → IsError [] text → IsError old new
+pub error_behind : (old new text : List ℕ) → new ≡ old ++ text → IsError [] text → IsError old new
 error_behind old new text told (rest, is) = (rest, told ∙ ap (λ (xs : List ℕ). old ++ xs) is)
 
 pub error_of : (old new text : List ℕ) → new ≡ old ++ text → IsError old new → IsError [] text

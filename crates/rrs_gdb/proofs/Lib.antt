@@ -7,3 +7,4 @@ pub mod FieldLemmas
 pub mod AnswerLemmas
 pub mod ChangeLemmas
 pub mod EntryLemmas
+pub mod OutputLemmas

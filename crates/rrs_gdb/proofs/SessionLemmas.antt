@@ -433,10 +433,10 @@ acts (Err f) action actions going rest ended asked limit a b s t old new same ha
 
 -- nothing is left of a limit
 pub nothing_back : (stops : List ℕ) (watches : List Watch) (limit : ℕ) (e : Recording) (s : State) (before : List State)
-    → limit ≡ 0 → GoesOnBack stops watches e s before limit 0 e s before
+    → limit ≡ 0 → GoesOnBack (Signal 5) stops watches e s before limit 0 e s before
 nothing_back stops watches limit e s before none =
     RunsBack limit 0 e s before Back.Limit ([], refl, All-nil (IsPassed stops watches), sym none, refl, sym none)
-    (λ same. absurd (cc)) refl
+    (λ same. absurd (cc)) refl refl
 
 -- the same breakpoints and watchpoints
 pub same_back : (stops stops' : List ℕ) (watches watches' : List Watch) (limit : ℕ) (s : State) (before after : List State)
@@ -463,16 +463,16 @@ pub record BackSoFar (stops : List ℕ) (watches : List Watch)
     (left : ℕ) (d : Recording) (u : State) (between : List State) (steps' : ℕ) : Type 0 where
   pub gone : ℕ
   pub counted : steps' ≡ steps - gone
-  pub goes_back : (e' : Recording) (t : State) (after : List State) (more : ℕ)
-      → GoesOnBack stops watches e' t after left more d u between
-      → GoesOnBack stops watches e' t after limit (gone + more) e s before
+  pub goes_back : (at : Stop) (e' : Recording) (t : State) (after : List State) (more : ℕ)
+      → GoesOnBack at stops watches e' t after left more d u between
+      → GoesOnBack at stops watches e' t after limit (gone + more) e s before
 
 pub none_gone : (stops : List ℕ) (watches : List Watch) (limit : ℕ) (e : Recording) (s : State) (before : List State)
     (steps : ℕ) → BackSoFar stops watches limit e s before steps limit e s before steps
 none_gone stops watches limit e s before steps = record {
   gone = 0;
   counted = omega arith;
-  goes_back = λ e' t after more goes. subst (λ (n : ℕ). GoesOnBack stops watches e' t after limit n e s before)
+  goes_back = λ at e' t after more goes. subst (λ (n : ℕ). GoesOnBack at stops watches e' t after limit n e s before)
       (omega arith) goes;
 }
 
@@ -485,18 +485,18 @@ pub call_gone : (stops : List ℕ) (watches : List Watch) (limit : ℕ) (e : Rec
 call_gone stops watches limit e s before steps left d u between steps' gone d' u' between' so_far back taken none = record {
   gone = so_far.gone + gone;
   counted = omega (arith, so_far.counted);
-  goes_back = λ e' t after more goes. subst (λ (n : ℕ). GoesOnBack stops watches e' t after limit n e s before)
-      (omega arith) (so_far.goes_back e' t after (gone + more) (CallsBack left gone more d u between d' u' between' back taken none goes));
+  goes_back = λ at e' t after more goes. subst (λ (n : ℕ). GoesOnBack at stops watches e' t after limit n e s before)
+      (omega arith) (so_far.goes_back at e' t after (gone + more) (CallsBack left gone more d u between d' u' between' back taken none goes));
 }
 
 -- the last run, and how many steps there were in all
 pub all_gone : (stops : List ℕ) (watches : List Watch) (limit : ℕ) (e : Recording) (s : State) (before : List State)
     (steps left : ℕ) (d : Recording) (u : State) (between : List State) (steps' more last : ℕ) (e' : Recording) (t : State)
-    (after : List State) → BackSoFar stops watches limit e s before steps left d u between steps'
-    → GoesOnBack stops watches e' t after left more d u between → last ≡ steps' - more
-    → (gone : ℕ) × (last ≡ steps - gone) × GoesOnBack stops watches e' t after limit gone e s before
-all_gone stops watches limit e s before steps left d u between steps' more last e' t after so_far goes counted =
-    (so_far.gone + more, omega (arith, so_far.counted, counted), so_far.goes_back e' t after more goes)
+    (after : List State) (at : Stop) → BackSoFar stops watches limit e s before steps left d u between steps'
+    → GoesOnBack at stops watches e' t after left more d u between → last ≡ steps' - more
+    → (gone : ℕ) × (last ≡ steps - gone) × GoesOnBack at stops watches e' t after limit gone e s before
+all_gone stops watches limit e s before steps left d u between steps' more last e' t after at so_far goes counted =
+    (so_far.gone + more, omega (arith, so_far.counted, counted), so_far.goes_back at e' t after more goes)
 
 -- ---- a program that is to go on, and has ended or not
 

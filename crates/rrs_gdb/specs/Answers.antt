@@ -8,9 +8,9 @@ use Rattle.rrs_linux.specs.Recording.{Recording}
 use Rattle.rrs_gdb.specs.declared.session.Subject.{Subject}
 use Rattle.rrs_gdb.specs.declared.session.Subject.TheVariants.{Shown, Changed, Run, Named, Back, Breaks, Query, Session}
 use Rattle.rrs_gdb.specs.declared.state.SessionState.{SessionState}
-use Rattle.rrs_gdb.specs.Packets.{IsNumber, number, behind}
-use Rattle.rrs_gdb.specs.Shown.{registers_text}
-use Rattle.rrs_gdb.specs.Sessions.{letter, ChangesNone, RunsNone, ChangesRegister, ChangesMemory, BreaksNone, MemoryKept, RegistersKept, BreaksKept, SessionKept, has_ended, IsError, ForgetsOrStays, ShowsRegister, SetsRegister, SetsRegisters, ShowsMemory, SetsMemory, Around, around, asked_by, forgotten, Most, one_step, up_to, GoesOnOrStays, GoesOnFrom, Resumes, Signals, Acts, SessionGoesBack}
+use Rattle.rrs_gdb.specs.Packets.{IsNumber, number, before, behind}
+use Rattle.rrs_gdb.specs.Shown.{registers_text, stop_text}
+use Rattle.rrs_gdb.specs.Sessions.{letter, ChangesNone, RunsNone, ChangesRegister, ChangesMemory, BreaksNone, MemoryKept, RegistersKept, BreaksKept, SessionKept, has_ended, IsError, ForgetsOrStays, Monitors, SetsBreak, RemovesBreak, ShowsRegister, SetsRegister, SetsRegisters, ShowsMemory, SetsMemory, Around, around, asked_by, forgotten, Most, one_step, up_to, GoesOnOrStays, GoesOnFrom, Resumes, Signals, Acts, SessionGoesBack}
 
 -- a session, the environment and the state of its program, and what is answered so far
 pub record Moment : Type 0 where
@@ -40,6 +40,7 @@ HasSubject payload Breaks = (letter payload ≡ 90) ⊎ (letter payload ≡ 122)
 HasSubject payload Query = letter payload ≡ 113
 HasSubject payload Session =
     ChangesNone payload × RunsNone payload × ShowsNone payload × (letter payload ≢ 113)
+    × BreaksNone payload
 
 -- ---- the machine is shown and changed
 
@@ -112,9 +113,26 @@ pub record ActsBy (payload : List ℕ) (m n : Moment) : Type 0 where
 -- `bs` and `bc`
 pub record Returns (payload : List ℕ) (m n : Moment) : Type 0 where
   pub step : payload ≡ codes "bs" → SessionGoesBack 1
-      m.session m.environment m.state n.session n.environment n.state
+      n.session.stop m.session m.environment m.state n.session n.environment n.state
   pub goes_back : payload ≡ codes "bc" → SessionGoesBack (2 ^ 64 - 1)
-      m.session m.environment m.state n.session n.environment n.state
+      n.session.stop m.session m.environment m.state n.session n.environment n.state
+  pub told : (payload ≡ codes "bs") ⊎ (payload ≡ codes "bc")
+      → n.reply ≡ m.reply ++ stop_text n.session.stop
+
+-- ---- breakpoints, questions and settings
+
+-- `Z`, `z`, `?` and `q`
+pub record Asks (payload : List ℕ) (m n : Moment) : Type 0 where
+  pub sets_break : letter payload ≡ 90
+      → SetsBreak (drop 1 payload) m.session.breaks n.session.breaks m.reply n.reply
+  pub removes_break : letter payload ≡ 122
+      → RemovesBreak (drop 1 payload) m.session.breaks n.session.breaks m.reply n.reply
+  pub stopped : payload ≡ codes "?" → n.reply ≡ m.reply ++ stop_text m.session.stop
+  pub monitors : (digits command : List ℕ) → payload ≡ codes "qRcmd," ++ digits
+      → decode_of digits ≡ Ok command
+      → Monitors (before 32 command) (behind 32 command) m.session n.session m.reply n.reply
+  pub questions : letter payload ≡ 113 → ((digits : List ℕ) → payload ≢ codes "qRcmd," ++ digits)
+      → n.session ≡ m.session
 
 -- ---- an answer
 
@@ -142,6 +160,7 @@ pub record Means (payload : List ℕ) (m n : Moment) : Type 0 where
   pub goes : Goes payload m n
   pub acts : ActsBy payload m n
   pub returns : Returns payload m n
+  pub asks : Asks payload m n
   pub forgets : ChangesRegister payload ⊎ ChangesMemory payload
       → ForgetsOrStays m.state n.state m.session n.session
   pub error : letter payload ≢ 113 → IsError m.reply n.reply → Stays m n

@@ -14,6 +14,9 @@ use Rattle.rrs_trace.specs.declared.stops.StopReason.TheVariants as Stop
 use Rattle.rrs_history.specs.declared.history.History.{History}
 use Rattle.rrs_history.specs.Histories.{changes, room, past}
 use Rattle.rrs_gdb.specs.declared.breaks.Watch.{Watch}
+use Rattle.rrs_gdb.specs.declared.breaks.Break.{Break}
+use Rattle.rrs_gdb.specs.declared.breaks.Break.TheVariants as Place
+use Rattle.rrs_gdb.specs.declared.breaks.Breaks.{Breaks}
 use Rattle.rrs_gdb.specs.declared.breaks.WatchKind.TheVariants as Kind
 use Rattle.rrs_gdb.specs.declared.forward.ForwardReason.{ForwardReason}
 use Rattle.rrs_gdb.specs.declared.forward.ForwardReason.TheVariants.{AtStop, Touches, Limit, Fault}
@@ -29,6 +32,20 @@ WithEntry {X} old entry new = (other : X) → Contains new other ↔ (Contains o
 -- this one is not set, and the others are as they were
 abbrev pub WithoutEntry : {X : Type 0} → List X → X → List X → Type 0
 WithoutEntry {X} old entry new = (other : X) → Contains new other ↔ (Contains old other × (other ≢ entry))
+
+-- the same of a breakpoint among the breakpoints, or of a watchpoint among the watchpoints; the
+-- others are as they were
+abbrev pub WithBreak : Break → Breaks → Breaks → Type 0
+WithBreak (Place.Stop address) b b' =
+    WithEntry b.stops.items address b'.stops.items × (b'.watches.items ≡ b.watches.items)
+WithBreak (Place.Watch watch) b b' =
+    WithEntry b.watches.items watch b'.watches.items × (b'.stops.items ≡ b.stops.items)
+
+abbrev pub WithoutBreak : Break → Breaks → Breaks → Type 0
+WithoutBreak (Place.Stop address) b b' =
+    WithoutEntry b.stops.items address b'.stops.items × (b'.watches.items ≡ b.watches.items)
+WithoutBreak (Place.Watch watch) b b' =
+    WithoutEntry b.watches.items watch b'.watches.items × (b'.stops.items ≡ b.stops.items)
 
 -- ---- watchpoints
 

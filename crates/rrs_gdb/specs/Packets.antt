@@ -3,9 +3,13 @@
 -- and `}` are sent as `}` and the byte with its bit of value 32 turned; in an answer `*` too, which
 -- there begins a run of a byte. Numbers in a payload are hexadecimal, and a comma, a colon, a
 -- semicolon or an equals sign stands between two of its fields.
-use Rattle.std.specs.Prelude.{◌≡◌, ℕ, ◌/◌, ◌%◌, ◌≤◌, ◌==◌, ◌||◌, if◌then◌else◌, List, [], ◌∷◌, ◌++◌, length, sum, slice_index, bit_xor, Bool, true, false, Option, Some, None, option_map, Ok, codes}
+use Rattle.std.specs.Prelude.{◌≡◌, ◌≢◌, ◌⊎◌, ℕ, ◌/◌, ◌%◌, ◌^◌, ◌<◌, ◌≤◌, ◌==◌, ◌||◌, if◌then◌else◌, List, [], ◌∷◌, ◌++◌, length, sum, slice_index, bit_xor, Bool, true, false, Option, Some, None, option_map, Ok, codes}
 use Rattle.std.specs.Str.Parse.{IsNumeral, digits_value}
-use Rattle.hex.specs.Hex.{lower_digits, decode_sized}
+use Rattle.std.specs.Str.{IsUtf8}
+use Rattle.hex.specs.Hex.{lower_digits, decode_of, decode_sized}
+use Rattle.rrs_gdb.specs.declared.link.Frame.{Frame}
+use Rattle.rrs_gdb.specs.declared.link.Received.{Received}
+use Rattle.rrs_gdb.specs.declared.link.Received.TheVariants as Is
 use Rattle.rrs_gdb.specs.declared.framing.PacketError.{PacketError}
 use Rattle.rrs_gdb.specs.declared.framing.PacketError.TheVariants.{WrongSum, CutOff, OutOfMemory}
 
@@ -64,6 +68,19 @@ Refuses WrongSum bytes digits = HasSum bytes digits → ⊥
 Refuses CutOff bytes digits = unescaped bytes ≡ None
 Refuses OutOfMemory bytes digits = Unit {0}
 
+-- What a frame is. A packet that is too long is no good, nor is one that is cut off. One with
+-- another sum is asked for again where packets are acknowledged.
+abbrev pub IsMeaning : Bool → Frame → Option Received → Type 0
+IsMeaning acknowledges frame None =
+    (frame.is_long ≡ false) × (acknowledges ≡ true) × ¬ HasSum frame.bytes.items frame.digits
+IsMeaning acknowledges frame (Some (Is.Packet payload)) =
+    (frame.is_long ≡ false) × HasSum frame.bytes.items frame.digits
+    × (unescaped frame.bytes.items ≡ Some payload.items)
+IsMeaning acknowledges frame (Some Is.Bad) =
+    (frame.is_long ≡ true) ⊎ ((acknowledges ≡ false) × ¬ HasSum frame.bytes.items frame.digits)
+    ⊎ (unescaped frame.bytes.items ≡ None)
+IsMeaning acknowledges frame (Some Is.End) = ⊥
+
 -- ---- the numbers and the fields of a payload
 
 -- one to eight hexadecimal digits, and the number that they are
@@ -72,6 +89,13 @@ IsNumber digits = IsNumeral 16 digits × (length digits ≤ 8)
 
 abbrev pub number : List ℕ → ℕ
 number digits = digits_value 16 digits
+
+-- decimal digits of a number below 2^64, as in what a person types, and the number that they are
+abbrev pub IsDecimal : List ℕ → Type 0
+IsDecimal digits = IsNumeral 10 digits × (digits_value 10 digits < 2 ^ 64)
+
+abbrev pub decimal : List ℕ → ℕ
+decimal digits = digits_value 10 digits
 
 -- what stands before the first of these bytes, which is all where there is none
 abbrev pub before : ℕ → List ℕ → List ℕ
@@ -82,6 +106,19 @@ before at (b ∷ bs) = if b == at then [] else b ∷ before at bs
 abbrev pub behind : ℕ → List ℕ → List ℕ
 behind at [] = []
 behind at (b ∷ bs) = if b == at then bs else behind at bs
+
+-- numbers with semicolons between
+abbrev pub AreNumbers : List ℕ → List ℕ → Type 0
+AreNumbers [] text = text ≡ []
+AreNumbers (n ∷ ns) text =
+    (text ≢ []) × IsNumber (before 59 text) × (n ≡ number (before 59 text))
+    × AreNumbers ns (behind 59 text)
+
+-- texts, each in digits, with semicolons between
+abbrev pub AreTexts : List (List ℕ) → List ℕ → Type 0
+AreTexts [] text = text ≡ []
+AreTexts (t ∷ ts) text =
+    (text ≢ []) × (decode_of (before 59 text) ≡ Ok t) × IsUtf8 t × AreTexts ts (behind 59 text)
 
 -- an address and a length, with a comma between
 abbrev pub IsPlace : List ℕ → Type 0

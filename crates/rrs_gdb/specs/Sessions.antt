@@ -1,6 +1,7 @@
 -- What a packet may change, by its letter (gdb's manual, "Remote Serial Protocol", "Packets"). Most
 -- packets ask, and change nothing of the program.
-use Rattle.std.specs.Prelude.{◌≡◌, ◌≢◌, ◌⊎◌, ℕ, zero, suc, ◌+◌, ◌-◌, ◌*◌, ◌%◌, ◌^◌, ◌<◌, ◌≤◌, List, [], ◌∷◌, ◌++◌, Contains, Bool, true, false, drop, length, slice_index, Option, Some, None, Ok, Err, IsOk, codes}
+use Rattle.std.specs.Prelude.{◌≡◌, ◌≢◌, ◌⊎◌, ℕ, zero, suc, ◌+◌, ◌-◌, ◌*◌, ◌%◌, ◌^◌, ◌<◌, ◌≤◌, List, [], ◌∷◌, ◌++◌, Contains, Bool, true, false, drop, take, length, slice_index, nat_lt, if◌then◌else◌, Option, Some, None, Ok, Err, IsOk, codes}
+use Rattle.std.specs.Fmt.{digits}
 use Rattle.hex.specs.Hex.{decode_of, decode_sized}
 use Rattle.rrs_lib.specs.Bytes.{ByteMap}
 use Rattle.rrs_lib.specs.Loading.{Loaded}
@@ -10,12 +11,24 @@ use Rattle.rrs_lib.specs.Accesses.{Access}
 use Rattle.rrs_lib.specs.Machine.{State, reg, with_pc}
 use Rattle.rrs_linux.specs.Recording.{Recording, Records}
 use Rattle.rrs_history.specs.Calls.{IsServedStep, RemembersCall}
+use Rattle.rrs_gdb.specs.declared.breaks.Break.{Break}
+use Rattle.rrs_gdb.specs.declared.breaks.Break.TheVariants as Place
+use Rattle.rrs_gdb.specs.declared.breaks.Breaks.{Breaks}
 use Rattle.rrs_gdb.specs.declared.breaks.Watch.{Watch}
+use Rattle.rrs_gdb.specs.declared.breaks.WatchKind.{WatchKind}
+use Rattle.rrs_gdb.specs.declared.breaks.WatchKind.TheVariants as Kind
 use Rattle.rrs_gdb.specs.declared.forward.ForwardReason.{ForwardReason}
-use Rattle.rrs_gdb.specs.declared.forward.ForwardReason.TheVariants.{AtStop, Touches, Limit, Fault}
+use Rattle.rrs_gdb.specs.declared.forward.ForwardReason.TheVariants.{AtStop, Touches, Fault}
+use Rattle.rrs_gdb.specs.declared.forward.ForwardReason.TheVariants as Forward
+use Rattle.rrs_gdb.specs.declared.link.Link.{Link}
+use Rattle.rrs_gdb.specs.declared.queries.Setting.{Setting}
+use Rattle.rrs_gdb.specs.declared.queries.Setting.TheVariants.{Steps, Limit, HistoryRoom, StopAtExit}
 use Rattle.rrs_gdb.specs.declared.session.Going.{Going}
 use Rattle.rrs_gdb.specs.declared.session.Going.TheVariants.{Step, Proceed, Killed}
+use Rattle.rrs_gdb.specs.declared.session.Next.{Next}
+use Rattle.rrs_gdb.specs.declared.session.Next.TheVariants.{ReplyAndEnd, End, Restart}
 use Rattle.rrs_gdb.specs.declared.state.SessionState.{SessionState}
+use Rattle.rrs_gdb.specs.declared.state.Caught.{Caught}
 use Rattle.rrs_gdb.specs.declared.state.Stop.{Stop}
 use Rattle.rrs_gdb.specs.declared.state.Stop.TheVariants.{Signal, Touched, AtBegin, Entry, Return, Exited}
 use Rattle.rrs_gdb.specs.declared.state.Stop.TheVariants as stop
@@ -23,9 +36,9 @@ use Rattle.rrs_history.specs.declared.history.History.{History}
 use Rattle.rrs_history.specs.Histories.{changes, room, past}
 use Rattle.rrs_gdb.specs.declared.back.BackEnd.{BackEnd}
 use Rattle.rrs_gdb.specs.declared.back.BackEnd.TheVariants as Back
-use Rattle.rrs_gdb.specs.Breaks.{GoesForward, GoesBack, KeepsSteps}
-use Rattle.rrs_gdb.specs.Packets.{IsNumber, number, before, behind, IsPlace, address_in, length_in}
-use Rattle.rrs_gdb.specs.Shown.{register, register_text, text_of, with_register, word_at, HasBytes, stop_text}
+use Rattle.rrs_gdb.specs.Breaks.{GoesForward, GoesBack, KeepsSteps, WithBreak, WithoutBreak}
+use Rattle.rrs_gdb.specs.Packets.{AreNumbers, IsDecimal, IsNumber, decimal, number, before, behind, IsPlace, address_in, length_in}
+use Rattle.rrs_gdb.specs.Shown.{Prints, register, register_text, text_of, with_register, word_at, HasBytes, stop_text}
 
 -- the letter of a packet: the first byte of its payload
 abbrev pub letter : List ℕ → ℕ
@@ -47,6 +60,13 @@ abbrev pub EndsNone : List ℕ → Type 0
 EndsNone payload =
     (letter payload ≢ 68) × (letter payload ≢ 107) × (letter payload ≢ 82)
     × (letter payload ≢ 118)
+
+-- What follows a packet: `D` ends the session once it is answered, `k` ends it at once, and by `R`
+-- the program begins again.
+pub record EndsBy (payload : List ℕ) (next : Next) : Type 0 where
+  pub detaches : letter payload ≡ 68 → next ≡ ReplyAndEnd
+  pub kills : payload ≡ codes "k" → next ≡ End
+  pub restarts : letter payload ≡ 82 → next ≡ Restart
 
 -- `G` or `P`
 abbrev pub ChangesRegister : List ℕ → Type 0
@@ -186,6 +206,119 @@ pub record SetsMemory (values : List ℕ) (text : List ℕ) (s t : State) (old n
   pub refused : ¬ (IsPlace (before 58 text) × (length values ≡ length_in (before 58 text)))
       → IsError old new
 
+-- the type of a watchpoint
+abbrev pub watch_type : WatchKind → List ℕ
+watch_type Kind.Write = codes "2"
+watch_type Kind.Read = codes "3"
+watch_type Kind.Access = codes "4"
+
+-- what stands after `type,`, and before the conditions after a semicolon, which are not looked at
+abbrev pub place_in : List ℕ → List ℕ
+place_in text = before 59 (behind 44 text)
+
+-- `type,addr,kind`: 0 and 1 are breakpoints. Of a watchpoint the kind is how many addresses there
+-- are.
+abbrev pub IsBreak : List ℕ → Break → Type 0
+IsBreak text (Place.Stop address) =
+    ((before 44 text ≡ codes "0") ⊎ (before 44 text ≡ codes "1"))
+    × IsPlace (place_in text) × (address ≡ address_in (place_in text))
+IsBreak text (Place.Watch watch) =
+    (before 44 text ≡ watch_type watch.kind) × IsPlace (place_in text)
+    × (watch.address ≡ address_in (place_in text)) × (watch.length ≡ length_in (place_in text))
+
+-- `Z`: the breakpoint or the watchpoint is set. Without memory for it an error is answered.
+pub record SetsBreak (text : List ℕ) (b b' : Breaks) (old new : List ℕ) : Type 0 where
+  pub set : (place : Break) → IsBreak text place
+      → IsError old new ⊎ (WithBreak place b b' × (new ≡ old ++ codes "OK"))
+  pub refused : ((place : Break) → ¬ IsBreak text place) → IsError old new
+
+-- `z`: it is removed.
+pub record RemovesBreak (text : List ℕ) (b b' : Breaks) (old new : List ℕ) : Type 0 where
+  pub removed : (place : Break) → IsBreak text place
+      → WithoutBreak place b b' × (new ≡ old ++ codes "OK")
+  pub refused : ((place : Break) → ¬ IsBreak text place) → IsError old new
+
+-- ---- questions
+
+-- `qXfer:..:offset,length`: so many bytes of an object from an offset on, after `m` where more
+-- follow, and after `l` where none do
+abbrev pub part_text : List ℕ → ℕ → ℕ → List ℕ
+part_text object offset count =
+    (if nat_lt (offset + count) (length object) then codes "m" else codes "l")
+    ++ take count (drop offset object)
+
+pub record ShowsPart (object place old new : List ℕ) : Type 0 where
+  pub shown : IsPlace place → new ≡ old ++ part_text object (address_in place) (length_in place)
+  pub refused : ¬ IsPlace place → IsError old new
+
+-- ---- `monitor`, a command that stands in digits after `qRcmd,`: a word, a blank and an argument
+
+abbrev pub word_of : Setting → List ℕ
+word_of Steps = codes "steps"
+word_of Limit = codes "limit"
+word_of HistoryRoom = codes "history"
+word_of StopAtExit = codes "stop-at-exit"
+
+abbrev pub on_or_off : Bool → List ℕ
+on_or_off true = codes "on"
+on_or_off false = codes "off"
+
+-- how a setting stands
+abbrev pub value_text : SessionState → Setting → List ℕ
+value_text s Steps = digits 10 false s.steps
+value_text s Limit = digits 10 false s.settings.limit
+value_text s HistoryRoom = digits 10 false s.settings.history
+value_text s StopAtExit = on_or_off s.settings.stops_at_exit
+
+-- the line that tells it, which is answered in digits
+abbrev pub setting_line : List ℕ → List ℕ → List ℕ
+setting_line word value = word ++ (codes ": " ++ (value ++ codes "\n"))
+
+-- what a setting can be set to
+abbrev pub Accepts : Setting → List ℕ → Type 0
+Accepts Steps argument = ⊥
+Accepts Limit argument = IsDecimal argument
+Accepts HistoryRoom argument = IsDecimal argument
+Accepts StopAtExit argument = (argument ≡ codes "on") ⊎ (argument ≡ codes "off")
+
+-- it is set: the most steps of a `continue`; how many steps the history keeps, of which it is
+-- emptied; or whether the program stops before it exits
+abbrev pub Sets : Setting → List ℕ → SessionState → SessionState → Type 0
+Sets Steps argument s t = ⊥
+Sets Limit argument s t = t ≡ record s { settings = record s.settings { limit = decimal argument } }
+Sets HistoryRoom argument s t =
+    (t.settings ≡ record s.settings { history = decimal argument })
+    × (changes t.history ≡ []) × (room t.history ≡ decimal argument)
+Sets StopAtExit argument s t =
+    (is_on : Bool) × (argument ≡ on_or_off is_on)
+    × (t ≡ record s { settings = record s.settings { stops_at_exit = is_on } })
+
+-- It is set and then shown. Where there is no memory for a history, nothing is set, and gdb is told
+-- so.
+abbrev pub SetsOrTells : Setting → List ℕ → SessionState → SessionState → List ℕ → List ℕ → Type 0
+SetsOrTells setting argument s t old new =
+    (Sets setting argument s t
+    × (new ≡ old ++ text_of (setting_line (word_of setting) (value_text t setting))))
+    ⊎ ((setting ≡ HistoryRoom) × (t ≡ s)
+    × (new ≡ old ++ text_of (codes "history: out of memory\n")))
+
+-- A setting is shown, or set and then shown.
+pub record Monitors (word argument : List ℕ) (s t : SessionState) (old new : List ℕ)
+    : Type 0 where
+  pub shown : (setting : Setting) → word ≡ word_of setting → argument ≡ []
+      → (t ≡ s) × (new ≡ old ++ text_of (setting_line word (value_text s setting)))
+  pub set : (setting : Setting) → word ≡ word_of setting → Accepts setting argument
+      → SetsOrTells setting argument s t old new
+  pub kept : ((setting : Setting) → word ≡ word_of setting → ¬ Accepts setting argument) → t ≡ s
+
+-- `QCatchSyscalls:0` has no call caught, `1` all, and `1;n;n` those of these numbers.
+pub data Catches (text : List ℕ) (caught : Caught) : Type 0 where
+  CatchesNone : before 59 text ≡ codes "0" → behind 59 text ≡ [] → caught.are_all ≡ false
+      → caught.numbers.items ≡ [] → Catches text caught
+  CatchesSome : before 59 text ≡ codes "1" → AreNumbers caught.numbers.items (behind 59 text)
+      → (behind 59 text ≡ [] → caught.are_all ≡ true)
+      → (behind 59 text ≢ [] → caught.are_all ≡ false) → Catches text caught
+
 -- ---- where the program stops
 
 -- what gdb asked for: breakpoints, watchpoints, calls that are caught, all or those of these
@@ -250,7 +383,7 @@ signal_of (EnvironmentCall pc) = 12
 abbrev pub stop_of : Stop → ForwardReason → Stop
 stop_of at_limit AtStop = Signal 5
 stop_of at_limit (Touches watch) = Touched watch
-stop_of at_limit Limit = at_limit
+stop_of at_limit Forward.Limit = at_limit
 stop_of at_limit (Fault fault) = Signal (signal_of fault)
 
 -- a run ended at a call
@@ -266,7 +399,7 @@ is_call (StoreAccessFault a) = false
 abbrev pub ends_at_call : ForwardReason → Bool
 ends_at_call AtStop = false
 ends_at_call (Touches watch) = false
-ends_at_call Limit = false
+ends_at_call Forward.Limit = false
 ends_at_call (Fault fault) = is_call fault
 
 -- ---- calls
@@ -319,6 +452,24 @@ pub record CallServed (a : Around) (m : State) (end : Option ℕ) (b : Around) (
   pub served : IsServedStep Records is_call a.environment m (Ok end) after t accesses
   pub output_taken : OutputTaken after b.environment
   pub remembered : RemembersCall is_call a.history m b.history t (length accesses)
+
+-- a stop after a call that was served
+abbrev pub IsAfterCall : Stop → Type 0
+IsAfterCall (Exited status) = Unit {0}
+IsAfterCall (Return number) = Unit {0}
+IsAfterCall _ = ⊥
+
+-- A call is served, and what it printed is sent, output and then errors. Where steps were taken
+-- back, fewer bytes were made than sent, and those that gdb knows are not sent again.
+pub record PrintsCall {R W : Type 0} (contents : W → Option (List ℕ)) (made sent : ℕ)
+    (e : Recording) (m t : State) (old new : Link R W) : Type 0 where
+  pub is_call : Bool
+  pub end : Option ℕ
+  pub after : Recording
+  pub accesses : List Access
+  pub served : IsServedStep Records is_call e m (Ok end) after t accesses
+  pub prints : made + length after.output.items + length after.errors.items < 2 ^ 64
+      → Prints contents old new (drop (sent - made) (after.output.items ++ after.errors.items))
 
 -- a call is served, and the program goes on: it is at no stop, and was not told of the call before
 pub record CallMade (asked : Asked) (a : Around) (m : State) (b : Around) (t : State)
@@ -461,35 +612,44 @@ pub record CallTakenBack (e e' : Recording) : Type 0 where
   pub errors_kept : e'.errors ≡ e.errors
   pub held_kept : e'.held ≡ e.held
 
+-- where a run back stops, and why
+abbrev pub stop_back : BackEnd → Stop
+stop_back Back.AtStop = Signal 5
+stop_back (Back.Touched watch) = Touched watch
+stop_back Back.Call = Signal 5
+stop_back Back.AtBegin = AtBegin
+stop_back Back.Limit = Signal 5
+
 -- From e and s, with the states before it, the program goes back to e' and t, with those before
 -- that, within a limit, by so many steps in all: by runs back up to stops and watchpoints, and over
--- the calls between them.
-pub data GoesOnBack (stops : List ℕ) (watches : List Watch) (e' : Recording) (t : State)
+-- the calls between them. It stops there as said.
+pub data GoesOnBack (at : Stop) (stops : List ℕ) (watches : List Watch) (e' : Recording) (t : State)
     (after : List State) : ℕ → ℕ → Recording → State → List State → Type 0 where
   -- a run back, to no call
   RunsBack : (limit steps : ℕ) (e : Recording) (s : State) (before : List State) (end : BackEnd)
       → GoesBack stops watches limit s before after t steps end → end ≢ Back.Call → e' ≡ e
-      → GoesOnBack stops watches e' t after limit steps e s before
+      → at ≡ stop_back end
+      → GoesOnBack at stops watches e' t after limit steps e s before
   -- a run back over a call, to a stop
   StopsBack : (limit steps : ℕ) (e : Recording) (s : State) (before : List State)
       → GoesBack stops watches limit s before after t steps Back.Call → CallTakenBack e e'
-      → Contains stops t.pc
-      → GoesOnBack stops watches e' t after limit steps e s before
+      → Contains stops t.pc → at ≡ Signal 5
+      → GoesOnBack at stops watches e' t after limit steps e s before
   -- a run back over a call, and what follows within what is left of the limit
   CallsBack : (limit steps more : ℕ) (e : Recording) (s : State) (before : List State)
       (d : Recording) (u : State) (between : List State)
       → GoesBack stops watches limit s before between u steps Back.Call → CallTakenBack e d
       → ¬ Contains stops u.pc
-      → GoesOnBack stops watches e' t after (limit - 1) more d u between
-      → GoesOnBack stops watches e' t after limit (steps + more) e s before
+      → GoesOnBack at stops watches e' t after (limit - 1) more d u between
+      → GoesOnBack at stops watches e' t after limit (steps + more) e s before
 
 -- A session goes back so: from where its history leads back to, with its breakpoints. The steps
 -- that were taken back are no longer counted.
-abbrev pub SessionGoesBack : ℕ → SessionState → Recording → State → SessionState → Recording → State
-    → Type 0
-SessionGoesBack limit old e s new e' t =
+abbrev pub SessionGoesBack : ℕ → Stop → SessionState → Recording → State → SessionState → Recording
+    → State → Type 0
+SessionGoesBack limit at old e s new e' t =
     (gone : ℕ) × (new.steps ≡ old.steps - gone)
-    × GoesOnBack old.breaks.stops.items old.breaks.watches.items e' t
+    × GoesOnBack at old.breaks.stops.items old.breaks.watches.items e' t
     (past (changes new.history) t) limit gone e s (past (changes old.history) s)
 
 -- ---- of the code

@@ -2,7 +2,8 @@
 -- each byte as two hexadecimal digits, and a register as its bytes, the lowest first. The registers
 -- are x0 to x31 and then the pc, by the numbers of the target's description. And how it is told
 -- where the program stopped ("Stop Reply Packets": S, T, W and X).
-use Rattle.std.specs.Prelude.{◌≡◌, ℕ, zero, suc, ◌+◌, ◌*◌, ◌/◌, ◌%◌, ◌<◌, ◌==◌, if◌then◌else◌, List, [], ◌∷◌, ◌++◌, length, slice_index, slice_set, false, Some, codes}
+use Rattle.std.specs.Prelude.{◌≡◌, ℕ, zero, suc, ◌+◌, ◌*◌, ◌/◌, ◌%◌, ◌<◌, ◌≤◌, ◌==◌, if◌then◌else◌, List, [], ◌∷◌, ◌++◌, length, slice_index, slice_set, false, Option, Some, codes}
+use Rattle.std.specs.Io.KnownBytes.{Appends}
 use Rattle.std.specs.Fmt.{digits}
 use Rattle.rrs_lib.specs.Bytes.{ByteMap}
 use Rattle.rrs_lib.specs.Machine.{State, reg, with_pc}
@@ -10,7 +11,8 @@ use Rattle.rrs_gdb.specs.declared.breaks.WatchKind.{WatchKind}
 use Rattle.rrs_gdb.specs.declared.breaks.WatchKind.TheVariants as Kind
 use Rattle.rrs_gdb.specs.declared.state.Stop.{Stop}
 use Rattle.rrs_gdb.specs.declared.state.Stop.TheVariants.{Signal, Touched, AtBegin, Entry, Return, Exited, Killed}
-use Rattle.rrs_gdb.specs.Packets.{digits_of}
+use Rattle.rrs_gdb.specs.declared.link.Link.{Link}
+use Rattle.rrs_gdb.specs.Packets.{digits_of, packet}
 
 -- bytes as digits
 abbrev pub text_of : List ℕ → List ℕ
@@ -75,3 +77,19 @@ stop_text (Entry number) = named_text (codes "syscall_entry") number
 stop_text (Return number) = named_text (codes "syscall_return") number
 stop_text (Exited status) = codes "W" ++ digits_of status
 stop_text (Killed signal) = codes "X" ++ digits_of signal
+
+-- ---- what the program prints (gdb's manual, "Stop Reply Packets": O)
+
+abbrev pub output_packet : List ℕ → List ℕ
+output_packet part = packet (codes "O" ++ text_of part)
+
+-- Output is sent in parts, in order. A packet has room for 2,048 bytes in digits.
+pub data SentAs : List ℕ → List ℕ → Type 0 where
+  Nothing : SentAs [] []
+  Part : (part rest sent : List ℕ) → length part ≤ 2048 → SentAs rest sent
+      → SentAs (part ++ rest) (output_packet part ++ sent)
+
+-- what is written on a link, after what was written before, is the output
+abbrev pub Prints : {R W : Type 0} → (W → Option (List ℕ)) → Link R W → Link R W → List ℕ → Type 0
+Prints contents old new output =
+    (sent : List ℕ) × SentAs output sent × Appends (contents old.writer) (contents new.writer) sent

@@ -1,14 +1,17 @@
 //! Where a run stops.
 
-ghost use Rattle.std.specs.Prelude.{◌≡◌, ◌≤◌, Contains, MatchOption, Ok, OnErr, OnOk};
+ghost use Rattle.std.specs.Prelude.{◌≡◌, ◌≤◌, [], Contains, MatchOption, Ok, OnErr, OnOk};
 ghost use Rattle.std.specs.Bool.{OnTrue, OnFalse};
 ghost use Rattle.rrs_lib.specs.Bytes.{width};
 ghost use Rattle.rrs_lib.specs.Executor.{state_in, KeepsTheRest};
 ghost use Rattle.rrs_trace.specs.Outside.{AccessesAfterFetch, WithEachMemory, requested};
 ghost use Rattle.rrs_gdb.specs.declared.breaks.Watch.{Watch};
 ghost use Rattle.rrs_gdb.specs.Shown.{kind_name};
-ghost use Rattle.rrs_gdb.specs.Breaks.{WithEntry, WithoutEntry, IsWatched, IsAskedOf, TouchesNone, TouchesOne};
+ghost use Rattle.rrs_gdb.specs.declared.breaks.Break.{Break};
+ghost use Rattle.rrs_gdb.specs.Sessions.{IsBreak};
+ghost use Rattle.rrs_gdb.specs.Breaks.{WithBreak, WithoutBreak, WithEntry, WithoutEntry, IsWatched, IsAskedOf, TouchesNone, TouchesOne};
 
+use crate::numbers::{address_and_length, cut_or_all};
 use rrs_lib::instruction_executor::{InstructionExecutor, fetch_word};
 use rrs_lib::{HartState, MemAccessSize, Memory};
 use rrs_trace::{DataRequest, request};
@@ -78,6 +81,38 @@ impl Watch {
     }
 }
 
+/// One place where a run stops.
+#[derive(Clone, Copy, Debug, PartialEq)]
+pub enum Break {
+    /// Before the instruction at an address.
+    Stop(u32),
+    /// At an access.
+    Watch(Watch),
+}
+
+/// The breakpoint or the watchpoint that `Z` or `z` names, by what stands after the letter: a type,
+/// a comma, an address, a comma and a number, which of a watchpoint is how many addresses there
+/// are. Conditions, after a semicolon, are not looked at.
+pub fn break_of(text: &[u8]) -> Option<Break>
+    ensures { MatchOption result ((place : Break) → ¬ IsBreak text.now place)
+        (λ place. IsBreak text.now place) }
+{
+    let (kind, rest) = cut_or_all(text, b',');
+    let (address, length) = address_and_length(cut_or_all(rest, b';').0)?;
+    let kind = match kind {
+        b"0" | b"1" => return Some(Break::Stop(address)),
+        b"2" => WatchKind::Write,
+        b"3" => WatchKind::Read,
+        b"4" => WatchKind::Access,
+        _ => return None,
+    };
+    Some(Break::Watch(Watch {
+        kind,
+        address,
+        length,
+    }))
+}
+
 /// The number of bytes of an access.
 fn width_of(size: MemAccessSize) -> u64
     ensures value { result ≡ width size }
@@ -101,7 +136,10 @@ pub struct Breaks {
 
 impl Breaks {
     /// None.
-    pub fn new(alloc: Global) -> Breaks {
+    pub fn new(alloc: Global) -> Breaks
+        ensures stops { result.stops.items ≡ [] }
+        ensures watches { result.watches.items ≡ [] }
+    {
         Breaks {
             stops: Vec::new(alloc),
             watches: Vec::new(alloc),
@@ -158,6 +196,32 @@ impl Breaks {
         ensures stops { self.new.stops.items ≡ self.old.stops.items }
     {
         self.watches.retain(|other| *other != watch);
+    }
+
+    /// Sets a breakpoint or a watchpoint, if it isn't set already.
+    ///
+    /// # Errors
+    ///
+    /// Out of memory. Then all are as they were.
+    pub fn set(&mut self, place: Break) -> Result<(), AllocError>
+        ensures set { OnOk result (WithBreak place self.old self.new) }
+        ensures stops { OnErr result (self.new.stops.items ≡ self.old.stops.items) }
+        ensures watches { OnErr result (self.new.watches.items ≡ self.old.watches.items) }
+    {
+        match place {
+            Break::Stop(address) => self.set_stop(address),
+            Break::Watch(watch) => self.set_watch(watch),
+        }
+    }
+
+    /// Removes a breakpoint or a watchpoint, if it is set.
+    pub fn remove(&mut self, place: Break)
+        ensures removed { WithoutBreak place self.old self.new }
+    {
+        match place {
+            Break::Stop(address) => self.remove_stop(address),
+            Break::Watch(watch) => self.remove_watch(watch),
+        }
     }
 }
 

@@ -26,7 +26,7 @@ mod state;
 mod target;
 
 pub use back::{BackEnd, WentBack, go_back};
-pub use breaks::{Breaks, Watch, WatchKind};
+pub use breaks::{Break, Breaks, Watch, WatchKind, break_of};
 pub use contents::{read_memory, write_memory};
 pub use forward::{ForwardEnd, ForwardReason, go_forward};
 pub use framing::{PacketError, decode, encode, push_bytes, push_hex};

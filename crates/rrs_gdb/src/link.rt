@@ -1,15 +1,19 @@
 //! The two streams of a session.
 
-ghost use Rattle.std.specs.Prelude.{◌≡◌, OnOk};
+ghost use Rattle.std.specs.Prelude.{◌≡◌, OnOk, IfOk, codes, false, true};
 ghost use Rattle.std.specs.Io.KnownBytes.{Appends};
-ghost use Rattle.rrs_gdb.specs.Packets.{packet};
+ghost use Rattle.rrs_gdb.specs.Packets.{IsMeaning, packet};
+ghost use Rattle.rrs_gdb.specs.Shown.{Prints, output_packet};
 
-use crate::framing::{PacketError, decode, encode};
+use crate::framing::{PacketError, decode, encode, push_bytes};
 use std::alloc::{AllocError, AllocFailed, Global};
 use std::io::{Read, Write};
 
 /// The most bytes between `$` and `#` that are read: 16 KiB, as `qSupported` says.
 pub(crate) const PACKET_BYTES: usize = 0x4000;
+
+/// The most bytes of output in a packet.
+const OUTPUT_BYTES: usize = 2048;
 
 /// Why a session can't go on.
 #[derive(Debug, PartialEq, Clone, Copy)]
@@ -161,8 +165,49 @@ impl<R: Read, W: Write> Link<R, W> {
         Ok(())
     }
 
+    /// Sends a part of the output of a program.
+    fn send_part(&mut self, part: &[u8]) -> Result<(), LinkError>
+        ensures sent { OnOk result (Appends (W.contents self.old.writer) (W.contents self.new.writer)
+            (output_packet part.now)) }
+        ensures reader { self.new.reader ≡ self.old.reader }
+        ensures acknowledges { self.new.acknowledges ≡ self.old.acknowledges }
+    {
+        let mut payload = Vec::new(self.alloc);
+        payload.push(b'O')?;
+        push_bytes(&mut payload, part)?;
+        self.send(&payload)
+    }
+
+    /// Sends output of a program: all of it, in order, in `O` packets (`sent`).
+    ///
+    /// # Errors
+    ///
+    /// Out of memory, and a write that fails.
+    pub fn send_output(&mut self, bytes: &[u8]) -> Result<(), LinkError>
+        ensures sent { OnOk result (Prints W.contents self.old self.new bytes.now) }
+        ensures reader { self.new.reader ≡ self.old.reader }
+        ensures acknowledges { self.new.acknowledges ≡ self.old.acknowledges }
+    {
+        let mut rest = bytes;
+        'parts: while !rest.is_empty() {
+            let (part, others) = rest.split_at(rest.len().min(OUTPUT_BYTES));
+            self.send_part(part)?;
+            rest = others;
+        }
+        Ok(())
+    }
+
     /// Acknowledges a packet, or asks for it again.
-    fn acknowledge(&mut self, is_good: bool) -> Result<(), LinkError> {
+    fn acknowledge(&mut self, is_good: bool) -> Result<(), LinkError>
+        ensures silent { self.old.acknowledges ≡ false → self.new ≡ self.old }
+        ensures good { self.old.acknowledges ≡ true → is_good ≡ true → OnOk result
+            (Appends (W.contents self.old.writer) (W.contents self.new.writer) (codes "+")) }
+        ensures bad { self.old.acknowledges ≡ true → is_good ≡ false → OnOk result
+            (Appends (W.contents self.old.writer) (W.contents self.new.writer) (codes "-")) }
+        ensures reader { self.new.reader ≡ self.old.reader }
+        ensures last { self.new.last ≡ self.old.last }
+        ensures acknowledges { self.new.acknowledges ≡ self.old.acknowledges }
+    {
         if !self.acknowledges {
             return Ok(());
         }
@@ -170,7 +215,9 @@ impl<R: Read, W: Write> Link<R, W> {
     }
 
     /// What a frame is; `None` where it is to be asked for again.
-    fn meaning(&self, frame: &Frame) -> Result<Option<Received>, LinkError> {
+    fn meaning(&self, frame: &Frame) -> Result<Option<Received>, LinkError>
+        ensures { IfOk result (λ received. IsMeaning self.now.acknowledges frame.now received) }
+    {
         if frame.is_long {
             return Ok(Some(Received::Bad));
         }

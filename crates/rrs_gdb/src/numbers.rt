@@ -1,7 +1,7 @@
 //! The numbers and the fields of a payload.
 
 ghost use Rattle.std.specs.Prelude.{◌≡◌, ◌≢◌, ◌<◌, ◌++◌, ℕ, List, [], length, IfSome, IfNone, MatchOption};
-ghost use Rattle.rrs_gdb.specs.Packets.{IsNumber, number, before, behind, IsPlace, address_in, length_in};
+ghost use Rattle.rrs_gdb.specs.Packets.{IsDecimal, IsNumber, decimal, number, before, behind, IsPlace, address_in, length_in};
 
 /// The number that one to eight hexadecimal digits are.
 pub fn number_of(digits: &[u8]) -> Option<u32>
@@ -19,19 +19,19 @@ pub fn number_of(digits: &[u8]) -> Option<u32>
     Some(number)
 }
 
-/// The number that decimal digits are.
-pub(crate) fn decimal_of(digits: &[u8]) -> Option<u64> {
+/// The number that decimal digits are, if it is below 2^64.
+pub(crate) fn decimal_of(digits: &[u8]) -> Option<u64>
+    ensures { MatchOption result (¬ IsDecimal digits.now)
+        (λ value. IsDecimal digits.now × (value ≡ decimal digits.now)) }
+{
     if digits.is_empty() {
         return None;
     }
     let mut number = 0_u64;
     for digit in digits {
-        if !digit.is_ascii_digit() {
-            return None;
-        }
-        number = number
-            .checked_mul(10)?
-            .checked_add(u64::from(*digit - b'0'))?;
+        let value = char::from(*digit).to_digit(10)?;
+        let tens = number.checked_mul(10)?;
+        number = tens.checked_add(u64::from(value))?;
     }
     Some(number)
 }

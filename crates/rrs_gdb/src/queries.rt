@@ -1,27 +1,25 @@
 //! The packets that ask, and those that set how the session goes on.
 
-ghost use Rattle.std.specs.Prelude.{◌≡◌};
-ghost use Rattle.rrs_gdb.specs.declared.queries.Number.{Number};
-ghost use Rattle.rrs_gdb.specs.Sessions.{BreaksKept, SessionKept};
+ghost use Rattle.std.specs.Prelude.{◌≡◌, ◌≢◌, ◌++◌, ℕ, List, [], false, true, Ok, IsOk, IfOk, IfErr, MatchOption, OnOk, OnErr, codes, string_bytes, if◌then◌else◌};
+ghost use Rattle.std.specs.Bool.{OnTrue, OnFalse};
+ghost use Rattle.std.specs.Fmt.{digits};
+ghost use Rattle.hex.specs.Hex.{decode_of};
+ghost use Rattle.rrs_gdb.specs.declared.queries.Setting.{Setting};
+ghost use Rattle.rrs_gdb.specs.declared.state.Caught.{Caught};
+ghost use Rattle.rrs_gdb.specs.Packets.{AreNumbers, IsDecimal, before, behind};
+ghost use Rattle.rrs_gdb.specs.Shown.{text_of};
+ghost use Rattle.rrs_gdb.specs.Sessions.{Accepts, BreaksKept, Catches, Monitors, SessionKept, Sets, SetsOrTells, ShowsPart, on_or_off, setting_line, value_text, word_of};
 
 use crate::framing::push_bytes;
 use crate::numbers::{address_and_length, behind, cut, cut_or_all, decimal_of, number_of};
-use crate::state::{SessionState, push_text};
+use crate::state::{Caught, SessionState, push_text};
 use crate::target::TARGET;
+use hex::FromHexError;
 use std::alloc::{AllocError, Global};
 
-/// The questions that are always answered alike, and their answers: what the stub has, the thread,
-/// and the list of threads.
-static ANSWERS: [(&[u8], &[u8]); 4] = [
-    (
-        b"qSupported",
-        b"PacketSize=4000;QStartNoAckMode+;qXfer:features:read+;\
-qXfer:exec-file:read+;ReverseStep+;ReverseContinue+;QCatchSyscalls+;vContSupported+",
-    ),
-    (b"qC", b"QC1"),
-    (b"qfThreadInfo", b"m1"),
-    (b"qsThreadInfo", b"l"),
-];
+/// What the stub has.
+const SUPPORTED: &[u8] = b"PacketSize=4000;QStartNoAckMode+;qXfer:features:read+;\
+qXfer:exec-file:read+;ReverseStep+;ReverseContinue+;QCatchSyscalls+;vContSupported+";
 
 /// The answer where a packet can't be understood: `EINVAL`, 22.
 pub const INVALID: &[u8] = b"E16";
@@ -35,7 +33,9 @@ pub const NO_MEMORY: &[u8] = b"E0c";
 /// # Errors
 ///
 /// Out of memory.
-pub fn push_part(reply: &mut Vec<u8>, object: &[u8], place: &[u8]) -> Result<(), AllocError> {
+pub fn push_part(reply: &mut Vec<u8>, object: &[u8], place: &[u8]) -> Result<(), AllocError>
+    ensures { OnOk result (ShowsPart object.now place.now reply.old.items reply.new.items) }
+{
     let Some((offset, length)) = address_and_length(place) else {
         return push_text(reply, INVALID);
     };
@@ -63,7 +63,11 @@ fn transfer(state: &SessionState<'_>, reply: &mut Vec<u8>, asked: &[u8]) -> Resu
 }
 
 /// The numbers of calls, with semicolons between, if they are numbers.
-fn numbers_in(alloc: Global, text: &[u8]) -> Result<Option<Vec<u32>>, AllocError> {
+fn numbers_in(alloc: Global, text: &[u8]) -> Result<Option<Vec<u32>>, AllocError>
+    ensures { IfOk result (λ found. MatchOption found
+        ((numbers : List ℕ) → ¬ AreNumbers numbers text.now)
+        (λ numbers. AreNumbers numbers.items text.now)) }
+{
     let mut numbers = Vec::new(alloc);
     let mut rest = text;
     'numbers: while !rest.is_empty() {
@@ -77,36 +81,75 @@ fn numbers_in(alloc: Global, text: &[u8]) -> Result<Option<Vec<u32>>, AllocError
     Ok(Some(numbers))
 }
 
-/// Sets which calls are caught, by what is after `QCatchSyscalls:`.
+/// Which calls are caught by what is after `QCatchSyscalls:1;`, if that are numbers: all, if there
+/// are none.
+fn caught_of(alloc: Global, text: &[u8]) -> Result<Option<Caught>, AllocError>
+    ensures { IfOk result (λ found. MatchOption found
+        ((numbers : List ℕ) → ¬ AreNumbers numbers text.now)
+        (λ caught. AreNumbers caught.numbers.items text.now
+        × (text.now ≡ [] → caught.are_all ≡ true)
+        × (text.now ≢ [] → caught.are_all ≡ false))) }
+{
+    let Some(numbers) = numbers_in(alloc, text)? else {
+        return Ok(None);
+    };
+    let are_all = text.is_empty();
+    Ok(Some(Caught { are_all, numbers }))
+}
+
+/// Which calls are caught by what is after `QCatchSyscalls:`, if that can be understood.
+fn caught_by(alloc: Global, asked: &[u8]) -> Result<Option<Caught>, AllocError>
+    ensures { IfOk result (λ found. MatchOption found ((caught : Caught) → ¬ Catches asked.now caught)
+        (λ caught. Catches asked.now caught)) }
+{
+    let (word, rest) = cut_or_all(asked, b';');
+    match word {
+        b"1" => caught_of(alloc, rest),
+        b"0" if rest.is_empty() => Ok(Some(Caught {
+            are_all: false,
+            numbers: Vec::new(alloc),
+        })),
+        _ => Ok(None),
+    }
+}
+
+/// Sets which calls are caught, by what is after `QCatchSyscalls:`, and returns whether that can be
+/// understood.
 pub(crate) fn catch_calls(
     alloc: Global,
     state: &mut SessionState<'_>,
     asked: &[u8],
 ) -> Result<bool, AllocError>
-    ensures { SessionKept state.old state.new }
+    ensures kept { SessionKept state.old state.new }
+    ensures caught { IfOk result (λ is_done. OnTrue is_done (Catches asked.now state.new.caught)) }
+    ensures refused { IfOk result (λ is_done. OnFalse is_done ((state.new ≡ state.old)
+        × ((caught : Caught) → ¬ Catches asked.now caught))) }
 {
-    let (word, rest) = cut_or_all(asked, b';');
-    let is_on = word == b"1".as_slice();
-    if !is_on && (word != b"0".as_slice() || !rest.is_empty()) {
-        return Ok(false);
+    match caught_by(alloc, asked)? {
+        Some(caught) => {
+            state.caught = caught;
+            Ok(true)
+        }
+        None => Ok(false),
     }
-    let Some(numbers) = numbers_in(alloc, rest)? else {
-        return Ok(false);
-    };
-    state.caught.are_all = is_on && rest.is_empty();
-    state.caught.numbers = numbers;
-    Ok(true)
 }
 
-/// Appends a line with a name and a number, as the answer of `qRcmd`.
+/// Appends the line of a setting, as the answer of `qRcmd`.
 fn push_setting(
     alloc: Global,
     reply: &mut Vec<u8>,
-    name: &str,
-    number: u64,
-) -> Result<(), AllocError> {
-    let line = format!(in alloc; "{name}: {number}\n")?;
-    push_bytes(reply, line.as_bytes())
+    name: &[u8],
+    value: &[u8],
+) -> Result<(), AllocError>
+    ensures { OnOk result (reply.new.items
+        ≡ reply.old.items ++ text_of (setting_line name.now value.now)) }
+{
+    let mut line = Vec::new(alloc);
+    push_text(&mut line, name)?;
+    push_text(&mut line, b": ")?;
+    push_text(&mut line, value)?;
+    push_text(&mut line, b"\n")?;
+    push_bytes(reply, &line)
 }
 
 /// What `monitor help` says.
@@ -115,111 +158,179 @@ monitor limit [N]: the most steps of a continue\n\
 monitor history [N]: how many steps are kept, and can be taken back\n\
 monitor stop-at-exit [on|off]: whether the program stops once where it is to exit\n";
 
-/// Sets `stop-at-exit`, or says how it is set.
-fn set_stop_at_exit(
-    state: &mut SessionState<'_>,
-    reply: &mut Vec<u8>,
-    word: &[u8],
-) -> Result<(), AllocError>
-    ensures { BreaksKept state.old state.new }
-{
-    match word {
-        b"on" => state.settings.stops_at_exit = true,
-        b"off" => state.settings.stops_at_exit = false,
-        b"" => {}
-        _ => return push_bytes(reply, HELP),
-    }
-    push_bytes(
-        reply,
-        if state.settings.stops_at_exit {
-            b"stop-at-exit: on\n".as_slice()
-        } else {
-            b"stop-at-exit: off\n".as_slice()
-        },
-    )
-}
+/// What is said where there is no memory for a history.
+const NO_HISTORY: &[u8] = b"history: out of memory\n";
 
-/// A number that `monitor` shows.
+/// What a command of `monitor` is about.
 #[derive(Clone, Copy)]
-enum Number {
+enum Setting {
     /// How many steps were made, which is not set.
     Steps,
     /// The most steps of a `continue`.
     Limit,
     /// How many steps are kept.
-    History,
+    HistoryRoom,
+    /// Whether the program stops once where it is to exit.
+    StopAtExit,
 }
 
-/// The numbers by their names.
-static NUMBERS: [(&str, Number); 3] = [
-    ("steps", Number::Steps),
-    ("limit", Number::Limit),
-    ("history", Number::History),
-];
-
-/// The number of a name, with the name.
-fn number_named(word: &[u8]) -> Option<(&'static str, Number)> {
-    for (name, number) in &NUMBERS {
-        if name.as_bytes() == word {
-            return Some((*name, *number));
-        }
-    }
-    None
-}
-
-/// What a number is.
-fn value_of(state: &SessionState<'_>, number: Number) -> u64
-    ensures steps { number ≡ Number.Steps → result ≡ state.now.steps }
-    ensures limit { number ≡ Number.Limit → result ≡ state.now.settings.limit }
-    ensures history { number ≡ Number.History → result ≡ state.now.settings.history }
+/// The word of a setting.
+fn word_of(setting: Setting) -> &'static [u8]
+    ensures { result.now ≡ word_of setting }
 {
-    match number {
-        Number::Steps => state.steps,
-        Number::Limit => state.settings.limit,
-        Number::History => state.settings.history as u64,
+    match setting {
+        Setting::Steps => b"steps",
+        Setting::Limit => b"limit",
+        Setting::HistoryRoom => b"history",
+        Setting::StopAtExit => b"stop-at-exit",
     }
 }
 
-/// Sets a number. The answer is what is told where it can't be set so.
-fn set_number(
+/// What a command is about, by its first word.
+fn setting_of(word: &[u8]) -> Option<Setting>
+    ensures { MatchOption result ((setting : Setting) → word.now ≢ word_of setting)
+        (λ setting. word.now ≡ word_of setting) }
+{
+    match word {
+        b"steps" => Some(Setting::Steps),
+        b"limit" => Some(Setting::Limit),
+        b"history" => Some(Setting::HistoryRoom),
+        _ if word == b"stop-at-exit".as_slice() => Some(Setting::StopAtExit),
+        _ => None,
+    }
+}
+
+/// The text of a number.
+fn number_text(alloc: Global, number: u64) -> Result<String, AllocError>
+    ensures { IfOk result (λ text. string_bytes text ≡ digits 10 false number) }
+{
+    format!(in alloc; "{number}")
+}
+
+/// Whether something is on, in words.
+fn on_or_off(is_on: bool) -> &'static str
+    ensures { result.now ≡ on_or_off is_on }
+{
+    if is_on { "on" } else { "off" }
+}
+
+/// How a setting stands, as it is shown.
+fn value_of(alloc: Global, state: &SessionState<'_>, setting: Setting) -> Result<String, AllocError>
+    ensures { IfOk result (λ text. string_bytes text ≡ value_text state.now setting) }
+{
+    match setting {
+        Setting::Steps => number_text(alloc, state.steps),
+        Setting::Limit => number_text(alloc, state.settings.limit),
+        Setting::HistoryRoom => number_text(alloc, state.settings.history as u64),
+        Setting::StopAtExit => String::from_str(alloc, on_or_off(state.settings.stops_at_exit)),
+    }
+}
+
+/// Sets how many steps are kept, if there is memory for them.
+fn set_room(
     alloc: Global,
     state: &mut SessionState<'_>,
-    number: Number,
     argument: &[u8],
-) -> Option<&'static [u8]>
-    ensures { BreaksKept state.old state.new }
+) -> Result<(), &'static [u8]>
+    ensures breaks { BreaksKept state.old state.new }
+    ensures set { OnOk result (Sets Setting.HistoryRoom argument.now state.old state.new) }
+    ensures only { OnOk result (IsDecimal argument.now) }
+    ensures kept { OnErr result (state.new ≡ state.old) }
+    ensures refused { IfErr result (λ told. IsDecimal argument.now
+        → told.now ≡ codes "history: out of memory\n") }
 {
-    match (number, decimal_of(argument)) {
-        (Number::Limit, Some(limit)) => state.settings.limit = limit,
-        (Number::History, Some(room)) => {
-            if room > 1 << 32 || state.set_history(alloc, room as usize).is_err() {
-                return Some(b"history: out of memory\n");
-            }
-        }
-        _ => return Some(HELP),
+    let Some(room) = decimal_of(argument) else {
+        return Err(HELP);
+    };
+    if room > 1 << 32 {
+        return Err(NO_HISTORY);
     }
-    None
+    match state.set_history(alloc, room as usize) {
+        Ok(()) => Ok(()),
+        Err(_) => Err(NO_HISTORY),
+    }
 }
 
-/// Shows a number, after an argument that sets it.
-fn show_number(
+/// Sets whether the program stops once where it is to exit.
+fn set_stop_at_exit(state: &mut SessionState<'_>, argument: &[u8]) -> Result<(), &'static [u8]>
+    ensures breaks { BreaksKept state.old state.new }
+    ensures set { OnOk result (Sets Setting.StopAtExit argument.now state.old state.new) }
+    ensures only { OnOk result (Accepts Setting.StopAtExit argument.now) }
+    ensures kept { OnErr result (state.new ≡ state.old) }
+    ensures refused { OnErr result (¬ Accepts Setting.StopAtExit argument.now) }
+{
+    state.settings.stops_at_exit = match argument {
+        b"on" => true,
+        b"off" => false,
+        _ => return Err(HELP),
+    };
+    Ok(())
+}
+
+/// Sets the most steps of a `continue`.
+fn set_limit(state: &mut SessionState<'_>, argument: &[u8]) -> Result<(), &'static [u8]>
+    ensures breaks { BreaksKept state.old state.new }
+    ensures set { OnOk result (Sets Setting.Limit argument.now state.old state.new) }
+    ensures only { OnOk result (IsDecimal argument.now) }
+    ensures kept { OnErr result (state.new ≡ state.old) }
+    ensures refused { OnErr result (¬ IsDecimal argument.now) }
+{
+    let Some(limit) = decimal_of(argument) else {
+        return Err(HELP);
+    };
+    state.settings.limit = limit;
+    Ok(())
+}
+
+/// Sets what a command is about to its argument.
+///
+/// # Errors
+///
+/// What is told where it can't be set so.
+fn set_to(
+    alloc: Global,
+    state: &mut SessionState<'_>,
+    setting: Setting,
+    argument: &[u8],
+) -> Result<(), &'static [u8]>
+    ensures breaks { BreaksKept state.old state.new }
+    ensures set { OnOk result (Sets setting argument.now state.old state.new) }
+    ensures only { OnOk result (Accepts setting argument.now) }
+    ensures kept { OnErr result (state.new ≡ state.old) }
+    ensures refused { IfErr result (λ told. Accepts setting argument.now
+        → (setting ≡ Setting.HistoryRoom) × (told.now ≡ codes "history: out of memory\n")) }
+{
+    match setting {
+        Setting::Steps => Err(HELP),
+        Setting::Limit => set_limit(state, argument),
+        Setting::HistoryRoom => set_room(alloc, state, argument),
+        Setting::StopAtExit => set_stop_at_exit(state, argument),
+    }
+}
+
+/// Sets what a command is about, if it has an argument, and shows how it stands.
+fn monitor_setting(
     alloc: Global,
     state: &mut SessionState<'_>,
     reply: &mut Vec<u8>,
-    word: &[u8],
+    setting: Setting,
     argument: &[u8],
 ) -> Result<(), AllocError>
-    ensures { BreaksKept state.old state.new }
+    ensures breaks { BreaksKept state.old state.new }
+    ensures shown { OnOk result (argument.now ≡ [] → (state.new ≡ state.old)
+        × (reply.new.items ≡ reply.old.items
+        ++ text_of (setting_line (word_of setting) (value_text state.old setting)))) }
+    ensures set { OnOk result (Accepts setting argument.now
+        → SetsOrTells setting argument.now state.old state.new reply.old.items reply.new.items) }
+    ensures kept { ¬ Accepts setting argument.now → state.new ≡ state.old }
 {
-    let Some((name, number)) = number_named(word) else {
-        return push_bytes(reply, HELP);
-    };
     if !argument.is_empty() {
-        if let Some(refused) = set_number(alloc, state, number, argument) {
+        if let Err(refused) = set_to(alloc, state, setting, argument) {
             return push_bytes(reply, refused);
         }
     }
-    push_setting(alloc, reply, name, value_of(state, number))
+    let value = value_of(alloc, state, setting)?;
+    push_setting(alloc, reply, word_of(setting), value.as_bytes())
 }
 
 /// Answers a command of `monitor`.
@@ -229,13 +340,15 @@ fn monitor(
     reply: &mut Vec<u8>,
     command: &[u8],
 ) -> Result<(), AllocError>
-    ensures { BreaksKept state.old state.new }
+    ensures breaks { BreaksKept state.old state.new }
+    ensures monitors { OnOk result (Monitors (before 32 command.now) (behind 32 command.now)
+        state.old state.new reply.old.items reply.new.items) }
 {
     let (word, argument) = cut_or_all(command, b' ');
-    if word == b"stop-at-exit".as_slice() {
-        return set_stop_at_exit(state, reply, argument);
+    match setting_of(word) {
+        Some(setting) => monitor_setting(alloc, state, reply, setting, argument),
+        None => push_bytes(reply, HELP),
     }
-    show_number(alloc, state, reply, word, argument)
 }
 
 /// Answers `qRcmd`, by the digits of its command.
@@ -245,12 +358,44 @@ fn command(
     reply: &mut Vec<u8>,
     digits: &[u8],
 ) -> Result<(), AllocError>
-    ensures { BreaksKept state.old state.new }
+    ensures breaks { BreaksKept state.old state.new }
+    ensures monitors { OnOk result ((command : List ℕ) → decode_of digits.now ≡ Ok command
+        → Monitors (before 32 command) (behind 32 command)
+        state.old state.new reply.old.items reply.new.items) }
+    ensures kept { ¬ IsOk (decode_of digits.now) → state.new ≡ state.old }
 {
     match hex::decode(alloc, digits) {
         Ok(command) => monitor(alloc, state, reply, &command),
+        Err(FromHexError::OutOfMemory) => Err(AllocError),
         Err(_) => push_text(reply, INVALID),
     }
+}
+
+/// What is answered to a question of the session, by its word: what the stub has, the thread, the
+/// list of threads, and whether the program ran before gdb came. Nothing where it is not known.
+fn answer_of(is_extended: bool, word: &[u8]) -> &'static [u8]
+    ensures thread { word.now ≡ codes "qC" → result.now ≡ codes "QC1" }
+    ensures threads { word.now ≡ codes "qfThreadInfo" → result.now ≡ codes "m1" }
+    ensures no_more { word.now ≡ codes "qsThreadInfo" → result.now ≡ codes "l" }
+    ensures attached { word.now ≡ codes "qAttached"
+        → result.now ≡ (if is_extended then codes "0" else codes "1") }
+{
+    if word == b"qSupported".as_slice() {
+        return SUPPORTED;
+    }
+    if word == b"qC".as_slice() {
+        return b"QC1";
+    }
+    if word == b"qfThreadInfo".as_slice() {
+        return b"m1";
+    }
+    if word == b"qsThreadInfo".as_slice() {
+        return b"l";
+    }
+    if word == b"qAttached".as_slice() {
+        return if is_extended { b"0" } else { b"1" };
+    }
+    b""
 }
 
 /// Answers a question of the session.
@@ -258,16 +403,10 @@ fn tell(state: &SessionState<'_>, reply: &mut Vec<u8>, payload: &[u8]) -> Result
     if let Some(asked) = behind(payload, b"qXfer:") {
         return transfer(state, reply, asked);
     }
-    let (word, _rest) = cut_or_all(payload, b':');
-    if word == b"qAttached".as_slice() {
-        return push_text(reply, if state.is_extended { b"0" } else { b"1" });
-    }
-    for (question, answer) in &ANSWERS {
-        if *question == word {
-            return push_text(reply, answer);
-        }
-    }
-    Ok(())
+    push_text(
+        reply,
+        answer_of(state.is_extended, cut_or_all(payload, b':').0),
+    )
 }
 
 /// Answers a packet that begins with `q`.
@@ -277,7 +416,13 @@ pub(crate) fn query(
     reply: &mut Vec<u8>,
     payload: &[u8],
 ) -> Result<(), AllocError>
-    ensures { BreaksKept state.old state.new }
+    ensures breaks { BreaksKept state.old state.new }
+    ensures monitors { (digits : List ℕ) → payload.now ≡ codes "qRcmd," ++ digits
+        → OnOk result ((command : List ℕ) → decode_of digits ≡ Ok command
+        → Monitors (before 32 command) (behind 32 command)
+        state.old state.new reply.old.items reply.new.items) }
+    ensures kept { ((digits : List ℕ) → payload.now ≢ codes "qRcmd," ++ digits)
+        → state.new ≡ state.old }
 {
     if let Some(digits) = behind(payload, b"qRcmd,") {
         return command(alloc, state, reply, digits);

@@ -1,15 +1,15 @@
 //! The program goes on, forward and back.
 
-ghost use Rattle.std.specs.Prelude.{◌≡◌, ◌≢◌, ◌%◌, false, Contains, IfOk, MatchOption, OnOk};
+ghost use Rattle.std.specs.Prelude.{◌≡◌, ◌≢◌, ◌+◌, ◌-◌, ◌%◌, ◌^◌, ◌<◌, ◌++◌, drop, length, false, Contains, IfOk, MatchOption, OnOk};
 ghost use Rattle.std.specs.Bool.{OnTrue, OnFalse};
 ghost use Rattle.rrs_gdb.specs.declared.back.BackEnd.{BackEnd};
 ghost use Rattle.rrs_lib.specs.Executor.{state_in};
 ghost use Rattle.rrs_linux.specs.Recording.{Recording};
-ghost use Rattle.rrs_gdb.specs.Sessions.{CallMade, CallStops, CallTakenBack, GoesOn, OutputTaken, PassesBefore, PlacesKept, SessionGoesBack, StopsBefore, StopsBehind, around, asked_by, ends_at_call, is_call, signal_of, still, stop_of, stopped_at};
+ghost use Rattle.rrs_gdb.specs.Shown.{Prints};
+ghost use Rattle.rrs_gdb.specs.Sessions.{CallMade, CallStops, CallTakenBack, GoesOn, IsAfterCall, OutputTaken, PassesBefore, PlacesKept, PrintsCall, SessionGoesBack, StopsBefore, StopsBehind, around, asked_by, ends_at_call, is_call, signal_of, still, stop_back, stop_of, stopped_at};
 
 use crate::back::{BackEnd, go_back};
 use crate::forward::{ForwardEnd, ForwardReason, go_forward};
-use crate::framing::push_bytes;
 use crate::link::{Link, LinkError};
 use crate::runner::StopRunner;
 use crate::state::{CallMark, SessionState, Stop};
@@ -28,8 +28,6 @@ pub(crate) const TRAPPED: u8 = 5;
 const EXIT: u32 = 93;
 /// The number of `exit_group`.
 const EXIT_GROUP: u32 = 94;
-/// The most bytes of output in a packet.
-const OUTPUT_BYTES: usize = 2048;
 
 /// gdb's number of the signal that a program gets for an exception.
 fn signal_of(fault: &InstructionException) -> u8
@@ -46,22 +44,6 @@ fn signal_of(fault: &InstructionException) -> u8
     }
 }
 
-/// Sends a part of the output of the program, as an `O` packet.
-fn send_part<R: Read, W: Write>(link: &mut Link<R, W>, part: &[u8]) -> Result<(), LinkError> {
-    let mut payload = Vec::new(link.alloc);
-    payload.push(b'O')?;
-    push_bytes(&mut payload, part)?;
-    link.send(&payload)
-}
-
-/// Sends output of the program.
-fn send_output<R: Read, W: Write>(link: &mut Link<R, W>, bytes: &[u8]) -> Result<(), LinkError> {
-    for part in bytes.chunks(OUTPUT_BYTES) {
-        send_part(link, part)?;
-    }
-    Ok(())
-}
-
 /// Sends what was made of output, but for what was sent already, before steps were taken back.
 fn send_new<R: Read, W: Write>(
     state: &mut SessionState<'_>,
@@ -70,6 +52,12 @@ fn send_new<R: Read, W: Write>(
 ) -> Result<(), LinkError>
     ensures places { PlacesKept state.old state.new }
     ensures around { (e : Recording) → around state.new e ≡ around state.old e }
+    ensures sent { OnOk result (Prints W.contents link.old link.new
+        (drop (state.old.sent - state.old.made) bytes.now)) }
+    ensures made { state.old.made + length bytes.now < 2 ^ 64
+        → state.new.made ≡ state.old.made + length bytes.now }
+    ensures known { state.old.made + length bytes.now < 2 ^ 64 → state.new.sent - state.new.made
+        ≡ state.old.sent - state.old.made - length bytes.now }
 {
     let known = state.sent.saturating_sub(state.made);
     state.made = state.made.saturating_add(bytes.len() as u64);
@@ -77,7 +65,7 @@ fn send_new<R: Read, W: Write>(
         return Ok(());
     }
     state.sent = state.made;
-    send_output(link, &bytes[known as usize..])
+    link.send_output(&bytes[known as usize..])
 }
 
 /// Sends what a call made of output, and of errors.
@@ -89,6 +77,10 @@ fn send_made<R: Read, W: Write>(
     ensures places { PlacesKept state.old state.new }
     ensures around { (e : Recording) → around state.new e ≡ around state.old e }
     ensures taken { OnOk result (OutputTaken environment.old environment.new) }
+    ensures sent { state.old.made + length environment.old.output.items
+        + length environment.old.errors.items < 2 ^ 64 → OnOk result (Prints W.contents link.old link.new
+        (drop (state.old.sent - state.old.made)
+        (environment.old.output.items ++ environment.old.errors.items))) }
 {
     send_new(state, link, &environment.output)?;
     environment.output.clear();
@@ -105,6 +97,8 @@ fn stop_before(state: &mut SessionState<'_>, number: u32) -> Option<Stop>
         × PassesBefore (asked_by state.old) (around state.old e) number)
         (λ at. StopsBefore (asked_by state.old) (around state.old e) number
         (stopped_at (around state.new e) at)) }
+    ensures made { state.new.made ≡ state.old.made }
+    ensures sent { state.new.sent ≡ state.old.sent }
 {
     if state.catches(number) && !state.has_entered {
         state.has_entered = true;
@@ -153,6 +147,13 @@ fn make_call<M: Memory, R: Read, W: Write>(
         (around state.old environment.old) (state_in M.bytes M.writable executor.old)
         (stopped_at (around state.new environment.new) at)
         (state_in M.bytes M.writable executor.new))) }
+    ensures printed { IfOk result (λ stop. MatchOption stop
+        (PrintsCall W.contents state.old.made state.old.sent environment.old
+        (state_in M.bytes M.writable executor.old) (state_in M.bytes M.writable executor.new)
+        link.old link.new)
+        (λ at. IsAfterCall at → PrintsCall W.contents state.old.made state.old.sent
+        environment.old (state_in M.bytes M.writable executor.old)
+        (state_in M.bytes M.writable executor.new) link.old link.new)) }
 {
     let number = executor.hart_state.read_register(17);
     if let Some(stop) = stop_before(state, number) {
@@ -195,6 +196,8 @@ fn count_steps(state: &mut SessionState<'_>, steps: u64)
       entered = still steps state.old.has_entered;
       told_exit = still steps state.old.has_told_exit;
     } }
+    ensures counted { state.old.steps + steps < 2 ^ 64
+        → state.new.steps ≡ state.old.steps + steps }
 {
     state.steps = state.steps.saturating_add(steps);
     if steps == 0 {
@@ -294,7 +297,9 @@ fn is_behind_call(end: &BackEnd) -> bool
 }
 
 /// The stop of steps back that ended, but for a call.
-fn stop_back(end: &BackEnd) -> Stop {
+fn stop_back(end: &BackEnd) -> Stop
+    ensures { result ≡ stop_back end.now }
+{
     match end {
         BackEnd::AtBegin => Stop::AtBegin,
         BackEnd::Touched(watch) => Stop::Touched(*watch),
@@ -311,7 +316,7 @@ pub(crate) fn backward<'a, M: Memory>(
     limit: u64,
 ) -> Stop
     ensures places { PlacesKept state.old state.new }
-    ensures back { SessionGoesBack limit
+    ensures back { SessionGoesBack limit result
         state.old environment.old (state_in M.bytes M.writable executor.old)
         state.new environment.new (state_in M.bytes M.writable executor.new) }
 {

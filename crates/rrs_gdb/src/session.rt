@@ -1,25 +1,25 @@
 //! The packets of a session, and their answers.
 
-ghost use Rattle.std.specs.Prelude.{◌≡◌, ◌≢◌, ◌⊎◌, ◌∷◌, ◌++◌, [], ℕ, ◌<◌, ◌≤◌, ◌-◌, ◌^◌, Bool, List, Ok, Some, IsOk, IsTrue, IfOk, IfSome, IfNone, MatchOption, OnOk, drop, length, slice_index, codes};
+ghost use Rattle.std.specs.Prelude.{◌≡◌, ◌≢◌, ◌⊎◌, ◌∷◌, ◌++◌, [], ℕ, ◌<◌, ◌≤◌, ◌-◌, ◌^◌, Bool, List, Ok, Some, IsOk, IsTrue, IfOk, IfSome, IfNone, MatchOption, OnOk, drop, length, slice_index, codes, map, string_bytes, true};
 ghost use Rattle.std.specs.Bool.{OnTrue, OnFalse};
+ghost use Rattle.std.specs.Str.{IsUtf8};
 ghost use Rattle.hex.specs.Hex.{decode_of, decode_sized};
 ghost use Rattle.rrs_lib.specs.Bytes.{ByteMap};
 ghost use Rattle.rrs_lib.specs.Machine.{state_of};
 ghost use Rattle.rrs_lib.specs.Executor.{state_in};
 ghost use Rattle.rrs_linux.specs.Recording.{Recording};
-ghost use Rattle.rrs_gdb.specs.declared.breaks.WatchKind.{WatchKind};
 ghost use Rattle.rrs_gdb.specs.declared.session.Going.{Going};
 ghost use Rattle.rrs_gdb.specs.declared.session.Next.{Next};
 ghost use Rattle.rrs_gdb.specs.Answers.{BeginsBy, Goes, HasSubject, IsDone, Leaves, Means, Sets, Shows, moment};
-ghost use Rattle.rrs_gdb.specs.Sessions.{letter, Acts, BreaksKept, EndsNone, BySignal, HasNoSignal, HasSignal, IsSignal, Signals, BreaksNone, GoesBy, GoesOnFrom, GoesOnOrStays, ForgetsOrStays, HasAction, HasLetter, HasRegisters, Most, Resumes, SetsRegisters, around, asked_by, has_ended, one_step, up_to, ChangesMemory, ChangesNone, ChangesRegister, IsError, MemoryKept, PlacesKept, RegistersKept, RunsNone, SessionGoesBack, SessionKept, SettingsKept, IsChangeable, SetsBytes, SetsMemory, SetsRegister, ShowsBytes, ShowsMemory, ShowsRegister};
-ghost use Rattle.rrs_gdb.specs.Packets.{IsNumber, number, before, behind};
+ghost use Rattle.rrs_gdb.specs.Sessions.{letter, Acts, BreaksKept, EndsBy, EndsNone, Monitors, BySignal, HasNoSignal, HasSignal, IsSignal, Signals, BreaksNone, GoesBy, GoesOnFrom, GoesOnOrStays, ForgetsOrStays, HasAction, HasLetter, HasRegisters, Most, Resumes, SetsRegisters, around, asked_by, has_ended, one_step, up_to, ChangesMemory, ChangesNone, ChangesRegister, IsError, MemoryKept, PlacesKept, RegistersKept, RemovesBreak, RunsNone, SessionGoesBack, SessionKept, SettingsKept, IsChangeable, SetsBreak, SetsBytes, SetsMemory, SetsRegister, ShowsBytes, ShowsMemory, ShowsRegister};
+ghost use Rattle.rrs_gdb.specs.Packets.{AreTexts, IsNumber, number, before, behind};
 ghost use Rattle.rrs_gdb.specs.Shown.{registers_text, stop_text, with_register, word_at};
 
-use crate::breaks::{Watch, WatchKind};
+use crate::breaks::{Breaks, break_of};
 use crate::contents::{read_memory, write_memory};
 use crate::framing::push_bytes;
 use crate::link::{Link, LinkError, Received};
-use crate::numbers::{address_and_length, behind, cut, cut_or_all, number_of, place_and_bytes};
+use crate::numbers::{address_and_length, behind, cut_or_all, number_of, place_and_bytes};
 use crate::queries::{BAD_ADDRESS, INVALID, NO_MEMORY, catch_calls, query};
 use crate::registers::{push_register, push_registers, word_at, write_register, write_registers};
 use crate::resume::{INTERRUPTED, TRAPPED, backward, forward};
@@ -432,61 +432,52 @@ fn alter<M: Memory>(
     Ok(())
 }
 
-/// Whether a breakpoint or a watchpoint is set, its kind, its address and its length.
-fn break_of(payload: &[u8]) -> Option<(bool, u8, u32, u32)> {
-    let (kind, place) = cut(payload, b',')?;
-    let (place, _conditions) = cut_or_all(place, b';');
-    let (address, length) = address_and_length(place)?;
-    match kind {
-        [letter, kind @ b'0'..=b'4'] => Some((*letter == b'Z', *kind, address, length)),
-        _ => None,
+/// `Z`: sets a breakpoint or a watchpoint.
+fn set_break(breaks: &mut Breaks, text: &[u8]) -> &'static [u8]
+    ensures sets { SetsBreak text.now breaks.old breaks.new [] result.now }
+    ensures stops { IsError [] result.now → breaks.new.stops.items ≡ breaks.old.stops.items }
+    ensures watches { IsError [] result.now → breaks.new.watches.items ≡ breaks.old.watches.items }
+{
+    let Some(place) = break_of(text) else {
+        return INVALID;
+    };
+    match breaks.set(place) {
+        Ok(()) => b"OK",
+        Err(_) => NO_MEMORY,
     }
 }
 
-/// The watchpoint of a kind: 2 is for stores, 3 for loads, and 4 for both.
-fn watch_of(kind: u8, address: u32, length: u32) -> Watch
-    ensures write { kind ≡ 50 → result.kind ≡ WatchKind.Write }
-    ensures read { kind ≡ 51 → result.kind ≡ WatchKind.Read }
-    ensures access { kind ≡ 52 → result.kind ≡ WatchKind.Access }
-    ensures place { (result.address ≡ address) × (result.length ≡ length) }
+/// `z`: removes a breakpoint or a watchpoint.
+fn remove_break(breaks: &mut Breaks, text: &[u8]) -> &'static [u8]
+    ensures removes { RemovesBreak text.now breaks.old breaks.new [] result.now }
+    ensures stops { IsError [] result.now → breaks.new.stops.items ≡ breaks.old.stops.items }
+    ensures watches { IsError [] result.now → breaks.new.watches.items ≡ breaks.old.watches.items }
 {
-    let kind = match kind {
-        b'2' => WatchKind::Write,
-        b'3' => WatchKind::Read,
-        _ => WatchKind::Access,
+    let Some(place) = break_of(text) else {
+        return INVALID;
     };
-    Watch {
-        kind,
-        address,
-        length,
-    }
+    breaks.remove(place);
+    b"OK"
 }
 
 /// `Z` and `z`: sets or removes a breakpoint or a watchpoint.
-fn change_breaks(state: &mut SessionState<'_>, payload: &[u8]) -> &'static [u8]
+fn change_breaks(
+    state: &mut SessionState<'_>,
+    reply: &mut Vec<u8>,
+    payload: &[u8],
+) -> Result<(), AllocError>
     ensures settings { SettingsKept state.old state.new }
-    ensures error { slice_index result.now 0 ≡ 69 → BreaksKept state.old state.new }
-    ensures reply { 1 ≤ length result.now }
+    ensures error { OnOk result (IsError reply.old.items reply.new.items
+        → BreaksKept state.old state.new) }
+    ensures sets { letter payload.now ≡ 90 → OnOk result (SetsBreak (drop 1 payload.now)
+        state.old.breaks state.new.breaks reply.old.items reply.new.items) }
+    ensures removes { letter payload.now ≡ 122 → OnOk result (RemovesBreak (drop 1 payload.now)
+        state.old.breaks state.new.breaks reply.old.items reply.new.items) }
 {
-    let Some((is_set, kind, address, length)) = break_of(payload) else {
-        return INVALID;
-    };
-    let breaks = &mut state.breaks;
-    let outcome = match (kind, is_set) {
-        (b'0' | b'1', true) => breaks.set_stop(address),
-        (b'0' | b'1', false) => {
-            breaks.remove_stop(address);
-            Ok(())
-        }
-        (_, true) => breaks.set_watch(watch_of(kind, address, length)),
-        (_, false) => {
-            breaks.remove_watch(watch_of(kind, address, length));
-            Ok(())
-        }
-    };
-    match outcome {
-        Ok(()) => b"OK",
-        Err(_) => NO_MEMORY,
+    match payload {
+        [b'Z', text @ ..] => push_text(reply, set_break(&mut state.breaks, text)),
+        [b'z', text @ ..] => push_text(reply, remove_break(&mut state.breaks, text)),
+        _ => Ok(()),
     }
 }
 
@@ -670,9 +661,15 @@ fn go_on<M: Memory, G: StopRunner<M>, R: Read, W: Write>(
 }
 
 /// An argument of `vRun`, by its digits.
-fn argument_of(alloc: Global, digits: &[u8]) -> Result<Option<String>, AllocError> {
-    let Ok(bytes) = hex::decode(alloc, digits) else {
-        return Ok(None);
+fn argument_of(alloc: Global, digits: &[u8]) -> Result<Option<String>, AllocError>
+    ensures { IfOk result (λ found. MatchOption found
+        ((text : List ℕ) → decode_of digits.now ≡ Ok text → ¬ IsUtf8 text)
+        (λ text. (decode_of digits.now ≡ Ok (string_bytes text)) × IsUtf8 (string_bytes text))) }
+{
+    let bytes = match hex::decode(alloc, digits) {
+        Ok(bytes) => bytes,
+        Err(FromHexError::OutOfMemory) => return Err(AllocError),
+        Err(_) => return Ok(None),
     };
     match str::from_utf8(&bytes) {
         Ok(argument) => Ok(Some(String::from_str(alloc, argument)?)),
@@ -681,7 +678,11 @@ fn argument_of(alloc: Global, digits: &[u8]) -> Result<Option<String>, AllocErro
 }
 
 /// The arguments of `vRun`, after the program's name: digits, with semicolons between.
-fn arguments_of(alloc: Global, text: &[u8]) -> Result<Option<Vec<String>>, AllocError> {
+fn arguments_of(alloc: Global, text: &[u8]) -> Result<Option<Vec<String>>, AllocError>
+    ensures { IfOk result (λ found. MatchOption found
+        ((texts : List (List ℕ)) → ¬ AreTexts texts text.now)
+        (λ arguments. AreTexts (map string_bytes arguments.items) text.now)) }
+{
     let mut arguments = Vec::new(alloc);
     let mut rest = text;
     'arguments: while !rest.is_empty() {
@@ -704,6 +705,12 @@ fn run_again(
 ) -> Result<Next, AllocError>
     ensures kept { SessionKept state.old state.new }
     ensures places { PlacesKept state.old state.new }
+    ensures restarts { IfOk result (λ next. (texts : List (List ℕ))
+        → AreTexts texts (behind 59 text.now) → (next ≡ Next.Restart)
+        × AreTexts (map string_bytes state.new.arguments.items) (behind 59 text.now)
+        × (state.new.has_arguments ≡ true) × (state.new.owes_stop ≡ true)) }
+    ensures refused { OnOk result (((texts : List (List ℕ)) → ¬ AreTexts texts (behind 59 text.now))
+        → IsError reply.old.items reply.new.items) }
 {
     let (_name, arguments) = cut_or_all(text, b';');
     let Some(arguments) = arguments_of(alloc, arguments)? else {
@@ -822,11 +829,13 @@ fn reverse<'a, M: Memory>(
 ) -> Result<(), AllocError>
     ensures places { PlacesKept state.old state.new }
     ensures error { OnOk result (IsError reply.old.items reply.new.items → ⊥) }
+    ensures told { (payload.now ≡ codes "bs") ⊎ (payload.now ≡ codes "bc") → OnOk result
+        (reply.new.items ≡ reply.old.items ++ stop_text state.new.stop) }
     ensures step { payload.now ≡ codes "bs" → SessionGoesBack 1
-        state.old environment.old (state_in M.bytes M.writable executor.old)
+        state.new.stop state.old environment.old (state_in M.bytes M.writable executor.old)
         state.new environment.new (state_in M.bytes M.writable executor.new) }
     ensures goes_back { payload.now ≡ codes "bc" → SessionGoesBack (2 ^ 64 - 1)
-        state.old environment.old (state_in M.bytes M.writable executor.old)
+        state.new.stop state.old environment.old (state_in M.bytes M.writable executor.old)
         state.new environment.new (state_in M.bytes M.writable executor.new) }
 {
     let Some(limit) = steps_back(payload) else {
@@ -839,7 +848,8 @@ fn reverse<'a, M: Memory>(
 
 /// What follows a packet that is about the session alone.
 fn next_behind(payload: &[u8]) -> Next
-    ensures { EndsNone payload.now → result ≡ Next.Reply }
+    ensures reply { EndsNone payload.now → result ≡ Next.Reply }
+    ensures ends { EndsBy payload.now result }
 {
     match payload {
         [b'D', ..] => Next::ReplyAndEnd,
@@ -857,7 +867,10 @@ fn manage<R, W>(
     payload: &[u8],
 ) -> Result<Next, AllocError>
     ensures kept { SessionKept state.old state.new }
+    ensures stopped { payload.now ≡ codes "?" → OnOk result
+        (reply.new.items ≡ reply.old.items ++ stop_text state.old.stop) }
     ensures reply { EndsNone payload.now → IfOk result (λ next. next ≡ Next.Reply) }
+    ensures ends { IfOk result (λ next. EndsBy payload.now next) }
 {
     state.is_extended |= payload == b"!".as_slice();
     match payload {
@@ -915,6 +928,7 @@ fn answer_by_subject<'a, M: Memory, G: StopRunner<M>, R: Read, W: Write>(
         (moment state.new environment.new (state_in M.bytes M.writable executor.new)
         reply.new.items)) }
     ensures reply { EndsNone payload.now → IfOk result (λ next. next ≡ Next.Reply) }
+    ensures ends { IfOk result (λ next. EndsBy payload.now next) }
 {
     let alloc = link.alloc;
     match subject_of(payload) {
@@ -925,7 +939,7 @@ fn answer_by_subject<'a, M: Memory, G: StopRunner<M>, R: Read, W: Write>(
         Subject::Back => {
             reply_behind(reverse(alloc, state, executor, environment, reply, payload))
         }
-        Subject::Breaks => reply_behind(push_text(reply, change_breaks(state, payload))),
+        Subject::Breaks => reply_behind(change_breaks(state, reply, payload)),
         Subject::Query => reply_behind(query(alloc, state, reply, payload)),
         Subject::Session => Ok(manage(state, link, reply, payload)?),
     }
@@ -939,8 +953,12 @@ fn answer_by_subject<'a, M: Memory, G: StopRunner<M>, R: Read, W: Write>(
 /// (`breaks`, `settings`), and a packet that is answered by an error changes nothing (`error`).
 /// What the text of a packet means is said by `shows_registers`, `sets_registers`,
 /// `shows_register`, `sets_register`, `shows_memory`, `sets_memory` and `sets_bytes`, and, of those
-/// by which the program goes on, by `steps`, `continues` and `acts`. Only `D`, `k`, `R` and packets
-/// that begin with `v` end the session (`reply`).
+/// by which the program goes on, by `steps`, `continues` and `acts`. `Z` and `z` set and remove the
+/// breakpoint or the watchpoint that they name, and no other (`sets_break`, `removes_break`); `?`,
+/// `bs` and `bc` are answered by where the program stopped (`stopped`, `back_told`); a command of
+/// `monitor` sets what it names and is answered by how that stands (`monitors`), and other questions
+/// change nothing (`questions`). `D` and `k` end the session, and by `R` the program begins again
+/// (`ends`); others do not, but for some that begin with `v` (`reply`).
 ///
 /// # Errors
 ///
@@ -1014,11 +1032,13 @@ pub fn answer_to<'a, M: Memory, G: StopRunner<M>, R: Read, W: Write>(
         (around state.new environment.new) (state_in M.bytes M.writable executor.new)
         reply.old.items reply.new.items) }
     ensures steps_back { payload.now ≡ codes "bs" → OnOk result (SessionGoesBack 1
-        state.old environment.old (state_in M.bytes M.writable executor.old)
+        state.new.stop state.old environment.old (state_in M.bytes M.writable executor.old)
         state.new environment.new (state_in M.bytes M.writable executor.new)) }
     ensures goes_back { payload.now ≡ codes "bc" → OnOk result (SessionGoesBack (2 ^ 64 - 1)
-        state.old environment.old (state_in M.bytes M.writable executor.old)
+        state.new.stop state.old environment.old (state_in M.bytes M.writable executor.old)
         state.new environment.new (state_in M.bytes M.writable executor.new)) }
+    ensures back_told { (payload.now ≡ codes "bs") ⊎ (payload.now ≡ codes "bc") → OnOk result
+        (reply.new.items ≡ reply.old.items ++ stop_text state.new.stop) }
     ensures shows_registers { payload.now ≡ codes "g" → OnOk result (reply.new.items
         ≡ reply.old.items ++ registers_text (state_in M.bytes M.writable executor.old)) }
     ensures sets_registers { letter payload.now ≡ 71 → OnOk result (SetsRegisters
@@ -1040,11 +1060,26 @@ pub fn answer_to<'a, M: Memory, G: StopRunner<M>, R: Read, W: Write>(
     ensures no_values { letter payload.now ≡ 77
         → OnOk result (¬ IsOk (decode_of (behind 58 (drop 1 payload.now)))
         → IsError reply.old.items reply.new.items) }
+    ensures sets_break { letter payload.now ≡ 90 → OnOk result (SetsBreak (drop 1 payload.now)
+        state.old.breaks state.new.breaks reply.old.items reply.new.items) }
+    ensures removes_break { letter payload.now ≡ 122 → OnOk result (RemovesBreak
+        (drop 1 payload.now) state.old.breaks state.new.breaks
+        reply.old.items reply.new.items) }
     ensures sets_bytes { letter payload.now ≡ 88 → OnOk result (SetsMemory
         (behind 58 (drop 1 payload.now)) (drop 1 payload.now)
         (state_in M.bytes M.writable executor.old) (state_in M.bytes M.writable executor.new)
         reply.old.items reply.new.items) }
+    ensures stopped { payload.now ≡ codes "?" → OnOk result
+        (reply.new.items ≡ reply.old.items ++ stop_text state.old.stop) }
+    ensures monitors { (digits command : List ℕ) → payload.now ≡ codes "qRcmd," ++ digits
+        → decode_of digits ≡ Ok command
+        → OnOk result (Monitors (before 32 command) (behind 32 command) state.old state.new
+        reply.old.items reply.new.items) }
+    ensures questions { letter payload.now ≡ 113
+        → ((digits : List ℕ) → payload.now ≢ codes "qRcmd," ++ digits)
+        → OnOk result (state.new ≡ state.old) }
     ensures reply { EndsNone payload.now → IfOk result (λ next. next ≡ Next.Reply) }
+    ensures ends { IfOk result (λ next. EndsBy payload.now next) }
 {
     answer_by_subject(runner, state, executor, environment, link, reply, payload)
 }

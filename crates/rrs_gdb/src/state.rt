@@ -1,9 +1,9 @@
 //! What a session keeps beside the machine.
 
-ghost use Rattle.std.specs.Prelude.{◌≡◌, ◌++◌, ◌∷◌, [], false, OnErr, OnOk};
+ghost use Rattle.std.specs.Prelude.{◌≡◌, ◌++◌, ◌∷◌, [], false, IfOk, OnErr, OnOk};
 ghost use Rattle.std.specs.Bool.{OnTrue, OnFalse};
 ghost use Rattle.std.specs.Fmt.{digits};
-ghost use Rattle.rrs_history.specs.Histories.{changes};
+ghost use Rattle.rrs_history.specs.Histories.{changes, room as room_of};
 ghost use Rattle.rrs_linux.specs.Recording.{Recording};
 ghost use Rattle.rrs_gdb.specs.Packets.{digits_of};
 ghost use Rattle.rrs_gdb.specs.Shown.{named_text, stop_text};
@@ -119,7 +119,9 @@ pub struct SessionState<'a> {
 }
 
 impl<'a> SessionState<'a> {
-    /// What a session begins with, for a program at a path and with an input.
+    /// What a session begins with, for a program at a path and with an input: it made no step, as
+    /// one that was trapped before its first (`begins`), its history is empty and has the room that
+    /// is set (`emptied`, `room`), and gdb asked for nothing (`asked`).
     ///
     /// # Errors
     ///
@@ -129,7 +131,20 @@ impl<'a> SessionState<'a> {
         settings: Settings,
         path: &'a [u8],
         input: &'a [u8],
-    ) -> Result<SessionState<'a>, AllocError> {
+    ) -> Result<SessionState<'a>, AllocError>
+        ensures settings { IfOk result (λ state. state.settings ≡ settings) }
+        ensures begins { IfOk result (λ state. (state.steps ≡ 0) × (state.stop ≡ Stop.Signal 5)
+            × (state.has_entered ≡ false) × (state.has_told_exit ≡ false)) }
+        ensures emptied { IfOk result (λ state. changes state.history ≡ []) }
+        ensures room { IfOk result (λ state. room_of state.history ≡ settings.history) }
+        ensures asked { IfOk result (λ state. (state.breaks.stops.items ≡ [])
+            × (state.breaks.watches.items ≡ []) × (state.caught.are_all ≡ false)
+            × (state.caught.numbers.items ≡ [])) }
+        ensures program { IfOk result (λ state. (state.path.now ≡ path.now)
+            × (state.input.now ≡ input.now)) }
+        ensures replies { IfOk result (λ state. (state.owes_stop ≡ false)
+            × (state.has_arguments ≡ false)) }
+    {
         Ok(SessionState {
             breaks: Breaks::new(alloc),
             history: History::new(alloc, settings.history)?,
@@ -202,6 +217,10 @@ impl<'a> SessionState<'a> {
     /// Out of memory. Then all is as it was.
     pub(crate) fn set_history(&mut self, alloc: Global, room: usize) -> Result<(), AllocError>
         ensures breaks { BreaksKept self.old self.new }
+        ensures set { OnOk result (self.new.settings
+            ≡ record self.old.settings { history = room }) }
+        ensures emptied { OnOk result (changes self.new.history ≡ []) }
+        ensures room { OnOk result (room_of self.new.history ≡ room) }
         ensures none { OnErr result (self.new ≡ self.old) }
     {
         let history = History::new(alloc, room)?;

@@ -1,6 +1,6 @@
 -- What is said of an answer, by the subject of the packet.
 use Rattle.std.proofs.Common.{refl}
-use Rattle.rrs_board_gdb.proofs.AnswerLemmas.{leaves_inspected, leaves_named, leaves_run, leaves_session, means_inspected, means_named_ok, means_run, means_session}
+use Rattle.rrs_board_gdb.proofs.AnswerLemmas.{ends_inspected, ends_named, ends_run, leaves_inspected, leaves_named, leaves_run, leaves_session, means_inspected, means_named_ok, means_run, means_session}
 use Rattle.rrs_board_gdb.proofs.session.answer_by_subject.Goals as goal
 
 pub returns-in-Some-clause-leaves : goal.returns-in-Some-clause-leaves
@@ -44,3 +44,13 @@ returns-in_ok-manage-in-Session-clause-leaves g c =
 pub returns-in_ok-manage-in-Session-clause-means : goal.returns-in_ok-manage-in-Session-clause-means
 returns-in_ok-manage-in-Session-clause-means g c =
     means_session _ _ _ _ _ c.in-Session.ensures c.manage.ensures.board c.in_default.ensures.found
+    c.in_ok-manage-in-Session.ensures.asks
+
+pub returns-in-Some-clause-ends : goal.returns-in-Some-clause-ends
+returns-in-Some-clause-ends g c = ends_named c.resume.result _ _ c.in-Some.ensures.found c.resume.ensures.reply
+
+pub returns-in-Run-clause-ends : goal.returns-in-Run-clause-ends
+returns-in-Run-clause-ends g c = ends_run c.go_on.result _ c.in-Run.ensures c.go_on.ensures.reply
+
+pub returns-in_ok-inspect-in-Inspected-clause-ends : goal.returns-in_ok-inspect-in-Inspected-clause-ends
+returns-in_ok-inspect-in-Inspected-clause-ends g c = ends_inspected _ c.in-Inspected.ensures

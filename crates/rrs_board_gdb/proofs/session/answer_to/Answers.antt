@@ -44,3 +44,16 @@ returns-clause-resumes g c = λ actions is.
 
 pub returns-clause-error : goal.returns-clause-error
 returns-clause-error g c = on_means _ _ _ _ _ _ c.answer_by_subject.ensures.means (λ m. m.error)
+
+pub returns-clause-sets_stop : goal.returns-clause-sets_stop
+returns-clause-sets_stop g c = λ is. on_means _ _ _ _ _ _ c.answer_by_subject.ensures.means (λ m. m.asks.sets_stop is)
+
+pub returns-clause-removes_stop : goal.returns-clause-removes_stop
+returns-clause-removes_stop g c = λ is.
+    on_means _ _ _ _ _ _ c.answer_by_subject.ensures.means (λ m. m.asks.removes_stop is)
+
+pub returns-clause-stopped : goal.returns-clause-stopped
+returns-clause-stopped g c = λ is. on_means _ _ _ _ _ _ c.answer_by_subject.ensures.means (λ m. m.asks.stopped is)
+
+pub returns-clause-ends : goal.returns-clause-ends
+returns-clause-ends g c = c.answer_by_subject.ensures.ends

@@ -8,7 +8,7 @@ use Rattle.rrs_gdb.proofs.numbers.number_of.Goals as goal
 pub returns-in_err-value : goal.returns-in_err-value
 returns-in_err-value c =
     let none : digit_value (slice_index c.args.digits.now c.loop-digit.digit-index) < 16 → ⊥ = search rules in
-    rw c.from_residual.ensures (λ is. none (digit_there c.args.digits.now _ is.0.1 c.loop-digit-test.true))
+    rw c.from_residual.ensures (λ is. none (digit_there 16 c.args.digits.now _ is.0.1 c.loop-digit-test.true))
 
 pub overflow_mul-number : goal.overflow_mul-number
 overflow_mul-number c =

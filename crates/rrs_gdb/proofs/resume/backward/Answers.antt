@@ -18,9 +18,9 @@ pub returns-then-not-is_behind_call-clause-back : goal.returns-then-not-is_behin
 returns-then-not-is_behind_call-clause-back g c =
     let i = c.legs.invariant in
     let back = c.go_back-back.result in
-    all_gone _ _ _ _ _ _ _ _ _ _ _ _ back.steps _ _ _ _ i.so_far (RunsBack _ back.steps _ _ _ back.end
+    all_gone _ _ _ _ _ _ _ _ _ _ _ _ back.steps _ _ _ _ _ i.so_far (RunsBack _ back.steps _ _ _ back.end
     (same_back _ _ _ _ _ _ _ _ _ _ back.end i.places.stops_kept i.places.watches_kept
-    c.go_back-back.ensures.back) c.if-not-is_behind_call.ensures.no refl) c.saturating_sub-state.ensures
+    c.go_back-back.ensures.back) c.if-not-is_behind_call.ensures.no refl c.stop_back.ensures) c.saturating_sub-state.ensures
 
 pub returns-then-is_stop-clause-back : goal.returns-then-is_stop-clause-back
 returns-then-is_stop-clause-back g c =
@@ -34,9 +34,9 @@ returns-then-is_stop-clause-back g c =
     (sym c.take_call_back.ensures.history)
     (back_to_call _ _ _ _ _ _ _ _ _ _ c.go_back-back.result.end i.places.stops_kept i.places.watches_kept
     c.if-not-is_behind_call.ensures.yes c.go_back-back.ensures.back) in
-    all_gone _ _ _ _ _ _ _ _ _ _ _ _ gone _ _ _ _ i.so_far (StopsBack _ gone _ _ _ back c.take_call_back.ensures.taken
+    all_gone _ _ _ _ _ _ _ _ _ _ _ _ gone _ _ _ _ _ i.so_far (StopsBack _ gone _ _ _ back c.take_call_back.ensures.taken
     (subst (λ (xs : List ℕ). Contains xs t.pc) (c.take_call_back.ensures.places.stops_kept ∙ i.places.stops_kept)
-    (rw c.deref.ensures.value at c.if-is_stop.ensures.yes))) (c.take_call_back.ensures.steps ∙ c.saturating_sub-state.ensures)
+    (rw c.deref.ensures.value at c.if-is_stop.ensures.yes)) refl) (c.take_call_back.ensures.steps ∙ c.saturating_sub-state.ensures)
 
 pub legs-preserved : goal.legs-preserved
 legs-preserved g c =
@@ -73,5 +73,5 @@ legs-preserved g c =
 pub returns-clause-back : goal.returns-clause-back
 returns-clause-back g c =
     let i = c.legs.invariant in
-    all_gone _ _ _ _ _ _ _ _ _ _ _ _ 0 _ _ _ _ i.so_far (nothing_back _ _ _ _ _ _ (omega (arith, c.legs-test.false)))
+    all_gone _ _ _ _ _ _ _ _ _ _ _ _ 0 _ _ _ _ _ i.so_far (nothing_back _ _ _ _ _ _ (omega (arith, c.legs-test.false)))
     (omega arith)

@@ -4,6 +4,7 @@ use Rattle.rrs_lib.specs.Executor.{state_in}
 use Rattle.rrs_gdb.specs.declared.state.Stop.{Stop}
 use Rattle.rrs_gdb.specs.declared.state.Stop.TheVariants.{Signal, Exited}
 use Rattle.rrs_gdb.specs.Sessions.{Around, Before, CallServed, Ends, Faults, PassesBefore, StopsBefore, around, asked_by, stopped_at}
+use Rattle.rrs_gdb.proofs.OutputLemmas.{none_before, printed_by_all, prints_call}
 use Rattle.rrs_gdb.proofs.SessionLemmas.{behind_call, call_made, call_served}
 use Rattle.rrs_gdb.proofs.resume.make_call.Goals as goal
 
@@ -69,3 +70,20 @@ returns-in-None-clause-made g c =
     (c.send_made.ensures.places.stops_kept ∙ c.stop_before.ensures.places.stops_kept) c.stop_behind.ensures.stop)
     (ap (λ (x : Around). x.entered) last)
     (ap (λ (x : Around). x.told_exit) last ∙ ap (λ (x : Around). x.told_exit) told ∙ ap (λ (x : Around). x.told_exit) passed.0)
+
+pub returns-in-Some-clause-printed : goal.returns-in-Some-clause-printed
+returns-in-Some-clause-printed g c = λ after.
+    let e = c.args.environment.now in
+    absurd (none_before _ _ (around c.stop_before.new.state e) _ c.in-Some.stop (c.in-Some.ensures.stop e) after)
+
+pub returns-in-Some-end-clause-printed : goal.returns-in-Some-end-clause-printed
+returns-in-Some-end-clause-printed g c = λ _.
+    let made = c.in-Ok.ensures.served.these in
+    prints_call g.W.Write.contents _ _ _ _ made.0 c.in-Ok.end _ _ _ _ _ _ _ c.stop_before.ensures.made
+    c.stop_before.ensures.sent made.1 c.in_ok-send_made.ensures.sent
+
+pub returns-in-None-clause-printed : goal.returns-in-None-clause-printed
+returns-in-None-clause-printed g c =
+    let made = c.in-Ok.ensures.served.these in
+    printed_by_all c.stop_behind.result _ (prints_call g.W.Write.contents _ _ _ _ made.0 c.in-Ok.end _ _ _ _ _ _ _
+    c.stop_before.ensures.made c.stop_before.ensures.sent made.1 c.in_ok-send_made.ensures.sent)

@@ -71,6 +71,12 @@ returns-clause-sets_memory g c = λ is. on_means _ _ _ _ c.answer_by_subject.ens
 pub returns-clause-sets_bytes : goal.returns-clause-sets_bytes
 returns-clause-sets_bytes g c = λ is. on_means _ _ _ _ c.answer_by_subject.ensures.means (λ m. m.sets.bytes is)
 
+pub returns-clause-sets_break : goal.returns-clause-sets_break
+returns-clause-sets_break g c = λ is. on_means _ _ _ _ c.answer_by_subject.ensures.means (λ m. m.asks.sets_break is)
+
+pub returns-clause-removes_break : goal.returns-clause-removes_break
+returns-clause-removes_break g c = λ is. on_means _ _ _ _ c.answer_by_subject.ensures.means (λ m. m.asks.removes_break is)
+
 pub returns-clause-no_values : goal.returns-clause-no_values
 returns-clause-no_values g c = λ is. on_means _ _ _ _ c.answer_by_subject.ensures.means (λ m. m.sets.no_values is)
 
@@ -87,3 +93,20 @@ returns-clause-error g c = λ other. on_means _ _ _ _ c.answer_by_subject.ensure
 
 pub returns-clause-reply : goal.returns-clause-reply
 returns-clause-reply g c = c.answer_by_subject.ensures.reply
+
+pub returns-clause-stopped : goal.returns-clause-stopped
+returns-clause-stopped g c = λ is. on_means _ _ _ _ c.answer_by_subject.ensures.means (λ m. m.asks.stopped is)
+
+pub returns-clause-monitors : goal.returns-clause-monitors
+returns-clause-monitors g c = λ digits command is decoded.
+    on_means _ _ _ _ c.answer_by_subject.ensures.means (λ m. m.asks.monitors digits command is decoded)
+
+pub returns-clause-questions : goal.returns-clause-questions
+returns-clause-questions g c = λ is other.
+    on_means _ _ _ _ c.answer_by_subject.ensures.means (λ m. m.asks.questions is other)
+
+pub returns-clause-ends : goal.returns-clause-ends
+returns-clause-ends g c = c.answer_by_subject.ensures.ends
+
+pub returns-clause-back_told : goal.returns-clause-back_told
+returns-clause-back_told g c = λ is. on_means _ _ _ _ c.answer_by_subject.ensures.means (λ m. m.returns.told is)

@@ -1,5 +1,5 @@
 -- One step, or as many as there are.
-use Rattle.std.proofs.Common.{◌≡◌, ◌-◌, ◌^◌, ℕ, subst}
+use Rattle.std.proofs.Common.{◌≡◌, ◌-◌, ◌^◌, ℕ, inl, inr, subst}
 use Rattle.rrs_lib.specs.Executor.{state_in}
 use Rattle.rrs_gdb.specs.Sessions.{SessionGoesBack}
 use Rattle.rrs_gdb.proofs.session.reverse.Goals as goal
@@ -32,7 +32,7 @@ returns-clause-step g c = λ is.
     let state = state_in g.M.Memory.bytes g.M.Memory.writable in
     let some = c.in-Some.ensures.step is in
     let one : c.in-Some.limit ≡ 1 = cc in
-    subst (λ (n : ℕ). SessionGoesBack n c.args.state.now c.args.environment.now (state c.args.executor.now)
+    subst (λ (n : ℕ). SessionGoesBack n c.backward-stop.result c.args.state.now c.args.environment.now (state c.args.executor.now)
     c.backward-stop.new.state c.backward-stop.new.environment (state c.backward-stop.new.executor)) one
     c.backward-stop.ensures.back
 
@@ -41,6 +41,12 @@ returns-clause-goes_back g c = λ is.
     let state = state_in g.M.Memory.bytes g.M.Memory.writable in
     let some = c.in-Some.ensures.goes_back is in
     let all : c.in-Some.limit ≡ 2 ^ 64 - 1 = cc in
-    subst (λ (n : ℕ). SessionGoesBack n c.args.state.now c.args.environment.now (state c.args.executor.now)
+    subst (λ (n : ℕ). SessionGoesBack n c.backward-stop.result c.args.state.now c.args.environment.now (state c.args.executor.now)
     c.backward-stop.new.state c.backward-stop.new.environment (state c.backward-stop.new.executor)) all
     c.backward-stop.ensures.back
+
+pub returns-in_default-clause-told : goal.returns-in_default-clause-told
+returns-in_default-clause-told g c = λ is. absurd (elim is as (λ _. ⊥) [
+  | inl at ↦ (let some = c.in_default.ensures.step at in cc)
+  | inr at ↦ (let some = c.in_default.ensures.goes_back at in cc)
+])
