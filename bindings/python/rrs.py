@@ -487,7 +487,8 @@ class Csrs:
     """The CSRs of a hart that has machine mode alone, as they are at reset.
 
     Each field of ``rrs_csrs`` is an attribute: ``csrs.mtvec = 0x80000100``. ``trapped`` is no CSR: it
-    is 1 where the latest step took a trap. A copy has CSRs of its own.
+    is 1 where the latest step took a trap. A copy has CSRs of its own, and the attributes that a
+    subclass added.
     """
 
     mstatus: int
@@ -519,17 +520,23 @@ class Csrs:
         return bool(_csr_write(self._pointer, _word_of(number), _word_of(value)))
 
     def __reduce__(self) -> tuple:
-        return _restored_csrs, (type(self), bytes(self._csrs))
+        return _restored_csrs, (type(self), bytes(self._csrs)), _added(self, "_csrs", "_pointer")
 
     def __repr__(self) -> str:
         return f"Csrs({', '.join(f'{name}=0x{getattr(self, name):x}' for name, _ in _Csrs._fields_)})"
 
 
 def _restored_csrs(kind, data):
-    """The CSRs that were copied, or pickled."""
-    csrs = kind()
+    """The CSRs that were copied, or pickled, of a class whose __init__ may be another."""
+    csrs = kind.__new__(kind)
+    Csrs.__init__(csrs)
     ctypes.memmove(csrs._pointer, data, len(data))
     return csrs
+
+
+def _added(value, *own):
+    """The attributes of a value that a copy does not make itself."""
+    return {name: each for name, each in vars(value).items() if name not in own}
 
 
 def _csr_field(name, kind):
@@ -1067,8 +1074,7 @@ class Machine:
 
     def __reduce__(self) -> tuple:
         own = (bytes(self._memory), self._base, bytes(self._hart))
-        others = {name: value for name, value in vars(self).items() if name not in _OWN}
-        return _restored, (type(self), *own), others
+        return _restored, (type(self), *own), _added(self, *_OWN)
 
     def __repr__(self) -> str:
         return f"Machine(pc=0x{self.pc:08x}, {len(self.memory)} words from 0x{self.base:08x})"

@@ -1,6 +1,7 @@
 """What the module does beside the calls of the library, which replay.py compares:
 `python3 test_rrs.py`."""
 
+import array
 import copy
 import doctest
 import faulthandler
@@ -8,11 +9,13 @@ import inspect
 import os
 import pickle
 import pydoc
+import re
 import shutil
 import struct
 import subprocess
 import sys
 import tempfile
+import threading
 import typing
 import unittest
 from pathlib import Path
@@ -58,7 +61,11 @@ class Loaded(Machine):
 
 
 class File(rrs.Csrs):
-    """CSRs of one's own."""
+    """CSRs of one's own, whose __init__ is another."""
+
+    def __init__(self, name, *, others=()):
+        super().__init__()
+        self.name, self.others = name, [*others]
 
 
 class Signal:
@@ -98,12 +105,50 @@ class Faces(Counted):
         self.assertEqual(registers[-31], 2**32 - 1)
         self.assertEqual(registers[:3], [0, 2**32 - 1, 0])
         self.assertEqual(registers[30:], [0, 2**31])
+        self.assertEqual((registers[::-10], registers[1:32:15]), ([2**31, 0, 0, 2**32 - 1], [2**32 - 1, 0, 2**31]))
+        self.assertEqual((sum(registers), [*reversed(registers)][0]), (2**32 - 1 + 2**31, 2**31))
+        self.assertEqual((2**31 in registers, 7 in registers), (True, False))
         self.assertEqual(repr(registers), repr([0, 2**32 - 1] + [0] * 29 + [2**31]))
         for index in (32, -33):
             self.assertRaises(IndexError, registers.__getitem__, index)
             self.assertRaises(IndexError, registers.__setitem__, index, 0)
         for value in (2**32, -(2**31) - 1):
             self.assertRaises(ValueError, registers.__setitem__, 1, value)
+        self.assertEqual(registers[1], 2**32 - 1)
+
+    def test_each_number_has_its_name_or_none(self):
+        for kind in rrs.Row:
+            self.assertEqual(rrs.row_name(kind), kind.name.lower())
+        for kind in rrs.Field:
+            self.assertEqual(rrs.field_name(kind), kind.name.lower())
+        abi = ("zero ra sp gp tp t0 t1 t2 s0 s1 a0 a1 a2 a3 a4 a5 a6 a7 s2 s3 s4 s5 s6 s7 s8 s9 s10 s11 "
+               "t3 t4 t5 t6").split()
+        self.assertEqual([rrs.register_name(number) for number in range(32)], abi)
+        faults = [Fault(kind, 0, 0).name for kind in FaultKind]
+        self.assertEqual(faults, ["illegal instruction", "fetch access fault", "load access fault",
+                                  "store access fault", "misaligned address", "environment call",
+                                  "breakpoint"])
+        for name in (rrs.row_name(0), rrs.row_name(49), rrs.register_name(32), rrs.register_name(-1),
+                     rrs.field_name(17), Fault(8, 0, 0).name):
+            self.assertIsNone(name)
+        self.assertEqual((len(rrs.Row), len(rrs.Field), rrs.field_name(0)), (48, 16, "same"))
+
+    def test_each_function_has_the_arguments_of_the_header(self):
+        types = {"void": None, "uint32_t": rrs._u32, "uint64_t": rrs._u64, "size_t": rrs._size,
+                 "uint32_t *": rrs._words, "char *": rrs.ctypes.c_char_p, "uint8_t *": rrs.ctypes.c_char_p}
+        for name in vars(rrs):
+            if isinstance(getattr(rrs, name), type(rrs.ctypes.Structure)) and name[0] == "_":
+                named = "rrs" + re.sub("([A-Z])", lambda letter: "_" + letter[0].lower(), name[1:])
+                types[named], types[f"{named} *"] = getattr(rrs, name), rrs.ctypes.POINTER(getattr(rrs, name))
+        named = re.findall(r"(\w+) (rrs_\w+)\((.*)\)", (Path(__file__).parents[1] / "functions").read_text())
+        used = {name: function for name, function in vars(rrs._lib).items() if name[:4] == "rrs_"}
+        for result, name, arguments in named:
+            kinds = [re.sub(r"^const |\w+$", "", each).strip() for each in arguments.split(", ")]
+            wanted = (types[result], *(types[kind] for kind in kinds if kind))
+            if name in used:
+                function = used.pop(name)
+                self.assertEqual((function.restype, *function.argtypes), wanted, name)
+        self.assertEqual(used, {})
 
     def test_wrong_arguments_are_refused(self):
         for arguments in (([0], 2), ([0], -(2**40)), ([2**32], 0), ([1, 2], 0, 1), ([0], 2**32),
@@ -141,6 +186,11 @@ class Faces(Counted):
             self.assertEqual(Machine(program).memory[:], [0x00108093, 0x73])
         for program in (bytearray(b"\1\2\3"), memoryview(b"\1\2\3\0")):
             self.assertEqual(Machine(program, size=3).memory[:], [0x00030201, 0, 0])
+        words = array.array("I", [1, 2, 3, 4])
+        for program, wanted in ((words, [1, 2, 3, 4]), (memoryview(words), [1, 2, 3, 4]),
+                                (memoryview(words)[::2], [1, 3]), (range(3), [0, 1, 2]), (b"", []),
+                                (memoryview(b"\1a\2a\3a\4a")[::2], [0x04030201])):
+            self.assertEqual(Machine(program).memory[:], wanted)
         for count in range(9):
             self.assertEqual(len(Machine(bytes(count)).memory), (count + 3) // 4)
         self.assertEqual(Machine([-1], 2**32 - 4, 2).memory[:], [2**32 - 1, 0])
@@ -155,6 +205,7 @@ class Faces(Counted):
         model, core = ([0] * 12 + [address, 0, mask, 0, 0] for address, mask in ((1, 1), (0, 2)))
         found = rrs.compare(model, core)
         self.assertEqual((found, rrs.compare(model, core, True)), ((rrs.Field.MEM_ADDR, 1, 0), None))
+        self.assertEqual((rrs.compare(model, core, 2), rrs.compare(model, core, by_words="yes")), (None, None))
         self.assertEqual(type(found.field), rrs.Field)
         self.assertEqual(rrs.disassemble(0x0000006F), "jal x0, 0x00000000")
         self.assertEqual((rrs.decode(-1), rrs.disassemble(-1)), (None, None))
@@ -213,6 +264,22 @@ class Faces(Counted):
             self.assertEqual(machine.pc, 16 + 4 * wanted[0])
             last = stores._replace(value=0) if limit == 5 else stores
             self.assertEqual(asked, [loads, last][: 2 if wanted[0] > 2 else int(limit > 1)])
+        for limit, steps, fault in ((0, 0, None), (2**64 - 1, 2, (FaultKind.FETCH_FAULT, 8, 0))):
+            asked.clear()
+            machine = Machine([load, store])  # from address 0
+            machine.registers[1], refused = 0x10000000, 0
+            self.assertEqual(machine.run(limit, access), (steps, fault, False))
+            self.assertEqual(len(asked), steps)
+        # the instruction behind a load is written while it is made, and one that ran before
+        machine = Machine([add, load, add, 0xFF5FF06F])  # .. j 0
+        machine.registers[1] = 0x10000000
+
+        def write(made):
+            machine.memory[0], machine.memory[2] = 0x00110113, 0x00310113  # addi x2, x2, 1; addi x2, x2, 3
+            return machine.pc
+
+        self.assertEqual(machine.run(6, write), (6, None, False))
+        self.assertEqual((machine.registers[1:3], machine.pc), ([0x10000001, 4], 8))
         machine = Machine([add, load], base=16)
         self.assertRaises(ZeroDivisionError, machine.run, 9, lambda made: 1 // 0)
         self.assertRaises(ValueError, machine.run, 9, lambda made: 2**32)
@@ -269,6 +336,7 @@ class Faces(Counted):
             help_of = pydoc.render_doc(public, renderer=pydoc.plaintext).replace("|", " ").split()
             self.assertIn(" ".join(public.__doc__.split()), " ".join(help_of))
             members = vars(public).values() if inspect.isclass(public) else [public]
+            self.assertTrue(all(each.__doc__ for each in members if isinstance(each, property)))
             for member in members:
                 function = member.fget if isinstance(member, property) else member
                 if not inspect.isfunction(function) or function.__module__ != "rrs":
@@ -304,6 +372,19 @@ class Faces(Counted):
         machine.memory[0], machine.memory[1:] = -1, [2**32 - 1, 0]
         self.assertEqual(machine.memory[:], [2**32 - 1, 2**32 - 1, 0])
         self.assertEqual(bytes(machine.memory), bytes(8 * [255] + 4 * [0]))
+        machine.memory[::2] = [5, -2]
+        self.assertEqual(machine.memory[::-1], [2**32 - 2, 2**32 - 1, 5])
+        self.assertEqual([*machine.memory], [5, 2**32 - 1, 2**32 - 2])
+        machine.memory[-1] = 6
+        for index, value in ((slice(0, 2), [1]), (slice(None), [1] * 4)):
+            with self.assertRaises(ValueError):
+                machine.memory[index] = value
+        for index in (3, -4):
+            with self.assertRaises(IndexError):
+                machine.memory[index] = 0
+        self.assertEqual(machine.memory[:], [5, 2**32 - 1, 6])
+        # machines of one size share a type, so that many of them cost little
+        self.assertTrue(type(machine.memory) is type(Machine([4], 8, 3).memory))
 
     def test_a_copy_shares_nothing(self):
         machine = Machine([0x00108093, 0x0000A103, 5], base=64)  # addi x1, x1, 1; lw x2, (x1)
@@ -325,6 +406,42 @@ class Faces(Counted):
             self.assertEqual((type(other), other.pc, other.registers[1]), (Board, 68, 1))
             self.assertEqual((other._sent, other._sent is board._sent), ([1], shared))
             self.assertEqual((other.run(1).fault.address, board.pc), (68, 68))
+
+    def test_a_copy_has_what_a_subclass_added(self):
+        board, file = Board(sent=[1]), File("first", others=[2])
+        board._csrs_of, board.run_limit, file.mcycle = file, 5, 2**40
+        ways = [copy.copy, copy.deepcopy] + [
+            lambda value, protocol=protocol: pickle.loads(pickle.dumps(value, protocol))
+            for protocol in range(pickle.HIGHEST_PROTOCOL + 1)]
+        for way in ways:
+            is_shared = way is copy.copy
+            other = way(file)
+            self.assertEqual((type(other), other.name, other.others, other.mcycle),
+                             (File, "first", [2], 2**40))
+            self.assertEqual(other.others is file.others, is_shared)
+            other.mcycle, other.name, other.more = 1, "second", 3
+            self.assertEqual((file.mcycle, file.name, hasattr(file, "more")), (2**40, "first", False))
+            self.assertEqual((other.write(0x340, 7), other.mscratch, file.mscratch), (True, 7, 0))
+            other = way(board)
+            self.assertEqual((type(other), other._sent, other.run_limit, other._csrs_of.mcycle),
+                             (Board, [1], 5, 2**40))
+            self.assertEqual(other._csrs_of is file, is_shared)
+            self.assertEqual((other.machine_step(other._csrs_of)[0].kind, other.pc, board.pc),
+                             (rrs.OutcomeKind.RETIRED, 68, 64))
+            file.mcycle = 2**40
+        # an attribute of its own leads back to it
+        board.own = file.own = board
+        self.assertTrue(copy.deepcopy(board).own is not board)
+        other = pickle.loads(pickle.dumps([file, board]))
+        self.assertTrue(other[0].own is other[1] and other[1]._csrs_of is other[0])
+
+    def test_each_answer_may_be_copied(self):
+        machine = Machine([0x00108093])
+        answers = [machine.step_rvfi(), machine.step_noted(), machine.run(1), rrs.decode(0x13),
+                   machine.machine_step(rrs.Csrs()), rrs.assemble("a: nop"), rrs.compare([0] * 17, [1] * 17)]
+        for answer in answers:
+            for other in (copy.deepcopy(answer), pickle.loads(pickle.dumps(answer))):
+                self.assertEqual((repr(other), type(other)), (repr(answer), type(answer)))
 
     def test_an_error_may_be_pickled(self):
         for error, text in (
@@ -379,10 +496,23 @@ class Faces(Counted):
             file.flush()
             machine = Machine.from_elf(file.name)
             larger = Machine.from_elf(file.name, size=4096)
-            smaller = Loaded.from_elf(file.name, size=1)
+            smaller = Loaded.from_elf(Path(file.name), size=1)
+            sizes = [len(Machine.from_elf(file.name.encode(), size).memory) for size in (0, 979, 980, 981)]
         self.assertEqual((machine.base, machine.pc, len(machine.memory)), (0x12000, 0x12F44, 980))
         self.assertEqual(machine.memory[976:], [*words, 0, 0])
         self.assertEqual((len(larger.memory), sum(machine.memory)), (4096, sum(words)))
+        self.assertEqual(sizes, [980, 980, 980, 981])
+        self.assertRaises(FileNotFoundError, Machine.from_elf, file.name)
+        # the segments stand in the file in another order than in memory, and the last ends a page
+        two = head[:44] + struct.pack("<H", 2) + head[46:] + struct.pack(
+            "<16I", 1, 148, 0x13000, 0, 8, 4096, 4, 4, 1, 148, 0x12F44, 0, 8, 8, 5, 4)
+        with tempfile.NamedTemporaryFile() as file:
+            file.write(two + body[64:])
+            file.flush()
+            other = Machine.from_elf(file.name)
+        self.assertEqual((other.base, len(other.memory), other.memory[0x3D1:0x403]),
+                         (0x12000, 2048, [*words, *[0] * 45, *words, 0]))
+        self.assertEqual(other.elf.function_at(0x12F44), ("f\udcff", 0, True))
         self.assertEqual(smaller.memory[:], machine.memory[:])
         self.assertIsNone(machine.elf.function_at(0x12F40))
         self.assertEqual(machine.elf.function_at(0x12F47), ("f\udcff", 3, True))
@@ -416,7 +546,6 @@ class Faces(Counted):
         self.assertEqual(repr(csrs.write(0xB00, 1)), "True")
         for other in (copy.copy(csrs), copy.deepcopy(csrs), pickle.loads(pickle.dumps(csrs))):
             self.assertEqual(repr(other), repr(csrs))
-            self.assertEqual(type(pickle.loads(pickle.dumps(File()))), File)
             other.mie = 8
             self.assertEqual((other.mie, csrs.mie, csrs.mcycle), (8, 0, 0xFFFFFFFF00000001))
         self.assertIn("mtvec=0xffffffff", repr(csrs))
@@ -470,6 +599,9 @@ class Assembling(Counted):
             ("_start", 4, 0x1000), ("loop", 5, 0x1008), ("text", 9, 0x1014)])
         self.assertEqual(rrs.assemble(SOURCE.encode(), 0x1000), program)
         self.assertEqual(rrs.assemble(""), rrs.Program(0, 0, b"", [], []))
+        self.assertEqual(rrs.assemble("", 8), rrs.Program(8, 8, b"", [], []))
+        self.assertEqual(rrs.assemble("nop\r\nmain: nop\r\n", 64)[:2], (64, 68))
+        self.assertEqual(rrs.assemble("nop\n_start: nop")[:2], (0, 4))
 
     def test_a_source_is_a_text_or_bytes(self):
         source, start = 'a: b: .ascii "é"', 2**32 - 4
@@ -575,6 +707,32 @@ class Libraries(Counted):
                     printed = self.run_over(library, lines)[1]
                     self.assertEqual(printed, f"{library or folder + '/librrs.so'}\n")
 
+    def test_it_is_the_same_for_each_user(self):
+        lines = ("import sys; sys.path.insert(0, '.')\nimport rrs, core_check\n"
+                 "machine = rrs.Machine(rrs.assemble('main: addi a0, a0, 1 # \\xe9\\n j main').bytes)\n"
+                 "machine.registers[10], csrs = 7, rrs.Csrs()\n"
+                 "class Port:\n value = 0\n"
+                 "class Dut:\n rvfi_valid = type('', (), {'value': 1})\n"
+                 " def __getattr__(self, name): return Port\n"
+                 "async def edge(): pass\n"
+                 "try: core_check.check_core(Dut(), edge, machine, csrs, 1).send(None)\n"
+                 "except AssertionError as error: print(machine.run(9).steps, machine.pc, error)\n")
+        wanted = ("9 0 record 0, pc 0x00000000: "
+                  "Difference(field=<Field.INSN: 2>, model=1377555, core=0)\n")
+        for flags in ((), ("-O",), ("-OO",), ("-I",), ("-X", "dev"), ("-X", "utf8=0"), ("-S", "-E")):
+            for more in ({}, {"LC_ALL": "C", "PYTHONIOENCODING": "ascii", "HOME": "/none"}):
+                run = subprocess.run([sys.executable, "-B", *flags, "-c", lines], capture_output=True, text=True,
+                                     env={**os.environ, **more}, check=False)
+                self.assertEqual((run.returncode, run.stdout, run.stderr), (0, wanted, ""))
+
+    def test_too_little_memory_is_an_error(self):
+        lines = ("import resource, rrs\n"
+                 "with open('/proc/self/statm') as file: most = int(file.read().split()[0]) * 4096 + 2**25\n"
+                 "resource.setrlimit(resource.RLIMIT_AS, (most, most))\n"
+                 "try: rrs.assemble('.zero 60000000')\n"
+                 "except MemoryError: print(len(rrs.assemble('.zero 1000').bytes))")
+        self.assertEqual(self.run_over(os.environ["RRS_LIBRARY"], lines), (0, "1000\n", ""))
+
     def test_an_unknown_kind_is_an_error(self):
         folder = os.environ["RRS_REFUSED"]
         for call in ("step()", "run(1)", "run_until([], 1)", "step_rvfi()", "complete(0, 0)",
@@ -599,7 +757,9 @@ def load_tests(loader, tests, pattern):
 
 if __name__ == "__main__":
     faulthandler.dump_traceback_later(300, exit=True)  # what hangs is told, and fails
+    lost = []  # a file that is not closed, say, which no test sees
+    sys.unraisablehook = lambda seen: lost.append(seen) or sys.__unraisablehook__(seen)
     run = unittest.main(exit=False)
     examples = sum(len(test.examples) for test in doctest.DocTestFinder().find(rrs))
     print(f"{Counted.made} comparisons, {examples} examples")
-    sys.exit(not run.result.wasSuccessful())
+    sys.exit(bool(lost) or not run.result.wasSuccessful())
