@@ -16,6 +16,14 @@ __attribute__((constructor(200))) static void construct_first(void)
     printf("a constructor of a higher priority\n");
 }
 
+static void prepare(void)
+{
+    constructed++;
+    printf("a function before the constructors\n");
+}
+
+__attribute__((section(".preinit_array"), used)) static void (*const before)(void) = prepare;
+
 static void at_exit(void)
 {
     printf("a function for exit\n");
