@@ -23,7 +23,7 @@ LATER = re.compile(
     r"s[ah][lr]x|adcx|adox|aes[a-z0-9]+|pclmulqdq|sha\d[a-z0-9]+|lddqu|mov(d|sh|sl)dup|"
     r"(h(add|sub)|addsub)p[sd]|p(shufb|hadd|hsub|abs|sign|alignr|maddubsw|mulhrsw)[a-z]*|"
     r"p(blendvb|blendw|cmpeqq|cmpgtq|extr[bdq]|insr[bdq]|max(sb|sd|uw|ud)|min(sb|sd|uw|ud)|mov[sz]x[a-z]+|"
-    r"mul(dq|ld)|packusdw|test|hminposuw|cmp[ei]str[im])|blendv?p[sd]|round[ps][sd]|dpp[sd]|"
+    r"mul(dq|ld)|ackusdw|test|hminposuw|cmp[ei]str[im])|blendv?p[sd]|round[ps][sd]|dpp[sd]|"
     r"insertps|extractps|mpsadbw|movntdqa|cmpxchg16b)\b")
 
 
