@@ -2,6 +2,7 @@
 `python3 test_rrs.py`."""
 
 import array
+import collections.abc
 import copy
 import doctest
 import faulthandler
@@ -112,6 +113,8 @@ class Faces(Counted):
         for index in (32, -33):
             self.assertRaises(IndexError, registers.__getitem__, index)
             self.assertRaises(IndexError, registers.__setitem__, index, 0)
+        registers[-32] = 9  # x0
+        self.assertEqual((registers[0], registers[1]), (0, 2**32 - 1))
         for value in (2**32, -(2**31) - 1):
             self.assertRaises(ValueError, registers.__setitem__, 1, value)
         self.assertEqual(registers[1], 2**32 - 1)
@@ -178,6 +181,16 @@ class Faces(Counted):
         ):
             self.assertRaises(ValueError, *call)
         self.assertEqual((machine.pc, machine.registers[:]), (0, [0] * 32))
+        for call, wanted in (
+            (lambda: setattr(machine, "pc", 2**32), "4294967296 is no number of 32 bits"),
+            (lambda: machine.run(-1), "limit -1 is no number of 64 bits"),
+            (lambda: machine.step_rvfi(2**64), "order 18446744073709551616 is no number of 64 bits"),
+            (lambda: Machine([1, 2], 0, 1), "a program of 2 words in 1 words of memory"),
+            (lambda: Machine([1], 6), "base is misaligned"),
+        ):
+            with self.assertRaises(ValueError) as raised:
+                call()
+            self.assertEqual(str(raised.exception), wanted)
         for value, word in ((-(2**31), 2**31), (-1, 2**32 - 1), (2**32 - 1, 2**32 - 1), (0, 0)):
             self.assertEqual(Machine([value]).memory[0], word)
 
@@ -238,6 +251,84 @@ class Faces(Counted):
         self.assertIsNone(machine.complete(load, 0))
         self.assertIsNone(machine.complete(load, -1))
         self.assertEqual((machine.registers[2], machine.pc, machine.last), (2**32 - 1, 8, 2))
+        fault, record = machine.complete_rvfi(load, None, 9)
+        self.assertEqual((fault, record.order, record.trap, record.mem_rmask), (refused, 9, 1, 0))
+        fault, record = machine.complete_rvfi(load, 0xFE, order=2**64 - 1)
+        self.assertEqual((fault, record.order, record.rd_wdata, record.mem_rdata),
+                         (None, 2**64 - 1, 2**32 - 2, 0xFE))
+        self.assertEqual(machine.complete_rvfi(store, 0)[1][12:], (0x10000004, 0, 15, 0, 0x10000000))
+
+    def test_a_jump_aside_faults_itself_where_instructions_have_32_bits(self):
+        for name, wanted in (("step_rvfi", None), ("step_rvfi_ialign32", (FaultKind.MISALIGNED, 2, 0))):
+            machine = Machine([0x0020006F])  # j 2
+            fault, record = getattr(machine, name)(3)
+            self.assertEqual((fault, record.order, record.trap, machine.pc), (wanted, 3, int(bool(wanted)),
+                                                                             0 if wanted else 2))
+            self.assertEqual(type(fault), Fault if wanted else type(None))
+
+    def test_a_step_of_machine_mode_tells_all(self):
+        # csrrw x2, mtvec, x1; csrrs x3, timeh, x0; ecall; csrrwi x0, mepc, 9
+        machine, csrs = Machine([0x30509173, 0xC81021F3, 0x00000073, 0x3414D073]), rrs.Csrs()
+        machine.registers[1], csrs.mie = 12, 0x80
+        kinds = rrs.OutcomeKind
+        for outcome, told, csr in (
+            ((kinds.RETIRED, 0, 0), (1, 0, 3, None), (0x305, 2**32 - 1, 2**32 - 3, 0, 12)),
+            ((kinds.RETIRED, 0, 0), (1, 0, 3, None), (0xC81, 2**32 - 1, 0, 1, 0)),
+            ((kinds.RAISED, 11, 0), (1, 0, 3, 11), (0, 0, 0, 0, 0)),
+            ((kinds.RETIRED, 0, 0), (1, 1, 3, None), (0x341, 0, 2**32 - 4, 0, 8)),
+        ):
+            found, record = machine.machine_step(csrs, 0x80, 5_000_000_000, 7)
+            self.assertEqual((found, record[1:5], record.csr), (outcome, told, csr))
+            self.assertEqual((record.retired.order, type(found.kind)), (7, kinds))
+        csrs.write(0x300, 8)
+        found, record = machine.machine_step(csrs, mip=0x80)
+        self.assertEqual((found, record[1:5], record.retired.insn),
+                         ((kinds.INTERRUPTED, 2**31 + 7, 0), (0, 0, 3, 2**31 + 7), 0))
+
+    def test_each_call_gives_what_its_types_say(self):
+        def is_of(value, hint):
+            parts, kind = typing.get_args(hint), typing.get_origin(hint)
+            if kind is typing.Union:
+                return any(is_of(value, part) for part in parts)
+            if kind is tuple:
+                return len(value) == len(parts) and all(map(is_of, value, parts))
+            if kind is list:
+                return isinstance(value, list) and all(is_of(each, parts[0]) for each in value)
+            if kind is collections.abc.Callable:
+                return callable(value)
+            if hint in (int, bytes) or kind is None:
+                return type(value) is hint or hint not in (int, bytes) and isinstance(value, hint)
+            return isinstance(value, kind) and all(is_of(each, parts[0]) for each in value)
+
+        machine, csrs = Machine([0x00108093] * 9), rrs.Csrs()
+        aside = Machine([0])
+        for call, *arguments in (
+            (Machine, [1]), (Machine, b"1234", 4, 9), (Machine, bytearray(4)), (Machine, memoryview(b"1234")),
+            (Machine, (1, 2)), (machine.step,), (aside.step,), (machine.step_rvfi, 1), (aside.step_rvfi,),
+            (machine.step_rvfi_ialign32, 1), (aside.step_rvfi_ialign32,), (machine.step_noted,),
+            (aside.step_noted,), (machine.undo, [0] * 7), (machine.run, 1), (aside.run, 1),
+            (machine.run, 1, lambda access: 0), (machine.run_until, {8}, 1), (machine.request, 0x2003),
+            (machine.request, 0x13), (machine.request, 0), (machine.complete, 0x13, 0), (machine.complete, 0, None),
+            (machine.complete_rvfi, 0x13, 0), (machine.complete_rvfi, 0, None), (machine.machine_step, csrs),
+            (aside.machine_step, csrs), (csrs.read, 0x300), (csrs.read, 0), (csrs.write, 0x300, 0),
+            (rrs.assemble, ""), (rrs.assemble, b"a: nop", 4), (rrs.decode, 0x13), (rrs.decode, 0),
+            (rrs.disassemble, 0x13), (rrs.disassemble, 0, 4), (rrs.row_name, 1), (rrs.row_name, 0),
+            (rrs.register_name, 1), (rrs.register_name, 32), (rrs.field_name, 1), (rrs.field_name, 99),
+            (rrs.compare, [0] * 17, [0] * 17), (rrs.compare, (0,) * 17, range(17), True),
+            (Fault(FaultKind.ECALL, 0, 0).cause, 0, 0x73),
+        ):
+            function = call.__init__ if inspect.isclass(call) else call
+            hints = typing.get_type_hints(function)
+            given = inspect.signature(call).bind(*arguments).arguments
+            result = call(*arguments)
+            for name, value in given.items():
+                self.assertTrue(is_of(value, hints[name]), (call, name, value))
+            self.assertTrue(inspect.isclass(call) or is_of(result, hints["return"]), (call, result))
+        for value in (machine, aside):
+            for name, member in vars(Machine).items():
+                if isinstance(member, property):
+                    hint = typing.get_type_hints(member.fget)["return"]
+                    self.assertTrue(name == "memory" or is_of(getattr(value, name), hint), name)
 
     def test_devices_are_asked_in_a_run(self):
         load, store, add = 0x00008103, 0x0020A223, 0x00108093  # lb x2, (x1); sw x2, 4(x1); addi
@@ -516,6 +607,7 @@ class Faces(Counted):
         self.assertEqual(smaller.memory[:], machine.memory[:])
         self.assertIsNone(machine.elf.function_at(0x12F40))
         self.assertEqual(machine.elf.function_at(0x12F47), ("f\udcff", 3, True))
+        self.assertEqual(machine.elf.function_at(0x12F48), ("f\udcff", 4, False))
         self.assertEqual(machine.elf.segments, [
             rrs.Segment(0, 0, 0, 0, 4), rrs.Segment(0x12F40, 13, 148, 8, 5)])
         self.assertEqual((type(smaller), copy.copy(smaller).elf is smaller.elf), (Loaded, True))
@@ -635,14 +727,24 @@ class Assembling(Counted):
 
         buffers = []
         make = rrs.ctypes.create_string_buffer
-        with mock.patch.object(rrs, "_assemble", look), mock.patch.object(
-            rrs.ctypes, "create_string_buffer", lambda size: buffers.append(make(size)) or buffers[-1]
-        ):
-            rrs.assemble(SOURCE)
-        room, memory = lent[0][3]._obj, buffers[0]
-        first = rrs.ctypes.addressof(memory)
-        self.assertEqual((len(lent), room.start % 16), (1, 0))
-        self.assertTrue(first <= room.start and room.start + room.size <= first + len(memory))
+        def behind(size):
+            """A buffer that begins so many bytes behind an address that is a multiple of 16."""
+            whole = make(size + 31)
+            begin = -rrs.ctypes.addressof(whole) % 16 + aside
+            buffers.append((rrs.ctypes.c_char * size).from_buffer(whole, begin))
+            return buffers[-1]
+
+        for aside in (0, 1, 8, 15):
+            lent.clear()
+            buffers.clear()
+            with mock.patch.object(rrs, "_assemble", look), mock.patch.object(
+                rrs.ctypes, "create_string_buffer", behind
+            ):
+                rrs.assemble(SOURCE)
+            room, memory = lent[0][3]._obj, buffers[0]
+            first = rrs.ctypes.addressof(memory)
+            self.assertEqual((len(lent), first % 16, room.start % 16), (1, aside, 0))
+            self.assertTrue(first <= room.start and room.start + room.size <= first + len(memory))
         self.assertEqual([len(part) for part in lent[0][4::2]], [*lent[0][5::2]])
 
     def test_mistakes_are_an_error(self):
