@@ -151,20 +151,23 @@ header_has() {
     "$room/layouts" | diff "$layouts" -
 }
 
-# The header alone is C of each standard, and C++, as they are and as GNU has them; and with a field of
-# another offset it is none.
+# The header alone, and included twice, is C of each standard, and C++, as they are and as GNU has them,
+# with all that a project may warn of; and with a field of another offset it is none.
 header_asserts() {
     local dialect language flags tried=0
+    local all='-Wconversion -Wsign-conversion -Wundef -Wshadow -Wcast-qual -Wredundant-decls'
+    local of_c='-Wstrict-prototypes -Wmissing-prototypes -Wold-style-definition -Wc++-compat'
+    local of_cc='-Wold-style-cast -Wuseless-cast -Wextra-semi -Wzero-as-null-pointer-constant'
     sed 's/offsetof(rrs_hart, pc) == 128/offsetof(rrs_hart, pc) == 124/' "$header" >"$room/wrong.h"
     ! cmp -s "$header" "$room/wrong.h" || return 1
     # the macro that asserts is the header's own
     ! gcc -std=c99 -E -dM -x c "$header" | grep -w RRS_ASSERT || return 1
     for dialect in c99 c11 c17 c2x c++98 c++11 c++17 c++20 gnu99 gnu17 gnu++17; do
-        language=c flags=$warnings
-        [[ $dialect != *++* ]] || language=c++
+        language=c flags="$warnings $all $of_c"
+        [[ $dialect != *++* ]] || language=c++ flags="$warnings $all $of_cc"
         [[ $dialect != gnu* ]] || flags='-Wall -Wextra -Werror'
         # shellcheck disable=SC2086 # the flags are words
-        gcc -std="$dialect" $flags -fsyntax-only -x "$language" "$header" || return 1
+        gcc -std="$dialect" $flags -fsyntax-only -include "$header" -x "$language" "$header" || return 1
         # shellcheck disable=SC2086 # the flags are words
         ! gcc -std="$dialect" $flags -fsyntax-only -x "$language" "$room/wrong.h" 2>"$room/wrong" ||
             return 1
@@ -189,20 +192,24 @@ encodes() {
 #include "encode.h"
 #include "rrs.h"
 int main(void) {
-    static const int32_t offsets[] = {2, 8, 16, 32, 1024, 2048, 4094, -4096};
-    uint32_t words[40];
+    uint32_t words[128];
     unsigned count = 0, i;
     words[count++] = r_type(0x20, 5, 1, 2, 3);
     words[count++] = r_type(1, 6, 29, 30, 31);
     words[count++] = i_type(0x13, 7, 31, 16, 0x7ff);
-    words[count++] = addi(1, 2, -2048);
-    words[count++] = load(5, 17, 18, -2);
     words[count++] = jalr(5, 6, 1);
     words[count++] = s_type(1, 3, 28, 0x55e);
-    words[count++] = s_type(2, 31, 1, -2048);
     words[count++] = u_type(0x37, 9, 0x80001fff);
-    for (i = 0; i < 8; i++) words[count++] = b_type(7, 4, 27, offsets[i]);
-    for (i = 0; i < 8; i++) words[count++] = jal(1, offsets[i] * (i < 5 ? 1 : 256));
+    for (i = 0; i < 5; i++) words[count++] = r_type(0, 0, 1u << i, 31 - (1u << i), 31);
+    for (i = 0; i < 12; i++) {
+        int32_t number = i < 11 ? (int32_t)1 << i : -2048;
+        words[count++] = addi(1, 2, number);
+        words[count++] = load(5, 17, 18, number);
+        words[count++] = s_type(2, 31, 1, number);
+    }
+    for (i = 1; i <= 12; i++) words[count++] = b_type(7, 4, 27, i < 12 ? (int32_t)1 << i : -4096);
+    for (i = 1; i <= 20; i++) words[count++] = jal(1, i < 20 ? (int32_t)1 << i : -(1 << 20));
+    for (i = 12; i < 32; i++) words[count++] = u_type(0x37, 9, (uint32_t)1 << i);
     for (i = 0; i < count; i++) {
         char text[RRS_TEXT_SIZE] = "";
         rrs_disassemble(words[i], 0x100000, text, sizeof text);
@@ -216,19 +223,22 @@ C
 sra x1, x2, x3
 rem x29, x30, x31
 andi x31, x16, 2047
-addi x1, x2, -2048
-lhu x17, -2(x18)
 jalr x5, 0x001(x6)
 sh x28, 1374(x3)
-sw x1, -2048(x31)
 lui x9, 0x80001000
 END
-        for number in 2 8 16 32 1024 2048 4094 -4096; do
-            printf 'bgeu x4, x27, 0x%08x\n' "$((0x100000 + number))"
+        for number in 1 2 4 8 16; do echo "add x$number, x$((31 - number)), x31"; done
+        for bit in {0..11}; do
+            number=$((bit < 11 ? 1 << bit : -2048))
+            printf '%s\n' "addi x1, x2, $number" "lhu x17, $number(x18)" "sw x1, $number(x31)"
         done
-        for number in 2 8 16 32 1024 $((2048 * 256)) $((4094 * 256)) $((-4096 * 256)); do
-            printf 'jal x1, 0x%08x\n' "$((0x100000 + number))"
-        done)
+        for bit in {1..12}; do
+            printf 'bgeu x4, x27, 0x%08x\n' "$((0x100000 + (bit < 12 ? 1 << bit : -4096)))"
+        done
+        for bit in {1..20}; do
+            printf 'jal x1, 0x%08x\n' "$((0x100000 + (bit < 20 ? 1 << bit : -(1 << 20))))"
+        done
+        for bit in {12..31}; do printf 'lui x9, 0x%08x\n' "$((1 << bit))"; done)
 }
 
 # Each example is built as people do it, with what a compiler has by itself.
