@@ -20,6 +20,12 @@ _start:
     sw x8, 16(x1)
     lw x8, empty
     sw x8, 20(x1)
+    lui x11, 0x10000 # the device: its status, and the second of its numbers
+    lw x12, 4(x11)
+    sw x12, 28(x1)
+    lw x12, 0(x11)
+    lw x12, 0(x11)
+    sw x12, 32(x1)
     addi x9, x0, 1
     la x10, tohost
 write_tohost:
@@ -38,7 +44,7 @@ word:
     .balign 16
     .globl begin_signature
 begin_signature:
-    .fill 7, 4, 0xdeadbeef
+    .fill 9, 4, 0xdeadbeef
     .globl end_signature
 end_signature:
 
