@@ -80,6 +80,16 @@ class Signal:
         return self._number
 
 
+WORDS = [0x00108093, 0x0000A103]  # addi x1, x1, 1; lw x2, (x1)
+# an executable: one segment that is not loaded, one of no bytes, and one of 13, of which the file has 8
+HEAD = struct.pack("<16sHHIIIIIHHHHHH", b"\x7fELF\1\1\1", 2, 243, 1, 0x12F44, 52, 192, 0, 52, 32, 3, 40, 3, 0)
+BODY = struct.pack("<16I", 4, 0, 0, 0, 0, 0, 4, 4, 1, 0, 0, 0, 0, 0, 4, 4)
+BODY += struct.pack("<8I", 1, 148, 0x12F40, 0, 8, 13, 5, 4) + struct.pack("<2I", *WORDS)
+# a function whose name is no UTF-8
+BODY += struct.pack("<16xIIIBBH4s", 1, 0x12F44, 4, 0x12, 0, 1, b"\0f\xff")
+BODY += struct.pack("<40x20I", 0, 2, 0, 0, 156, 32, 2, 1, 4, 16, 0, 3, 0, 0, 188, 4, 0, 0, 1, 0)
+
+
 class Faces(Counted):
     def test_faults_and_ends_are_shown(self):
         shown = {
@@ -573,15 +583,7 @@ class Faces(Counted):
             self.assertEqual((record.order, record.insn), (5, 0x00108093))
 
     def test_an_executable_is_loaded_where_it_says(self):
-        words = [0x00108093, 0x0000A103]  # addi x1, x1, 1; lw x2, (x1)
-        head = struct.pack("<16sHHIIIIIHHHHHH", b"\x7fELF\1\1\1", 2, 243, 1, 0x12F44, 52, 192, 0, 52,
-                           32, 3, 40, 3, 0)
-        # one that is not loaded, one of no bytes, and one of 13, of which the file has 8
-        body = struct.pack("<16I", 4, 0, 0, 0, 0, 0, 4, 4, 1, 0, 0, 0, 0, 0, 4, 4)
-        body += struct.pack("<8I", 1, 148, 0x12F40, 0, 8, 13, 5, 4) + struct.pack("<2I", *words)
-        # a function whose name is no UTF-8
-        body += struct.pack("<16xIIIBBH4s", 1, 0x12F44, 4, 0x12, 0, 1, b"\0f\xff")
-        body += struct.pack("<40x20I", 0, 2, 0, 0, 156, 32, 2, 1, 4, 16, 0, 3, 0, 0, 188, 4, 0, 0, 1, 0)
+        words, head, body = WORDS, HEAD, BODY
         with tempfile.NamedTemporaryFile() as file:
             file.write(head + body)
             file.flush()
@@ -624,6 +626,31 @@ class Faces(Counted):
         with self.assertRaises(rrs.ElfError) as caught:
             machine.elf.load(Machine([0], base=0x12F40))
         self.assertEqual((caught.exception.refusal, caught.exception.number), ("NOT_IN_WORDS", 0x12F44))
+
+    def test_each_refusal_of_an_executable_is_told(self):
+        cut, named = len(HEAD + BODY), set()
+        for at, size, value, *wanted in (
+            (0, 1, 0, "NOT_ELF"), (4, 1, 2, "CLASS", 2), (5, 1, 2, "BYTE_ORDER", 2),
+            (6, 1, 9, "IDENT_VERSION", 9), (16, 2, 3, "POSITION_INDEPENDENT"), (16, 2, 1, "NOT_EXECUTABLE", 1),
+            (18, 2, 62, "MACHINE", 62), (20, 4, 2, "VERSION", 2), (36, 4, 1, "COMPRESSED_CODE"),
+            (36, 4, 2, "FLOATING_POINT"), (36, 4, 8, "EMBEDDED"), (42, 2, 31, "PROGRAM_HEADER_SIZE", 31),
+            (44, 2, 257, "TOO_MANY_PROGRAM_HEADERS"), (28, 4, cut - 95, "PROGRAM_HEADERS_CUT_SHORT"),
+            (84, 4, 3, "INTERPRETER", 1), (120, 4, cut - 7, "SEGMENT_CUT_SHORT", 2),
+            (136, 4, 7, "SEGMENT_SIZES", 2), (124, 4, 2**32 - 12, "SEGMENT_PAST_LAST_ADDRESS", 2),
+            (104, 4, 2**17, "SEGMENTS_OVERLAP", 1, 2), (24, 4, 0x12F46, "ENTRY_MISALIGNED", 0x12F46),
+            (24, 4, 0x12F50, "ENTRY_OUTSIDE", 0x12F50), (51, 1, None, "HEADER_CUT_SHORT"),
+        ):
+            file = bytearray(HEAD + BODY)
+            file[at:at + size if value is not None else cut] = (value or 0).to_bytes(
+                size if value is not None else 0, "little")
+            with self.assertRaises(rrs.ElfError) as caught:
+                rrs.Elf(file)
+            refusal, number, other = (*wanted, 0, 0)[:3]
+            error = caught.exception
+            self.assertEqual((error.refusal, error.number, error.other, str(error)),
+                             (refusal, number, other, f"{refusal} {number} {other}"))
+            named.add(refusal)
+        self.assertEqual(named, {refusal.name for refusal in rrs._ElfRefusal})
 
     def test_csrs_begin_at_reset_and_a_copy_shares_nothing(self):
         csrs = rrs.Csrs()
