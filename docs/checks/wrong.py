@@ -1,5 +1,6 @@
 """A small repository with one thing wrong in its pages, which the check must tell."""
 
+import os
 import re
 import shutil
 import subprocess
@@ -71,6 +72,17 @@ COMMANDS = [
     ("```sh\nfalse\n```\n\n```sh\ntrue\n```\n", 1,
      "$ false\n== status 1\nanother block\n$ true\n== status 0\n"),
     ("```sh\ntest 1 = \\\n    2\n```\n", 1, "$ test 1 = \\\n    2\n== status 1\n"),
+    # what goes on over lines, and what one command leaves to the next, but not to another block
+    ("```sh\nfor word in one two; do\n    echo $word\ndone\ncat <<END\nfalse\nEND\n```\n", 0,
+     "$ for word in one two; do\n    echo $word\ndone\none\ntwo\n== status 0\n"
+     "$ cat <<END\nfalse\nEND\nfalse\n== status 0\n"),
+    ("```sh\ncd docs && own=1\necho $own; ls\n```\n\n```sh\necho \"$own\" >&2\nread -r line\nls docs\n```\n", 1,
+     "$ cd docs && own=1\n== status 0\n$ echo $own; ls\n1\nOTHER.md\n== status 0\nanother block\n"
+     "$ echo \"$own\" >&2\n\n== status 0\n$ read -r line\n== status 1\n$ ls docs\nOTHER.md\n== status 0\n"),
+    # the clone has the outputs, and the times of the files
+    ("```sh\ncat crates/one/out/made\nfind crates -name lib.rt ! -newermt 2002-01-01\npwd | grep -o clone\n```\n", 0,
+     "$ cat crates/one/out/made\nmade\n== status 0\n$ find crates -name lib.rt ! -newermt 2002-01-01\n"
+     "crates/one/src/lib.rt\n== status 0\n$ pwd | grep -o clone\nclone\n== status 0\n"),
     ("<!-- not run: it fails -->\n```sh\nfalse\n```\n\n```text\nfalse\n```\n", 0, ""),
 ]
 
@@ -116,6 +128,11 @@ def self_test(root):
             path.write_text(text)
             if status != 1 or wanted not in said or text.count(old) == 0:
                 missed.append(f"{file}: {new!r} for {old!r}: status {status}, {said}")
+        subprocess.run([*own, "add", "docs/OTHER.md", "crates"], check=True)
+        subprocess.run([*own, "commit", "--quiet", "-m", "Add what the clone has"], check=True)
+        os.utime(folder / "crates/one/src/lib.rt", (1e9, 1e9))
+        (folder / "crates/one/out").mkdir()
+        (folder / "crates/one/out/made").write_text("made\n")
         for text, *wanted in COMMANDS:
             told = told_of_commands(folder, text)
             if [*told] != wanted:
