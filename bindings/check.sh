@@ -605,13 +605,15 @@ SH
     try "python: the structs and constants are those of rrs.h" python_has_layouts
 }
 
-# Tools that answer as is stored; that print more, end otherwise, run fewer tests, or compare less. Each
-# try that looks at this must fail: right, more, ended, fewer, uncompared or unshown
+# Tools that answer as is stored; that print more, or an empty line, end otherwise, run fewer tests, or
+# compare less. Each try that looks at this must fail: right, more, blank, ended, fewer, uncompared or
+# unshown
 wrong_tools() {
     local wanted
     case $1 in
     right) wanted=0 && over_tools 0 ;;
     more) wanted=5 && over_tools 0 "echo more" ;;
+    blank) wanted=5 && over_tools 0 echo ;;
     ended) wanted=7 && over_tools 1 ;;
     fewer) wanted=1 && over_tools 0 "" 1 ;;
     uncompared) wanted=1 && over_tools 0 "" 0 1 ;;
@@ -675,7 +677,7 @@ wrong() {
 # Each wrong subject must be seen, and the right one must pass.
 self_test() {
     local what status tried=0
-    for what in nothing right more ended fewer uncompared unshown answers lines talks takes unwritten \
+    for what in nothing right more blank ended fewer uncompared unshown answers lines talks takes unwritten \
         layouts assertions asserted functions version comma words names asks state zeros tries \
         $wrong_calls; do
         status=0
@@ -694,7 +696,7 @@ self_test() {
         *) echo "not seen: $what is wrong" && failed=1 ;;
         esac
     done
-    [ "$tried" = 41 ] || { echo "$tried subjects, and there must be 41" && failed=1; }
+    [ "$tried" = 42 ] || { echo "$tried subjects, and there must be 42" && failed=1; }
     echo "self-test: status $failed"
     exit "$failed"
 }
@@ -702,7 +704,7 @@ self_test() {
 case "$*" in
 "") all ;;
 --self-test) self_test ;;
---wrong\ right | --wrong\ more | --wrong\ ended | --wrong\ fewer | --wrong\ un[cs]*)
+--wrong\ right | --wrong\ more | --wrong\ blank | --wrong\ ended | --wrong\ fewer | --wrong\ un[cs]*)
     wrong_tools "$2"
     ;;
 --wrong\ *) wrong "$2" ;;
