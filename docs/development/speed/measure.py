@@ -1,26 +1,31 @@
 #!/usr/bin/env python3
-"""Measures `rrs run --quiet` beside interpreters in C, and prints a table.
+"""Counts what a step takes, and compares the counts with those that are stored.
 
-usage: measure.py [--counts] [--calls] [--rounds N] [--frame] [--save] [--draw]
-           [--peer NAME=BINARY] .. [FILE ..]
+usage: measure.py [--check | --save | --seconds [--rounds N] | --draw | --self-test]
+           [--peer NAME=BINARY] .. [--only WORD]
 
-Each FILE is a raw program, run from address 0 on to its end; without one they are the programs in
-programs/, which gcc made. Beside these there are programs made here: a loop of so many
-different words, and one that changes a word of itself in each turn. The numbers are the least user
-time of the rounds, which take turns, in seconds; with --counts, machine instructions a step by
-valgrind, as the difference of two limits. A peer is called as BINARY FILE LIMIT, and prints
-"steps" with their number; all have to make the same number of steps.
+Counts are machine instructions a step, by valgrind: the difference of two runs, of which one makes
+more steps. What is counted are the programs of this repository over those in programs/, which gcc
+made, and over loops made here; and interpreters in C, which gcc and clang build. Seconds are the
+least user and system time of the rounds, which take turns, of programs to their end; what takes
+more than two seconds is run once.
 
-With --frame the seconds of Unicorn are printed, which is QEMU as a library and compiles what it
-runs (Debian's python3-unicorn), for each FILE, to its end. With --save the numbers are written to numbers.tsv beside this script, seconds or counts;
-with --draw the chart of what stands there is drawn by gnuplot, counts.svg and seconds.svg.
+With no option the tables are counted and printed. With --check our own rows are counted, and
+compared with those in numbers.tsv: one that is more than 5 % above fails, by name. The stored ones
+are of one toolchain: where `rt version` says another, this is said, and numbers.tsv gets the new
+ones. Then it is seen whether the tables in docs/SPEED.md are those of numbers.tsv. With --save the
+counts, and with --seconds the seconds, are stored, and the tables written. --draw draws the charts
+by gnuplot. With --self-test the watch is tried: over the crates as plain Rust, which build without a
+proof, a call that is not inlined and a cache that is cleared at each run have to be found.
 
-With --calls the machine instructions a step are those of the library for C, which `.ci/built library`
-builds, called from C in a loop: in one call, and in calls of so many steps.
+A peer is called as BINARY FILE LIMIT, prints "steps" with their number, and stands in the table of
+seconds as a column more. QEMU's qemu-riscv32 and Unicorn stand there where they are installed.
 
-It needs gcc, clang where it is there, and rrs built: `.ci/built program rrs` builds it.
+The status is 0 where all is so, 1 where something is not, and 2 where something is missing, or
+the counts are of another toolchain.
 """
 import argparse
+import concurrent.futures
 import glob
 import os
 import re
@@ -32,16 +37,26 @@ import sys
 import tempfile
 
 HERE = os.path.dirname(os.path.abspath(__file__))
-CRATE = os.path.join(HERE, "..", "..", "..", "crates", "rrs")
-LIMIT = 20_000_000
+ROOT = os.path.normpath(os.path.join(HERE, "..", "..", ".."))
 NUMBERS = os.path.join(HERE, "numbers.tsv")
+PAGE = os.path.join(ROOT, "docs", "SPEED.md")
+PROGRAMS = sorted(glob.glob(os.path.join(HERE, "programs", "*.bin")))
+ALL = 900_000_000
+WITHIN = 1.05
+LONG = 2
 PEERS = [
     ("C, decoding", "gcc", "interpreter.c", ["-std=c99"]),
     ("C, a table", "gcc", "interpreter.c", ["-std=c99", "-DKEEPS"]),
     ("C, a table, clang", "clang", "interpreter.c", ["-std=c99", "-DKEEPS"]),
+    ("ccache.c", "gcc", "ccache.c", ["-std=gnu99", "-w"]),
     ("C, computed goto", "gcc", "threaded.c", ["-std=gnu99", "-w", "-DGOTO"]),
 ]
+RRS = os.path.join(ROOT, "crates", "rrs", "out", "rrs")
+SPEED = os.path.join(ROOT, "crates", "tests_speed", "out", "tests_speed")
+PLAIN = os.path.join(ROOT, "built", "rust", "target", "release")
 
+
+# ---- programs made here
 
 def addi(rd, rs1, immediate):
     return (immediate & 0xfff) << 20 | rs1 << 15 | rd << 7 | 0x13
@@ -52,10 +67,16 @@ def jal(offset):
             | offset & 0xff000 | 0x6f)
 
 
+def auipc(rd, offset):
+    """The two words of a jump to an address that lies so far from the first."""
+    high = (offset + 0x800) & ~0xfff
+    return [high & 0xfffff000 | rd << 7 | 0x17, ((offset - high) & 0xfff) << 20 | rd << 15 | 0x67]
+
+
 def loop_of(count):
-    """A loop of so many different words: additions to x5 to x31, and a jump."""
-    words = [addi(5 + n % 27, 5 + n % 27, 1 + n // 27) for n in range(count - 1)]
-    return [*words, jal(-4 * (count - 1))]
+    """A loop of so many different words: additions to x6 to x31, and a jump."""
+    words = [addi(6 + n % 26, 6 + n % 26, 1 + n // 26 & 0x7ff) for n in range(count - 2)]
+    return [*words, *auipc(5, -4 * (count - 2))]
 
 
 def changing():
@@ -64,82 +85,298 @@ def changing():
     return [first, 0x0200_2303, 0x0000_2383, 0x0060_2023, 0x0270_2023, jal(-20), 0, 0, second]
 
 
-def built(room):
-    rrs = os.path.join(CRATE, "out", "rrs")
-    if not os.access(rrs, os.X_OK):
-        sys.exit("measure.py: build rrs first: .ci/built program rrs")
-    binaries = {"rrs run --quiet": [rrs, "run", "--quiet"]}
+def executable(code, base=0, size=65536):
+    """An executable of one segment, whose pages may be read, written and executed."""
+    head = b"\x7fELF\1\1\1" + bytes(9) + struct.pack(
+        "<HHIIIIIHHHHHH", 2, 243, 1, base, 52, 0, 0, 52, 32, 1, 40, 0, 0)
+    segment = struct.pack("<IIIIIIII", 1, 4096, base, base, len(code), max(size, len(code)), 7, 4096)
+    return (head + segment).ljust(4096, b"\0") + code
+
+
+def mixed_loop():
+    """A loop of additions, loads, stores, a branch and a product, which runs at any address."""
+    return [
+        0x0000_1417,  # auipc x8, 1
+        0x0004_2283,  # lw x5, 0(x8)
+        addi(5, 5, 1),
+        0x0054_2023,  # sw x5, 0(x8)
+        0x0053_0333,  # add x6, x6, x5
+        0x0063_c3b3,  # xor x7, x7, x6
+        0x0033_d493,  # srli x9, x7, 3
+        0x0004_9463,  # bne x9, x0, 8
+        addi(10, 10, 1),
+        0x0273_05b3,  # mul x11, x6, x7
+        0x0014_4603,  # lbu x12, 1(x8)
+        0x00c4_02a3,  # sb x12, 5(x8)
+        jal(-44),
+    ]
+
+
+def packets(limit, history=None):
+    """What gdb would send for a continue of so many steps."""
+    wanted = [f"limit {limit}"] + ([] if history is None else [f"history {history}"])
+    texts = ["qRcmd," + word.encode().hex() for word in wanted] + ["c", "k"]
+    return "".join(f"+${text}#{sum(text.encode()) % 256:02x}" for text in texts).encode()
+
+
+# ---- counting
+
+class Missing(Exception):
+    """What is not there."""
+
+
+def want(*packages):
+    """Has programs there, each given with its package of Debian."""
+    said = subprocess.run([os.path.join(ROOT, ".ci", "tools"), *packages], stdout=subprocess.PIPE,
+                          text=True, check=False)
+    if said.returncode:
+        raise Missing(said.stdout.strip())
+
+
+def counted(words, said=b""):
+    """The machine instructions of a run, and what it printed."""
+    valgrind = ["valgrind", "--tool=callgrind", "--callgrind-out-file=/dev/null"]
+    ran = subprocess.run([*valgrind, *words], input=said, stdout=subprocess.PIPE,
+                         stderr=subprocess.PIPE)
+    errors = ran.stderr.decode(errors="replace")
+    return int(re.findall(r"Collected : (\d+)", errors)[-1]), ran.stdout.decode(errors="replace")
+
+
+class Count:
+    """A cell of a table: what a step takes, by two runs that make this many steps."""
+
+    def __init__(self, command, few=20_000, many=40_000, said=None, is_own=True):
+        self.command, self.few, self.many = command, few, many
+        self.said, self.is_own = said or (lambda steps: b""), is_own
+
+    def number(self):
+        (low, few), (high, many) = (self.run(steps) for steps in (self.few, self.many))
+        if many <= few:
+            raise SystemExit(f"measure.py: too short: {self.command(self.many)}")
+        return f"{(high - low) / (many - few):.1f}"
+
+    def run(self, steps):
+        taken, text = counted(self.command(steps), self.said(steps))
+        told = re.search(r"steps (\d+)", text)
+        return taken, int(told.group(1)) if told else steps
+
+
+def name_of(file):
+    return os.path.basename(file).removesuffix(".bin")
+
+
+def made(room, name, content):
+    """Writes a file, and gives its path."""
+    path = os.path.join(room, re.sub(r"[^\w.]+", "-", name))
+    with open(path, "wb") as out:
+        out.write(content)
+    return path
+
+
+def words_of(words):
+    return struct.pack(f"<{len(words)}I", *words)
+
+
+def built_peers(room):
+    """The interpreters in C."""
+    peers = {}
+    want("gcc=gcc", "clang=clang")
     for name, compiler, source, flags in PEERS:
-        if not shutil.which(compiler):
-            print(f"measure.py: {name} is not compared: there is no {compiler}", file=sys.stderr)
-            continue
-        binary = os.path.join(room, name.replace(", ", "-").replace(" ", "-"))
-        subprocess.run([compiler, "-O3", *flags, "-o", binary, os.path.join(HERE, source)],
+        peers[name] = os.path.join(room, re.sub(r"\W+", "-", name))
+        subprocess.run([compiler, "-O3", *flags, "-o", peers[name], os.path.join(HERE, source)],
                        check=True)
-        binaries[name] = [binary]
-    return binaries
+    return peers
 
 
-# The calls of calls.c, and how many steps each makes. Between two numbers of steps the difference
-# of the counts is taken.
-CALLS = [("step", 1), ("run", LIMIT), ("run", 5000), ("run", 2000), ("run", 100),
-         ("run_cached", LIMIT), ("run_cached", 1000), ("run_cached", 100), ("run_cached", 10),
-         ("run_until", LIMIT), ("run_until_cached", LIMIT), ("run_until_cached", 100)]
+def by_program(command, **more):
+    """A row with a cell for each program."""
+    return {name_of(file): Count(command(file), **more) for file in PROGRAMS}
 
 
-def calls(files, room):
-    """Prints what a step takes by each call of the library for C."""
-    library = os.path.join(CRATE, "..", "rrs_c")
+def interpreters(room, with_peers):
+    """`rrs run --quiet` beside the interpreters in C."""
+    files = {name_of(file): file for file in PROGRAMS}
+    for count in (500, 12_000):
+        name = f"a loop of {count:,} words"
+        files[name] = made(room, f"loop{count}.bin", words_of(loop_of(count)))
+    files["a word changed in each turn"] = made(room, "changing.bin", words_of(changing()))
+    rows = {}
+    for name, file in files.items():
+        rows[name] = {"rrs run --quiet": Count(lambda n, f=file: [RRS, "run", "--quiet", f, str(n)])}
+        for peer, binary in (built_peers(room) if with_peers else {}).items():
+            rows[name][peer] = Count(lambda n, b=binary, f=file: [b, f, str(n)], is_own=False)
+    return rows
+
+
+def commands(room, with_plain):
+    """What people run, and the same as plain Rust, which `rust/build` makes."""
+    raw = made(room, "a mixed loop.bin", words_of(mixed_loop()))
+    elf = {}
+    for file in [*PROGRAMS, raw]:
+        with open(file, "rb") as code:
+            elf[file] = made(room, name_of(file), executable(code.read()))
+    board = made(room, "board", executable(words_of(mixed_loop()), 0x8000_0000))
+
+    def by_program(command, **more):
+        columns = {name_of(file): Count(command(file), **more) for file in PROGRAMS}
+        return {**columns, "a mixed loop": Count(command(raw), **more)}
+
+    def run(word, *more):
+        return lambda file: lambda n: [RRS, word, "--limit", str(n), *more, elf[file]]
+
+    def gdb(file):
+        return lambda n: [RRS, "gdb", elf[file]]
+
+    def quiet(rrs):
+        return lambda file: lambda n: [rrs, "run", "--quiet", file, str(n)]
+
+    nowhere = ("--output", "/dev/null")
+    plain = os.path.join(PLAIN, "rrs")
+    return {
+        **({"`rrs run --quiet` as plain Rust": by_program(quiet(plain), is_own=False)}
+           if with_plain and os.path.exists(plain) else {}),
+        "`rrs run --quiet`": by_program(quiet(RRS)),
+        "`rrs run`": by_program(lambda file: lambda n: [RRS, "run", file, str(n)]),
+        "`rrs exec`": by_program(run("exec")),
+        "`rrs gdb`: `continue` without a history": by_program(gdb, said=lambda n: packets(n, 0)),
+        "`rrs gdb`: `continue` with one": by_program(gdb, said=packets),
+        "`rrs board`": {"a mixed loop": Count(lambda n: [RRS, "board", "--limit", str(n), board])},
+        "`rrs cover`": by_program(run("cover", *nowhere)),
+        "`rrs trace`": by_program(run("trace", *nowhere)),
+    }
+
+
+def ways(_, __):
+    """The public calls in a loop, each in one call, and in calls of so many steps."""
+    def way(word, piece=ALL):
+        return by_program(lambda file: lambda n: [SPEED, word, file, str(n), str(piece)])
+
+    return {
+        "`step`": way("step"),
+        "`step_retired`, all fields used": way("retired"),
+        "`step_recorded`": way("recorded"),
+        "`run_cached` in one call": way("cached"),
+        "`run_cached` in calls of 100": way("cached", 100),
+        "`run_cached` in calls of 10": way("cached", 10),
+        "`run_until_cached` with 4 stops that are not met": way("until"),
+        "`run_until_cached` with 64": way("until64"),
+        "`run_until_cached` with 4, in calls of 100": way("until", 100),
+        "`run_before` with `ALIGNED` and 4 stops": way("before"),
+        "`run_aligned`": way("aligned"),
+        "`DecodeCache::run` in one call": way("decoding"),
+        "`run_cached` over a `MemorySpace`": way("space"),
+    }
+
+
+def sizes(room, _):
+    """`rrs exec` over loops that are as large as this."""
+    rows = {}
+    for kib in (1, 62, 160, 250, 1024, 4096):
+        words = kib * 256
+        file = made(room, f"code{kib}", executable(words_of(loop_of(words)), size=words * 4 + 65536))
+        turns = max(1, 20_000 // words)
+        rows[f"{kib:,} KiB"] = {"`rrs exec`": Count(
+            lambda n, f=file: [RRS, "exec", "--limit", str(n), f], 2 * turns * words,
+            3 * turns * words)}
+    return rows
+
+
+# The calls of calls.c, and how many steps each makes.
+CALLS = [("step", 1), ("run", ALL), ("run", 100), ("run_cached", ALL), ("run_cached", 100),
+         ("run_until", ALL), ("run_until_cached", ALL), ("run_until_cached", 100)]
+
+
+def c_calls(room, _):
+    """The library for C, called in a loop."""
+    library = os.path.join(ROOT, "crates", "rrs_c")
     binary = os.path.join(room, "calls")
     subprocess.run(["gcc", "-O2", "-std=c99", f"-I{library}/include", "-o", binary,
                     os.path.join(HERE, "calls.c"), f"{library}/out/librrs_c.a"], check=True)
-    names = [os.path.basename(file).removesuffix(".bin") for file in files]
-    print("| Call |", " | ".join(names), "|")
-    print("|---" * (1 + len(names)) + "|")
+    rows = {}
     for call, piece in CALLS:
-        row = []
-        for file in files:
-            taken = [instructions([binary], file, n, call, str(piece)) for n in (300_000, 500_000)]
-            (low, few), (high, many) = taken
-            row.append(f"{(high - low) / (many - few):.1f}")
-        of = "in one call" if piece == LIMIT else f"in calls of {piece:,}"
-        print(f"| `rrs_{call}` {of} |", " | ".join(row), "|", flush=True)
+        of = "in one call" if piece == ALL else f"in calls of {piece:,}"
+        rows[f"`rrs_{call}` {of}"] = by_program(
+            lambda file, c=call, p=piece: lambda n: [binary, file, str(n), c, str(p)])
+    return rows
 
 
-def steps_of(text):
-    return int(re.search(r"steps (\d+)", text).group(1))
+TABLES = {"interpreters": interpreters, "commands": commands, "calls": ways, "sizes": sizes,
+          "C": c_calls}
 
 
-def seconds(binary, file, limit):
-    before = resource.getrusage(resource.RUSAGE_CHILDREN)
-    out = subprocess.run([*binary, file, str(limit)], capture_output=True, text=True).stdout
-    after = resource.getrusage(resource.RUSAGE_CHILDREN)
-    return after.ru_utime - before.ru_utime, steps_of(out)
+def count_all(room, with_peers, only=""):
+    """The counts of all tables, or of our own rows, by table, row and column."""
+    cells = {}
+    for table, rows_of in TABLES.items():
+        for row, columns in rows_of(room, with_peers).items():
+            for column, cell in columns.items():
+                if only in f"{table} {row} {column}":
+                    cells[table, row, column] = cell
+    with concurrent.futures.ThreadPoolExecutor(os.cpu_count()) as pool:
+        cells = {key: cell for key, cell in cells.items() if with_peers or cell.is_own}
+        return dict(zip(cells, pool.map(Count.number, cells.values())))
 
 
-def instructions(binary, file, limit, *more):
-    words = ["valgrind", "--tool=callgrind", "--callgrind-out-file=/dev/null", *binary, file,
-             str(limit), *more]
-    said = subprocess.run(words, capture_output=True, text=True)
-    return int(re.search(r"Collected : (\d+)", said.stderr).group(1)), steps_of(said.stdout)
+# ---- what is stored
+
+def version():
+    if not shutil.which("rt"):
+        raise Missing("rt")
+    return subprocess.run(["rt", "version"], capture_output=True, text=True, check=True).stdout.strip()
 
 
-def count(binary, file):
-    (low, few), (high, many) = (instructions(binary, file, n) for n in (300_000, 500_000))
-    return f"{(high - low) / (many - few):.1f}" if many > few else "too short"
+def stored():
+    """The toolchain of the stored numbers, and these, by table, row and column."""
+    with open(NUMBERS, encoding="utf-8") as kept:
+        of, *lines = kept.read().splitlines()
+    return of, {tuple(key): number for *key, number in (line.split("\t") for line in lines)}
 
 
-def least(binaries, file, limit, rounds):
-    found, steps = {}, set()
-    for _ in range(rounds):
-        for name, binary in binaries.items():
-            taken, made = seconds(binary, file, limit)
-            found[name] = min(found.get(name, taken), taken)
-            steps.add(made)
-    if len(steps) > 1:
-        sys.exit(f"measure.py: the peers made different numbers of steps of {file}: {steps}")
-    return {name: f"{taken:.3f}" for name, taken in found.items()}, steps.pop()
+def store(of, numbers):
+    with open(NUMBERS, "w", encoding="utf-8") as out:
+        out.write(of + "\n")
+        out.writelines("\t".join([*key, number]) + "\n" for key, number in numbers.items())
 
+
+def above(numbers, kept, within=WITHIN):
+    """What to say of each count that is above the stored one, or that none is stored of."""
+    said = []
+    for key, number in numbers.items():
+        name = ": ".join(key)
+        if key not in kept:
+            said.append(f"{name} takes {number}, and no count of it is stored")
+        elif float(number) > float(kept[key]) * within:
+            said.append(f"{name} takes {number} machine instructions a step, and was {kept[key]}")
+    return said
+
+
+# ---- the page
+
+def table_text(numbers, table):
+    """A table of the page."""
+    cells = {key[1:]: number for key, number in numbers.items() if key[0] == table}
+    rows = list(dict.fromkeys(row for row, _ in cells))
+    columns = list(dict.fromkeys(column for _, column in cells))
+    lines = ["| | " + " | ".join(columns) + " |", "|---" * (1 + len(columns)) + "|"]
+    for row in rows:
+        lines.append("| " + " | ".join([row, *(cells.get((row, c), "") for c in columns)]) + " |")
+    return "\n".join(lines)
+
+
+def page_with(text, numbers):
+    """The page with its tables: each stands between a comment that names it and an empty line."""
+    return re.sub(r"(<!-- counted: (\w+) -->\n)(?:\|.*\n)*",
+                  lambda at: at[1] + table_text(numbers, at[2]) + "\n", text)
+
+
+def write_page(numbers):
+    with open(PAGE, encoding="utf-8") as page:
+        text = page.read()
+    with open(PAGE, "w", encoding="utf-8") as page:
+        page.write(page_with(text, numbers))
+
+
+# ---- seconds
 
 UNICORN = """
 import sys, unicorn
@@ -153,101 +390,188 @@ except unicorn.UcError:
 """
 
 
-def frame(files, rounds):
-    """Prints the least user time of Unicorn, which runs each program to its end."""
-    for file in files:
-        taken = []
+def spent(words):
+    """The user and system time of a run, and the steps that it tells of."""
+    before = resource.getrusage(resource.RUSAGE_CHILDREN)
+    ran = subprocess.run(words, stdout=subprocess.PIPE, stderr=subprocess.DEVNULL)
+    after = resource.getrusage(resource.RUSAGE_CHILDREN)
+    told = re.search(rb"steps (\d+)", ran.stdout)
+    seconds = after.ru_utime - before.ru_utime + after.ru_stime - before.ru_stime
+    return seconds, told and int(told.group(1))
+
+
+def seconds_of(room, rounds, others):
+    """The seconds of each program to its end, by each peer."""
+    peers = {"rrs run --quiet": [RRS, "run", "--quiet"]}
+    peers |= {name: [binary] for name, binary in {**built_peers(room), **others}.items()}
+    numbers = {}
+    for file in PROGRAMS:
+        runs = {name: [*words, file, str(ALL)] for name, words in peers.items()}
+        with open(file, "rb") as code:
+            elf = made(room, name_of(file), executable(code.read()))
+        os.chmod(elf, 0o755)
+        if has_unicorn():
+            runs["Unicorn"] = ["/usr/bin/python3", "-c", UNICORN, file]
+        if shutil.which("qemu-riscv32"):
+            runs["qemu-riscv32"] = ["qemu-riscv32", elf]
+        least, steps = {}, set()
         for _ in range(rounds):
-            before = resource.getrusage(resource.RUSAGE_CHILDREN).ru_utime
-            subprocess.run(["/usr/bin/python3", "-c", UNICORN, file], check=True)
-            taken.append(resource.getrusage(resource.RUSAGE_CHILDREN).ru_utime - before)
-        print(f"Unicorn: {os.path.basename(file)} {min(taken):.3f}")
+            for name, words in runs.items():
+                if least.get(name, 0) > LONG:
+                    continue
+                taken, told = spent(words)
+                least[name] = min(least.get(name, taken), taken)
+                steps |= {told} - {None}
+        if len(steps) != 1:
+            raise SystemExit(f"measure.py: not the same number of steps of {file}: {steps}")
+        numbers |= {("seconds", name_of(file), name): f"{taken:.3f}" for name, taken in least.items()}
+    return numbers
 
 
-def save(kind, names, rows):
-    """Replaces the numbers of one kind in the file of numbers."""
-    lines = []
-    if os.path.exists(NUMBERS):
-        with open(NUMBERS, encoding="utf-8") as old:
-            lines = [line for line in old if not line.startswith(kind + "\t")]
-    for program, row in rows:
-        for name in names:
-            lines.append("\t".join([kind, program, name, row[name]]) + "\n")
-    with open(NUMBERS, "w", encoding="utf-8") as out:
-        out.writelines(lines)
+def has_unicorn():
+    return subprocess.run(["/usr/bin/python3", "-c", "import unicorn"], capture_output=True,
+                          check=False).returncode == 0
 
+
+# ---- charts
 
 def draw():
-    """Draws the numbers that are kept, a chart for each kind."""
-    with open(NUMBERS, encoding="utf-8") as kept:
-        numbers = [line.rstrip("\n").split("\t") for line in kept]
-    for kind, title in (("counts", "Machine instructions a step"), ("seconds", "Seconds")):
-        chosen = [number for number in numbers if number[0] == kind]
-        if not chosen:
-            continue
-        programs = list(dict.fromkeys(number[1] for number in chosen))
-        names = list(dict.fromkeys(number[2] for number in chosen))
-        cells = {(number[1], number[2]): number[3] for number in chosen}
-        lines = ["\t".join(["program", *names])]
-        lines += ["\t".join([p, *(cells.get((p, n), "?") for n in names)]) for p in programs]
+    """Draws a chart of the interpreters, and one of the seconds."""
+    _, numbers = stored()
+    for table, file, title in (("interpreters", "counts", "Machine instructions a step"),
+                               ("seconds", "seconds", "Seconds")):
+        cells = {key[1:]: number for key, number in numbers.items() if key[0] == table}
+        rows = list(dict.fromkeys(row for row, _ in cells))
+        columns = list(dict.fromkeys(column for _, column in cells))
+        lines = ["\t".join(["program", *columns])]
+        lines += ["\t".join([row, *(cells.get((row, c), "?") for c in columns)]) for row in rows]
         said = [
             "set terminal svg size 900,420 font 'sans,12' background 'white'",
-            f"set output '{os.path.join(HERE, kind)}.svg'",
+            f"set output '{os.path.join(HERE, file)}.svg'",
             f"set title '{title}, less is better'",
             "set style data histogram", "set style histogram cluster gap 1",
             "set style fill solid 0.8 noborder", "set boxwidth 0.9", "set yrange [0:*]",
             "set datafile separator '\t'", "set datafile missing '?'", "set grid ytics",
-            "set xtics rotate by -20 noenhanced", "set key outside bottom center horizontal noenhanced",
+            "set xtics rotate by -20 noenhanced",
+            "set key outside bottom center horizontal noenhanced",
             "$numbers << END", *lines, "END",
-            f"plot for [i=2:{len(names) + 1}] $numbers using i:xtic(1) title columnheader(i)",
+            f"plot for [i=2:{len(columns) + 1}] $numbers using i:xtic(1) title columnheader(i)",
         ]
         subprocess.run(["gnuplot"], input="\n".join(said) + "\n", text=True, check=True)
 
 
+# ---- the watch, and what tries it
+
+def build():
+    for what in (["program", "rrs"], ["program", "tests_speed"], ["library"]):
+        status = subprocess.run([os.path.join(ROOT, ".ci", "built"), *what],
+                                stdout=subprocess.DEVNULL).returncode
+        if status == 2:
+            raise Missing("rt")
+        if status:
+            raise SystemExit(f"measure.py: {' '.join(what)} does not build")
+
+
+def check(room):
+    """Counts our own rows, and compares them with the stored ones."""
+    build()
+    of, kept = stored()
+    now = version()
+    numbers = count_all(room, False)
+    if now != of:
+        store(now, {**kept, **numbers})
+        write_page(stored()[1])
+        print(f"the stored counts are of {of}: those of {now} are stored in their place")
+        return 2
+    said = above(numbers, kept)
+    with open(PAGE, encoding="utf-8") as page:
+        text = page.read()
+    if page_with(text, kept) != text:
+        said.append("docs/SPEED.md has other tables than numbers.tsv: measure.py --save")
+    for line in said:
+        print(line)
+    print(f"{len(numbers)} counts, {len(said)} of which are no more what they were")
+    return 1 if said else 0
+
+
+# What is planted in the crates as plain Rust, by crate and file: a text and another in its place.
+PLANTED = {
+    "a call that is not inlined": ("rrs_fast/src/packed.rs", r"#\[inline\(always\)\]\n(\s*pub\(crate\) fn process<)",
+                                   r"#[inline(never)]\n\1"),
+    "a cache that is cleared at each run": ("rrs_fast/src/cached.rs",
+                                            r"(fn run_cached<(?:.|\n)*?\{\n)",
+                                            r"\1    clear_known::<N>(&mut executor.mem.known);\n"),
+}
+
+
+def plain_counts(folder, room):
+    """The counts of the public calls, as plain Rust."""
+    subprocess.run(["cargo", "build", "--release", "--quiet", "--offline", "-p",
+                    "rrs-kit-tests-speed"], cwd=folder, check=True)
+    binary = os.path.join(folder, "target", "release", "tests-speed")
+    file = PROGRAMS[1]
+    cells = {(way, f"in calls of {piece}"): Count(
+        lambda n, w=way, p=piece: [binary, w, file, str(n), str(p)])
+        for way, piece in (("cached", 1000), ("until", ALL))}
+    return {key: cell.number() for key, cell in cells.items()}
+
+
+def self_test(room):
+    """Plants what the watch has to find."""
+    want("cargo=cargo-web")
+    folder = os.path.join(room, "rust")
+    subprocess.run([os.path.join(ROOT, "rust", "build"), "--write", folder], check=True)
+    kept = plain_counts(folder, room)
+    failed = 1 if above(plain_counts(folder, room), kept) else 0
+    for what, (file, old, new) in PLANTED.items():
+        path = os.path.join(folder, "crates", file)
+        with open(path, encoding="utf-8") as source:
+            text = source.read()
+        changed, places = re.subn(old, new, text, count=1)
+        with open(path, "w", encoding="utf-8") as source:
+            source.write(changed)
+        said = above(plain_counts(folder, room), kept) if places else []
+        print(f"{what}: " + ("; ".join(said) or "not found"))
+        failed = failed if said else 1
+        with open(path, "w", encoding="utf-8") as source:
+            source.write(text)
+    return failed
+
+
 def main():
     parser = argparse.ArgumentParser(usage=__doc__)
-    parser.add_argument("--counts", action="store_true")
-    parser.add_argument("--calls", action="store_true")
+    for word in ("check", "save", "seconds", "draw", "self-test"):
+        parser.add_argument(f"--{word}", action="store_true")
     parser.add_argument("--rounds", type=int, default=9)
-    parser.add_argument("--frame", action="store_true")
-    parser.add_argument("--save", action="store_true")
-    parser.add_argument("--draw", action="store_true")
+    parser.add_argument("--only", default="")
     parser.add_argument("--peer", action="append", default=[])
-    parser.add_argument("files", nargs="*")
     given = parser.parse_args()
     if given.draw:
         return draw()
+    want("valgrind=valgrind", "gcc=gcc")
     with tempfile.TemporaryDirectory() as room:
-        files = given.files or sorted(glob.glob(os.path.join(HERE, "programs", "*.bin")))
-        if given.calls:
-            return calls(files, room)
-        binaries = built(room)
-        for name, binary in (peer.split("=", 1) for peer in given.peer):
-            binaries[name] = [binary]
-        programs = [(os.path.basename(file).removesuffix(".bin"), file, 900_000_000)
-                    for file in files]
-        made = [(f"a loop of {n} words", loop_of(n)) for n in (500, 1000, 4000, 12000)]
-        for name, words in [*made, ("a word changed in each turn", changing())]:
-            file = os.path.join(room, name.replace(" ", "-"))
-            with open(file, "wb") as out:
-                out.write(struct.pack(f"<{len(words)}I", *words))
-            programs.append((name, file, LIMIT))
-        if given.frame:
-            return frame(files, given.rounds)
-        rows = []
-        print("| Program | Steps |", " | ".join(binaries), "|")
-        print("|---" * (2 + len(binaries)) + "|")
-        for name, file, limit in programs:
-            if given.counts:
-                row = {peer: count(binary, file) for peer, binary in binaries.items()}
-                steps = "by count"
-            else:
-                row, steps = least(binaries, file, limit, given.rounds)
-                steps = f"{steps:,}"
-            print(f"| {name} | {steps} |", " | ".join(row.values()), "|", flush=True)
-            rows.append((name, row))
-        if given.save:
-            save("counts" if given.counts else "seconds", list(binaries), rows)
+        if given.self_test:
+            return self_test(room)
+        if given.check:
+            return check(room)
+        build()
+        if given.seconds:
+            numbers = seconds_of(room, given.rounds, dict(p.split("=", 1) for p in given.peer))
+        else:
+            numbers = count_all(room, True, given.only)
+        if given.save or given.seconds:
+            tables = set() if given.only else {key[0] for key in numbers}
+            rest = {key: n for key, n in stored()[1].items() if key[0] not in tables}
+            store(version(), {**rest, **numbers})
+            write_page(stored()[1])
+        for table in dict.fromkeys(key[0] for key in numbers):
+            print(f"{table}:\n{table_text(numbers, table)}")
+    return 0
 
 
-main()
+if __name__ == "__main__":
+    try:
+        sys.exit(main())
+    except Missing as what:
+        print(f"measure.py: {what} is missing")
+        sys.exit(2)
