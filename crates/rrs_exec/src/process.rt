@@ -22,9 +22,9 @@ use rrs_linux::{Heap, Linux};
 use std::alloc::Global;
 use std::io::{Read, Write};
 
-/// How many decoded words a process's memory has room for: those of loops of 64 KiB. They take
-/// 320 KiB of stack.
-pub const DECODED_WORDS: usize = 16_384;
+/// How many decoded words a process's memory has room for: those of 256 KiB of code. They take
+/// 1.25 MiB of stack.
+pub const DECODED_WORDS: usize = 65_536;
 
 /// How a process ended.
 #[derive(Debug, PartialEq, Drop)]
