@@ -16,7 +16,7 @@ use Rattle.rrs_gdb.specs.Packets.{IsNumber, number, before, behind}
 use Rattle.rrs_gdb.specs.Sessions.{letter, ChangesNone, RunsNone, ChangesRegister, ChangesMemory, BreaksNone, EndsBy, Monitors, RemovesBreak, SetsBreak, MemoryKept, RegistersKept, BreaksKept, SettingsKept, PlacesKept, SessionKept, ForgetsOrStays, has_ended, is_end, IsError, ShowsMemory, ShowsRegister, Asked, asked_by, Around, around, Most, one_step, up_to, GoesBy, HasAction, HasLetter, HasSignal, HasNoSignal, BySignal, Resumes, Signals, GoesOnUnless, Acts, GoesOnOrStays, SessionGoesBack}
 use Rattle.rrs_gdb.specs.Answers.{Moment, around_in, ShowsNone, HasSubject, Shows, Sets, BeginsBy, Here, There, Goes, ActsBy, Returns, Asks, Stays, Leaves, Means}
 use Rattle.rrs_gdb.specs.Shown.{registers_text, stop_text}
-use Rattle.rrs_gdb.proofs.SessionLemmas.{BeginsAt, asked_kept, error_letter, goes_same, step_from, go_from, resumes_here, resumes_there, resumes_not, signals_here, signals_there, signals_nowhere, signals_not}
+use Rattle.rrs_gdb.proofs.SessionLemmas.{BeginsAt, asked_kept, goes_same, step_from, go_from, resumes_here, resumes_there, resumes_not, signals_here, signals_there, signals_nowhere, signals_not}
 
 -- ---- the subject of a letter
 

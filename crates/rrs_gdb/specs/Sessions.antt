@@ -1,6 +1,6 @@
 -- What a packet may change, by its letter (gdb's manual, "Remote Serial Protocol", "Packets"). Most
 -- packets ask, and change nothing of the program.
-use Rattle.std.specs.Prelude.{◌≡◌, ◌≢◌, ◌⊎◌, ℕ, zero, suc, ◌+◌, ◌-◌, ◌*◌, ◌%◌, ◌^◌, ◌<◌, ◌≤◌, List, [], ◌∷◌, ◌++◌, Contains, Bool, true, false, drop, take, length, slice_index, nat_lt, if◌then◌else◌, Option, Some, None, Ok, Err, IsOk, codes}
+use Rattle.std.specs.Prelude.{◌≡◌, ◌≢◌, ◌⊎◌, ℕ, zero, suc, ◌+◌, ◌-◌, ◌*◌, ◌%◌, ◌^◌, ◌<◌, ◌≤◌, List, [], ◌++◌, Contains, Bool, true, false, drop, take, length, slice_index, nat_lt, if◌then◌else◌, Option, Some, None, Ok, Err, IsOk, codes}
 use Rattle.std.specs.Fmt.{digits}
 use Rattle.hex.specs.Hex.{decode_of, decode_sized}
 use Rattle.rrs_lib.specs.Bytes.{ByteMap}

@@ -1,5 +1,5 @@
 -- Number by number.
-use Rattle.std.proofs.Common.{◌≡◌, ◌≢◌, ℕ, List, [], length, rules}
+use Rattle.std.proofs.Common.{◌≡◌, ◌≢◌, [], length, rules}
 use Rattle.rrs_gdb.specs.Packets.{IsNumber, number}
 use Rattle.rrs_gdb.proofs.FieldLemmas.{nothing_left, number_more, number_next, number_none, numbers_all}
 use Rattle.rrs_gdb.proofs.queries.numbers_in.Goals as goal

@@ -1,4 +1,4 @@
-use Rattle.std.proofs.Common.{◌≡◌, ◌-◌, ◌+◌, ◌<◌, ◌^◌, ◌∙◌, List, ℕ, drop, length, sym, subst, ap, arith, rules}
+use Rattle.std.proofs.Common.{◌≡◌, ◌-◌, ◌+◌, ◌<◌, ◌^◌, ◌∙◌, List, ℕ, drop, length, subst, ap, arith, rules}
 use Rattle.rrs_gdb.specs.Shown.{Prints}
 use Rattle.rrs_gdb.proofs.OutputLemmas.{prints_new}
 use Rattle.rrs_gdb.proofs.resume.send_made.Goals as goal

@@ -1,5 +1,5 @@
 -- Where all is known, nothing is sent.
-use Rattle.std.proofs.Common.{◌≡◌, ◌≤◌, ◌-◌, length, rules, arith}
+use Rattle.std.proofs.Common.{◌≤◌, ◌-◌, length, rules}
 use Rattle.rrs_gdb.proofs.OutputLemmas.{prints_known}
 use Rattle.rrs_gdb.proofs.resume.send_new.Goals as goal
 

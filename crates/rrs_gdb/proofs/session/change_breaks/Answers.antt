@@ -1,4 +1,3 @@
-use Rattle.std.proofs.Common.{refl}
 use Rattle.rrs_gdb.proofs.EntryLemmas.{kept_on_error, removes_told, sets_told}
 use Rattle.rrs_gdb.proofs.SessionLemmas.{rest_whole}
 use Rattle.rrs_gdb.proofs.session.change_breaks.Goals as goal

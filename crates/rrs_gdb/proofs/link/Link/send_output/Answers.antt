@@ -1,5 +1,5 @@
 -- Part by part.
-use Rattle.std.proofs.Common.{◌≡◌, ◌≤◌, ◌++◌, [], List, ℕ, length, refl, ◌∙◌, ap, sym, append_assoc, arith, rules}
+use Rattle.std.proofs.Common.{◌≤◌, ◌++◌, [], List, ℕ, length, refl, ◌∙◌, ap, sym, append_assoc, arith}
 use Rattle.rrs_gdb.proofs.OutputLemmas.{prints_none, prints_part}
 use Rattle.rrs_gdb.proofs.link.Link.send_output.Goals as goal
 
