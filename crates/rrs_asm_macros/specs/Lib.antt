@@ -3,5 +3,10 @@
 pub mod Comments
 pub mod Directives
 pub mod Lines
+pub mod Mistakes
+pub mod Conditions
+pub mod Operands
+pub mod Expanding
+pub mod Reading
 pub mod Expansion
 pub mod Forms

@@ -3,6 +3,12 @@
 //! GNU `as` takes blanks out of operands before it looks at macros: it keeps one where a letter, a
 //! digit or a quotation mark stands on both sides. So `1 + 2` is one argument, and `1 2` are two.
 
+ghost use Rattle.std.specs.Prelude.{◌≡◌, ◌++◌, ◌∷◌, [], Some, None, MatchOption, MatchBool, IfSome, IfNone, length, drop, take, is_ok, ◌==◌};
+ghost use Rattle.std.specs.Str.{bytes_eq};
+ghost use Rattle.std.specs.Bool.{OnTrue, OnFalse};
+ghost use Rattle.rrs_asm_lines.specs.Lines.{behind_blanks, behind_word, word};
+ghost use Rattle.rrs_asm_macros.specs.Operands.{Halts, Reads, keeps_blank, next_byte, slip_at};
+
 use crate::errors::{Halt, MacroErrorKind, Slip};
 use rrs_asm_lines::{
     Operator, behind_blanks, is_in_word, is_name, operator_before, operator_between, split_word,
@@ -25,14 +31,20 @@ pub struct Cursor<'a> {
 }
 
 /// Whether a blank between two bytes means something.
-fn keeps_blank(before: u8, after: u8) -> bool {
+fn keeps_blank(before: u8, after: u8) -> bool
+    ensures { result ≡ keeps_blank before after }
+{
     (is_in_word(before) || before == b'"')
         && (is_in_word(after) || matches!(after, b'"' | b'\'' | b'\\'))
 }
 
 impl<'a> Cursor<'a> {
     /// The operands of a statement, with so many bytes of the text after it.
-    pub fn new(operands: &'a [u8], behind: usize) -> Self {
+    pub fn new(operands: &'a [u8], behind: usize) -> Self
+        ensures rest { result.rest.now ≡ operands.now }
+        ensures behind { result.behind ≡ behind }
+        ensures mistake { result.mistake ≡ None }
+    {
         Cursor {
             rest: operands,
             behind,
@@ -43,7 +55,9 @@ impl<'a> Cursor<'a> {
 
     /// Keeps a mistake, if it is the first one, or that memory is missing, and takes all that is
     /// left.
-    fn halt(&mut self, halt: Halt) {
+    fn halt(&mut self, halt: Halt)
+        ensures { Halts self.old self.new halt }
+    {
         if self.mistake.is_none() {
             self.mistake = Some(halt);
         }
@@ -51,19 +65,27 @@ impl<'a> Cursor<'a> {
     }
 
     /// Keeps a mistake, if it is the first one.
-    pub fn fail(&mut self, slip: Slip) {
+    pub fn fail(&mut self, slip: Slip)
+        ensures { Halts self.old self.new (Halt.Slip slip) }
+    {
         self.halt(Halt::Slip(slip));
     }
 
     /// Keeps a mistake where something is not as it has to be.
-    pub fn want(&mut self, is_right: bool, slip: Slip) {
+    pub fn want(&mut self, is_right: bool, slip: Slip)
+        ensures right { OnTrue is_right (self.new ≡ self.old) }
+        ensures wrong { OnFalse is_right (Halts self.old self.new (Halt.Slip slip)) }
+    {
         if !is_right {
             self.fail(slip);
         }
     }
 
     /// Keeps that memory is missing where something could not be kept.
-    pub fn keep(&mut self, is_kept: bool) {
+    pub fn keep(&mut self, is_kept: bool)
+        ensures kept { OnTrue is_kept (self.new ≡ self.old) }
+        ensures short { OnFalse is_kept (Halts self.old self.new Halt.OutOfMemory) }
+    {
         if !is_kept {
             self.halt(Halt::OutOfMemory);
         }
@@ -76,7 +98,9 @@ impl<'a> Cursor<'a> {
     }
 
     /// A mistake at this place, after blanks.
-    pub fn slip(&self, kind: MacroErrorKind) -> Slip {
+    pub fn slip(&self, kind: MacroErrorKind) -> Slip
+        ensures { result ≡ slip_at self.now.rest.now self.now.behind kind }
+    {
         Slip {
             kind,
             left: behind_blanks(self.rest).len().saturating_add(self.behind),
@@ -84,7 +108,11 @@ impl<'a> Cursor<'a> {
     }
 
     /// The next byte, with no blank that means nothing, and what is after it.
-    fn next(&self) -> Option<(u8, &'a [u8])> {
+    fn next(&self) -> Option<(u8, &'a [u8])>
+        ensures { MatchOption result (next_byte self.now.before self.now.rest.now ≡ None)
+            (λ next. next_byte self.now.before self.now.rest.now
+            ≡ Some (record { 0 = next.0; 1 = next.1.now })) }
+    {
         let after = behind_blanks(self.rest);
         let (byte, others) = after.split_first()?;
         if after.len() < self.rest.len() && keeps_blank(self.before, *byte) {
@@ -95,7 +123,14 @@ impl<'a> Cursor<'a> {
     }
 
     /// Takes the next byte, with no blank that means nothing.
-    pub fn take(&mut self) -> Option<u8> {
+    pub fn take(&mut self) -> Option<u8>
+        ensures over { IfNone result ((next_byte self.old.before self.old.rest.now ≡ None)
+            × (self.new ≡ self.old)) }
+        ensures byte { IfSome result (λ byte. (next_byte self.old.before self.old.rest.now
+            ≡ Some (record { 0 = byte; 1 = self.new.rest.now })) × (self.new.before ≡ byte)) }
+        ensures mistake_kept { self.new.mistake ≡ self.old.mistake }
+        ensures behind_kept { self.new.behind ≡ self.old.behind }
+    {
         let (byte, rest) = self.next()?;
         self.rest = rest;
         self.before = byte;
@@ -103,13 +138,24 @@ impl<'a> Cursor<'a> {
     }
 
     /// The next byte, with no blank that means nothing.
-    pub fn peek(&self) -> Option<u8> {
+    pub fn peek(&self) -> Option<u8>
+        ensures { MatchOption result (next_byte self.now.before self.now.rest.now ≡ None)
+            (λ byte. IfSome (next_byte self.now.before self.now.rest.now) (λ next. next.0 ≡ byte)) }
+    {
         let (byte, _) = self.next()?;
         Some(byte)
     }
 
     /// Takes these bytes, if they are the next ones after blanks.
-    pub fn take_if(&mut self, wanted: &[u8]) -> bool {
+    pub fn take_if(&mut self, wanted: &[u8]) -> bool
+        ensures taken { OnTrue result (Reads self.old self.new
+            (drop (length wanted.now) (behind_blanks self.old.rest.now))) }
+        ensures there { OnTrue result (take (length wanted.now) (behind_blanks self.old.rest.now)
+            ≡ wanted.now) }
+        ensures absent { OnFalse result (take (length wanted.now)
+            (behind_blanks self.old.rest.now) ≡ wanted.now → ⊥) }
+        ensures kept { OnFalse result (self.new ≡ self.old) }
+    {
         match behind_blanks(self.rest).strip_prefix(wanted) {
             Some(rest) => {
                 self.rest = rest;
@@ -144,7 +190,11 @@ impl<'a> Cursor<'a> {
     }
 
     /// Takes the next byte, whatever it is.
-    pub fn take_raw(&mut self) -> Option<u8> {
+    pub fn take_raw(&mut self) -> Option<u8>
+        ensures over { IfNone result ((self.old.rest.now ≡ []) × (self.new ≡ self.old)) }
+        ensures byte { IfSome result (λ byte. self.old.rest.now ≡ byte ∷ self.new.rest.now) }
+        ensures mistake_kept { self.new.mistake ≡ self.old.mistake }
+    {
         match self.rest {
             [byte, rest @ ..] => {
                 self.rest = rest;
@@ -156,7 +206,11 @@ impl<'a> Cursor<'a> {
     }
 
     /// Takes a byte, if it is the next one and stands after no blank.
-    pub fn take_next(&mut self, wanted: u8) -> bool {
+    pub fn take_next(&mut self, wanted: u8) -> bool
+        ensures taken { OnTrue result (self.old.rest.now ≡ wanted ∷ self.new.rest.now) }
+        ensures kept { OnFalse result (self.new ≡ self.old) }
+        ensures mistake_kept { self.new.mistake ≡ self.old.mistake }
+    {
         match self.rest {
             [byte, rest @ ..] if *byte == wanted => {
                 self.rest = rest;
@@ -177,12 +231,17 @@ impl<'a> Cursor<'a> {
     }
 
     /// Whether nothing is left.
-    pub fn is_over(&self) -> bool {
+    pub fn is_over(&self) -> bool
+        ensures { result ≡ length (behind_blanks self.now.rest.now) == 0 }
+    {
         behind_blanks(self.rest).is_empty()
     }
 
     /// Takes a word, after blanks. It is empty where none stands there.
-    pub fn word(&mut self) -> &'a [u8] {
+    pub fn word(&mut self) -> &'a [u8]
+        ensures word { result.now ≡ word self.old.rest.now }
+        ensures reads { Reads self.old self.new (behind_word self.old.rest.now) }
+    {
         let (word, rest) = split_word(self.rest);
         self.rest = rest;
         self.before = b'a';
@@ -190,7 +249,9 @@ impl<'a> Cursor<'a> {
     }
 
     /// Takes a name.
-    pub fn name(&mut self) -> &'a [u8] {
+    pub fn name(&mut self) -> &'a [u8]
+        ensures word { result.now ≡ word self.old.rest.now }
+    {
         let slip = self.slip(MacroErrorKind::Name);
         let word = self.word();
         self.want(is_name(word), slip);

@@ -4,6 +4,7 @@ ghost use Rattle.std.specs.Prelude.{◌≡◌};
 ghost use Rattle.std.specs.List.{list_any};
 ghost use Rattle.std.specs.Str.{str_eq_ignore_ascii_case};
 ghost use Rattle.rrs_asm_macros.specs.Directives.{is_directive};
+ghost use Rattle.rrs_asm_macros.specs.Conditions.{compares};
 
 /// What a condition asks of two values, or of one and zero.
 #[derive(Clone, Copy)]
@@ -18,7 +19,9 @@ pub enum Comparison {
 
 impl Comparison {
     /// Whether it holds of two signed numbers.
-    pub fn holds(self, left: u64, right: u64) -> bool {
+    pub fn holds(self, left: u64, right: u64) -> bool
+        ensures { result ≡ compares self left right }
+    {
         let left = left.cast_signed();
         let right = right.cast_signed();
         match self {

@@ -1,5 +1,8 @@
 //! What can be wrong with macros, conditions and repetitions.
 
+ghost use Rattle.std.specs.Prelude.{◌≡◌};
+ghost use Rattle.rrs_asm_macros.specs.Mistakes.{is_last, is_of_word};
+
 use rrs_asm_lines::split_word;
 use std::alloc::{AllocError, AllocFailed, Allocator, Global};
 use std::error::Error;
@@ -70,12 +73,16 @@ pub enum MacroErrorKind {
 
 impl MacroErrorKind {
     /// Whether nothing after the mistake is read.
-    pub fn is_last(self) -> bool {
+    pub fn is_last(self) -> bool
+        ensures { result ≡ is_last self }
+    {
         matches!(self, MacroErrorKind::Deep | MacroErrorKind::Much)
     }
 
     /// Whether it is wrong of the word at its place.
-    fn is_of_word(self) -> bool {
+    fn is_of_word(self) -> bool
+        ensures { result ≡ is_of_word self }
+    {
         matches!(
             self,
             MacroErrorKind::Duplicate
@@ -197,12 +204,20 @@ impl<A: Allocator> fmt::Display for MacroFault<A> {
 impl<A: Allocator> Error for MacroFault<A> {}
 
 impl<A: Allocator> From<AllocError> for MacroFault<A> {
+    ghost use Rattle.rrs_asm_macros.specs.declared.errors.MacroFault.{MacroFault};
+
+    ghost from_gives = { λ _ fault. fault ≡ MacroFault.OutOfMemory };
+
     fn from(_: AllocError) -> Self {
         MacroFault::OutOfMemory
     }
 }
 
 impl<T: Drop, A: Allocator> From<AllocFailed<T>> for MacroFault<A> {
+    ghost use Rattle.rrs_asm_macros.specs.declared.errors.MacroFault.{MacroFault};
+
+    ghost from_gives = { λ _ fault. fault ≡ MacroFault.OutOfMemory };
+
     fn from(_: AllocFailed<T>) -> Self {
         MacroFault::OutOfMemory
     }
@@ -217,7 +232,9 @@ pub struct Slip {
 
 impl Slip {
     /// Another mistake at this place.
-    pub fn with_kind(self, kind: MacroErrorKind) -> Self {
+    pub fn with_kind(self, kind: MacroErrorKind) -> Self
+        ensures { result ≡ record { kind = kind; left = self.left } }
+    {
         Slip { kind, ..self }
     }
 }

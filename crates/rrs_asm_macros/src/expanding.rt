@@ -1,16 +1,19 @@
 //! Expanding a source.
 
-ghost use Rattle.std.specs.Prelude.{◌≡◌, ℕ, ◌≤◌, false, true, [], ◌∷◌, ◌++◌, length, IfOk, OnOk, IfErr, IfSome};
+ghost use Rattle.std.specs.Prelude.{◌≡◌, ℕ, ◌<◌, ◌≤◌, false, true, [], ◌∷◌, ◌++◌, ◌⊎◌, Some, None, length, IfOk, OnOk, IfErr, IfSome, IfNone};
+ghost use Rattle.std.specs.Bool.{OnTrue, OnFalse};
 ghost use Rattle.std.specs.List.{list_any};
 ghost use Rattle.rrs_asm_macros.specs.Directives.{begins_one, has_directives};
 ghost use Rattle.rrs_asm_macros.specs.Expansion.{IsExpansion};
 ghost use Rattle.rrs_asm_lines.specs.Lines.{lines};
+ghost use Rattle.rrs_asm_macros.specs.Expanding.{AreTold, Enters, IsShort, IsWithin, Tells, TellsOne, last_of, line_of};
+ghost use Rattle.rrs_asm_macros.specs.Mistakes.{mistake_at};
 ghost use Rattle.rrs_asm_macros.specs.Lines.{IsLine, IsMade, IsMapped, IsSame, KeepsAbove};
 
 use crate::blocks::height;
 use crate::errors::{Halt, MacroError, MacroErrorKind, MacroFault, Slip};
 use crate::following::is_expansion;
-use crate::frames::{Frame, Origin};
+use crate::frames::{Frame, Origin, Reader};
 use crate::keeping::keeps_above;
 use crate::output::{Expanded, unchanged};
 use crate::performing::{Span, Step, Turn, read_step};
@@ -45,7 +48,9 @@ struct Expansion<A: Allocator> {
 
 impl<A: Allocator + Copy> Expansion<A> {
     /// Nothing of a source is read.
-    fn new(alloc: A, source: &[u8]) -> Result<Self, AllocError> {
+    fn new(alloc: A, source: &[u8]) -> Result<Self, AllocError>
+        ensures within { IfOk result (λ expansion. IsWithin expansion) }
+    {
         let text = Vec::from_slice(alloc, source)?;
         let mut frame = Frame::new(alloc, text, 1, height(source), 0);
         frame.reader.is_source = true;
@@ -60,7 +65,12 @@ impl<A: Allocator + Copy> Expansion<A> {
     }
 
     /// Keeps that memory is missing where something could not be kept.
-    fn keep(&mut self, is_kept: bool) {
+    fn keep(&mut self, is_kept: bool)
+        ensures kept { OnTrue is_kept (self.new ≡ self.old) }
+        ensures short { OnFalse is_kept (IsShort self.old self.new) }
+        ensures frames_kept { self.new.frames ≡ self.old.frames }
+        ensures within { IsWithin self.old → IsWithin self.new }
+    {
         if !is_kept {
             self.is_short = true;
             self.is_over = true;
@@ -68,13 +78,25 @@ impl<A: Allocator + Copy> Expansion<A> {
     }
 
     /// Reads a text next.
-    fn read(&mut self, frame: Frame<A>) {
+    fn read(&mut self, frame: Frame<A>)
+        ensures enters { Enters self.old self.new frame ⊎ IsShort self.old self.new }
+        ensures within { IsWithin self.old → IsWithin self.new }
+    {
         let is_kept = self.frames.push(frame).is_ok();
         self.keep(is_kept);
     }
 
     /// Why the source is not expanded, if it is not.
-    fn fault(self, alloc: A) -> Option<MacroFault<A>> {
+    fn fault(self, alloc: A) -> Option<MacroFault<A>>
+        ensures short { self.is_short ≡ true → result ≡ Some MacroFault.OutOfMemory }
+        ensures told { self.is_short ≡ false → (self.mistakes.items ≡ [] → ⊥)
+            → result ≡ Some (MacroFault.Mistakes self.mistakes) }
+        ensures whole { self.is_short ≡ false → self.mistakes.items ≡ []
+            → self.frames.items ≡ [] → result ≡ None }
+        ensures left { self.is_short ≡ false → self.mistakes.items ≡ []
+            → (self.frames.items ≡ [] → ⊥) → result ≡ None → ⊥ }
+        ensures mistakes { IsWithin self → IfSome result AreTold }
+    {
         if self.is_short {
             Some(MacroFault::OutOfMemory)
         } else if !self.mistakes.is_empty() {
@@ -86,8 +108,16 @@ impl<A: Allocator + Copy> Expansion<A> {
         }
     }
 
-    /// Returns a mistake.
-    fn tell(&mut self, mistake: MacroError) {
+    /// Tells a mistake, if something more is read.
+    fn tell(&mut self, mistake: MacroError)
+        ensures told { self.old.is_over ≡ false
+            → Tells self.old self.new mistake ⊎ IsShort self.old self.new }
+        ensures over { self.old.is_over ≡ true → self.new ≡ self.old }
+        ensures within { IsWithin self.old → IsWithin self.new }
+    {
+        if self.is_over {
+            return;
+        }
         let is_kept = self.mistakes.push(mistake).is_ok();
         self.keep(is_kept);
         if mistake.kind.is_last() || self.mistakes.len() >= MOST_MISTAKES {
@@ -96,7 +126,13 @@ impl<A: Allocator + Copy> Expansion<A> {
     }
 
     /// Goes on where a text is read to its end.
-    fn finish(&mut self, frame: Frame<A>) {
+    fn finish(&mut self, frame: Frame<A>)
+        ensures unended { self.old.is_over ≡ false → IfSome (last_of frame.reader.conditions.items)
+            (λ condition. TellsOne self.old self.new condition.place) }
+        ensures ended { frame.reader.conditions.items ≡ [] → frame.reader.copies ≡ 0
+            → self.new ≡ self.old }
+        ensures within { IsWithin self.old → IsWithin self.new }
+    {
         let mut frame = frame;
         if let Some(condition) = frame.reader.conditions.last() {
             self.tell(condition.place);
@@ -108,7 +144,16 @@ impl<A: Allocator + Copy> Expansion<A> {
 
     /// Goes on after a line or a statement of a text, which began at a place, where so many bytes
     /// are made.
-    fn turn(&mut self, frame: Frame<A>, turn: Turn<A>, origin: Origin, made: usize) {
+    fn turn(&mut self, frame: Frame<A>, turn: Turn<A>, origin: Origin, made: usize)
+        ensures stays { turn ≡ Turn.Stay → made ≤ MOST_MADE
+            → Enters self.old self.new frame ⊎ IsShort self.old self.new }
+        ensures leaves { turn ≡ Turn.Leave → made ≤ MOST_MADE → self.new ≡ self.old }
+        ensures stumbles { (slip : Slip) → turn ≡ Turn.Stumble slip → made ≤ MOST_MADE
+            → self.old.is_over ≡ false → length frame.text.items < usize.MAX
+            → TellsOne self.old self.new
+            (mistake_at origin.number origin.line_start (length frame.text.items) slip) }
+        ensures within { IsWithin self.old → IsWithin self.new }
+    {
         let left = frame.text.len();
         if made > MOST_MADE {
             let kind = MacroErrorKind::Much;
@@ -202,22 +247,38 @@ fn advance<A: Allocator + Copy>(
     out: &mut Expanded<A>,
     total: usize,
 ) -> Result<(), AllocError>
-    ensures { 1 ≤ total → IsMade total out.old → OnOk result (IsMade total out.new) }
+    ensures made { 1 ≤ total → IsMade total out.old → OnOk result (IsMade total out.new) }
+    ensures of_line { IsLine total (line_of frame.reader) → OnOk result
+        ((out.new.lines.items ≡ out.old.lines.items)
+        ⊎ (out.new.lines.items ≡ out.old.lines.items ++ line_of frame.reader ∷ [])) }
+    ensures within { IsWithin expansion.old → IsWithin expansion.new }
 {
     let mut frame = frame;
     let origin = frame.reader.origin();
-    let read = read_step(tables, &frame.text, &mut frame.reader);
-    let step = match tables.mistake.take() {
-        None => read,
-        Some(Halt::Slip(slip)) => Step {
-            line: None,
-            turn: Turn::Stumble(slip),
-        },
-        Some(Halt::OutOfMemory) => return Err(AllocError),
-    };
+    let step = step_of(tables, &frame.text, &mut frame.reader)?;
     put_span(out, &frame.text, step.line, total)?;
     expansion.turn(frame, step.turn, origin, out.text.len());
     Ok(())
+}
+
+/// Reads a line or a statement of a text. With a mistake nothing comes of it.
+fn step_of<A: Allocator + Copy>(
+    tables: &mut Tables<A>,
+    text: &[u8],
+    reader: &mut Reader<A>,
+) -> Result<Step<A>, AllocError>
+    ensures number { IfOk result (λ step.
+        IfSome step.line (λ span. span.number ≡ line_of reader.old)) }
+{
+    let read = read_step(tables, text, reader);
+    match tables.mistake.take() {
+        None => Ok(read),
+        Some(Halt::Slip(slip)) => Ok(Step {
+            line: None,
+            turn: Turn::Stumble(slip),
+        }),
+        Some(Halt::OutOfMemory) => Err(AllocError),
+    }
 }
 
 /// A result, if it is one of this source.
@@ -231,6 +292,7 @@ fn settled<A: Allocator + Copy>(
     ensures mapped { IsMapped source.now whole → IfOk result (IsMapped source.now) }
     ensures above { IfOk result (KeepsAbove source.now) }
     ensures becomes { IfOk result (λ expanded. IsExpansion source.now expanded.text.items) }
+    ensures mistakes { IfErr result AreTold }
 {
     if begins_directive(&whole.text) || !keeps_above(source, &whole) {
         return Err(fault(alloc, MacroErrorKind::LeftOver));
@@ -245,7 +307,9 @@ fn settled<A: Allocator + Copy>(
 /// A mistake that has no place of its own. `MacroErrorKind::LeftOver` says that a directive is left
 /// in a result, or that it is another than the source becomes. No source is known of which that is
 /// so.
-fn fault<A: Allocator + Copy>(alloc: A, kind: MacroErrorKind) -> MacroFault<A> {
+fn fault<A: Allocator + Copy>(alloc: A, kind: MacroErrorKind) -> MacroFault<A>
+    ensures { AreTold result }
+{
     let mistake = MacroError {
         line: 1,
         column: 1,
@@ -279,6 +343,7 @@ fn put_span<A: Allocator + Copy>(
     ensures made { 1 ≤ total → IsMade total out.old → OnOk result (IsMade total out.new) }
     ensures number { IfSome span (λ s. IsLine total s.number
         → OnOk result (out.new.lines.items ≡ out.old.lines.items ++ s.number ∷ [])) }
+    ensures none { IfNone span (OnOk result (out.new ≡ out.old)) }
 {
     match span {
         Some(span) => {

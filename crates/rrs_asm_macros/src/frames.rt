@@ -1,5 +1,13 @@
 //! What is being read: the source, and the macros and repetitions in it.
 
+ghost use Rattle.std.specs.Prelude.{◌≡◌, ◌<◌, ◌-◌, ◌↔◌, IsTrue, Some, length};
+ghost use Rattle.rrs_asm_macros.specs.Conditions.{is_skipped, next_part, unread};
+ghost use Rattle.std.specs.Option.{option_copied, option_map};
+ghost use Rattle.std.specs.Bool.{OnTrue, OnFalse};
+ghost use Rattle.rrs_asm_macros.specs.Expanding.{line_of};
+ghost use Rattle.rrs_asm_macros.specs.Mistakes.{mistake_at};
+ghost use Rattle.rrs_asm_macros.specs.Reading.{BeginsAgain, GoesOn, IsAtHead, rest_of};
+
 use crate::errors::{MacroError, Slip};
 use std::alloc::Allocator;
 
@@ -18,7 +26,9 @@ pub struct Condition {
 
 impl Condition {
     /// A condition of which nothing is read so far, or of which nothing is to be read any more.
-    pub fn new(place: MacroError, is_done: bool) -> Self {
+    pub fn new(place: MacroError, is_done: bool) -> Self
+        ensures { result ≡ unread place is_done }
+    {
         Condition {
             place,
             is_read: false,
@@ -28,7 +38,9 @@ impl Condition {
     }
 
     /// The condition after `.else`, or after `.if` or `.elseif` with one that holds or does not.
-    pub fn or(self, holds: bool, is_behind_else: bool) -> Self {
+    pub fn or(self, holds: bool, is_behind_else: bool) -> Self
+        ensures { result ≡ next_part self holds is_behind_else }
+    {
         Condition {
             is_read: holds && !self.is_done,
             is_done: holds || self.is_done,
@@ -61,17 +73,23 @@ pub struct Reader<A: Allocator> {
 
 impl<A: Allocator + Copy> Reader<A> {
     /// What is left of its text.
-    pub fn rest<'a>(&self, text: &'a [u8]) -> Option<&'a [u8]> {
+    pub fn rest<'a>(&self, text: &'a [u8]) -> Option<&'a [u8]>
+        ensures { option_copied result ≡ rest_of self.now.next text.now }
+    {
         text.get(self.next?..)
     }
 
     /// Whether a line begins here.
-    pub fn is_at_line(&self) -> bool {
+    pub fn is_at_line(&self) -> bool
+        ensures { IsTrue result ↔ (self.now.next ≡ Some self.now.line_start) }
+    {
         self.next == Some(self.line_start)
     }
 
     /// Whether what stands here is not read, by a condition.
-    pub fn is_skipping(&self) -> bool {
+    pub fn is_skipping(&self) -> bool
+        ensures { result ≡ is_skipped self.now.conditions.items }
+    {
         match self.conditions.last() {
             Some(condition) => !condition.is_read,
             None => false,
@@ -79,7 +97,10 @@ impl<A: Allocator + Copy> Reader<A> {
     }
 
     /// Goes on with what is left of its text, so many lines further on.
-    pub fn go_on(&mut self, text: &[u8], others: Option<&[u8]>, lines: usize) {
+    pub fn go_on(&mut self, text: &[u8], others: Option<&[u8]>, lines: usize)
+        ensures { GoesOn self.old self.new (length text.now)
+            (option_map (λ behind. length behind.now) others.entry) lines }
+    {
         self.next = match others {
             Some(others) => Some(text.len().saturating_sub(others.len())),
             None => None,
@@ -92,7 +113,10 @@ impl<A: Allocator + Copy> Reader<A> {
     }
 
     /// Begins again, if it is to be read once more.
-    pub fn begin_again(&mut self) -> bool {
+    pub fn begin_again(&mut self) -> bool
+        ensures again { OnTrue result (BeginsAgain self.old self.new) }
+        ensures over { OnFalse result ((self.new ≡ self.old) × (self.old.copies ≡ 0)) }
+    {
         match self.copies.checked_sub(1) {
             Some(copies) => {
                 self.copies = copies;
@@ -107,7 +131,10 @@ impl<A: Allocator + Copy> Reader<A> {
     }
 
     /// The line that is read.
-    pub fn origin(&self) -> Origin {
+    pub fn origin(&self) -> Origin
+        ensures number { result.number ≡ line_of self.now }
+        ensures begins { result.line_start ≡ self.now.line_start }
+    {
         Origin {
             number: self.first.saturating_add(self.passed),
             line_start: self.line_start,
@@ -126,7 +153,10 @@ pub struct Origin {
 
 impl Origin {
     /// A mistake in the line, of a text of so many bytes.
-    pub fn mistake(self, length: usize, slip: Slip) -> MacroError {
+    pub fn mistake(self, length: usize, slip: Slip) -> MacroError
+        ensures { length < usize.MAX
+            → result ≡ mistake_at self.number self.line_start length slip }
+    {
         let position = length.saturating_sub(slip.left);
         MacroError {
             line: self.number,
@@ -146,7 +176,10 @@ pub struct Frame<A: Allocator> {
 impl<A: Allocator + Copy> Frame<A> {
     /// A text whose first line is of a line of the source, and so many lines later they are of the
     /// same lines of the source again. It is read once, and so often again.
-    pub fn new(alloc: A, text: Vec<u8, A>, first: usize, height: usize, copies: u64) -> Self {
+    pub fn new(alloc: A, text: Vec<u8, A>, first: usize, height: usize, copies: u64) -> Self
+        ensures text { result.text ≡ text }
+        ensures head { IsAtHead result.reader first height copies }
+    {
         let reader = Reader {
             next: Some(0),
             line_start: 0,

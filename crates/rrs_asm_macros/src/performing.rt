@@ -1,5 +1,13 @@
 //! Performing a statement: what is put into the result, and what is read next.
 
+ghost use Rattle.std.specs.Prelude.{◌≡◌, ◌+◌, ◌<◌, ◌≤◌, [], true, None, Some, IfSome, IfNone, MatchOption, length, unwrap_or};
+ghost use Rattle.std.specs.Option.{option_map};
+ghost use Rattle.rrs_asm_lines.specs.Lines.{behind_blanks};
+ghost use Rattle.rrs_asm_macros.specs.Conditions.{is_skipped};
+ghost use Rattle.rrs_asm_macros.specs.Expanding.{line_of};
+ghost use Rattle.rrs_asm_macros.specs.Mistakes.{mistake_at};
+ghost use Rattle.rrs_asm_macros.specs.Operands.{capped};
+
 use crate::arguments::copied;
 use crate::blocks::{BlockKind, first_block, height};
 use crate::conditions::{begin, conclude};
@@ -65,7 +73,10 @@ pub fn read_step<A: Allocator + Copy>(
     tables: &mut Tables<A>,
     text: &[u8],
     reader: &mut Reader<A>,
-) -> Step<A> {
+) -> Step<A>
+    ensures number { IfSome result.line (λ span. span.number ≡ line_of reader.old) }
+    ensures skipped { is_skipped reader.old.conditions.items ≡ true → result.line ≡ None }
+{
     let Some(rest) = reader.rest(text) else {
         return Step {
             line: None,
@@ -99,7 +110,10 @@ fn read_statement<A: Allocator + Copy>(
     text: &[u8],
     rest: &[u8],
     reader: &mut Reader<A>,
-) -> Step<A> {
+) -> Step<A>
+    ensures number { IfSome result.line (λ span. span.number ≡ line_of reader.old) }
+    ensures skipped { is_skipped reader.old.conditions.items ≡ true → result.line ≡ None }
+{
     let statement = first_statement(rest);
     let others = statement.others.unwrap_or(&[]).len();
     tables.spend(rest.len().saturating_sub(others), rest.len());
@@ -147,7 +161,11 @@ fn skip<A: Allocator + Copy>(
 }
 
 /// Where a condition stands that begins at a place.
-fn place(site: &Site, start: Slip) -> MacroError {
+fn place(site: &Site, start: Slip) -> MacroError
+    ensures { length site.now.text.now < usize.MAX → result
+        ≡ mistake_at site.now.origin.number site.now.origin.line_start (length site.now.text.now)
+        (record { kind = MacroErrorKind.UnendedCondition; left = start.left }) }
+{
     let slip = start.with_kind(MacroErrorKind::UnendedCondition);
     site.origin.mistake(site.text.len(), slip)
 }
@@ -160,7 +178,11 @@ fn perform<A: Allocator + Copy>(
     code: &[u8],
     start: usize,
     reader: &mut Reader<A>,
-) -> Step<A> {
+) -> Step<A>
+    ensures number { IfSome result.line (λ span. span.number ≡ site.now.origin.number) }
+    ensures start { IfSome result.line (λ span. span.start ≡ start) }
+    ensures within { IfSome result.line (λ span. span.end ≤ start + length code.now) }
+{
     let behind = behind_labels(code);
     let (word, operands) = split_word(behind);
     let directive = directive_named(word);
@@ -182,7 +204,10 @@ fn perform<A: Allocator + Copy>(
 }
 
 /// That a text is read next, if there is one.
-fn entered<A: Allocator>(frame: Option<Frame<A>>) -> Turn<A> {
+fn entered<A: Allocator>(frame: Option<Frame<A>>) -> Turn<A>
+    ensures some { IfSome frame (λ inner. result ≡ Turn.Enter inner) }
+    ensures none { IfNone frame (result ≡ Turn.Stay) }
+{
     match frame {
         Some(frame) => Turn::Enter(frame),
         None => Turn::Stay,
@@ -190,7 +215,14 @@ fn entered<A: Allocator>(frame: Option<Frame<A>>) -> Turn<A> {
 }
 
 /// The part of a text that begins at a place and has these bytes, if they are not blank.
-fn span_of(put: &[u8], start: usize, number: usize) -> Option<Span> {
+fn span_of(put: &[u8], start: usize, number: usize) -> Option<Span>
+    ensures { MatchOption result (behind_blanks put.now ≡ [])
+        (λ span. span ≡ record {
+          start = start;
+          end = capped (start + length put.now);
+          number = number;
+        }) }
+{
     if behind_blanks(put).is_empty() {
         return None;
     }
