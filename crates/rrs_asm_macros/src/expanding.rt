@@ -198,6 +198,7 @@ pub fn expand<A: Allocator + Copy>(alloc: A, source: &[u8]) -> Result<Expanded<A
     ensures above { has_directives source.now ≡ true → IfOk result (KeepsAbove source.now) }
     ensures becomes { has_directives source.now ≡ true
         → IfOk result (λ expanded. IsExpansion source.now expanded.text.items) }
+    ensures mistakes { IfErr result AreTold }
 {
     if has_directives(source) {
         expanded(alloc, source)
@@ -216,6 +217,7 @@ fn expanded<A: Allocator + Copy>(alloc: A, source: &[u8]) -> Result<Expanded<A>,
     ensures mapped { IfOk result (IsMapped source.now) }
     ensures above { IfOk result (KeepsAbove source.now) }
     ensures becomes { IfOk result (λ expanded. IsExpansion source.now expanded.text.items) }
+    ensures mistakes { IfErr result AreTold }
 {
     let total = height(source);
     let mut out = Expanded::new(alloc);

@@ -1,6 +1,8 @@
 use Rattle.std.proofs.Common.{◌≤◌, rules}
 use Rattle.rrs_asm_macros.proofs.Mapping.{one_line, mapped}
+use Rattle.rrs_asm_macros.specs.Expanding.{IsWithin}
 use Rattle.rrs_asm_macros.proofs.expanding.expanded.Goals as goal
+use Rattle.rrs_asm_macros.proofs.expanding.expanded.Goals.{else-loop-test, then-loop-test+then-expansion, then-loop-test+else-expansion+in_default}
 
 pub loop-init : goal.loop-init
 loop-init g c = record { made = c.new-out.ensures c.height-total.result; within = search rules }
@@ -18,3 +20,13 @@ returns-in-Ok-clause-mapped g c =
     let one : 1 ≤ c.height-total.result = rw c.height-total.ensures (one_line c.args.source.now) in
     let whole = c.in-Ok.ensures one c.loop.invariant.made in
     c.settled.ensures.mapped (mapped c.args.source.now c.height-total.result c.in-Ok.whole c.height-total.ensures whole.0 whole.1)
+
+pub returns-in-Some-fault-clause-mistakes : goal.returns-in-Some-fault-clause-mistakes
+returns-in-Some-fault-clause-mistakes g c =
+    let before = c.loop.invariant.within in
+    let within : IsWithin c.loop-test.expansion = elim c.loop-test.branch [
+      | else-loop-test w ↦ rw w.expansion-is before
+      | then-loop-test+then-expansion w ↦ rw w.expansion-is before
+      | then-loop-test+else-expansion+in_default w ↦ rw w.expansion-is (record { most = before.most; fewer = before.fewer })
+    ] in
+    c.in-Some-fault.ensures.mistakes within
