@@ -4,3 +4,5 @@ pub mod Pages
 pub mod StackWords
 pub mod Filling
 pub mod Bounds
+pub mod OneLayout
+pub mod Lying

@@ -1,6 +1,7 @@
 -- The block of a stack, as it is put together.
-use Rattle.std.proofs.Common.{◌≡◌, ℕ, suc, ◌+◌, ◌<◌, List, [], ◌∷◌, ◌++◌, length, drop, get_or, refl, sym, ap, ◌∙◌, arith, add-one, drop-cons, append_assoc, length-append}
-use Rattle.rrs_exec.specs.InitialStack.{word_bytes, bytes_of_words, strings, addresses}
+use Rattle.std.proofs.Common.{◌≡◌, ℕ, suc, ◌+◌, ◌*◌, ◌<◌, List, [], ◌∷◌, ◌++◌, length, replicate, drop, get_or, refl, sym, ap, ◌∙◌, arith, add-one, drop-cons, append_assoc, length-append}
+use Rattle.rrs_exec.specs.declared.stack.ProgramHeaders.{ProgramHeaders}
+use Rattle.rrs_exec.specs.InitialStack.{word_bytes, bytes_of_words, strings, addresses, auxiliary_vector, random_at, stack_block, stack_bytes, stack_words}
 
 pub bytes_of_append : (xs ys : List ℕ) → bytes_of_words (xs ++ ys) ≡ bytes_of_words xs ++ bytes_of_words ys
 bytes_of_append [] ys = refl
@@ -37,3 +38,24 @@ module _ (x : List ℕ) (old rest : List (List ℕ)) (cut : old ≡ x ∷ rest) 
       → a + (n + 1) + length (strings rest) ≡ whole
   string_counted a n whole count so =
       omega (arith, (rw cut at so), length-append x (0 ∷ strings rest))
+
+-- how many bytes a stack has
+words-length : (words : List ℕ) → length (bytes_of_words words) ≡ 4 * length words
+words-length [] = refl
+words-length (w ∷ words) = omega (arith, words-length words, length-append (word_bytes w) (bytes_of_words words))
+
+addresses-length : (a : ℕ) (arguments : List (List ℕ)) → length (addresses a arguments) ≡ length arguments
+addresses-length a [] = refl
+addresses-length a (x ∷ others) = ap suc (addresses-length (a + length x + 1) others)
+
+pub block_length : (sp : ℕ) (arguments : List (List ℕ)) (headers : ProgramHeaders) → length (stack_block sp arguments headers) ≡ stack_bytes arguments
+block_length sp arguments headers =
+    let words : length (stack_words sp arguments headers) ≡ length arguments + 17 =
+    omega (arith, addresses-length (random_at sp arguments + 16) arguments, length-append (length arguments ∷ addresses (random_at sp arguments + 16) arguments) (0 ∷ 0 ∷ auxiliary_vector headers (random_at sp arguments))) in
+    omega (
+      arith,
+      words,
+      words-length (stack_words sp arguments headers),
+      length-append (bytes_of_words (stack_words sp arguments headers)) (replicate 16 0),
+      length-append (bytes_of_words (stack_words sp arguments headers) ++ replicate 16 0) (strings arguments),
+    )

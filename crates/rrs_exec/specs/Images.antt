@@ -1,6 +1,6 @@
 -- What a process starts from that runs an executable (System V ABI, "Process Initialization" and
 -- "Program Loading").
-use Rattle.std.specs.Prelude.{◌≡◌, ◌==◌, ◌≢◌, ◌⊎◌, ℕ, zero, suc, ◌+◌, ◌-◌, ◌/◌, ◌%◌, ◌^◌, ◌<◌, ◌≤◌, Bool, ◌&&◌, ◌||◌, nat_le, nat_lt, min, max, if◌then◌else◌, List, [], ◌∷◌, ◌++◌, length, slice_index, Option, Some, None}
+use Rattle.std.specs.Prelude.{◌≡◌, ◌==◌, ◌≢◌, ◌⊎◌, ℕ, zero, suc, ◌+◌, ◌-◌, ◌/◌, ◌%◌, ◌^◌, ◌<◌, ◌≤◌, Bool, true, ◌&&◌, ◌||◌, nat_le, nat_lt, min, max, if◌then◌else◌, List, [], ◌∷◌, ◌++◌, length, slice_index, Option, Some, None}
 use Rattle.rrs_memory.specs.Bytes.{ByteMap}
 use Rattle.rrs_elf.specs.Headers.{e_entry, e_phoff, e_phnum, p_type, p_offset, p_vaddr, p_filesz, p_memsz, p_flags}
 use Rattle.rrs_elf.specs.Executables.{PT_LOAD}
@@ -66,6 +66,12 @@ refusal_between start end wanted =
 
 abbrev pub memory_refusal : List ℕ → ℕ → Option ImageError
 memory_refusal file wanted = refusal_between (first_address file) (end_address file) wanted
+
+-- The arguments don't fit in the stack of the process.
+abbrev pub AreLong : List ℕ → List (List ℕ) → ℕ → Type 0
+AreLong file arguments wanted = (l : Layout)
+    × IsLayout (first_address file) (end_address file) wanted l
+    × (stack_pointer l.end arguments < l.stack_start)
 
 -- another reason: its arguments, or the memory of the host
 abbrev pub IsOtherReason : ImageError → Type 0
@@ -150,6 +156,13 @@ pub record IsImage (file : List ℕ) (arguments : List (List ℕ)) (wanted : ℕ
   pub stack_is : image.stack.items ≡ stack_block image.stack_pointer arguments (headers_of file)
   -- the marks of its pages
   pub marked : IsMarkedBy (ranges_of file image.layout) (image.layout.end / 4096) image.marks.items
+
+-- A memory is writable where the segments and so many bytes from sp on lie.
+pub record IsFillable (file : List ℕ) (sp size : ℕ) (writable : ℕ → Bool) : Type 0 where
+  pub segments : (i j : ℕ) → i < e_phnum file → j < loaded_size file i
+      → writable (p_vaddr file i + j) ≡ true
+  pub stack : (k : ℕ) → k < size → writable (sp + k) ≡ true
+  pub ends : sp + size < 2 ^ 32
 
 -- The segments of a file stand in memory, each with the bytes of the file and then zeros, and the
 -- bytes of a stack from sp on; all other bytes are as before.

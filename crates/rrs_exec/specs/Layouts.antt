@@ -1,6 +1,6 @@
 -- Where a process has its memory: the program, the heap after it up to which brk(2) may move the
 -- break, a gap that is not mapped, so that a stack that grows too far meets no heap, and the stack.
-use Rattle.std.specs.Prelude.{◌≡◌, ◌⊎◌, ℕ, ◌+◌, ◌-◌, ◌*◌, ◌/◌, ◌%◌, ◌^◌, ◌<◌, ◌≤◌, Bool, nat_le}
+use Rattle.std.specs.Prelude.{◌≡◌, ◌⊎◌, ℕ, ◌+◌, ◌-◌, ◌*◌, ◌/◌, ◌%◌, ◌^◌, ◌<◌, ◌≤◌, Bool, nat_le, min}
 use Rattle.rrs_exec.specs.declared.layout.Layout.{Layout}
 
 -- the first page that lies after an address, or begins there
@@ -31,7 +31,10 @@ pub record IsLayout (start end wanted : ℕ) (l : Layout) : Type 0 where
   pub stack : (l.stack_start + 262144 ≤ l.end) × (l.end ≤ l.stack_start + 8388608)
   pub stack_page : l.stack_start % 4096 ≡ 0
   pub end_page : l.end % 4096 ≡ 0
+  -- half of what lies after the program is its stack, in whole pages, and 8 MiB at most
+  pub half : l.stack_start + min ((l.end - l.heap_start) / 2) 8388608 / 4096 * 4096 ≡ l.end
   pub ordered : l.base ≤ l.end
+  pub top : l.end ≤ 2 ^ 32 - 4096
   -- it has no more bytes than are wanted
   pub ceiling : l.end ≤ l.base + wanted
   -- and as many, but for a part of a page, or up to the last page

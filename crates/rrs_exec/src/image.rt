@@ -1,14 +1,14 @@
 //! What a process starts from: an executable's entry, its stack, and the marks of its pages.
 
-ghost use Rattle.std.specs.Prelude.{◌≡◌, ◌≤◌, ◌<◌, ◌+◌, ◌%◌, ◌^◌, ◌++◌, ◌∷◌, [], ℕ, List, map, string_bytes, IsOk, IfOk, IfErr, OnOk, MatchOption, length};
-ghost use Rattle.rrs_memory.specs.SliceBytes.{StaysLent, slice_bytes, bytes_from};
+ghost use Rattle.std.specs.Prelude.{◌≡◌, ◌≤◌, ◌<◌, ◌+◌, ◌%◌, ◌++◌, ◌∷◌, [], ℕ, List, map, string_bytes, IsOk, IfOk, IfErr, OnOk, MatchOption, None, Err, length};
+ghost use Rattle.rrs_memory.specs.SliceBytes.{StaysLent, slice_bytes, slice_writable, bytes_from, lies_from};
 ghost use Rattle.rrs_fast.specs.Serving.{MakesSome};
 ghost use Rattle.rrs_elf.specs.Headers.{e_phnum, p_vaddr};
 ghost use Rattle.rrs_elf.specs.Loading.{loaded_size};
 ghost use Rattle.rrs_elf.specs.ProgramHeaders.{IsProgramHeader};
-ghost use Rattle.rrs_exec.specs.InitialStack.{stack_bytes, stack_pointer, stack_block};
+ghost use Rattle.rrs_exec.specs.InitialStack.{stack_bytes, stack_pointer};
 ghost use Rattle.rrs_exec.specs.Layouts.{IsLayout};
-ghost use Rattle.rrs_exec.specs.Images.{first_with, end_with, first_address, end_address, memory_refusal, refusal_between, IsOtherReason, IsImage, Filled, headers_in, headers_at, headers_of, protection_by, range_of, segment_range, segment_ranges, writable_range, ranges_of, needed_of};
+ghost use Rattle.rrs_exec.specs.Images.{AreLong, first_with, end_with, first_address, end_address, memory_refusal, refusal_between, IsOtherReason, IsImage, IsFillable, Filled, headers_in, headers_of, protection_by, range_of, segment_range, segment_ranges, writable_range, ranges_of, needed_of};
 
 use crate::layout::{Layout, has_room, layout_of, needed_bytes};
 use crate::marks::{PAGE_BYTES, PageRange, Protection, marks_of};
@@ -264,6 +264,8 @@ fn pointer_of(layout: &Layout, arguments: &[String]) -> Result<u32, ImageError>
     ensures on_stack { IfOk result (λ sp. layout.now.stack_start ≤ sp) }
     ensures aligned { IfOk result (λ sp. sp % 16 ≡ 0) }
     ensures refused { IfErr result (λ error. error ≡ ImageError.LongArguments) }
+    ensures long { 0 < layout.now.stack_start → IfErr result (λ error.
+        stack_pointer layout.now.end (map string_bytes arguments.now) < layout.now.stack_start) }
 {
     match stack_pointer(layout.end, arguments) {
         Some(sp) if sp >= layout.stack_start => Ok(sp),
@@ -288,6 +290,11 @@ pub fn image_of(
         (IsImage executable.now.file.now (map string_bytes arguments.now) wanted) }
     ensures refused { MatchOption (memory_refusal executable.now.file.now wanted)
         (IfErr result IsOtherReason) (λ error. result ≡ Err error) }
+    ensures long { memory_refusal executable.now.file.now wanted ≡ None
+        → AreLong executable.now.file.now (map string_bytes arguments.now) wanted
+        → result ≡ Err ImageError.LongArguments }
+    ensures short { result ≡ Err ImageError.LongArguments
+        → AreLong executable.now.file.now (map string_bytes arguments.now) wanted }
 {
     let layout = laid_out(bounds_of(executable), wanted)?;
     let sp = pointer_of(&layout, arguments)?;
@@ -314,7 +321,8 @@ pub fn image_of(
 ///
 /// # Errors
 ///
-/// `ImageError::Refused` with the first address that the memory refuses.
+/// `ImageError::Refused` with the first address that the memory refuses, or with `sp` where the
+/// stack passes the last address. A memory that is writable there is not refused (`fillable`).
 pub fn fill<M: Memory>(
     executable: &Executable<'_>,
     sp: u32,
@@ -330,6 +338,8 @@ pub fn fill<M: Memory>(
         memory.old memory.new) }
     ensures writable_kept { M.writable memory.new ≡ M.writable memory.old }
     ensures layout_kept { M.layout memory.new ≡ M.layout memory.old }
+    ensures fillable { IsFillable executable.now.file.now sp (length stack.now)
+        (M.writable memory.old) → IfErr result (λ error. error ≡ ImageError.OutOfMemory) }
 {
     if let Err(refused) = executable.load(memory) {
         return Err(ImageError::Refused(refused.address));
@@ -338,7 +348,8 @@ pub fn fill<M: Memory>(
     match read_to_memory(&mut reader, memory, sp) {
         Ok(()) => Ok(()),
         Err(LoadFault::Refused(address)) => Err(ImageError::Refused(address)),
-        Err(LoadFault::Reader(_) | LoadFault::EndOfAddresses) => Err(ImageError::Refused(sp)),
+        Err(LoadFault::EndOfAddresses) => Err(ImageError::Refused(sp)),
+        Err(LoadFault::Reader(_)) => Err(ImageError::OutOfMemory),
     }
 }
 
@@ -355,6 +366,8 @@ fn fill_lent<'a>(
     ensures filled { OnOk result (Filled executable.now.file.now sp stack.now
         (slice_bytes memory.old) (slice_bytes memory.new)) }
     ensures lent { OnOk result (StaysLent memory.old memory.new) }
+    ensures fillable { IsFillable executable.now.file.now sp (length stack.now)
+        (slice_writable memory.old) → IfErr result (λ error. error ≡ ImageError.OutOfMemory) }
 {
     fill(executable, sp, stack, memory)?;
     Ok(())
@@ -374,6 +387,8 @@ pub(crate) fn fill_words(
     ensures filled { OnOk result (Filled executable.now.file.now sp stack.now
         (bytes_from base words.old) (bytes_from base words.new)) }
     ensures length_kept { OnOk result (length words.new ≡ length words.old) }
+    ensures fillable { IsFillable executable.now.file.now sp (length stack.now)
+        (lies_from base words.old) → IfErr result (λ error. error ≡ ImageError.OutOfMemory) }
 {
     let mut memory = SliceMemory { words, base };
     fill_lent(executable, sp, stack, &mut memory)

@@ -1,8 +1,8 @@
 //! An executable that runs as a process of Linux.
 
-ghost use Rattle.std.specs.Prelude.{◌≡◌, ◌-◌, ◌/◌, ◌≤◌, ℕ, Bool, Option, Err, map, replicate, string_bytes, IfOk, IfErr, IfSome, OnErr};
+ghost use Rattle.std.specs.Prelude.{◌≡◌, ◌-◌, ◌/◌, ◌≤◌, ℕ, Bool, Option, None, Err, map, replicate, string_bytes, IfOk, IfErr, IfSome, OnErr};
 ghost use Rattle.rrs_elf.specs.Executables.{IsExecutable};
-ghost use Rattle.rrs_exec.specs.Images.{memory_refusal};
+ghost use Rattle.rrs_exec.specs.Images.{AreLong, memory_refusal};
 ghost use Rattle.rrs_lib.specs.Machine.{state_of};
 ghost use Rattle.rrs_elf.specs.declared.errors.ElfError.{ElfError};
 ghost use Rattle.rrs_elf.specs.Refusals.{first_refusal, checks};
@@ -61,8 +61,9 @@ pub struct LoadedProcess {
 /// The zero words of a process's memory.
 fn zeros(alloc: Global, layout: &Layout) -> Result<Vec<u32>, ImageError>
     requires { layout.now.base ≤ layout.now.end }
-    ensures { IfOk result (λ words.
+    ensures zeros { IfOk result (λ words.
         words.items ≡ replicate ((layout.now.end - layout.now.base) / 4) 0) }
+    ensures short { IfErr result (λ error. error ≡ ImageError.OutOfMemory) }
 {
     let count = (layout.end - layout.base) / 4;
     match vec![in alloc; 0; count as usize] {
@@ -79,7 +80,8 @@ fn zeros(alloc: Global, layout: &Layout) -> Result<Vec<u32>, ImageError>
 /// `ImageError`, where the file is no executable or can't be made a process. A file that is no
 /// executable is refused for the first of the reasons in their order (`refused`). An executable
 /// that needs more bytes than are wanted, or leaves no room for a heap and a stack, is refused so
-/// before memory is taken for it (`ceiling`).
+/// before memory is taken for it (`ceiling`), and then arguments that don't fit in its stack
+/// (`long`). Any other error is that the host is out of memory (`otherwise`).
 pub fn load_process(
     alloc: Global,
     file: &[u8],
@@ -92,6 +94,12 @@ pub fn load_process(
         → IfSome (memory_refusal file.now wanted) (λ error. result ≡ Err error) }
     ensures refused { (refusal : ElfError) → first_refusal (checks file.now) ≡ Err refusal
         → IfErr result (λ error. error ≡ ImageError.Elf refusal) }
+    ensures long { IsExecutable file.now → memory_refusal file.now wanted ≡ None
+        → AreLong file.now (map string_bytes arguments.now) wanted
+        → result ≡ Err ImageError.LongArguments }
+    ensures otherwise { IsExecutable file.now → memory_refusal file.now wanted ≡ None
+        → (AreLong file.now (map string_bytes arguments.now) wanted → ⊥)
+        → IfErr result (λ error. error ≡ ImageError.OutOfMemory) }
 {
     let executable = match Executable::parse(file) {
         Ok(executable) => executable,

@@ -14,3 +14,9 @@ returns-in-Ok-clause-made g c = record {
   these = tt;
   made = Makes-append _ _ _ _ _ _ _ c.in_default.ensures.accesses c.in-Ok.ensures.accesses.made;
 }
+
+-- where it is writable no address is refused
+pub returns-in-Err-clause-fillable : goal.returns-in-Err-clause-fillable
+returns-in-Err-clause-fillable g c = λ there.
+    let stops = c.in-Err.ensures.refused in
+    absurd (cc (stops.not_writable, stops.here, there.segments stops.n stops.k stops.numbered stops.within))

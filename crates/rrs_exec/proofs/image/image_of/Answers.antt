@@ -1,7 +1,9 @@
 -- The layout is around the addresses of the segments.
-use Rattle.std.proofs.Common.{rules}
+use Rattle.std.proofs.Common.{rules, map}
+use Rattle.std.specs.String.{string_bytes}
 use Rattle.rrs_elf.specs.Headers.{e_phnum}
 use Rattle.rrs_exec.proofs.Bounds.{all_within}
+use Rattle.rrs_exec.proofs.OneLayout.{not_long}
 use Rattle.rrs_exec.proofs.image.image_of.Goals as goal
 
 pub returns-clause-image : goal.returns-clause-image
@@ -22,3 +24,9 @@ returns-clause-image c =
       stack_is = search rules;
       marked = search rules;
     }
+
+-- arguments that are refused don't fit in the one layout that there is, and others do
+pub returns-clause-long : goal.returns-clause-long
+returns-clause-long c = λ none long.
+    let mine = rw (c.bounds_of.ensures.first, c.bounds_of.ensures.end) at c.in_ok-layout.ensures.layout in
+    absurd (not_long c.args.executable.now.file.now (map string_bytes c.args.arguments.now) c.args.wanted c.in_ok-sp.sp c.in_ok-layout.layout mine c.in_ok-sp.ensures.pointer c.in_ok-sp.ensures.on_stack long)
